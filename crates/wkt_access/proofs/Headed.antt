@@ -1,0 +1,110 @@
+-- A header and a list of items; and the text of each kind of shape in the pieces that are written.
+use Rattle.std.proofs.Common.{◌≡◌, ℕ, List, [], ◌∷◌, ◌++◌, length, map, Option, Some, None, refl, ap, sym, ◌∙◌, append_assoc}
+use Rattle.std.specs.Prelude.{codes, Result, option_to_list, option_map, unwrap_or}
+use Rattle.std.proofs.lemmas.List.{length-map}
+use Rattle.wkt_access.specs.declared.Dimension.{Dimension}
+use Rattle.wkt_access.specs.declared.Dimension.TheVariants.{XY}
+use Rattle.wkt_access.specs.declared.Dimensions.{Dimensions}
+use Rattle.wkt_access.specs.declared.Error.{Error}
+use Rattle.wkt_access.specs.Faults.{under}
+use Rattle.wkt_access.specs.Parts.{each, members_of, dimension_of, IsCollectionOf}
+use Rattle.wkt_access.specs.Pieces.{gap, cut_coordinate, cut_line, cut_member, cut_polygon, corners_text}
+use Rattle.wkt_access.specs.Texts.{shape_text}
+use Rattle.wkt_access.specs.Shapes.{PolygonShape, Shape, Shapes, printed, dimension, cut, canon, canons, rings_of, corners}
+use Rattle.wkt_access.specs.Values.{size}
+use Rattle.wkt_num.specs.Sink.{Adds, Breaks, Puts}
+use Rattle.wkt_access.specs.Texts.{headed, listed, suffix, space_if_empty, coordinate_text, line_text, polygon_text, text, texts}
+use Rattle.wkt_access.proofs.Bracketed.{one_listed, corners_listed}
+use Rattle.wkt_num.proofs.Calls.{breaks_first, breaks_then, puts_then}
+
+gap_is : (ts : List (List ℕ)) → space_if_empty ts ≡ gap (length ts)
+gap_is [] = refl
+gap_is (t ∷ ts) = refl
+
+module _ {A : Type 0} (f : A → List ℕ) (xs : List A) (word : List ℕ) (d : Dimension) (n : ℕ) (h : gap n ≡ gap (length xs)) where
+  pub headed_is : headed word d (map f xs) ≡ (word ++ (suffix d ++ gap n)) ++ listed (map f xs)
+  unfolding headed
+  headed_is =
+      ap (λ l. word ++ (suffix d ++ (l ++ listed (map f xs)))) (gap_is (map f xs) ∙ ap gap (length-map xs f) ∙ sym h)
+      ∙ ap (λ l. word ++ l) (sym (append_assoc (suffix d) (gap n) (listed (map f xs))))
+      ∙ sym (append_assoc word (suffix d ++ gap n) (listed (map f xs)))
+
+  pub headed_broken : {S : Type 0} {text : S → List ℕ} {failures : S → ℕ} {took broke : S → List ℕ → S → Type 0} {s t : S} → Breaks text failures took broke s (word ++ (suffix d ++ gap n)) t → Breaks text failures took broke s (headed word d (map f xs)) t
+  headed_broken p = rw headed_is (breaks_first _ p)
+
+  module _ {S : Type 0} {text : S → List ℕ} {failures : S → ℕ} {took : S → List ℕ → S → Type 0} where
+    pub headed_adds : (broke : S → List ℕ → S → Type 0) {T E : Type 0} (r : Result T E) {s t : S} (u : S) → Adds text failures took s (word ++ (suffix d ++ gap n)) t → Puts text failures took broke t (listed (map f xs)) u r → Puts text failures took broke s (headed word d (map f xs)) u r
+    headed_adds broke r u p q = rw headed_is (puts_then broke r u _ p q)
+
+    pub headed_broken_items : {broke : S → List ℕ → S → Type 0} {s t u : S} → Adds text failures took s (word ++ (suffix d ++ gap n)) t → Breaks text failures took broke t (listed (map f xs)) u → Breaks text failures took broke s (headed word d (map f xs)) u
+    headed_broken_items p q = rw headed_is (breaks_then p q)
+
+-- an image of images
+fused : {A B C : Type 0} (f : B → C) (g : A → B) (h : A → C) → ((x : A) → f (g x) ≡ h x) → (xs : List A) → map f (map g xs) ≡ map h xs
+fused f g h e [] = refl
+fused f g h e (x ∷ xs) = rw (e x) (ap (λ l. h x ∷ l) (fused f g h e xs))
+
+module _ {N : Type 0} (num : N → List ℕ) (d : Dimensions) where
+  coordinates_cut : (cs : List (List N)) → map (coordinate_text num) (map (cut d) cs) ≡ map (cut_coordinate num (size (dimension d))) cs
+  coordinates_cut cs = fused (coordinate_text num) (cut d) (cut_coordinate num (size (dimension d))) (λ c. refl) cs
+
+  line_cut : (cs : List (List N)) → line_text num (map (cut d) cs) ≡ cut_line num (size (dimension d)) cs
+  line_cut cs = ap listed (coordinates_cut cs)
+
+  lines_cut : (ls : List (List (List N))) → map (line_text num) (map (map (cut d)) ls) ≡ map (cut_line num (size (dimension d))) ls
+  lines_cut ls = fused (line_text num) (map (cut d)) (cut_line num (size (dimension d))) line_cut ls
+
+  member_cut : (c : Option (List N)) → line_text num (option_to_list (option_map (cut d) c)) ≡ cut_member num (size (dimension d)) c
+  member_cut None = refl
+  member_cut (Some c) = refl
+
+  pub point_text : (c : Option (List N)) → text num (canon (Shape.point d c)) ≡ headed (codes "POINT") (dimension d) (map (cut_coordinate num (size (dimension d))) (option_to_list c))
+  point_text None = refl
+  point_text (Some c) = refl
+
+  pub line_string_text : (cs : List (List N)) → text num (canon (Shape.line_string d cs)) ≡ headed (codes "LINESTRING") (dimension d) (map (cut_coordinate num (size (dimension d))) cs)
+  line_string_text cs = ap (headed (codes "LINESTRING") (dimension d)) (coordinates_cut cs)
+
+  pub rings_text : (p : PolygonShape N) → text num (canon (Shape.polygon d p)) ≡ headed (codes "POLYGON") (dimension d) (map (cut_line num (size (dimension d))) (rings_of p))
+  rings_text p = ap (headed (codes "POLYGON") (dimension d)) (lines_cut (rings_of p))
+
+  pub multi_point_text : (ps : List (Option (List N))) → text num (canon (Shape.multi_point d ps)) ≡ headed (codes "MULTIPOINT") (dimension d) (map (cut_member num (size (dimension d))) ps)
+  multi_point_text ps = ap (headed (codes "MULTIPOINT") (dimension d)) (fused (λ c. line_text num (option_to_list c)) (option_map (cut d)) (cut_member num (size (dimension d))) member_cut ps)
+
+  pub multi_line_string_text : (ls : List (List (List N))) → text num (canon (Shape.multi_line_string d ls)) ≡ headed (codes "MULTILINESTRING") (dimension d) (map (cut_line num (size (dimension d))) ls)
+  multi_line_string_text ls = ap (headed (codes "MULTILINESTRING") (dimension d)) (lines_cut ls)
+
+  pub multi_polygon_text : (ps : List (PolygonShape N)) → text num (canon (Shape.multi_polygon d ps)) ≡ headed (codes "MULTIPOLYGON") (dimension d) (map (cut_polygon num (size (dimension d))) ps)
+  multi_polygon_text ps = ap (headed (codes "MULTIPOLYGON") (dimension d)) (fused (polygon_text num) (λ p. map (map (cut d)) (rings_of p)) (cut_polygon num (size (dimension d))) (λ p. ap listed (lines_cut (rings_of p))) ps)
+
+pub texts_each : {N : Type 0} (num : N → List ℕ) (gs : Shapes N) → texts num (canons gs) ≡ map (shape_text num) (each gs)
+texts_each num Shapes.no_shapes = refl
+texts_each num (Shapes.more_shapes g gs) = ap (λ l. shape_text num g ∷ l) (texts_each num gs)
+
+by_header : (o : Option Dimension) (inside : ℕ → Option Error) → under o inside ≡ None → inside (size (unwrap_or o XY)) ≡ None
+by_header None inside h = cc
+by_header (Some k) inside h = h
+
+pub collection_text : {N : Type 0} (num : N → List ℕ) (n : ℕ) (s : Shape N) → IsCollectionOf n s → shape_text num s ≡ headed (codes "GEOMETRYCOLLECTION") (dimension (dimension_of s)) (map (shape_text num) (members_of s))
+collection_text num n (Shape.collection d gs) h = ap (headed (codes "GEOMETRYCOLLECTION") (dimension d)) (texts_each num gs)
+collection_text num n (Shape.point d c) h = absurd h
+collection_text num n (Shape.line_string d cs) h = absurd h
+collection_text num n (Shape.polygon d y) h = absurd h
+collection_text num n (Shape.multi_point d ps) h = absurd h
+collection_text num n (Shape.multi_line_string d ls) h = absurd h
+collection_text num n (Shape.multi_polygon d ys) h = absurd h
+collection_text num n (Shape.rect d a b) h = absurd h
+collection_text num n (Shape.triangle d a b c) h = absurd h
+collection_text num n (Shape.line d a b) h = absurd h
+
+-- under a header that is printed nothing is refused
+pub under_clean : (d : Dimensions) (inside : ℕ → Option Error) → under (printed d) inside ≡ None → inside (size (dimension d)) ≡ None
+under_clean d inside h = by_header (printed d) inside h
+
+-- the pieces of a rectangle
+pub rect_text : {N : Type 0} (num : N → List ℕ) (d : Dimensions) (a b x y : List N) → x ≡ a → y ≡ b → shape_text num (Shape.rect d a b) ≡ codes "POLYGON((" ++ (corners_text num x y ++ codes "))")
+unfolding headed
+rect_text num d a b x y h g =
+    ap (λ l. codes "POLYGON" ++ l) (one_listed (line_text num (corners a b)) ∙ ap (λ l. codes "(" ++ (l ++ codes ")")) (corners_listed num a b) ∙ ap (λ l. codes "((" ++ l) (append_assoc (corners_text num a b) (codes ")") (codes ")")))
+    ∙ ap (λ z. codes "POLYGON((" ++ (corners_text num z b ++ codes "))")) (sym h)
+    ∙ ap (λ z. codes "POLYGON((" ++ (corners_text num x z ++ codes "))")) (sym g)

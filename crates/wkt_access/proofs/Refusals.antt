@@ -1,0 +1,87 @@
+-- A shape is refused by a word of its own, and never as a fault of the sink.
+use Rattle.std.proofs.Common.{◌≡◌, ℕ, List, [], ◌∷◌, length, Bool, true, false, cond, nat_lt, Option, Some, None, refl}
+use Rattle.std.specs.Prelude.{option_to_list}
+use Rattle.std.specs.Option.{option_or}
+use Rattle.wkt_access.specs.declared.Dimension.{Dimension}
+use Rattle.wkt_access.specs.declared.Dimension.TheVariants.{XY, XYZ, XYM, XYZM}
+use Rattle.wkt_access.specs.declared.Error.{Error}
+use Rattle.wkt_access.specs.declared.Error.TheVariants.{FmtError, RectUnsupportedDimension, UnknownDimension, TooFewNumbers, EmptyPoint, Memory}
+use Rattle.wkt_access.specs.Faults.{fault, faults, first_fault, coordinate_fault, line_fault, polygon_fault, member_fault, under, rect_fault}
+use Rattle.wkt_access.specs.Shapes.{Shape, Shapes, PolygonShape, printed, rings_of}
+use Rattle.wkt_access.specs.Writes.{Refuses}
+
+abbrev IsOwn : Error → Type 0
+IsOwn (FmtError e) = ⊥
+IsOwn RectUnsupportedDimension = Unit {0}
+IsOwn UnknownDimension = Unit {0}
+IsOwn TooFewNumbers = Unit {0}
+IsOwn EmptyPoint = Unit {0}
+IsOwn (Memory e) = Unit {0}
+
+abbrev IsOwnIfAny : Option Error → Type 0
+IsOwnIfAny None = Unit {0}
+IsOwnIfAny (Some e) = IsOwn e
+
+or_own : (a b : Option Error) → IsOwnIfAny a → IsOwnIfAny b → IsOwnIfAny (option_or a b)
+or_own None b h g = g
+or_own (Some e) b h g = h
+
+first_own : {A : Type 0} (f : A → Option Error) → ((x : A) → IsOwnIfAny (f x)) → (xs : List A) → IsOwnIfAny (first_fault f xs)
+first_own f h [] = tt
+first_own f h (x ∷ xs) = or_own (f x) (first_fault f xs) (h x) (first_own f h xs)
+
+few_own : (b : Bool) → IsOwnIfAny (cond b (Some TooFewNumbers) None)
+few_own true = tt
+few_own false = tt
+
+coordinate_own : {N : Type 0} (k : ℕ) (c : List N) → IsOwnIfAny (coordinate_fault k c)
+coordinate_own k c = few_own (nat_lt (length c) k)
+
+line_own : {N : Type 0} (k : ℕ) (cs : List (List N)) → IsOwnIfAny (line_fault k cs)
+line_own k cs = first_own (coordinate_fault k) (coordinate_own k) cs
+
+member_own : {N : Type 0} (k : ℕ) (c : Option (List N)) → IsOwnIfAny (member_fault k c)
+member_own k c = line_own k (option_to_list c)
+
+polygon_own : {N : Type 0} (k : ℕ) (p : PolygonShape N) → IsOwnIfAny (polygon_fault k p)
+polygon_own k p = first_own (line_fault k) (line_own k) (rings_of p)
+
+under_own : (o : Option Dimension) (inside : ℕ → Option Error) → ((k : ℕ) → IsOwnIfAny (inside k)) → IsOwnIfAny (under o inside)
+under_own None inside h = tt
+under_own (Some d) inside h = h _
+
+rect_own : (o : Option Dimension) → IsOwnIfAny (rect_fault o)
+rect_own None = tt
+rect_own (Some XY) = tt
+rect_own (Some XYZ) = tt
+rect_own (Some XYM) = tt
+rect_own (Some XYZM) = tt
+
+mutual
+  fault_own : {N : Type 0} (s : Shape N) → IsOwnIfAny (fault s)
+  fault_own (Shape.point d c) = under_own (printed d) (λ k. member_fault k c) (λ k. member_own k c)
+  fault_own (Shape.line_string d cs) = under_own (printed d) (λ k. line_fault k cs) (λ k. line_own k cs)
+  fault_own (Shape.polygon d p) = under_own (printed d) (λ k. polygon_fault k p) (λ k. polygon_own k p)
+  fault_own (Shape.multi_point d ps) = under_own (printed d) (λ k. first_fault (member_fault k) ps) (λ k. first_own (member_fault k) (member_own k) ps)
+  fault_own (Shape.multi_line_string d ls) = under_own (printed d) (λ k. first_fault (line_fault k) ls) (λ k. first_own (line_fault k) (line_own k) ls)
+  fault_own (Shape.multi_polygon d ps) = under_own (printed d) (λ k. first_fault (polygon_fault k) ps) (λ k. first_own (polygon_fault k) (polygon_own k) ps)
+  fault_own (Shape.collection d gs) = under_own (printed d) (λ k. faults gs) (λ k. faults_own gs)
+  fault_own (Shape.rect d a b) = rect_own (printed d)
+  fault_own (Shape.triangle d a b c) = under_own (printed d) (λ k. line_fault k (a ∷ b ∷ c ∷ [])) (λ k. line_own k (a ∷ b ∷ c ∷ []))
+  fault_own (Shape.line d a b) = under_own (printed d) (λ k. line_fault k (a ∷ b ∷ [])) (λ k. line_own k (a ∷ b ∷ []))
+
+  faults_own : {N : Type 0} (gs : Shapes N) → IsOwnIfAny (faults gs)
+  faults_own Shapes.no_shapes = tt
+  faults_own (Shapes.more_shapes g gs) = or_own (fault g) (faults gs) (fault_own g) (faults_own gs)
+
+module _ {S : Type 0} (text : S → List ℕ) (failures : S → ℕ) (took broke : S → List ℕ → S → Type 0) (s : S) (bs : List ℕ) where
+  own_refusal : (found : Option Error) (e : Error) → IsOwnIfAny found → found ≡ Some e → Refuses text failures took broke s found bs s e
+  own_refusal found (FmtError x) h w = absurd (rw w at h)
+  own_refusal found RectUnsupportedDimension h w = record { found_is = w; same = refl }
+  own_refusal found UnknownDimension h w = record { found_is = w; same = refl }
+  own_refusal found TooFewNumbers h w = record { found_is = w; same = refl }
+  own_refusal found EmptyPoint h w = record { found_is = w; same = refl }
+  own_refusal found (Memory x) h w = record { found_is = w; same = refl }
+
+  pub refusal : {N : Type 0} (shape : Shape N) (e : Error) → fault shape ≡ Some e → Refuses text failures took broke s (fault shape) bs s e
+  refusal shape e w = own_refusal (fault shape) e (fault_own shape) w

@@ -1,0 +1,16 @@
+use Rattle.std.proofs.lemmas.Result.{err_from_is_err_and}
+use Rattle.wkt_access.proofs.Refusals.{refusal}
+use Rattle.wkt_access.proofs.write.write_geometry.Goals as goal
+
+pub returns-in_err-check_geometry : goal.returns-in_err-check_geometry
+returns-in_err-check_geometry g c =
+    let p = err_from_is_err_and c.from_residual.result c.from_residual.ensures.1 in
+    rw (p.1, p.2) (refusal _ _ _ _ _ _ (g.G.GeometryTrait.shape c.args.g.now) _ c.in_err-check_geometry.ensures)
+
+pub returns-in_err-put_geometry : goal.returns-in_err-put_geometry
+returns-in_err-put_geometry g c =
+    let p = err_from_is_err_and c.from_residual-in_err-put_geometry.result c.from_residual-in_err-put_geometry.ensures.1 in
+    rw (p.1, p.2) (c.in_ok-check_geometry.ensures.none, c.in_err-put_geometry.ensures)
+
+pub returns : goal.returns
+returns g c = (c.in_ok-check_geometry.ensures, c.in_ok-put_geometry.ensures)

@@ -1,0 +1,17 @@
+use Rattle.std.proofs.lemmas.Result.{err_from_is_err_and}
+use Rattle.wkt_access.specs.Shapes.{Shape}
+use Rattle.wkt_access.proofs.Refusals.{refusal}
+use Rattle.wkt_access.proofs.write.write_line.Goals as goal
+
+pub returns-in_err-check_line_of_two : goal.returns-in_err-check_line_of_two
+returns-in_err-check_line_of_two g c =
+    let p = err_from_is_err_and c.from_residual.result c.from_residual.ensures.1 in
+    rw (p.1, p.2) (refusal _ _ _ _ _ _ (Shape.line (g.L.LineTrait.dimension c.args.g.now) (g.L.LineTrait.from c.args.g.now) (g.L.LineTrait.to c.args.g.now)) _ c.in_err-check_line_of_two.ensures)
+
+pub returns-in_err-put_line_of_two : goal.returns-in_err-put_line_of_two
+returns-in_err-put_line_of_two g c =
+    let p = err_from_is_err_and c.from_residual-in_err-put_line_of_two.result c.from_residual-in_err-put_line_of_two.ensures.1 in
+    rw (p.1, p.2) (c.in_ok-check_line_of_two.ensures.none, c.in_err-put_line_of_two.ensures)
+
+pub returns : goal.returns
+returns g c = (c.in_ok-check_line_of_two.ensures, c.in_ok-put_line_of_two.ensures)

@@ -1,0 +1,17 @@
+use Rattle.std.proofs.lemmas.Result.{err_from_is_err_and}
+use Rattle.wkt_access.specs.Shapes.{Shape}
+use Rattle.wkt_access.proofs.Refusals.{refusal}
+use Rattle.wkt_access.proofs.write.write_rect.Goals as goal
+
+pub returns-in_err-check_rect : goal.returns-in_err-check_rect
+returns-in_err-check_rect g c =
+    let p = err_from_is_err_and c.from_residual.result c.from_residual.ensures.1 in
+    rw (p.1, p.2) (refusal _ _ _ _ _ _ (Shape.rect (g.R.RectTrait.dimension c.args.g.now) (g.R.RectTrait.least c.args.g.now) (g.R.RectTrait.most c.args.g.now)) _ c.in_err-check_rect.ensures)
+
+pub returns-in_err-put_rect : goal.returns-in_err-put_rect
+returns-in_err-put_rect g c =
+    let p = err_from_is_err_and c.from_residual-in_err-put_rect.result c.from_residual-in_err-put_rect.ensures.1 in
+    rw (p.1, p.2) (c.in_ok-check_rect.ensures.none, c.in_err-put_rect.ensures)
+
+pub returns : goal.returns
+returns g c = (c.in_ok-check_rect.ensures, c.in_ok-put_rect.ensures)

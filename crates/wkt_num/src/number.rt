@@ -1,0 +1,44 @@
+//! The numbers that coordinates are made of.
+ghost use Rattle.std.specs.Prelude.{◌≡◌, ℕ, true, List, Option, Some, IfSome, ◌↔◌};
+ghost use Rattle.wkt_num.specs.Sink.{Puts};
+ghost use Rattle.wkt_num.specs.Number.{IsNumberText};
+
+use crate::sink::TextSink;
+use std::fmt;
+use std::fmt::Debug;
+
+/// A number type: each value has one text, which reads back as the value.
+pub trait WktNum: Copy + PartialEq + PartialOrd + Debug {
+    /// Holds of the values of the type.
+    ghost is_value: { Self → Type 0 };
+
+    /// The text of a value.
+    ghost num: { Self → List ℕ };
+
+    /// What a text is read as.
+    ghost read: { List ℕ → Option Self };
+
+    /// The value that the text stands for, if it stands for one.
+    fn read_number(text: &str) -> Option<Self>
+        ensures { result ≡ read text.now };
+
+    /// Adds the number's text to the sink.
+    fn write_number<W: TextSink>(&self, f: &mut W) -> fmt::Result
+        ensures { Puts W.text W.failures W.took W.broke f.old (num self.now) f.new result };
+
+    /// Does nothing, and tells that the number is a value of the type.
+    fn known(&self)
+        ensures { is_value self.now };
+
+    /// The text of a value reads back as the value.
+    ghost reads_back: { (x : Self) → is_value x → read (num x) ≡ Some x };
+
+    /// What is read is a value.
+    ghost reads_values: { (bs : List ℕ) → IfSome (read bs) is_value };
+
+    /// The text of a value is one number run.
+    ghost number_text: { (x : Self) → is_value x → IsNumberText (num x) };
+
+    /// `==` holds exactly for equal values.
+    ghost same: { (x y : Self) → is_value x → is_value y → (Self.eq x y ≡ true) ↔ (x ≡ y) };
+}
