@@ -61,7 +61,7 @@ impl<const D: u32> WktNum for Decimal<D> {
 
     ghost number_text = { decimal_number_text D };
 
-    ghost same = { decimal_same D };
+    ghost same = { decimal_same };
 
     fn read_number(text: &str) -> Option<Decimal<D>> {
         if D > MOST_PLACES {

@@ -40,5 +40,5 @@ pub trait WktNum: Copy + PartialEq + PartialOrd + Debug {
     ghost number_text: { (x : Self) → is_value x → IsNumberText (num x) };
 
     /// `==` holds exactly for equal values.
-    ghost same: { (x y : Self) → is_value x → is_value y → (Self.eq x y ≡ true) ↔ (x ≡ y) };
+    ghost same: { (x y : Self) → (Self.eq x y ≡ true) ↔ (x ≡ y) };
 }
