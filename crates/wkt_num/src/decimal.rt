@@ -7,8 +7,8 @@ ghost use Rattle.wkt_num.specs.Sink.{Puts};
 ghost use Rattle.wkt_num.specs.Decimal.{read_magnitude, read_decimal, decimal_text, magnitude_text, with_sign, fraction_text, fraction_digits, IsUnits};
 ghost use Rattle.wkt_num.specs.DecimalLaws.{decimal_reads_back, decimal_reads_values, decimal_number_text, decimal_same};
 
-use crate::counted::CountedText;
 use crate::digits::write_whole;
+use crate::formatted::FormatterText;
 use crate::number::WktNum;
 use crate::sink::TextSink;
 use std::fmt;
@@ -85,11 +85,13 @@ impl<const D: u32> WktNum for Decimal<D> {
 impl<const D: u32> fmt::Display for Decimal<D> {
     ghost output = { λ u. Some (decimal_text D u) };
 
+    ghost styled_output = { λ u _. Some (decimal_text D u) };
+
     fn fmt<W: fmt::Write>(&self, f: &mut fmt::Formatter<W>) -> fmt::Result {
-        let mut sink = CountedText::new(f);
+        let mut sink = FormatterText::new(f);
         let result = self.write_number(&mut sink);
         // No effect at run time. The proof reads what `f` holds from the reference that comes back.
-        sink.into_writer();
+        sink.into_formatter();
         result
     }
 }
