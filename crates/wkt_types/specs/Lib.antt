@@ -1,0 +1,4 @@
+pub mod Held
+pub mod Coords
+pub mod Exact
+pub mod Equal

@@ -1,0 +1,55 @@
+//! Coordinates.
+ghost use Rattle.std.specs.Prelude.{◌≡◌, IsTrue, ◌↔◌};
+
+use crate::copies::Part;
+use std::alloc::{AllocError, Global};
+use wkt_access::Dimension;
+use wkt_num::WktNum;
+
+/// One coordinate: x and y, and z and m where they are there.
+#[derive(Clone, Copy, Debug, Default, Drop)]
+pub struct Coord<T> {
+    pub x: T,
+    pub y: T,
+    pub z: Option<T>,
+    pub m: Option<T>,
+}
+
+impl<T> Coord<T> {
+    ghost use Rattle.wkt_types.specs.Coords.{coord_dim};
+
+    /// The dimension by which of z and m are there.
+    pub fn dimension(&self) -> Dimension
+        ensures { result ≡ coord_dim self.now }
+    {
+        match (&self.z, &self.m) {
+            (None, None) => Dimension::XY,
+            (Some(_), None) => Dimension::XYZ,
+            (None, Some(_)) => Dimension::XYM,
+            (Some(_), Some(_)) => Dimension::XYZM,
+        }
+    }
+}
+
+impl<T: WktNum> PartialEq for Coord<T> {
+    ghost use Rattle.wkt_types.specs.Exact.{exact_by, exact_per};
+    ghost use Rattle.wkt_types.specs.Equal.{coord_eq, coord_exact};
+
+    ghost eq = { coord_eq T.eq };
+
+    ghost laws = { exact_per (coord_exact (exact_by T.same)) };
+
+    /// True exactly if the numbers are equal and the same ones are there.
+    fn eq(&self, other: &Self) -> bool
+        ensures eq { result ≡ coord_eq T.eq self.now other.now }
+        ensures exact { IsTrue result ↔ (self.now ≡ other.now) }
+    {
+        self.x == other.x && self.y == other.y && self.z == other.z && self.m == other.m
+    }
+}
+
+impl<T: Copy + Drop> Part for Coord<T> {
+    fn copy(&self, _alloc: Global) -> Result<Self, AllocError> {
+        Ok(*self)
+    }
+}

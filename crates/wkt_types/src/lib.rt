@@ -1,0 +1,21 @@
+//! The types of well-known text: a geometry and its parts, each with the dimension of its header.
+#![tactic(auto)]
+
+mod coord;
+mod copies;
+mod dimension;
+mod linestring;
+mod multilinestring;
+mod multipoint;
+mod multipolygon;
+mod point;
+mod polygon;
+
+pub use coord::Coord;
+pub use linestring::LineString;
+pub use multilinestring::MultiLineString;
+pub use multipoint::MultiPoint;
+pub use multipolygon::MultiPolygon;
+pub use point::Point;
+pub use polygon::Polygon;
+pub use wkt_access::Dimension;

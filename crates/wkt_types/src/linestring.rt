@@ -1,0 +1,139 @@
+//! Lines.
+ghost use Rattle.std.specs.Prelude.{◌≡◌, [], IsTrue, ◌↔◌, IfOk, MatchOption, Some};
+ghost use Rattle.std.specs.Iterator.{IsFinite};
+ghost use Rattle.std.specs.Iterator.Runs.{WholeRun};
+
+use crate::coord::Coord;
+use crate::copies::{Part, copies};
+use crate::dimension::and_same;
+use std::alloc::{AllocError, Global};
+use std::marker::Model;
+use wkt_access::Dimension;
+use wkt_num::WktNum;
+
+/// A line: coordinates in order, and the dimension of the header.
+#[derive(Debug, Drop)]
+pub struct LineString<T> {
+    coords: Vec<Coord<T>>,
+    dim: Dimension,
+}
+
+impl<T> Model for LineString<T> {
+    ghost use Rattle.wkt_types.specs.Held.{Held};
+    ghost use Rattle.wkt_types.specs.declared.coord.Coord.{Coord};
+
+    ghost Value = { Held (Coord T) };
+
+    ghost view = { λ l. record { parts = l.coords.items; dim = l.dim } };
+}
+
+impl<T> LineString<T> {
+    ghost use Rattle.wkt_types.specs.Coords.{coord_dim};
+    ghost use Rattle.wkt_types.specs.Held.{first_dim};
+
+    /// A line of those coordinates. Their dimensions aren't compared with the line's.
+    pub fn new(coords: Vec<Coord<T>>, dim: Dimension) -> Self
+        ensures coords { result.parts ≡ coords.items }
+        ensures dim { result.dim ≡ dim }
+    {
+        LineString { coords, dim }
+    }
+
+    /// A line without coordinates. It takes no memory.
+    pub fn empty(alloc: Global, dim: Dimension) -> Self
+        ensures coords { result.parts ≡ [] }
+        ensures dim { result.dim ≡ dim }
+    {
+        LineString {
+            coords: Vec::new(alloc),
+            dim,
+        }
+    }
+
+    /// The line of all coordinates that the iterator gives, with the first one's dimension: None
+    /// where it gives none.
+    ///
+    /// # Errors
+    /// Want of memory.
+    pub fn from_coords<I: Iterator<Item = Coord<T>> + Drop>(
+        alloc: Global,
+        coords: I,
+    ) -> Result<Option<Self>, AllocError>
+    where
+        T: Drop,
+        requires can { I.can_next coords }
+        requires ends { IsFinite (I.remaining coords) }
+        ensures { IfOk result (λ r. WholeRun I.next_gives coords (λ run. MatchOption r (run.items ≡ []) (λ l. (l.parts ≡ run.items) × (Some l.dim ≡ first_dim coord_dim run.items)))) }
+    {
+        let coords: Vec<Coord<T>> = coords.collect(alloc)?;
+        match coords.first() {
+            None => Ok(None),
+            Some(first) => {
+                let dim = first.dimension();
+                Ok(Some(LineString { coords, dim }))
+            }
+        }
+    }
+
+    /// The dimension of the header.
+    pub fn dimension(&self) -> Dimension
+        ensures { result ≡ self.now.dim }
+    {
+        self.dim
+    }
+
+    /// The coordinates in order.
+    pub fn coords(&self) -> &[Coord<T>]
+        ensures { result.now ≡ self.now.parts }
+    {
+        self.coords.as_slice()
+    }
+
+    /// The coordinates and the dimension.
+    pub fn into_inner(self) -> (Vec<Coord<T>>, Dimension)
+        ensures coords { result.0.items ≡ self.parts }
+        ensures dim { result.1 ≡ self.dim }
+    {
+        let LineString { coords, dim } = self;
+        (coords, dim)
+    }
+}
+
+impl<T: Copy + Drop> LineString<T> {
+    /// An equal line.
+    ///
+    /// # Errors
+    /// Want of memory.
+    pub fn try_clone(&self, alloc: Global) -> Result<Self, AllocError>
+        ensures { IfOk result (λ l. l ≡ self.now) }
+    {
+        Ok(LineString {
+            coords: copies(alloc, &self.coords)?,
+            dim: self.dim,
+        })
+    }
+}
+
+impl<T: Copy + Drop> Part for LineString<T> {
+    fn copy(&self, alloc: Global) -> Result<Self, AllocError> {
+        self.try_clone(alloc)
+    }
+}
+
+impl<T: WktNum> PartialEq for LineString<T> {
+    ghost use Rattle.wkt_types.specs.Exact.{exact_by, exact_per, held_eq, held_exact};
+    ghost use Rattle.wkt_types.specs.Equal.{coord_eq, coord_exact};
+
+    ghost eq = { held_eq (coord_eq T.eq) };
+
+    ghost laws = { exact_per (held_exact (coord_exact (exact_by T.same))) };
+
+    /// True exactly if coordinates and dimension are equal.
+    fn eq(&self, other: &Self) -> bool
+        ensures eq { result ≡ held_eq (coord_eq T.eq) self.now other.now }
+        ensures exact { IsTrue result ↔ (self.now ≡ other.now) }
+    {
+        let parts = self.coords.as_slice() == other.coords.as_slice();
+        and_same(parts, self.dim, other.dim)
+    }
+}

@@ -1,0 +1,138 @@
+//! Multilines.
+ghost use Rattle.std.specs.Prelude.{◌≡◌, [], IsTrue, ◌↔◌, IfOk, MatchOption, Some};
+ghost use Rattle.std.specs.Iterator.{IsFinite};
+ghost use Rattle.std.specs.Iterator.Runs.{WholeRun};
+
+use crate::copies::{Part, copies};
+use crate::dimension::and_same;
+use crate::linestring::LineString;
+use std::alloc::{AllocError, Global};
+use std::marker::Model;
+use wkt_access::Dimension;
+use wkt_num::WktNum;
+
+/// A multiline: lines in order, and the dimension of the header.
+#[derive(Debug, Drop)]
+pub struct MultiLineString<T> {
+    line_strings: Vec<LineString<T>>,
+    dim: Dimension,
+}
+
+impl<T> Model for MultiLineString<T> {
+    ghost use Rattle.wkt_types.specs.Held.{Held};
+    ghost use Rattle.wkt_types.specs.declared.coord.Coord.{Coord};
+
+    ghost Value = { Held (Held (Coord T)) };
+
+    ghost view = { λ x. record { parts = x.line_strings.items; dim = x.dim } };
+}
+
+impl<T> MultiLineString<T> {
+    ghost use Rattle.wkt_types.specs.Held.{first_dim};
+
+    /// A multiline of those lines. Their dimensions aren't compared with its own.
+    pub fn new(line_strings: Vec<LineString<T>>, dim: Dimension) -> Self
+        ensures line_strings { result.parts ≡ line_strings.items }
+        ensures dim { result.dim ≡ dim }
+    {
+        MultiLineString { line_strings, dim }
+    }
+
+    /// A multiline without lines. It takes no memory.
+    pub fn empty(alloc: Global, dim: Dimension) -> Self
+        ensures line_strings { result.parts ≡ [] }
+        ensures dim { result.dim ≡ dim }
+    {
+        MultiLineString {
+            line_strings: Vec::new(alloc),
+            dim,
+        }
+    }
+
+    /// The multiline of all lines that the iterator gives, with the first one's dimension: None
+    /// where it gives none.
+    ///
+    /// # Errors
+    /// Want of memory.
+    pub fn from_line_strings<I: Iterator<Item = LineString<T>> + Drop>(
+        alloc: Global,
+        line_strings: I,
+    ) -> Result<Option<Self>, AllocError>
+    where
+        T: Drop,
+        requires can { I.can_next line_strings }
+        requires ends { IsFinite (I.remaining line_strings) }
+        ensures { IfOk result (λ r. WholeRun I.next_gives line_strings (λ run. MatchOption r (run.items ≡ []) (λ x. (x.parts ≡ run.items) × (Some x.dim ≡ first_dim (λ x. x.dim) run.items)))) }
+    {
+        let line_strings: Vec<LineString<T>> = line_strings.collect(alloc)?;
+        match line_strings.first() {
+            None => Ok(None),
+            Some(first) => {
+                let dim = first.dimension();
+                Ok(Some(MultiLineString { line_strings, dim }))
+            }
+        }
+    }
+
+    /// The dimension of the header.
+    pub fn dimension(&self) -> Dimension
+        ensures { result ≡ self.now.dim }
+    {
+        self.dim
+    }
+
+    /// The lines in order.
+    pub fn line_strings(&self) -> &[LineString<T>]
+        ensures { result.now ≡ self.now.parts }
+    {
+        self.line_strings.as_slice()
+    }
+
+    /// The lines and the dimension.
+    pub fn into_inner(self) -> (Vec<LineString<T>>, Dimension)
+        ensures line_strings { result.0.items ≡ self.parts }
+        ensures dim { result.1 ≡ self.dim }
+    {
+        let MultiLineString { line_strings, dim } = self;
+        (line_strings, dim)
+    }
+}
+
+impl<T: Copy + Drop> MultiLineString<T> {
+    /// An equal multiline.
+    ///
+    /// # Errors
+    /// Want of memory.
+    pub fn try_clone(&self, alloc: Global) -> Result<Self, AllocError>
+        ensures { IfOk result (λ x. x ≡ self.now) }
+    {
+        Ok(MultiLineString {
+            line_strings: copies(alloc, &self.line_strings)?,
+            dim: self.dim,
+        })
+    }
+}
+
+impl<T: Copy + Drop> Part for MultiLineString<T> {
+    fn copy(&self, alloc: Global) -> Result<Self, AllocError> {
+        self.try_clone(alloc)
+    }
+}
+
+impl<T: WktNum> PartialEq for MultiLineString<T> {
+    ghost use Rattle.wkt_types.specs.Exact.{exact_by, exact_per, held_eq, held_exact};
+    ghost use Rattle.wkt_types.specs.Equal.{line_eq, line_exact};
+
+    ghost eq = { held_eq (line_eq T.eq) };
+
+    ghost laws = { exact_per (held_exact (line_exact (exact_by T.same))) };
+
+    /// True exactly if lines and dimension are equal.
+    fn eq(&self, other: &Self) -> bool
+        ensures eq { result ≡ held_eq (line_eq T.eq) self.now other.now }
+        ensures exact { IsTrue result ↔ (self.now ≡ other.now) }
+    {
+        let parts = self.line_strings.as_slice() == other.line_strings.as_slice();
+        and_same(parts, self.dim, other.dim)
+    }
+}
