@@ -2,3 +2,5 @@ pub mod Held
 pub mod Coords
 pub mod Exact
 pub mod Equal
+pub mod Tree
+pub mod Trees

@@ -4,6 +4,8 @@
 mod coord;
 mod copies;
 mod dimension;
+mod geometry;
+mod geometry_type;
 mod linestring;
 mod multilinestring;
 mod multipoint;
@@ -12,6 +14,8 @@ mod point;
 mod polygon;
 
 pub use coord::Coord;
+pub use geometry::{GeometryCollection, Wkt};
+pub use geometry_type::GeometryType;
 pub use linestring::LineString;
 pub use multilinestring::MultiLineString;
 pub use multipoint::MultiPoint;

@@ -1,0 +1,53 @@
+-- The tree of a `Wkt`, kind by kind.
+use Rattle.std.proofs.Common.{◌≡◌, ℕ, ◌<◌, ◌≤◌, ◌+◌, refl, rules, ap, sym, ◌∙◌, List, [], ◌∷◌, drop, length, get_or, Bool, true, false, ◌&&◌, Some, None, slice_get, nat_eq, add-one, arith, eq-eqb, ◌-◌, length-drop, map}
+use Rattle.wkt_access.specs.declared.Dimension.{Dimension}
+use Rattle.std.proofs.lemmas.Bool.Decides.{nat_tests}
+use Rattle.std.proofs.Math.Seq.{drop-cons}
+use Rattle.std.proofs.lemmas.List.{drop_all}
+use Rattle.std.proofs.lemmas.Option.{slice_get_within, get_or_from_slice_get}
+use Rattle.wkt_types.specs.Trees.{tree_eq, trees_eq}
+use Rattle.wkt_types.specs.Tree.{collected, tree_dim, collection, Tree, tree, members, collection_tree, no_trees, wkt_step, collection_step}
+use Rattle.wkt_types.specs.declared.geometry.GeometryCollection.{GeometryCollection}
+use Rattle.wkt_types.specs.declared.geometry.Wkt.{Wkt}
+use Rattle.wkt_types.specs.declared.geometry.Wkt.TheViews as views
+use Rattle.wkt_types.specs.declared.geometry.Wkt.TheVariants as variants
+use Rattle.wkt_types.specs.declared.geometry.Wkt.TheFolds as folds
+use Rattle.wkt_types.specs.declared.geometry.Wkt.TheOpen as opened
+
+pub tree-collection : {T : Type 0} (c : GeometryCollection T) → tree (views.GeometryCollection c) ≡ collection_tree c
+tree-collection {T} c =
+    ap tree (sym (variants.rolls-GeometryCollection c))
+    ∙ folds.fold-roll-Wkt T (Tree T) (Tree T) wkt_step collection_step (opened.Wkt-F.GeometryCollection c)
+
+pub members_step : {T : Type 0} (E : T → T → Bool) (as' bs : List (Wkt T)) (i : ℕ) (x y : Wkt T) →
+    i < length as' → x ≡ get_or as' i x → i < length bs → y ≡ get_or bs i y →
+    trees_eq E (members (drop i as')) (members (drop i bs))
+    ≡ (tree_eq E (tree x) (tree y) && trees_eq E (members (drop (i + 1) as')) (members (drop (i + 1) bs)))
+members_step E as' bs i x y h e lt f = rw (drop-cons as' i x h, drop-cons bs i y lt, ← e, ← f, add-one) refl
+
+pub members_short : {T : Type 0} (E : T → T → Bool) (as' bs : List (Wkt T)) (i : ℕ) (x : Wkt T) →
+    i < length as' → length bs ≤ i → trees_eq E (members (drop i as')) (members (drop i bs)) ≡ false
+members_short E as' bs i x h k = rw (drop-cons as' i x h, drop_all i bs k) refl
+
+differ : (n m : ℕ) → n < m → nat_eq n m ≡ false
+differ n m h = grind (arith, nat_tests)
+
+ends : {T : Type 0} (E : T → T → Bool) (n m : ℕ) (ws : List (Wkt T)) → length ws ≡ m - n → n ≤ m →
+    nat_eq n m ≡ trees_eq E no_trees (members ws)
+ends E n m [] h k = eq-eqb n m (omega (arith, h))
+ends E n m (w ∷ ws) h k = differ n m (omega (arith, h))
+
+pub members_ends : {T : Type 0} (E : T → T → Bool) (as' bs : List (Wkt T)) (i : ℕ) →
+    length as' ≤ i → i ≤ length as' → i ≤ length bs →
+    nat_eq (length as') (length bs) ≡ trees_eq E (members (drop i as')) (members (drop i bs))
+members_ends E as' bs i h k l =
+    rw (drop_all i as' h)
+    (ends E (length as') (length bs) (drop i bs) (length-drop i bs ∙ ap (λ n. length bs - n) (omega arith)) (omega arith))
+
+pub collected_some : {T : Type 0} (ws : List (Wkt T)) (w : Wkt T) (d : Dimension) → slice_get ws 0 ≡ Some w → d ≡ tree_dim (tree w) →
+    Some (collection (members ws) d) ≡ collected (map tree ws)
+collected_some [] w d h k = cc
+collected_some (v ∷ vs) w d h k =
+    let e : v ≡ w = cc in
+    let f : d ≡ tree_dim (tree v) = rw e k in
+    ap (λ x. Some (collection (members (v ∷ vs)) x)) f

@@ -1,0 +1,7 @@
+use Rattle.wkt_types.specs.Exact.{exact_by}
+use Rattle.wkt_types.specs.Trees.{tree_exact}
+use Rattle.wkt_types.proofs.Sames.{told}
+use Rattle.wkt_types.proofs.geometry.WktPartialEq.eq.Goals as goal
+
+pub returns-clause-exact : goal.returns-clause-exact
+returns-clause-exact g c = told (tree_exact (exact_by g.met.T.WktNum.same)) _ _ _ c.same_wkt.ensures

@@ -1,0 +1,311 @@
+//! Geometries of any kind, and collections of them.
+ghost use Rattle.std.specs.Prelude.{◌≡◌, IsTrue, ◌↔◌, IfOk, map};
+ghost use Rattle.std.specs.Option.{option_map};
+ghost use Rattle.std.specs.Cmp.{on_per};
+ghost use Rattle.std.specs.Iterator.{IsFinite};
+ghost use Rattle.std.specs.Iterator.Runs.{WholeRun};
+ghost use Rattle.wkt_types.specs.Exact.{exact_by, exact_per};
+ghost use Rattle.wkt_types.specs.Tree.{tree, collection_tree, members, no_trees, collection, collected, tree_dim, point, line_string, polygon, multi_point, multi_line_string, multi_polygon};
+ghost use Rattle.wkt_types.specs.Trees.{tree_eq, trees_eq, tree_exact};
+
+use crate::dimension::and_same;
+use crate::linestring::LineString;
+use crate::multilinestring::MultiLineString;
+use crate::multipoint::MultiPoint;
+use crate::multipolygon::MultiPolygon;
+use crate::point::Point;
+use crate::polygon::Polygon;
+use std::alloc::{AllocError, Global};
+use wkt_access::Dimension;
+use wkt_num::WktNum;
+
+/// A collection: geometries in order, each with its own dimension, and the dimension of the header.
+#[cycle(wkt)]
+#[derive(Debug, Drop)]
+pub struct GeometryCollection<T> {
+    geometries: Vec<Wkt<T>>,
+    dim: Dimension,
+}
+
+/// A geometry of any kind.
+#[cycle(wkt)]
+#[derive(Debug, Drop)]
+pub enum Wkt<T> {
+    Point(Point<T>),
+    LineString(LineString<T>),
+    Polygon(Polygon<T>),
+    MultiPoint(MultiPoint<T>),
+    MultiLineString(MultiLineString<T>),
+    MultiPolygon(MultiPolygon<T>),
+    GeometryCollection(GeometryCollection<T>),
+}
+
+impl<T> GeometryCollection<T> {
+    /// A collection of those geometries. Their dimensions aren't compared with its own.
+    pub fn new(geometries: Vec<Wkt<T>>, dim: Dimension) -> Self
+        ensures { collection_tree result ≡ collection (members geometries.items) dim }
+    {
+        GeometryCollection { geometries, dim }
+    }
+
+    /// A collection without geometries. It takes no memory.
+    pub fn empty(alloc: Global, dim: Dimension) -> Self
+        ensures { collection_tree result ≡ collection no_trees dim }
+    {
+        GeometryCollection {
+            geometries: Vec::new(alloc),
+            dim,
+        }
+    }
+
+    /// The collection of all geometries that the iterator gives, with the first one's dimension:
+    /// None where it gives none.
+    ///
+    /// # Errors
+    /// Want of memory.
+    pub fn from_geometries<I: Iterator<Item = Wkt<T>> + Drop>(
+        alloc: Global,
+        geometries: I,
+    ) -> Result<Option<Self>, AllocError>
+    where
+        T: Drop,
+        requires can { I.can_next geometries }
+        requires ends { IsFinite (I.remaining geometries) }
+        ensures { IfOk result (λ r. WholeRun I.next_gives geometries (λ run. option_map collection_tree r ≡ collected (map tree run.items))) }
+    {
+        let geometries: Vec<Wkt<T>> = geometries.collect(alloc)?;
+        match geometries.first() {
+            None => Ok(None),
+            Some(first) => {
+                let dim = first.dimension();
+                Ok(Some(GeometryCollection::new(geometries, dim)))
+            }
+        }
+    }
+
+    /// The dimension of the header.
+    pub fn dimension(&self) -> Dimension
+        ensures { result ≡ tree_dim (collection_tree self.now) }
+    {
+        self.dim
+    }
+
+    /// The geometries in order.
+    pub fn geometries(&self) -> &[Wkt<T>]
+        ensures { collection_tree self.now ≡ collection (members result.now) (tree_dim (collection_tree self.now)) }
+    {
+        self.geometries.as_slice()
+    }
+
+    /// The geometries and the dimension.
+    pub fn into_inner(self) -> (Vec<Wkt<T>>, Dimension)
+        ensures { collection_tree self ≡ collection (members result.0.items) result.1 }
+    {
+        let GeometryCollection { geometries, dim } = self;
+        (geometries, dim)
+    }
+}
+
+impl<T> Wkt<T> {
+    /// The dimension of the header.
+    pub fn dimension(&self) -> Dimension
+        ensures { result ≡ tree_dim (tree self.now) }
+    {
+        match self {
+            Wkt::Point(p) => p.dimension(),
+            Wkt::LineString(l) => l.dimension(),
+            Wkt::Polygon(y) => y.dimension(),
+            Wkt::MultiPoint(m) => m.dimension(),
+            Wkt::MultiLineString(m) => m.dimension(),
+            Wkt::MultiPolygon(m) => m.dimension(),
+            Wkt::GeometryCollection(c) => c.dimension(),
+        }
+    }
+}
+
+#[cycle(copy)]
+fn copy_wkt<T: Copy + Drop>(w: &Wkt<T>, alloc: Global) -> Result<Wkt<T>, AllocError>
+    ensures { IfOk result (λ c. tree c ≡ tree w.now) }
+{
+    match w {
+        Wkt::Point(p) => Ok(Wkt::Point(*p)),
+        Wkt::LineString(l) => Ok(Wkt::LineString(l.try_clone(alloc)?)),
+        Wkt::Polygon(y) => Ok(Wkt::Polygon(y.try_clone(alloc)?)),
+        Wkt::MultiPoint(m) => Ok(Wkt::MultiPoint(m.try_clone(alloc)?)),
+        Wkt::MultiLineString(m) => Ok(Wkt::MultiLineString(m.try_clone(alloc)?)),
+        Wkt::MultiPolygon(m) => Ok(Wkt::MultiPolygon(m.try_clone(alloc)?)),
+        Wkt::GeometryCollection(c) => Ok(Wkt::GeometryCollection(copy_collection(c, alloc)?)),
+    }
+}
+
+#[cycle(copy)]
+fn copy_collection<T: Copy + Drop>(
+    c: &GeometryCollection<T>,
+    alloc: Global,
+) -> Result<GeometryCollection<T>, AllocError>
+    ensures { IfOk result (λ r. collection_tree r ≡ collection_tree c.now) }
+{
+    Ok(GeometryCollection {
+        geometries: copy_members(&c.geometries, alloc)?,
+        dim: c.dim,
+    })
+}
+
+#[cycle(copy)]
+fn copy_members<T: Copy + Drop>(all: &Vec<Wkt<T>>, alloc: Global) -> Result<Vec<Wkt<T>>, AllocError>
+    ensures { IfOk result (λ v. members v.items ≡ members all.now.items) }
+{
+    let mut copies = Vec::with_capacity(alloc, all.len())?;
+    for w in all {
+        copies.push(copy_wkt(w, alloc)?)?;
+    }
+    Ok(copies)
+}
+
+impl<T: Copy + Drop> Wkt<T> {
+    /// An equal geometry.
+    ///
+    /// # Errors
+    /// Want of memory.
+    pub fn try_clone(&self, alloc: Global) -> Result<Self, AllocError>
+        ensures { IfOk result (λ w. tree w ≡ tree self.now) }
+    {
+        copy_wkt(self, alloc)
+    }
+}
+
+impl<T: Copy + Drop> GeometryCollection<T> {
+    /// An equal collection.
+    ///
+    /// # Errors
+    /// Want of memory.
+    pub fn try_clone(&self, alloc: Global) -> Result<Self, AllocError>
+        ensures { IfOk result (λ c. collection_tree c ≡ collection_tree self.now) }
+    {
+        copy_collection(self, alloc)
+    }
+}
+
+#[cycle(same)]
+fn same_wkt<T: WktNum>(a: &Wkt<T>, b: &Wkt<T>) -> bool
+    ensures { result ≡ tree_eq T.eq (tree a.now) (tree b.now) }
+{
+    match (a, b) {
+        (Wkt::Point(x), Wkt::Point(y)) => x == y,
+        (Wkt::LineString(x), Wkt::LineString(y)) => x == y,
+        (Wkt::Polygon(x), Wkt::Polygon(y)) => x == y,
+        (Wkt::MultiPoint(x), Wkt::MultiPoint(y)) => x == y,
+        (Wkt::MultiLineString(x), Wkt::MultiLineString(y)) => x == y,
+        (Wkt::MultiPolygon(x), Wkt::MultiPolygon(y)) => x == y,
+        (Wkt::GeometryCollection(x), Wkt::GeometryCollection(y)) => same_collection(x, y),
+        _ => false,
+    }
+}
+
+#[cycle(same)]
+fn same_collection<T: WktNum>(a: &GeometryCollection<T>, b: &GeometryCollection<T>) -> bool
+    ensures { result ≡ tree_eq T.eq (collection_tree a.now) (collection_tree b.now) }
+{
+    and_same(same_members(&a.geometries, &b.geometries), a.dim, b.dim)
+}
+
+#[cycle(same)]
+fn same_members<T: WktNum>(a: &[Wkt<T>], b: &[Wkt<T>]) -> bool
+    ensures { result ≡ trees_eq T.eq (members a.now) (members b.now) }
+{
+    for (i, x) in a.iter().enumerate() {
+        match b.get(i) {
+            None => return false,
+            Some(y) => {
+                if !same_wkt(x, y) {
+                    return false;
+                }
+            }
+        }
+    }
+    a.len() == b.len()
+}
+
+impl<T: WktNum> PartialEq for Wkt<T> {
+    ghost eq = { λ a b. tree_eq T.eq (tree a) (tree b) };
+
+    ghost laws = { on_per tree (exact_per (tree_exact (exact_by T.same))) };
+
+    /// True exactly if kind, dimension and parts are equal.
+    fn eq(&self, other: &Self) -> bool
+        ensures eq { result ≡ tree_eq T.eq (tree self.now) (tree other.now) }
+        ensures exact { IsTrue result ↔ (tree self.now ≡ tree other.now) }
+    {
+        same_wkt(self, other)
+    }
+}
+
+impl<T: WktNum> PartialEq for GeometryCollection<T> {
+    ghost eq = { λ a b. tree_eq T.eq (collection_tree a) (collection_tree b) };
+
+    ghost laws = { on_per collection_tree (exact_per (tree_exact (exact_by T.same))) };
+
+    /// True exactly if dimension and geometries are equal.
+    fn eq(&self, other: &Self) -> bool
+        ensures eq { result ≡ tree_eq T.eq (collection_tree self.now) (collection_tree other.now) }
+        ensures exact { IsTrue result ↔ (collection_tree self.now ≡ collection_tree other.now) }
+    {
+        same_collection(self, other)
+    }
+}
+
+impl<T> From<Point<T>> for Wkt<T> {
+    ghost from_gives = { λ x r. tree r ≡ point x };
+
+    fn from(x: Point<T>) -> Self {
+        Wkt::Point(x)
+    }
+}
+
+impl<T> From<LineString<T>> for Wkt<T> {
+    ghost from_gives = { λ x r. tree r ≡ line_string x };
+
+    fn from(x: LineString<T>) -> Self {
+        Wkt::LineString(x)
+    }
+}
+
+impl<T> From<Polygon<T>> for Wkt<T> {
+    ghost from_gives = { λ x r. tree r ≡ polygon x };
+
+    fn from(x: Polygon<T>) -> Self {
+        Wkt::Polygon(x)
+    }
+}
+
+impl<T> From<MultiPoint<T>> for Wkt<T> {
+    ghost from_gives = { λ x r. tree r ≡ multi_point x };
+
+    fn from(x: MultiPoint<T>) -> Self {
+        Wkt::MultiPoint(x)
+    }
+}
+
+impl<T> From<MultiLineString<T>> for Wkt<T> {
+    ghost from_gives = { λ x r. tree r ≡ multi_line_string x };
+
+    fn from(x: MultiLineString<T>) -> Self {
+        Wkt::MultiLineString(x)
+    }
+}
+
+impl<T> From<MultiPolygon<T>> for Wkt<T> {
+    ghost from_gives = { λ x r. tree r ≡ multi_polygon x };
+
+    fn from(x: MultiPolygon<T>) -> Self {
+        Wkt::MultiPolygon(x)
+    }
+}
+
+impl<T> From<GeometryCollection<T>> for Wkt<T> {
+    ghost from_gives = { λ x r. tree r ≡ collection_tree x };
+
+    fn from(x: GeometryCollection<T>) -> Self {
+        Wkt::GeometryCollection(x)
+    }
+}
