@@ -4,3 +4,4 @@ pub mod Exact
 pub mod Equal
 pub mod Tree
 pub mod Trees
+pub mod Values
