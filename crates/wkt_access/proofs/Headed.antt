@@ -2,10 +2,10 @@
 use Rattle.std.proofs.Common.{◌≡◌, ℕ, List, [], ◌∷◌, ◌++◌, length, map, Option, Some, None, refl, ap, sym, ◌∙◌, append_assoc}
 use Rattle.std.specs.Prelude.{codes, Result, option_to_list, option_map, unwrap_or}
 use Rattle.std.proofs.lemmas.List.{length-map}
-use Rattle.wkt_access.specs.declared.Dimension.{Dimension}
-use Rattle.wkt_access.specs.declared.Dimension.TheVariants.{XY}
-use Rattle.wkt_access.specs.declared.Dimensions.{Dimensions}
-use Rattle.wkt_access.specs.declared.Error.{Error}
+use Rattle.wkt_access.specs.declared.dimensions.Dimension.{Dimension}
+use Rattle.wkt_access.specs.declared.dimensions.Dimension.TheVariants.{XY}
+use Rattle.wkt_access.specs.declared.dimensions.Dimensions.{Dimensions}
+use Rattle.wkt_access.specs.declared.error.Error.{Error}
 use Rattle.wkt_access.specs.Faults.{under}
 use Rattle.wkt_access.specs.Parts.{each, members_of, dimension_of, IsCollectionOf}
 use Rattle.wkt_access.specs.Pieces.{gap, cut_coordinate, cut_line, cut_member, cut_polygon, corners_text}

@@ -2,10 +2,10 @@
 use Rattle.std.proofs.Common.{◌≡◌, ℕ, List, [], ◌∷◌, length, Bool, true, false, cond, nat_lt, Option, Some, None, refl}
 use Rattle.std.specs.Prelude.{option_to_list}
 use Rattle.std.specs.Option.{option_or}
-use Rattle.wkt_access.specs.declared.Dimension.{Dimension}
-use Rattle.wkt_access.specs.declared.Dimension.TheVariants.{XY, XYZ, XYM, XYZM}
-use Rattle.wkt_access.specs.declared.Error.{Error}
-use Rattle.wkt_access.specs.declared.Error.TheVariants.{FmtError, RectUnsupportedDimension, UnknownDimension, TooFewNumbers, EmptyPoint, Memory}
+use Rattle.wkt_access.specs.declared.dimensions.Dimension.{Dimension}
+use Rattle.wkt_access.specs.declared.dimensions.Dimension.TheVariants.{XY, XYZ, XYM, XYZM}
+use Rattle.wkt_access.specs.declared.error.Error.{Error}
+use Rattle.wkt_access.specs.declared.error.Error.TheVariants.{FmtError, RectUnsupportedDimension, UnknownDimension, TooFewNumbers, Memory}
 use Rattle.wkt_access.specs.Faults.{fault, faults, first_fault, coordinate_fault, line_fault, polygon_fault, member_fault, under, rect_fault}
 use Rattle.wkt_access.specs.Shapes.{Shape, Shapes, PolygonShape, printed, rings_of}
 use Rattle.wkt_access.specs.Writes.{Refuses}
@@ -15,7 +15,6 @@ IsOwn (FmtError e) = ⊥
 IsOwn RectUnsupportedDimension = Unit {0}
 IsOwn UnknownDimension = Unit {0}
 IsOwn TooFewNumbers = Unit {0}
-IsOwn EmptyPoint = Unit {0}
 IsOwn (Memory e) = Unit {0}
 
 abbrev IsOwnIfAny : Option Error → Type 0
@@ -80,7 +79,6 @@ module _ {S : Type 0} (text : S → List ℕ) (failures : S → ℕ) (took broke
   own_refusal found RectUnsupportedDimension h w = record { found_is = w; same = refl }
   own_refusal found UnknownDimension h w = record { found_is = w; same = refl }
   own_refusal found TooFewNumbers h w = record { found_is = w; same = refl }
-  own_refusal found EmptyPoint h w = record { found_is = w; same = refl }
   own_refusal found (Memory x) h w = record { found_is = w; same = refl }
 
   pub refusal : {N : Type 0} (shape : Shape N) (e : Error) → fault shape ≡ Some e → Refuses text failures took broke s (fault shape) bs s e

@@ -1,8 +1,8 @@
 -- What a writer of a shape answers, and leaves in the sink.
 use Rattle.std.specs.Prelude.{◌≡◌, ℕ, List, Option, Some, None, Result, Ok, Err}
 use Rattle.wkt_num.specs.Sink.{Adds, Breaks}
-use Rattle.wkt_access.specs.declared.Error.{Error}
-use Rattle.wkt_access.specs.declared.Error.TheVariants.{FmtError, RectUnsupportedDimension, UnknownDimension, TooFewNumbers, EmptyPoint, Memory}
+use Rattle.wkt_access.specs.declared.error.Error.{Error}
+use Rattle.wkt_access.specs.declared.error.Error.TheVariants.{FmtError, RectUnsupportedDimension, UnknownDimension, TooFewNumbers, Memory}
 use Rattle.wkt_access.specs.Shapes.{Shape}
 use Rattle.wkt_access.specs.Texts.{shape_text}
 use Rattle.wkt_access.specs.Faults.{fault, Clear}
@@ -19,7 +19,6 @@ Refuses text failures took broke s found bs t (FmtError e) = (found ≡ None) ×
 Refuses text failures took broke s found bs t RectUnsupportedDimension = Refused s found t RectUnsupportedDimension
 Refuses text failures took broke s found bs t UnknownDimension = Refused s found t UnknownDimension
 Refuses text failures took broke s found bs t TooFewNumbers = Refused s found t TooFewNumbers
-Refuses text failures took broke s found bs t EmptyPoint = Refused s found t EmptyPoint
 Refuses text failures took broke s found bs t (Memory e) = Refused s found t (Memory e)
 
 -- The shape's text is added, and the shape holds values of the number type alone; or it is refused.

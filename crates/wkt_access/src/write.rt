@@ -1,21 +1,23 @@
-// The writers. Each looks for a refusal first, so that nothing is written where one comes.
+//! The writers. Each looks for a refusal first, so that nothing is written where one comes.
 #![tactic(auto)]
 
 ghost use Rattle.wkt_access.specs.Shapes.{Shape};
 ghost use Rattle.wkt_access.specs.Writes.{Writes};
 
+use crate::access::{
+    GeometryTrait, LineStringTrait, LineTrait, MultiLineStringTrait, MultiPointTrait,
+    MultiPolygonTrait, PointTrait, PolygonTrait, RectTrait, TriangleTrait,
+};
 use crate::check::{
     check_geometry, check_line_of_two, check_linestring, check_multi_linestring, check_multi_point,
     check_multi_polygon, check_point, check_polygon, check_rect, check_triangle,
 };
-use crate::put::{
+use crate::error::Error;
+use crate::put_kinds::{
     put_geometry, put_line_of_two, put_linestring, put_multi_linestring, put_multi_point,
     put_multi_polygon, put_point, put_polygon, put_rect, put_triangle,
 };
-use crate::{
-    Error, GeometryTrait, LineStringTrait, LineTrait, MultiLineStringTrait, MultiPointTrait,
-    MultiPolygonTrait, PointTrait, PolygonTrait, RectTrait, TextSink, TriangleTrait, WktNum,
-};
+use wkt_num::{TextSink, WktNum};
 
 pub fn write_point<W: TextSink, P: PointTrait>(f: &mut W, g: &P) -> Result<(), Error>
     ensures { Writes W.text W.failures W.took W.broke P.T.is_value P.T.num f.old (Shape.point (P.dimension g.now) (P.coordinate g.now)) f.new result }

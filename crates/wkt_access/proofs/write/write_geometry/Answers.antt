@@ -1,4 +1,5 @@
 use Rattle.std.proofs.lemmas.Result.{err_from_is_err_and}
+use Rattle.wkt_access.proofs.Canon.{lawful}
 use Rattle.wkt_access.proofs.Refusals.{refusal}
 use Rattle.wkt_access.proofs.write.write_geometry.Goals as goal
 
@@ -13,4 +14,4 @@ returns-in_err-put_geometry g c =
     rw (p.1, p.2) (c.in_ok-check_geometry.ensures.none, c.in_err-put_geometry.ensures)
 
 pub returns : goal.returns
-returns g c = (c.in_ok-check_geometry.ensures, c.in_ok-put_geometry.ensures)
+returns g c = (lawful _ (g.G.GeometryTrait.shape c.args.g.now) c.in_ok-check_geometry.ensures, c.in_ok-put_geometry.ensures)

@@ -1,5 +1,6 @@
 use Rattle.std.proofs.lemmas.Result.{err_from_is_err_and}
 use Rattle.wkt_access.specs.Shapes.{Shape}
+use Rattle.wkt_access.proofs.Canon.{lawful}
 use Rattle.wkt_access.proofs.Refusals.{refusal}
 use Rattle.wkt_access.proofs.write.write_line.Goals as goal
 
@@ -14,4 +15,4 @@ returns-in_err-put_line_of_two g c =
     rw (p.1, p.2) (c.in_ok-check_line_of_two.ensures.none, c.in_err-put_line_of_two.ensures)
 
 pub returns : goal.returns
-returns g c = (c.in_ok-check_line_of_two.ensures, c.in_ok-put_line_of_two.ensures)
+returns g c = (lawful _ (Shape.line (g.L.LineTrait.dimension c.args.g.now) (g.L.LineTrait.from c.args.g.now) (g.L.LineTrait.to c.args.g.now)) c.in_ok-check_line_of_two.ensures, c.in_ok-put_line_of_two.ensures)

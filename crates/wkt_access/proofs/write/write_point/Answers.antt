@@ -1,5 +1,6 @@
 use Rattle.std.proofs.lemmas.Result.{err_from_is_err_and}
 use Rattle.wkt_access.specs.Shapes.{Shape}
+use Rattle.wkt_access.proofs.Canon.{lawful}
 use Rattle.wkt_access.proofs.Refusals.{refusal}
 use Rattle.wkt_access.proofs.write.write_point.Goals as goal
 
@@ -14,4 +15,4 @@ returns-in_err-put_point g c =
     rw (p.1, p.2) (c.in_ok-check_point.ensures.none, c.in_err-put_point.ensures)
 
 pub returns : goal.returns
-returns g c = (c.in_ok-check_point.ensures, c.in_ok-put_point.ensures)
+returns g c = (lawful _ (Shape.point (g.P.PointTrait.dimension c.args.g.now) (g.P.PointTrait.coordinate c.args.g.now)) c.in_ok-check_point.ensures, c.in_ok-put_point.ensures)

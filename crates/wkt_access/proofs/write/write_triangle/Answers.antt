@@ -1,5 +1,6 @@
 use Rattle.std.proofs.lemmas.Result.{err_from_is_err_and}
 use Rattle.wkt_access.specs.Shapes.{Shape}
+use Rattle.wkt_access.proofs.Canon.{lawful}
 use Rattle.wkt_access.proofs.Refusals.{refusal}
 use Rattle.wkt_access.proofs.write.write_triangle.Goals as goal
 
@@ -14,4 +15,4 @@ returns-in_err-put_triangle g c =
     rw (p.1, p.2) (c.in_ok-check_triangle.ensures.none, c.in_err-put_triangle.ensures)
 
 pub returns : goal.returns
-returns g c = (c.in_ok-check_triangle.ensures, c.in_ok-put_triangle.ensures)
+returns g c = (lawful _ (Shape.triangle (g.Y.TriangleTrait.dimension c.args.g.now) (g.Y.TriangleTrait.a c.args.g.now) (g.Y.TriangleTrait.b c.args.g.now) (g.Y.TriangleTrait.c c.args.g.now)) c.in_ok-check_triangle.ensures, c.in_ok-put_triangle.ensures)

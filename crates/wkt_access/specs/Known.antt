@@ -1,0 +1,49 @@
+-- What the check pass comes to know of the numbers that will be printed. Only private contracts cite these words.
+use Rattle.std.specs.Prelude.{ℕ, ◌≤◌, List, [], ◌∷◌, length, take, Option, option_to_list}
+use Rattle.std.specs.List.{AllByRecursion}
+use Rattle.wkt_access.specs.Shapes.{Shape, Shapes, PolygonShape, dimension, rings_of}
+use Rattle.wkt_access.specs.Values.{size}
+
+module _ {N : Type 0} (is_value : N → Type 0) where
+  -- The first k numbers of a coordinate are values.
+  abbrev pub KnownCoord : ℕ → List N → Type 0
+  KnownCoord k c = AllByRecursion is_value (take k c)
+
+  -- So are those of each coordinate of a line.
+  abbrev pub KnownLine : ℕ → List (List N) → Type 0
+  KnownLine k = AllByRecursion (KnownCoord k)
+
+  -- So are those of each line of a list.
+  abbrev pub KnownLines : ℕ → List (List (List N)) → Type 0
+  KnownLines k = AllByRecursion (KnownLine k)
+
+  -- So are those of the coordinate that a point may have.
+  abbrev pub KnownPoint : ℕ → Option (List N) → Type 0
+  KnownPoint k c = KnownLine k (option_to_list c)
+
+  -- So are those of a polygon's rings.
+  abbrev pub KnownPolygon : ℕ → PolygonShape N → Type 0
+  KnownPolygon k p = KnownLines k (rings_of p)
+
+  -- A corner of a rectangle has an x and a y, and they are values.
+  abbrev pub KnownCorner : List N → Type 0
+  KnownCorner c = KnownCoord 2 c × (2 ≤ length c)
+
+  abbrev mutual
+    -- The numbers of a shape that its header's dimension counts are values.
+    pub Known : Shape N → Type 0
+    Known (Shape.point d c) = KnownPoint (size (dimension d)) c
+    Known (Shape.line_string d cs) = KnownLine (size (dimension d)) cs
+    Known (Shape.polygon d p) = KnownPolygon (size (dimension d)) p
+    Known (Shape.multi_point d ps) = AllByRecursion (KnownPoint (size (dimension d))) ps
+    Known (Shape.multi_line_string d ls) = KnownLines (size (dimension d)) ls
+    Known (Shape.multi_polygon d ps) = AllByRecursion (KnownPolygon (size (dimension d))) ps
+    Known (Shape.collection d gs) = AllKnown gs
+    Known (Shape.rect d a b) = KnownCorner a × KnownCorner b
+    Known (Shape.triangle d a b c) = KnownLine (size (dimension d)) (a ∷ b ∷ c ∷ [])
+    Known (Shape.line d a b) = KnownLine (size (dimension d)) (a ∷ b ∷ [])
+
+    -- So are those of each shape of a list.
+    pub AllKnown : Shapes N → Type 0
+    AllKnown Shapes.no_shapes = Unit {0}
+    AllKnown (Shapes.more_shapes g gs) = Known g × AllKnown gs

@@ -1,0 +1,141 @@
+//! Writes a geometry of each kind. Each has no fault.
+#![tactic(auto, using(crate::proofs::Firsts::none_at))]
+
+ghost use Rattle.std.specs.Prelude.{◌≡◌, ◌<◌, None};
+ghost use Rattle.wkt_access.specs.Faults.{fault};
+ghost use Rattle.wkt_access.specs.Shapes.{Shape, dimension};
+ghost use Rattle.wkt_access.specs.Parts.{IsCollectionOf};
+ghost use Rattle.wkt_access.specs.Texts.{shape_text};
+ghost use Rattle.wkt_num.specs.Sink.{Puts};
+
+use crate::access::{
+    GeometryTrait, GeometryType, LineStringTrait, LineTrait, MultiLineStringTrait, MultiPointTrait,
+    MultiPolygonTrait, PointTrait, PolygonTrait, RectTrait, TriangleTrait,
+};
+use crate::check::{dimension_in, size_in};
+use crate::put_parts::{
+    count_coord, put_closing, put_corners, put_header, put_inner_point, put_line, put_line_items,
+    put_lines_in, put_opening, put_points_in, put_polygons_in, put_rings, put_separator,
+    put_triangle_items, some_ring,
+};
+use std::fmt;
+use wkt_num::TextSink;
+
+pub(crate) fn put_point<W: TextSink, P: PointTrait>(f: &mut W, p: &P) -> fmt::Result
+    requires { fault (Shape.point (P.dimension p.now) (P.coordinate p.now)) ≡ None }
+    ensures { Puts W.text W.failures W.took W.broke f.old (shape_text P.T.num (Shape.point (P.dimension p.now) (P.coordinate p.now))) f.new result }
+{
+    let d = dimension_in(p.dim());
+    put_header(f, "POINT", d, count_coord(p))?;
+    put_inner_point(f, p, size_in(d))
+}
+
+pub(crate) fn put_linestring<W: TextSink, L: LineStringTrait>(f: &mut W, l: &L) -> fmt::Result
+    requires { fault (Shape.line_string (L.dimension l.now) (L.coordinates l.now)) ≡ None }
+    ensures { Puts W.text W.failures W.took W.broke f.old (shape_text L.T.num (Shape.line_string (L.dimension l.now) (L.coordinates l.now))) f.new result }
+{
+    let d = dimension_in(l.dim());
+    put_header(f, "LINESTRING", d, l.num_coords())?;
+    put_line(f, l, size_in(d))
+}
+
+pub(crate) fn put_polygon<W: TextSink, Y: PolygonTrait>(f: &mut W, y: &Y) -> fmt::Result
+    requires { fault (Shape.polygon (Y.dimension y.now) (Y.polygon y.now)) ≡ None }
+    ensures { Puts W.text W.failures W.took W.broke f.old (shape_text Y.T.num (Shape.polygon (Y.dimension y.now) (Y.polygon y.now))) f.new result }
+{
+    let d = dimension_in(y.dim());
+    put_header(f, "POLYGON", d, some_ring(y))?;
+    put_rings(f, y, size_in(d))
+}
+
+pub(crate) fn put_multi_point<W: TextSink, M: MultiPointTrait>(f: &mut W, m: &M) -> fmt::Result
+    requires { fault (Shape.multi_point (M.dimension m.now) (M.points m.now)) ≡ None }
+    ensures { Puts W.text W.failures W.took W.broke f.old (shape_text M.T.num (Shape.multi_point (M.dimension m.now) (M.points m.now))) f.new result }
+{
+    let d = dimension_in(m.dim());
+    put_header(f, "MULTIPOINT", d, m.num_points())?;
+    put_points_in(f, m, size_in(d))
+}
+
+pub(crate) fn put_multi_linestring<W: TextSink, M: MultiLineStringTrait>(
+    f: &mut W,
+    m: &M,
+) -> fmt::Result
+    requires { fault (Shape.multi_line_string (M.dimension m.now) (M.lines m.now)) ≡ None }
+    ensures { Puts W.text W.failures W.took W.broke f.old (shape_text M.T.num (Shape.multi_line_string (M.dimension m.now) (M.lines m.now))) f.new result }
+{
+    let d = dimension_in(m.dim());
+    put_header(f, "MULTILINESTRING", d, m.num_line_strings())?;
+    put_lines_in(f, m, size_in(d))
+}
+
+pub(crate) fn put_multi_polygon<W: TextSink, M: MultiPolygonTrait>(f: &mut W, m: &M) -> fmt::Result
+    requires { fault (Shape.multi_polygon (M.dimension m.now) (M.polygons m.now)) ≡ None }
+    ensures { Puts W.text W.failures W.took W.broke f.old (shape_text M.T.num (Shape.multi_polygon (M.dimension m.now) (M.polygons m.now))) f.new result }
+{
+    let d = dimension_in(m.dim());
+    put_header(f, "MULTIPOLYGON", d, m.num_polygons())?;
+    put_polygons_in(f, m, size_in(d))
+}
+
+pub(crate) fn put_rect<W: TextSink, R: RectTrait>(f: &mut W, r: &R) -> fmt::Result
+    ensures { Puts W.text W.failures W.took W.broke f.old (shape_text R.T.num (Shape.rect (R.dimension r.now) (R.least r.now) (R.most r.now))) f.new result }
+{
+    let min = r.min();
+    let max = r.max();
+    f.write_str("POLYGON((")?;
+    put_corners(f, min, max)?;
+    f.write_str("))")
+}
+
+pub(crate) fn put_triangle<W: TextSink, Y: TriangleTrait>(f: &mut W, y: &Y) -> fmt::Result
+    requires { fault (Shape.triangle (Y.dimension y.now) (Y.a y.now) (Y.b y.now) (Y.c y.now)) ≡ None }
+    ensures { Puts W.text W.failures W.took W.broke f.old (shape_text Y.T.num (Shape.triangle (Y.dimension y.now) (Y.a y.now) (Y.b y.now) (Y.c y.now))) f.new result }
+{
+    let d = dimension_in(y.dim());
+    put_header(f, "POLYGON", d, 1)?;
+    put_triangle_items(f, y, size_in(d))
+}
+
+pub(crate) fn put_line_of_two<W: TextSink, L: LineTrait>(f: &mut W, l: &L) -> fmt::Result
+    requires { fault (Shape.line (L.dimension l.now) (L.from l.now) (L.to l.now)) ≡ None }
+    ensures { Puts W.text W.failures W.took W.broke f.old (shape_text L.T.num (Shape.line (L.dimension l.now) (L.from l.now) (L.to l.now))) f.new result }
+{
+    let d = dimension_in(l.dim());
+    put_header(f, "LINESTRING", d, 1)?;
+    put_line_items(f, l, size_in(d))
+}
+
+#[cycle(geometries)]
+pub(crate) fn put_geometry<W: TextSink, G: GeometryTrait>(f: &mut W, g: &G) -> fmt::Result
+    requires { fault (G.shape g.now) ≡ None }
+    ensures { Puts W.text W.failures W.took W.broke f.old (shape_text G.T.num (G.shape g.now)) f.new result }
+{
+    match g.as_type() {
+        GeometryType::Point(p) => put_point(f, p),
+        GeometryType::LineString(l) => put_linestring(f, l),
+        GeometryType::Polygon(y) => put_polygon(f, y),
+        GeometryType::MultiPoint(m) => put_multi_point(f, m),
+        GeometryType::MultiLineString(m) => put_multi_linestring(f, m),
+        GeometryType::MultiPolygon(m) => put_multi_polygon(f, m),
+        GeometryType::GeometryCollection(n) => put_members(f, g, n),
+        GeometryType::Rect(r) => put_rect(f, r),
+        GeometryType::Triangle(y) => put_triangle(f, y),
+        GeometryType::Line(l) => put_line_of_two(f, l),
+    }
+}
+
+#[cycle(geometries)]
+fn put_members<W: TextSink, G: GeometryTrait>(f: &mut W, g: &G, n: usize) -> fmt::Result
+    requires fault { fault (G.shape g.now) ≡ None }
+    requires count { IsCollectionOf n (G.shape g.now) }
+    ensures { Puts W.text W.failures W.took W.broke f.old (shape_text G.T.num (G.shape g.now)) f.new result }
+{
+    put_header(f, "GEOMETRYCOLLECTION", dimension_in(g.dim()), n)?;
+    put_opening(f, n)?;
+    for i in 0..n {
+        put_separator(f, ",", i)?;
+        put_geometry(f, g.geometry(i))?;
+    }
+    put_closing(f, n)
+}
