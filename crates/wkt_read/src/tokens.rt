@@ -1,0 +1,141 @@
+//! The lexemes of a text.
+ghost use Rattle.std.specs.Prelude.{◌≡◌, ◌≢◌, ℕ};
+ghost use Rattle.std.specs.Str.{IsCharBoundary};
+ghost use Rattle.wkt_read.specs.declared.class.Class.TheVariants.{Run};
+
+use crate::class::Class;
+use crate::cursor::Cursor;
+use crate::scan::{end_of_run, first_class, number_in};
+use std::marker::PhantomData;
+use wkt_num::WktNum;
+
+/// A lexeme of well-known text, its number read as `T`.
+#[derive(Clone, Copy, PartialEq, Eq, Debug)]
+pub enum Token<'a, T> {
+    Comma,
+    Number(T),
+    ParenClose,
+    ParenOpen,
+    Word(&'a str),
+}
+
+/// A lexeme whose number is not read yet.
+#[derive(Clone, Copy)]
+pub(crate) enum Raw<'a> {
+    End,
+    Comma,
+    Close,
+    Open,
+    Run(&'a str),
+}
+
+/// The lexemes of a text, one after the other.
+///
+/// White space is space, LF, CR and TAB, the marks are `(`, `)` and `,`, and a run is a longest stretch of other
+/// characters. The text ends at its first NUL.
+#[derive(Drop)]
+pub struct Tokens<'a, T> {
+    bytes: Cursor<'a>,
+    // The byte that was taken behind a run, if it is a mark or NUL.
+    ahead: Class,
+    end: usize,
+    of: PhantomData<T>,
+    ghost boundary: { IsCharBoundary bytes.text.now bytes.taken },
+    ghost no_run: { ahead ≢ Run },
+}
+
+impl<'a, T: WktNum> Tokens<'a, T> {
+    ghost use Rattle.wkt_read.specs.Lexemes.{IsSplit, lexeme_of};
+    ghost use Rattle.wkt_read.specs.Placed.{placed, lexemes_of};
+    ghost use Rattle.wkt_read.specs.Stream.{coming, bytes_taken, end_of_last, Says};
+    ghost use Rattle.wkt_read.specs.Raws.{found, Steps};
+
+    /// The lexemes of the text; none of it is taken yet.
+    pub fn from_str(text: &'a str) -> Self
+        ensures placed { coming result ≡ placed text.now }
+        ensures split { IsSplit text.now (lexemes_of (coming result)) }
+        ensures untaken { bytes_taken result ≡ 0 }
+        ensures start { end_of_last result ≡ 0 }
+    {
+        Tokens {
+            bytes: Cursor::new(text),
+            ahead: Class::White,
+            end: 0,
+            of: PhantomData,
+        }
+    }
+
+    /// How many bytes of the text were taken.
+    #[tactic(auto, unfolding(crate::specs::Stream::bytes_taken))]
+    pub fn taken(&self) -> usize
+        ensures { result ≡ bytes_taken self.now }
+    {
+        self.bytes.taken()
+    }
+
+    /// Where the last lexeme that `next` gave ends, in bytes; 0 before the first.
+    #[tactic(auto, unfolding(crate::specs::Stream::end_of_last))]
+    pub fn end(&self) -> usize
+        ensures { result ≡ end_of_last self.now }
+    {
+        self.end
+    }
+
+    // The next lexeme, its number not read.
+    pub(crate) fn next_raw(&mut self) -> Raw<'a>
+        ensures { Steps self.old (found result) self.new }
+    {
+        let mark = match first_class(&mut self.bytes, self.ahead) {
+            Class::Open => Raw::Open,
+            Class::Close => Raw::Close,
+            Class::Comma => Raw::Comma,
+            Class::Run => {
+                let from = self.bytes.taken() - 1;
+                let (end, ahead) = end_of_run(&mut self.bytes, from);
+                self.end = end;
+                self.ahead = ahead;
+                return Raw::Run(self.bytes.part(from, end));
+            }
+            Class::Nul | Class::White => {
+                self.ahead = Class::Nul;
+                return Raw::End;
+            }
+        };
+        self.ahead = Class::White;
+        self.end = self.bytes.taken();
+        mark
+    }
+
+    // What a run is.
+    pub(crate) fn token_of(run: &'a str) -> Result<Token<'a, T>, &'static str>
+        ensures { Says T.read result (lexeme_of run.now) }
+    {
+        match number_in(run) {
+            None => Ok(Token::Word(run)),
+            Some(digits) => match T::read_number(digits) {
+                Some(number) => Ok(Token::Number(number)),
+                None => Err("Unable to parse input number as the desired output type"),
+            },
+        }
+    }
+}
+
+impl<'a, T: WktNum> Iterator for Tokens<'a, T> {
+    ghost use Rattle.wkt_read.specs.Stream.{Gives, count};
+
+    type Item = Result<Token<'a, T>, &'static str>;
+
+    ghost next_gives = { Gives T.read };
+
+    ghost remaining = { count };
+
+    fn next(&mut self) -> Option<Result<Token<'a, T>, &'static str>> {
+        match self.next_raw() {
+            Raw::End => None,
+            Raw::Comma => Some(Ok(Token::Comma)),
+            Raw::Close => Some(Ok(Token::ParenClose)),
+            Raw::Open => Some(Ok(Token::ParenOpen)),
+            Raw::Run(run) => Some(Self::token_of(run)),
+        }
+    }
+}
