@@ -3,8 +3,8 @@ use Rattle.std.specs.Prelude.{◌≡◌, refl, Bool, true, false, ◌&&◌, List
 use Rattle.std.specs.Cmp.{IsPartialEquivalence, IsEquivalence}
 use Rattle.std.specs.Cmp.Lexicographic.{pointwise}
 use Rattle.std.proofs.Common.{ap, sym, ◌∙◌, subst}
-use Rattle.wkt_access.specs.declared.Dimension.{Dimension}
-use Rattle.wkt_access.specs.declared.Dimension.TheVariants.{XY, XYZ, XYM, XYZM}
+use Rattle.wkt_access.specs.declared.dimensions.Dimension.{Dimension}
+use Rattle.wkt_access.specs.declared.dimensions.Dimension.TheVariants.{XY, XYZ, XYM, XYZM}
 use Rattle.wkt_types.specs.Held.{Held, HeldPoint}
 
 -- A test is exact if it is true of x and y exactly where they are equal.

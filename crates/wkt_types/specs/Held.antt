@@ -1,6 +1,6 @@
 -- What a geometry holds.
 use Rattle.std.specs.Prelude.{List, [], ◌∷◌, Option, Some, None}
-use Rattle.wkt_access.specs.declared.Dimension.{Dimension}
+use Rattle.wkt_access.specs.declared.dimensions.Dimension.{Dimension}
 
 -- Parts in order, and the dimension of the header.
 pub record Held (X : Type 0) : Type 0 where

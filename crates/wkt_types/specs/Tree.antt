@@ -1,6 +1,6 @@
 -- What a `Wkt` holds: its kind, its dimension and its parts.
 use Rattle.std.specs.Prelude.{List, [], ◌∷◌, map, Option, Some, None}
-use Rattle.wkt_access.specs.declared.Dimension.{Dimension}
+use Rattle.wkt_access.specs.declared.dimensions.Dimension.{Dimension}
 use Rattle.wkt_types.specs.Held.{Held, HeldPoint}
 use Rattle.wkt_types.specs.declared.coord.Coord.{Coord}
 use Rattle.wkt_types.specs.declared.geometry.GeometryCollection.{GeometryCollection, fold-GeometryCollection}

@@ -1,7 +1,7 @@
 -- The value of what a `Wkt` holds, and which `Wkt` a value is read as.
 use Rattle.std.specs.Prelude.{◌≡◌, List, [], ◌∷◌, map, Option, Some, None, option_map}
 use Rattle.std.specs.List.{AllByRecursion}
-use Rattle.wkt_access.specs.declared.Dimension.{Dimension}
+use Rattle.wkt_access.specs.declared.dimensions.Dimension.{Dimension}
 use Rattle.wkt_access.specs.Values.{Value, Values}
 use Rattle.wkt_access.specs.Shapes.{Shape, Shapes, shape_of, shapes_of}
 use Rattle.wkt_types.specs.Held.{Held, HeldPoint}
