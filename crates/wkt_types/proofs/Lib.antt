@@ -1,3 +1,4 @@
 pub mod Firsts
 pub mod Sames
 pub mod TreeLemmas
+pub mod Members

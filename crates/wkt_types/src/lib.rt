@@ -1,6 +1,7 @@
 //! The types of well-known text: a geometry and its parts, each with the dimension of its header.
 #![tactic(auto)]
 
+mod access;
 mod coord;
 mod copies;
 mod dimension;

@@ -1,0 +1,6 @@
+use Rattle.std.proofs.Common.{◌≡◌, ◌<◌, length, get_or, rules}
+use Rattle.wkt_types.proofs.Members.{polygon_is}
+use Rattle.wkt_types.proofs.access.MultiPolygonMultiPolygonTrait.polygon.Goals as goal
+
+pub returns : goal.returns
+returns g c = polygon_is c.args.self.now.parts c.args.i c.index-polygons-i.result c.requires (search rules)

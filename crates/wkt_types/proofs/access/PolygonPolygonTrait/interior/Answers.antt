@@ -1,0 +1,6 @@
+use Rattle.std.proofs.Common.{◌≡◌, ◌+◌, ◌<◌, length, get_or, refl, rules}
+use Rattle.wkt_types.proofs.Members.{interior_is}
+use Rattle.wkt_types.proofs.access.PolygonPolygonTrait.interior.Goals as goal
+
+pub returns : goal.returns
+returns g c = interior_is c.args.self.now.parts c.args.i c.index-rings-i.result c.requires (search rules)
