@@ -38,7 +38,17 @@ abbrev mutual
 abbrev pub tree_shape : {T : Type 0} → Tree T → Shape T
 tree_shape t = shape_of (value_of t)
 
--- Each coordinate has this dimension.
+-- The shapes of the members of a collection; no other tree has any.
+abbrev pub collection_shapes : {T : Type 0} → Tree T → Shapes T
+collection_shapes (collection ts d) = shapes_of (values_of ts)
+collection_shapes (point p) = Shapes.no_shapes
+collection_shapes (line_string l) = Shapes.no_shapes
+collection_shapes (polygon y) = Shapes.no_shapes
+collection_shapes (multi_point m) = Shapes.no_shapes
+collection_shapes (multi_line_string m) = Shapes.no_shapes
+collection_shapes (multi_polygon m) = Shapes.no_shapes
+
+-- A coordinate has this dimension.
 abbrev pub HasDim : {T : Type 0} → Dimension → Coord T → Type 0
 HasDim d c = coord_dim c ≡ d
 

@@ -6,6 +6,7 @@ mod coord;
 mod copies;
 mod dimension;
 mod geometry;
+mod geometry_access;
 mod geometry_type;
 mod linestring;
 mod multilinestring;
