@@ -12,7 +12,7 @@ returns-in_err-check_collection g c =
 pub returns-in_err-put_collection : goal.returns-in_err-put_collection
 returns-in_err-put_collection g c =
     let p = err_from_is_err_and c.from_residual-in_err-put_collection.result c.from_residual-in_err-put_collection.ensures.1 in
-    rw (p.1, p.2) (c.in_ok-check_collection.ensures.collection.none, c.in_err-put_collection.ensures)
+    rw (p.1, p.2) (record { sound = c.in_ok-check_collection.ensures.collection.none; broken = c.in_err-put_collection.ensures })
 
 pub returns : goal.returns
-returns g c = (lawful _ (Shape.collection (g.C.GeometryCollectionTrait.dimension c.args.g.now) (g.C.GeometryCollectionTrait.geometries c.args.g.now)) c.in_ok-check_collection.ensures.collection, c.in_ok-put_collection.ensures)
+returns g c = record { sound = c.in_ok-check_collection.ensures.collection.none; lawful = lawful _ (Shape.collection (g.C.GeometryCollectionTrait.dimension c.args.g.now) (g.C.GeometryCollectionTrait.geometries c.args.g.now)) c.in_ok-check_collection.ensures.collection; added = c.in_ok-put_collection.ensures }
