@@ -81,12 +81,15 @@ pub texts_each : {N : Type 0} (num : N → List ℕ) (gs : Shapes N) → texts n
 texts_each num Shapes.no_shapes = refl
 texts_each num (Shapes.more_shapes g gs) = ap (λ l. shape_text num g ∷ l) (texts_each num gs)
 
+pub shapes_text : {N : Type 0} (num : N → List ℕ) (d : Dimensions) (gs : Shapes N) → shape_text num (Shape.collection d gs) ≡ headed (codes "GEOMETRYCOLLECTION") (dimension d) (map (shape_text num) (each gs))
+shapes_text num d gs = ap (headed (codes "GEOMETRYCOLLECTION") (dimension d)) (texts_each num gs)
+
 by_header : (o : Option Dimension) (inside : ℕ → Option Error) → under o inside ≡ None → inside (size (unwrap_or o XY)) ≡ None
 by_header None inside h = cc
 by_header (Some k) inside h = h
 
 pub collection_text : {N : Type 0} (num : N → List ℕ) (n : ℕ) (s : Shape N) → IsCollectionOf n s → shape_text num s ≡ headed (codes "GEOMETRYCOLLECTION") (dimension (dimension_of s)) (map (shape_text num) (members_of s))
-collection_text num n (Shape.collection d gs) h = ap (headed (codes "GEOMETRYCOLLECTION") (dimension d)) (texts_each num gs)
+collection_text num n (Shape.collection d gs) h = shapes_text num d gs
 collection_text num n (Shape.point d c) h = absurd h
 collection_text num n (Shape.line_string d cs) h = absurd h
 collection_text num n (Shape.polygon d y) h = absurd h

@@ -1,8 +1,18 @@
--- What the check pass comes to know of the numbers that will be printed. Only private contracts cite these words.
-use Rattle.std.specs.Prelude.{ℕ, ◌≤◌, List, [], ◌∷◌, length, take, Option, option_to_list}
+-- What the check pass finds, and what it comes to know of the numbers that will be printed. Only private contracts cite these words.
+use Rattle.std.specs.Prelude.{◌≡◌, ℕ, ◌≤◌, List, [], ◌∷◌, length, take, Option, Some, None, option_to_list, Result, MatchResult}
 use Rattle.std.specs.List.{AllByRecursion}
+use Rattle.wkt_access.specs.declared.error.Error.{Error}
 use Rattle.wkt_access.specs.Shapes.{Shape, Shapes, PolygonShape, dimension, rings_of}
 use Rattle.wkt_access.specs.Values.{size}
+
+-- Nothing was found, and what else is known then.
+pub record Clear (found : Option Error) (P : Type 0) : Type 0 where
+  pub none : found ≡ None
+  pub holds : P
+
+-- What a call answers that looks for a fault.
+abbrev pub Checks : {T : Type 0} → Result T Error → Option Error → Type 0 → Type 0
+Checks r found P = MatchResult r (λ _. Clear found P) (λ e. found ≡ Some e)
 
 module _ {N : Type 0} (is_value : N → Type 0) where
   -- The first k numbers of a coordinate are values.

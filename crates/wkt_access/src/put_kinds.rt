@@ -1,16 +1,18 @@
 //! Writes a geometry of each kind. Each has no fault.
 #![tactic(auto, using(crate::proofs::Firsts::none_at))]
 
-ghost use Rattle.std.specs.Prelude.{◌≡◌, ◌<◌, None};
-ghost use Rattle.wkt_access.specs.Faults.{fault};
+ghost use Rattle.std.specs.Prelude.{◌≡◌, ◌<◌, ◌++◌, None, length, map, codes};
+ghost use Rattle.wkt_access.specs.Faults.{fault, first_fault};
 ghost use Rattle.wkt_access.specs.Shapes.{Shape, dimension};
-ghost use Rattle.wkt_access.specs.Parts.{IsCollectionOf};
-ghost use Rattle.wkt_access.specs.Texts.{shape_text};
+ghost use Rattle.wkt_access.specs.Parts.{IsCollectionOf, each};
+ghost use Rattle.wkt_access.specs.Pieces.{gap};
+ghost use Rattle.wkt_access.specs.Texts.{joined, listed, suffix, shape_text};
 ghost use Rattle.wkt_num.specs.Sink.{Puts};
 
 use crate::access::{
-    GeometryTrait, GeometryType, LineStringTrait, LineTrait, MultiLineStringTrait, MultiPointTrait,
-    MultiPolygonTrait, PointTrait, PolygonTrait, RectTrait, TriangleTrait,
+    GeometryCollectionTrait, GeometryTrait, GeometryType, LineStringTrait, LineTrait,
+    MultiLineStringTrait, MultiPointTrait, MultiPolygonTrait, PointTrait, PolygonTrait, RectTrait,
+    TriangleTrait,
 };
 use crate::check::{dimension_in, size_in};
 use crate::put_parts::{
@@ -138,4 +140,46 @@ fn put_members<W: TextSink, G: GeometryTrait>(f: &mut W, g: &G, n: usize) -> fmt
         put_geometry(f, g.geometry(i))?;
     }
     put_closing(f, n)
+}
+
+fn put_geometries<W: TextSink, C: GeometryCollectionTrait>(f: &mut W, c: &C) -> fmt::Result
+    requires { first_fault fault (each (C.geometries c.now)) ≡ None }
+    ensures { Puts W.text W.failures W.took W.broke f.old (joined (codes ",") (map (shape_text C.T.num) (each (C.geometries c.now)))) f.new result }
+{
+    for i in 0..c.num_geometries() {
+        put_separator(f, ",", i)?;
+        put_geometry(f, c.geometry(i))?;
+    }
+    Ok(())
+}
+
+fn put_geometries_in<W: TextSink, C: GeometryCollectionTrait>(f: &mut W, c: &C) -> fmt::Result
+    requires { first_fault fault (each (C.geometries c.now)) ≡ None }
+    ensures { Puts W.text W.failures W.took W.broke f.old (listed (map (shape_text C.T.num) (each (C.geometries c.now)))) f.new result }
+{
+    put_opening(f, c.num_geometries())?;
+    put_geometries(f, c)?;
+    put_closing(f, c.num_geometries())
+}
+
+fn put_collection_header<W: TextSink, C: GeometryCollectionTrait>(f: &mut W, c: &C) -> fmt::Result
+    ensures { Puts W.text W.failures W.took W.broke f.old (codes "GEOMETRYCOLLECTION" ++ (suffix (dimension (C.dimension c.now)) ++ gap (length (each (C.geometries c.now))))) f.new result }
+{
+    put_header(
+        f,
+        "GEOMETRYCOLLECTION",
+        dimension_in(c.dim()),
+        c.num_geometries(),
+    )
+}
+
+pub(crate) fn put_collection<W: TextSink, C: GeometryCollectionTrait>(
+    f: &mut W,
+    c: &C,
+) -> fmt::Result
+    requires { first_fault fault (each (C.geometries c.now)) ≡ None }
+    ensures { Puts W.text W.failures W.took W.broke f.old (shape_text C.T.num (Shape.collection (C.dimension c.now) (C.geometries c.now))) f.new result }
+{
+    put_collection_header(f, c)?;
+    put_geometries_in(f, c)
 }

@@ -1,24 +1,36 @@
-//! The writers. Each looks for a refusal first, so that nothing is written where one comes.
+//! The eleven writers. Each checks the whole shape first, so that nothing is written of one that is refused.
+//!
+//! The text is that of OGC Simple Features as the crate `wkt` writes it: the kind word in capitals,
+//! ` Z`, ` M`, ` ZM` or nothing, and ` EMPTY` or the items in parentheses. Numbers have one space
+//! between them, and items a comma.
+//!
+//! A header's dimension says how many numbers of each coordinate are printed. `Unknown(2)`,
+//! `Unknown(3)` and `Unknown(4)` count as XY, XYZ and XYZM.
 #![tactic(auto)]
 
 ghost use Rattle.wkt_access.specs.Shapes.{Shape};
 ghost use Rattle.wkt_access.specs.Writes.{Writes};
 
 use crate::access::{
-    GeometryTrait, LineStringTrait, LineTrait, MultiLineStringTrait, MultiPointTrait,
-    MultiPolygonTrait, PointTrait, PolygonTrait, RectTrait, TriangleTrait,
+    GeometryCollectionTrait, GeometryTrait, LineStringTrait, LineTrait, MultiLineStringTrait,
+    MultiPointTrait, MultiPolygonTrait, PointTrait, PolygonTrait, RectTrait, TriangleTrait,
 };
 use crate::check::{
-    check_geometry, check_line_of_two, check_linestring, check_multi_linestring, check_multi_point,
-    check_multi_polygon, check_point, check_polygon, check_rect, check_triangle,
+    check_collection, check_geometry, check_line_of_two, check_linestring, check_multi_linestring,
+    check_multi_point, check_multi_polygon, check_point, check_polygon, check_rect, check_triangle,
 };
 use crate::error::Error;
 use crate::put_kinds::{
-    put_geometry, put_line_of_two, put_linestring, put_multi_linestring, put_multi_point,
-    put_multi_polygon, put_point, put_polygon, put_rect, put_triangle,
+    put_collection, put_geometry, put_line_of_two, put_linestring, put_multi_linestring,
+    put_multi_point, put_multi_polygon, put_point, put_polygon, put_rect, put_triangle,
 };
 use wkt_num::{TextSink, WktNum};
 
+/// Writes a point, as `POINT Z(1 2 3)` or `POINT EMPTY`.
+///
+/// Errors: [`Error::UnknownDimension`] where its dimension is `Unknown(n)` for another n than 2, 3
+/// and 4; then [`Error::TooFewNumbers`] where its coordinate has fewer numbers than its dimension;
+/// nothing is written then. [`Error::FmtError`] where the sink fails: a beginning is written then.
 pub fn write_point<W: TextSink, P: PointTrait>(f: &mut W, g: &P) -> Result<(), Error>
     ensures { Writes W.text W.failures W.took W.broke P.T.is_value P.T.num f.old (Shape.point (P.dimension g.now) (P.coordinate g.now)) f.new result }
 {
@@ -27,6 +39,9 @@ pub fn write_point<W: TextSink, P: PointTrait>(f: &mut W, g: &P) -> Result<(), E
     Ok(())
 }
 
+/// Writes a line string, as `LINESTRING(1 2,3 4)` or `LINESTRING M EMPTY`.
+///
+/// Errors: as [`write_point`], with the first coordinate that is too short.
 pub fn write_linestring<W: TextSink, L: LineStringTrait>(f: &mut W, g: &L) -> Result<(), Error>
     ensures { Writes W.text W.failures W.took W.broke L.T.is_value L.T.num f.old (Shape.line_string (L.dimension g.now) (L.coordinates g.now)) f.new result }
 {
@@ -35,6 +50,12 @@ pub fn write_linestring<W: TextSink, L: LineStringTrait>(f: &mut W, g: &L) -> Re
     Ok(())
 }
 
+/// Writes a polygon, as `POLYGON((0 0,1 0,0 1,0 0))` with its exterior first.
+///
+/// A polygon without exterior, or with an empty one, is written `POLYGON EMPTY`, and nothing of
+/// its interiors is looked at. An empty interior is written `EMPTY`.
+///
+/// Errors: as [`write_point`], with the first coordinate that is too short.
 pub fn write_polygon<W: TextSink, Y: PolygonTrait>(f: &mut W, g: &Y) -> Result<(), Error>
     ensures { Writes W.text W.failures W.took W.broke Y.T.is_value Y.T.num f.old (Shape.polygon (Y.dimension g.now) (Y.polygon g.now)) f.new result }
 {
@@ -43,6 +64,11 @@ pub fn write_polygon<W: TextSink, Y: PolygonTrait>(f: &mut W, g: &Y) -> Result<(
     Ok(())
 }
 
+/// Writes a list of points, as `MULTIPOINT((1 2),EMPTY)`: each in parentheses, an empty one `EMPTY`.
+///
+/// The dimensions of its members aren't looked at.
+///
+/// Errors: as [`write_point`], with the first coordinate that is too short.
 pub fn write_multi_point<W: TextSink, M: MultiPointTrait>(f: &mut W, g: &M) -> Result<(), Error>
     ensures { Writes W.text W.failures W.took W.broke M.T.is_value M.T.num f.old (Shape.multi_point (M.dimension g.now) (M.points g.now)) f.new result }
 {
@@ -51,6 +77,11 @@ pub fn write_multi_point<W: TextSink, M: MultiPointTrait>(f: &mut W, g: &M) -> R
     Ok(())
 }
 
+/// Writes a list of line strings, as `MULTILINESTRING((1 2,3 4),EMPTY)`.
+///
+/// The dimensions of its members aren't looked at.
+///
+/// Errors: as [`write_point`], with the first coordinate that is too short.
 pub fn write_multi_linestring<W: TextSink, M: MultiLineStringTrait>(
     f: &mut W,
     g: &M,
@@ -62,6 +93,11 @@ pub fn write_multi_linestring<W: TextSink, M: MultiLineStringTrait>(
     Ok(())
 }
 
+/// Writes a list of polygons, as `MULTIPOLYGON(((0 0,1 0,0 1,0 0)),EMPTY)`.
+///
+/// The dimensions of its members aren't looked at.
+///
+/// Errors: as [`write_point`], with the first coordinate that is too short.
 pub fn write_multi_polygon<W: TextSink, M: MultiPolygonTrait>(f: &mut W, g: &M) -> Result<(), Error>
     ensures { Writes W.text W.failures W.took W.broke M.T.is_value M.T.num f.old (Shape.multi_polygon (M.dimension g.now) (M.polygons g.now)) f.new result }
 {
@@ -70,6 +106,40 @@ pub fn write_multi_polygon<W: TextSink, M: MultiPolygonTrait>(f: &mut W, g: &M) 
     Ok(())
 }
 
+/// Writes a geometry of any kind.
+///
+/// Members of a collection have headers of their own: `GEOMETRYCOLLECTION(POINT Z(1 2 3),LINESTRING EMPTY)`.
+///
+/// Errors: those of the writer of its kind; for a collection, the first in the order of its text,
+/// where its own header comes before its members.
+pub fn write_geometry<W: TextSink, G: GeometryTrait>(f: &mut W, g: &G) -> Result<(), Error>
+    ensures { Writes W.text W.failures W.took W.broke G.T.is_value G.T.num f.old (G.shape g.now) f.new result }
+{
+    check_geometry(g)?;
+    put_geometry(f, g)?;
+    Ok(())
+}
+
+/// Writes a collection, as `GEOMETRYCOLLECTION(POINT(1 2))` or `GEOMETRYCOLLECTION EMPTY`.
+///
+/// Errors: as [`write_geometry`].
+pub fn write_geometry_collection<W: TextSink, C: GeometryCollectionTrait>(
+    f: &mut W,
+    g: &C,
+) -> Result<(), Error>
+    ensures { Writes W.text W.failures W.took W.broke C.T.is_value C.T.num f.old (Shape.collection (C.dimension g.now) (C.geometries g.now)) f.new result }
+{
+    check_collection(g)?;
+    put_collection(f, g)?;
+    Ok(())
+}
+
+/// Writes a rectangle as a polygon of five coordinates.
+///
+/// `POLYGON((max.x min.y,max.x max.y,min.x max.y,min.x min.y,max.x min.y))` is their order.
+///
+/// Errors: [`Error::RectUnsupportedDimension`] where its dimension is neither `Xy` nor
+/// `Unknown(2)`; nothing is written then. [`Error::FmtError`] as in [`write_point`].
 pub fn write_rect<W: TextSink, R: RectTrait>(f: &mut W, g: &R) -> Result<(), Error>
     ensures { Writes W.text W.failures W.took W.broke R.T.is_value R.T.num f.old (Shape.rect (R.dimension g.now) (R.least g.now) (R.most g.now)) f.new result }
 {
@@ -78,6 +148,9 @@ pub fn write_rect<W: TextSink, R: RectTrait>(f: &mut W, g: &R) -> Result<(), Err
     Ok(())
 }
 
+/// Writes a triangle as a polygon of its three corners and the first again.
+///
+/// Errors: as [`write_point`], with the first corner that is too short.
 pub fn write_triangle<W: TextSink, Y: TriangleTrait>(f: &mut W, g: &Y) -> Result<(), Error>
     ensures { Writes W.text W.failures W.took W.broke Y.T.is_value Y.T.num f.old (Shape.triangle (Y.dimension g.now) (Y.a g.now) (Y.b g.now) (Y.c g.now)) f.new result }
 {
@@ -86,18 +159,13 @@ pub fn write_triangle<W: TextSink, Y: TriangleTrait>(f: &mut W, g: &Y) -> Result
     Ok(())
 }
 
+/// Writes a line as a line string of its two ends.
+///
+/// Errors: as [`write_point`], with the first end that is too short.
 pub fn write_line<W: TextSink, L: LineTrait>(f: &mut W, g: &L) -> Result<(), Error>
     ensures { Writes W.text W.failures W.took W.broke L.T.is_value L.T.num f.old (Shape.line (L.dimension g.now) (L.from g.now) (L.to g.now)) f.new result }
 {
     check_line_of_two(g)?;
     put_line_of_two(f, g)?;
-    Ok(())
-}
-
-pub fn write_geometry<W: TextSink, G: GeometryTrait>(f: &mut W, g: &G) -> Result<(), Error>
-    ensures { Writes W.text W.failures W.took W.broke G.T.is_value G.T.num f.old (G.shape g.now) f.new result }
-{
-    check_geometry(g)?;
-    put_geometry(f, g)?;
     Ok(())
 }

@@ -11,7 +11,7 @@ returns-in_err-check_geometry g c =
 pub returns-in_err-put_geometry : goal.returns-in_err-put_geometry
 returns-in_err-put_geometry g c =
     let p = err_from_is_err_and c.from_residual-in_err-put_geometry.result c.from_residual-in_err-put_geometry.ensures.1 in
-    rw (p.1, p.2) (c.in_ok-check_geometry.ensures.none, c.in_err-put_geometry.ensures)
+    rw (p.1, p.2) (record { sound = c.in_ok-check_geometry.ensures.none; broken = c.in_err-put_geometry.ensures })
 
 pub returns : goal.returns
-returns g c = (lawful _ (g.G.GeometryTrait.shape c.args.g.now) c.in_ok-check_geometry.ensures, c.in_ok-put_geometry.ensures)
+returns g c = record { sound = c.in_ok-check_geometry.ensures.none; lawful = lawful _ (g.G.GeometryTrait.shape c.args.g.now) c.in_ok-check_geometry.ensures; added = c.in_ok-put_geometry.ensures }

@@ -12,7 +12,7 @@ returns-in_err-check_line_of_two g c =
 pub returns-in_err-put_line_of_two : goal.returns-in_err-put_line_of_two
 returns-in_err-put_line_of_two g c =
     let p = err_from_is_err_and c.from_residual-in_err-put_line_of_two.result c.from_residual-in_err-put_line_of_two.ensures.1 in
-    rw (p.1, p.2) (c.in_ok-check_line_of_two.ensures.none, c.in_err-put_line_of_two.ensures)
+    rw (p.1, p.2) (record { sound = c.in_ok-check_line_of_two.ensures.none; broken = c.in_err-put_line_of_two.ensures })
 
 pub returns : goal.returns
-returns g c = (lawful _ (Shape.line (g.L.LineTrait.dimension c.args.g.now) (g.L.LineTrait.from c.args.g.now) (g.L.LineTrait.to c.args.g.now)) c.in_ok-check_line_of_two.ensures, c.in_ok-put_line_of_two.ensures)
+returns g c = record { sound = c.in_ok-check_line_of_two.ensures.none; lawful = lawful _ (Shape.line (g.L.LineTrait.dimension c.args.g.now) (g.L.LineTrait.from c.args.g.now) (g.L.LineTrait.to c.args.g.now)) c.in_ok-check_line_of_two.ensures; added = c.in_ok-put_line_of_two.ensures }

@@ -12,7 +12,7 @@ returns-in_err-check_linestring g c =
 pub returns-in_err-put_linestring : goal.returns-in_err-put_linestring
 returns-in_err-put_linestring g c =
     let p = err_from_is_err_and c.from_residual-in_err-put_linestring.result c.from_residual-in_err-put_linestring.ensures.1 in
-    rw (p.1, p.2) (c.in_ok-check_linestring.ensures.none, c.in_err-put_linestring.ensures)
+    rw (p.1, p.2) (record { sound = c.in_ok-check_linestring.ensures.none; broken = c.in_err-put_linestring.ensures })
 
 pub returns : goal.returns
-returns g c = (lawful _ (Shape.line_string (g.L.LineStringTrait.dimension c.args.g.now) (g.L.LineStringTrait.coordinates c.args.g.now)) c.in_ok-check_linestring.ensures, c.in_ok-put_linestring.ensures)
+returns g c = record { sound = c.in_ok-check_linestring.ensures.none; lawful = lawful _ (Shape.line_string (g.L.LineStringTrait.dimension c.args.g.now) (g.L.LineStringTrait.coordinates c.args.g.now)) c.in_ok-check_linestring.ensures; added = c.in_ok-put_linestring.ensures }

@@ -12,7 +12,7 @@ returns-in_err-check_multi_linestring g c =
 pub returns-in_err-put_multi_linestring : goal.returns-in_err-put_multi_linestring
 returns-in_err-put_multi_linestring g c =
     let p = err_from_is_err_and c.from_residual-in_err-put_multi_linestring.result c.from_residual-in_err-put_multi_linestring.ensures.1 in
-    rw (p.1, p.2) (c.in_ok-check_multi_linestring.ensures.none, c.in_err-put_multi_linestring.ensures)
+    rw (p.1, p.2) (record { sound = c.in_ok-check_multi_linestring.ensures.none; broken = c.in_err-put_multi_linestring.ensures })
 
 pub returns : goal.returns
-returns g c = (lawful _ (Shape.multi_line_string (g.M.MultiLineStringTrait.dimension c.args.g.now) (g.M.MultiLineStringTrait.lines c.args.g.now)) c.in_ok-check_multi_linestring.ensures, c.in_ok-put_multi_linestring.ensures)
+returns g c = record { sound = c.in_ok-check_multi_linestring.ensures.none; lawful = lawful _ (Shape.multi_line_string (g.M.MultiLineStringTrait.dimension c.args.g.now) (g.M.MultiLineStringTrait.lines c.args.g.now)) c.in_ok-check_multi_linestring.ensures; added = c.in_ok-put_multi_linestring.ensures }

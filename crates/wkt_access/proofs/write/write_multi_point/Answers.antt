@@ -12,7 +12,7 @@ returns-in_err-check_multi_point g c =
 pub returns-in_err-put_multi_point : goal.returns-in_err-put_multi_point
 returns-in_err-put_multi_point g c =
     let p = err_from_is_err_and c.from_residual-in_err-put_multi_point.result c.from_residual-in_err-put_multi_point.ensures.1 in
-    rw (p.1, p.2) (c.in_ok-check_multi_point.ensures.none, c.in_err-put_multi_point.ensures)
+    rw (p.1, p.2) (record { sound = c.in_ok-check_multi_point.ensures.none; broken = c.in_err-put_multi_point.ensures })
 
 pub returns : goal.returns
-returns g c = (lawful _ (Shape.multi_point (g.M.MultiPointTrait.dimension c.args.g.now) (g.M.MultiPointTrait.points c.args.g.now)) c.in_ok-check_multi_point.ensures, c.in_ok-put_multi_point.ensures)
+returns g c = record { sound = c.in_ok-check_multi_point.ensures.none; lawful = lawful _ (Shape.multi_point (g.M.MultiPointTrait.dimension c.args.g.now) (g.M.MultiPointTrait.points c.args.g.now)) c.in_ok-check_multi_point.ensures; added = c.in_ok-put_multi_point.ensures }

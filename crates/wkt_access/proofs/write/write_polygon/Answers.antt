@@ -12,7 +12,7 @@ returns-in_err-check_polygon g c =
 pub returns-in_err-put_polygon : goal.returns-in_err-put_polygon
 returns-in_err-put_polygon g c =
     let p = err_from_is_err_and c.from_residual-in_err-put_polygon.result c.from_residual-in_err-put_polygon.ensures.1 in
-    rw (p.1, p.2) (c.in_ok-check_polygon.ensures.none, c.in_err-put_polygon.ensures)
+    rw (p.1, p.2) (record { sound = c.in_ok-check_polygon.ensures.none; broken = c.in_err-put_polygon.ensures })
 
 pub returns : goal.returns
-returns g c = (lawful _ (Shape.polygon (g.Y.PolygonTrait.dimension c.args.g.now) (g.Y.PolygonTrait.polygon c.args.g.now)) c.in_ok-check_polygon.ensures, c.in_ok-put_polygon.ensures)
+returns g c = record { sound = c.in_ok-check_polygon.ensures.none; lawful = lawful _ (Shape.polygon (g.Y.PolygonTrait.dimension c.args.g.now) (g.Y.PolygonTrait.polygon c.args.g.now)) c.in_ok-check_polygon.ensures; added = c.in_ok-put_polygon.ensures }

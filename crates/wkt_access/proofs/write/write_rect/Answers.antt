@@ -12,7 +12,7 @@ returns-in_err-check_rect g c =
 pub returns-in_err-put_rect : goal.returns-in_err-put_rect
 returns-in_err-put_rect g c =
     let p = err_from_is_err_and c.from_residual-in_err-put_rect.result c.from_residual-in_err-put_rect.ensures.1 in
-    rw (p.1, p.2) (c.in_ok-check_rect.ensures.none, c.in_err-put_rect.ensures)
+    rw (p.1, p.2) (record { sound = c.in_ok-check_rect.ensures.none; broken = c.in_err-put_rect.ensures })
 
 pub returns : goal.returns
-returns g c = (lawful _ (Shape.rect (g.R.RectTrait.dimension c.args.g.now) (g.R.RectTrait.least c.args.g.now) (g.R.RectTrait.most c.args.g.now)) c.in_ok-check_rect.ensures, c.in_ok-put_rect.ensures)
+returns g c = record { sound = c.in_ok-check_rect.ensures.none; lawful = lawful _ (Shape.rect (g.R.RectTrait.dimension c.args.g.now) (g.R.RectTrait.least c.args.g.now) (g.R.RectTrait.most c.args.g.now)) c.in_ok-check_rect.ensures; added = c.in_ok-put_rect.ensures }
