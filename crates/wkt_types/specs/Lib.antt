@@ -5,3 +5,4 @@ pub mod Equal
 pub mod Tree
 pub mod Trees
 pub mod Values
+pub mod Shown

@@ -5,6 +5,7 @@ mod access;
 mod coord;
 mod copies;
 mod dimension;
+mod display;
 mod geometry;
 mod geometry_access;
 mod geometry_type;
@@ -14,6 +15,7 @@ mod multipoint;
 mod multipolygon;
 mod point;
 mod polygon;
+mod show;
 
 pub use coord::Coord;
 pub use geometry::{GeometryCollection, Wkt};

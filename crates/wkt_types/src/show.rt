@@ -1,0 +1,50 @@
+//! Display of geometries: as text, whatever width, fill or precision is asked for.
+ghost use Rattle.std.specs.Prelude.{◌≡◌, IsErr};
+ghost use Rattle.std.specs.Fmt.{DisplaysOnOk, DisplaysStyledOnOk};
+ghost use Rattle.wkt_access.specs.Shapes.{Shape};
+ghost use Rattle.wkt_types.specs.Shown.{shown, IsUnwritable};
+
+use std::fmt;
+use std::fmt::Formatter;
+use wkt_access::{
+    Error, GeometryCollectionTrait, GeometryTrait, write_geometry, write_geometry_collection,
+};
+use wkt_num::{FormatterText, WktNum};
+
+/// Displays a geometry as the text that `write_geometry` writes.
+pub(crate) fn show_geometry<W: fmt::Write, G: GeometryTrait>(
+    g: &G,
+    f: &mut Formatter<W>,
+) -> fmt::Result
+    ensures writes { DisplaysOnOk W.write_str_gives f.old result (shown G.T.num (G.shape g.now)) f.new }
+    ensures styled { DisplaysStyledOnOk W.write_str_gives f.old result (shown G.T.num (G.shape g.now)) f.new }
+    ensures refused { IsUnwritable (G.shape g.now) → IsErr result }
+{
+    let mut sink = FormatterText::new(f);
+    let result = write_geometry(&mut sink, g);
+    // No effect at run time. The proof reads what `f` holds from the reference that comes back.
+    sink.into_formatter();
+    match result {
+        Ok(()) => Ok(()),
+        Err(_) => Err(fmt::Error),
+    }
+}
+
+/// Displays a collection as the text that `write_geometry_collection` writes.
+pub(crate) fn show_collection<W: fmt::Write, C: GeometryCollectionTrait>(
+    c: &C,
+    f: &mut Formatter<W>,
+) -> fmt::Result
+    ensures writes { DisplaysOnOk W.write_str_gives f.old result (shown C.T.num (Shape.collection (C.dimension c.now) (C.geometries c.now))) f.new }
+    ensures styled { DisplaysStyledOnOk W.write_str_gives f.old result (shown C.T.num (Shape.collection (C.dimension c.now) (C.geometries c.now))) f.new }
+    ensures refused { IsUnwritable (Shape.collection (C.dimension c.now) (C.geometries c.now)) → IsErr result }
+{
+    let mut sink = FormatterText::new(f);
+    let result = write_geometry_collection(&mut sink, c);
+    // No effect at run time. The proof reads what `f` holds from the reference that comes back.
+    sink.into_formatter();
+    match result {
+        Ok(()) => Ok(()),
+        Err(_) => Err(fmt::Error),
+    }
+}
