@@ -1,0 +1,6 @@
+-- A device with a count of its failures.
+use Rattle.wkt_bytes.specs.declared.device.Counted.{Counted}
+
+-- The device.
+abbrev pub device_of : {D : Type 0} → Counted D → D
+device_of c = c.device

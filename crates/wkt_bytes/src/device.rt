@@ -1,0 +1,145 @@
+//! Devices that take and give bytes.
+ghost use Rattle.std.specs.Prelude.{◌≡◌, ℕ, ◌≤◌, List, [], ◌∷◌, ◌++◌, IfOk, OnOk, OnErr, Option, length, refl};
+ghost use Rattle.std.proofs.Common.{◌∙◌};
+ghost use Rattle.std.specs.Io.KnownBytes.{WriteAppends, ReadConsumes};
+ghost use Rattle.wkt_num.specs.Sink.{next_count};
+ghost use Rattle.wkt_bytes.specs.Device.{count_after_put, count_after_take};
+
+use std::io;
+use std::io::{Read, Write};
+
+/// Where bytes go: one call of `put` is one call of a writer.
+///
+/// ```text
+/// impl ByteSink for MyDevice { .. put: hand over some bytes, and answer how many were taken .. }
+/// ```
+pub trait ByteSink {
+    /// What it was given and holds, where it can tell. A call that fails leaves it as it is.
+    ghost bytes: { Self → Option (List ℕ) };
+
+    /// How many calls have failed, modulo 2 ^ 64: those that answered a fault, or took nothing of
+    /// something.
+    ghost failures: { Self → ℕ };
+
+    /// That a reference stays the same reference.
+    ghost keeps: { Self → Self → Type 0 };
+
+    /// Takes some of the bytes from the front, and answers how many.
+    ///
+    /// # Errors
+    /// The device's fault.
+    fn put(&mut self, buf: &[u8]) -> io::Result<usize>
+        ensures bound { IfOk result (λ n. n ≤ length buf.now) }
+        ensures took { WriteAppends (bytes self.old) (bytes self.new) result buf.now }
+        ensures count { failures self.new ≡ count_after_put (failures self.old) result buf.now }
+        ensures keeps { keeps self.old self.new };
+
+    ghost keeps_none: { (s : Self) → keeps s s };
+
+    ghost keeps_more: { (s t u : Self) → keeps s t → keeps t u → keeps s u };
+}
+
+/// Where bytes come from: one call of `take` is one call of a reader.
+pub trait ByteSource {
+    /// What is left, where it can tell. Zero bytes come to a buffer with room only where none is left.
+    ghost left: { Self → Option (List ℕ) };
+
+    /// How many calls have failed, modulo 2 ^ 64.
+    ghost failures: { Self → ℕ };
+
+    /// Gives the next bytes at the front of `buf`, and answers how many.
+    ///
+    /// # Errors
+    /// The device's fault.
+    fn take(&mut self, buf: &mut [u8]) -> io::Result<usize>
+        ensures bound { IfOk result (λ n. n ≤ length buf.new) }
+        ensures gave { ReadConsumes (left self.old) (left self.new) result buf.new }
+        ensures count { failures self.new ≡ count_after_take (failures self.old) result };
+}
+
+impl<W: ByteSink> ByteSink for &mut W {
+    ghost bytes = { λ w. W.bytes w.now };
+
+    ghost failures = { λ w. W.failures w.now };
+
+    ghost keeps = { λ s t. t.ghost_name ≡ s.ghost_name };
+
+    fn put(&mut self, buf: &[u8]) -> io::Result<usize> {
+        (**self).put(buf)
+    }
+
+    ghost keeps_none = { λ s. refl };
+
+    ghost keeps_more = { λ s t u h k. k ∙ h };
+}
+
+/// A device of `std::io` with a count of its failures: a [`ByteSink`] over any `io::Write`, a
+/// [`ByteSource`] over any `io::Read`.
+#[derive(Drop)]
+pub struct Counted<D> {
+    device: D,
+    count: u64,
+}
+
+impl<D> Counted<D> {
+    ghost use Rattle.wkt_bytes.specs.Counted.{device_of};
+
+    /// This device, of which no failure has been counted.
+    pub fn new(device: D) -> Self
+        ensures { device_of result ≡ device }
+    {
+        Counted { device, count: 0 }
+    }
+
+    /// Gives the device back.
+    pub fn into_inner(self) -> D
+        ensures { result ≡ device_of self }
+    {
+        let Counted { device, count: _ } = self;
+        device
+    }
+}
+
+impl<W: Write> ByteSink for Counted<W> {
+    ghost bytes = { λ c. W.contents c.device };
+
+    ghost failures = { λ c. c.count };
+
+    ghost keeps = { λ _ _. Unit {0} };
+
+    fn put(&mut self, buf: &[u8]) -> io::Result<usize> {
+        match self.device.write(buf) {
+            Ok(0) => {
+                if !buf.is_empty() {
+                    self.count = self.count.wrapping_add(1);
+                }
+                Ok(0)
+            }
+            Ok(n) => Ok(n),
+            Err(e) => {
+                self.count = self.count.wrapping_add(1);
+                Err(e)
+            }
+        }
+    }
+
+    ghost keeps_none = { λ s. tt };
+
+    ghost keeps_more = { λ s t u h k. tt };
+}
+
+impl<R: Read> ByteSource for Counted<R> {
+    ghost left = { λ c. R.remaining c.device };
+
+    ghost failures = { λ c. c.count };
+
+    fn take(&mut self, buf: &mut [u8]) -> io::Result<usize> {
+        match self.device.read(buf) {
+            Ok(n) => Ok(n),
+            Err(e) => {
+                self.count = self.count.wrapping_add(1);
+                Err(e)
+            }
+        }
+    }
+}

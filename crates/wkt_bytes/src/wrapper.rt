@@ -1,0 +1,220 @@
+//! Text to a byte sink, gathered in an array.
+ghost use Rattle.std.specs.Prelude.{◌≡◌, ℕ, ◌≤◌, ◌+◌, List, [], ◌∷◌, ◌++◌, OnOk, OnErr, Ok, IsSome, ◌↔◌, length, take, true, false};
+ghost use Rattle.std.specs.Io.KnownBytes.{Appends};
+ghost use Rattle.wkt_num.specs.Sink.{next_count, Puts};
+
+use crate::device::ByteSink;
+
+
+use std::io::ErrorKind;
+use std::{fmt, io};
+use wkt_num::TextSink;
+use wkt_num::tape::Tape;
+
+/// Whether a fault came.
+#[derive(Drop)]
+enum State {
+    Well,
+    Faulty(io::Error),
+    Told,
+}
+
+/// Text to a byte sink: a [`TextSink`] that gathers what it is given in an array of 256 bytes, and
+/// puts the array out as soon as it is full and in [`finish`](WriterWrapper::finish).
+///
+/// It calls `put` until all bytes are out. A count of zero is the fault `WriteZero`. No fault is tried
+/// again, `Interrupted` neither. After a fault every later write and `finish` answer `fmt::Error`
+/// and hand nothing to the writer; [`take_fault`](WriterWrapper::take_fault) gives the fault.
+#[derive(Drop)]
+pub struct WriterWrapper<W> {
+    writer: W,
+    held: [u8; 256],
+    len: usize,
+    state: State,
+    failures: u64,
+    tape: Tape,
+    ghost fits: { len ≤ 256 },
+}
+
+/// Puts all the bytes out, or stops at the first fault.
+fn put_all<W: ByteSink>(writer: &mut W, bytes: &[u8]) -> Result<(), io::Error>
+    ensures ok { OnOk result (Appends (W.bytes writer.old) (W.bytes writer.new) bytes.now) }
+    ensures kept { OnOk result (W.failures writer.new ≡ W.failures writer.old) }
+    ensures err { OnErr result ((k : ℕ) × Appends (W.bytes writer.old) (W.bytes writer.new) (take k bytes.now)) }
+    ensures failed { OnErr result (W.failures writer.new ≡ next_count (W.failures writer.old)) }
+    ensures keeps { W.keeps writer.old writer.new }
+{
+    let mut at = 0;
+    while at < bytes.len() {
+        match writer.put(&bytes[at..]) {
+            Ok(0) => return Err(io::Error::from(ErrorKind::WriteZero)),
+            Ok(n) => at += n,
+            Err(e) => return Err(e),
+        }
+    }
+    Ok(())
+}
+
+impl<W: ByteSink> WriterWrapper<W> {
+    ghost use Rattle.wkt_bytes.specs.Wrapper.{held_bytes, handed_text, is_well, is_untold, writer_of, Gives, Leaves};
+
+    /// A wrapper of this writer, which holds nothing yet.
+    pub fn new(writer: W) -> WriterWrapper<W>
+        ensures writer { writer_of result ≡ writer }
+        ensures held { held_bytes result ≡ [] }
+        ensures well { is_well result ≡ true }
+        ensures text { handed_text result ≡ [] }
+    {
+        WriterWrapper {
+            writer,
+            held: [0; 256],
+            len: 0,
+            state: State::Well,
+            failures: 0,
+            tape: Tape::new(),
+        }
+    }
+
+    /// Gives the writer back. What is held still is lost.
+    pub fn into_writer(self) -> W
+        ensures { result ≡ writer_of self }
+    {
+        let WriterWrapper {
+            writer,
+            held: _,
+            len: _,
+            state: _,
+            failures: _,
+            tape: _,
+        } = self;
+        writer
+    }
+
+    // Takes the bytes into the array.
+    fn keep(&mut self, bytes: &[u8])
+        requires { self.old.len + length bytes.now ≤ 256 }
+        ensures held { held_bytes self.new ≡ held_bytes self.old ++ bytes.now }
+        ensures writer { self.new.writer ≡ self.old.writer }
+        ensures len { self.new.len ≡ self.old.len + length bytes.now }
+        ensures state { self.new.state ≡ self.old.state }
+        ensures failures { self.new.failures ≡ self.old.failures }
+        ensures tape { self.new.tape ≡ self.old.tape }
+    {
+        let end = self.len + bytes.len();
+        self.held[self.len..end].copy_from_slice(bytes);
+        self.len = end;
+    }
+
+    // Puts out what the array holds.
+    fn empty(&mut self) -> fmt::Result
+        requires { is_well self.old ≡ true }
+        ensures ok { OnOk result (Gives W.bytes W.failures W.keeps self.old [] self.new) }
+        ensures well { OnOk result (is_well self.new ≡ true) }
+        ensures held { OnOk result (self.new.len ≡ 0) }
+        ensures err { OnErr result (Leaves W.bytes W.failures W.keeps self.old [] self.new) }
+        ensures failures { self.new.failures ≡ self.old.failures }
+        ensures tape { self.new.tape ≡ self.old.tape }
+    {
+        match put_all(&mut self.writer, &self.held[..self.len]) {
+            Ok(()) => {
+                self.len = 0;
+                Ok(())
+            }
+            Err(e) => {
+                self.state = State::Faulty(e);
+                Err(fmt::Error)
+            }
+        }
+    }
+
+    // Takes the bytes, and puts out the array each time that it is full.
+    fn accept(&mut self, bytes: &[u8]) -> fmt::Result
+        ensures ok { OnOk result (Gives W.bytes W.failures W.keeps self.old bytes.now self.new) }
+        ensures well { OnOk result (is_well self.old ≡ true) }
+        ensures err { OnErr result (Leaves W.bytes W.failures W.keeps self.old bytes.now self.new) }
+        ensures failures { self.new.failures ≡ self.old.failures }
+        ensures tape { self.new.tape ≡ self.old.tape }
+    {
+        let State::Well = self.state else {
+            return Err(fmt::Error);
+        };
+        let mut at = 0;
+        while at < bytes.len() {
+            let room = 256 - self.len;
+            let next = if bytes.len() - at < room {
+                bytes.len()
+            } else {
+                at + room
+            };
+            self.keep(&bytes[at..next]);
+            at = next;
+            if self.len == 256 {
+                self.empty()?;
+            }
+        }
+        Ok(())
+    }
+
+    /// Puts out what is held still, and nothing where a fault has come before.
+    ///
+    /// # Errors
+    /// `fmt::Error` where the writer failed, in this call or before it.
+    pub fn finish(&mut self) -> fmt::Result
+        ensures ok { OnOk result (Gives W.bytes W.failures W.keeps self.old [] self.new) }
+        ensures well { OnOk result (is_well self.old ≡ true) }
+        ensures empty { OnOk result (held_bytes self.new ≡ []) }
+        ensures err { OnErr result (Leaves W.bytes W.failures W.keeps self.old [] self.new) }
+        ensures text { handed_text self.new ≡ handed_text self.old }
+    {
+        let State::Well = self.state else {
+            return Err(fmt::Error);
+        };
+        self.empty()
+    }
+
+    /// The fault that came, the first time that it is asked for; else None.
+    pub fn take_fault(&mut self) -> Option<io::Error>
+        ensures there { IsSome result ↔ (is_untold self.old ≡ true) }
+        ensures told { is_untold self.new ≡ false }
+        ensures well { is_well self.new ≡ is_well self.old }
+        ensures writer { writer_of self.new ≡ writer_of self.old }
+        ensures held { held_bytes self.new ≡ held_bytes self.old }
+        ensures text { handed_text self.new ≡ handed_text self.old }
+    {
+        match self.state {
+            State::Well | State::Told => None,
+            State::Faulty(_) => match std::mem::replace(&mut self.state, State::Told) {
+                State::Faulty(e) => Some(e),
+                _ => None,
+            },
+        }
+    }
+}
+
+impl<W: ByteSink> TextSink for WriterWrapper<W> {
+    ghost use Rattle.wkt_bytes.specs.Wrapper.{Gives, Leaves, is_well, handed_text, failed_calls};
+
+    ghost text = { handed_text };
+
+    ghost failures = { failed_calls };
+
+    ghost took = { Gives W.bytes W.failures W.keeps };
+
+    ghost broke = { Leaves W.bytes W.failures W.keeps };
+
+    fn write_str(&mut self, piece: &str) -> fmt::Result
+        ensures puts { Puts handed_text failed_calls (Gives W.bytes W.failures W.keeps) (Leaves W.bytes W.failures W.keeps) self.old piece.now self.new result }
+        ensures well { OnOk result (is_well self.old ≡ true) }
+    {
+        match self.accept(piece.as_bytes()) {
+            Ok(()) => {
+                self.tape = self.tape.and(&piece);
+                Ok(())
+            }
+            Err(e) => {
+                self.failures = self.failures.wrapping_add(1);
+                Err(e)
+            }
+        }
+    }
+}
