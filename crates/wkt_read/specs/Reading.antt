@@ -1,6 +1,6 @@
 -- What the readers do, as functions on lists of lexemes: a value and the lexemes after it, or the lexemes that a refusal leaves.
 -- These are private words: only private contracts cite them.
-use Rattle.std.specs.Prelude.{◌≡◌, ℕ, suc, zero, List, [], ◌∷◌, ◌++◌, Option, Some, None, Result, Ok, Err, Bool, true, false, codes, if◌then◌else◌}
+use Rattle.std.specs.Prelude.{◌≡◌, ◌≢◌, ℕ, suc, zero, List, [], ◌∷◌, ◌++◌, Option, Some, None, Result, Ok, Err, Bool, true, false, codes, if◌then◌else◌}
 use Rattle.std.specs.Str.{str_to_ascii_uppercase, bytes_eq}
 use Rattle.wkt_num.specs.Bytes.{Lexeme, Open, Close, Comma, Word, Num}
 use Rattle.wkt_access.specs.declared.Dimension.{Dimension}
@@ -52,6 +52,10 @@ opening_at (Word run ∷ rest) = if is_empty_word run then Ok (false, rest) else
 opening_at (Close ∷ rest) = Err rest
 opening_at (Comma ∷ rest) = Err rest
 opening_at (Num run ∷ rest) = Err rest
+
+-- The opening place is a parenthesis.
+abbrev pub IsOpened : List Lexeme → Type 0
+IsOpened lexemes = (rest : List Lexeme) × (opening_at lexemes ≡ Ok (true, rest))
 
 -- The closing place takes one lexeme, `)`.
 unfoldable pub closing_at : List Lexeme → Reading (Unit {0})
@@ -215,3 +219,7 @@ module _ {N : Type 0} (read : List ℕ → Option N) where
   unfoldable pub value_at : ℕ → List Lexeme → Reading (Value N)
   value_at zero lexemes = Err lexemes
   value_at (suc fuel) lexemes = head_at lexemes >>= λ h. body_at (value_at fuel) fuel h.0.0 h.0.1 h.1
+
+  -- Behind the head of a kind other than Point stands a parenthesis.
+  abbrev pub HasMembers : List Lexeme → Type 0
+  HasMembers lexemes = (k : GeometryType) × (d : Dimension) × (rest : List Lexeme) × (head_at lexemes ≡ Ok ((k, d), rest)) × (k ≢ kind.Point) × IsOpened rest
