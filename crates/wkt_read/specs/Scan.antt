@@ -1,9 +1,7 @@
 -- What the scanner knows at a place of a text. Only private contracts cite this file.
-use Rattle.std.specs.Prelude.{◌≡◌, ℕ, ◌+◌, ◌≤◌, ◌++◌, [], List, drop, slice_range, Option, Some, None}
-use Rattle.std.specs.Borrow.{Bor}
+use Rattle.std.specs.Prelude.{◌≡◌, ℕ, ◌+◌, ◌≤◌, ◌++◌, [], List, drop, slice_range}
 use Rattle.std.specs.Str.{IsCharBoundary}
-use Rattle.wkt_num.specs.Bytes.{Class, White, Word, Num}
-use Rattle.wkt_read.specs.Lexemes.{lexeme_of}
+use Rattle.wkt_num.specs.Bytes.{Class, White}
 use Rattle.wkt_read.specs.Placed.{Placed, marks, front, placed_from}
 use Rattle.wkt_read.specs.Classes.{meant}
 use Rattle.wkt_read.specs.declared.class.Class as code
@@ -37,8 +35,3 @@ Found left text class.Open at = (left ≡ coming_at text (meant class.Open) at) 
 Found left text class.Close at = (left ≡ coming_at text (meant class.Close) at) × IsCharBoundary text at
 Found left text class.Comma at = (left ≡ coming_at text (meant class.Comma) at) × IsCharBoundary text at
 Found left text class.Run at = (from : ℕ) × (from + 1 ≡ at) × (left ≡ placed_from from (drop from text)) × IsRunSoFar text from at × IsCharBoundary text from
-
--- what stands in a run: the text of a number, or nothing where it is a word
-abbrev pub IsNumberIn : Option (Bor (List ℕ)) → List ℕ → Type 0
-IsNumberIn None run = lexeme_of run ≡ Word run
-IsNumberIn (Some digits) run = lexeme_of run ≡ Num digits.now

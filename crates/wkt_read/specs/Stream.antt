@@ -1,15 +1,14 @@
 -- What a stream of lexemes has still to give.
-use Rattle.std.specs.Prelude.{◌≡◌, ℕ, ◌+◌, ◌≤◌, ◌∷◌, [], List, length, codes, Option, Some, None, Result, Ok, Err}
+use Rattle.std.specs.Prelude.{◌≡◌, ℕ, ◌+◌, ◌≤◌, ◌∷◌, [], List, length, Option, Some, None, Result}
 use Rattle.std.specs.Borrow.{Bor}
 use Rattle.std.specs.Iterator.{Count, at_most}
-use Rattle.wkt_num.specs.Bytes as lex
 use Rattle.wkt_num.specs.Bytes.{Lexeme}
 use Rattle.wkt_read.specs.Placed.{Placed}
 use Rattle.wkt_read.specs.Classes.{meant}
 use Rattle.wkt_read.specs.Scan.{coming_at}
+use Rattle.wkt_read.specs.Items.{IsItem}
+use Rattle.wkt_read.specs.declared.token.Token.{Token}
 use Rattle.wkt_read.specs.declared.tokens.Tokens.{Tokens}
-use Rattle.wkt_read.specs.declared.tokens.Token.{Token}
-use Rattle.wkt_read.specs.declared.tokens.Token.TheVariants.{Comma, Number, ParenClose, ParenOpen, Word}
 
 -- the lexemes that `next` has not given yet
 unfoldable pub coming : {T : Type 0} → Tokens T → List Placed
@@ -23,26 +22,17 @@ bytes_taken s = s.bytes.taken
 unfoldable pub end_of_last : {T : Type 0} → Tokens T → ℕ
 end_of_last s = s.end
 
--- the message of a number run that the number type refuses
-abbrev pub bad_number : List ℕ
-bad_number = codes "Unable to parse input number as the desired output type"
-
--- The item says what the lexeme is, a number as the number type reads it.
-abbrev pub Says : {T : Type 0} → (List ℕ → Option T) → Result (Token T) (Bor (List ℕ)) → Lexeme → Type 0
-Says read (Ok Comma) l = l ≡ lex.Comma
-Says read (Ok (Number x)) l = (run : List ℕ) × (l ≡ lex.Num run) × (read run ≡ Some x)
-Says read (Ok ParenClose) l = l ≡ lex.Close
-Says read (Ok ParenOpen) l = l ≡ lex.Open
-Says read (Ok (Word w)) l = l ≡ lex.Word w.now
-Says read (Err e) l = (run : List ℕ) × (l ≡ lex.Num run) × (read run ≡ None) × (e.now ≡ bad_number)
-
--- One call of `next`: the first of the lexemes, which ends where the stream then says; or nothing, where none is left.
-abbrev pub Gives : {T : Type 0} → (List ℕ → Option T) → Tokens T → Option (Result (Token T) (Bor (List ℕ))) → Tokens T → Type 0
-Gives read s None t =
+-- One step of a stream: the first of the lexemes, behind which at most one byte was taken; or none, where none is left.
+abbrev pub Steps : {T : Type 0} → Tokens T → Option Lexeme → Tokens T → Type 0
+Steps s None t =
     (coming s ≡ []) × (coming t ≡ []) × (end_of_last t ≡ end_of_last s) × (bytes_taken s ≤ bytes_taken t)
-Gives read s (Some x) t =
-    (l : Lexeme) × (coming s ≡ record { lexeme = l; end = end_of_last t } ∷ coming t) × Says read x l
+Steps s (Some l) t =
+    (coming s ≡ record { lexeme = l; end = end_of_last t } ∷ coming t)
     × (end_of_last t ≤ bytes_taken t) × (bytes_taken t ≤ end_of_last t + 1) × (bytes_taken s ≤ bytes_taken t)
+
+-- One call of `next`: one step, and the item says which lexeme it took.
+abbrev pub Gives : {T : Type 0} → (List ℕ → Option T) → Tokens T → Option (Result (Token T) (Bor (List ℕ))) → Tokens T → Type 0
+Gives read s r t = (l : Option Lexeme) × Steps s l t × IsItem read l r
 
 -- each item takes one lexeme
 abbrev pub count : {T : Type 0} → Tokens T → Count

@@ -2,9 +2,9 @@
 ghost use Rattle.std.specs.Prelude.{◌≡◌, ◌≢◌, ◌≤◌};
 ghost use Rattle.std.specs.Str.{IsCharBoundary};
 ghost use Rattle.wkt_read.specs.Classes.{meant};
-ghost use Rattle.wkt_read.specs.Scan.{coming_at, Found, IsRunSoFar, EndsRun, IsNumberIn};
+ghost use Rattle.wkt_read.specs.Scan.{coming_at, Found, IsRunSoFar, EndsRun};
 
-use crate::class::{Class, class_of, starts_number};
+use crate::class::{Class, class_of};
 use crate::cursor::Cursor;
 
 /// The class of the first byte that is no white space, which is taken.
@@ -44,15 +44,5 @@ pub(crate) fn end_of_run(bytes: &mut Cursor<'_>, from: usize) -> (usize, Class)
             },
             None => return (end, Class::Nul),
         }
-    }
-}
-
-/// The text of the number in a run, if the run is one: without the one plus sign that it may begin with.
-pub(crate) fn number_in<'a>(run: &'a str) -> Option<&'a str>
-    ensures { IsNumberIn result run.now }
-{
-    match run.as_bytes().first() {
-        Some(first) if starts_number(*first) => Some(if *first == b'+' { &run[1..] } else { run }),
-        _ => None,
     }
 }

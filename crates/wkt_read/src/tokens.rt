@@ -5,29 +5,10 @@ ghost use Rattle.wkt_read.specs.declared.class.Class.TheVariants.{Run};
 
 use crate::class::Class;
 use crate::cursor::Cursor;
-use crate::scan::{end_of_run, first_class, number_in};
+use crate::scan::{end_of_run, first_class};
+use crate::token::{Raw, Token, item_of, raw_of};
 use std::marker::PhantomData;
 use wkt_num::WktNum;
-
-/// A lexeme of well-known text, its number read as `T`.
-#[derive(Clone, Copy, PartialEq, Eq, Debug)]
-pub enum Token<'a, T> {
-    Comma,
-    Number(T),
-    ParenClose,
-    ParenOpen,
-    Word(&'a str),
-}
-
-/// A lexeme whose number is not read yet.
-#[derive(Clone, Copy)]
-pub(crate) enum Raw<'a> {
-    End,
-    Comma,
-    Close,
-    Open,
-    Run(&'a str),
-}
 
 /// The lexemes of a text, one after the other.
 ///
@@ -45,10 +26,10 @@ pub struct Tokens<'a, T> {
 }
 
 impl<'a, T: WktNum> Tokens<'a, T> {
-    ghost use Rattle.wkt_read.specs.Lexemes.{IsSplit, lexeme_of};
+    ghost use Rattle.wkt_read.specs.Lexemes.{IsSplit};
     ghost use Rattle.wkt_read.specs.Placed.{placed, lexemes_of};
-    ghost use Rattle.wkt_read.specs.Stream.{coming, bytes_taken, end_of_last, Says};
-    ghost use Rattle.wkt_read.specs.Raws.{found, Steps};
+    ghost use Rattle.wkt_read.specs.Stream.{coming, bytes_taken, end_of_last, Steps};
+    ghost use Rattle.wkt_read.specs.Raws.{found};
 
     /// The lexemes of the text; none of it is taken yet.
     pub fn from_str(text: &'a str) -> Self
@@ -94,7 +75,7 @@ impl<'a, T: WktNum> Tokens<'a, T> {
                 let (end, ahead) = end_of_run(&mut self.bytes, from);
                 self.end = end;
                 self.ahead = ahead;
-                return Raw::Run(self.bytes.part(from, end));
+                return raw_of(self.bytes.part(from, end));
             }
             Class::Nul | Class::White => {
                 self.ahead = Class::Nul;
@@ -104,19 +85,6 @@ impl<'a, T: WktNum> Tokens<'a, T> {
         self.ahead = Class::White;
         self.end = self.bytes.taken();
         mark
-    }
-
-    // What a run is.
-    pub(crate) fn token_of(run: &'a str) -> Result<Token<'a, T>, &'static str>
-        ensures { Says T.read result (lexeme_of run.now) }
-    {
-        match number_in(run) {
-            None => Ok(Token::Word(run)),
-            Some(digits) => match T::read_number(digits) {
-                Some(number) => Ok(Token::Number(number)),
-                None => Err("Unable to parse input number as the desired output type"),
-            },
-        }
     }
 }
 
@@ -130,12 +98,6 @@ impl<'a, T: WktNum> Iterator for Tokens<'a, T> {
     ghost remaining = { count };
 
     fn next(&mut self) -> Option<Result<Token<'a, T>, &'static str>> {
-        match self.next_raw() {
-            Raw::End => None,
-            Raw::Comma => Some(Ok(Token::Comma)),
-            Raw::Close => Some(Ok(Token::ParenClose)),
-            Raw::Open => Some(Ok(Token::ParenOpen)),
-            Raw::Run(run) => Some(Self::token_of(run)),
-        }
+        item_of(self.next_raw())
     }
 }

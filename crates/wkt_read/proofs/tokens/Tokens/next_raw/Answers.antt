@@ -1,8 +1,8 @@
-use Rattle.std.proofs.Common.{◌≡◌, ◌∷◌, ◌-◌, ◌<◌, ap, sym, ◌∙◌, arith, refl, drop, subst}
+use Rattle.std.proofs.Common.{◌≡◌, ◌∷◌, ◌-◌, ◌<◌, ap, sym, ◌∙◌, arith, refl, drop, slice_range, Some}
 use Rattle.wkt_read.specs.Lexemes.{lexeme_of}
 use Rattle.wkt_read.specs.Placed.{placed_from}
-use Rattle.wkt_read.specs.Stream.{coming, bytes_taken, end_of_last}
-use Rattle.wkt_read.specs.Raws.{found, Steps}
+use Rattle.wkt_read.specs.Stream.{coming, bytes_taken, end_of_last, Steps}
+use Rattle.wkt_read.specs.Raws.{found}
 use Rattle.wkt_read.proofs.Steps.{gives-run, gives-open, gives-close, gives-comma, found-nul}
 use Rattle.wkt_read.proofs.tokens.Tokens.next_raw.Goals as goal
 use Rattle.wkt_read.proofs.tokens.Tokens.next_raw.Goals.{in-Open, in-Close, in-Comma}
@@ -10,11 +10,13 @@ use Rattle.wkt_read.proofs.tokens.Tokens.next_raw.Goals.{in-Open, in-Close, in-C
 pub returns-in-Run : goal.returns-in-Run
 unfolding coming bytes_taken end_of_last
 returns-in-Run g c =
+    let lexeme : found c.raw_of.result ≡ Some (lexeme_of (slice_range c.end_of_run-end.new.bytes.text.now (c.taken-from.result - 1) c.end_of_run-end.result.0)) = c.raw_of.ensures ∙ ap (λ l. Some (lexeme_of l)) c.part.ensures in
     let f = c.in-Run.ensures.found in
     let e : f.0 ≡ c.taken-from.result - 1 = omega (arith, f.1, c.taken-from.ensures) in
     let r = c.end_of_run-end.ensures in
     let order : c.taken-from.result - 1 < c.end_of_run-end.result.0 = omega (arith, f.1, c.taken-from.ensures, r.on) in
-    (gives-run _ _ _ _ _ _ _ _ (f.2 ∙ ap (λ n. placed_from n (drop n c.first_class.new.bytes.text.now)) e) (ap (λ t. t.now) r.text) order r.ends (ap lexeme_of c.part.ensures),
+    rw lexeme
+    (gives-run _ _ _ _ _ _ _ _ (f.2 ∙ ap (λ n. placed_from n (drop n c.first_class.new.bytes.text.now)) e) (ap (λ t. t.now) r.text) order r.ends refl,
     r.ends.taken, r.ends.near, omega (arith, r.grows, c.first_class.ensures.grows))
 
 pub returns-in-Nul : goal.returns-in-Nul

@@ -1,0 +1,64 @@
+-- What a stream that was looked at ahead has still to give.
+use Rattle.std.specs.Prelude.{◌≡◌, ℕ, ◌+◌, ◌≤◌, ◌∷◌, [], List, length, Option, Some, None, Result}
+use Rattle.std.specs.Iterator.{Count, at_most}
+use Rattle.std.specs.Borrow.{Bor}
+use Rattle.std.specs.Option.{option_copied}
+use Rattle.wkt_num.specs.Bytes.{Lexeme}
+use Rattle.wkt_read.specs.Placed.{Placed, lexemes_of}
+use Rattle.wkt_read.specs.Items.{IsItem}
+use Rattle.wkt_read.specs.Raws.{found}
+use Rattle.wkt_read.specs.Stream.{coming}
+use Rattle.wkt_read.specs.declared.token.Raw.{Raw}
+use Rattle.wkt_read.specs.declared.token.Token.{Token}
+use Rattle.wkt_read.specs.declared.peekable.PeekableTokens.{PeekableTokens}
+
+-- a lexeme that was looked at, before the later ones; behind the text's end none stands
+abbrev pub looked_at : Option Lexeme → ℕ → List Placed → List Placed
+looked_at None end later = []
+looked_at (Some l) end later = record { lexeme = l; end = end } ∷ later
+
+-- what was looked at, if anything was, before the later lexemes
+abbrev pub behind_look : Option Raw → ℕ → List Placed → List Placed
+behind_look None end later = later
+behind_look (Some raw) end later = looked_at (found raw) end later
+
+-- the lexemes that `next` has not given yet
+unfoldable pub left : {T : Type 0} → PeekableTokens T → List Placed
+left p = behind_look p.ahead p.tokens.end (coming p.tokens)
+
+-- how many bytes of the text were taken, for what was looked at too
+unfoldable pub taken_of : {T : Type 0} → PeekableTokens T → ℕ
+taken_of p = p.tokens.bytes.taken
+
+-- where the last lexeme that `next` gave ends
+unfoldable pub end_of : {T : Type 0} → PeekableTokens T → ℕ
+end_of p = p.end
+
+-- the lexemes still to come, without their places
+unfoldable pub rest : {T : Type 0} → PeekableTokens T → List Lexeme
+rest p = lexemes_of (left p)
+
+-- One step of a stream: the first of the lexemes, behind which at most one byte was taken; or none, where none is left.
+abbrev pub Moves : {T : Type 0} → PeekableTokens T → Option Lexeme → PeekableTokens T → Type 0
+Moves s None t = (left s ≡ []) × (left t ≡ []) × (end_of t ≡ end_of s) × (taken_of s ≤ taken_of t)
+Moves s (Some l) t =
+    (left s ≡ record { lexeme = l; end = end_of t } ∷ left t)
+    × (end_of t ≤ taken_of t) × (taken_of t ≤ end_of t + 1) × (taken_of s ≤ taken_of t)
+
+-- One call of `next`: one step, and the item says which lexeme it took.
+abbrev pub Gives : {T : Type 0} → (List ℕ → Option T) → PeekableTokens T → Option (Result (Token T) (Bor (List ℕ))) → PeekableTokens T → Type 0
+Gives read s r t = (l : Option Lexeme) × Moves s l t × IsItem read l r
+
+-- each item takes one lexeme
+abbrev pub count : {T : Type 0} → PeekableTokens T → Count
+count s = at_most (length (left s))
+
+-- the first of these lexemes, if there is one
+abbrev pub first_of : List Placed → Option Lexeme
+first_of [] = None
+first_of (x ∷ xs) = Some x.lexeme
+
+-- One call of `peek`: it lends the item that `next` gives next, and all lexemes are still to come.
+abbrev pub Peeks : {T : Type 0} → (List ℕ → Option T) → PeekableTokens T → PeekableTokens T → Option (Bor (Result (Token T) (Bor (List ℕ)))) → Type 0
+Peeks read s t r =
+    (left t ≡ left s) × (end_of t ≡ end_of s) × (taken_of s ≤ taken_of t) × IsItem read (first_of (left s)) (option_copied r)

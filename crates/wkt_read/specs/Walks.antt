@@ -1,0 +1,40 @@
+-- How readers go over the lexemes of a stream. Only private contracts cite this file.
+use Rattle.std.specs.Prelude.{◌≡◌, ℕ, ◌+◌, ◌≤◌, ◌∷◌, ◌++◌, [], List, Option, Some, None}
+use Rattle.wkt_num.specs.Bytes.{Lexeme, Open, Close, Comma, Word, Num}
+use Rattle.wkt_read.specs.Placed.{Placed, lexemes_of, end_after}
+use Rattle.wkt_read.specs.Ahead.{left, end_of, taken_of, rest}
+use Rattle.wkt_read.specs.declared.peekable.PeekableTokens.{PeekableTokens}
+
+-- one lexeme is taken, if there is one
+abbrev pub Takes : Option Lexeme → List Lexeme → List Lexeme → Type 0
+Takes None old new = (old ≡ []) × (new ≡ [])
+Takes (Some l) old new = old ≡ l ∷ new
+
+-- the first of these lexemes is this one, or there is none
+abbrev pub IsFirst : Option Lexeme → List Lexeme → Type 0
+IsFirst None ls = ls ≡ []
+IsFirst (Some l) ls = (later : List Lexeme) × (ls ≡ l ∷ later)
+
+-- the first of these lexemes, if there is one, is no comma
+abbrev pub BeginsWithoutComma : List Lexeme → Type 0
+BeginsWithoutComma [] = Unit {0}
+BeginsWithoutComma (Comma ∷ later) = ⊥
+BeginsWithoutComma (Open ∷ later) = Unit {0}
+BeginsWithoutComma (Close ∷ later) = Unit {0}
+BeginsWithoutComma (Word run ∷ later) = Unit {0}
+BeginsWithoutComma (Num run ∷ later) = Unit {0}
+
+-- The stream is at a place behind some of the lexemes that stood behind place `at`.
+pub record IsBehind {T : Type 0} (start : List Placed) (at : ℕ) (p : PeekableTokens T) : Type 0 where
+  pub given : List Placed
+  pub split : start ≡ given ++ left p
+  pub last : end_of p ≡ end_after at given
+
+-- whatever s is behind, t is
+abbrev pub GoesOn : {T : Type 0} → PeekableTokens T → PeekableTokens T → Type 0
+GoesOn s t = (start : List Placed) (at : ℕ) → IsBehind start at s → IsBehind start at t
+
+-- no byte was taken past the last lexeme given, but for one
+pub record IsNear {T : Type 0} (p : PeekableTokens T) : Type 0 where
+  pub low : end_of p ≤ taken_of p
+  pub high : taken_of p ≤ end_of p + 1

@@ -1,0 +1,119 @@
+//! The lexemes of a text, of which one may be looked at ahead.
+ghost use Rattle.std.specs.Prelude.{◌≡◌, ◌+◌, ◌≤◌, ℕ, ◌∷◌, Some, None, OnSome};
+ghost use Rattle.std.specs.Bool.{MatchBool, OnFalse};
+ghost use Rattle.wkt_num.specs.Bytes.{Lexeme, Comma};
+ghost use Rattle.wkt_read.specs.Raws.{found};
+
+use crate::token::{Raw, Token, item_of};
+use crate::tokens::Tokens;
+use wkt_num::WktNum;
+
+/// The lexemes of a text, one after the other, of which one may be looked at ahead.
+#[derive(Drop)]
+pub struct PeekableTokens<'a, T> {
+    tokens: Tokens<'a, T>,
+    ahead: Option<Raw<'a>>,
+    end: usize,
+    // What `peek` lends: it alone reads the number ahead of its time.
+    peeked: Option<Result<Token<'a, T>, &'static str>>,
+    ghost near: { (raw : _) (l : Lexeme) → ahead ≡ Some raw → found raw ≡ Some l → (tokens.end ≤ tokens.bytes.taken) × (tokens.bytes.taken ≤ tokens.end + 1) },
+    ghost level: { ahead ≡ None → end ≡ tokens.end },
+}
+
+#[tactic(auto, unfolding(crate::specs::Ahead::left, crate::specs::Ahead::taken_of, crate::specs::Ahead::end_of, crate::specs::Ahead::rest, crate::specs::Stream::bytes_taken, crate::specs::Stream::end_of_last))]
+impl<'a, T: WktNum> PeekableTokens<'a, T> {
+    ghost use Rattle.wkt_read.specs.Stream.{coming, bytes_taken, end_of_last};
+    ghost use Rattle.wkt_read.specs.Items.{IsItem};
+    ghost use Rattle.wkt_read.specs.Ahead.{left, taken_of, end_of, rest, first_of, Moves};
+    ghost use Rattle.wkt_read.specs.Walks.{Takes, IsFirst, BeginsWithoutComma, GoesOn, IsNear};
+
+    /// The lexemes that the stream has still to give; none is looked at yet.
+    pub fn new(tokens: Tokens<'a, T>) -> Self
+        ensures left { left result ≡ coming tokens.entry }
+        ensures taken { taken_of result ≡ bytes_taken tokens.entry }
+        ensures end { end_of result ≡ end_of_last tokens.entry }
+    {
+        let end = tokens.end();
+        PeekableTokens {
+            tokens,
+            ahead: None,
+            end,
+            peeked: None,
+        }
+    }
+
+    /// How many bytes of the text were taken, for what was looked at too.
+    pub fn taken(&self) -> usize
+        ensures { result ≡ taken_of self.now }
+    {
+        self.tokens.taken()
+    }
+
+    /// Where the last lexeme that `next` gave ends, in bytes; before the first, where that of the stream below ended.
+    pub fn end(&self) -> usize
+        ensures { result ≡ end_of self.now }
+    {
+        self.end
+    }
+
+    // The next lexeme, which stays.
+    pub(crate) fn look(&mut self) -> Raw<'a>
+        ensures left { left self.new ≡ left self.old }
+        ensures end { end_of self.new ≡ end_of self.old }
+        ensures grows { taken_of self.old ≤ taken_of self.new }
+        ensures first { first_of (left self.old) ≡ found result }
+    {
+        match self.ahead {
+            Some(raw) => raw,
+            None => {
+                let raw = self.tokens.next_raw();
+                self.ahead = Some(raw);
+                raw
+            }
+        }
+    }
+
+    // The next lexeme, which is taken.
+    pub(crate) fn take(&mut self) -> Raw<'a>
+        ensures { Moves self.old (found result) self.new }
+    {
+        match self.ahead {
+            Some(Raw::End) => Raw::End,
+            Some(raw) => {
+                self.ahead = None;
+                self.end = self.tokens.end();
+                raw
+            }
+            None => {
+                let raw = self.tokens.next_raw();
+                self.end = self.tokens.end();
+                raw
+            }
+        }
+    }
+
+    // Reads what `peek` lends.
+    pub(crate) fn fill(&mut self)
+        ensures left { left self.new ≡ left self.old }
+        ensures end { end_of self.new ≡ end_of self.old }
+        ensures grows { taken_of self.old ≤ taken_of self.new }
+        ensures first { IsItem T.read (first_of (left self.old)) self.new.peeked }
+    {
+        self.peeked = item_of(self.look());
+    }
+}
+
+#[tactic(auto, unfolding(crate::specs::Ahead::left, crate::specs::Ahead::taken_of, crate::specs::Ahead::end_of))]
+impl<'a, T: WktNum> Iterator for PeekableTokens<'a, T> {
+    ghost use Rattle.wkt_read.specs.Ahead.{Gives, count};
+
+    type Item = Result<Token<'a, T>, &'static str>;
+
+    ghost next_gives = { Gives T.read };
+
+    ghost remaining = { count };
+
+    fn next(&mut self) -> Option<Result<Token<'a, T>, &'static str>> {
+        item_of(self.take())
+    }
+}
