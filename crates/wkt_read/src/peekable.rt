@@ -15,7 +15,7 @@ pub struct PeekableTokens<'a, T> {
     ahead: Option<Raw<'a>>,
     end: usize,
     // What `peek` lends: it alone reads the number ahead of its time.
-    peeked: Option<Result<Token<'a, T>, &'static str>>,
+    pub(crate) peeked: Option<Result<Token<'a, T>, &'static str>>,
     ghost near: { (raw : _) (l : Lexeme) → ahead ≡ Some raw → found raw ≡ Some l → (tokens.end ≤ tokens.bytes.taken) × (tokens.bytes.taken ≤ tokens.end + 1) },
     ghost level: { ahead ≡ None → end ≡ tokens.end },
 }
@@ -61,7 +61,10 @@ impl<'a, T: WktNum> PeekableTokens<'a, T> {
         ensures left { left self.new ≡ left self.old }
         ensures end { end_of self.new ≡ end_of self.old }
         ensures grows { taken_of self.old ≤ taken_of self.new }
+        ensures goes_on { GoesOn self.old self.new }
+        ensures same { rest self.new ≡ rest self.old }
         ensures first { first_of (left self.old) ≡ found result }
+        ensures sees { IsFirst (found result) (rest self.old) }
     {
         match self.ahead {
             Some(raw) => raw,
@@ -75,6 +78,14 @@ impl<'a, T: WktNum> PeekableTokens<'a, T> {
 
     // The next lexeme, which is taken.
     pub(crate) fn take(&mut self) -> Raw<'a>
+        ensures goes_on { GoesOn self.old self.new }
+        ensures near { OnSome (found result) (IsNear self.new) }
+        ensures takes { Takes (found result) (rest self.old) (rest self.new) }
+    {
+        self.step()
+    }
+
+    fn step(&mut self) -> Raw<'a>
         ensures { Moves self.old (found result) self.new }
     {
         match self.ahead {
@@ -89,6 +100,21 @@ impl<'a, T: WktNum> PeekableTokens<'a, T> {
                 self.end = self.tokens.end();
                 raw
             }
+        }
+    }
+
+    // Takes the next lexeme if it is a comma.
+    pub(crate) fn take_comma(&mut self) -> bool
+        ensures goes_on { GoesOn self.old self.new }
+        ensures takes { MatchBool result (rest self.old ≡ Comma ∷ rest self.new) (rest self.new ≡ rest self.old) }
+        ensures none { OnFalse result (BeginsWithoutComma (rest self.old)) }
+    {
+        match self.look() {
+            Raw::Comma => {
+                let _ = self.take();
+                true
+            }
+            _ => false,
         }
     }
 
@@ -114,6 +140,6 @@ impl<'a, T: WktNum> Iterator for PeekableTokens<'a, T> {
     ghost remaining = { count };
 
     fn next(&mut self) -> Option<Result<Token<'a, T>, &'static str>> {
-        item_of(self.take())
+        item_of(self.step())
     }
 }

@@ -1,0 +1,8 @@
+use Rattle.wkt_read.proofs.Behind.{goes-moves, takes-moves}
+use Rattle.wkt_read.proofs.peekable.PeekableTokens.take.Goals as goal
+
+pub returns-clause-goes_on : goal.returns-clause-goes_on
+returns-clause-goes_on g c = goes-moves _ _ _ c.step.ensures
+
+pub returns-clause-takes : goal.returns-clause-takes
+returns-clause-takes g c = takes-moves _ _ _ c.step.ensures
