@@ -1,0 +1,49 @@
+//! Well-known text read and written, proved: every name of the crates below, in one place.
+#![tactic(auto)]
+
+pub use wkt_num::{Decimal, WktNum};
+pub use wkt_read::{FromWktStr, ReadError};
+pub use wkt_types::Wkt;
+
+/// The traits by which any representation of a geometry is accessed.
+pub mod geo_traits {
+    pub use wkt_access::{
+        CoordTrait, Dimensions, GeometryCollectionTrait, GeometryTrait, GeometryType,
+        LineStringTrait, LineTrait, MultiLineStringTrait, MultiPointTrait, MultiPolygonTrait,
+        PointTrait, PolygonTrait, RectTrait, TriangleTrait,
+    };
+}
+
+/// Two-dimensional types.
+pub mod geo_types {
+    pub use wkt_flat::{Coord, Line, Rect, Triangle};
+}
+
+/// The types of well-known text.
+pub mod types {
+    pub use wkt_types::{
+        Coord, Dimension, GeometryCollection, GeometryType, LineString, MultiLineString,
+        MultiPoint, MultiPolygon, Point, Polygon,
+    };
+}
+
+/// Writing, and where text and bytes go.
+pub mod to_wkt {
+    pub use wkt_access::{
+        write_geometry, write_geometry_collection, write_line, write_linestring,
+        write_multi_linestring, write_multi_point, write_multi_polygon, write_point,
+        write_polygon, write_rect, write_triangle,
+    };
+    pub use wkt_bytes::{ByteSink, ByteSource, Counted, ReadAllError, WriterWrapper, read_all};
+    pub use wkt_num::{CountedText, FormatterText, TextSink};
+}
+
+/// Why a geometry isn't written.
+pub mod error {
+    pub use wkt_access::Error;
+}
+
+/// The lexemes of a text.
+pub mod tokenizer {
+    pub use wkt_read::{PeekableTokens, Token, Tokens};
+}

@@ -1,0 +1,5 @@
+pub mod Lines
+pub mod Splitting
+pub mod Numbers
+pub mod Output
+pub mod Answer

@@ -1,0 +1,26 @@
+//! Answers each line of standard input on standard output: with the text of its geometry, or with
+//! `refused`.
+#![tactic(auto)]
+
+mod answer;
+mod run;
+#[cfg(test)]
+mod tests;
+
+use run::{RunError, run};
+use std::process::ExitCode;
+use wkt::to_wkt::Counted;
+
+fn main(rt: HostRuntime) -> ExitCode {
+    let mut reader = Counted::new(rt.stdin());
+    let mut writer = Counted::new(rt.stdout());
+    let message = match run(rt.alloc(), &mut reader, &mut writer) {
+        Ok(()) => return ExitCode::SUCCESS,
+        Err(RunError::Read(_)) => "wkt: read fault",
+        Err(RunError::Write(_)) => "wkt: write fault",
+        Err(RunError::Memory(_)) => "wkt: out of memory",
+    };
+    // Where standard error fails too, the status still tells.
+    let _ = eprintln!(rt; "{message}");
+    ExitCode::from(1)
+}
