@@ -16,6 +16,8 @@ mod multipolygon;
 mod point;
 mod polygon;
 mod show;
+#[cfg(test)]
+mod tests;
 
 pub use coord::Coord;
 pub use geometry::{GeometryCollection, Wkt};
