@@ -2,7 +2,6 @@
 use Rattle.std.proofs.Common.{◌≡◌, ℕ, ℤ, List, length, map, Option, Some, ap, sym, ◌∙◌, slice_get, option_map, ◌<◌, arith, get_or}
 use Rattle.std.proofs.lemmas.List.{length-map}
 use Rattle.std.proofs.lemmas.Option.{slice_get-map, slice_get-get_or}
-use Rattle.std.specs.Prelude.{vec_len}
 use Rattle.std.specs.declared.vec.Vec.{Vec}
 use Rattle.std.specs.declared.alloc.Global.{Global}
 use Rattle.wkt_access.specs.declared.dimensions.Dimensions.{Dimensions}
@@ -15,7 +14,7 @@ use Rattle.wkt_access.specs.declared.tests.Figure.TheOpen.{Figure-F, Point, Line
 use Rattle.wkt_access.specs.declared.tests.Figure.TheViews as views
 use Rattle.wkt_access.specs.declared.tests.Figure.TheFolds.{fold-Figure, fold-roll-Figure}
 use Rattle.wkt_access.specs.Shapes.{Shape, PolygonShape}
-use Rattle.wkt_access.specs.Parts.{members_of, each, gathered, IsCollectionOf}
+use Rattle.wkt_access.specs.Parts.{members_of, gathered}
 use Rattle.wkt_access.proofs.Members.{each_gathered}
 use Rattle.wkt_access.proofs.tests.FigureGeometryTrait.geometry.Goals as goal
 
