@@ -1,5 +1,5 @@
 -- What a writer of a shape answers, and leaves in the sink: `s` is the sink before, and `t` after.
-use Rattle.std.specs.Prelude.{◌≡◌, ℕ, List, Option, Some, None, Result, Ok, Err}
+use Rattle.std.specs.Prelude.{◌≡◌, ℕ, List, Some, None, Result, Ok, Err}
 use Rattle.wkt_num.specs.Sink.{Adds, Breaks}
 use Rattle.wkt_access.specs.declared.error.Error.{Error}
 use Rattle.wkt_access.specs.declared.error.Error.TheVariants.{FmtError, RectUnsupportedDimension, UnknownDimension, TooFewNumbers, Memory}
