@@ -2,7 +2,7 @@
 use Rattle.std.proofs.Common.{◌≡◌, ℕ, zero, suc, ◌+◌, ◌≤◌, List, [], ◌∷◌, ◌++◌, length, length-append, sym, refl, ap, ◌∙◌, subst, append_assoc, arith, Option, Some, None, Result, Ok, Err, Bool, true, false, cond, inl, inr}
 use Rattle.std.specs.Prelude.{◌⊎◌}
 use Rattle.wkt_num.specs.Bytes.{Lexeme, Open, Close, Comma, Word, Num}
-use Rattle.wkt_access.specs.declared.Dimension.{Dimension}
+use Rattle.wkt_access.specs.declared.dimensions.Dimension.{Dimension}
 use Rattle.wkt_access.specs.Values.{size}
 use Rattle.wkt_read.specs.Grammar.{IsEmptyWord, Within, Numbers, Coord, Ring, Poly, Member}
 use Rattle.wkt_read.specs.Begun.{BegunEmpty, BegunWithin, BegunCoord, BegunRing, BegunPoly, BegunMember}
