@@ -1,5 +1,5 @@
 -- Words at a place of a text, and the head up to there.
-use Rattle.std.proofs.Common.{◌≡◌, ℕ, suc, ◌+◌, ◌≤◌, ◌<◌, List, [], ◌∷◌, ◌++◌, length, take, drop, get_or, map, Bool, true, false, cond, ◌&&◌, ◌||◌, ◌==◌, nat_eq, Option, Some, None, refl, sym, ap, ◌∙◌, arith, codes, add-one, eqb-true, eq-eqb, ◌-◌}
+use Rattle.std.proofs.Common.{◌≡◌, ℕ, suc, ◌+◌, ◌≤◌, ◌<◌, List, [], ◌∷◌, length, take, drop, get_or, Bool, true, false, cond, ◌&&◌, ◌||◌, ◌==◌, nat_eq, Some, None, refl, sym, ap, ◌∙◌, arith, codes, add-one, eqb-true, eq-eqb, ◌-◌}
 use Rattle.std.proofs.lemmas.Bool.Decides.{nat_tests}
 use Rattle.std.proofs.lemmas.List.{take_rest, drop-map, length-map}
 use Rattle.std.proofs.Math.Seq.{drop-cons, drop-length, take-suc}

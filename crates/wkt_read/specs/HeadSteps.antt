@@ -4,7 +4,7 @@ use Rattle.std.specs.Borrow.{Bor}
 use Rattle.std.specs.Str.{str_to_ascii_uppercase}
 use Rattle.wkt_types.specs.declared.geometry_type.GeometryType.{GeometryType}
 use Rattle.wkt_read.specs.Grammar.{kind_words}
-use Rattle.wkt_read.specs.Head.{HeadAnswer, Cut, begins, head_of, cut_answer, named_in}
+use Rattle.wkt_read.specs.Head.{HeadAnswer, begins, head_of, cut_answer, named_in}
 
 -- The head has this length, and EMPTY is behind it or not; an ASCII byte is behind it.
 abbrev pub EndsHead : Option (ℕ × Bool) → List ℕ → Type 0

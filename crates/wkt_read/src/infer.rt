@@ -5,8 +5,8 @@ ghost use Rattle.wkt_read.specs.Head.{begins, holds, has_space, dim_said, head_r
 ghost use Rattle.wkt_read.specs.HeadSteps.{EndsHead, Strips, BeginsKind, head_answer};
 ghost use Rattle.wkt_read.specs.Infer.{Infers};
 
-use wkt_types::{Dimension, GeometryType};
 use std::alloc::{AllocError, Global};
+use wkt_types::{Dimension, GeometryType};
 
 /// Why the head of a text names no kind.
 #[derive(Debug, Drop, thiserror::Error)]

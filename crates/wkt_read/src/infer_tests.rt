@@ -12,6 +12,7 @@ fn shown(alloc: Global, text: &str) -> Result<String, AllocError> {
 }
 
 const NO_PAREN: &str = "Invalid WKT; no '(' character and not EMPTY";
+
 const NO_SPACE: &str = "Invalid WKT; no whitespace between geometry type and EMPTY.";
 
 #[test]
@@ -32,7 +33,10 @@ fn heads(rt: HostRuntime) -> Result<(), Fail> {
         ("POINT\0Z(1 2 3)", "Point XYZ"),
         ("MULTIPOINT (EMPTY)", "MultiPoint XY"),
         ("\u{b}\u{c}\u{a0}\u{2028}POINT (1 2)", "Point XY"),
-        ("\u{feff}POINT (1 2)", "Unsupported WKT prefix \u{feff}POINT "),
+        (
+            "\u{feff}POINT (1 2)",
+            "Unsupported WKT prefix \u{feff}POINT ",
+        ),
         ("circle(1 2)", "Unsupported WKT prefix CIRCLE"),
         ("X EMPTY", "Unsupported WKT prefix X "),
         ("XEMPTY", NO_SPACE),

@@ -1,5 +1,4 @@
 use Rattle.std.proofs.Common.{◌≡◌, ◌≤◌, ◌-◌, length, take, drop}
-use Rattle.std.specs.Str.{str_to_ascii_uppercase}
 use Rattle.wkt_read.specs.Head.{head_of}
 use Rattle.wkt_read.proofs.Heads.{with_bytes}
 use Rattle.wkt_read.proofs.infer.head_length.Given as goal

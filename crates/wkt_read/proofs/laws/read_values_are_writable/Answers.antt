@@ -1,8 +1,8 @@
 use Rattle.std.proofs.Common.{◌≡◌, sym, ap, subst, true}
-use Rattle.wkt_access.specs.Shapes.{Shape, shape_of}
+use Rattle.wkt_access.specs.Shapes.{shape_of}
 use Rattle.wkt_access.specs.Faults.{fault}
 use Rattle.wkt_access.specs.Lawful.{IsLawful}
-use Rattle.std.specs.Prelude.{Option, None}
+use Rattle.std.specs.Prelude.{None}
 use Rattle.wkt_access.proofs.Writable.{writable}
 use Rattle.wkt_read.proofs.Fits.{geometry_fits}
 use Rattle.wkt_read.proofs.laws.read_values_are_writable.Goals as goal
