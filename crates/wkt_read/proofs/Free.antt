@@ -1,9 +1,9 @@
 -- What is read without memory has no list in parentheses.
-use Rattle.std.proofs.Common.{◌≡◌, ℕ, ◌≤◌, List, [], ◌∷◌, ◌++◌, length, sym, subst, refl, ap, ◌∙◌, append_assoc, arith, Option, Some, None, Result, Ok, Err, true, false, cond, Bool, inl, inr}
+use Rattle.std.proofs.Common.{◌≡◌, ℕ, ◌≤◌, List, [], ◌++◌, length, sym, subst, refl, ap, ◌∙◌, append_assoc, arith, Option, Ok, Err, true, false, cond, Bool, inl, inr}
 use Rattle.std.specs.Prelude.{◌⊎◌}
-use Rattle.wkt_num.specs.Bytes.{Lexeme, Word}
-use Rattle.wkt_access.specs.declared.Dimension.{Dimension}
-use Rattle.wkt_access.specs.Values.{Value, Values}
+use Rattle.wkt_num.specs.Bytes.{Lexeme}
+use Rattle.wkt_access.specs.declared.dimensions.Dimension.{Dimension}
+use Rattle.wkt_access.specs.Values.{Value}
 use Rattle.wkt_types.specs.declared.geometry_type.GeometryType.{GeometryType}
 use Rattle.wkt_types.specs.declared.geometry_type.GeometryType.TheVariants as kind
 use Rattle.wkt_read.specs.Kinds.{kind_of, dim_of}
@@ -53,7 +53,7 @@ module _ {N : Type 0} (read : List ℕ → Option N) where
       let same : k ≡ kind_of v = ap (λ (q : (GeometryType × Dimension) × List Lexeme). q.0.0) p in
       let rest : r ≡ b ++ left = ap (λ (q : (GeometryType × Dimension) × List Lexeme). q.1) p in
       elim (small_empty v b small body) [
-        inl point ↦ other (same ∙ point)
+        | inl point ↦ other (same ∙ point)
         | inr em ↦ empty_shut b left em (subst IsOpened rest opened)
       ]
 

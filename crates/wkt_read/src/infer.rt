@@ -1,0 +1,181 @@
+//! The kind and the dimension that the head of a text names.
+ghost use Rattle.std.specs.Prelude.{◌≡◌};
+ghost use Rattle.std.specs.Str.{str_to_ascii_uppercase};
+ghost use Rattle.wkt_read.specs.Head.{begins, holds, has_space, dim_said, head_rule};
+ghost use Rattle.wkt_read.specs.HeadSteps.{EndsHead, Strips, BeginsKind, head_answer};
+ghost use Rattle.wkt_read.specs.Infer.{Infers};
+
+use std::alloc::{AllocError, Global};
+use wkt_types::{Dimension, GeometryType};
+
+/// Why the head of a text names no kind.
+#[derive(Debug, Drop, thiserror::Error)]
+pub enum InferError {
+    /// The text begins with none of the kind words. This is what it has before its first `(` or
+    /// EMPTY, its ASCII letters in capitals.
+    #[error("Unsupported WKT prefix {0}")]
+    UnsupportedPrefix(String),
+    /// EMPTY comes first, with no space, LF, CR or TAB before it.
+    #[error("Invalid WKT; no whitespace between geometry type and EMPTY.")]
+    NoSpaceBeforeEmpty,
+    /// The text has neither `(` nor EMPTY.
+    #[error("Invalid WKT; no '(' character and not EMPTY")]
+    NoOpenParen,
+    /// There was no memory for an unsupported prefix. No other answer takes any.
+    #[error("out of memory")]
+    Memory(AllocError),
+}
+
+// Whether the text begins with the word, which is in capitals, whatever the text's case.
+fn begins(word: &[u8], text: &[u8]) -> bool
+    ensures { result ≡ begins word.now (str_to_ascii_uppercase text.now) }
+{
+    let mut i = 0;
+    'byte: while i < word.len() {
+        if i == text.len() {
+            return false;
+        }
+        if text[i].to_ascii_uppercase() != word[i] {
+            return false;
+        }
+        i += 1;
+    }
+    true
+}
+
+// Whether the word, which is in capitals, stands in the text.
+fn holds(word: &[u8], text: &[u8]) -> bool
+    ensures { result ≡ holds word.now (str_to_ascii_uppercase text.now) }
+{
+    let mut i = 0;
+    'place: while i < text.len() {
+        if begins(word, &text[i..]) {
+            return true;
+        }
+        i += 1;
+    }
+    begins(word, &text[i..])
+}
+
+// The length of the head, and whether EMPTY is behind it.
+fn head_length(text: &[u8]) -> Option<(usize, bool)>
+    ensures { EndsHead result text.now }
+{
+    let mut i = 0;
+    'place: while i < text.len() {
+        if text[i] == b'(' {
+            return Some((i, false));
+        }
+        if begins(b"EMPTY", &text[i..]) {
+            return Some((i, true));
+        }
+        i += 1;
+    }
+    None
+}
+
+fn has_space(text: &[u8]) -> bool
+    ensures { result ≡ has_space text.now }
+{
+    for &byte in text {
+        if byte == b' ' || byte == b'\n' || byte == b'\r' || byte == b'\t' {
+            return true;
+        }
+    }
+    false
+}
+
+// What follows the word, which is in capitals, at the start of the text, whatever the text's case.
+fn strip<'a>(word: &[u8], text: &'a [u8]) -> Option<&'a [u8]>
+    ensures { Strips result word.now (str_to_ascii_uppercase text.now) }
+{
+    if begins(word, text) {
+        Some(&text[word.len()..])
+    } else {
+        None
+    }
+}
+
+// The kind that the head begins with, and what follows its word.
+#[tactic(auto, unfolding(crate::specs::Grammar::kind_words))]
+fn kind(head: &[u8]) -> Option<(GeometryType, &[u8])>
+    ensures named { BeginsKind result (str_to_ascii_uppercase head.now) }
+{
+    if let Some(rest) = strip(b"POINT", head) {
+        Some((GeometryType::Point, rest))
+    } else if let Some(rest) = strip(b"LINESTRING", head) {
+        Some((GeometryType::LineString, rest))
+    } else if let Some(rest) = strip(b"LINEARRING", head) {
+        Some((GeometryType::LineString, rest))
+    } else if let Some(rest) = strip(b"POLYGON", head) {
+        Some((GeometryType::Polygon, rest))
+    } else if let Some(rest) = strip(b"MULTIPOINT", head) {
+        Some((GeometryType::MultiPoint, rest))
+    } else if let Some(rest) = strip(b"MULTILINESTRING", head) {
+        Some((GeometryType::MultiLineString, rest))
+    } else if let Some(rest) = strip(b"MULTIPOLYGON", head) {
+        Some((GeometryType::MultiPolygon, rest))
+    } else if let Some(rest) = strip(b"GEOMETRYCOLLECTION", head) {
+        Some((GeometryType::GeometryCollection, rest))
+    } else {
+        None
+    }
+}
+
+fn dimension(rest: &[u8]) -> Dimension
+    ensures { result ≡ dim_said (str_to_ascii_uppercase rest.now) }
+{
+    if holds(b"ZM", rest) {
+        Dimension::XYZM
+    } else if holds(b"Z", rest) {
+        Dimension::XYZ
+    } else if holds(b"M", rest) {
+        Dimension::XYM
+    } else {
+        Dimension::XY
+    }
+}
+
+// What a head names, behind which EMPTY stands or not.
+fn named(alloc: Global, head: &str, by_empty: bool) -> Result<(GeometryType, Dimension), InferError>
+    ensures exact { Infers result (head_answer head.now by_empty) }
+{
+    if by_empty && !has_space(head.as_bytes()) {
+        return Err(InferError::NoSpaceBeforeEmpty);
+    }
+    match kind(head.as_bytes()) {
+        Some((kind, rest)) => Ok((kind, dimension(rest))),
+        None => match head.to_ascii_uppercase(alloc) {
+            Ok(prefix) => Err(InferError::UnsupportedPrefix(prefix)),
+            Err(error) => Err(InferError::Memory(error)),
+        },
+    }
+}
+
+/// The kind and the dimension that the head of a text names.
+///
+/// White space of Unicode at the start is dropped. The head ends before the first `(` or the first
+/// EMPTY, whichever comes first; EMPTY is looked for as a part of the text, and letters of ASCII
+/// count in either case. What the head has behind its kind word says the dimension: ZM, else Z,
+/// else M, else XY. LINEARRING counts as a LineString.
+///
+/// A text that can be read as a geometry is answered with that geometry's kind and dimension,
+/// whatever memory is there. Much else is answered too, since the text is not read.
+///
+/// - `NoOpenParen`: there is neither `(` nor EMPTY.
+/// - `NoSpaceBeforeEmpty`: EMPTY comes first and no space, LF, CR or TAB stands before it.
+/// - `UnsupportedPrefix`: the head begins with no kind word.
+/// - `Memory`: the unsupported prefix could not be kept.
+///
+/// The upstream crate has this call with a `String` for its errors; where the head ends is this
+/// project's own choice. ` POINT (10 20.1)` is a Point of XY, `LINEARRING Z(1 2 3)` a LineString
+/// of XYZ.
+pub fn infer_type(alloc: Global, text: &str) -> Result<(GeometryType, Dimension), InferError>
+    ensures exact { Infers result (head_rule text.now) }
+{
+    let text = text.trim_start();
+    match head_length(text.as_bytes()) {
+        Some((end, by_empty)) => named(alloc, &text[..end], by_empty),
+        None => Err(InferError::NoOpenParen),
+    }
+}
