@@ -6,10 +6,12 @@ use Rattle.wkt_num.specs.Bytes.{Lexeme, Open, Close, Comma, Word, Num}
 use Rattle.wkt_access.specs.declared.Dimension.{Dimension}
 use Rattle.wkt_access.specs.declared.Dimension.TheVariants.{XY, XYZ, XYM, XYZM}
 use Rattle.wkt_access.specs.Values.{Value, Values}
-use Rattle.wkt_read.specs.Kinds.{Kind, PointKind, LineStringKind, PolygonKind, MultiPointKind, MultiLineStringKind, MultiPolygonKind, CollectionKind, kind_of, dim_of}
+use Rattle.wkt_types.specs.declared.geometry_type.GeometryType.{GeometryType}
+use Rattle.wkt_types.specs.declared.geometry_type.GeometryType.TheVariants as kind
+use Rattle.wkt_read.specs.Kinds.{kind_of, dim_of}
 use Rattle.wkt_read.specs.Grammar.{KindWord, kind_word, dim_word, dim_in, DimPart, Head, IsEmptyWord, Within, More, Listed, Perhaps, Headed, Coord, Ring, Poly, Member, Geometry, Geometries, Further}
 use Rattle.wkt_read.specs.Begun.{BegunNext, BegunMany, BegunEmpty, BegunWithin, BegunListed, BegunPerhaps, BegunCoord, BegunRing, BegunPoly, BegunMember, BegunBody, BegunAt, BegunGeometry}
-use Rattle.wkt_read.specs.Reading.{Reading, ◌>>=◌, is_empty_word, values_of, worded, numbered, dimension_at, kinded, head_at, inside_at, point_at, line_at, lines_at, polygons_at, member_at, points_at, members_at, body_at, value_at}
+use Rattle.wkt_read.specs.Reading.{Reading, ◌>>=◌, is_empty_word, members_of, worded, numbered, dimension_at, kinded, head_at, inside_at, point_at, line_at, lines_at, polygons_at, member_at, points_at, members_at, body_at, value_at}
 use Rattle.wkt_read.proofs.OneForm.{BeginsBody, BodyOf, geometry_body, body_begins, geometries_begins}
 use Rattle.wkt_read.proofs.Begun.{CutIn, Later, Earlier, cut_in, cuts_geometry, cuts_head, body_nothing, begun_listed_at}
 use Rattle.wkt_read.proofs.Tells.{Telling, plain, told, tell, andthen, mapped, framed_f, many_f, coord_f, inside_f, line_f, lines_f, polygons_f, member_f, points_f, joined_or_f, kinded_f, head_f, body_f, value_f, plain_then, plain_head, ok_told}
@@ -27,23 +29,23 @@ pub begins_more : (b r : List Lexeme) → BeginsBody b → BeginsBody (b ++ r)
 begins_more b r (inl (body, e)) = inl (body ++ r, ap (λ l. l ++ r) e)
 begins_more b r (inr (run, more, e, is)) = inr (run, more ++ r, ap (λ l. l ++ r) e, is)
 
-pub head_long : (k : Kind) (d : Dimension) (h : List Lexeme) → Head k d h → 0 < length h
+pub head_long : (k : GeometryType) (d : Dimension) (h : List Lexeme) → Head k d h → 0 < length h
 head_long k d h (run, e, more, eh, is, ek, dp) = omega (arith, ap length eh)
 
 -- members of a collection, as a list
-geometries_to : {N : Type 0} (read : List ℕ → Option N) (xs : List (Value N)) (f : List Lexeme) → Listed (Geometry read true) f xs → Geometries read true f (values_of xs)
+geometries_to : {N : Type 0} (read : List ℕ → Option N) (xs : List (Value N)) (f : List Lexeme) → Listed (Geometry read true) f xs → Geometries read true f (members_of xs)
 geometries_to read [] f w = w
 geometries_to {N} read (x ∷ xs) f (body, e, (a, b, e2, g, m)) = (a, b, e ∙ ap (λ l. Open ∷ (l ++ Close ∷ [])) e2, g, further xs b m)
   where
-    further : (xs : List (Value N)) (f : List Lexeme) → More (Geometry read true) f xs → Further read true f (values_of xs)
+    further : (xs : List (Value N)) (f : List Lexeme) → More (Geometry read true) f xs → Further read true f (members_of xs)
     further [] f w = w
     further (x ∷ xs) f (a, b, e, g, m) = (a, b, e, g, further xs b m)
 
-further_from : {N : Type 0} (read : List ℕ → Option N) (vs : Values N) (f : List Lexeme) → Further read true f vs → (xs : List (Value N)) × (vs ≡ values_of xs) × More (Geometry read true) f xs
+further_from : {N : Type 0} (read : List ℕ → Option N) (vs : Values N) (f : List Lexeme) → Further read true f vs → (xs : List (Value N)) × (vs ≡ members_of xs) × More (Geometry read true) f xs
 further_from read Values.no_values f w = ([], refl, w)
 further_from read (Values.more_values v vs) f (a, b, e, g, m) = let (xs, e2, n) = further_from read vs b m in (v ∷ xs, ap (λ l. Values.more_values v l) e2, (a, b, e, g, n))
 
-geometries_from : {N : Type 0} (read : List ℕ → Option N) (vs : Values N) (f : List Lexeme) → Geometries read true f vs → (xs : List (Value N)) × (vs ≡ values_of xs) × Listed (Geometry read true) f xs
+geometries_from : {N : Type 0} (read : List ℕ → Option N) (vs : Values N) (f : List Lexeme) → Geometries read true f vs → (xs : List (Value N)) × (vs ≡ members_of xs) × Listed (Geometry read true) f xs
 geometries_from read Values.no_values f w = ([], refl, w)
 geometries_from read (Values.more_values v vs) f (a, b, e, g, m) = let (xs, e2, n) = further_from read vs b m in (v ∷ xs, ap (λ l. Values.more_values v l) e2, (a ++ b, e, (a, b, refl, g, n)))
 
@@ -70,11 +72,11 @@ module _ {N : Type 0} (read : List ℕ → Option N) where
   told_dimension (Close ∷ rest) = ([], refl, inl (refl, refl), refl)
   told_dimension (Comma ∷ rest) = ([], refl, inl (refl, refl), refl)
 
-  abbrev pub HeadPart : List Lexeme → Kind × Dimension → Type 0
+  abbrev pub HeadPart : List Lexeme → GeometryType × Dimension → Type 0
   HeadPart f k = Head k.0 k.1 f
 
   abbrev pub BegunHead : List Lexeme → Type 0
-  BegunHead f = (f ≡ []) ⊎ ((k : Kind) × (d : Dimension) × Head k d f)
+  BegunHead f = (f ≡ []) ⊎ ((k : GeometryType) × (d : Dimension) × Head k d f)
 
   -- a head that ends with its kind word
   word_head : (e : KindWord) (j : Option Dimension) (d : Dimension) (w : List ℕ) (h : List Lexeme) → kind_word w ≡ Some e → e.joined ≡ j → DimPart j d h → Head e.kind d (Word w ∷ h)
@@ -108,7 +110,7 @@ module _ {N : Type 0} (read : List ℕ → Option N) where
   dimension_follows s (inr (w, t, e, is)) =
       ap (dimension_at read) e ∙ ap (λ o. worded read o (is_empty_word w) w t) (empty_no_dim w is) ∙ ap (λ b. worded read None b w t) (is_empty w is) ∙ ap (λ l. Ok (XY, l)) (sym e)
 
-  joined_exact : (k : Kind) (j : Option Dimension) (d : Dimension) (h s : List Lexeme) → DimPart j d h → BeginsBody s → joined_or_f read k j (h ++ s) ≡ Ok ((k, d), s)
+  joined_exact : (k : GeometryType) (j : Option Dimension) (d : Dimension) (h s : List Lexeme) → DimPart j d h → BeginsBody s → joined_or_f read k j (h ++ s) ≡ Ok ((k, d), s)
   unfolding dimension_at
   joined_exact k (Some i) d h s (ed, eh) follows = ap (λ l. Ok ((k, i), l ++ s)) eh ∙ ap (λ d. Ok ((k, d), s)) (sym ed)
   joined_exact k None d h s (inl (ed, eh)) follows =
@@ -116,12 +118,12 @@ module _ {N : Type 0} (read : List ℕ → Option N) where
   joined_exact k None d h s (inr (z, eh, is)) follows =
       ap (λ l. joined_or_f read k None (l ++ s)) eh ∙ ap (λ o. mapped (λ d. (k, d)) (told (Word z ∷ s) (worded read o (is_empty_word z) z s))) is
 
-  pub head_exact : (k : Kind) (d : Dimension) (h s : List Lexeme) → Head k d h → BeginsBody s → head_f read (h ++ s) ≡ Ok ((k, d), s)
+  pub head_exact : (k : GeometryType) (d : Dimension) (h s : List Lexeme) → Head k d h → BeginsBody s → head_f read (h ++ s) ≡ Ok ((k, d), s)
   unfolding head_f
   head_exact k d h s (w, e, more, eh, is, ek, dp) follows =
       ap (λ l. head_f read (l ++ s)) eh ∙ ap (λ o. kinded_f read o (Word w ∷ (more ++ s)) (more ++ s)) is ∙ joined_exact e.kind e.joined d more s dp follows ∙ ap (λ k. Ok ((k, d), s)) ek
 
-  joined_reach : (k : Kind) (j : Option Dimension) (d : Dimension) (h c : List Lexeme) → DimPart j d h → reach (joined_or_f read k j (h ++ c)) ≤ length c
+  joined_reach : (k : GeometryType) (j : Option Dimension) (d : Dimension) (h c : List Lexeme) → DimPart j d h → reach (joined_or_f read k j (h ++ c)) ≤ length c
   unfolding dimension_at
   joined_reach k (Some i) d h c (ed, eh) = omega (arith, ap (λ l. length (l ++ c)) eh)
   joined_reach k None d h c (inl (ed, eh)) =
@@ -130,7 +132,7 @@ module _ {N : Type 0} (read : List ℕ → Option N) where
       let at : joined_or_f read k None (h ++ c) ≡ Ok ((k, d), c) = ap (λ l. joined_or_f read k None (l ++ c)) eh ∙ ap (λ o. mapped (λ d. (k, d)) (told (Word z ∷ c) (worded read o (is_empty_word z) z c))) is in
       omega (arith, ap reach at)
 
-  head_reach : (k : Kind) (d : Dimension) (h c : List Lexeme) → Head k d h → reach (head_f read (h ++ c)) ≤ length c
+  head_reach : (k : GeometryType) (d : Dimension) (h c : List Lexeme) → Head k d h → reach (head_f read (h ++ c)) ≤ length c
   unfolding head_f
   head_reach k d h c (w, e, more, eh, is, ek, dp) =
       let at : head_f read (h ++ c) ≡ joined_or_f read e.kind e.joined (more ++ c) = ap (λ l. head_f read (l ++ c)) eh ∙ ap (λ o. kinded_f read o (Word w ∷ (more ++ c)) (more ++ c)) is in
@@ -140,66 +142,66 @@ module _ {N : Type 0} (read : List ℕ → Option N) where
   abbrev pub Begun : List Lexeme → Type 0
   Begun = BegunGeometry read true
 
-  abbrev pub BodyPart : Kind → Dimension → List Lexeme → Value N → Type 0
+  abbrev pub BodyPart : GeometryType → Dimension → List Lexeme → Value N → Type 0
   BodyPart k d f v = BodyOf read true f v × (kind_of v ≡ k) × (dim_of v ≡ d)
 
-  abbrev pub From : {A : Type 0} → Kind → Dimension → (List Lexeme → A → Type 0) → (A → Value N) → Type 0
+  abbrev pub From : {A : Type 0} → GeometryType → Dimension → (List Lexeme → A → Type 0) → (A → Value N) → Type 0
   From {A} k d W m = (f : List Lexeme) (v : Value N) → BodyPart k d f v → (a : A) × (v ≡ m a) × W f a
 
-  from_point : (d : Dimension) → From PointKind d (Perhaps (Coord read d)) (λ c. Value.point d c)
+  from_point : (d : Dimension) → From kind.Point d (Perhaps (Coord read d)) (λ c. Value.point d c)
   from_point d f (Value.point e c) (w, k, ed) = (c, ap (λ d. Value.point d c) ed, subst (λ d. Perhaps (Coord read d) f c) ed w)
   from_point d f v (w, k, ed) = let no : ⊥ = cc in absurd no
 
-  from_line : (d : Dimension) → From LineStringKind d (Ring read d) (λ c. Value.line_string d c)
+  from_line : (d : Dimension) → From kind.LineString d (Ring read d) (λ c. Value.line_string d c)
   from_line d f (Value.line_string e c) (w, k, ed) = (c, ap (λ d. Value.line_string d c) ed, subst (λ d. Ring read d f c) ed w)
   from_line d f v (w, k, ed) = let no : ⊥ = cc in absurd no
 
-  from_polygon : (d : Dimension) → From PolygonKind d (Poly read d) (λ c. Value.polygon d c)
+  from_polygon : (d : Dimension) → From kind.Polygon d (Poly read d) (λ c. Value.polygon d c)
   from_polygon d f (Value.polygon e c) (w, k, ed) = (c, ap (λ d. Value.polygon d c) ed, subst (λ d. Poly read d f c) ed w)
   from_polygon d f v (w, k, ed) = let no : ⊥ = cc in absurd no
 
-  from_points : (d : Dimension) → From MultiPointKind d (Listed (Member read true d)) (λ c. Value.multi_point d c)
+  from_points : (d : Dimension) → From kind.MultiPoint d (Listed (Member read true d)) (λ c. Value.multi_point d c)
   from_points d f (Value.multi_point e c) (w, k, ed) = (c, ap (λ d. Value.multi_point d c) ed, subst (λ d. Listed (Member read true d) f c) ed w)
   from_points d f v (w, k, ed) = let no : ⊥ = cc in absurd no
 
-  from_lines : (d : Dimension) → From MultiLineStringKind d (Poly read d) (λ c. Value.multi_line_string d c)
+  from_lines : (d : Dimension) → From kind.MultiLineString d (Poly read d) (λ c. Value.multi_line_string d c)
   from_lines d f (Value.multi_line_string e c) (w, k, ed) = (c, ap (λ d. Value.multi_line_string d c) ed, subst (λ d. Poly read d f c) ed w)
   from_lines d f v (w, k, ed) = let no : ⊥ = cc in absurd no
 
-  from_polygons : (d : Dimension) → From MultiPolygonKind d (Listed (Poly read d)) (λ c. Value.multi_polygon d c)
+  from_polygons : (d : Dimension) → From kind.MultiPolygon d (Listed (Poly read d)) (λ c. Value.multi_polygon d c)
   from_polygons d f (Value.multi_polygon e c) (w, k, ed) = (c, ap (λ d. Value.multi_polygon d c) ed, subst (λ d. Listed (Poly read d) f c) ed w)
   from_polygons d f v (w, k, ed) = let no : ⊥ = cc in absurd no
 
-  from_members : (d : Dimension) → From CollectionKind d (Listed (Geometry read true)) (λ vs. Value.collection d (values_of vs))
+  from_members : (d : Dimension) → From kind.GeometryCollection d (Listed (Geometry read true)) (λ vs. Value.collection d (members_of vs))
   from_members d f (Value.collection e vs) (w, k, ed) = let (xs, e2, m) = geometries_from read vs f w in (xs, ap (λ d. Value.collection d vs) ed ∙ ap (λ vs. Value.collection d vs) e2, m)
   from_members d f v (w, k, ed) = let no : ⊥ = cc in absurd no
 
   module _ (n : ℕ) (value : Part (Geometry read true) Begun Anything (value_at read n) (value_f read n) n) where
-    body_part : (k : Kind) (d : Dimension) → Part (BodyPart k d) (BegunBody read true Begun k d) Anything (body_at read (value_at read n) n k d) (body_f read (value_f read n) n k d) n
-    body_part PointKind d =
+    body_part : (k : GeometryType) (d : Dimension) → Part (BodyPart k d) (BegunBody read true Begun k d) Anything (body_at read (value_at read n) n k d) (body_f read (value_f read n) n k d) n
+    body_part kind.Point d =
         map_part (Perhaps (Coord read d)) (BegunPerhaps (Coord read d) (BegunCoord read true d)) Anything (point_at read d) (framed_f None (inside_f read d)) n
-        (BodyPart PointKind d) (λ c. Value.point d c) (λ f c w. (w, refl, refl)) (from_point d)
+        (BodyPart kind.Point d) (λ c. Value.point d c) (λ f c w. (w, refl, refl)) (from_point d)
         (perhaps_part (Coord read d) (BegunCoord read true d) _ _ n (coord_part read d n))
-    body_part LineStringKind d =
+    body_part kind.LineString d =
         map_part (Ring read d) (BegunRing read true d) Anything (line_at read d n) (line_f read d n) n
-        (BodyPart LineStringKind d) (λ c. Value.line_string d c) (λ f c w. (w, refl, refl)) (from_line d) (line_part read d n)
-    body_part PolygonKind d =
+        (BodyPart kind.LineString d) (λ c. Value.line_string d c) (λ f c w. (w, refl, refl)) (from_line d) (line_part read d n)
+    body_part kind.Polygon d =
         map_part (Poly read d) (BegunPoly read true d) Anything (lines_at read d n) (lines_f read d n) n
-        (BodyPart PolygonKind d) (λ c. Value.polygon d c) (λ f c w. (w, refl, refl)) (from_polygon d) (lines_part read d n)
-    body_part MultiPointKind d =
+        (BodyPart kind.Polygon d) (λ c. Value.polygon d c) (λ f c w. (w, refl, refl)) (from_polygon d) (lines_part read d n)
+    body_part kind.MultiPoint d =
         map_part (Listed (Member read true d)) (BegunListed (Member read true d) (BegunMember read true d)) Anything (points_at read d n) (points_f read d n) n
-        (BodyPart MultiPointKind d) (λ c. Value.multi_point d c) (λ f c w. (w, refl, refl)) (from_points d)
+        (BodyPart kind.MultiPoint d) (λ c. Value.multi_point d c) (λ f c w. (w, refl, refl)) (from_points d)
         (listed_part (Member read true d) (BegunMember read true d) (member_at read d) (member_f read d) n (member_part read d n))
-    body_part MultiLineStringKind d =
+    body_part kind.MultiLineString d =
         map_part (Poly read d) (BegunPoly read true d) Anything (lines_at read d n) (lines_f read d n) n
-        (BodyPart MultiLineStringKind d) (λ c. Value.multi_line_string d c) (λ f c w. (w, refl, refl)) (from_lines d) (lines_part read d n)
-    body_part MultiPolygonKind d =
+        (BodyPart kind.MultiLineString d) (λ c. Value.multi_line_string d c) (λ f c w. (w, refl, refl)) (from_lines d) (lines_part read d n)
+    body_part kind.MultiPolygon d =
         map_part (Listed (Poly read d)) (BegunListed (Poly read d) (BegunPoly read true d)) Anything (polygons_at read d n) (polygons_f read d n) n
-        (BodyPart MultiPolygonKind d) (λ c. Value.multi_polygon d c) (λ f c w. (w, refl, refl)) (from_polygons d)
+        (BodyPart kind.MultiPolygon d) (λ c. Value.multi_polygon d c) (λ f c w. (w, refl, refl)) (from_polygons d)
         (listed_part (Poly read d) (BegunPoly read true d) (lines_at read d n) (lines_f read d n) n (lines_part read d n))
-    body_part CollectionKind d =
+    body_part kind.GeometryCollection d =
         map_part (Listed (Geometry read true)) (BegunListed (Geometry read true) Begun) Anything (members_at read (value_at read n) n) (framed_f [] (many_f (value_f read n) n)) n
-        (BodyPart CollectionKind d) (λ vs. Value.collection d (values_of vs)) (λ f xs w. (geometries_to read xs f w, refl, refl)) (from_members d)
+        (BodyPart kind.GeometryCollection d) (λ vs. Value.collection d (members_of vs)) (λ f xs w. (geometries_to read xs f w, refl, refl)) (from_members d)
         (listed_part (Geometry read true) Begun (value_at read n) (value_f read n) n value)
 
   geometry_of : (v : Value N) (f : List Lexeme) → Headed (kind_of v) (dim_of v) (λ b. BodyOf read true b v) f → Geometry read true f v
@@ -211,7 +213,7 @@ module _ {N : Type 0} (read : List ℕ → Option N) where
   geometry_of (Value.multi_polygon d c) f p = p
   geometry_of (Value.collection d c) f p = p
 
-  behind_head : (k : Kind) (d : Dimension) (g h : List Lexeme) (v : Value N) → Head k d g → BodyPart k d h v → Geometry read true (g ++ h) v
+  behind_head : (k : GeometryType) (d : Dimension) (g h : List Lexeme) (v : Value N) → Head k d g → BodyPart k d h v → Geometry read true (g ++ h) v
   behind_head k d g h v head (body, ek, ed) =
       geometry_of v (g ++ h) (g, h, refl, subst (λ k. Head k (dim_of v) g) (sym ek) (subst (λ d. Head k d g) (sym ed) head), body)
 
@@ -227,27 +229,27 @@ module _ {N : Type 0} (read : List ℕ → Option N) where
   listed_up n b (inr (inr (inl (k, e, inr (xs, a, c, e2, m, next))))) = inr (inr (inl (k, e, inr (xs, a, c, e2, m, next_up n c next))))
   listed_up n b (inr (inr (inr w))) = inr (inr (inr w))
 
-  body_up : (n : ℕ) (k : Kind) (d : Dimension) (b : List Lexeme) → BegunBody read true (BegunAt read true n) k d b → BegunBody read true Begun k d b
-  body_up n PointKind d b h = h
-  body_up n LineStringKind d b h = h
-  body_up n PolygonKind d b h = h
-  body_up n MultiPointKind d b h = h
-  body_up n MultiLineStringKind d b h = h
-  body_up n MultiPolygonKind d b h = h
-  body_up n CollectionKind d b h = listed_up n b h
+  body_up : (n : ℕ) (k : GeometryType) (d : Dimension) (b : List Lexeme) → BegunBody read true (BegunAt read true n) k d b → BegunBody read true Begun k d b
+  body_up n kind.Point d b h = h
+  body_up n kind.LineString d b h = h
+  body_up n kind.Polygon d b h = h
+  body_up n kind.MultiPoint d b h = h
+  body_up n kind.MultiLineString d b h = h
+  body_up n kind.MultiPolygon d b h = h
+  body_up n kind.GeometryCollection d b h = listed_up n b h
 
-  body_at_depth : (k : Kind) (d : Dimension) (b : List Lexeme) → BegunBody read true Begun k d b → (n : ℕ) × BegunBody read true (BegunAt read true n) k d b
-  body_at_depth PointKind d b h = (0, h)
-  body_at_depth LineStringKind d b h = (0, h)
-  body_at_depth PolygonKind d b h = (0, h)
-  body_at_depth MultiPointKind d b h = (0, h)
-  body_at_depth MultiLineStringKind d b h = (0, h)
-  body_at_depth MultiPolygonKind d b h = (0, h)
-  body_at_depth CollectionKind d b h = begun_listed_at read true (Geometry read true) (BegunAt read true) b h
+  body_at_depth : (k : GeometryType) (d : Dimension) (b : List Lexeme) → BegunBody read true Begun k d b → (n : ℕ) × BegunBody read true (BegunAt read true n) k d b
+  body_at_depth kind.Point d b h = (0, h)
+  body_at_depth kind.LineString d b h = (0, h)
+  body_at_depth kind.Polygon d b h = (0, h)
+  body_at_depth kind.MultiPoint d b h = (0, h)
+  body_at_depth kind.MultiLineString d b h = (0, h)
+  body_at_depth kind.MultiPolygon d b h = (0, h)
+  body_at_depth kind.GeometryCollection d b h = begun_listed_at read true (Geometry read true) (BegunAt read true) b h
 
   -- nothing, or a head and what is begun behind it
   abbrev pub BegunHeaded : List Lexeme → Type 0
-  BegunHeaded ls = (ls ≡ []) ⊎ ((k : Kind) × (d : Dimension) × (h : List Lexeme) × (b : List Lexeme) × (ls ≡ h ++ b) × Head k d h × BegunBody read true Begun k d b)
+  BegunHeaded ls = (ls ≡ []) ⊎ ((k : GeometryType) × (d : Dimension) × (h : List Lexeme) × (b : List Lexeme) × (ls ≡ h ++ b) × Head k d h × BegunBody read true Begun k d b)
 
   open_begun : (ls : List Lexeme) → Begun ls → BegunHeaded ls
   open_begun ls (zero, h) = absurd h
@@ -270,14 +272,14 @@ module _ {N : Type 0} (read : List ℕ → Option N) where
   listed_follows Whole B b (inr (inr (inl (k, e, h)))) = inr (inl (k, e))
   listed_follows Whole B b (inr (inr (inr (k, e, h)))) = inr (inl (k ++ (Close ∷ []), e))
 
-  body_follows : (k : Kind) (d : Dimension) (b : List Lexeme) → BegunBody read true Begun k d b → (b ≡ []) ⊎ BeginsBody b
-  body_follows PointKind d b h = listed_follows _ _ b h
-  body_follows LineStringKind d b h = listed_follows _ _ b h
-  body_follows PolygonKind d b h = listed_follows _ _ b h
-  body_follows MultiPointKind d b h = listed_follows _ _ b h
-  body_follows MultiLineStringKind d b h = listed_follows _ _ b h
-  body_follows MultiPolygonKind d b h = listed_follows _ _ b h
-  body_follows CollectionKind d b h = listed_follows _ _ b h
+  body_follows : (k : GeometryType) (d : Dimension) (b : List Lexeme) → BegunBody read true Begun k d b → (b ≡ []) ⊎ BeginsBody b
+  body_follows kind.Point d b h = listed_follows _ _ b h
+  body_follows kind.LineString d b h = listed_follows _ _ b h
+  body_follows kind.Polygon d b h = listed_follows _ _ b h
+  body_follows kind.MultiPoint d b h = listed_follows _ _ b h
+  body_follows kind.MultiLineString d b h = listed_follows _ _ b h
+  body_follows kind.MultiPolygon d b h = listed_follows _ _ b h
+  body_follows kind.GeometryCollection d b h = listed_follows _ _ b h
 
   module _ (n : ℕ) (value : Part (Geometry read true) Begun Anything (value_at read n) (value_f read n) n) where
     headed_told : (ls : List Lexeme) → length ls ≤ suc n → Told (Geometry read true) Begun ls (andthen (head_f read ls) (λ h. body_f read (value_f read n) n h.0.0 h.0.1 h.1))
@@ -297,7 +299,7 @@ module _ {N : Type 0} (read : List ℕ → Option N) where
         ∙ ap (λ t. andthen t (λ h. body_f read (value_f read n) n h.0.0 h.0.1 h.1)) (head_exact (kind_of v) (dim_of v) h (b ++ r) head (begins_more b r (body_begins read true b v body)))
         ∙ (body_part n value (kind_of v) (dim_of v)).exact v b r (body, refl, refl) tt (omega (arith, le, ap length e2, length-append h (b ++ r)))
 
-    nothing_reach : (k : Kind) (d : Dimension) (ls : List Lexeme) → length ls ≤ n → reach (body_f read (value_f read n) n k d ls) ≤ length ls
+    nothing_reach : (k : GeometryType) (d : Dimension) (ls : List Lexeme) → length ls ≤ n → reach (body_f read (value_f read n) n k d ls) ≤ length ls
     nothing_reach k d ls le = told_reach (BodyPart k d) (BegunBody read true Begun k d) ls (body_f read (value_f read n) n k d ls) ((body_part n value k d).told ls le)
 
     headed_reach : (b c : List Lexeme) → BegunHeaded b → length (b ++ c) ≤ suc n → reach (andthen (head_f read (b ++ c)) (λ h. body_f read (value_f read n) n h.0.0 h.0.1 h.1)) ≤ length c

@@ -4,9 +4,10 @@ use Rattle.wkt_num.specs.Bytes.{Lexeme, Open, Close, Comma, Word, Num}
 use Rattle.wkt_access.specs.declared.Dimension.{Dimension}
 use Rattle.wkt_access.specs.declared.Dimension.TheVariants.{XY, XYZ, XYM, XYZM}
 use Rattle.wkt_access.specs.Values.{size, Value}
-use Rattle.wkt_read.specs.Kinds.{Kind, PointKind, LineStringKind, PolygonKind, MultiPointKind, MultiLineStringKind, MultiPolygonKind, CollectionKind}
+use Rattle.wkt_types.specs.declared.geometry_type.GeometryType.{GeometryType}
+use Rattle.wkt_types.specs.declared.geometry_type.GeometryType.TheVariants as kind
 use Rattle.wkt_read.specs.Grammar.{KindWord, kind_word}
-use Rattle.wkt_read.specs.Reading.{Reading, ◌>>=◌, with_front, left_by, is_empty_word, values_of, opening_at, closing_at, closed, framed, tail_at, many_at, number_at, coord_at, dimension_at, joined_or_at, kinded, head_at, inside_at, line_at, lines_at, member_at, body_at, value_at}
+use Rattle.wkt_read.specs.Reading.{Reading, ◌>>=◌, with_front, left_by, is_empty_word, members_of, opening_at, closing_at, closed, framed, tail_at, many_at, number_at, coord_at, dimension_at, joined_or_at, kinded, head_at, inside_at, line_at, lines_at, member_at, body_at, value_at}
 
 abbrev pub Telling : Type 0 → Type 0
 Telling A = Result (A × List Lexeme) (List Lexeme × List Lexeme)
@@ -62,15 +63,15 @@ module _ {N : Type 0} (read : List ℕ → Option N) where
   abbrev pub coord_f : Dimension → List Lexeme → Telling (List N)
   coord_f d = numbers_f (size d) (λ xs. xs)
 
-  abbrev pub joined_or_f : Kind → Option Dimension → List Lexeme → Telling (Kind × Dimension)
+  abbrev pub joined_or_f : GeometryType → Option Dimension → List Lexeme → Telling (GeometryType × Dimension)
   joined_or_f k (Some d) rest = Ok ((k, d), rest)
   joined_or_f k None rest = andthen (tell (dimension_at read) rest) (λ d. Ok ((k, d.0), d.1))
 
-  abbrev pub kinded_f : Option KindWord → List Lexeme → List Lexeme → Telling (Kind × Dimension)
+  abbrev pub kinded_f : Option KindWord → List Lexeme → List Lexeme → Telling (GeometryType × Dimension)
   kinded_f None ls rest = Err (ls, rest)
   kinded_f (Some e) ls rest = joined_or_f e.kind e.joined rest
 
-  unfoldable pub head_f : List Lexeme → Telling (Kind × Dimension)
+  unfoldable pub head_f : List Lexeme → Telling (GeometryType × Dimension)
   head_f [] = Err ([], [])
   head_f (Word w ∷ rest) = kinded_f (kind_word w) (Word w ∷ rest) rest
   head_f (Open ∷ rest) = Err (Open ∷ rest, rest)
@@ -101,14 +102,14 @@ module _ {N : Type 0} (read : List ℕ → Option N) where
   abbrev pub points_f : Dimension → ℕ → List Lexeme → Telling (List (Option (List N)))
   points_f d n = framed_f [] (many_f (member_f d) n)
 
-  abbrev pub body_f : (List Lexeme → Telling (Value N)) → ℕ → Kind → Dimension → List Lexeme → Telling (Value N)
-  body_f value n PointKind d ls = mapped (λ c. Value.point d c) (framed_f None (inside_f d) ls)
-  body_f value n LineStringKind d ls = mapped (λ c. Value.line_string d c) (line_f d n ls)
-  body_f value n PolygonKind d ls = mapped (λ c. Value.polygon d c) (lines_f d n ls)
-  body_f value n MultiPointKind d ls = mapped (λ c. Value.multi_point d c) (points_f d n ls)
-  body_f value n MultiLineStringKind d ls = mapped (λ c. Value.multi_line_string d c) (lines_f d n ls)
-  body_f value n MultiPolygonKind d ls = mapped (λ c. Value.multi_polygon d c) (polygons_f d n ls)
-  body_f value n CollectionKind d ls = mapped (λ vs. Value.collection d (values_of vs)) (framed_f [] (many_f value n) ls)
+  abbrev pub body_f : (List Lexeme → Telling (Value N)) → ℕ → GeometryType → Dimension → List Lexeme → Telling (Value N)
+  body_f value n kind.Point d ls = mapped (λ c. Value.point d c) (framed_f None (inside_f d) ls)
+  body_f value n kind.LineString d ls = mapped (λ c. Value.line_string d c) (line_f d n ls)
+  body_f value n kind.Polygon d ls = mapped (λ c. Value.polygon d c) (lines_f d n ls)
+  body_f value n kind.MultiPoint d ls = mapped (λ c. Value.multi_point d c) (points_f d n ls)
+  body_f value n kind.MultiLineString d ls = mapped (λ c. Value.multi_line_string d c) (lines_f d n ls)
+  body_f value n kind.MultiPolygon d ls = mapped (λ c. Value.multi_polygon d c) (polygons_f d n ls)
+  body_f value n kind.GeometryCollection d ls = mapped (λ vs. Value.collection d (members_of vs)) (framed_f [] (many_f value n) ls)
 
   unfoldable pub value_f : ℕ → List Lexeme → Telling (Value N)
   value_f zero ls = Err ([], ls)
@@ -174,7 +175,7 @@ module _ {N : Type 0} (read : List ℕ → Option N) where
   plain_coord XYM ls = plain_then (tell (number_at read) ls) _ _ _ (plain_number ls) (λ x. plain_then (tell (number_at read) x.1) _ _ _ (plain_number x.1) (λ y. plain_then (tell (number_at read) y.1) _ _ _ (plain_number y.1) (λ z. refl)))
   plain_coord XYZM ls = plain_then (tell (number_at read) ls) _ _ _ (plain_number ls) (λ x. plain_then (tell (number_at read) x.1) _ _ _ (plain_number x.1) (λ y. plain_then (tell (number_at read) y.1) _ _ _ (plain_number y.1) (λ z. plain_then (tell (number_at read) z.1) _ _ _ (plain_number z.1) (λ m. refl))))
 
-  plain_joined : (k : Kind) (j : Option Dimension) (rest : List Lexeme) → plain (joined_or_f read k j rest) ≡ joined_or_at read k j rest
+  plain_joined : (k : GeometryType) (j : Option Dimension) (rest : List Lexeme) → plain (joined_or_f read k j rest) ≡ joined_or_at read k j rest
   plain_joined k (Some d) rest = refl
   plain_joined k None rest = plain_then (tell (dimension_at read) rest) _ _ _ (plain_told rest (dimension_at read rest)) (λ d. refl)
 

@@ -1,12 +1,13 @@
 -- What the readers do, as functions on lists of lexemes: a value and the lexemes after it, or the lexemes that a refusal leaves.
 -- These are private words: only private contracts cite them.
-use Rattle.std.specs.Prelude.{◌≡◌, ℕ, suc, zero, List, [], ◌∷◌, ◌++◌, Option, Some, None, Result, Ok, Err, Bool, true, false, codes, if◌then◌else◌}
+use Rattle.std.specs.Prelude.{◌≡◌, ◌≢◌, ℕ, suc, zero, List, [], ◌∷◌, ◌++◌, Option, Some, None, Result, Ok, Err, Bool, true, false, codes, if◌then◌else◌}
 use Rattle.std.specs.Str.{str_to_ascii_uppercase, bytes_eq}
 use Rattle.wkt_num.specs.Bytes.{Lexeme, Open, Close, Comma, Word, Num}
 use Rattle.wkt_access.specs.declared.Dimension.{Dimension}
 use Rattle.wkt_access.specs.declared.Dimension.TheVariants.{XY, XYZ, XYM, XYZM}
 use Rattle.wkt_access.specs.Values.{Value, Values}
-use Rattle.wkt_read.specs.Kinds.{Kind, PointKind, LineStringKind, PolygonKind, MultiPointKind, MultiLineStringKind, MultiPolygonKind, CollectionKind}
+use Rattle.wkt_types.specs.declared.geometry_type.GeometryType.{GeometryType}
+use Rattle.wkt_types.specs.declared.geometry_type.GeometryType.TheVariants as kind
 use Rattle.wkt_read.specs.Grammar.{KindWord, kind_word, dim_word}
 
 -- What a reading gives: what was read and the lexemes behind it, or the lexemes that a refusal leaves.
@@ -39,9 +40,9 @@ unfoldable pub is_empty_word : List ℕ → Bool
 is_empty_word run = bytes_eq (str_to_ascii_uppercase run) (codes "EMPTY")
 
 -- The values of a list, as the members of a collection.
-abbrev pub values_of : {N : Type 0} → List (Value N) → Values N
-values_of [] = Values.no_values
-values_of (v ∷ vs) = Values.more_values v (values_of vs)
+abbrev pub members_of : {N : Type 0} → List (Value N) → Values N
+members_of [] = Values.no_values
+members_of (v ∷ vs) = Values.more_values v (members_of vs)
 
 -- The opening place takes one lexeme: true for `(`, false for the word EMPTY.
 unfoldable pub opening_at : List Lexeme → Reading Bool
@@ -51,6 +52,10 @@ opening_at (Word run ∷ rest) = if is_empty_word run then Ok (false, rest) else
 opening_at (Close ∷ rest) = Err rest
 opening_at (Comma ∷ rest) = Err rest
 opening_at (Num run ∷ rest) = Err rest
+
+-- The opening place is a parenthesis.
+abbrev pub IsOpened : List Lexeme → Type 0
+IsOpened lexemes = (rest : List Lexeme) × (opening_at lexemes ≡ Ok (true, rest))
 
 -- The closing place takes one lexeme, `)`.
 unfoldable pub closing_at : List Lexeme → Reading (Unit {0})
@@ -145,17 +150,17 @@ module _ {N : Type 0} (read : List ℕ → Option N) where
   dimension_at (Comma ∷ rest) = Ok (XY, Comma ∷ rest)
 
   -- The dimension that is joined to the kind word, or the one behind it.
-  abbrev pub joined_or_at : Kind → Option Dimension → List Lexeme → Reading (Kind × Dimension)
+  abbrev pub joined_or_at : GeometryType → Option Dimension → List Lexeme → Reading (GeometryType × Dimension)
   joined_or_at k (Some d) rest = Ok ((k, d), rest)
   joined_or_at k None rest = dimension_at rest >>= λ d. Ok ((k, d.0), d.1)
 
   -- What stands behind a word: nothing is read behind one that is no kind word.
-  abbrev pub kinded : Option KindWord → List Lexeme → Reading (Kind × Dimension)
+  abbrev pub kinded : Option KindWord → List Lexeme → Reading (GeometryType × Dimension)
   kinded None rest = Err rest
   kinded (Some e) rest = joined_or_at e.kind e.joined rest
 
   -- The head of a geometry.
-  unfoldable pub head_at : List Lexeme → Reading (Kind × Dimension)
+  unfoldable pub head_at : List Lexeme → Reading (GeometryType × Dimension)
   head_at [] = Err []
   head_at (Word run ∷ rest) = kinded (kind_word run) rest
   head_at (Open ∷ rest) = Err rest
@@ -201,16 +206,20 @@ module _ {N : Type 0} (read : List ℕ → Option N) where
   members_at value fuel = framed [] (many_at value fuel)
 
   -- What stands behind a head, by its kind.
-  abbrev pub body_at : (List Lexeme → Reading (Value N)) → ℕ → Kind → Dimension → List Lexeme → Reading (Value N)
-  body_at value fuel PointKind d lexemes = point_at d lexemes >>= λ p. Ok (Value.point d p.0, p.1)
-  body_at value fuel LineStringKind d lexemes = line_at d fuel lexemes >>= λ p. Ok (Value.line_string d p.0, p.1)
-  body_at value fuel PolygonKind d lexemes = lines_at d fuel lexemes >>= λ p. Ok (Value.polygon d p.0, p.1)
-  body_at value fuel MultiPointKind d lexemes = points_at d fuel lexemes >>= λ p. Ok (Value.multi_point d p.0, p.1)
-  body_at value fuel MultiLineStringKind d lexemes = lines_at d fuel lexemes >>= λ p. Ok (Value.multi_line_string d p.0, p.1)
-  body_at value fuel MultiPolygonKind d lexemes = polygons_at d fuel lexemes >>= λ p. Ok (Value.multi_polygon d p.0, p.1)
-  body_at value fuel CollectionKind d lexemes = members_at value fuel lexemes >>= λ p. Ok (Value.collection d (values_of p.0), p.1)
+  abbrev pub body_at : (List Lexeme → Reading (Value N)) → ℕ → GeometryType → Dimension → List Lexeme → Reading (Value N)
+  body_at value fuel kind.Point d lexemes = point_at d lexemes >>= λ p. Ok (Value.point d p.0, p.1)
+  body_at value fuel kind.LineString d lexemes = line_at d fuel lexemes >>= λ p. Ok (Value.line_string d p.0, p.1)
+  body_at value fuel kind.Polygon d lexemes = lines_at d fuel lexemes >>= λ p. Ok (Value.polygon d p.0, p.1)
+  body_at value fuel kind.MultiPoint d lexemes = points_at d fuel lexemes >>= λ p. Ok (Value.multi_point d p.0, p.1)
+  body_at value fuel kind.MultiLineString d lexemes = lines_at d fuel lexemes >>= λ p. Ok (Value.multi_line_string d p.0, p.1)
+  body_at value fuel kind.MultiPolygon d lexemes = polygons_at d fuel lexemes >>= λ p. Ok (Value.multi_polygon d p.0, p.1)
+  body_at value fuel kind.GeometryCollection d lexemes = members_at value fuel lexemes >>= λ p. Ok (Value.collection d (members_of p.0), p.1)
 
   -- A geometry; `fuel` is at least the count of lexemes.
   unfoldable pub value_at : ℕ → List Lexeme → Reading (Value N)
   value_at zero lexemes = Err lexemes
   value_at (suc fuel) lexemes = head_at lexemes >>= λ h. body_at (value_at fuel) fuel h.0.0 h.0.1 h.1
+
+  -- Behind the head of a kind other than Point stands a parenthesis.
+  abbrev pub HasMembers : List Lexeme → Type 0
+  HasMembers lexemes = (k : GeometryType) × (d : Dimension) × (rest : List Lexeme) × (head_at lexemes ≡ Ok ((k, d), rest)) × (k ≢ kind.Point) × IsOpened rest
