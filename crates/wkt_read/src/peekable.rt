@@ -25,6 +25,7 @@ impl<'a, T: WktNum> PeekableTokens<'a, T> {
     ghost use Rattle.wkt_read.specs.Stream.{coming, bytes_taken, end_of_last};
     ghost use Rattle.wkt_read.specs.Items.{IsItem};
     ghost use Rattle.wkt_read.specs.Ahead.{left, taken_of, end_of, rest, first_of, Moves};
+    ghost use Rattle.wkt_read.specs.Blames.{BlamesRaw};
     ghost use Rattle.wkt_read.specs.Walks.{Takes, IsFirst, BeginsWithoutComma, GoesOn, IsNear};
 
     /// The lexemes that the stream has still to give; none is looked at yet.
@@ -81,6 +82,7 @@ impl<'a, T: WktNum> PeekableTokens<'a, T> {
         ensures goes_on { GoesOn self.old self.new }
         ensures near { OnSome (found result) (IsNear self.new) }
         ensures takes { Takes (found result) (rest self.old) (rest self.new) }
+        ensures bad { BlamesRaw T.read self.old result }
     {
         self.step()
     }
