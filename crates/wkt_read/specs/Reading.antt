@@ -1,5 +1,4 @@
--- What the readers do, as functions on lists of lexemes: a value and the lexemes after it, or the lexemes that a refusal leaves.
--- These are private words: only private contracts cite them.
+-- What the readers do, as functions on lists of lexemes: a value and the lexemes after it, or the lexemes that a refusal leaves. Only private contracts cite this file.
 use Rattle.std.specs.Prelude.{◌≡◌, ◌≢◌, ℕ, suc, zero, List, [], ◌∷◌, ◌++◌, Option, Some, None, Result, Ok, Err, Bool, true, false, codes, if◌then◌else◌}
 use Rattle.std.specs.Str.{str_to_ascii_uppercase, bytes_eq}
 use Rattle.wkt_num.specs.Bytes.{Lexeme, Open, Close, Comma, Word, Num}
