@@ -1,6 +1,6 @@
 use Rattle.std.proofs.Common.{◌∙◌, sym, arith, ap, codes}
 use Rattle.wkt_read.specs.Head.{begins}
-use Rattle.wkt_read.proofs.Places.{head_step, head_paren, head_empty, head_none, empty_ascii, is_test, not_test, rest_text}
+use Rattle.wkt_read.proofs.HeadPlaces.{head_step, head_paren, head_empty, head_none, empty_ascii, is_test, not_test, rest_text}
 use Rattle.wkt_read.proofs.infer.head_length.Goals as goal
 
 pub returns-then-text-i-eq40 : goal.returns-then-text-i-eq40

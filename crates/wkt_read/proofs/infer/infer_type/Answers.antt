@@ -2,7 +2,7 @@ use Rattle.std.proofs.Common.{◌≡◌, ◌∙◌, sym, ap, subst, take}
 use Rattle.wkt_read.specs.Head.{head_rule, head_of, cut_answer}
 use Rattle.wkt_read.specs.HeadSteps.{head_answer}
 use Rattle.wkt_read.specs.Infer.{Infers}
-use Rattle.wkt_read.proofs.Places.{range_take}
+use Rattle.wkt_read.proofs.HeadPlaces.{range_take}
 use Rattle.wkt_read.proofs.infer.infer_type.Goals as goal
 
 pub returns-in-None : goal.returns-in-None
