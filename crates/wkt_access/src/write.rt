@@ -1,11 +1,4 @@
 //! The eleven writers. Each checks the whole shape first, so that nothing is written of one that is refused.
-//!
-//! The text is that of OGC Simple Features as the crate `wkt` writes it: the kind word in capitals,
-//! ` Z`, ` M`, ` ZM` or nothing, and ` EMPTY` or the items in parentheses. Numbers have one space
-//! between them, and items a comma.
-//!
-//! A header's dimension says how many numbers of each coordinate are printed. `Unknown(2)`,
-//! `Unknown(3)` and `Unknown(4)` count as XY, XYZ and XYZM.
 #![tactic(auto)]
 
 ghost use Rattle.wkt_access.specs.Shapes.{Shape};
@@ -107,6 +100,12 @@ pub fn write_multi_polygon<W: TextSink, M: MultiPolygonTrait>(f: &mut W, g: &M) 
 }
 
 /// Writes a geometry of any kind.
+///
+/// The text is that of OGC Simple Features as the crate `wkt` writes it: the kind word in capitals,
+/// ` Z`, ` M`, ` ZM` or nothing, and ` EMPTY` or the items in parentheses. Numbers have one space
+/// between them, and items a comma. The header's dimension says how many numbers of each coordinate
+/// are printed: `Unknown(2)`, `Unknown(3)` and `Unknown(4)` count as XY, XYZ and XYZM. No writer
+/// takes memory or copies a part.
 ///
 /// Members of a collection have headers of their own: `GEOMETRYCOLLECTION(POINT Z(1 2 3),LINESTRING EMPTY)`.
 ///
