@@ -1,10 +1,7 @@
 -- The words that the code compares are those of the grammar.
 use Rattle.std.proofs.Common.{◌≡◌, ℕ, List, [], ◌∷◌, map, refl, sym, ap, ◌∙◌, subst, Bool, true, false, cond, Option, Some, None, codes, arith}
 use Rattle.std.specs.Str.{str_eq_ignore_ascii_case, str_to_ascii_uppercase, str_to_ascii_lowercase, bytes_eq}
-<<<<<<< HEAD
-=======
 use Rattle.std.specs.Bool.{Decides}
->>>>>>> tokens
 use Rattle.std.specs.Char.{to_ascii_uppercase, to_ascii_lowercase}
 use Rattle.std.proofs.lemmas.Slice.Eq.{bytes_eq-Decides}
 use Rattle.std.proofs.lemmas.Str.Ascii.{lowercase-uppercase}
@@ -13,11 +10,7 @@ use Rattle.wkt_access.specs.declared.Dimension.{Dimension}
 use Rattle.wkt_types.specs.declared.geometry_type.GeometryType.{GeometryType}
 use Rattle.wkt_read.specs.Grammar.{KindWord, kind_words, kind_word, dim_word}
 use Rattle.wkt_read.specs.Reading.{is_empty_word}
-<<<<<<< HEAD
-use Rattle.wkt_read.specs.Words.{kind_meant, Names, kind_chain, dim_chain}
-=======
 use Rattle.wkt_read.specs.Words.{Names, kind_chain, dim_chain}
->>>>>>> tokens
 
 lowers : (bs : List ℕ) → str_to_ascii_lowercase (str_to_ascii_uppercase bs) ≡ str_to_ascii_lowercase bs
 lowers [] = refl
@@ -36,11 +29,7 @@ ignore-case run word capitals =
     same_from_decides _ _ (bytes_eq-Decides (str_to_ascii_lowercase run) (str_to_ascii_lowercase word))
     (Decides-like _ (λ e. sym (lowers run) ∙ ap str_to_ascii_lowercase e) (λ e. sym (uppers run) ∙ ap str_to_ascii_uppercase e ∙ uppers word ∙ capitals) (bytes_eq-Decides (str_to_ascii_uppercase run) word))
 
-<<<<<<< HEAD
-names-step : (run word : List ℕ) → str_to_ascii_uppercase word ≡ word → (x : GeometryType × Option Dimension) (e : KindWord) (r : Option (GeometryType × Option Dimension)) (s : Option KindWord) → e.kind ≡ kind_meant x.0 → e.joined ≡ x.1 → Names r s → Names (cond (str_eq_ignore_ascii_case run word) (Some x) r) (cond (bytes_eq (str_to_ascii_uppercase run) word) (Some e) s)
-=======
 names-step : (run word : List ℕ) → str_to_ascii_uppercase word ≡ word → (x : GeometryType × Option Dimension) (e : KindWord) (r : Option (GeometryType × Option Dimension)) (s : Option KindWord) → e.kind ≡ x.0 → e.joined ≡ x.1 → Names r s → Names (cond (str_eq_ignore_ascii_case run word) (Some x) r) (cond (bytes_eq (str_to_ascii_uppercase run) word) (Some e) s)
->>>>>>> tokens
 names-step run word capitals x e r s h k n =
     subst (λ b. Names (cond (str_eq_ignore_ascii_case run word) (Some x) r) (cond b (Some e) s)) (ignore-case run word capitals) (go (str_eq_ignore_ascii_case run word))
   where
@@ -86,12 +75,6 @@ pub dim-word : (run : List ℕ) → dim_chain run ≡ dim_word run
 unfolding dim_chain dim_word
 dim-word run = rw (ignore-case run (codes "Z") refl, ignore-case run (codes "M") refl, ignore-case run (codes "ZM") refl) refl
 
-<<<<<<< HEAD
-pub empty-word : (run : List ℕ) → str_eq_ignore_ascii_case run (codes "EMPTY") ≡ is_empty_word run
-unfolding is_empty_word
-empty-word run = ignore-case run (codes "EMPTY") refl
-=======
 pub empty-word : (run : List ℕ) (r : Bool) → Decides r (str_to_ascii_lowercase run ≡ str_to_ascii_lowercase (codes "EMPTY")) → r ≡ is_empty_word run
 unfolding is_empty_word
 empty-word run r d = same_from_decides r _ d (Decides-like _ (λ e. sym (lowers run) ∙ ap str_to_ascii_lowercase e) (λ e. sym (uppers run) ∙ ap str_to_ascii_uppercase e) (bytes_eq-Decides (str_to_ascii_uppercase run) (codes "EMPTY")))
->>>>>>> tokens

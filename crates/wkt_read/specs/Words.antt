@@ -5,32 +5,12 @@ use Rattle.wkt_access.specs.declared.Dimension.{Dimension}
 use Rattle.wkt_access.specs.declared.Dimension.TheVariants.{XYZ, XYM, XYZM}
 use Rattle.wkt_types.specs.declared.geometry_type.GeometryType.{GeometryType}
 use Rattle.wkt_types.specs.declared.geometry_type.GeometryType.TheVariants.{Point, LineString, Polygon, MultiPoint, MultiLineString, MultiPolygon, GeometryCollection}
-<<<<<<< HEAD
-use Rattle.wkt_read.specs.Kinds.{Kind, PointKind, LineStringKind, PolygonKind, MultiPointKind, MultiLineStringKind, MultiPolygonKind, CollectionKind}
-use Rattle.wkt_read.specs.Grammar.{KindWord}
-
--- the kind that the code's word means
-abbrev pub kind_meant : GeometryType → Kind
-kind_meant Point = PointKind
-kind_meant LineString = LineStringKind
-kind_meant Polygon = PolygonKind
-kind_meant MultiPoint = MultiPointKind
-kind_meant MultiLineString = MultiLineStringKind
-kind_meant MultiPolygon = MultiPolygonKind
-kind_meant GeometryCollection = CollectionKind
-
--- what was found of a word is what it says as a kind word
-abbrev pub Names : Option (GeometryType × Option Dimension) → Option KindWord → Type 0
-Names None e = e ≡ None
-Names (Some p) e = (k : KindWord) × (e ≡ Some k) × (k.kind ≡ kind_meant p.0) × (k.joined ≡ p.1)
-=======
 use Rattle.wkt_read.specs.Grammar.{KindWord}
 
 -- what was found of a word is what it says as a kind word
 abbrev pub Names : Option (GeometryType × Option Dimension) → Option KindWord → Type 0
 Names None e = e ≡ None
 Names (Some p) e = (k : KindWord) × (e ≡ Some k) × (k.kind ≡ p.0) × (k.joined ≡ p.1)
->>>>>>> tokens
 
 -- the words, tried one after the other
 unfoldable pub kind_chain : List ℕ → Option (GeometryType × Option Dimension)

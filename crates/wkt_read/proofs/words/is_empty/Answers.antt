@@ -1,13 +1,5 @@
-<<<<<<< HEAD
-use Rattle.std.proofs.Common.{◌∙◌}
-=======
->>>>>>> tokens
 use Rattle.wkt_read.proofs.Spelling.{empty-word}
 use Rattle.wkt_read.proofs.words.is_empty.Goals as goal
 
 pub returns : goal.returns
-<<<<<<< HEAD
-returns c = c.eq_ignore_ascii_case.ensures ∙ empty-word c.args.word.now
-=======
 returns c = empty-word c.args.word.now _ c.eq_ignore_ascii_case.ensures.test
->>>>>>> tokens
