@@ -10,7 +10,7 @@ use Rattle.wkt_read.specs.declared.fault.Fault.TheVariants.{Text, Memory}
 use Rattle.wkt_read.specs.declared.fault.Message.{Message}
 use Rattle.wkt_read.specs.declared.peekable.PeekableTokens.{PeekableTokens}
 use Rattle.wkt_read.specs.Placed.{Placed, lexemes_of}
-use Rattle.wkt_read.specs.Walks.{IsBehind}
+use Rattle.wkt_read.specs.Ahead.{IsBehind}
 use Rattle.wkt_read.specs.Reading.{Reading, closing_at, left_by}
 use Rattle.wkt_read.specs.Faults.{OnBad, OnBadIn}
 use Rattle.wkt_read.specs.Bad.{HasBad}
