@@ -12,7 +12,8 @@ use Rattle.wkt_read.specs.declared.fault.Message.TheVariants as message
 use Rattle.wkt_read.specs.Faults.{OnBad}
 use Rattle.wkt_read.specs.declared.peekable.PeekableTokens.{PeekableTokens}
 use Rattle.wkt_read.specs.Ahead.{left, end_of, taken_of, rest, Moves}
-use Rattle.wkt_read.specs.Walks.{IfLast, IsBehind, GoesOn, IsNear, Takes}
+use Rattle.wkt_read.specs.Walks.{GoesOn, Takes}
+use Rattle.wkt_read.specs.Ahead.{IfLast, IsBehind, IsNear}
 
 last-push : (given : List Placed) (x : Placed) → IfLast (given ++ x ∷ []) x.end
 last-push [] x = refl

@@ -1,5 +1,5 @@
 -- What a stream that was looked at ahead has still to give.
-use Rattle.std.specs.Prelude.{◌≡◌, ℕ, ◌+◌, ◌≤◌, ◌∷◌, [], List, length, Option, Some, None, Result}
+use Rattle.std.specs.Prelude.{◌≡◌, ℕ, ◌+◌, ◌≤◌, ◌∷◌, ◌++◌, [], List, length, Option, Some, None, Result}
 use Rattle.std.specs.Iterator.{Count, at_most}
 use Rattle.std.specs.Borrow.{Bor}
 use Rattle.std.specs.Option.{option_copied}
@@ -62,3 +62,20 @@ first_of (x ∷ xs) = Some x.lexeme
 abbrev pub Peeks : {T : Type 0} → (List ℕ → Option T) → PeekableTokens T → PeekableTokens T → Option (Bor (Result (Token T) (Bor (List ℕ)))) → Type 0
 Peeks read s t r =
     (left t ≡ left s) × (end_of t ≡ end_of s) × (taken_of s ≤ taken_of t) × IsItem read (first_of (left s)) (option_copied r)
+
+-- the last of the lexemes ends here, if there is one
+abbrev pub IfLast : List Placed → ℕ → Type 0
+IfLast [] end = Unit {0}
+IfLast (x ∷ []) end = x.end ≡ end
+IfLast (x ∷ y ∷ xs) end = IfLast (y ∷ xs) end
+
+-- The stream is at a place behind some of the lexemes.
+pub record IsBehind {T : Type 0} (start : List Placed) (p : PeekableTokens T) : Type 0 where
+  pub given : List Placed
+  pub split : start ≡ given ++ left p
+  pub last : IfLast given (end_of p)
+
+-- No byte was taken past the last lexeme given, but for one.
+pub record IsNear {T : Type 0} (p : PeekableTokens T) : Type 0 where
+  pub low : end_of p ≤ taken_of p
+  pub high : taken_of p ≤ end_of p + 1

@@ -4,7 +4,7 @@ use Rattle.wkt_read.specs.declared.token.Raw.{Raw}
 use Rattle.wkt_read.specs.declared.token.Raw.TheVariants.{End, Comma, Close, Open, Word, Number}
 use Rattle.wkt_read.specs.declared.peekable.PeekableTokens.{PeekableTokens}
 use Rattle.wkt_read.specs.Placed.{Placed, lexemes_of}
-use Rattle.wkt_read.specs.Walks.{IsBehind}
+use Rattle.wkt_read.specs.Ahead.{IsBehind}
 use Rattle.wkt_read.specs.Bad.{HasBad}
 
 -- where the lexeme is a number that the number type refuses, it is one of those that the stream had

@@ -3,14 +3,14 @@ use Rattle.std.specs.Prelude.{◌≡◌, ◌++◌, ◌∷◌, ℕ, List, Option,
 use Rattle.wkt_num.specs.Bytes.{Lexeme}
 use Rattle.wkt_access.specs.Values.{Value}
 use Rattle.wkt_types.specs.Tree.{tree}
-use Rattle.wkt_types.specs.Values.{value_of}
+use Rattle.wkt_types.specs.Values.{value_of, IsUniform}
 use Rattle.wkt_types.specs.declared.geometry.Wkt.{Wkt}
 use Rattle.wkt_read.specs.declared.fault.Fault.{Fault}
 use Rattle.wkt_read.specs.declared.fault.Fault.TheVariants.{Text, Memory}
 use Rattle.wkt_read.specs.declared.fault.Message.{Message}
 use Rattle.wkt_read.specs.declared.peekable.PeekableTokens.{PeekableTokens}
 use Rattle.wkt_read.specs.Placed.{Placed, lexemes_of}
-use Rattle.wkt_read.specs.Walks.{IsBehind}
+use Rattle.wkt_read.specs.Ahead.{IsBehind}
 use Rattle.wkt_read.specs.Reading.{Reading, closing_at, left_by}
 use Rattle.wkt_read.specs.Faults.{OnBad, OnBadIn}
 use Rattle.wkt_read.specs.Bad.{HasBad}
@@ -44,3 +44,7 @@ BlamesIn read s r = (start : List Placed) → IsBehind start s → OnBadIn r (Ha
 -- the value of a geometry
 abbrev pub wkt_value : {T : Type 0} → Wkt T → Value T
 wkt_value w = value_of (tree w)
+
+-- all parts of a geometry carry its header's dimension, but the members of a collection each its own
+abbrev pub UniformWkt : {T : Type 0} → Wkt T → Type 0
+UniformWkt w = IsUniform (tree w)

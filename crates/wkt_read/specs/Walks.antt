@@ -1,8 +1,8 @@
 -- How readers go over the lexemes of a stream. Only private contracts cite this file.
-use Rattle.std.specs.Prelude.{◌≡◌, ℕ, ◌+◌, ◌≤◌, ◌∷◌, ◌++◌, [], List, Option, Some, None}
+use Rattle.std.specs.Prelude.{◌≡◌, ◌∷◌, [], List, Option, Some, None}
 use Rattle.wkt_num.specs.Bytes.{Lexeme, Open, Close, Comma, Word, Num}
-use Rattle.wkt_read.specs.Placed.{Placed, lexemes_of}
-use Rattle.wkt_read.specs.Ahead.{left, end_of, taken_of, rest}
+use Rattle.wkt_read.specs.Placed.{Placed}
+use Rattle.wkt_read.specs.Ahead.{IsBehind}
 use Rattle.wkt_read.specs.declared.peekable.PeekableTokens.{PeekableTokens}
 
 -- one lexeme is taken, if there is one
@@ -24,23 +24,6 @@ BeginsWithoutComma (Close ∷ later) = Unit {0}
 BeginsWithoutComma (Word run ∷ later) = Unit {0}
 BeginsWithoutComma (Num run ∷ later) = Unit {0}
 
--- the last of the lexemes ends here, if there is one
-abbrev pub IfLast : List Placed → ℕ → Type 0
-IfLast [] end = Unit {0}
-IfLast (x ∷ []) end = x.end ≡ end
-IfLast (x ∷ y ∷ xs) end = IfLast (y ∷ xs) end
-
--- The stream is at a place behind some of the lexemes.
-pub record IsBehind {T : Type 0} (start : List Placed) (p : PeekableTokens T) : Type 0 where
-  pub given : List Placed
-  pub split : start ≡ given ++ left p
-  pub last : IfLast given (end_of p)
-
 -- whatever s is behind, t is
 abbrev pub GoesOn : {T : Type 0} → PeekableTokens T → PeekableTokens T → Type 0
 GoesOn s t = (start : List Placed) → IsBehind start s → IsBehind start t
-
--- no byte was taken past the last lexeme given, but for one
-pub record IsNear {T : Type 0} (p : PeekableTokens T) : Type 0 where
-  pub low : end_of p ≤ taken_of p
-  pub high : taken_of p ≤ end_of p + 1

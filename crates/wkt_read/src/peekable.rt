@@ -26,7 +26,8 @@ impl<'a, T: WktNum> PeekableTokens<'a, T> {
     ghost use Rattle.wkt_read.specs.Items.{IsItem};
     ghost use Rattle.wkt_read.specs.Ahead.{left, taken_of, end_of, rest, first_of, Moves};
     ghost use Rattle.wkt_read.specs.Blames.{BlamesRaw};
-    ghost use Rattle.wkt_read.specs.Walks.{Takes, IsFirst, BeginsWithoutComma, GoesOn, IsNear};
+    ghost use Rattle.wkt_read.specs.Walks.{Takes, IsFirst, BeginsWithoutComma, GoesOn};
+    ghost use Rattle.wkt_read.specs.Ahead.{IsNear};
 
     /// The lexemes that the stream has still to give; none is looked at yet.
     pub fn new(tokens: Tokens<'a, T>) -> Self

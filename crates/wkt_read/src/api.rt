@@ -1,0 +1,114 @@
+//! Types that are read from well-known text.
+ghost use Rattle.std.specs.Prelude.{◌≡◌, ℕ, true, OnOk, IfOk};
+ghost use Rattle.std.specs.Result.{IsOk};
+ghost use Rattle.wkt_access.specs.Values.{Value};
+ghost use Rattle.wkt_types.specs.Tree.{Tree, tree};
+ghost use Rattle.wkt_read.specs.Items.{bad_number};
+ghost use Rattle.wkt_read.specs.Front.{Front, HasNoFront, NeedsNoMemory};
+ghost use Rattle.wkt_read.specs.Begun.{NoneBegins};
+ghost use Rattle.wkt_read.specs.Early.{StopsEarly};
+ghost use Rattle.wkt_read.specs.Bad.{HasBad};
+ghost use Rattle.wkt_read.specs.Ahead.{left, rest, IsBehind, IsNear};
+ghost use Rattle.wkt_read.specs.Answered.{IsFront, IsFrontTo, Begins, IsReadOff, HasBadNumber, OnText, OnMessage};
+
+use crate::error::ReadError;
+use crate::fault::{Fault, text};
+use crate::peekable::PeekableTokens;
+use crate::tokens::Tokens;
+use crate::value::value;
+use std::alloc::Global;
+use wkt_num::WktNum;
+use wkt_types::Wkt;
+
+fn read<T: WktNum>(alloc: Global, tokens: &mut PeekableTokens<'_, T>) -> Result<Wkt<T>, ReadError>
+    ensures found { IfOk result (λ w. IsReadOff T.read (rest tokens.old) (tree w) (rest tokens.new)) }
+    ensures refused { OnText result (NoneBegins T.read true (rest tokens.old)) }
+    ensures early { OnText result (StopsEarly T.read (rest tokens.old) (rest tokens.new)) }
+    ensures bad { OnMessage result bad_number (HasBad T.read (rest tokens.old)) }
+    ensures free { (v after : _) → Begins T.read (rest tokens.old) v after → NeedsNoMemory v → IsOk result }
+    ensures behind { IsBehind (left tokens.old) tokens.new }
+    ensures near { OnOk result (IsNear tokens.new) }
+{
+    match value(alloc, tokens, false) {
+        Ok(value) => Ok(value),
+        Err(Fault::Text(message)) => Err(ReadError::Text(text(message))),
+        Err(Fault::Memory(error)) => Err(ReadError::Memory(error)),
+    }
+}
+
+fn read_text<T: WktNum>(alloc: Global, text: &str) -> Result<(Wkt<T>, usize), ReadError>
+    ensures found { IfOk result (λ r. IsFrontTo T.read text.now (tree r.0) r.1) }
+    ensures refused { OnText result (HasNoFront T.read true text.now) }
+    ensures bad { OnMessage result bad_number (HasBadNumber T.read text.now) }
+    ensures free { (v end : _) → Front T.read true text.now v end → NeedsNoMemory v → IsOk result }
+{
+    let mut tokens = PeekableTokens::new(Tokens::from_str(text));
+    match read(alloc, &mut tokens) {
+        Ok(geometry) => Ok((geometry, tokens.end())),
+        Err(error) => Err(error),
+    }
+}
+
+/// A type that is read from well-known text.
+pub trait FromWktStr {
+    /// The type of its numbers.
+    type Num: WktNum;
+
+    /// What it holds.
+    ghost tree: { Self → Tree Self.Num };
+
+    /// The geometry at the front of the text; what follows it is not looked at.
+    ///
+    /// # Errors
+    /// `Text` where no beginning of the text is a geometry; `Memory` where there was none.
+    fn from_str(alloc: Global, text: &str) -> Result<Self, ReadError>
+        ensures found { IfOk result (λ w. IsFront Self.Num.read text.now (tree w)) }
+        ensures refused { OnText result (HasNoFront Self.Num.read true text.now) }
+        ensures bad { OnMessage result bad_number (HasBadNumber Self.Num.read text.now) }
+        ensures free { (v end : _) → Front Self.Num.read true text.now v end → NeedsNoMemory v → IsOk result };
+
+    /// The geometry at the front of the text, and where its last lexeme ends, in bytes.
+    ///
+    /// # Errors
+    /// As `from_str`.
+    fn read_front(alloc: Global, text: &str) -> Result<(Self, usize), ReadError>
+        ensures found { IfOk result (λ r. IsFrontTo Self.Num.read text.now (tree r.0) r.1) }
+        ensures refused { OnText result (HasNoFront Self.Num.read true text.now) }
+        ensures bad { OnMessage result bad_number (HasBadNumber Self.Num.read text.now) }
+        ensures free { (v end : _) → Front Self.Num.read true text.now v end → NeedsNoMemory v → IsOk result };
+
+    /// The geometry at the front of the lexemes, which are taken; those behind it are left.
+    ///
+    /// # Errors
+    /// `Text` where no beginning of the lexemes is a geometry; then no more of them are taken than it takes to see that.
+    /// `Memory` where there was none. Both leave the stream behind some of its lexemes.
+    fn read_tokens(alloc: Global, tokens: &mut PeekableTokens<'_, Self::Num>) -> Result<Self, ReadError>
+        ensures found { IfOk result (λ w. IsReadOff Self.Num.read (rest tokens.old) (tree w) (rest tokens.new)) }
+        ensures refused { OnText result (NoneBegins Self.Num.read true (rest tokens.old)) }
+        ensures early { OnText result (StopsEarly Self.Num.read (rest tokens.old) (rest tokens.new)) }
+        ensures bad { OnMessage result bad_number (HasBad Self.Num.read (rest tokens.old)) }
+        ensures free { (v after : _) → Begins Self.Num.read (rest tokens.old) v after → NeedsNoMemory v → IsOk result }
+        ensures behind { IsBehind (left tokens.old) tokens.new }
+        ensures near { OnOk result (IsNear tokens.new) };
+}
+
+impl<T: WktNum> FromWktStr for Wkt<T> {
+    type Num = T;
+
+    ghost tree = { tree };
+
+    fn from_str(alloc: Global, text: &str) -> Result<Self, ReadError> {
+        match read_text(alloc, text) {
+            Ok((geometry, _)) => Ok(geometry),
+            Err(error) => Err(error),
+        }
+    }
+
+    fn read_front(alloc: Global, text: &str) -> Result<(Self, usize), ReadError> {
+        read_text(alloc, text)
+    }
+
+    fn read_tokens(alloc: Global, tokens: &mut PeekableTokens<'_, T>) -> Result<Self, ReadError> {
+        read(alloc, tokens)
+    }
+}

@@ -1,0 +1,283 @@
+//! Readers of geometries with their heads.
+ghost use Rattle.std.specs.Prelude.{◌≡◌, ℕ, ◌≤◌, ◌<◌, length, map, option_map, OnOk, IfOk};
+ghost use Rattle.std.specs.List.{AllByRecursion};
+ghost use Rattle.wkt_access.specs.Values.{Value};
+ghost use Rattle.wkt_types.specs.Coords.{numbers_of};
+ghost use Rattle.wkt_types.specs.Values.{HasDim, HasDimIfAny, IsPointIn, IsLineIn, IsPolygonIn, point_numbers, line_numbers, polygon_numbers};
+ghost use Rattle.wkt_read.specs.Ahead.{rest};
+ghost use Rattle.wkt_read.specs.Walks.{GoesOn};
+ghost use Rattle.wkt_read.specs.Ahead.{IsNear};
+ghost use Rattle.wkt_read.specs.Reading.{Reads, dimension_at, head_at, many_at, members_at, members_of, body_at, value_at, IsOpened, HasMembers};
+ghost use Rattle.wkt_read.specs.Reads.{ReadsIn, Blames, BlamesIn, wkt_value, UniformWkt};
+ghost use Rattle.wkt_read.specs.Faults.{OnMemory};
+
+use crate::fault::{Fault, Message};
+use crate::lists::{line, lines, points, polygons};
+use crate::peekable::PeekableTokens;
+use crate::places::{close, opening, point};
+use crate::token::Raw;
+use crate::words::{dimension_of, is_empty, kind_of};
+use std::alloc::Global;
+use wkt_access::Dimension;
+use wkt_num::WktNum;
+use wkt_types::{Coord, GeometryCollection, GeometryType, LineString, MultiLineString, MultiPoint, MultiPolygon, Point, Polygon, Wkt};
+
+// The dimension behind a kind word alone.
+#[tactic(auto, unfolding(crate::specs::Reading::dimension_at))]
+fn dimension<T: WktNum>(tokens: &mut PeekableTokens<'_, T>) -> Result<Dimension, Message>
+    ensures exact { Reads (λ x. x) result (dimension_at T.read (rest tokens.old)) (rest tokens.new) }
+    ensures bad { Blames T.read tokens.old result }
+    ensures goes_on { GoesOn tokens.old tokens.new }
+    ensures fewer { length (rest tokens.new) ≤ length (rest tokens.old) }
+{
+    match tokens.look() {
+        Raw::Word(word) => match dimension_of(word) {
+            Some(dim) => {
+                let _ = tokens.take();
+                Ok(dim)
+            }
+            None => {
+                if is_empty(word) {
+                    Ok(Dimension::XY)
+                } else {
+                    Err(Message::Word)
+                }
+            }
+        },
+        Raw::Number(digits) if T::read_number(digits).is_none() => Err(Message::End),
+        Raw::End => Err(Message::End),
+        _ => Ok(Dimension::XY),
+    }
+}
+
+// The head of a geometry.
+#[tactic(auto, unfolding(crate::specs::Reading::head_at))]
+fn head<T: WktNum>(tokens: &mut PeekableTokens<'_, T>, inside: bool) -> Result<(GeometryType, Dimension), Message>
+    ensures exact { Reads (λ x. x) result (head_at T.read (rest tokens.old)) (rest tokens.new) }
+    ensures bad { Blames T.read tokens.old result }
+    ensures goes_on { GoesOn tokens.old tokens.new }
+    ensures fewer { length (rest tokens.new) ≤ length (rest tokens.old) }
+    ensures taken { OnOk result (length (rest tokens.new) < length (rest tokens.old)) }
+{
+    let word = match tokens.take() {
+        Raw::Word(word) => word,
+        Raw::Number(digits) if T::read_number(digits).is_none() => return Err(Message::BadNumber),
+        _ => return Err(if inside { Message::Member } else { Message::Format }),
+    };
+    match kind_of(word) {
+        Some((kind, Some(dim))) => Ok((kind, dim)),
+        Some((kind, None)) => {
+            let dim = dimension(tokens)?;
+            Ok((kind, dim))
+        }
+        None => Err(if inside || word.is_ascii() { Message::Kind } else { Message::NonAscii }),
+    }
+}
+
+fn point_of<T>(coord: Option<Coord<T>>, dim: Dimension) -> Wkt<T>
+    ensures value { wkt_value result ≡ Value.point dim (option_map numbers_of coord) }
+    ensures uniform { HasDimIfAny dim coord → UniformWkt result }
+{
+    Wkt::from(Point::new(coord, dim))
+}
+
+fn line_of<T>(coords: Vec<Coord<T>>, dim: Dimension) -> Wkt<T>
+    ensures value { wkt_value result ≡ Value.line_string dim (map numbers_of coords.items) }
+    ensures uniform { AllByRecursion (HasDim dim) coords.items → UniformWkt result }
+{
+    Wkt::from(LineString::new(coords, dim))
+}
+
+fn polygon_of<T>(rings: Vec<LineString<T>>, dim: Dimension) -> Wkt<T>
+    ensures value { wkt_value result ≡ Value.polygon dim (map line_numbers rings.items) }
+    ensures uniform { AllByRecursion (IsLineIn dim) rings.items → UniformWkt result }
+{
+    Wkt::from(Polygon::new(rings, dim))
+}
+
+fn points_of<T>(points: Vec<Point<T>>, dim: Dimension) -> Wkt<T>
+    ensures value { wkt_value result ≡ Value.multi_point dim (map point_numbers points.items) }
+    ensures uniform { AllByRecursion (IsPointIn dim) points.items → UniformWkt result }
+{
+    Wkt::from(MultiPoint::new(points, dim))
+}
+
+fn lines_of<T>(lines: Vec<LineString<T>>, dim: Dimension) -> Wkt<T>
+    ensures value { wkt_value result ≡ Value.multi_line_string dim (map line_numbers lines.items) }
+    ensures uniform { AllByRecursion (IsLineIn dim) lines.items → UniformWkt result }
+{
+    Wkt::from(MultiLineString::new(lines, dim))
+}
+
+fn polygons_of<T>(polygons: Vec<Polygon<T>>, dim: Dimension) -> Wkt<T>
+    ensures value { wkt_value result ≡ Value.multi_polygon dim (map polygon_numbers polygons.items) }
+    ensures uniform { AllByRecursion (IsPolygonIn dim) polygons.items → UniformWkt result }
+{
+    Wkt::from(MultiPolygon::new(polygons, dim))
+}
+
+fn collection_of<T>(geometries: Vec<Wkt<T>>, dim: Dimension) -> Wkt<T>
+    ensures value { wkt_value result ≡ Value.collection dim (members_of (map wkt_value geometries.items)) }
+    ensures uniform { AllByRecursion UniformWkt geometries.items → UniformWkt result }
+{
+    Wkt::from(GeometryCollection::new(geometries, dim))
+}
+
+#[inline(never)]
+fn read_point<T: WktNum>(tokens: &mut PeekableTokens<'_, T>, dim: Dimension) -> Result<Wkt<T>, Message>
+    ensures exact { (fuel : ℕ) → Reads wkt_value result (body_at T.read (value_at T.read fuel) fuel GeometryType.Point dim (rest tokens.old)) (rest tokens.new) }
+    ensures uniform { IfOk result UniformWkt }
+    ensures near { OnOk result (IsNear tokens.new) }
+    ensures bad { Blames T.read tokens.old result }
+    ensures goes_on { GoesOn tokens.old tokens.new }
+    ensures fewer { length (rest tokens.new) ≤ length (rest tokens.old) }
+{
+    let coord = point(tokens, dim)?;
+    Ok(point_of(coord, dim))
+}
+
+#[inline(never)]
+fn read_line_string<T: WktNum>(alloc: Global, tokens: &mut PeekableTokens<'_, T>, dim: Dimension) -> Result<Wkt<T>, Fault>
+    ensures exact { (fuel : ℕ) → length (rest tokens.old) ≤ fuel → ReadsIn wkt_value result (body_at T.read (value_at T.read fuel) fuel GeometryType.LineString dim (rest tokens.old)) (rest tokens.new) }
+    ensures uniform { IfOk result UniformWkt }
+    ensures memory { OnMemory result (IsOpened (rest tokens.old)) }
+    ensures near { OnOk result (IsNear tokens.new) }
+    ensures bad { BlamesIn T.read tokens.old result }
+    ensures goes_on { GoesOn tokens.old tokens.new }
+    ensures fewer { length (rest tokens.new) ≤ length (rest tokens.old) }
+{
+    let coords = line(alloc, tokens, dim)?;
+    Ok(line_of(coords, dim))
+}
+
+#[inline(never)]
+fn read_polygon<T: WktNum>(alloc: Global, tokens: &mut PeekableTokens<'_, T>, dim: Dimension) -> Result<Wkt<T>, Fault>
+    ensures exact { (fuel : ℕ) → length (rest tokens.old) ≤ fuel → ReadsIn wkt_value result (body_at T.read (value_at T.read fuel) fuel GeometryType.Polygon dim (rest tokens.old)) (rest tokens.new) }
+    ensures uniform { IfOk result UniformWkt }
+    ensures memory { OnMemory result (IsOpened (rest tokens.old)) }
+    ensures near { OnOk result (IsNear tokens.new) }
+    ensures bad { BlamesIn T.read tokens.old result }
+    ensures goes_on { GoesOn tokens.old tokens.new }
+    ensures fewer { length (rest tokens.new) ≤ length (rest tokens.old) }
+{
+    let rings = lines(alloc, tokens, dim)?;
+    Ok(polygon_of(rings, dim))
+}
+
+#[inline(never)]
+fn read_multi_point<T: WktNum>(alloc: Global, tokens: &mut PeekableTokens<'_, T>, dim: Dimension) -> Result<Wkt<T>, Fault>
+    ensures exact { (fuel : ℕ) → length (rest tokens.old) ≤ fuel → ReadsIn wkt_value result (body_at T.read (value_at T.read fuel) fuel GeometryType.MultiPoint dim (rest tokens.old)) (rest tokens.new) }
+    ensures uniform { IfOk result UniformWkt }
+    ensures memory { OnMemory result (IsOpened (rest tokens.old)) }
+    ensures near { OnOk result (IsNear tokens.new) }
+    ensures bad { BlamesIn T.read tokens.old result }
+    ensures goes_on { GoesOn tokens.old tokens.new }
+    ensures fewer { length (rest tokens.new) ≤ length (rest tokens.old) }
+{
+    let points = points(alloc, tokens, dim)?;
+    Ok(points_of(points, dim))
+}
+
+#[inline(never)]
+fn read_multi_line_string<T: WktNum>(alloc: Global, tokens: &mut PeekableTokens<'_, T>, dim: Dimension) -> Result<Wkt<T>, Fault>
+    ensures exact { (fuel : ℕ) → length (rest tokens.old) ≤ fuel → ReadsIn wkt_value result (body_at T.read (value_at T.read fuel) fuel GeometryType.MultiLineString dim (rest tokens.old)) (rest tokens.new) }
+    ensures uniform { IfOk result UniformWkt }
+    ensures memory { OnMemory result (IsOpened (rest tokens.old)) }
+    ensures near { OnOk result (IsNear tokens.new) }
+    ensures bad { BlamesIn T.read tokens.old result }
+    ensures goes_on { GoesOn tokens.old tokens.new }
+    ensures fewer { length (rest tokens.new) ≤ length (rest tokens.old) }
+{
+    let lines = lines(alloc, tokens, dim)?;
+    Ok(lines_of(lines, dim))
+}
+
+#[inline(never)]
+fn read_multi_polygon<T: WktNum>(alloc: Global, tokens: &mut PeekableTokens<'_, T>, dim: Dimension) -> Result<Wkt<T>, Fault>
+    ensures exact { (fuel : ℕ) → length (rest tokens.old) ≤ fuel → ReadsIn wkt_value result (body_at T.read (value_at T.read fuel) fuel GeometryType.MultiPolygon dim (rest tokens.old)) (rest tokens.new) }
+    ensures uniform { IfOk result UniformWkt }
+    ensures memory { OnMemory result (IsOpened (rest tokens.old)) }
+    ensures near { OnOk result (IsNear tokens.new) }
+    ensures bad { BlamesIn T.read tokens.old result }
+    ensures goes_on { GoesOn tokens.old tokens.new }
+    ensures fewer { length (rest tokens.new) ≤ length (rest tokens.old) }
+{
+    let polygons = polygons(alloc, tokens, dim)?;
+    Ok(polygons_of(polygons, dim))
+}
+
+// The geometries of a collection.
+#[cycle(value)]
+fn geometries<T: WktNum>(alloc: Global, tokens: &mut PeekableTokens<'_, T>) -> Result<Vec<Wkt<T>>, Fault>
+    ensures exact { (fuel : ℕ) → length (rest tokens.old) ≤ fuel → ReadsIn (λ v. map wkt_value v.items) result (many_at (value_at T.read fuel) fuel (rest tokens.old)) (rest tokens.new) }
+    ensures uniform { IfOk result (λ v. AllByRecursion UniformWkt v.items) }
+    ensures bad { BlamesIn T.read tokens.old result }
+    ensures goes_on { GoesOn tokens.old tokens.new }
+    ensures fewer { length (rest tokens.new) ≤ length (rest tokens.old) }
+{
+    let mut items = Vec::new(alloc);
+    let first = value(alloc, tokens, true)?;
+    items.push(first)?;
+    'more: while tokens.take_comma() {
+        let next = value(alloc, tokens, true)?;
+        items.push(next)?;
+    }
+    Ok(items)
+}
+
+// What stands behind the head of a collection.
+#[cycle(value)]
+fn members<T: WktNum>(alloc: Global, tokens: &mut PeekableTokens<'_, T>) -> Result<Vec<Wkt<T>>, Fault>
+    ensures exact { (fuel : ℕ) → length (rest tokens.old) ≤ fuel → ReadsIn (λ v. map wkt_value v.items) result (members_at T.read (value_at T.read fuel) fuel (rest tokens.old)) (rest tokens.new) }
+    ensures uniform { IfOk result (λ v. AllByRecursion UniformWkt v.items) }
+    ensures memory { OnMemory result (IsOpened (rest tokens.old)) }
+    ensures near { OnOk result (IsNear tokens.new) }
+    ensures bad { BlamesIn T.read tokens.old result }
+    ensures goes_on { GoesOn tokens.old tokens.new }
+    ensures fewer { length (rest tokens.new) ≤ length (rest tokens.old) }
+{
+    let paren = opening(tokens)?;
+    if !paren {
+        return Ok(Vec::new(alloc));
+    }
+    let body = geometries(alloc, tokens);
+    close(tokens, body)
+}
+
+#[inline(never)]
+#[cycle(value)]
+fn read_collection<T: WktNum>(alloc: Global, tokens: &mut PeekableTokens<'_, T>, dim: Dimension) -> Result<Wkt<T>, Fault>
+    ensures exact { (fuel : ℕ) → length (rest tokens.old) ≤ fuel → ReadsIn wkt_value result (body_at T.read (value_at T.read fuel) fuel GeometryType.GeometryCollection dim (rest tokens.old)) (rest tokens.new) }
+    ensures uniform { IfOk result UniformWkt }
+    ensures memory { OnMemory result (IsOpened (rest tokens.old)) }
+    ensures near { OnOk result (IsNear tokens.new) }
+    ensures bad { BlamesIn T.read tokens.old result }
+    ensures goes_on { GoesOn tokens.old tokens.new }
+    ensures fewer { length (rest tokens.new) ≤ length (rest tokens.old) }
+{
+    let geometries = members(alloc, tokens)?;
+    Ok(collection_of(geometries, dim))
+}
+
+/// A geometry with its head; `inside` says that it is a member of a collection.
+#[cycle(value)]
+pub(crate) fn value<T: WktNum>(alloc: Global, tokens: &mut PeekableTokens<'_, T>, inside: bool) -> Result<Wkt<T>, Fault>
+    ensures exact { (fuel : ℕ) → length (rest tokens.old) ≤ fuel → ReadsIn wkt_value result (value_at T.read fuel (rest tokens.old)) (rest tokens.new) }
+    ensures uniform { IfOk result UniformWkt }
+    ensures memory { OnMemory result (HasMembers T.read (rest tokens.old)) }
+    ensures near { OnOk result (IsNear tokens.new) }
+    ensures bad { BlamesIn T.read tokens.old result }
+    ensures goes_on { GoesOn tokens.old tokens.new }
+    ensures fewer { length (rest tokens.new) ≤ length (rest tokens.old) }
+{
+    let (kind, dim) = head(tokens, inside)?;
+    match kind {
+        GeometryType::Point => Ok(read_point(tokens, dim)?),
+        GeometryType::LineString => read_line_string(alloc, tokens, dim),
+        GeometryType::Polygon => read_polygon(alloc, tokens, dim),
+        GeometryType::MultiPoint => read_multi_point(alloc, tokens, dim),
+        GeometryType::MultiLineString => read_multi_line_string(alloc, tokens, dim),
+        GeometryType::MultiPolygon => read_multi_polygon(alloc, tokens, dim),
+        GeometryType::GeometryCollection => read_collection(alloc, tokens, dim),
+    }
+}
