@@ -65,8 +65,8 @@ module _ {N : Type 0} (read : List ℕ → Option N) where
   numbers_reach (x ∷ xs) zero k b c m le = absurd (omega (arith, le))
   numbers_reach (x ∷ xs) (suc n) k b c (run, more, e, is, m) le =
       let e2 : numbers_f read (suc n) k (b ++ c) ≡ numbers_f read n (λ xs. k (x ∷ xs)) (more ++ c) =
-          ap (λ l. numbers_f read (suc n) k (l ++ c)) e
-          ∙ ap (λ o. andthen (told (Num run ∷ (more ++ c)) (number_in read o (more ++ c))) (λ x. numbers_f read n (λ xs. k (x.0 ∷ xs)) x.1)) is in
+      ap (λ l. numbers_f read (suc n) k (l ++ c)) e
+      ∙ ap (λ o. andthen (told (Num run ∷ (more ++ c)) (number_in read o (more ++ c))) (λ x. numbers_f read n (λ xs. k (x.0 ∷ xs)) x.1)) is in
       subst (λ t. reach t ≤ length c) (sym e2) (numbers_reach xs n (λ xs. k (x ∷ xs)) more c m (omega (arith, le)))
 
   coord_cut : (d : Dimension) (a b : List Lexeme) → BegunCoord read true d (a ++ b) → BegunCoord read true d a

@@ -53,7 +53,7 @@ module _ {N : Type 0} (read : List ℕ → Option N) where
       let same : k ≡ kind_of v = ap (λ (q : (GeometryType × Dimension) × List Lexeme). q.0.0) p in
       let rest : r ≡ b ++ left = ap (λ (q : (GeometryType × Dimension) × List Lexeme). q.1) p in
       elim (small_empty v b small body) [
-        inl point ↦ other (same ∙ point)
+        | inl point ↦ other (same ∙ point)
         | inr em ↦ empty_shut b left em (subst IsOpened rest opened)
       ]
 

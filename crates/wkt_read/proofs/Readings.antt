@@ -313,7 +313,7 @@ module _ {N : Type 0} (read : List ℕ → Option N) where
         let short2 : length c ≤ n = omega (arith, short, length-append s c) in
         subst (λ l. reach (andthen (head_f read l) (λ h. body_f read (value_f read n) n h.0.0 h.0.1 h.1)) ≤ length c) (sym e2)
         (elim (body_follows k d s body) [
-          inl nil ↦ subst (λ l. reach (andthen (head_f read (h ++ (l ++ c))) (λ h. body_f read (value_f read n) n h.0.0 h.0.1 h.1)) ≤ length c) (sym nil)
+          | inl nil ↦ subst (λ l. reach (andthen (head_f read (h ++ (l ++ c))) (λ h. body_f read (value_f read n) n h.0.0 h.0.1 h.1)) ≤ length c) (sym nil)
               (reach_then (length c) (head_f read (h ++ c)) (λ h. body_f read (value_f read n) n h.0.0 h.0.1 h.1) (head_reach k d h c head) (λ p le. nothing_reach p.0.0 p.0.1 p.1 (omega (arith, le, short2))))
           | inr follows ↦ subst (λ t. reach (andthen t (λ h. body_f read (value_f read n) n h.0.0 h.0.1 h.1)) ≤ length c) (sym (head_exact k d h (s ++ c) head (begins_more s c follows)))
               ((body_part n value k d).reaches s c body short)
