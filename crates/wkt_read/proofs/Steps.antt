@@ -111,7 +111,9 @@ module _ (text : List ℕ) (at : ℕ) (utf8 : IsUtf8 text) (inside : at < length
       let step : front at (drop at text) ≡ ([], coming_at text (meant c) (at + 1)) = ap (front at) next ∙ front-mark (meant c) b at (drop (at + 1) text) e (no-run c h) ∙ rw add-one refl in
       let order = so_far.order in
       record {
-        order = order; taken = omega arith; near = omega arith;
+        order = order;
+        taken = omega arith;
+        near = omega arith;
         run = so_far.run ∙ ap (λ p. slice_range text from at ++ p.0) step ∙ simp append-nil;
         later = so_far.later ∙ ap (λ p. p.1) step;
         until = IsCharBoundary-before_ascii text at inside low;
@@ -124,7 +126,9 @@ ends-text text from at end so_far =
     let none : drop at text ≡ [] = ap (λ n. drop n text) end ∙ drop-length text in
     let order = so_far.order in
     record {
-      order = order; taken = omega arith; near = omega arith;
+      order = order;
+      taken = omega arith;
+      near = omega arith;
       run = so_far.run ∙ ap (λ l. slice_range text from at ++ (front at l).0) none ∙ simp append-nil;
       later = so_far.later ∙ ap (λ l. (front at l).1) none;
       until = subst (IsCharBoundary text) (sym end) (IsCharBoundary-end text);

@@ -82,7 +82,10 @@ pub trait FromWktStr {
     /// # Errors
     /// `Text` where no beginning of the lexemes is a geometry; then no more of them are taken than it takes to see that.
     /// `Memory` where there was none. Both leave the stream behind some of its lexemes.
-    fn read_tokens(alloc: Global, tokens: &mut PeekableTokens<'_, Self::Num>) -> Result<Self, ReadError>
+    fn read_tokens(
+        alloc: Global,
+        tokens: &mut PeekableTokens<'_, Self::Num>,
+    ) -> Result<Self, ReadError>
         ensures found { IfOk result (λ w. IsReadOff Self.Num.read (rest tokens.old) (tree w) (rest tokens.new)) }
         ensures refused { OnText result (NoneBegins Self.Num.read true (rest tokens.old)) }
         ensures early { OnText result (StopsEarly Self.Num.read (rest tokens.old) (rest tokens.new)) }

@@ -21,7 +21,11 @@ use wkt_num::WktNum;
 use wkt_types::{Coord, LineString, Point, Polygon};
 
 // The coordinates of a line.
-fn coords<T: WktNum>(alloc: Global, tokens: &mut PeekableTokens<'_, T>, dim: Dimension) -> Result<Vec<Coord<T>>, Fault>
+fn coords<T: WktNum>(
+    alloc: Global,
+    tokens: &mut PeekableTokens<'_, T>,
+    dim: Dimension,
+) -> Result<Vec<Coord<T>>, Fault>
     ensures exact { (fuel : ℕ) → length (rest tokens.old) ≤ fuel → ReadsIn (λ v. map numbers_of v.items) result (many_at (coord_at T.read dim) fuel (rest tokens.old)) (rest tokens.new) }
     ensures uniform { IfOk result (λ v. AllByRecursion (HasDim dim) v.items) }
     ensures bad { BlamesIn T.read tokens.old result }
@@ -40,7 +44,11 @@ fn coords<T: WktNum>(alloc: Global, tokens: &mut PeekableTokens<'_, T>, dim: Dim
 
 /// A line: what stands behind the head of a line.
 #[inline(never)]
-pub(crate) fn line<T: WktNum>(alloc: Global, tokens: &mut PeekableTokens<'_, T>, dim: Dimension) -> Result<Vec<Coord<T>>, Fault>
+pub(crate) fn line<T: WktNum>(
+    alloc: Global,
+    tokens: &mut PeekableTokens<'_, T>,
+    dim: Dimension,
+) -> Result<Vec<Coord<T>>, Fault>
     ensures exact { (fuel : ℕ) → length (rest tokens.old) ≤ fuel → ReadsIn (λ v. map numbers_of v.items) result (line_at T.read dim fuel (rest tokens.old)) (rest tokens.new) }
     ensures uniform { IfOk result (λ v. AllByRecursion (HasDim dim) v.items) }
     ensures memory { OnMemory result (IsOpened (rest tokens.old)) }
@@ -58,7 +66,11 @@ pub(crate) fn line<T: WktNum>(alloc: Global, tokens: &mut PeekableTokens<'_, T>,
 }
 
 // A line inside another kind.
-fn line_string<T: WktNum>(alloc: Global, tokens: &mut PeekableTokens<'_, T>, dim: Dimension) -> Result<LineString<T>, Fault>
+fn line_string<T: WktNum>(
+    alloc: Global,
+    tokens: &mut PeekableTokens<'_, T>,
+    dim: Dimension,
+) -> Result<LineString<T>, Fault>
     ensures exact { (fuel : ℕ) → length (rest tokens.old) ≤ fuel → ReadsIn line_numbers result (line_at T.read dim fuel (rest tokens.old)) (rest tokens.new) }
     ensures uniform { IfOk result (IsLineIn dim) }
     ensures bad { BlamesIn T.read tokens.old result }
@@ -70,7 +82,11 @@ fn line_string<T: WktNum>(alloc: Global, tokens: &mut PeekableTokens<'_, T>, dim
 }
 
 // The lines of a list.
-fn rings<T: WktNum>(alloc: Global, tokens: &mut PeekableTokens<'_, T>, dim: Dimension) -> Result<Vec<LineString<T>>, Fault>
+fn rings<T: WktNum>(
+    alloc: Global,
+    tokens: &mut PeekableTokens<'_, T>,
+    dim: Dimension,
+) -> Result<Vec<LineString<T>>, Fault>
     ensures exact { (fuel : ℕ) → length (rest tokens.old) ≤ fuel → ReadsIn (λ v. map line_numbers v.items) result (many_at (line_at T.read dim fuel) fuel (rest tokens.old)) (rest tokens.new) }
     ensures uniform { IfOk result (λ v. AllByRecursion (IsLineIn dim) v.items) }
     ensures bad { BlamesIn T.read tokens.old result }
@@ -89,7 +105,11 @@ fn rings<T: WktNum>(alloc: Global, tokens: &mut PeekableTokens<'_, T>, dim: Dime
 
 /// Lines: what stands behind the head of a polygon or of a multi line.
 #[inline(never)]
-pub(crate) fn lines<T: WktNum>(alloc: Global, tokens: &mut PeekableTokens<'_, T>, dim: Dimension) -> Result<Vec<LineString<T>>, Fault>
+pub(crate) fn lines<T: WktNum>(
+    alloc: Global,
+    tokens: &mut PeekableTokens<'_, T>,
+    dim: Dimension,
+) -> Result<Vec<LineString<T>>, Fault>
     ensures exact { (fuel : ℕ) → length (rest tokens.old) ≤ fuel → ReadsIn (λ v. map line_numbers v.items) result (lines_at T.read dim fuel (rest tokens.old)) (rest tokens.new) }
     ensures uniform { IfOk result (λ v. AllByRecursion (IsLineIn dim) v.items) }
     ensures memory { OnMemory result (IsOpened (rest tokens.old)) }
@@ -107,7 +127,11 @@ pub(crate) fn lines<T: WktNum>(alloc: Global, tokens: &mut PeekableTokens<'_, T>
 }
 
 // A polygon inside another kind.
-fn polygon<T: WktNum>(alloc: Global, tokens: &mut PeekableTokens<'_, T>, dim: Dimension) -> Result<Polygon<T>, Fault>
+fn polygon<T: WktNum>(
+    alloc: Global,
+    tokens: &mut PeekableTokens<'_, T>,
+    dim: Dimension,
+) -> Result<Polygon<T>, Fault>
     ensures exact { (fuel : ℕ) → length (rest tokens.old) ≤ fuel → ReadsIn polygon_numbers result (lines_at T.read dim fuel (rest tokens.old)) (rest tokens.new) }
     ensures uniform { IfOk result (IsPolygonIn dim) }
     ensures bad { BlamesIn T.read tokens.old result }
@@ -119,7 +143,11 @@ fn polygon<T: WktNum>(alloc: Global, tokens: &mut PeekableTokens<'_, T>, dim: Di
 }
 
 // The polygons of a list.
-fn polygon_list<T: WktNum>(alloc: Global, tokens: &mut PeekableTokens<'_, T>, dim: Dimension) -> Result<Vec<Polygon<T>>, Fault>
+fn polygon_list<T: WktNum>(
+    alloc: Global,
+    tokens: &mut PeekableTokens<'_, T>,
+    dim: Dimension,
+) -> Result<Vec<Polygon<T>>, Fault>
     ensures exact { (fuel : ℕ) → length (rest tokens.old) ≤ fuel → ReadsIn (λ v. map polygon_numbers v.items) result (many_at (lines_at T.read dim fuel) fuel (rest tokens.old)) (rest tokens.new) }
     ensures uniform { IfOk result (λ v. AllByRecursion (IsPolygonIn dim) v.items) }
     ensures bad { BlamesIn T.read tokens.old result }
@@ -138,7 +166,11 @@ fn polygon_list<T: WktNum>(alloc: Global, tokens: &mut PeekableTokens<'_, T>, di
 
 /// What stands behind the head of a multi polygon.
 #[inline(never)]
-pub(crate) fn polygons<T: WktNum>(alloc: Global, tokens: &mut PeekableTokens<'_, T>, dim: Dimension) -> Result<Vec<Polygon<T>>, Fault>
+pub(crate) fn polygons<T: WktNum>(
+    alloc: Global,
+    tokens: &mut PeekableTokens<'_, T>,
+    dim: Dimension,
+) -> Result<Vec<Polygon<T>>, Fault>
     ensures exact { (fuel : ℕ) → length (rest tokens.old) ≤ fuel → ReadsIn (λ v. map polygon_numbers v.items) result (polygons_at T.read dim fuel (rest tokens.old)) (rest tokens.new) }
     ensures uniform { IfOk result (λ v. AllByRecursion (IsPolygonIn dim) v.items) }
     ensures memory { OnMemory result (IsOpened (rest tokens.old)) }
@@ -157,7 +189,10 @@ pub(crate) fn polygons<T: WktNum>(alloc: Global, tokens: &mut PeekableTokens<'_,
 
 // A member of a multi point: a coordinate, in parentheses or not, or EMPTY.
 #[tactic(auto, unfolding(crate::specs::Reading::member_at, crate::specs::Reading::framed, crate::specs::Reading::opening_at))]
-fn member<T: WktNum>(tokens: &mut PeekableTokens<'_, T>, dim: Dimension) -> Result<Point<T>, Message>
+fn member<T: WktNum>(
+    tokens: &mut PeekableTokens<'_, T>,
+    dim: Dimension,
+) -> Result<Point<T>, Message>
     ensures exact { Reads point_numbers result (member_at T.read dim (rest tokens.old)) (rest tokens.new) }
     ensures uniform { IfOk result (IsPointIn dim) }
     ensures bad { Blames T.read tokens.old result }
@@ -169,12 +204,20 @@ fn member<T: WktNum>(tokens: &mut PeekableTokens<'_, T>, dim: Dimension) -> Resu
         Raw::Word(word) => is_empty(word),
         _ => false,
     };
-    let coord = if framed { point(tokens, dim)? } else { Some(coord(tokens, dim)?) };
+    let coord = if framed {
+        point(tokens, dim)?
+    } else {
+        Some(coord(tokens, dim)?)
+    };
     Ok(Point::new(coord, dim))
 }
 
 // The members of a multi point.
-fn point_list<T: WktNum>(alloc: Global, tokens: &mut PeekableTokens<'_, T>, dim: Dimension) -> Result<Vec<Point<T>>, Fault>
+fn point_list<T: WktNum>(
+    alloc: Global,
+    tokens: &mut PeekableTokens<'_, T>,
+    dim: Dimension,
+) -> Result<Vec<Point<T>>, Fault>
     ensures exact { (fuel : ℕ) → length (rest tokens.old) ≤ fuel → ReadsIn (λ v. map point_numbers v.items) result (many_at (member_at T.read dim) fuel (rest tokens.old)) (rest tokens.new) }
     ensures uniform { IfOk result (λ v. AllByRecursion (IsPointIn dim) v.items) }
     ensures bad { BlamesIn T.read tokens.old result }
@@ -193,7 +236,11 @@ fn point_list<T: WktNum>(alloc: Global, tokens: &mut PeekableTokens<'_, T>, dim:
 
 /// What stands behind the head of a multi point.
 #[inline(never)]
-pub(crate) fn points<T: WktNum>(alloc: Global, tokens: &mut PeekableTokens<'_, T>, dim: Dimension) -> Result<Vec<Point<T>>, Fault>
+pub(crate) fn points<T: WktNum>(
+    alloc: Global,
+    tokens: &mut PeekableTokens<'_, T>,
+    dim: Dimension,
+) -> Result<Vec<Point<T>>, Fault>
     ensures exact { (fuel : ℕ) → length (rest tokens.old) ≤ fuel → ReadsIn (λ v. map point_numbers v.items) result (points_at T.read dim fuel (rest tokens.old)) (rest tokens.new) }
     ensures uniform { IfOk result (λ v. AllByRecursion (IsPointIn dim) v.items) }
     ensures memory { OnMemory result (IsOpened (rest tokens.old)) }

@@ -39,7 +39,10 @@ fn number<T: WktNum>(tokens: &mut PeekableTokens<'_, T>, expected: Message) -> R
 }
 
 #[tactic(auto, unfolding(crate::specs::Reading::coord_at))]
-pub(crate) fn coord<T: WktNum>(tokens: &mut PeekableTokens<'_, T>, dim: Dimension) -> Result<Coord<T>, Message>
+pub(crate) fn coord<T: WktNum>(
+    tokens: &mut PeekableTokens<'_, T>,
+    dim: Dimension,
+) -> Result<Coord<T>, Message>
     ensures exact { Reads numbers_of result (coord_at T.read dim (rest tokens.old)) (rest tokens.new) }
     ensures uniform { IfOk result (HasDim dim) }
     ensures bad { Blames T.read tokens.old result }
@@ -97,7 +100,10 @@ fn closing<T: WktNum>(tokens: &mut PeekableTokens<'_, T>) -> Result<(), Message>
 /// What stands behind the head of a point.
 #[inline(never)]
 #[tactic(auto, unfolding(crate::specs::Reading::framed, crate::specs::Reading::closed))]
-pub(crate) fn point<T: WktNum>(tokens: &mut PeekableTokens<'_, T>, dim: Dimension) -> Result<Option<Coord<T>>, Message>
+pub(crate) fn point<T: WktNum>(
+    tokens: &mut PeekableTokens<'_, T>,
+    dim: Dimension,
+) -> Result<Option<Coord<T>>, Message>
     ensures exact { Reads (option_map numbers_of) result (point_at T.read dim (rest tokens.old)) (rest tokens.new) }
     ensures uniform { IfOk result (HasDimIfAny dim) }
     ensures near { OnOk result (IsNear tokens.new) }
@@ -116,7 +122,10 @@ pub(crate) fn point<T: WktNum>(tokens: &mut PeekableTokens<'_, T>, dim: Dimensio
 
 /// The closing place, behind a body that was read or refused. Its refusal goes before the body's.
 #[tactic(auto, unfolding(crate::specs::Reading::closing_at))]
-pub(crate) fn close<T: WktNum, X: Drop>(tokens: &mut PeekableTokens<'_, T>, body: Result<X, Fault>) -> Result<X, Fault>
+pub(crate) fn close<T: WktNum, X: Drop>(
+    tokens: &mut PeekableTokens<'_, T>,
+    body: Result<X, Fault>,
+) -> Result<X, Fault>
     ensures exact { Closes body result (rest tokens.old) (rest tokens.new) }
     ensures near { OnOk result (IsNear tokens.new) }
     ensures bad { (start : _) → IsBehind start tokens.old → OnBadIn body (HasBad T.read (lexemes_of start)) → OnBadIn result (HasBad T.read (lexemes_of start)) }

@@ -20,7 +20,10 @@ use crate::words::{dimension_of, is_empty, kind_of};
 use std::alloc::Global;
 use wkt_access::Dimension;
 use wkt_num::WktNum;
-use wkt_types::{Coord, GeometryCollection, GeometryType, LineString, MultiLineString, MultiPoint, MultiPolygon, Point, Polygon, Wkt};
+use wkt_types::{
+    Coord, GeometryCollection, GeometryType, LineString, MultiLineString, MultiPoint, MultiPolygon,
+    Point, Polygon, Wkt,
+};
 
 // The dimension behind a kind word alone.
 #[tactic(auto, unfolding(crate::specs::Reading::dimension_at))]
@@ -52,7 +55,10 @@ fn dimension<T: WktNum>(tokens: &mut PeekableTokens<'_, T>) -> Result<Dimension,
 
 // The head of a geometry.
 #[tactic(auto, unfolding(crate::specs::Reading::head_at))]
-fn head<T: WktNum>(tokens: &mut PeekableTokens<'_, T>, inside: bool) -> Result<(GeometryType, Dimension), Message>
+fn head<T: WktNum>(
+    tokens: &mut PeekableTokens<'_, T>,
+    inside: bool,
+) -> Result<(GeometryType, Dimension), Message>
     ensures exact { Reads (λ x. x) result (head_at T.read (rest tokens.old)) (rest tokens.new) }
     ensures bad { Blames T.read tokens.old result }
     ensures goes_on { GoesOn tokens.old tokens.new }
@@ -62,7 +68,11 @@ fn head<T: WktNum>(tokens: &mut PeekableTokens<'_, T>, inside: bool) -> Result<(
     let word = match tokens.take() {
         Raw::Word(word) => word,
         Raw::Number(digits) if T::read_number(digits).is_none() => return Err(Message::BadNumber),
-        _ => return Err(if inside { Message::Member } else { Message::Format }),
+        _ => return Err(if inside {
+            Message::Member
+        } else {
+            Message::Format
+        }),
     };
     match kind_of(word) {
         Some((kind, Some(dim))) => Ok((kind, dim)),
@@ -70,7 +80,11 @@ fn head<T: WktNum>(tokens: &mut PeekableTokens<'_, T>, inside: bool) -> Result<(
             let dim = dimension(tokens)?;
             Ok((kind, dim))
         }
-        None => Err(if inside || word.is_ascii() { Message::Kind } else { Message::NonAscii }),
+        None => Err(if inside || word.is_ascii() {
+            Message::Kind
+        } else {
+            Message::NonAscii
+        }),
     }
 }
 
@@ -124,7 +138,10 @@ fn collection_of<T>(geometries: Vec<Wkt<T>>, dim: Dimension) -> Wkt<T>
 }
 
 #[inline(never)]
-fn read_point<T: WktNum>(tokens: &mut PeekableTokens<'_, T>, dim: Dimension) -> Result<Wkt<T>, Message>
+fn read_point<T: WktNum>(
+    tokens: &mut PeekableTokens<'_, T>,
+    dim: Dimension,
+) -> Result<Wkt<T>, Message>
     ensures exact { (fuel : ℕ) → Reads wkt_value result (body_at T.read (value_at T.read fuel) fuel GeometryType.Point dim (rest tokens.old)) (rest tokens.new) }
     ensures uniform { IfOk result UniformWkt }
     ensures near { OnOk result (IsNear tokens.new) }
@@ -137,7 +154,11 @@ fn read_point<T: WktNum>(tokens: &mut PeekableTokens<'_, T>, dim: Dimension) -> 
 }
 
 #[inline(never)]
-fn read_line_string<T: WktNum>(alloc: Global, tokens: &mut PeekableTokens<'_, T>, dim: Dimension) -> Result<Wkt<T>, Fault>
+fn read_line_string<T: WktNum>(
+    alloc: Global,
+    tokens: &mut PeekableTokens<'_, T>,
+    dim: Dimension,
+) -> Result<Wkt<T>, Fault>
     ensures exact { (fuel : ℕ) → length (rest tokens.old) ≤ fuel → ReadsIn wkt_value result (body_at T.read (value_at T.read fuel) fuel GeometryType.LineString dim (rest tokens.old)) (rest tokens.new) }
     ensures uniform { IfOk result UniformWkt }
     ensures memory { OnMemory result (IsOpened (rest tokens.old)) }
@@ -151,7 +172,11 @@ fn read_line_string<T: WktNum>(alloc: Global, tokens: &mut PeekableTokens<'_, T>
 }
 
 #[inline(never)]
-fn read_polygon<T: WktNum>(alloc: Global, tokens: &mut PeekableTokens<'_, T>, dim: Dimension) -> Result<Wkt<T>, Fault>
+fn read_polygon<T: WktNum>(
+    alloc: Global,
+    tokens: &mut PeekableTokens<'_, T>,
+    dim: Dimension,
+) -> Result<Wkt<T>, Fault>
     ensures exact { (fuel : ℕ) → length (rest tokens.old) ≤ fuel → ReadsIn wkt_value result (body_at T.read (value_at T.read fuel) fuel GeometryType.Polygon dim (rest tokens.old)) (rest tokens.new) }
     ensures uniform { IfOk result UniformWkt }
     ensures memory { OnMemory result (IsOpened (rest tokens.old)) }
@@ -165,7 +190,11 @@ fn read_polygon<T: WktNum>(alloc: Global, tokens: &mut PeekableTokens<'_, T>, di
 }
 
 #[inline(never)]
-fn read_multi_point<T: WktNum>(alloc: Global, tokens: &mut PeekableTokens<'_, T>, dim: Dimension) -> Result<Wkt<T>, Fault>
+fn read_multi_point<T: WktNum>(
+    alloc: Global,
+    tokens: &mut PeekableTokens<'_, T>,
+    dim: Dimension,
+) -> Result<Wkt<T>, Fault>
     ensures exact { (fuel : ℕ) → length (rest tokens.old) ≤ fuel → ReadsIn wkt_value result (body_at T.read (value_at T.read fuel) fuel GeometryType.MultiPoint dim (rest tokens.old)) (rest tokens.new) }
     ensures uniform { IfOk result UniformWkt }
     ensures memory { OnMemory result (IsOpened (rest tokens.old)) }
@@ -179,7 +208,11 @@ fn read_multi_point<T: WktNum>(alloc: Global, tokens: &mut PeekableTokens<'_, T>
 }
 
 #[inline(never)]
-fn read_multi_line_string<T: WktNum>(alloc: Global, tokens: &mut PeekableTokens<'_, T>, dim: Dimension) -> Result<Wkt<T>, Fault>
+fn read_multi_line_string<T: WktNum>(
+    alloc: Global,
+    tokens: &mut PeekableTokens<'_, T>,
+    dim: Dimension,
+) -> Result<Wkt<T>, Fault>
     ensures exact { (fuel : ℕ) → length (rest tokens.old) ≤ fuel → ReadsIn wkt_value result (body_at T.read (value_at T.read fuel) fuel GeometryType.MultiLineString dim (rest tokens.old)) (rest tokens.new) }
     ensures uniform { IfOk result UniformWkt }
     ensures memory { OnMemory result (IsOpened (rest tokens.old)) }
@@ -193,7 +226,11 @@ fn read_multi_line_string<T: WktNum>(alloc: Global, tokens: &mut PeekableTokens<
 }
 
 #[inline(never)]
-fn read_multi_polygon<T: WktNum>(alloc: Global, tokens: &mut PeekableTokens<'_, T>, dim: Dimension) -> Result<Wkt<T>, Fault>
+fn read_multi_polygon<T: WktNum>(
+    alloc: Global,
+    tokens: &mut PeekableTokens<'_, T>,
+    dim: Dimension,
+) -> Result<Wkt<T>, Fault>
     ensures exact { (fuel : ℕ) → length (rest tokens.old) ≤ fuel → ReadsIn wkt_value result (body_at T.read (value_at T.read fuel) fuel GeometryType.MultiPolygon dim (rest tokens.old)) (rest tokens.new) }
     ensures uniform { IfOk result UniformWkt }
     ensures memory { OnMemory result (IsOpened (rest tokens.old)) }
@@ -208,7 +245,10 @@ fn read_multi_polygon<T: WktNum>(alloc: Global, tokens: &mut PeekableTokens<'_, 
 
 // The geometries of a collection.
 #[cycle(value)]
-fn geometries<T: WktNum>(alloc: Global, tokens: &mut PeekableTokens<'_, T>) -> Result<Vec<Wkt<T>>, Fault>
+fn geometries<T: WktNum>(
+    alloc: Global,
+    tokens: &mut PeekableTokens<'_, T>,
+) -> Result<Vec<Wkt<T>>, Fault>
     ensures exact { (fuel : ℕ) → length (rest tokens.old) ≤ fuel → ReadsIn (λ v. map wkt_value v.items) result (many_at (value_at T.read fuel) fuel (rest tokens.old)) (rest tokens.new) }
     ensures uniform { IfOk result (λ v. AllByRecursion UniformWkt v.items) }
     ensures bad { BlamesIn T.read tokens.old result }
@@ -227,7 +267,10 @@ fn geometries<T: WktNum>(alloc: Global, tokens: &mut PeekableTokens<'_, T>) -> R
 
 // What stands behind the head of a collection.
 #[cycle(value)]
-fn members<T: WktNum>(alloc: Global, tokens: &mut PeekableTokens<'_, T>) -> Result<Vec<Wkt<T>>, Fault>
+fn members<T: WktNum>(
+    alloc: Global,
+    tokens: &mut PeekableTokens<'_, T>,
+) -> Result<Vec<Wkt<T>>, Fault>
     ensures exact { (fuel : ℕ) → length (rest tokens.old) ≤ fuel → ReadsIn (λ v. map wkt_value v.items) result (members_at T.read (value_at T.read fuel) fuel (rest tokens.old)) (rest tokens.new) }
     ensures uniform { IfOk result (λ v. AllByRecursion UniformWkt v.items) }
     ensures memory { OnMemory result (IsOpened (rest tokens.old)) }
@@ -246,7 +289,11 @@ fn members<T: WktNum>(alloc: Global, tokens: &mut PeekableTokens<'_, T>) -> Resu
 
 #[inline(never)]
 #[cycle(value)]
-fn read_collection<T: WktNum>(alloc: Global, tokens: &mut PeekableTokens<'_, T>, dim: Dimension) -> Result<Wkt<T>, Fault>
+fn read_collection<T: WktNum>(
+    alloc: Global,
+    tokens: &mut PeekableTokens<'_, T>,
+    dim: Dimension,
+) -> Result<Wkt<T>, Fault>
     ensures exact { (fuel : ℕ) → length (rest tokens.old) ≤ fuel → ReadsIn wkt_value result (body_at T.read (value_at T.read fuel) fuel GeometryType.GeometryCollection dim (rest tokens.old)) (rest tokens.new) }
     ensures uniform { IfOk result UniformWkt }
     ensures memory { OnMemory result (IsOpened (rest tokens.old)) }
@@ -261,7 +308,11 @@ fn read_collection<T: WktNum>(alloc: Global, tokens: &mut PeekableTokens<'_, T>,
 
 /// A geometry with its head; `inside` says that it is a member of a collection.
 #[cycle(value)]
-pub(crate) fn value<T: WktNum>(alloc: Global, tokens: &mut PeekableTokens<'_, T>, inside: bool) -> Result<Wkt<T>, Fault>
+pub(crate) fn value<T: WktNum>(
+    alloc: Global,
+    tokens: &mut PeekableTokens<'_, T>,
+    inside: bool,
+) -> Result<Wkt<T>, Fault>
     ensures exact { (fuel : ℕ) → length (rest tokens.old) ≤ fuel → ReadsIn wkt_value result (value_at T.read fuel (rest tokens.old)) (rest tokens.new) }
     ensures uniform { IfOk result UniformWkt }
     ensures memory { OnMemory result (HasMembers T.read (rest tokens.old)) }

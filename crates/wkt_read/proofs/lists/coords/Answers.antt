@@ -32,8 +32,8 @@ more-preserved g c = record {
   fewer = omega (arith, ap length c.more-test.ensures.takes, c.coord-in-more.ensures.fewer, c.more.invariant.fewer);
   uniform = subst (AllByRecursion (HasDim c.args.dim)) (sym c.in_ok-push-2.ensures.items) (all-push (HasDim c.args.dim) c.more.items.items c.in_ok-next.next c.more.invariant.uniform c.in_ok-next.ensures.uniform);
   exact = λ fuel h.
-    let was = c.more.invariant.exact fuel h in
-    many-next (coord_at g.T.WktNum.read c.args.dim) _ (map numbers_of c.more.items.items) was.0 _ _ _ _ (map numbers_of c.push-in-more.new.self.items) was.2 was.1 c.more-test.ensures.takes c.in_ok-next.ensures.exact (ap (map numbers_of) c.in_ok-push-2.ensures.items ∙ map-append numbers_of c.more.items.items (c.in_ok-next.next ∷ [])) c.coord-in-more.ensures.fewer;
+      let was = c.more.invariant.exact fuel h in
+      many-next (coord_at g.T.WktNum.read c.args.dim) _ (map numbers_of c.more.items.items) was.0 _ _ _ _ (map numbers_of c.push-in-more.new.self.items) was.2 was.1 c.more-test.ensures.takes c.in_ok-next.ensures.exact (ap (map numbers_of) c.in_ok-push-2.ensures.items ∙ map-append numbers_of c.more.items.items (c.in_ok-next.next ∷ [])) c.coord-in-more.ensures.fewer;
 }
 
 pub returns-clause-exact : goal.returns-clause-exact

@@ -31,8 +31,8 @@ more-preserved g c = record {
   fewer = omega (arith, ap length c.more-test.ensures.takes, c.member-in-more.ensures.fewer, c.more.invariant.fewer);
   uniform = subst (AllByRecursion (IsPointIn c.args.dim)) (sym c.in_ok-push-2.ensures.items) (all-push (IsPointIn c.args.dim) c.more.items.items c.in_ok-next.next c.more.invariant.uniform c.in_ok-next.ensures.uniform);
   exact = λ fuel h.
-    let was = c.more.invariant.exact fuel h in
-    many-next (member_at g.T.WktNum.read c.args.dim) _ (map point_numbers c.more.items.items) was.0 _ _ _ _ (map point_numbers c.push-in-more.new.self.items) was.2 was.1 c.more-test.ensures.takes c.in_ok-next.ensures.exact (ap (map point_numbers) c.in_ok-push-2.ensures.items ∙ map-append point_numbers c.more.items.items (c.in_ok-next.next ∷ [])) c.member-in-more.ensures.fewer;
+      let was = c.more.invariant.exact fuel h in
+      many-next (member_at g.T.WktNum.read c.args.dim) _ (map point_numbers c.more.items.items) was.0 _ _ _ _ (map point_numbers c.push-in-more.new.self.items) was.2 was.1 c.more-test.ensures.takes c.in_ok-next.ensures.exact (ap (map point_numbers) c.in_ok-push-2.ensures.items ∙ map-append point_numbers c.more.items.items (c.in_ok-next.next ∷ [])) c.member-in-more.ensures.fewer;
 }
 
 pub returns-clause-exact : goal.returns-clause-exact

@@ -31,8 +31,8 @@ more-preserved g c = record {
   fewer = omega (arith, ap length c.more-test.ensures.takes, c.polygon-in-more.ensures.fewer, c.more.invariant.fewer);
   uniform = subst (AllByRecursion (IsPolygonIn c.args.dim)) (sym c.in_ok-push-2.ensures.items) (all-push (IsPolygonIn c.args.dim) c.more.items.items c.in_ok-next.next c.more.invariant.uniform c.in_ok-next.ensures.uniform);
   exact = λ fuel h.
-    let was = c.more.invariant.exact fuel h in
-    many-next (lines_at g.T.WktNum.read c.args.dim fuel) _ (map polygon_numbers c.more.items.items) was.0 _ _ _ _ (map polygon_numbers c.push-in-more.new.self.items) was.2 was.1 c.more-test.ensures.takes (c.in_ok-next.ensures.exact fuel (omega (arith, h, c.more.invariant.fewer, ap length c.more-test.ensures.takes))) (ap (map polygon_numbers) c.in_ok-push-2.ensures.items ∙ map-append polygon_numbers c.more.items.items (c.in_ok-next.next ∷ [])) c.polygon-in-more.ensures.fewer;
+      let was = c.more.invariant.exact fuel h in
+      many-next (lines_at g.T.WktNum.read c.args.dim fuel) _ (map polygon_numbers c.more.items.items) was.0 _ _ _ _ (map polygon_numbers c.push-in-more.new.self.items) was.2 was.1 c.more-test.ensures.takes (c.in_ok-next.ensures.exact fuel (omega (arith, h, c.more.invariant.fewer, ap length c.more-test.ensures.takes))) (ap (map polygon_numbers) c.in_ok-push-2.ensures.items ∙ map-append polygon_numbers c.more.items.items (c.in_ok-next.next ∷ [])) c.polygon-in-more.ensures.fewer;
 }
 
 pub returns-clause-exact : goal.returns-clause-exact

@@ -31,8 +31,8 @@ more-preserved g c = record {
   fewer = omega (arith, ap length c.more-test.ensures.takes, c.line_string-in-more.ensures.fewer, c.more.invariant.fewer);
   uniform = subst (AllByRecursion (IsLineIn c.args.dim)) (sym c.in_ok-push-2.ensures.items) (all-push (IsLineIn c.args.dim) c.more.items.items c.in_ok-next.next c.more.invariant.uniform c.in_ok-next.ensures.uniform);
   exact = λ fuel h.
-    let was = c.more.invariant.exact fuel h in
-    many-next (line_at g.T.WktNum.read c.args.dim fuel) _ (map line_numbers c.more.items.items) was.0 _ _ _ _ (map line_numbers c.push-in-more.new.self.items) was.2 was.1 c.more-test.ensures.takes (c.in_ok-next.ensures.exact fuel (omega (arith, h, c.more.invariant.fewer, ap length c.more-test.ensures.takes))) (ap (map line_numbers) c.in_ok-push-2.ensures.items ∙ map-append line_numbers c.more.items.items (c.in_ok-next.next ∷ [])) c.line_string-in-more.ensures.fewer;
+      let was = c.more.invariant.exact fuel h in
+      many-next (line_at g.T.WktNum.read c.args.dim fuel) _ (map line_numbers c.more.items.items) was.0 _ _ _ _ (map line_numbers c.push-in-more.new.self.items) was.2 was.1 c.more-test.ensures.takes (c.in_ok-next.ensures.exact fuel (omega (arith, h, c.more.invariant.fewer, ap length c.more-test.ensures.takes))) (ap (map line_numbers) c.in_ok-push-2.ensures.items ∙ map-append line_numbers c.more.items.items (c.in_ok-next.next ∷ [])) c.line_string-in-more.ensures.fewer;
 }
 
 pub returns-clause-exact : goal.returns-clause-exact

@@ -36,8 +36,8 @@ geometries-more-preserved g t c = record {
   fewer = omega (arith, ap length c.more-test.ensures.takes, c.value-in-more.ensures.fewer, c.more.invariant.fewer);
   uniform = subst (AllByRecursion UniformWkt) (sym c.in_ok-push-2.ensures.items) (all-push UniformWkt c.more.items.items c.in_ok-next.next c.more.invariant.uniform c.in_ok-next.ensures.uniform);
   exact = λ fuel h.
-    let was = c.more.invariant.exact fuel h in
-    many-next (value_at g.T.WktNum.read fuel) _ (map wkt_value c.more.items.items) was.0 _ _ _ _ (map wkt_value c.push-in-more.new.self.items) was.2 was.1 c.more-test.ensures.takes (c.in_ok-next.ensures.exact fuel (omega (arith, h, c.more.invariant.fewer, ap length c.more-test.ensures.takes))) (ap (map wkt_value) c.in_ok-push-2.ensures.items ∙ map-append wkt_value c.more.items.items (c.in_ok-next.next ∷ [])) c.value-in-more.ensures.fewer;
+      let was = c.more.invariant.exact fuel h in
+      many-next (value_at g.T.WktNum.read fuel) _ (map wkt_value c.more.items.items) was.0 _ _ _ _ (map wkt_value c.push-in-more.new.self.items) was.2 was.1 c.more-test.ensures.takes (c.in_ok-next.ensures.exact fuel (omega (arith, h, c.more.invariant.fewer, ap length c.more-test.ensures.takes))) (ap (map wkt_value) c.in_ok-push-2.ensures.items ∙ map-append wkt_value c.more.items.items (c.in_ok-next.next ∷ [])) c.value-in-more.ensures.fewer;
 }
 
 pub geometries-returns-clause-exact : goal.geometries-returns-clause-exact

@@ -15,9 +15,12 @@ returns-in-Run g c =
     let e : f.0 ≡ c.taken-from.result - 1 = omega (arith, f.1, c.taken-from.ensures) in
     let r = c.end_of_run-end.ensures in
     let order : c.taken-from.result - 1 < c.end_of_run-end.result.0 = omega (arith, f.1, c.taken-from.ensures, r.on) in
-    rw lexeme
-    (gives-run _ _ _ _ _ _ _ _ (f.2 ∙ ap (λ n. placed_from n (drop n c.first_class.new.bytes.text.now)) e) (ap (λ t. t.now) r.text) order r.ends refl,
-    r.ends.taken, r.ends.near, omega (arith, r.grows, c.first_class.ensures.grows))
+    rw lexeme (
+      gives-run _ _ _ _ _ _ _ _ (f.2 ∙ ap (λ n. placed_from n (drop n c.first_class.new.bytes.text.now)) e) (ap (λ t. t.now) r.text) order r.ends refl,
+      r.ends.taken,
+      r.ends.near,
+      omega (arith, r.grows, c.first_class.ensures.grows),
+    )
 
 pub returns-in-Nul : goal.returns-in-Nul
 unfolding coming bytes_taken end_of_last
@@ -29,6 +32,7 @@ returns g c =
     let f = c.first_class.ensures in
     let e = c.taken-self.ensures in
     elim c.match-first_class.branch [
-      in-Open w ↦ rw w.mark-is (gives-open _ _ _ _ _ w.in-Open.is e f.found, omega arith, omega arith, f.grows)
-    | in-Close w ↦ rw w.mark-is (gives-close _ _ _ _ _ w.in-Close.is e f.found, omega arith, omega arith, f.grows)
-    | in-Comma w ↦ rw w.mark-is (gives-comma _ _ _ _ _ w.in-Comma.is e f.found, omega arith, omega arith, f.grows) ]
+      | in-Open w ↦ rw w.mark-is (gives-open _ _ _ _ _ w.in-Open.is e f.found, omega arith, omega arith, f.grows)
+      | in-Close w ↦ rw w.mark-is (gives-close _ _ _ _ _ w.in-Close.is e f.found, omega arith, omega arith, f.grows)
+      | in-Comma w ↦ rw w.mark-is (gives-comma _ _ _ _ _ w.in-Comma.is e f.found, omega arith, omega arith, f.grows)
+    ]

@@ -1,0 +1,217 @@
+use crate::{FromWktStr, PeekableTokens, ReadError, Token, Tokens};
+use std::alloc::Global;
+use std::test::Fail;
+use wkt_num::Decimal;
+use wkt_types::{
+    Coord, Dimension, GeometryCollection, LineString, MultiPoint, Point, Polygon, Wkt,
+};
+
+const BAD_NUMBER: &str = "Unable to parse input number as the desired output type";
+
+const NO_CLOSING: &str = "Missing closing parenthesis for type";
+
+const NO_OPENING: &str = "Missing open parenthesis for type";
+
+fn message(alloc: Global, text: &str) -> &'static str {
+    match Wkt::<Decimal<6>>::from_str(alloc, text) {
+        Ok(_) => "Ok",
+        Err(ReadError::Text(message)) => message,
+        Err(ReadError::Memory(_)) => "out of memory",
+    }
+}
+
+#[test]
+fn tells_why_a_text_is_refused(rt: HostRuntime) {
+    let alloc = rt.alloc();
+    for (text, want) in [
+        ("", "Invalid WKT format"),
+        ("(", "Invalid WKT format"),
+        ("1x", BAD_NUMBER),
+        ("¾", "Encountered non-ascii word"),
+        ("X", "Invalid type encountered"),
+        ("LINEARRINGZ(1 2 3)", "Invalid type encountered"),
+        ("POINT X", "Unexpected word before open paren"),
+        ("POINT EMPTYX", "Unexpected word before open paren"),
+        ("POINT", "End of stream"),
+        ("POINT 1x", "End of stream"),
+        ("POINT Z 1x", BAD_NUMBER),
+        ("POINTZ", NO_OPENING),
+        ("POINTZ Z (1 2 3)", NO_OPENING),
+        ("POINT (10)", NO_CLOSING),
+        ("POINT ZM(1 2 3)", NO_CLOSING),
+        ("POINT (1 2 3)", NO_CLOSING),
+        ("POINT (1 \0)", NO_CLOSING),
+        ("POINT (1e-7 2)", NO_CLOSING),
+        ("POINT (1 1e-7)", BAD_NUMBER),
+        ("POINT (10 20.1A)", BAD_NUMBER),
+        ("POINT (0.0000001 2)", NO_CLOSING),
+        ("POINT (X)", "Expected a number for the X coordinate"),
+        (
+            "POINT (42 PI3.14)",
+            "Expected a number for the Y coordinate",
+        ),
+        ("POINT Z(1 2 X)", "Expected a number for the Z coordinate"),
+        ("POINT M(1 2 X)", "Expected a number for the M coordinate"),
+        ("LINESTRING ()", NO_CLOSING),
+        ("LINESTRING (1 2,)", NO_CLOSING),
+        ("LINESTRING (1 2 3 4)", NO_CLOSING),
+        (
+            "MULTIPOINT ((EMPTY))",
+            "Expected a number for the X coordinate",
+        ),
+        (
+            "MULTIPOINT (EMPTYX)",
+            "Expected a number for the X coordinate",
+        ),
+        ("GEOMETRYCOLLECTION ()", NO_CLOSING),
+        (
+            "GEOMETRYCOLLECTION (1)",
+            "Expected a word in GEOMETRYCOLLECTION",
+        ),
+        ("GEOMETRYCOLLECTION(¾)", "Invalid type encountered"),
+        ("GEOMETRYCOLLECTION(¾(1 2))", NO_CLOSING),
+        ("POINT (1 2)", "Ok"),
+        ("POINT (1 2) 1x", "Ok"),
+        ("POINT (1 2)\0)", "Ok"),
+        ("POLYGON((1 2),EMPTY)", "Ok"),
+        ("MULTILINESTRING M((1 2 3),EMPTY)", "Ok"),
+        ("MULTIPOLYGON ((EMPTY,(1 2)),((3 4),EMPTY))", "Ok"),
+    ] {
+        assert_eq!(rt; message(alloc, text), want, "at {text}");
+    }
+}
+
+fn xy(x: i32, y: i32) -> Coord<i32> {
+    Coord {
+        x,
+        y,
+        z: None,
+        m: None,
+    }
+}
+
+fn xyz(x: i32, y: i32, z: i32) -> Coord<i32> {
+    Coord {
+        x,
+        y,
+        z: Some(z),
+        m: None,
+    }
+}
+
+fn xym(x: i32, y: i32, m: i32) -> Coord<i32> {
+    Coord {
+        x,
+        y,
+        z: None,
+        m: Some(m),
+    }
+}
+
+#[test]
+fn reads_points(rt: HostRuntime) -> Result<(), Fail> {
+    let alloc = rt.alloc();
+    let (m, zm) = (Dimension::XYM, Dimension::XYZM);
+    for (text, want) in [
+        (
+            " \n\t\rPOINT \n\t\r( \n\r\t10 \n\t\r-20 \n\t\r) \n\t\r",
+            Point::new(Some(xy(10, -20)), Dimension::XY),
+        ),
+        (
+            "POINTZ(-117 33 10)",
+            Point::new(Some(xyz(-117, 33, 10)), Dimension::XYZ),
+        ),
+        ("pointm(1 2 3)", Point::new(Some(xym(1, 2, 3)), m)),
+        ("POINT (+-2 5)", Point::new(Some(xy(-2, 5)), Dimension::XY)),
+        ("POINT ZM EMPTY", Point::new(None, zm)),
+    ] {
+        let read = Wkt::<i32>::from_str(alloc, text)?;
+        assert!(rt; read == Wkt::from(want), "at {text}");
+    }
+    Ok(())
+}
+
+#[test]
+fn reads_lists(rt: HostRuntime) -> Result<(), Fail> {
+    let alloc = rt.alloc();
+    let (plain, z) = (Dimension::XY, Dimension::XYZ);
+    let line = LineString::new(Vec::from_array(alloc, [xyz(1, 2, 3)])?, z);
+    assert!(rt; Wkt::<i32>::from_str(alloc, "LINEARRING Z(1 2 3)")? == Wkt::from(line));
+    let ring = LineString::new(Vec::new(alloc), plain);
+    let polygon = Polygon::new(Vec::from_array(alloc, [ring])?, plain);
+    assert!(rt; Wkt::<i32>::from_str(alloc, "POLYGON(EMPTY)")? == Wkt::from(polygon));
+    let points = [
+        Point::new(Some(xy(8, 4)), plain),
+        Point::new(Some(xy(4, 0)), plain),
+    ];
+    let points = MultiPoint::new(Vec::from_array(alloc, points)?, plain);
+    assert!(rt; Wkt::<i32>::from_str(alloc, "MULTIPOINT (8 4, (4 0))")? == Wkt::from(points));
+    let points = [
+        Point::new(Some(xyz(1, 2, 3)), z),
+        Point::new(None, z),
+        Point::new(Some(xyz(4, 5, 6)), z),
+    ];
+    let points = MultiPoint::new(Vec::from_array(alloc, points)?, z);
+    let read = Wkt::<i32>::from_str(alloc, "multipoint z(1 2 3,empty,(4 5 6))")?;
+    assert!(rt; read == Wkt::from(points));
+    let members = [
+        Wkt::from(Point::new(Some(xy(1, 2)), plain)),
+        Wkt::from(Point::new(Some(xym(1, 2, 3)), Dimension::XYM)),
+    ];
+    let members = GeometryCollection::new(Vec::from_array(alloc, members)?, z);
+    let read = Wkt::<i32>::from_str(alloc, "GEOMETRYCOLLECTION Z (POINT (1 2), POINT M(1 2 3))")?;
+    assert!(rt; read == Wkt::from(members));
+    Ok(())
+}
+
+// The number that `peek` lends, if it lends one.
+fn peeked(tokens: &mut PeekableTokens<'_, i32>) -> Option<i32> {
+    match tokens.peek() {
+        Some(Ok(Token::Number(number))) => Some(*number),
+        _ => None,
+    }
+}
+
+#[test]
+fn gives_lexemes(rt: HostRuntime) {
+    let mut tokens = Tokens::<Decimal<6>>::from_str(".4 -2");
+    assert_eq!(rt;
+        tokens.next(),
+        Some(Ok(Token::Number(Decimal::from_units(400000))))
+    );
+    assert_eq!(rt; (tokens.end(), tokens.taken()), (2, 3));
+    assert_eq!(rt;
+        tokens.next(),
+        Some(Ok(Token::Number(Decimal::from_units(-2000000))))
+    );
+    assert_eq!(rt; tokens.next(), None);
+    let mut tokens = PeekableTokens::new(Tokens::<i32>::from_str("4.2p 7(¾"));
+    assert_eq!(rt; tokens.next(), Some(Err(BAD_NUMBER)));
+    assert_eq!(rt; peeked(&mut tokens), Some(7));
+    assert_eq!(rt; (tokens.end(), tokens.taken()), (4, 7));
+    assert_eq!(rt; tokens.next(), Some(Ok(Token::Number(7))));
+    assert_eq!(rt; tokens.next(), Some(Ok(Token::ParenOpen)));
+    assert_eq!(rt; tokens.next(), Some(Ok(Token::Word("¾"))));
+    assert_eq!(rt; peeked(&mut tokens), None);
+    assert_eq!(rt; tokens.next(), None);
+}
+
+#[test]
+fn goes_on_behind_a_geometry(rt: HostRuntime) -> Result<(), Fail> {
+    let alloc = rt.alloc();
+    let mut tokens = PeekableTokens::new(Tokens::from_str("POINT(1 2)LINESTRING EMPTY x"));
+    assert!(rt; Wkt::<i32>::read_tokens(alloc, &mut tokens).is_ok());
+    assert_eq!(rt; tokens.end(), 10);
+    assert!(rt; Wkt::<i32>::read_tokens(alloc, &mut tokens).is_ok());
+    assert_eq!(rt; tokens.end(), 26);
+    for want in ["Invalid type encountered", "Invalid WKT format"] {
+        match Wkt::<i32>::read_tokens(alloc, &mut tokens) {
+            Err(ReadError::Text(message)) => assert_eq!(rt; message, want),
+            _ => return Err(Fail::from("read")),
+        }
+    }
+    let text = "POINT(1 2) POINT Z EMPTY,";
+    assert_eq!(rt; Wkt::<i32>::read_front(alloc, text)?.1, 10);
+    assert_eq!(rt; Wkt::<i32>::read_front(alloc, " POINT Z EMPTY,")?.1, 14);
+    Ok(())
+}
