@@ -1,8 +1,10 @@
 //! Decimal fractions from text.
-ghost use Rattle.std.specs.Prelude.{◌≡◌, ◌≢◌, true, false, ◌+◌, ◌*◌, ◌^◌, ◌≤◌, ◌<◌, nat_le};
-ghost use Rattle.std.specs.Str.Parse.{starts_with_minus, without_leading_sign};
+ghost use Rattle.std.specs.Prelude.{◌≡◌, ◌≢◌, true, false, ◌+◌, ◌*◌, ◌^◌, ◌≤◌, ◌<◌, Some, IfSome, length, slice_range, nat_le};
+ghost use Rattle.std.specs.Str.Parse.{AllDigits, digits_value_after, starts_with_minus, without_leading_sign};
 ghost use Rattle.wkt_num.specs.Whole.{keep_if};
 ghost use Rattle.wkt_num.specs.Decimal.{read_magnitude, with_sign};
+
+use crate::powers::{SHORT_PLACES, ten_to};
 
 /// Whether a minus stands first, and what follows a sign.
 pub fn split_sign(text: &[u8]) -> (bool, &[u8])
@@ -16,11 +18,74 @@ pub fn split_sign(text: &[u8]) -> (bool, &[u8])
     }
 }
 
+/// Reads digits with at most one point, as units of ten to the minus `places`.
+pub fn read_body(places: u32, body: &[u8]) -> Option<u128>
+    requires { places ≤ 36 }
+    ensures { result ≡ read_magnitude (2 ^ 127) places body.now }
+{
+    if let Some(units) = read_short(places, body) {
+        return Some(units);
+    }
+    read_magnitude(places, body)
+}
+
+/// The most bytes whose digits, with a point among them or not, fit 64 bits.
+const SHORT_BYTES: usize = 19;
+
+/// The same by 64 bits, for a short body of digits, or of digits with a point and at most `places`
+/// digits behind it. Of any other body nothing is said.
+fn read_short(places: u32, body: &[u8]) -> Option<u128>
+    ensures { IfSome result (λ units. read_magnitude (2 ^ 127) places body.now ≡ Some units) }
+{
+    if places > SHORT_PLACES || body.len() > SHORT_BYTES {
+        return None;
+    }
+    let (whole, at) = digits_from(body, 0, 0);
+    if at == body.len() {
+        if at == 0 {
+            return None;
+        }
+        return Some(u128::from(whole) * u128::from(ten_to(places)));
+    }
+    if body[at] != b'.' {
+        return None;
+    }
+    let behind = (body.len() - at - 1) as u32;
+    if behind == 0 || behind > places {
+        return None;
+    }
+    let (all, end) = digits_from(body, at + 1, whole);
+    if end < body.len() {
+        return None;
+    }
+    Some(u128::from(all) * u128::from(ten_to(places - behind)))
+}
+
+/// The number followed by the digits from `from` on, and where they end.
+fn digits_from(body: &[u8], from: usize, number: u64) -> (u64, usize)
+    requires short { length body.now ≤ 19 }
+    requires within { from ≤ length body.now }
+    requires small { number < 10 ^ from }
+    ensures from { from ≤ result.1 }
+    ensures within { result.1 ≤ length body.now }
+    ensures digits { AllDigits 10 (slice_range body.now from result.1) }
+    ensures value { result.0 ≡ digits_value_after 10 number (slice_range body.now from result.1) }
+    ensures small { result.0 < 10 ^ result.1 }
+{
+    let mut all = number;
+    let mut at = from;
+    while at < body.len() && body[at].is_ascii_digit() {
+        all = all * 10 + u64::from(body[at] - b'0');
+        at += 1;
+    }
+    (all, at)
+}
+
 /// The magnitude of the least number of units.
 const LIMIT: u128 = 1 << 127;
 
-/// Reads digits with at most one point, as units of ten to the minus `places`.
-pub fn read_magnitude(places: u32, body: &[u8]) -> Option<u128>
+/// The same, one digit after the other.
+fn read_magnitude(places: u32, body: &[u8]) -> Option<u128>
     requires { places ≤ 36 }
     ensures { result ≡ read_magnitude (2 ^ 127) places body.now }
 {
