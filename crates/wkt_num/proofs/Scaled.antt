@@ -66,7 +66,9 @@ puts D out whole at rest one few o h c = go c.f c.j c.k c.place c.left c.is c.le
         let x : ℕ = 48 + rest * 10 / one in
         let more : List ℕ = fraction_digits j (f % 10 ^ j) in
         record {
-          f = f % 10 ^ j; j = j; k = suc k;
+          f = f % 10 ^ j;
+          j = j;
+          k = suc k;
           place = omega (arith, place);
           left = omega (arith, left);
           is = remains;
