@@ -1,27 +1,70 @@
-//! Decimal digits into a sink.
-ghost use Rattle.std.specs.Prelude.{◌≡◌, ◌<◌, ◌≤◌, ◌+◌, ◌++◌, drop};
+//! Whole numbers as text, in one piece to a sink.
+ghost use Rattle.std.specs.Prelude.{◌≡◌, ◌<◌, ◌≤◌, ◌+◌, ◌-◌, ◌^◌, ◌++◌, drop};
 ghost use Rattle.std.specs.Fmt.{decimal, sign_text};
 ghost use Rattle.wkt_num.specs.Sink.{Puts};
 
 use crate::sink::TextSink;
 use std::fmt;
 
-/// Writes the digits of `n` at the end of `out`, and answers where they start.
-pub fn put_digits(n: u128, out: &mut [u8; 64]) -> usize
-    ensures bound { result ≤ 64 }
-    ensures value { drop result out.new ≡ decimal n }
+/// Writes a minus if `negative`, and then `n`.
+pub fn write_whole<W: TextSink>(negative: bool, n: u128, f: &mut W) -> fmt::Result
+    ensures { Puts W.text W.failures W.took W.broke f.old (sign_text negative ++ decimal n) f.new result }
 {
-    let mut i = 64;
-    let mut rest = n;
-    while i > 0 {
-        i -= 1;
-        out[i] = digit_byte((rest % 10) as u8);
-        rest /= 10;
-        if rest == 0 {
-            break;
-        }
+    let mut out = [b'.'; 80];
+    let start = put_whole(negative, n, &mut out);
+    let Ok(text) = str::from_utf8(&out[start..40]) else {
+        unreachable!();
+    };
+    f.write_str(text)
+}
+
+/// Puts a minus if `negative` and the digits of `n` before place 40, and answers where they start.
+pub fn put_whole(negative: bool, n: u128, out: &mut [u8; 80]) -> usize
+    ensures bound { result ≤ 40 }
+    ensures value { drop result out.new ≡ sign_text negative ++ decimal n ++ drop 40 out.old }
+{
+    let start = put_digits(n, out);
+    if !negative {
+        return start;
     }
-    i
+    out[start - 1] = b'-';
+    start - 1
+}
+
+/// Puts the digits of `n` before place 40, and answers where they start.
+fn put_digits(n: u128, out: &mut [u8; 80]) -> usize
+    ensures sign { 1 ≤ result }
+    ensures bound { result ≤ 40 }
+    ensures value { drop result out.new ≡ decimal n ++ drop 40 out.old }
+{
+    let mut end = 40;
+    let mut rest = n;
+    while rest > u128::from(u64::MAX) {
+        end -= 1;
+        out[end] = digit_byte((rest % 10) as u8);
+        rest /= 10;
+    }
+    put_short(rest as u64, end, out)
+}
+
+/// Puts the digits of `n` before `end`, and answers where they start.
+fn put_short(n: u64, end: usize, out: &mut [u8; 80]) -> usize
+    requires some { 2 ≤ end }
+    requires within { end ≤ 40 }
+    requires room { n < 10 ^ (end - 1) }
+    ensures sign { 1 ≤ result }
+    ensures bound { result ≤ end }
+    ensures value { drop result out.new ≡ decimal n ++ drop end out.old }
+{
+    let mut at = end - 1;
+    let mut rest = n;
+    while rest >= 10 {
+        out[at] = digit_byte((rest % 10) as u8);
+        rest /= 10;
+        at -= 1;
+    }
+    out[at] = digit_byte(rest as u8);
+    at
 }
 
 fn digit_byte(d: u8) -> u8
@@ -29,31 +72,4 @@ fn digit_byte(d: u8) -> u8
     ensures { result ≡ 48 + d }
 {
     b'0' + d
-}
-
-/// Writes a minus if `negative`, and then `n`.
-pub fn write_whole<W: TextSink>(negative: bool, n: u128, f: &mut W) -> fmt::Result
-    ensures { Puts W.text W.failures W.took W.broke f.old (sign_text negative ++ decimal n) f.new result }
-{
-    f.write_str(sign(negative))?;
-    write_digits(n, f)
-}
-
-/// The minus, or nothing.
-pub fn sign(negative: bool) -> &'static str
-    ensures { result.now ≡ sign_text negative }
-{
-    if negative { "-" } else { "" }
-}
-
-/// Writes `n`.
-fn write_digits<W: TextSink>(n: u128, f: &mut W) -> fmt::Result
-    ensures { Puts W.text W.failures W.took W.broke f.old (decimal n) f.new result }
-{
-    let mut out = [0; 64];
-    let start = put_digits(n, &mut out);
-    let Ok(text) = str::from_utf8(&out[start..]) else {
-        unreachable!();
-    };
-    f.write_str(text)
 }

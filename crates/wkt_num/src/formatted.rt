@@ -1,6 +1,5 @@
 //! A formatter as a sink.
 ghost use Rattle.std.specs.Prelude.{◌≡◌, []};
-ghost use Rattle.wkt_num.specs.Counted.{Hands, Shows};
 
 use crate::sink::TextSink;
 use crate::tape::Tape;
@@ -17,11 +16,13 @@ pub struct FormatterText<'a, W: fmt::Write> {
 }
 
 impl<'a, W: fmt::Write> FormatterText<'a, W> {
+    ghost use Rattle.wkt_num.specs.Counted.{formatter_of, formatted_text, formatted_failures};
+
     /// A sink that has been given nothing yet.
     pub fn new(formatter: &'a mut Formatter<W>) -> FormatterText<'a, W>
-        ensures formatter { result.formatter ≡ formatter.entry }
-        ensures failures { result.failures ≡ 0 }
-        ensures text { result.tape.bytes ≡ [] }
+        ensures formatter { formatter_of result ≡ formatter.entry }
+        ensures failures { formatted_failures result ≡ 0 }
+        ensures text { formatted_text result ≡ [] }
     {
         FormatterText {
             formatter,
@@ -32,18 +33,20 @@ impl<'a, W: fmt::Write> FormatterText<'a, W> {
 
     /// Gives the formatter back.
     pub fn into_formatter(self) -> &'a mut Formatter<W>
-        ensures { result ≡ self.entry.formatter }
+        ensures { result ≡ formatter_of self.entry }
     {
         self.formatter
     }
 }
 
 impl<'a, W: fmt::Write> TextSink for FormatterText<'a, W> {
-    ghost text = { λ s. s.tape.bytes };
+    ghost use Rattle.wkt_num.specs.Counted.{Hands, Shows, formatter_of, formatted_text, formatted_failures};
 
-    ghost failures = { λ s. s.failures };
+    ghost text = { formatted_text };
 
-    ghost took = { λ s bs t. Hands (Shows W.write_str_gives) s.formatter bs t.formatter };
+    ghost failures = { formatted_failures };
+
+    ghost took = { λ s bs t. Hands (Shows W.write_str_gives) (formatter_of s) bs (formatter_of t) };
 
     fn write_str(&mut self, piece: &str) -> fmt::Result {
         match self.formatter.write_str(piece) {

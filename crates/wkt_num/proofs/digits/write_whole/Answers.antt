@@ -1,8 +1,11 @@
-use Rattle.wkt_num.proofs.Calls.{breaks_first, puts_err, puts_then}
+use Rattle.std.proofs.Common.{subst, sym, refl, arith}
+use Rattle.std.specs.Str.{IsUtf8}
+use Rattle.std.proofs.lemmas.Str.{IsUtf8-from_ascii}
+use Rattle.wkt_num.proofs.Piece.{whole-piece, whole-ascii}
 use Rattle.wkt_num.proofs.digits.write_whole.Goals as goal
 
-pub returns-in_err-write_str : goal.returns-in_err-write_str
-returns-in_err-write_str g c = puts_err _ _ c.from_residual.ensures.1 (rw (← c.sign.ensures) (breaks_first _ c.in_err-write_str.ensures))
-
-pub returns : goal.returns
-returns g c = rw (← c.sign.ensures) (puts_then _ _ _ _ c.in_ok-write_str.ensures c.write_digits.ensures)
+pub unreachable-requires : goal.unreachable-requires
+unreachable-requires g c =
+    let put = c.put_whole-start in
+    let is = whole-piece put.new.out _ _ put.result put.ensures.value put.array_long refl put.ensures.bound in
+    c.in_default.ensures.cases.0 (subst IsUtf8 (sym is) (IsUtf8-from_ascii _ (whole-ascii c.args.negative c.args.n (omega (arith, c.ranges.n.fits)))))

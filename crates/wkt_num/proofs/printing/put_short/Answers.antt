@@ -1,0 +1,16 @@
+use Rattle.std.proofs.Common.{arith}
+use Rattle.wkt_num.proofs.Scaled.{starts, puts, ends, within}
+use Rattle.wkt_num.proofs.Printed.{ten-fits, next-fits}
+use Rattle.wkt_num.proofs.printing.put_short.Goals as goal
+
+pub loop-rest-init : goal.loop-rest-init
+loop-rest-init c = starts _ _ _ c.requires.less c.told-out
+
+pub overflow_mul-next : goal.overflow_mul-next
+overflow_mul-next c = omega (arith, next-fits c.loop-rest.rest c.args.places 18 c.requires.few c.loop-rest.invariant.small)
+
+pub loop-rest-preserved : goal.loop-rest-preserved
+loop-rest-preserved c = puts _ _ _ _ _ _ (omega (arith, c.requires.few)) c.ten_to-one.ensures c.loop-rest-test.true c.loop-rest.invariant
+
+pub returns-clause-value : goal.returns-clause-value
+returns-clause-value c = ends _ _ _ _ c.loop-rest-test.false c.loop-rest.invariant

@@ -1,0 +1,167 @@
+//! Decimal fractions from text.
+ghost use Rattle.std.specs.Prelude.{◌≡◌, ◌≢◌, true, false, ◌+◌, ◌*◌, ◌^◌, ◌≤◌, ◌<◌, Some, IfSome, length, slice_range, nat_le};
+ghost use Rattle.std.specs.Str.Parse.{AllDigits, digits_value_after, starts_with_minus, without_leading_sign};
+ghost use Rattle.wkt_num.specs.Whole.{keep_if};
+ghost use Rattle.wkt_num.specs.Decimal.{read_magnitude, with_sign};
+
+use crate::powers::{SHORT_PLACES, ten_to};
+
+/// Whether a minus stands first, and what follows a sign.
+pub fn split_sign(text: &[u8]) -> (bool, &[u8])
+    ensures negative { result.0 ≡ starts_with_minus text.now }
+    ensures body { result.1.now ≡ without_leading_sign text.now }
+{
+    match text {
+        [b'-', body @ ..] => (true, body),
+        [b'+', body @ ..] => (false, body),
+        _ => (false, text),
+    }
+}
+
+/// Reads digits with at most one point, as units of ten to the minus `places`.
+pub fn read_body(places: u32, body: &[u8]) -> Option<u128>
+    requires { places ≤ 36 }
+    ensures { result ≡ read_magnitude (2 ^ 127) places body.now }
+{
+    if let Some(units) = read_short(places, body) {
+        return Some(units);
+    }
+    read_magnitude(places, body)
+}
+
+/// The most bytes whose digits, with a point among them or not, fit 64 bits.
+const SHORT_BYTES: usize = 19;
+
+/// The same by 64 bits, for a short body of digits, or of digits with a point and at most `places`
+/// digits behind it. Of any other body nothing is said.
+fn read_short(places: u32, body: &[u8]) -> Option<u128>
+    ensures { IfSome result (λ units. read_magnitude (2 ^ 127) places body.now ≡ Some units) }
+{
+    if places > SHORT_PLACES || body.len() > SHORT_BYTES {
+        return None;
+    }
+    let (whole, at) = digits_from(body, 0, 0);
+    if at == body.len() {
+        if at == 0 {
+            return None;
+        }
+        return Some(u128::from(whole) * u128::from(ten_to(places)));
+    }
+    if body[at] != b'.' {
+        return None;
+    }
+    let behind = (body.len() - at - 1) as u32;
+    if behind == 0 || behind > places {
+        return None;
+    }
+    let (all, end) = digits_from(body, at + 1, whole);
+    if end < body.len() {
+        return None;
+    }
+    Some(u128::from(all) * u128::from(ten_to(places - behind)))
+}
+
+/// The number followed by the digits from `from` on, and where they end.
+fn digits_from(body: &[u8], from: usize, number: u64) -> (u64, usize)
+    requires short { length body.now ≤ 19 }
+    requires within { from ≤ length body.now }
+    requires small { number < 10 ^ from }
+    ensures from { from ≤ result.1 }
+    ensures within { result.1 ≤ length body.now }
+    ensures digits { AllDigits 10 (slice_range body.now from result.1) }
+    ensures value { result.0 ≡ digits_value_after 10 number (slice_range body.now from result.1) }
+    ensures small { result.0 < 10 ^ result.1 }
+{
+    let mut all = number;
+    let mut at = from;
+    while at < body.len() && body[at].is_ascii_digit() {
+        all = all * 10 + u64::from(body[at] - b'0');
+        at += 1;
+    }
+    (all, at)
+}
+
+/// The magnitude of the least number of units.
+const LIMIT: u128 = 1 << 127;
+
+/// The same, one digit after the other.
+fn read_magnitude(places: u32, body: &[u8]) -> Option<u128>
+    requires { places ≤ 36 }
+    ensures { result ≡ read_magnitude (2 ^ 127) places body.now }
+{
+    let mut units = 0;
+    let mut taken = 0;
+    let mut seen = false;
+    let mut any = false;
+    for byte in body {
+        if *byte == b'.' {
+            if seen {
+                return None;
+            }
+            seen = true;
+        } else if byte.is_ascii_digit() {
+            any = true;
+            if !seen {
+                units = append(units, *byte - b'0')?;
+            } else if taken < places {
+                units = append(units, *byte - b'0')?;
+                taken += 1;
+            } else if is_lost(*byte) {
+                return None;
+            }
+        } else {
+            return None;
+        }
+    }
+    if !any {
+        return None;
+    }
+    raise(units, places - taken)
+}
+
+/// Whether a digit past the last place says something.
+fn is_lost(byte: u8) -> bool
+    ensures lost { result ≡ true → byte ≢ 48 }
+    ensures kept { result ≡ false → byte ≡ 48 }
+{
+    byte != b'0'
+}
+
+/// The number followed by a digit, if it isn't past the limit.
+fn append(number: u128, digit: u8) -> Option<u128>
+    requires { digit < 10 }
+    ensures { result ≡ keep_if (nat_le (number * 10 + digit) (2 ^ 127)) (number * 10 + digit) }
+{
+    if number > LIMIT / 10 {
+        return None;
+    }
+    let next = number * 10 + u128::from(digit);
+    if next > LIMIT { None } else { Some(next) }
+}
+
+/// The number followed by zeros, if it isn't past the limit.
+fn raise(number: u128, zeros: u32) -> Option<u128>
+    requires { number ≤ 2 ^ 127 }
+    ensures { result ≡ keep_if (nat_le (number * 10 ^ zeros) (2 ^ 127)) (number * 10 ^ zeros) }
+{
+    let mut raised = number;
+    for done in 0..zeros {
+        let Some(next) = append(raised, 0) else {
+            return None;
+        };
+        raised = next;
+    }
+    Some(raised)
+}
+
+/// The magnitude with its sign.
+pub fn with_sign(negative: bool, magnitude: u128) -> Option<i128>
+    requires { magnitude ≤ 2 ^ 127 }
+    ensures { result ≡ with_sign 127 negative magnitude }
+{
+    if magnitude == LIMIT {
+        return if negative { Some(i128::MIN) } else { None };
+    }
+    let units = magnitude as i128;
+    Some(if negative { -units } else { units })
+}

@@ -1,0 +1,3 @@
+pub mod Odd
+pub mod OddLaws
+pub mod Wrong

@@ -1,0 +1,7 @@
+//! Tests that cross crates, and number types for them.
+#![tactic(auto)]
+
+pub mod odd;
+
+#[cfg(test)]
+mod tests;
