@@ -2,7 +2,7 @@
 #![tactic(auto)]
 
 pub use wkt_num::{Decimal, WktNum};
-pub use wkt_read::{FromWktStr, ReadError};
+pub use wkt_read::{FromWktStr, InferError, ReadError, infer_type};
 pub use wkt_types::Wkt;
 
 /// The traits by which any representation of a geometry is accessed.
@@ -46,4 +46,15 @@ pub mod error {
 /// The lexemes of a text.
 pub mod tokenizer {
     pub use wkt_read::{PeekableTokens, Token, Tokens};
+}
+
+/// The laws of the definitions that the contracts cite: public functions with empty bodies, whose
+/// contracts are the laws.
+pub mod laws {
+    pub use wkt_num::laws::{finer_keeps, reading_is_equation, wider_keeps};
+    pub use wkt_read::laws::{
+        canon_once, dead_for_good, front_is_writable, head_names, old_forms, one_form, one_front,
+        one_split, one_text, one_value_text, read_values_are_writable, reads_back, stable_front,
+        value_reads_back, whole_characters,
+    };
 }

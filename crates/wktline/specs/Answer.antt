@@ -1,5 +1,6 @@
 -- A fact for one fault of an answer. Only private contracts cite these words.
-use Rattle.std.specs.Prelude.{Result, Ok, Err}
+use Rattle.std.specs.Prelude.{ℕ, List, Result, Ok, Err}
+use Rattle.wkt_num.specs.Sink.{Adds, Breaks}
 use Rattle.wktline.specs.declared.answer.AnswerError.{AnswerError}
 use Rattle.wktline.specs.declared.answer.AnswerError.TheVariants.{Sink, Memory}
 
@@ -14,3 +15,9 @@ abbrev pub IfMemory : {A : Type 0} → Result A AnswerError → Type 0 → Type 
 IfMemory (Ok x) P = Unit {0}
 IfMemory (Err (Sink e)) P = Unit {0}
 IfMemory (Err (Memory e)) P = P
+
+-- The text was added, or the sink broke off when a beginning of it was.
+abbrev pub Answers : {S A : Type 0} → (S → List ℕ) → (S → ℕ) → (took broke : S → List ℕ → S → Type 0) → S → List ℕ → S → Result A AnswerError → Type 0
+Answers text failures took broke s bs t (Ok x) = Adds text failures took s bs t
+Answers text failures took broke s bs t (Err (Sink e)) = Breaks text failures took broke s bs t
+Answers text failures took broke s bs t (Err (Memory e)) = ⊥

@@ -4,8 +4,6 @@
 
 mod answer;
 mod run;
-#[cfg(test)]
-mod tests;
 
 use run::{RunError, run};
 use std::process::ExitCode;
