@@ -69,15 +69,15 @@ begun first out rest bs line a b c h n e k w (answer, is, beg) = record {
 }
 
 -- what was written is an answer
-module _ {N S A : Type 0} {read : List ℕ → Option N} {num : N → List ℕ} {text : S → List ℕ} {failures : S → ℕ} {took broke : S → List ℕ → S → Type 0} where
-  pub answer_ok : (s t : S) (line answer : List ℕ) (r : Result A AnswerError) → IsAnswer read num line answer → Answers text failures took broke s answer t r → OnOk r ((a : List ℕ) × IsAnswer read num line a × Adds text failures took s a t)
-  answer_ok s t line answer (Ok x) is h = (answer, is, h)
-  answer_ok s t line answer (Err e) is h = tt
+module _ {S A : Type 0} (text : S → List ℕ) (failures : S → ℕ) (took broke : S → List ℕ → S → Type 0) where
+  pub answer_ok : {N : Type 0} (read : List ℕ → Option N) (num : N → List ℕ) (s t : S) (line answer : List ℕ) (r : Result A AnswerError) → IsAnswer read num line answer → Answers text failures took broke s answer t r → OnOk r ((a : List ℕ) × IsAnswer read num line a × Adds text failures took s a t)
+  answer_ok read num s t line answer (Ok x) is h = (answer, is, h)
+  answer_ok read num s t line answer (Err e) is h = tt
 
-  pub answer_sink : (s t : S) (line answer : List ℕ) (r : Result A AnswerError) → IsAnswer read num line answer → Answers text failures took broke s answer t r → IfSink r ((a : List ℕ) × IsAnswer read num line a × Breaks text failures took broke s a t)
-  answer_sink s t line answer (Ok x) is h = tt
-  answer_sink s t line answer (Err (answered.Sink e)) is h = (answer, is, h)
-  answer_sink s t line answer (Err (answered.Memory e)) is h = tt
+  pub answer_sink : {N : Type 0} (read : List ℕ → Option N) (num : N → List ℕ) (s t : S) (line answer : List ℕ) (r : Result A AnswerError) → IsAnswer read num line answer → Answers text failures took broke s answer t r → IfSink r ((a : List ℕ) × IsAnswer read num line a × Breaks text failures took broke s a t)
+  answer_sink read num s t line answer (Ok x) is h = tt
+  answer_sink read num s t line answer (Err (answered.Sink e)) is h = (answer, is, h)
+  answer_sink read num s t line answer (Err (answered.Memory e)) is h = tt
 
   pub answer_memory : (P : Type 0) (s t : S) (answer : List ℕ) (r : Result A AnswerError) → Answers text failures took broke s answer t r → IfMemory r P
   answer_memory P s t answer (Ok x) h = tt
