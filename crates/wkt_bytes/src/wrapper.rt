@@ -100,6 +100,12 @@ impl<W: ByteSink> WriterWrapper<W> {
         ensures failures { self.new.failures ≡ self.old.failures }
         ensures tape { self.new.tape ≡ self.old.tape }
     {
+        // Most pieces are one byte, and a copy is a call.
+        if let [byte] = bytes {
+            self.held[self.len] = *byte;
+            self.len += 1;
+            return;
+        }
         let end = self.len + bytes.len();
         self.held[self.len..end].copy_from_slice(bytes);
         self.len = end;
