@@ -4,6 +4,8 @@
 
 mod answer;
 mod run;
+#[cfg(test)]
+mod tests;
 
 use run::{RunError, run};
 use std::process::ExitCode;
