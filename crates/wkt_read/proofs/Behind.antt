@@ -1,5 +1,5 @@
 -- One lexeme further.
-use Rattle.std.proofs.Common.{◌≡◌, ℕ, List, [], ◌∷◌, ◌++◌, sym, refl, ap, ◌∙◌, subst, append_assoc, Option, Some, None, Err, ◌≢◌}
+use Rattle.std.proofs.Common.{◌≤◌, ◌≡◌, ℕ, List, [], ◌∷◌, ◌++◌, sym, refl, ap, ◌∙◌, subst, append_assoc, Option, Some, None, Err, ◌≢◌}
 use Rattle.wkt_num.specs.Bytes.{Lexeme, Num}
 use Rattle.wkt_read.specs.Placed.{Placed, lexemes_of}
 use Rattle.wkt_read.specs.declared.token.Raw.{Raw}
@@ -26,6 +26,10 @@ module _ {T : Type 0} where
   goes-moves s (Some l) t h start b =
       let y : Placed = record { lexeme = l; end = end_of t } in
       record { given = b.given ++ (y ∷ []); split = b.split ∙ ap (λ l. b.given ++ l) h.0 ∙ sym (append_assoc b.given (y ∷ []) (left t)); last = last-push b.given y }
+
+  pub grows-moves : (s : PeekableTokens T) (o : Option Lexeme) (t : PeekableTokens T) → Moves s o t → taken_of s ≤ taken_of t
+  grows-moves s None t h = h.3
+  grows-moves s (Some l) t h = h.3
 
   pub takes-moves : (s : PeekableTokens T) (o : Option Lexeme) (t : PeekableTokens T) → Moves s o t → Takes o (rest s) (rest t)
   unfolding rest
