@@ -1,17 +1,17 @@
 -- Coordinates and lists of them, each part with its reading.
-use Rattle.std.proofs.Common.{◌≡◌, ℕ, zero, suc, ◌+◌, ◌≤◌, List, [], ◌∷◌, ◌++◌, length, length-append, sym, refl, ap, ◌∙◌, subst, append_assoc, arith, Option, Some, None, Result, Ok, Err, Bool, true, false, cond, inl, inr}
+use Rattle.std.proofs.Common.{◌≡◌, ℕ, zero, suc, ◌≤◌, List, [], ◌∷◌, ◌++◌, length, sym, refl, ap, ◌∙◌, subst, append_assoc, arith, Option, Some, None, Ok, Bool, true, false, cond, inl, inr}
 use Rattle.std.specs.Prelude.{◌⊎◌}
 use Rattle.wkt_num.specs.Bytes.{Lexeme, Open, Close, Comma, Word, Num}
 use Rattle.wkt_access.specs.declared.Dimension.{Dimension}
 use Rattle.wkt_access.specs.Values.{size}
 use Rattle.wkt_read.specs.Grammar.{IsEmptyWord, Within, Numbers, Coord, Ring, Poly, Member}
-use Rattle.wkt_read.specs.Begun.{BegunEmpty, BegunWithin, BegunCoord, BegunRing, BegunPoly, BegunMember}
-use Rattle.wkt_read.specs.Reading.{is_empty_word, number_in, number_at, coord_at, inside_at, line_at, lines_at, polygons_at, member_at, closing_at}
+use Rattle.wkt_read.specs.Begun.{BegunCoord, BegunRing, BegunPoly, BegunMember}
+use Rattle.wkt_read.specs.Reading.{is_empty_word, number_in, number_at, coord_at, inside_at, line_at, lines_at, member_at, closing_at}
 use Rattle.wkt_read.proofs.OneForm.{coord_starts}
 use Rattle.wkt_read.proofs.Begun.{cuts_word, cuts_numbers, cuts_coord, cuts_member}
-use Rattle.wkt_read.proofs.Tells.{Telling, told, tell, andthen, mapped, closed_f, numbers_f, coord_f, inside_f, line_f, lines_f, polygons_f, member_f, plain_coord, plain_member}
+use Rattle.wkt_read.proofs.Tells.{told, tell, andthen, mapped, closed_f, numbers_f, coord_f, inside_f, line_f, lines_f, member_f, plain_coord, plain_member}
 use Rattle.wkt_read.proofs.Told.{Told, told_then, told_weaken, told_closed, Framed, BegunFrame, empty_is, is_empty}
-use Rattle.wkt_read.proofs.Reaches.{reach, told_reach, reach_mapped, reach_closed}
+use Rattle.wkt_read.proofs.Reaches.{reach, told_reach, reach_closed}
 use Rattle.wkt_read.proofs.Parts.{Part, Anything, Just, just_part, listed_part, whole_begun, within_cut}
 
 module _ {N : Type 0} (read : List ℕ → Option N) where

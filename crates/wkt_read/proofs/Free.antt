@@ -1,9 +1,9 @@
 -- What is read without memory has no list in parentheses.
-use Rattle.std.proofs.Common.{◌≡◌, ℕ, ◌≤◌, List, [], ◌∷◌, ◌++◌, length, sym, subst, refl, ap, ◌∙◌, append_assoc, arith, Option, Some, None, Result, Ok, Err, true, false, cond, Bool, inl, inr}
+use Rattle.std.proofs.Common.{◌≡◌, ℕ, ◌≤◌, List, [], ◌++◌, length, sym, subst, refl, ap, ◌∙◌, append_assoc, arith, Option, Ok, Err, true, false, cond, Bool, inl, inr}
 use Rattle.std.specs.Prelude.{◌⊎◌}
-use Rattle.wkt_num.specs.Bytes.{Lexeme, Word}
+use Rattle.wkt_num.specs.Bytes.{Lexeme}
 use Rattle.wkt_access.specs.declared.Dimension.{Dimension}
-use Rattle.wkt_access.specs.Values.{Value, Values}
+use Rattle.wkt_access.specs.Values.{Value}
 use Rattle.wkt_types.specs.declared.geometry_type.GeometryType.{GeometryType}
 use Rattle.wkt_types.specs.declared.geometry_type.GeometryType.TheVariants as kind
 use Rattle.wkt_read.specs.Kinds.{kind_of, dim_of}

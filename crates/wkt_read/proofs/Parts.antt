@@ -1,7 +1,7 @@
 -- A part of the grammar with its reading: what is read, where a reading stops, and what is begun.
-use Rattle.std.proofs.Common.{◌≡◌, ℕ, zero, suc, ◌+◌, ◌≤◌, ◌<◌, List, [], ◌∷◌, ◌++◌, length, length-append, sym, refl, ap, ◌∙◌, subst, append_assoc, append-nil, arith, Option, Some, None, Result, Ok, Err, Bool, true, false, cond, inl, inr}
+use Rattle.std.proofs.Common.{◌≡◌, ℕ, ◌≤◌, List, [], ◌∷◌, ◌++◌, length, length-append, sym, refl, ap, ◌∙◌, subst, append_assoc, append-nil, arith, Option, Some, None, Ok, inl, inr}
 use Rattle.std.specs.Prelude.{◌⊎◌}
-use Rattle.wkt_num.specs.Bytes.{Lexeme, Open, Close, Comma, Word, Num}
+use Rattle.wkt_num.specs.Bytes.{Lexeme, Open, Close, Comma}
 use Rattle.wkt_read.specs.Grammar.{IsEmptyWord, Within, Many, Listed, Perhaps}
 use Rattle.wkt_read.specs.Begun.{BegunEmpty, BegunNext, BegunMany, BegunWithin, BegunListed, BegunPerhaps}
 use Rattle.wkt_read.specs.Reading.{Reading, ◌>>=◌, framed, many_at}

@@ -1,11 +1,11 @@
 -- Where a reading stops: whole parts are read, and a reading that begins with a beginning of a part doesn't stop in it.
-use Rattle.std.proofs.Common.{◌≡◌, ℕ, zero, suc, ◌+◌, ◌≤◌, List, [], ◌∷◌, ◌++◌, length, length-append, sym, refl, ap, ◌∙◌, subst, append_assoc, append-nil, arith, Option, Some, None, Result, Ok, Err, Bool, true, false, cond, inl, inr}
+use Rattle.std.proofs.Common.{◌≡◌, ℕ, zero, suc, ◌+◌, ◌≤◌, List, [], ◌∷◌, ◌++◌, length, length-append, sym, ap, ◌∙◌, subst, append_assoc, arith, Ok, Err, false, cond, inl, inr}
 use Rattle.std.specs.Prelude.{◌⊎◌}
 use Rattle.wkt_num.specs.Bytes.{Lexeme, Open, Close, Comma, Word, Num}
-use Rattle.wkt_read.specs.Grammar.{IsEmptyWord, Within, More, Many}
+use Rattle.wkt_read.specs.Grammar.{IsEmptyWord, More, Many}
 use Rattle.wkt_read.specs.Begun.{BegunEmpty, BegunNext, BegunMany, BegunWithin}
 use Rattle.wkt_read.specs.Reading.{opening_at, closing_at}
-use Rattle.wkt_read.proofs.Tells.{Telling, told, tell, andthen, fronted, mapped, closed_f, framed_f, tail_f, many_f}
+use Rattle.wkt_read.proofs.Tells.{Telling, told, andthen, fronted, mapped, closed_f, framed_f, tail_f, many_f}
 use Rattle.wkt_read.proofs.Told.{Told, is_empty}
 
 -- how many lexemes there are from the place where a reading stops

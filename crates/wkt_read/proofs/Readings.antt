@@ -1,20 +1,20 @@
 -- A geometry with its reading: what is read is in the grammar, and what is in the grammar is read.
-use Rattle.std.proofs.Common.{◌≡◌, ℕ, zero, suc, ◌+◌, ◌≤◌, ◌<◌, List, [], ◌∷◌, ◌++◌, length, length-append, sym, refl, ap, ◌∙◌, subst, append_assoc, append-nil, arith, Option, Some, None, Result, Ok, Err, Bool, true, false, cond, inl, inr, codes}
+use Rattle.std.proofs.Common.{◌≡◌, ℕ, zero, suc, ◌≤◌, ◌<◌, List, [], ◌∷◌, ◌++◌, length, length-append, sym, refl, ap, ◌∙◌, subst, append_assoc, append-nil, arith, Option, Some, None, Ok, Err, Bool, true, false, inl, inr, codes}
 use Rattle.std.specs.Prelude.{◌⊎◌}
 use Rattle.std.specs.Str.{str_to_ascii_uppercase}
 use Rattle.wkt_num.specs.Bytes.{Lexeme, Open, Close, Comma, Word, Num}
 use Rattle.wkt_access.specs.declared.Dimension.{Dimension}
-use Rattle.wkt_access.specs.declared.Dimension.TheVariants.{XY, XYZ, XYM, XYZM}
+use Rattle.wkt_access.specs.declared.Dimension.TheVariants.{XY}
 use Rattle.wkt_access.specs.Values.{Value, Values}
 use Rattle.wkt_types.specs.declared.geometry_type.GeometryType.{GeometryType}
 use Rattle.wkt_types.specs.declared.geometry_type.GeometryType.TheVariants as kind
 use Rattle.wkt_read.specs.Kinds.{kind_of, dim_of}
-use Rattle.wkt_read.specs.Grammar.{KindWord, kind_word, dim_word, dim_in, DimPart, Head, IsEmptyWord, Within, More, Listed, Perhaps, Headed, Coord, Ring, Poly, Member, Geometry, Geometries, Further}
-use Rattle.wkt_read.specs.Begun.{BegunNext, BegunMany, BegunEmpty, BegunWithin, BegunListed, BegunPerhaps, BegunCoord, BegunRing, BegunPoly, BegunMember, BegunBody, BegunAt, BegunGeometry}
-use Rattle.wkt_read.specs.Reading.{Reading, ◌>>=◌, is_empty_word, members_of, worded, numbered, dimension_at, kinded, head_at, inside_at, point_at, line_at, lines_at, polygons_at, member_at, points_at, members_at, body_at, value_at}
-use Rattle.wkt_read.proofs.OneForm.{BeginsBody, BodyOf, geometry_body, body_begins, geometries_begins}
+use Rattle.wkt_read.specs.Grammar.{KindWord, kind_word, dim_word, dim_in, DimPart, Head, More, Listed, Perhaps, Headed, Coord, Ring, Poly, Member, Geometry, Geometries, Further}
+use Rattle.wkt_read.specs.Begun.{BegunNext, BegunEmpty, BegunWithin, BegunListed, BegunPerhaps, BegunCoord, BegunRing, BegunPoly, BegunMember, BegunBody, BegunAt, BegunGeometry}
+use Rattle.wkt_read.specs.Reading.{is_empty_word, members_of, worded, numbered, dimension_at, point_at, line_at, lines_at, polygons_at, member_at, points_at, members_at, body_at, value_at}
+use Rattle.wkt_read.proofs.OneForm.{BeginsBody, BodyOf, geometry_body, body_begins}
 use Rattle.wkt_read.proofs.Begun.{CutIn, Later, Earlier, cut_in, cuts_geometry, cuts_head, body_nothing, begun_listed_at}
-use Rattle.wkt_read.proofs.Tells.{Telling, plain, told, tell, andthen, mapped, framed_f, many_f, coord_f, inside_f, line_f, lines_f, polygons_f, member_f, points_f, joined_or_f, kinded_f, head_f, body_f, value_f, plain_then, plain_head, ok_told}
+use Rattle.wkt_read.proofs.Tells.{plain, told, tell, andthen, mapped, framed_f, many_f, inside_f, line_f, lines_f, polygons_f, member_f, points_f, joined_or_f, kinded_f, head_f, body_f, value_f, plain_then, plain_head, ok_told}
 use Rattle.wkt_read.proofs.Told.{Told, told_then, told_behind, is_empty}
 use Rattle.wkt_read.proofs.Reaches.{reach, told_reach, reach_then, reach_mapped}
 use Rattle.wkt_read.proofs.Parts.{Part, Anything, map_part, listed_part, perhaps_part}

@@ -7,7 +7,7 @@ use Rattle.wkt_access.specs.Values.{size, Value}
 use Rattle.wkt_types.specs.declared.geometry_type.GeometryType.{GeometryType}
 use Rattle.wkt_types.specs.declared.geometry_type.GeometryType.TheVariants as kind
 use Rattle.wkt_read.specs.Grammar.{KindWord, kind_word}
-use Rattle.wkt_read.specs.Reading.{Reading, ◌>>=◌, with_front, left_by, is_empty_word, members_of, opening_at, closing_at, closed, framed, tail_at, many_at, number_at, coord_at, dimension_at, joined_or_at, kinded, head_at, inside_at, line_at, lines_at, member_at, body_at, value_at}
+use Rattle.wkt_read.specs.Reading.{Reading, ◌>>=◌, with_front, left_by, is_empty_word, members_of, opening_at, closing_at, closed, framed, tail_at, many_at, number_at, coord_at, dimension_at, joined_or_at, kinded, head_at, inside_at, member_at}
 
 abbrev pub Telling : Type 0 → Type 0
 Telling A = Result (A × List Lexeme) (List Lexeme × List Lexeme)

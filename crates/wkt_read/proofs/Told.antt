@@ -1,14 +1,14 @@
 -- What a reading tells of the lexemes before the place where it stops.
-use Rattle.std.proofs.Common.{◌≡◌, ℕ, zero, suc, ◌+◌, ◌≤◌, ◌<◌, List, [], ◌∷◌, ◌++◌, length, length-append, sym, refl, ap, ◌∙◌, subst, append_assoc, append-nil, arith, Option, Some, None, Result, Ok, Err, Bool, true, false, cond, inl, inr, codes}
+use Rattle.std.proofs.Common.{◌≡◌, ℕ, zero, suc, ◌+◌, ◌≤◌, ◌<◌, List, [], ◌∷◌, ◌++◌, length, length-append, sym, refl, ap, ◌∙◌, subst, append_assoc, append-nil, arith, Ok, Err, Bool, true, false, cond, inl, inr, codes}
 use Rattle.std.specs.Prelude.{◌⊎◌}
-use Rattle.std.specs.Str.{str_to_ascii_uppercase, bytes_eq}
+use Rattle.std.specs.Str.{str_to_ascii_uppercase}
 use Rattle.std.proofs.lemmas.Slice.Eq.{bytes_eq-Decides}
 use Rattle.wkt_num.specs.Bytes.{Lexeme, Open, Close, Comma, Word, Num}
 use Rattle.wkt_read.specs.Grammar.{IsEmptyWord, Within, More, Many}
 use Rattle.wkt_read.specs.Begun.{BegunEmpty, BegunNext, BegunMany, BegunWithin}
 use Rattle.wkt_read.specs.Early.{opens, closes}
-use Rattle.wkt_read.specs.Reading.{Reading, left_by, is_empty_word, opening_at, closing_at}
-use Rattle.wkt_read.proofs.Tells.{Telling, told, tell, andthen, fronted, mapped, closed_f, framed_f, tail_f, many_f}
+use Rattle.wkt_read.specs.Reading.{left_by, is_empty_word, opening_at, closing_at}
+use Rattle.wkt_read.proofs.Tells.{Telling, told, andthen, fronted, mapped, closed_f, framed_f, tail_f, many_f}
 
 pub opens_append : (a b : List Lexeme) → opens (a ++ b) ≡ opens a + opens b
 opens_append [] b = omega arith
