@@ -1,11 +1,10 @@
 -- One lexeme further.
-use Rattle.std.proofs.Common.{◌≡◌, ℕ, List, [], ◌∷◌, ◌++◌, sym, refl, ap, ◌∙◌, subst, append_assoc, Option, Some, None, Err, ◌≢◌}
-use Rattle.wkt_num.specs.Bytes.{Lexeme, Num}
+use Rattle.std.proofs.Common.{◌≤◌, ◌≡◌, ℕ, List, [], ◌∷◌, ◌++◌, sym, refl, ap, ◌∙◌, subst, append_assoc, Option, Some, None, Err, ◌≢◌}
+use Rattle.wkt_num.specs.Bytes.{Lexeme}
 use Rattle.wkt_read.specs.Placed.{Placed, lexemes_of}
 use Rattle.wkt_read.specs.declared.token.Raw.{Raw}
 use Rattle.wkt_read.specs.declared.token.Raw.TheVariants as raw
 use Rattle.wkt_read.specs.Raws.{found}
-use Rattle.wkt_read.specs.Bad.{HasBad}
 use Rattle.wkt_read.specs.Blames.{BlamesRaw}
 use Rattle.wkt_read.specs.declared.fault.Message.{Message}
 use Rattle.wkt_read.specs.declared.fault.Message.TheVariants as message
@@ -13,7 +12,7 @@ use Rattle.wkt_read.specs.Faults.{OnBad}
 use Rattle.wkt_read.specs.declared.peekable.PeekableTokens.{PeekableTokens}
 use Rattle.wkt_read.specs.Ahead.{left, end_of, taken_of, rest, Moves}
 use Rattle.wkt_read.specs.Walks.{GoesOn, Takes}
-use Rattle.wkt_read.specs.Ahead.{IfLast, IsBehind, IsNear}
+use Rattle.wkt_read.specs.Ahead.{IfLast}
 
 last-push : (given : List Placed) (x : Placed) → IfLast (given ++ x ∷ []) x.end
 last-push [] x = refl
@@ -26,6 +25,10 @@ module _ {T : Type 0} where
   goes-moves s (Some l) t h start b =
       let y : Placed = record { lexeme = l; end = end_of t } in
       record { given = b.given ++ (y ∷ []); split = b.split ∙ ap (λ l. b.given ++ l) h.0 ∙ sym (append_assoc b.given (y ∷ []) (left t)); last = last-push b.given y }
+
+  pub grows-moves : (s : PeekableTokens T) (o : Option Lexeme) (t : PeekableTokens T) → Moves s o t → taken_of s ≤ taken_of t
+  grows-moves s None t h = h.3
+  grows-moves s (Some l) t h = h.3
 
   pub takes-moves : (s : PeekableTokens T) (o : Option Lexeme) (t : PeekableTokens T) → Moves s o t → Takes o (rest s) (rest t)
   unfolding rest

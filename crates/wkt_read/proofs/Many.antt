@@ -1,11 +1,11 @@
 -- Items with commas between them, frames, and refusals that are passed on.
-use Rattle.std.proofs.Common.{◌≡◌, ℕ, zero, suc, ◌+◌, ◌≤◌, ◌<◌, List, [], ◌∷◌, ◌++◌, length, sym, refl, ap, ◌∙◌, subst, append_assoc, append-nil, arith, Result, Ok, Err, Bool, true, false, cond}
+use Rattle.std.proofs.Common.{◌≡◌, ℕ, zero, suc, ◌≤◌, List, [], ◌∷◌, ◌++◌, length, sym, refl, ap, ◌∙◌, subst, append_assoc, append-nil, arith, Result, Ok, Err, Bool, true, false, cond}
 use Rattle.std.specs.Prelude.{IfOk}
 use Rattle.std.specs.Result.{IsErr, IsErrAnd}
 use Rattle.std.specs.List.{AllByRecursion}
 use Rattle.wkt_num.specs.Bytes.{Lexeme, Open, Close, Comma, Word, Num}
 use Rattle.wkt_read.specs.Walks.{BeginsWithoutComma}
-use Rattle.wkt_read.specs.Reading.{Reading, ◌>>=◌, with_front, tail_at, many_at, framed, closed, opening_at, closing_at}
+use Rattle.wkt_read.specs.Reading.{Reading, ◌>>=◌, with_front, tail_at, many_at, framed, closed, opening_at}
 use Rattle.wkt_read.specs.declared.fault.Fault.{Fault}
 use Rattle.wkt_read.specs.declared.fault.Fault.TheVariants.{Text, Memory}
 use Rattle.wkt_read.specs.Reads.{ReadsIn, Closes}

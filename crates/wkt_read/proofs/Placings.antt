@@ -1,7 +1,7 @@
 -- The placed lexemes of a text are its split, and each beginning of them ends where it says.
 use Rattle.std.proofs.Common.{◌≡◌, ◌≢◌, ℕ, suc, ◌+◌, List, [], ◌∷◌, ◌++◌, length, inl, inr, refl, sym, ap, ◌∙◌, subst, arith, length-append}
-use Rattle.wkt_num.specs.Bytes.{Lexeme, Class, Nul, White, Mark, Run, class_of, AllWhite, AllRun}
-use Rattle.wkt_read.specs.Lexemes.{IsBoundary, lexeme_of, Spells, Takes, IsOver, IsSplit}
+use Rattle.wkt_num.specs.Bytes.{Class, Nul, White, Mark, Run, class_of, AllWhite, AllRun}
+use Rattle.wkt_read.specs.Lexemes.{IsBoundary, Spells, Takes, IsOver, IsSplit}
 use Rattle.wkt_read.specs.Placed.{Placed, lexemes_of, end_after, marks, front, behind_run, joined, placed_from, placed}
 
 -- The bytes are these lexemes, where `at` bytes stand before them.

@@ -1,5 +1,5 @@
 -- The words that the code compares are those of the grammar.
-use Rattle.std.proofs.Common.{◌≡◌, ℕ, List, [], ◌∷◌, map, refl, sym, ap, ◌∙◌, subst, Bool, true, false, cond, Option, Some, None, codes, arith}
+use Rattle.std.proofs.Common.{◌≡◌, ℕ, List, [], ◌∷◌, refl, sym, ap, ◌∙◌, subst, Bool, true, false, cond, Option, Some, codes, arith}
 use Rattle.std.specs.Str.{str_eq_ignore_ascii_case, str_to_ascii_uppercase, str_to_ascii_lowercase, bytes_eq}
 use Rattle.std.specs.Bool.{Decides}
 use Rattle.std.specs.Char.{to_ascii_uppercase, to_ascii_lowercase}

@@ -1,16 +1,16 @@
 -- Values that readers put together.
-use Rattle.std.proofs.Common.{◌≡◌, ℕ, zero, suc, ◌≤◌, ◌<◌, List, [], ◌∷◌, length, refl, sym, ap, ◌∙◌, subst, arith, Option, Some, None, Result, Ok, Err}
+use Rattle.std.proofs.Common.{◌≡◌, ℕ, zero, suc, ◌≤◌, ◌<◌, List, [], ◌∷◌, length, refl, sym, ap, ◌∙◌, subst, arith, Option, Result, Ok, Err}
 use Rattle.std.specs.Prelude.{map}
 use Rattle.std.specs.List.{AllByRecursion}
 use Rattle.wkt_num.specs.Bytes.{Lexeme}
 use Rattle.wkt_access.specs.declared.Dimension.{Dimension}
-use Rattle.wkt_access.specs.Values.{Value, Values}
+use Rattle.wkt_access.specs.Values.{Values}
 use Rattle.wkt_types.specs.declared.geometry_type.GeometryType.{GeometryType}
 use Rattle.wkt_types.specs.declared.geometry.Wkt.{Wkt}
 use Rattle.wkt_types.specs.Tree.{tree, trees_of}
-use Rattle.wkt_types.specs.Values.{value_of, values_of, IsUniform, AreUniform}
+use Rattle.wkt_types.specs.Values.{values_of, AreUniform}
 use Rattle.wkt_read.specs.declared.fault.Fault.{Fault}
-use Rattle.wkt_read.specs.Reading.{Reading, ◌>>=◌, head_at, body_at, value_at, members_of}
+use Rattle.wkt_read.specs.Reading.{◌>>=◌, head_at, body_at, value_at, members_of}
 use Rattle.wkt_read.specs.Reads.{ReadsIn, wkt_value, UniformWkt}
 
 pub members-value : {T : Type 0} (ws : List (Wkt T)) → values_of (trees_of (map tree ws)) ≡ members_of (map wkt_value ws)

@@ -1,5 +1,5 @@
 -- The lexemes of a text, each with its end, as a function of its bytes.
-use Rattle.std.specs.Prelude.{◌≡◌, ℕ, suc, ◌+◌, List, [], ◌∷◌, length}
+use Rattle.std.specs.Prelude.{ℕ, suc, ◌+◌, List, [], ◌∷◌, length}
 use Rattle.wkt_num.specs.Bytes.{Lexeme, Class, Nul, White, Mark, Run, class_of}
 use Rattle.wkt_read.specs.Lexemes.{lexeme_of}
 

@@ -1,5 +1,5 @@
 //! Types that are read from well-known text.
-ghost use Rattle.std.specs.Prelude.{◌≡◌, ℕ, true, OnOk, IfOk};
+ghost use Rattle.std.specs.Prelude.{◌≡◌, ◌≤◌, ℕ, true, OnOk, IfOk};
 ghost use Rattle.std.specs.Result.{IsOk};
 ghost use Rattle.wkt_access.specs.Values.{Value};
 ghost use Rattle.wkt_types.specs.Tree.{Tree, tree};
@@ -8,7 +8,7 @@ ghost use Rattle.wkt_read.specs.Front.{Front, HasNoFront, NeedsNoMemory};
 ghost use Rattle.wkt_read.specs.Begun.{NoneBegins};
 ghost use Rattle.wkt_read.specs.Early.{StopsEarly};
 ghost use Rattle.wkt_read.specs.Bad.{HasBad};
-ghost use Rattle.wkt_read.specs.Ahead.{left, rest, IsBehind, IsNear};
+ghost use Rattle.wkt_read.specs.Ahead.{left, rest, taken_of, IsBehind, IsNear};
 ghost use Rattle.wkt_read.specs.Answered.{IsFront, IsFrontTo, Begins, IsReadOff, HasBadNumber, OnText, OnMessage};
 
 use crate::error::ReadError;
@@ -27,6 +27,7 @@ fn read<T: WktNum>(alloc: Global, tokens: &mut PeekableTokens<'_, T>) -> Result<
     ensures bad { OnMessage result bad_number (HasBad T.read (rest tokens.old)) }
     ensures free { (v after : _) → Begins T.read (rest tokens.old) v after → NeedsNoMemory v → IsOk result }
     ensures behind { IsBehind (left tokens.old) tokens.new }
+    ensures grows { taken_of tokens.old ≤ taken_of tokens.new }
     ensures near { OnOk result (IsNear tokens.new) }
 {
     match value(alloc, tokens, false) {
@@ -92,6 +93,7 @@ pub trait FromWktStr {
         ensures bad { OnMessage result bad_number (HasBad Self.Num.read (rest tokens.old)) }
         ensures free { (v after : _) → Begins Self.Num.read (rest tokens.old) v after → NeedsNoMemory v → IsOk result }
         ensures behind { IsBehind (left tokens.old) tokens.new }
+        ensures grows { taken_of tokens.old ≤ taken_of tokens.new }
         ensures near { OnOk result (IsNear tokens.new) };
 }
 

@@ -3,7 +3,7 @@ ghost use Rattle.std.specs.Prelude.{◌≡◌, ℕ, ◌≤◌, ◌<◌, length, 
 ghost use Rattle.std.specs.List.{AllByRecursion};
 ghost use Rattle.wkt_types.specs.Coords.{numbers_of};
 ghost use Rattle.wkt_types.specs.Values.{HasDim, IsPointIn, IsLineIn, IsPolygonIn, point_numbers, line_numbers, polygon_numbers};
-ghost use Rattle.wkt_read.specs.Ahead.{rest};
+ghost use Rattle.wkt_read.specs.Ahead.{rest, taken_of};
 ghost use Rattle.wkt_read.specs.Walks.{GoesOn};
 ghost use Rattle.wkt_read.specs.Ahead.{IsNear};
 ghost use Rattle.wkt_read.specs.Reading.{Reads, coord_at, many_at, line_at, lines_at, polygons_at, member_at, points_at, IsOpened};
@@ -30,6 +30,7 @@ fn coords<T: WktNum>(
     ensures uniform { IfOk result (λ v. AllByRecursion (HasDim dim) v.items) }
     ensures bad { BlamesIn T.read tokens.old result }
     ensures goes_on { GoesOn tokens.old tokens.new }
+    ensures grows { taken_of tokens.old ≤ taken_of tokens.new }
     ensures fewer { length (rest tokens.new) ≤ length (rest tokens.old) }
 {
     let mut items = Vec::new(alloc);
@@ -55,6 +56,7 @@ pub(crate) fn line<T: WktNum>(
     ensures near { OnOk result (IsNear tokens.new) }
     ensures bad { BlamesIn T.read tokens.old result }
     ensures goes_on { GoesOn tokens.old tokens.new }
+    ensures grows { taken_of tokens.old ≤ taken_of tokens.new }
     ensures fewer { length (rest tokens.new) ≤ length (rest tokens.old) }
 {
     let paren = opening(tokens)?;
@@ -75,6 +77,7 @@ fn line_string<T: WktNum>(
     ensures uniform { IfOk result (IsLineIn dim) }
     ensures bad { BlamesIn T.read tokens.old result }
     ensures goes_on { GoesOn tokens.old tokens.new }
+    ensures grows { taken_of tokens.old ≤ taken_of tokens.new }
     ensures fewer { length (rest tokens.new) ≤ length (rest tokens.old) }
 {
     let coords = line(alloc, tokens, dim)?;
@@ -91,6 +94,7 @@ fn rings<T: WktNum>(
     ensures uniform { IfOk result (λ v. AllByRecursion (IsLineIn dim) v.items) }
     ensures bad { BlamesIn T.read tokens.old result }
     ensures goes_on { GoesOn tokens.old tokens.new }
+    ensures grows { taken_of tokens.old ≤ taken_of tokens.new }
     ensures fewer { length (rest tokens.new) ≤ length (rest tokens.old) }
 {
     let mut items = Vec::new(alloc);
@@ -116,6 +120,7 @@ pub(crate) fn lines<T: WktNum>(
     ensures near { OnOk result (IsNear tokens.new) }
     ensures bad { BlamesIn T.read tokens.old result }
     ensures goes_on { GoesOn tokens.old tokens.new }
+    ensures grows { taken_of tokens.old ≤ taken_of tokens.new }
     ensures fewer { length (rest tokens.new) ≤ length (rest tokens.old) }
 {
     let paren = opening(tokens)?;
@@ -136,6 +141,7 @@ fn polygon<T: WktNum>(
     ensures uniform { IfOk result (IsPolygonIn dim) }
     ensures bad { BlamesIn T.read tokens.old result }
     ensures goes_on { GoesOn tokens.old tokens.new }
+    ensures grows { taken_of tokens.old ≤ taken_of tokens.new }
     ensures fewer { length (rest tokens.new) ≤ length (rest tokens.old) }
 {
     let rings = lines(alloc, tokens, dim)?;
@@ -152,6 +158,7 @@ fn polygon_list<T: WktNum>(
     ensures uniform { IfOk result (λ v. AllByRecursion (IsPolygonIn dim) v.items) }
     ensures bad { BlamesIn T.read tokens.old result }
     ensures goes_on { GoesOn tokens.old tokens.new }
+    ensures grows { taken_of tokens.old ≤ taken_of tokens.new }
     ensures fewer { length (rest tokens.new) ≤ length (rest tokens.old) }
 {
     let mut items = Vec::new(alloc);
@@ -177,6 +184,7 @@ pub(crate) fn polygons<T: WktNum>(
     ensures near { OnOk result (IsNear tokens.new) }
     ensures bad { BlamesIn T.read tokens.old result }
     ensures goes_on { GoesOn tokens.old tokens.new }
+    ensures grows { taken_of tokens.old ≤ taken_of tokens.new }
     ensures fewer { length (rest tokens.new) ≤ length (rest tokens.old) }
 {
     let paren = opening(tokens)?;
@@ -197,6 +205,7 @@ fn member<T: WktNum>(
     ensures uniform { IfOk result (IsPointIn dim) }
     ensures bad { Blames T.read tokens.old result }
     ensures goes_on { GoesOn tokens.old tokens.new }
+    ensures grows { taken_of tokens.old ≤ taken_of tokens.new }
     ensures fewer { length (rest tokens.new) ≤ length (rest tokens.old) }
 {
     let framed = match tokens.look() {
@@ -222,6 +231,7 @@ fn point_list<T: WktNum>(
     ensures uniform { IfOk result (λ v. AllByRecursion (IsPointIn dim) v.items) }
     ensures bad { BlamesIn T.read tokens.old result }
     ensures goes_on { GoesOn tokens.old tokens.new }
+    ensures grows { taken_of tokens.old ≤ taken_of tokens.new }
     ensures fewer { length (rest tokens.new) ≤ length (rest tokens.old) }
 {
     let mut items = Vec::new(alloc);
@@ -247,6 +257,7 @@ pub(crate) fn points<T: WktNum>(
     ensures near { OnOk result (IsNear tokens.new) }
     ensures bad { BlamesIn T.read tokens.old result }
     ensures goes_on { GoesOn tokens.old tokens.new }
+    ensures grows { taken_of tokens.old ≤ taken_of tokens.new }
     ensures fewer { length (rest tokens.new) ≤ length (rest tokens.old) }
 {
     let paren = opening(tokens)?;

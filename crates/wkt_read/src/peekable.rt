@@ -81,6 +81,7 @@ impl<'a, T: WktNum> PeekableTokens<'a, T> {
     // The next lexeme, which is taken.
     pub(crate) fn take(&mut self) -> Raw<'a>
         ensures goes_on { GoesOn self.old self.new }
+        ensures grows { taken_of self.old ≤ taken_of self.new }
         ensures near { OnSome (found result) (IsNear self.new) }
         ensures takes { Takes (found result) (rest self.old) (rest self.new) }
         ensures bad { BlamesRaw T.read self.old result }
@@ -109,6 +110,7 @@ impl<'a, T: WktNum> PeekableTokens<'a, T> {
     // Takes the next lexeme if it is a comma.
     pub(crate) fn take_comma(&mut self) -> bool
         ensures goes_on { GoesOn self.old self.new }
+        ensures grows { taken_of self.old ≤ taken_of self.new }
         ensures takes { MatchBool result (rest self.old ≡ Comma ∷ rest self.new) (rest self.new ≡ rest self.old) }
         ensures none { OnFalse result (BeginsWithoutComma (rest self.old)) }
     {

@@ -3,7 +3,7 @@ ghost use Rattle.std.specs.Prelude.{◌≡◌, ◌≢◌, ℕ, ◌≤◌, ◌<�
 ghost use Rattle.wkt_types.specs.Coords.{numbers_of};
 ghost use Rattle.wkt_types.specs.Values.{HasDim, HasDimIfAny};
 ghost use Rattle.wkt_read.specs.Placed.{lexemes_of};
-ghost use Rattle.wkt_read.specs.Ahead.{rest};
+ghost use Rattle.wkt_read.specs.Ahead.{rest, taken_of};
 ghost use Rattle.wkt_read.specs.Walks.{GoesOn};
 ghost use Rattle.wkt_read.specs.Ahead.{IsNear, IsBehind};
 ghost use Rattle.wkt_read.specs.Reading.{Reads, number_at, coord_at, opening_at, closing_at, closed, framed, point_at};
@@ -26,6 +26,7 @@ fn number<T: WktNum>(tokens: &mut PeekableTokens<'_, T>, expected: Message) -> R
     ensures exact { Reads (λ x. x) result (number_at T.read (rest tokens.old)) (rest tokens.new) }
     ensures bad { Blames T.read tokens.old result }
     ensures goes_on { GoesOn tokens.old tokens.new }
+    ensures grows { taken_of tokens.old ≤ taken_of tokens.new }
     ensures fewer { length (rest tokens.new) ≤ length (rest tokens.old) }
     ensures taken { OnOk result (length (rest tokens.new) < length (rest tokens.old)) }
 {
@@ -47,6 +48,7 @@ pub(crate) fn coord<T: WktNum>(
     ensures uniform { IfOk result (HasDim dim) }
     ensures bad { Blames T.read tokens.old result }
     ensures goes_on { GoesOn tokens.old tokens.new }
+    ensures grows { taken_of tokens.old ≤ taken_of tokens.new }
     ensures fewer { length (rest tokens.new) ≤ length (rest tokens.old) }
     ensures taken { OnOk result (length (rest tokens.new) < length (rest tokens.old)) }
 {
@@ -70,6 +72,7 @@ pub(crate) fn opening<T: WktNum>(tokens: &mut PeekableTokens<'_, T>) -> Result<b
     ensures near { OnOk result (IsNear tokens.new) }
     ensures bad { Blames T.read tokens.old result }
     ensures goes_on { GoesOn tokens.old tokens.new }
+    ensures grows { taken_of tokens.old ≤ taken_of tokens.new }
     ensures fewer { length (rest tokens.new) ≤ length (rest tokens.old) }
     ensures taken { OnOk result (length (rest tokens.new) < length (rest tokens.old)) }
 {
@@ -87,6 +90,7 @@ fn closing<T: WktNum>(tokens: &mut PeekableTokens<'_, T>) -> Result<(), Message>
     ensures near { OnOk result (IsNear tokens.new) }
     ensures bad { Blames T.read tokens.old result }
     ensures goes_on { GoesOn tokens.old tokens.new }
+    ensures grows { taken_of tokens.old ≤ taken_of tokens.new }
     ensures fewer { length (rest tokens.new) ≤ length (rest tokens.old) }
     ensures taken { OnOk result (length (rest tokens.new) < length (rest tokens.old)) }
 {
@@ -109,6 +113,7 @@ pub(crate) fn point<T: WktNum>(
     ensures near { OnOk result (IsNear tokens.new) }
     ensures bad { Blames T.read tokens.old result }
     ensures goes_on { GoesOn tokens.old tokens.new }
+    ensures grows { taken_of tokens.old ≤ taken_of tokens.new }
     ensures fewer { length (rest tokens.new) ≤ length (rest tokens.old) }
     ensures taken { OnOk result (length (rest tokens.new) < length (rest tokens.old)) }
 {
@@ -130,6 +135,7 @@ pub(crate) fn close<T: WktNum, X: Drop>(
     ensures near { OnOk result (IsNear tokens.new) }
     ensures bad { (start : _) → IsBehind start tokens.old → OnBadIn body (HasBad T.read (lexemes_of start)) → OnBadIn result (HasBad T.read (lexemes_of start)) }
     ensures goes_on { GoesOn tokens.old tokens.new }
+    ensures grows { taken_of tokens.old ≤ taken_of tokens.new }
     ensures fewer { length (rest tokens.new) ≤ length (rest tokens.old) }
 {
     match body {

@@ -4,7 +4,7 @@ ghost use Rattle.std.specs.List.{AllByRecursion};
 ghost use Rattle.wkt_access.specs.Values.{Value};
 ghost use Rattle.wkt_types.specs.Coords.{numbers_of};
 ghost use Rattle.wkt_types.specs.Values.{HasDim, HasDimIfAny, IsPointIn, IsLineIn, IsPolygonIn, point_numbers, line_numbers, polygon_numbers};
-ghost use Rattle.wkt_read.specs.Ahead.{rest};
+ghost use Rattle.wkt_read.specs.Ahead.{rest, taken_of};
 ghost use Rattle.wkt_read.specs.Walks.{GoesOn};
 ghost use Rattle.wkt_read.specs.Ahead.{IsNear};
 ghost use Rattle.wkt_read.specs.Reading.{Reads, dimension_at, head_at, many_at, members_at, members_of, body_at, value_at, IsOpened, HasMembers};
@@ -31,6 +31,7 @@ fn dimension<T: WktNum>(tokens: &mut PeekableTokens<'_, T>) -> Result<Dimension,
     ensures exact { Reads (λ x. x) result (dimension_at T.read (rest tokens.old)) (rest tokens.new) }
     ensures bad { Blames T.read tokens.old result }
     ensures goes_on { GoesOn tokens.old tokens.new }
+    ensures grows { taken_of tokens.old ≤ taken_of tokens.new }
     ensures fewer { length (rest tokens.new) ≤ length (rest tokens.old) }
 {
     match tokens.look() {
@@ -62,6 +63,7 @@ fn head<T: WktNum>(
     ensures exact { Reads (λ x. x) result (head_at T.read (rest tokens.old)) (rest tokens.new) }
     ensures bad { Blames T.read tokens.old result }
     ensures goes_on { GoesOn tokens.old tokens.new }
+    ensures grows { taken_of tokens.old ≤ taken_of tokens.new }
     ensures fewer { length (rest tokens.new) ≤ length (rest tokens.old) }
     ensures taken { OnOk result (length (rest tokens.new) < length (rest tokens.old)) }
 {
@@ -147,6 +149,7 @@ fn read_point<T: WktNum>(
     ensures near { OnOk result (IsNear tokens.new) }
     ensures bad { Blames T.read tokens.old result }
     ensures goes_on { GoesOn tokens.old tokens.new }
+    ensures grows { taken_of tokens.old ≤ taken_of tokens.new }
     ensures fewer { length (rest tokens.new) ≤ length (rest tokens.old) }
 {
     let coord = point(tokens, dim)?;
@@ -165,6 +168,7 @@ fn read_line_string<T: WktNum>(
     ensures near { OnOk result (IsNear tokens.new) }
     ensures bad { BlamesIn T.read tokens.old result }
     ensures goes_on { GoesOn tokens.old tokens.new }
+    ensures grows { taken_of tokens.old ≤ taken_of tokens.new }
     ensures fewer { length (rest tokens.new) ≤ length (rest tokens.old) }
 {
     let coords = line(alloc, tokens, dim)?;
@@ -183,6 +187,7 @@ fn read_polygon<T: WktNum>(
     ensures near { OnOk result (IsNear tokens.new) }
     ensures bad { BlamesIn T.read tokens.old result }
     ensures goes_on { GoesOn tokens.old tokens.new }
+    ensures grows { taken_of tokens.old ≤ taken_of tokens.new }
     ensures fewer { length (rest tokens.new) ≤ length (rest tokens.old) }
 {
     let rings = lines(alloc, tokens, dim)?;
@@ -201,6 +206,7 @@ fn read_multi_point<T: WktNum>(
     ensures near { OnOk result (IsNear tokens.new) }
     ensures bad { BlamesIn T.read tokens.old result }
     ensures goes_on { GoesOn tokens.old tokens.new }
+    ensures grows { taken_of tokens.old ≤ taken_of tokens.new }
     ensures fewer { length (rest tokens.new) ≤ length (rest tokens.old) }
 {
     let points = points(alloc, tokens, dim)?;
@@ -219,6 +225,7 @@ fn read_multi_line_string<T: WktNum>(
     ensures near { OnOk result (IsNear tokens.new) }
     ensures bad { BlamesIn T.read tokens.old result }
     ensures goes_on { GoesOn tokens.old tokens.new }
+    ensures grows { taken_of tokens.old ≤ taken_of tokens.new }
     ensures fewer { length (rest tokens.new) ≤ length (rest tokens.old) }
 {
     let lines = lines(alloc, tokens, dim)?;
@@ -237,6 +244,7 @@ fn read_multi_polygon<T: WktNum>(
     ensures near { OnOk result (IsNear tokens.new) }
     ensures bad { BlamesIn T.read tokens.old result }
     ensures goes_on { GoesOn tokens.old tokens.new }
+    ensures grows { taken_of tokens.old ≤ taken_of tokens.new }
     ensures fewer { length (rest tokens.new) ≤ length (rest tokens.old) }
 {
     let polygons = polygons(alloc, tokens, dim)?;
@@ -253,6 +261,7 @@ fn geometries<T: WktNum>(
     ensures uniform { IfOk result (λ v. AllByRecursion UniformWkt v.items) }
     ensures bad { BlamesIn T.read tokens.old result }
     ensures goes_on { GoesOn tokens.old tokens.new }
+    ensures grows { taken_of tokens.old ≤ taken_of tokens.new }
     ensures fewer { length (rest tokens.new) ≤ length (rest tokens.old) }
 {
     let mut items = Vec::new(alloc);
@@ -277,6 +286,7 @@ fn members<T: WktNum>(
     ensures near { OnOk result (IsNear tokens.new) }
     ensures bad { BlamesIn T.read tokens.old result }
     ensures goes_on { GoesOn tokens.old tokens.new }
+    ensures grows { taken_of tokens.old ≤ taken_of tokens.new }
     ensures fewer { length (rest tokens.new) ≤ length (rest tokens.old) }
 {
     let paren = opening(tokens)?;
@@ -300,6 +310,7 @@ fn read_collection<T: WktNum>(
     ensures near { OnOk result (IsNear tokens.new) }
     ensures bad { BlamesIn T.read tokens.old result }
     ensures goes_on { GoesOn tokens.old tokens.new }
+    ensures grows { taken_of tokens.old ≤ taken_of tokens.new }
     ensures fewer { length (rest tokens.new) ≤ length (rest tokens.old) }
 {
     let geometries = members(alloc, tokens)?;
@@ -319,6 +330,7 @@ pub(crate) fn value<T: WktNum>(
     ensures near { OnOk result (IsNear tokens.new) }
     ensures bad { BlamesIn T.read tokens.old result }
     ensures goes_on { GoesOn tokens.old tokens.new }
+    ensures grows { taken_of tokens.old ≤ taken_of tokens.new }
     ensures fewer { length (rest tokens.new) ≤ length (rest tokens.old) }
 {
     let (kind, dim) = head(tokens, inside)?;

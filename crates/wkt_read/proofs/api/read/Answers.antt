@@ -1,4 +1,4 @@
-use Rattle.std.proofs.Common.{◌≡◌, ◌∙◌, ℕ, ◌≤◌, [], refl, sym, length, arith, Err}
+use Rattle.std.proofs.Common.{◌∙◌, [], refl, sym, length, arith}
 use Rattle.wkt_read.specs.Ahead.{rest, left}
 use Rattle.wkt_read.specs.Reads.{wkt_value}
 use Rattle.wkt_types.specs.declared.geometry.Wkt.{Wkt}

@@ -1,4 +1,4 @@
-use Rattle.std.proofs.Common.{◌≡◌, ◌∙◌, sym, subst, ℕ, true}
+use Rattle.std.proofs.Common.{◌∙◌, sym, subst, true}
 use Rattle.wkt_types.specs.declared.geometry.Wkt.{Wkt}
 use Rattle.wkt_read.specs.Ahead.{rest}
 use Rattle.wkt_read.specs.Begun.{NoneBegins}

@@ -16,6 +16,7 @@ more-init g c =
     let one : c.push.new.self.items ≡ c.in_ok-first.first ∷ [] = c.in_ok-push.ensures.items ∙ ap (λ l. l ++ c.in_ok-first.first ∷ []) c.new-items.ensures.items in
     record {
       goes_on = c.coord.ensures.goes_on;
+      grows = c.coord.ensures.grows;
       fewer = c.coord.ensures.fewer;
       uniform = subst (AllByRecursion (HasDim c.args.dim)) (sym one) (c.in_ok-first.ensures.uniform, tt);
       exact = λ fuel h. many-first (coord_at g.T.WktNum.read c.args.dim) fuel _ _ _ (map numbers_of c.push.new.self.items) c.in_ok-first.ensures.exact (ap (map numbers_of) one) c.coord.ensures.fewer h;
@@ -29,6 +30,7 @@ returns-in_err-next-clause-exact g c = λ fuel h.
 pub more-preserved : goal.more-preserved
 more-preserved g c = record {
   goes_on = λ start b. c.coord-in-more.ensures.goes_on start (c.more-test.ensures.goes_on start (c.more.invariant.goes_on start b));
+  grows = omega (arith, c.more.invariant.grows, c.more-test.ensures.grows, c.coord-in-more.ensures.grows);
   fewer = omega (arith, ap length c.more-test.ensures.takes, c.coord-in-more.ensures.fewer, c.more.invariant.fewer);
   uniform = subst (AllByRecursion (HasDim c.args.dim)) (sym c.in_ok-push-2.ensures.items) (all-push (HasDim c.args.dim) c.more.items.items c.in_ok-next.next c.more.invariant.uniform c.in_ok-next.ensures.uniform);
   exact = λ fuel h.

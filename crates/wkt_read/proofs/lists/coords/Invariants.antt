@@ -3,7 +3,7 @@ use Rattle.std.specs.Prelude.{map}
 use Rattle.std.specs.List.{AllByRecursion}
 use Rattle.wkt_types.specs.Coords.{numbers_of}
 use Rattle.wkt_types.specs.Values.{HasDim}
-use Rattle.wkt_read.specs.Ahead.{rest}
+use Rattle.wkt_read.specs.Ahead.{rest, taken_of}
 use Rattle.wkt_read.specs.Walks.{GoesOn}
 use Rattle.wkt_read.specs.Reading.{coord_at, many_at, tail_at, with_front}
 use Rattle.wkt_read.proofs.lists.coords.Given as goal
@@ -11,6 +11,7 @@ use Rattle.wkt_read.proofs.lists.coords.Given as goal
 abbrev pub invariant-more : goal.invariant-more
 invariant-more g l = record {
   goes_on : GoesOn l.fn.tokens l.tokens;
+  grows : taken_of l.fn.tokens ≤ taken_of l.tokens;
   fewer : length (rest l.tokens) ≤ length (rest l.fn.tokens);
   uniform : AllByRecursion (HasDim l.dim) l.items.items;
   exact : (fuel : ℕ) → length (rest l.fn.tokens) ≤ fuel → (m : ℕ) × (length (rest l.tokens) ≤ m)

@@ -2,7 +2,7 @@ use Rattle.std.proofs.Common.{◌≡◌, ◌≤◌, ℕ, length}
 use Rattle.std.specs.Prelude.{map}
 use Rattle.std.specs.List.{AllByRecursion}
 use Rattle.wkt_types.specs.Values.{IsPointIn, point_numbers}
-use Rattle.wkt_read.specs.Ahead.{rest}
+use Rattle.wkt_read.specs.Ahead.{rest, taken_of}
 use Rattle.wkt_read.specs.Walks.{GoesOn}
 use Rattle.wkt_read.specs.Reading.{member_at, many_at, tail_at, with_front}
 use Rattle.wkt_read.proofs.lists.point_list.Given as goal
@@ -10,6 +10,7 @@ use Rattle.wkt_read.proofs.lists.point_list.Given as goal
 abbrev pub invariant-more : goal.invariant-more
 invariant-more g l = record {
   goes_on : GoesOn l.fn.tokens l.tokens;
+  grows : taken_of l.fn.tokens ≤ taken_of l.tokens;
   fewer : length (rest l.tokens) ≤ length (rest l.fn.tokens);
   uniform : AllByRecursion (IsPointIn l.dim) l.items.items;
   exact : (fuel : ℕ) → length (rest l.fn.tokens) ≤ fuel → (m : ℕ) × (length (rest l.tokens) ≤ m)

@@ -15,6 +15,7 @@ more-init g c =
     let one : c.push.new.self.items ≡ c.in_ok-first.first ∷ [] = c.in_ok-push.ensures.items ∙ ap (λ l. l ++ c.in_ok-first.first ∷ []) c.new-items.ensures.items in
     record {
       goes_on = c.line_string.ensures.goes_on;
+      grows = c.line_string.ensures.grows;
       fewer = c.line_string.ensures.fewer;
       uniform = subst (AllByRecursion (IsLineIn c.args.dim)) (sym one) (c.in_ok-first.ensures.uniform, tt);
       exact = λ fuel h. many-first (line_at g.T.WktNum.read c.args.dim fuel) fuel _ _ _ (map line_numbers c.push.new.self.items) (c.in_ok-first.ensures.exact fuel h) (ap (map line_numbers) one) c.line_string.ensures.fewer h;
@@ -28,6 +29,7 @@ returns-in_err-next-clause-exact g c = λ fuel h.
 pub more-preserved : goal.more-preserved
 more-preserved g c = record {
   goes_on = λ start b. c.line_string-in-more.ensures.goes_on start (c.more-test.ensures.goes_on start (c.more.invariant.goes_on start b));
+  grows = omega (arith, c.more.invariant.grows, c.more-test.ensures.grows, c.line_string-in-more.ensures.grows);
   fewer = omega (arith, ap length c.more-test.ensures.takes, c.line_string-in-more.ensures.fewer, c.more.invariant.fewer);
   uniform = subst (AllByRecursion (IsLineIn c.args.dim)) (sym c.in_ok-push-2.ensures.items) (all-push (IsLineIn c.args.dim) c.more.items.items c.in_ok-next.next c.more.invariant.uniform c.in_ok-next.ensures.uniform);
   exact = λ fuel h.

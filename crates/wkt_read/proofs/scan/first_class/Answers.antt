@@ -1,5 +1,5 @@
 use Rattle.std.proofs.Common.{ap, ◌∙◌, arith}
-use Rattle.wkt_read.proofs.Steps.{first-step, first-end, found-start}
+use Rattle.wkt_read.proofs.Steps.{first-step, first-end}
 use Rattle.wkt_read.proofs.scan.first_class.Goals as goal
 
 pub white-preserved : goal.white-preserved

@@ -1,4 +1,4 @@
-use Rattle.std.proofs.Common.{◌≡◌, ◌++◌, ◌∷◌, [], ap, sym, subst, ◌∙◌, arith, length, Ok, ℕ, List}
+use Rattle.std.proofs.Common.{◌≡◌, ◌++◌, ◌∷◌, [], ap, sym, subst, ◌∙◌, arith, length, Ok}
 use Rattle.std.specs.Prelude.{map, Vec}
 use Rattle.std.specs.List.{AllByRecursion}
 use Rattle.std.specs.declared.alloc.Global.{Global}
@@ -20,6 +20,7 @@ geometries-more-init g t c =
     let one : c.push.new.self.items ≡ c.in_ok-first.first ∷ [] = c.in_ok-push.ensures.items ∙ ap (λ l. l ++ c.in_ok-first.first ∷ []) c.new-items.ensures.items in
     record {
       goes_on = c.value.ensures.goes_on;
+      grows = c.value.ensures.grows;
       fewer = c.value.ensures.fewer;
       uniform = subst (AllByRecursion UniformWkt) (sym one) (c.in_ok-first.ensures.uniform, tt);
       exact = λ fuel h. many-first (value_at g.T.WktNum.read fuel) fuel _ _ _ (map wkt_value c.push.new.self.items) (c.in_ok-first.ensures.exact fuel h) (ap (map wkt_value) one) c.value.ensures.fewer h;
@@ -33,6 +34,7 @@ geometries-returns-in_err-next-clause-exact g t c = λ fuel h.
 pub geometries-more-preserved : goal.geometries-more-preserved
 geometries-more-preserved g t c = record {
   goes_on = λ start b. c.value-in-more.ensures.goes_on start (c.more-test.ensures.goes_on start (c.more.invariant.goes_on start b));
+  grows = omega (arith, c.more.invariant.grows, c.more-test.ensures.grows, c.value-in-more.ensures.grows);
   fewer = omega (arith, ap length c.more-test.ensures.takes, c.value-in-more.ensures.fewer, c.more.invariant.fewer);
   uniform = subst (AllByRecursion UniformWkt) (sym c.in_ok-push-2.ensures.items) (all-push UniformWkt c.more.items.items c.in_ok-next.next c.more.invariant.uniform c.in_ok-next.ensures.uniform);
   exact = λ fuel h.

@@ -1,7 +1,7 @@
 use Rattle.std.proofs.Common.{◌≡◌, ◌≤◌, ◌+◌, ◌*◌, ℕ, length}
 use Rattle.std.specs.Prelude.{map}
 use Rattle.std.specs.List.{AllByRecursion}
-use Rattle.wkt_read.specs.Ahead.{rest}
+use Rattle.wkt_read.specs.Ahead.{rest, taken_of}
 use Rattle.wkt_read.specs.Walks.{GoesOn}
 use Rattle.wkt_read.specs.Reads.{wkt_value, UniformWkt}
 use Rattle.wkt_read.specs.Reading.{value_at, many_at, tail_at, with_front}
@@ -24,6 +24,7 @@ invariant-geometries-more g l =
     let read = g.T.WktNum.read in
     record {
       goes_on : GoesOn l.fn.tokens l.tokens;
+      grows : taken_of l.fn.tokens ≤ taken_of l.tokens;
       fewer : length (rest l.tokens) ≤ length (rest l.fn.tokens);
       uniform : AllByRecursion UniformWkt l.items.items;
       exact : (fuel : ℕ) → length (rest l.fn.tokens) ≤ fuel → (m : ℕ) × (length (rest l.tokens) ≤ m)

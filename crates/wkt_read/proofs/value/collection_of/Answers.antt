@@ -1,6 +1,5 @@
-use Rattle.std.proofs.Common.{◌≡◌, ap, sym, subst, ◌∙◌}
+use Rattle.std.proofs.Common.{ap, sym, subst, ◌∙◌}
 use Rattle.wkt_access.specs.Values.{Value}
-use Rattle.wkt_types.specs.Tree.{tree, collection, members}
 use Rattle.wkt_types.specs.Values.{value_of, IsUniform}
 use Rattle.wkt_read.proofs.Wkts.{members-value, members-uniform}
 use Rattle.wkt_read.proofs.value.collection_of.Goals as goal

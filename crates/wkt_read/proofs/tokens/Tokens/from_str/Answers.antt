@@ -1,6 +1,6 @@
-use Rattle.std.proofs.Common.{◌≡◌, refl, sym, subst}
+use Rattle.std.proofs.Common.{refl, sym, subst}
 use Rattle.wkt_read.specs.Lexemes.{IsSplit}
-use Rattle.wkt_read.specs.Placed.{placed, lexemes_of}
+use Rattle.wkt_read.specs.Placed.{lexemes_of}
 use Rattle.wkt_read.specs.Stream.{coming, bytes_taken, end_of_last}
 use Rattle.wkt_read.proofs.Placings.{placed-split}
 use Rattle.wkt_read.proofs.tokens.Tokens.from_str.Goals as goal

@@ -1,7 +1,7 @@
-use Rattle.std.proofs.Common.{◌≡◌, ◌∷◌, ◌-◌, ◌<◌, ap, sym, ◌∙◌, arith, refl, drop, slice_range, Some}
+use Rattle.std.proofs.Common.{◌≡◌, ◌-◌, ◌<◌, ap, ◌∙◌, arith, refl, drop, slice_range, Some}
 use Rattle.wkt_read.specs.Lexemes.{lexeme_of}
 use Rattle.wkt_read.specs.Placed.{placed_from}
-use Rattle.wkt_read.specs.Stream.{coming, bytes_taken, end_of_last, Steps}
+use Rattle.wkt_read.specs.Stream.{coming, bytes_taken, end_of_last}
 use Rattle.wkt_read.specs.Raws.{found}
 use Rattle.wkt_read.proofs.Steps.{gives-run, gives-open, gives-close, gives-comma, found-nul}
 use Rattle.wkt_read.proofs.tokens.Tokens.next_raw.Goals as goal
