@@ -1,5 +1,5 @@
 -- The parts of a number of units, and their text around the point at place 40.
-use Rattle.std.proofs.Common.{◌≡◌, ℕ, suc, ◌+◌, ◌-◌, ◌*◌, ◌/◌, ◌%◌, ◌^◌, ◌<◌, ◌≤◌, Bool, true, false, ◌==◌, if◌then◌else◌, List, [], ◌∷◌, ◌++◌, length, take, drop, get_or, sym, ap, ◌∙◌, arith, drop_of_length-le, drop-cons}
+use Rattle.std.proofs.Common.{◌≡◌, ℕ, zero, suc, ◌+◌, ◌-◌, ◌*◌, ◌/◌, ◌%◌, ◌^◌, ◌<◌, ◌≤◌, Bool, true, false, ◌==◌, if◌then◌else◌, List, [], ◌∷◌, ◌++◌, length, take, drop, get_or, sym, ap, ◌∙◌, arith, drop_of_length-le, drop-cons}
 use Rattle.std.specs.Fmt.{decimal, sign_text}
 use Rattle.std.specs.Str.{IsAscii}
 use Rattle.std.proofs.lemmas.Fmt.{IsAscii-from_digits}
@@ -10,7 +10,7 @@ use Rattle.std.proofs.Math.Nat.{div-div-eq-div-mul, pow-le-pow_right, mod-lt, di
 use borrow.Author.Tests.{eq-eqb, ne_eqb}
 use Rattle.wkt_num.specs.Decimal.{fraction_digits, fraction_text, magnitude_text}
 use Rattle.wkt_num.specs.Units.{ten_pos}
-use Rattle.wkt_num.specs.Fraction.{fraction-bytes, point-ascii}
+use Rattle.wkt_num.specs.Fraction.{fraction-bytes}
 use Rattle.wkt_num.proofs.Piece.{piece, whole-ascii}
 
 -- a shift, and a division by the power of five
@@ -58,6 +58,11 @@ units-piece D u negative out before start end {w} {f} e g put l k low high behin
     ∙ ap (λ t. sign_text negative ++ decimal w ++ t) behind
     ∙ ap (λ x. sign_text negative ++ decimal x ++ fraction_text D f) e
     ∙ ap (λ x. sign_text negative ++ decimal (u / 10 ^ D) ++ fraction_text D x) g
+
+-- a point before ASCII text
+point-ascii : (ds : List ℕ) → IsAscii ds → IsAscii (46 ∷ ds)
+point-ascii ds h zero = omega arith
+point-ascii ds h (suc i) = h i
 
 fraction-ascii : (D f : ℕ) → f < 10 ^ D → IsAscii (fraction_text D f)
 fraction-ascii D f h = go (f == 0)

@@ -1,4 +1,4 @@
-//! Decimal fractions.
+//! Decimal fractions, exact and of fixed places.
 ghost use Rattle.std.specs.Prelude.{◌≡◌, ℤ, ◌≤◌, Some};
 ghost use Rattle.wkt_num.specs.Decimal.{read_decimal, decimal_text, IsUnits};
 ghost use Rattle.wkt_num.specs.DecimalLaws.{decimal_reads_back, decimal_reads_values, decimal_number_text, decimal_same};
@@ -11,10 +11,20 @@ use crate::sink::TextSink;
 use std::fmt;
 use std::marker::Model;
 
-/// The most digits after the point.
+/// The most digits after the point that a [`Decimal`] may have.
 pub const MOST_PLACES: u32 = 36;
 
-/// A whole number of units of ten to the minus `D`.
+/// An exact decimal fraction: a whole number of units of ten to the minus `D`, in 128 bits.
+///
+/// `D` is at most [`MOST_PLACES`]; with more, [`from_units`](Decimal::from_units) can't be called and
+/// no text is read. Nothing is ever rounded: a text is read if its value is a whole number of units
+/// that fits, and is refused otherwise. A text is a sign or none, and digits with at most one point.
+/// It is printed with no trailing zeros behind the point, and with no point where nothing is behind it.
+///
+/// ```
+/// let d = Decimal::<6>::read_number("+5.40")?; // 5400000 units, printed as `5.4`
+/// let d = Decimal::<6>::from_units(-1); // printed as `-0.000001`
+/// ```
 #[derive(Clone, Copy, PartialEq, Eq, PartialOrd, Ord, Debug)]
 pub struct Decimal<const D: u32> {
     units: i128,
@@ -31,6 +41,7 @@ impl<const D: u32> Model for Decimal<D> {
 }
 
 impl<const D: u32> Decimal<D> {
+    /// The number of so many units of ten to the minus `D`.
     pub fn from_units(units: i128) -> Decimal<D>
         requires { D ≤ 36 }
         ensures { result ≡ units }
@@ -38,6 +49,7 @@ impl<const D: u32> Decimal<D> {
         Decimal { units }
     }
 
+    /// How many units of ten to the minus `D` it is.
     pub fn units(&self) -> i128
         ensures { result ≡ self.now }
     {

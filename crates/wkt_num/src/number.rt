@@ -7,7 +7,10 @@ use crate::sink::TextSink;
 use std::fmt;
 use std::fmt::Debug;
 
-/// A number type: each value has one text, which reads back as the value.
+/// A number type that coordinates may have.
+///
+/// Each value has one text, a run that begins with a digit, a point or a minus, and that reads back as
+/// the value. More texts than those that are printed may be read. No call takes memory.
 pub trait WktNum: Copy + PartialEq + PartialOrd + Debug {
     /// Holds of the values of the type.
     ghost is_value: { Self → Type 0 };
@@ -18,15 +21,15 @@ pub trait WktNum: Copy + PartialEq + PartialOrd + Debug {
     /// What a text is read as.
     ghost read: { List ℕ → Option Self };
 
-    /// The value that the text stands for, if it stands for one.
+    /// The value that the text stands for, or `None` if it stands for none.
     fn read_number(text: &str) -> Option<Self>
         ensures { result ≡ read text.now };
 
-    /// Adds the number's text to the sink.
+    /// Adds the number's text to the sink. An error is the sink's.
     fn write_number<W: TextSink>(&self, f: &mut W) -> fmt::Result
         ensures { Puts W.text W.failures W.took W.broke f.old (num self.now) f.new result };
 
-    /// Does nothing, and tells that the number is a value of the type.
+    /// Does nothing. Its contract tells that the number is a value of the type.
     fn known(&self)
         ensures { is_value self.now };
 

@@ -49,6 +49,7 @@ static FIVES: [u64; 19] = [
 ];
 
 /// Ten to the `places`.
+#[inline(always)]
 pub fn ten_to(places: u32) -> u64
     requires { places ≤ 18 }
     ensures { result ≡ 10 ^ places }
@@ -57,6 +58,7 @@ pub fn ten_to(places: u32) -> u64
 }
 
 /// Five to the `places`.
+#[inline(always)]
 pub fn five_to(places: u32) -> u64
     requires { places ≤ 18 }
     ensures { result ≡ 5 ^ places }

@@ -1,4 +1,6 @@
 //! Decimal fractions as text, in one piece to a sink.
+//!
+//! What is inlined always divides by a power of ten that is then a constant of the type.
 ghost use Rattle.std.specs.Prelude.{◌≡◌, ◌<◌, ◌≤◌, ◌+◌, ◌-◌, ◌/◌, ◌%◌, ◌^◌, ◌++◌, take, drop, slice_index};
 ghost use Rattle.wkt_num.specs.Sink.{Puts};
 ghost use Rattle.wkt_num.specs.Decimal.{magnitude_text, fraction_text, fraction_digits};
@@ -9,6 +11,7 @@ use crate::sink::TextSink;
 use std::fmt;
 
 /// Writes a minus if `negative`, and `units` of ten to the minus `places`.
+#[inline(always)]
 pub fn write_units<W: TextSink>(places: u32, negative: bool, units: u128, f: &mut W) -> fmt::Result
     requires { places ≤ 36 }
     ensures { Puts W.text W.failures W.took W.broke f.old (magnitude_text places negative units) f.new result }
@@ -22,6 +25,7 @@ pub fn write_units<W: TextSink>(places: u32, negative: bool, units: u128, f: &mu
 }
 
 /// Puts the text around the point, which stands at place 40, and answers where it starts and ends.
+#[inline(always)]
 fn put_units(places: u32, negative: bool, units: u128, out: &mut [u8; 80]) -> (usize, usize)
     requires few { places ≤ 36 }
     requires point { slice_index out.old 40 ≡ 46 }
@@ -36,6 +40,7 @@ fn put_units(places: u32, negative: bool, units: u128, out: &mut [u8; 80]) -> (u
 }
 
 /// The whole part, and the units of the fraction.
+#[inline(always)]
 fn split_units(places: u32, units: u128) -> (u128, u128)
     requires { places ≤ 36 }
     ensures whole { result.0 ≡ units / 10 ^ places }
@@ -49,6 +54,7 @@ fn split_units(places: u32, units: u128) -> (u128, u128)
 }
 
 /// The same where the whole part fits 64 bits even before the division by the power of five.
+#[inline(always)]
 fn split_short(places: u32, units: u128) -> (u128, u128)
     requires few { places ≤ 18 }
     requires small { units / 2 ^ places < 2 ^ 64 }
@@ -60,6 +66,7 @@ fn split_short(places: u32, units: u128) -> (u128, u128)
 }
 
 /// Puts the digits behind the point, and answers where the fraction ends: before the point if it is 0.
+#[inline(always)]
 fn put_fraction(places: u32, fraction: u128, out: &mut [u8; 80]) -> usize
     requires few { places ≤ 36 }
     requires less { fraction < 10 ^ places }
@@ -79,6 +86,7 @@ fn put_fraction(places: u32, fraction: u128, out: &mut [u8; 80]) -> usize
 }
 
 /// Puts the digits behind the point, and answers where they end.
+#[inline(always)]
 fn put_short(places: u32, fraction: u64, out: &mut [u8; 80]) -> usize
     requires few { places ≤ 18 }
     requires less { fraction < 10 ^ places }

@@ -32,8 +32,8 @@ pub fn read_body(places: u32, body: &[u8]) -> Option<u128>
 /// The most bytes whose digits, with a point among them or not, fit 64 bits.
 const SHORT_BYTES: usize = 19;
 
-/// The same by 64 bits, for a short body of digits, or of digits with a point and at most `places`
-/// digits behind it. Of any other body nothing is said.
+/// The same by 64 bits, for a short body of digits, or of digits around a point with at most `places`
+/// behind it. `None` says nothing of the body: it is then read in the plain way.
 fn read_short(places: u32, body: &[u8]) -> Option<u128>
     ensures { IfSome result (λ units. read_magnitude (2 ^ 127) places body.now ≡ Some units) }
 {

@@ -4,7 +4,9 @@ ghost use Rattle.wkt_num.specs.Sink.{Puts};
 
 use std::fmt;
 
-/// A sink that tells its text, and how often it has failed.
+/// A sink of text, which tells what it was given and how often it has failed.
+///
+/// [`CountedText`](crate::CountedText) makes one of any `fmt::Write`.
 pub trait TextSink {
     /// The bytes that it was given.
     ghost text: { Self → List ℕ };
@@ -18,7 +20,7 @@ pub trait TextSink {
     /// What a call that failed leaves besides. The default says nothing.
     ghost broke: { Self → List ℕ → Self → Type 0 } = { λ _ _ _. ⊤ };
 
-    /// Adds a piece of text.
+    /// Adds a piece of text. After an error a beginning of the piece, or nothing of it, was added.
     fn write_str(&mut self, piece: &str) -> fmt::Result
         ensures { Puts text failures took broke self.old piece.now self.new result };
 }

@@ -1,3 +1,4 @@
+//! Rows of texts for the odd number types.
 use crate::odd::{Dash, Letter};
 use std::test::Fail;
 use wkt_num::{CountedText, WktNum};
