@@ -1,0 +1,1 @@
+//! Rows that go through reading and writing.
