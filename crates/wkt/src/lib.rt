@@ -31,8 +31,8 @@ pub mod types {
 pub mod to_wkt {
     pub use wkt_access::{
         write_geometry, write_geometry_collection, write_line, write_linestring,
-        write_multi_linestring, write_multi_point, write_multi_polygon, write_point,
-        write_polygon, write_rect, write_triangle,
+        write_multi_linestring, write_multi_point, write_multi_polygon, write_point, write_polygon,
+        write_rect, write_triangle,
     };
     pub use wkt_bytes::{ByteSink, ByteSource, Counted, ReadAllError, WriterWrapper, read_all};
     pub use wkt_num::{CountedText, FormatterText, TextSink};

@@ -4,8 +4,6 @@ ghost use Rattle.std.specs.Io.KnownBytes.{Appends};
 ghost use Rattle.wkt_num.specs.Sink.{next_count, Puts};
 
 use crate::device::ByteSink;
-
-
 use std::io::ErrorKind;
 use std::{fmt, io};
 use wkt_num::TextSink;

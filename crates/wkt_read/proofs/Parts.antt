@@ -33,11 +33,11 @@ whole_begun W B cuts f a w = cuts a f f [] w (sym (append-nil f))
 
 -- the same part with another value
 pub map_part : {A V : Type 0} (W : List Lexeme → A → Type 0) (B Behind : List Lexeme → Type 0) (item : List Lexeme → Reading A) (item_f : List Lexeme → Telling A) (most : ℕ)
-    (W2 : List Lexeme → V → Type 0) (m : A → V) → ((f : List Lexeme) (a : A) → W f a → W2 f (m a)) → ((f : List Lexeme) (v : V) → W2 f v → (a : A) × (v ≡ m a) × W f a)
-    → Part W B Behind item item_f most → Part W2 B Behind (λ ls. item ls >>= (λ p. Ok (m p.0, p.1))) (λ ls. mapped m (item_f ls)) most
-map_part W B Behind item item_f most W2 m to from p = record {
+    (Wider : List Lexeme → V → Type 0) (m : A → V) → ((f : List Lexeme) (a : A) → W f a → Wider f (m a)) → ((f : List Lexeme) (v : V) → Wider f v → (a : A) × (v ≡ m a) × W f a)
+    → Part W B Behind item item_f most → Part Wider B Behind (λ ls. item ls >>= (λ p. Ok (m p.0, p.1))) (λ ls. mapped m (item_f ls)) most
+map_part W B Behind item item_f most Wider m to from p = record {
   same = plain_mapped item_f item p.same m;
-  told = λ ls le. told_map W B W2 B m ls (item_f ls) to (λ f b. b) (p.told ls le);
+  told = λ ls le. told_map W B Wider B m ls (item_f ls) to (λ f b. b) (p.told ls le);
   exact = λ v f r w k le. let (a, e, h) = from f v w in ap (mapped m) (p.exact a f r h k le) ∙ ap (λ x. Ok (x, r)) (sym e);
   reaches = λ b c h le. reach_mapped m (item_f (b ++ c)) (length c) (p.reaches b c h le);
   cuts = λ v ls a b w e. let (x, e2, h) = from ls v w in p.cuts x ls a b h e;
@@ -93,7 +93,7 @@ within_cut V B most cuts begun (x ∷ a) b le (inr (inr (k, e, (y, h)))) = cuts_
 
 -- EMPTY, or a part V in parentheses which is read as W
 module _ {A X : Type 0} (empty : A) (W : List Lexeme → A → Type 0) (V : List Lexeme → X → Type 0) (B : List Lexeme → Type 0) (item : List Lexeme → Reading A) (item_f : List Lexeme → Telling A) (most : ℕ)
-    (W2 : List Lexeme → A → Type 0) where
+    (Wider : List Lexeme → A → Type 0) where
   abbrev pub BegunEither : List Lexeme → Type 0
   BegunEither ls = BegunEmpty ls ⊎ BegunWithin (λ b. (x : X) × V b x) B ls
 
@@ -104,16 +104,16 @@ module _ {A X : Type 0} (empty : A) (W : List Lexeme → A → Type 0) (V : List
   frame_cut cuts begun (x ∷ a) b le (inr h) = inr (within_cut V B most cuts begun (x ∷ a) b le h)
 
   pub framed_part : ((b : List Lexeme) (x : X) → V b x → (a : A) × W b a) → Cuts V B
-      → ((f : List Lexeme) (a : A) → ((a ≡ empty) × IsEmptyWord f) ⊎ Within (λ b. W b a) f → W2 f a)
-      → ((f : List Lexeme) (a : A) → W2 f a → ((a ≡ empty) × IsEmptyWord f) ⊎ Within (λ b. W b a) f)
-      → Cuts W2 BegunEither
-      → Part W B Shut item item_f most → Part W2 BegunEither Anything (framed empty item) (framed_f empty item_f) most
+      → ((f : List Lexeme) (a : A) → ((a ≡ empty) × IsEmptyWord f) ⊎ Within (λ b. W b a) f → Wider f a)
+      → ((f : List Lexeme) (a : A) → Wider f a → ((a ≡ empty) × IsEmptyWord f) ⊎ Within (λ b. W b a) f)
+      → Cuts Wider BegunEither
+      → Part W B Shut item item_f most → Part Wider BegunEither Anything (framed empty item) (framed_f empty item_f) most
   framed_part whole cuts to from cuts2 p = record {
     same = plain_framed item_f item p.same empty;
     told = told_it;
     exact = λ a f r w k le. framed_exact a f r (from f a w) le;
     reaches = λ b c h le. framed_reach empty item_f (λ b. (x : X) × V b x) B most
-        (λ c le. told_reach W2 BegunEither c (framed_f empty item_f c) (told_it c le))
+        (λ c le. told_reach Wider BegunEither c (framed_f empty item_f c) (told_it c le))
         (λ f r (x, v) le. let (a, w) = whole f x v in (a, p.exact a f (Close ∷ r) w (r, refl) le))
         p.reaches b c h le;
     cuts = cuts2;
@@ -123,9 +123,9 @@ module _ {A X : Type 0} (empty : A) (W : List Lexeme → A → Type 0) (V : List
       begin : (f : List Lexeme) (a : A) → W f a → B f
       begin = whole_begun W B p.cuts
 
-      told_it : (ls : List Lexeme) → length ls ≤ most → Told W2 BegunEither ls (framed_f empty item_f ls)
+      told_it : (ls : List Lexeme) → length ls ≤ most → Told Wider BegunEither ls (framed_f empty item_f ls)
       told_it ls le =
-          told_weaken (Framed empty item_f W B begin) (BegunFrame empty item_f W B begin) W2 BegunEither ls (framed_f empty item_f ls)
+          told_weaken (Framed empty item_f W B begin) (BegunFrame empty item_f W B begin) Wider BegunEither ls (framed_f empty item_f ls)
           to (frame_begun empty item_f W B begin (λ b. (x : X) × V b x))
           (told_framed empty item_f W B begin ls (λ r short. p.told r (omega (arith, le, short))))
 

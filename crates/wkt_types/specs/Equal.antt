@@ -12,15 +12,15 @@ coord_eq E a b = E a.x b.x && (E a.y b.y && (option_eq E a.z b.z && option_eq E 
 pub coord_exact : {T : Type 0} {E : T → T → Bool} → IsExact E → IsExact (coord_eq E)
 coord_exact {T} {E} e = record {
   only = λ a b h.
-    let p = both _ _ h in
-    let q = both _ _ p.1 in
-    let r = both _ _ q.1 in
-    let x = e.only a.x b.x p.0 in
-    let y = e.only a.y b.y q.0 in
-    let z = (option_exact e).only a.z b.z r.0 in
-    let m = (option_exact e).only a.m b.m r.1 in
-    let make : T → T → Option T → Option T → Coord T = λ x y z m. record { x = x; y = y; z = z; m = m } in
-    ap (λ w. make w a.y a.z a.m) x ∙ (ap (λ w. make b.x w a.z a.m) y ∙ (ap (λ w. make b.x b.y w a.m) z ∙ ap (λ w. make b.x b.y b.z w) m));
+      let p = both _ _ h in
+      let q = both _ _ p.1 in
+      let r = both _ _ q.1 in
+      let x = e.only a.x b.x p.0 in
+      let y = e.only a.y b.y q.0 in
+      let z = (option_exact e).only a.z b.z r.0 in
+      let m = (option_exact e).only a.m b.m r.1 in
+      let make : T → T → Option T → Option T → Coord T = λ x y z m. record { x = x; y = y; z = z; m = m } in
+      ap (λ w. make w a.y a.z a.m) x ∙ (ap (λ w. make b.x w a.z a.m) y ∙ (ap (λ w. make b.x b.y w a.m) z ∙ ap (λ w. make b.x b.y b.z w) m));
   each = λ a. joined (e.each a.x) (joined (e.each a.y) (joined ((option_exact e).each a.z) ((option_exact e).each a.m)));
 }
 

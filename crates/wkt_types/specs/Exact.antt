@@ -108,11 +108,11 @@ held_eq E a b = pointwise E a.parts b.parts && dim_eq a.dim b.dim
 pub held_exact : {X : Type 0} {E : X → X → Bool} → IsExact E → IsExact (held_eq E)
 held_exact {X} {E} e = record {
   only = λ a b h.
-    let p = both _ _ h in
-    let x = (pointwise_exact e).only a.parts b.parts p.0 in
-    let d = dim_exact.only a.dim b.dim p.1 in
-    let make : List X → Dimension → Held X = λ c d. record { parts = c; dim = d } in
-    ap (λ c. make c a.dim) x ∙ ap (λ d. make b.parts d) d;
+      let p = both _ _ h in
+      let x = (pointwise_exact e).only a.parts b.parts p.0 in
+      let d = dim_exact.only a.dim b.dim p.1 in
+      let make : List X → Dimension → Held X = λ c d. record { parts = c; dim = d } in
+      ap (λ c. make c a.dim) x ∙ ap (λ d. make b.parts d) d;
   each = λ a. joined ((pointwise_exact e).each a.parts) (dim_exact.each a.dim);
 }
 
@@ -123,10 +123,10 @@ held_point_eq E a b = option_eq E a.coord b.coord && dim_eq a.dim b.dim
 pub held_point_exact : {C : Type 0} {E : C → C → Bool} → IsExact E → IsExact (held_point_eq E)
 held_point_exact {C} {E} e = record {
   only = λ a b h.
-    let p = both _ _ h in
-    let x = (option_exact e).only a.coord b.coord p.0 in
-    let d = dim_exact.only a.dim b.dim p.1 in
-    let make : Option C → Dimension → HeldPoint C = λ c d. record { coord = c; dim = d } in
-    ap (λ c. make c a.dim) x ∙ ap (λ d. make b.coord d) d;
+      let p = both _ _ h in
+      let x = (option_exact e).only a.coord b.coord p.0 in
+      let d = dim_exact.only a.dim b.dim p.1 in
+      let make : Option C → Dimension → HeldPoint C = λ c d. record { coord = c; dim = d } in
+      ap (λ c. make c a.dim) x ∙ ap (λ d. make b.coord d) d;
   each = λ a. joined ((option_exact e).each a.coord) (dim_exact.each a.dim);
 }

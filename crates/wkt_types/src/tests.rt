@@ -67,7 +67,12 @@ fn rings_and_lines(rt: HostRuntime) -> Result<(), Fail> {
     shows(&rt, alloc, &Wkt::from(polygon), "POLYGON Z EMPTY");
     let lines = vec![in alloc; line(alloc, &[1, 2])?, line(alloc, &[3])?]?;
     let lines = MultiLineString::from_line_strings(alloc, lines.into_iter())?.ok_or("lines")?;
-    shows(&rt, alloc, &Wkt::from(lines), "MULTILINESTRING((1 1,2 2),(3 3))");
+    shows(
+        &rt,
+        alloc,
+        &Wkt::from(lines),
+        "MULTILINESTRING((1 1,2 2),(3 3))",
+    );
     Ok(())
 }
 
@@ -81,7 +86,12 @@ fn polygons(rt: HostRuntime) -> Result<(), Fail> {
     let polygon = Polygon::from_rings(alloc, rings.into_iter())?.ok_or("rings")?;
     let members = vec![in alloc; polygon]?;
     let polygons = MultiPolygon::from_polygons(alloc, members.into_iter())?.ok_or("polygons")?;
-    shows(&rt, alloc, &Wkt::from(polygons), "MULTIPOLYGON(((0 0,20 20,0 0),(5 5,6 6)))");
+    shows(
+        &rt,
+        alloc,
+        &Wkt::from(polygons),
+        "MULTIPOLYGON(((0 0,20 20,0 0),(5 5,6 6)))",
+    );
     Ok(())
 }
 
@@ -97,7 +107,12 @@ fn collections(rt: HostRuntime) -> Result<(), Fail> {
     let first = Wkt::from(Point::from_coord(xy(1, 2)));
     let second = Wkt::from(Point::from_coord(measured));
     let both = GeometryCollection::new(vec![in alloc; first, second]?, Dimension::XYZ);
-    shows(&rt, alloc, &Wkt::from(both), "GEOMETRYCOLLECTION Z(POINT(1 2),POINT M(1 2 3))");
+    shows(
+        &rt,
+        alloc,
+        &Wkt::from(both),
+        "GEOMETRYCOLLECTION Z(POINT(1 2),POINT M(1 2 3))",
+    );
     let none: Vec<Coord<i32>> = Vec::new(alloc);
     assert!(rt; LineString::from_coords(alloc, none.into_iter())?.is_none());
     let none: Vec<Wkt<i32>> = Vec::new(alloc);
@@ -109,13 +124,48 @@ fn collections(rt: HostRuntime) -> Result<(), Fail> {
 fn empty_geometries(rt: HostRuntime) {
     let alloc = rt.alloc();
     let dim = Dimension::XYM;
-    shows(&rt, alloc, &Wkt::from(Point::empty(Dimension::XYZM)), "POINT ZM EMPTY");
-    shows(&rt, alloc, &Wkt::from(LineString::empty(alloc, Dimension::XY)), "LINESTRING EMPTY");
-    shows(&rt, alloc, &Wkt::from(Polygon::empty(alloc, dim)), "POLYGON M EMPTY");
-    shows(&rt, alloc, &Wkt::from(MultiPoint::empty(alloc, dim)), "MULTIPOINT M EMPTY");
-    shows(&rt, alloc, &Wkt::from(MultiLineString::empty(alloc, dim)), "MULTILINESTRING M EMPTY");
-    shows(&rt, alloc, &Wkt::from(MultiPolygon::empty(alloc, dim)), "MULTIPOLYGON M EMPTY");
-    shows(&rt, alloc, &Wkt::from(GeometryCollection::empty(alloc, dim)), "GEOMETRYCOLLECTION M EMPTY");
+    shows(
+        &rt,
+        alloc,
+        &Wkt::from(Point::empty(Dimension::XYZM)),
+        "POINT ZM EMPTY",
+    );
+    shows(
+        &rt,
+        alloc,
+        &Wkt::from(LineString::empty(alloc, Dimension::XY)),
+        "LINESTRING EMPTY",
+    );
+    shows(
+        &rt,
+        alloc,
+        &Wkt::from(Polygon::empty(alloc, dim)),
+        "POLYGON M EMPTY",
+    );
+    shows(
+        &rt,
+        alloc,
+        &Wkt::from(MultiPoint::empty(alloc, dim)),
+        "MULTIPOINT M EMPTY",
+    );
+    shows(
+        &rt,
+        alloc,
+        &Wkt::from(MultiLineString::empty(alloc, dim)),
+        "MULTILINESTRING M EMPTY",
+    );
+    shows(
+        &rt,
+        alloc,
+        &Wkt::from(MultiPolygon::empty(alloc, dim)),
+        "MULTIPOLYGON M EMPTY",
+    );
+    shows(
+        &rt,
+        alloc,
+        &Wkt::from(GeometryCollection::empty(alloc, dim)),
+        "GEOMETRYCOLLECTION M EMPTY",
+    );
 }
 
 #[test]

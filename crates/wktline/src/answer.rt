@@ -16,7 +16,6 @@ use wkt::laws::read_values_are_writable;
 use wkt::to_wkt::{TextSink, write_geometry};
 use wkt::{FromWktStr, ReadError, Wkt, WktNum};
 
-
 /// Why a line wasn't answered.
 #[derive(Debug, Drop, Error)]
 pub(crate) enum AnswerError {

@@ -93,11 +93,9 @@ impl ByteSource for Pieces<'_> {
     }
 }
 
-const INPUT: &[u8] =
-    b"point ( 10 -20.50 )\nPOINT ZM EMPTY\nPOINTZ(-117 33 10)\nPOINT (10)\n\n";
+const INPUT: &[u8] = b"point ( 10 -20.50 )\nPOINT ZM EMPTY\nPOINTZ(-117 33 10)\nPOINT (10)\n\n";
 
-const OUTPUT: &[u8] =
-    b"POINT(10 -20.5)\nPOINT ZM EMPTY\nPOINT Z(-117 33 10)\nrefused\nrefused\n";
+const OUTPUT: &[u8] = b"POINT(10 -20.5)\nPOINT ZM EMPTY\nPOINT Z(-117 33 10)\nrefused\nrefused\n";
 
 /// A source of these bytes, at most so many a call.
 fn source(rest: &[u8], step: usize, calls: usize) -> Pieces<'_>
@@ -117,13 +115,22 @@ fn answers_lines(rt: HostRuntime) -> Result<(), Fail> {
         (b"".as_slice(), b"".as_slice()),
         (b"\n".as_slice(), b"refused\n".as_slice()),
         (INPUT, OUTPUT),
-        (b"LINEARRING(1 2)\n".as_slice(), b"LINESTRING(1 2)\n".as_slice()),
+        (
+            b"LINEARRING(1 2)\n".as_slice(),
+            b"LINESTRING(1 2)\n".as_slice(),
+        ),
         (
             b"\xff\nMULTIPOLYGON (((8 4)), ((4 0)))".as_slice(),
             b"refused\nMULTIPOLYGON(((8 4)),((4 0)))\n".as_slice(),
         ),
-        (b"\xc2\nPOINT(1 2)\xc2\n".as_slice(), b"refused\nrefused\n".as_slice()),
-        (b"MULTIPOINT (EMPTY)\n".as_slice(), b"MULTIPOINT(EMPTY)\n".as_slice()),
+        (
+            b"\xc2\nPOINT(1 2)\xc2\n".as_slice(),
+            b"refused\nrefused\n".as_slice(),
+        ),
+        (
+            b"MULTIPOINT (EMPTY)\n".as_slice(),
+            b"MULTIPOINT(EMPTY)\n".as_slice(),
+        ),
     ] {
         let mut reader = source(input, 1000, 1000);
         let mut writer = Slow::new(1000, 1000);

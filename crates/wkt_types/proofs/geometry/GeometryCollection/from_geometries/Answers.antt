@@ -14,7 +14,11 @@ pub returns-in-Some : goal.returns-in-Some
 returns-in-Some g c =
     let h = c.in_ok-geometries.ensures.runs tt in
     let same = c.deref.ensures.value in
-    let first = ap (λ xs. slice_get xs 0) (sym same) ∙ sym c.in-Some.ensures.value in
-    (h.0, h.1, h.2, ap (λ x. Some x) c.new.ensures
-      ∙ (collected_some c.in_ok-geometries.geometries.items c.in-Some.first.now c.dimension-dim.result first c.dimension-dim.ensures
-      ∙ ap (λ ws. collected (map tree ws)) h.3.0))
+    let first = ap (λ xs. slice_get xs 0) (sym same) ∙ sym c.in-Some.ensures.value in (
+      h.0,
+      h.1,
+      h.2,
+      ap (λ x. Some x) c.new.ensures
+          ∙ (collected_some c.in_ok-geometries.geometries.items c.in-Some.first.now c.dimension-dim.result first c.dimension-dim.ensures
+          ∙ ap (λ ws. collected (map tree ws)) h.3.0),
+    )
