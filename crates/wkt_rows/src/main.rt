@@ -7,10 +7,9 @@
 #![tactic(auto)]
 
 mod odd;
-mod table;
-
 #[cfg(test)]
 mod rows;
+mod table;
 #[cfg(test)]
 mod tests;
 

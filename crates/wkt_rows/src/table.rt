@@ -3,7 +3,7 @@ use std::alloc::{AllocError, Global};
 use std::io;
 use thiserror::Error;
 use wkt::to_wkt::{Counted, ReadAllError, read_all};
-use wkt::{Decimal, FromWktStr, ReadError, Wkt};
+use wkt::{Decimal, FromWktStr, ReadError, Wkt, WktNum};
 
 /// Why a table isn't checked to its end.
 #[derive(Debug, Drop, Error)]
@@ -54,7 +54,7 @@ fn check_row(rt: &impl Print, alloc: Global, row: &str) -> Result<bool, TableErr
         Some(pair) => pair,
         None => (row, ""),
     };
-    let answer = match answer(alloc, text) {
+    let answer = match answer::<Decimal<6>>(alloc, text) {
         Ok(answer) => answer,
         Err(e) => return Err(TableError::Memory(e)),
     };
@@ -68,8 +68,8 @@ fn check_row(rt: &impl Print, alloc: Global, row: &str) -> Result<bool, TableErr
 }
 
 /// The text of a text's geometry, or the message with which it is refused.
-fn answer(alloc: Global, text: &str) -> Result<String, AllocError> {
-    match Wkt::<Decimal<6>>::from_str(alloc, text) {
+pub fn answer<T: WktNum>(alloc: Global, text: &str) -> Result<String, AllocError> {
+    match Wkt::<T>::from_str(alloc, text) {
         Ok(geometry) => format!(in alloc; "{geometry}"),
         Err(ReadError::Text(message)) => format!(in alloc; "{message}"),
         Err(ReadError::Memory(e)) => Err(e),
