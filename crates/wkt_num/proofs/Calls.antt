@@ -1,5 +1,5 @@
 -- Calls on a sink, one after the other.
-use Rattle.std.proofs.Common.{◌≡◌, ℕ, ◌+◌, ◌%◌, ◌^◌, List, [], ◌∷◌, ◌++◌, refl, ap, sym, ◌∙◌, append_assoc, subst}
+use Rattle.std.proofs.Common.{◌≡◌, ℕ, List, [], ◌∷◌, ◌++◌, refl, ap, sym, ◌∙◌, append_assoc, subst}
 use Rattle.std.specs.List.{concat, FoldsTo}
 use Rattle.std.proofs.Common.{Result, Ok, Err, IsOk}
 use Rattle.std.specs.Result.{IsErrAnd}

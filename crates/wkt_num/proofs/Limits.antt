@@ -1,13 +1,13 @@
 -- Numbers of units at the limit and past the last place.
-use Rattle.std.proofs.Common.{◌≡◌, ℕ, suc, ◌+◌, ◌*◌, ◌/◌, ◌^◌, ◌<◌, ◌≤◌, Bool, true, false, ◌&&◌, ◌==◌, nat_le, if◌then◌else◌, List, [], ◌∷◌, length, Some, None, refl, sym, ap, ◌∙◌, arith}
+use Rattle.std.proofs.Common.{◌≡◌, ℕ, suc, ◌+◌, ◌*◌, ◌/◌, ◌^◌, ◌<◌, ◌≤◌, Bool, true, false, ◌&&◌, ◌==◌, nat_le, if◌then◌else◌, List, [], ◌∷◌, length, None, refl, ap, ◌∙◌, arith}
 use Rattle.std.specs.Str.Parse.{AllDigits, digits_value_after}
 use Rattle.std.specs.Char.{digit_value}
 use Rattle.std.proofs.lemmas.Nat.{pow-add}
-use Rattle.std.proofs.Math.Nat.{mul-div_cancel, one-le-pow, pow-le-pow_right, mul-le-mul_left, mul-le-mul_right, le_of_mul-le-mul_right, pow-suc}
-use borrow.Author.Tests.{eq-eqb, eqb-true, leb-true, leb-false, lt-leb, eqb-false}
+use Rattle.std.proofs.Math.Nat.{pow-le-pow_right, mul-le-mul_left, mul-le-mul_right, le_of_mul-le-mul_right, pow-suc}
+use borrow.Author.Tests.{eqb-true, leb-true, leb-false, lt-leb, eqb-false}
 use Rattle.wkt_num.specs.Whole.{keep_if}
 use Rattle.wkt_num.specs.Decimal.{units_of}
-use Rattle.wkt_num.specs.Units.{ten_pos, units_is, after_split, keep_some}
+use Rattle.wkt_num.specs.Units.{ten_pos, units_is, after_split}
 
 -- Where the equation has no answer up to the limit, there is no number of units.
 pub units_none : (limit D n k : ℕ) → ((u : ℕ) → u * 10 ^ k ≡ n * 10 ^ D → u ≤ limit → ⊥) → units_of limit D n k ≡ None

@@ -1,23 +1,13 @@
 -- What `parse` of the standard library answers.
-use Rattle.std.proofs.Common.{◌≡◌, ℕ, ◌+◌, ◌^◌, ◌<◌, ◌≤◌, Bool, true, false, cond, List, [], ◌∷◌, if◌then◌else◌, suc, zero, length, drop, get_or, ℤ, pos, negsuc, neg_ℤ, Option, Some, None, IfSome, Result, Ok, Err, OkIff, refl, sym, ap, subst, ◌∙◌, arith, ◌↔◌, nat_eq, nat_lt, nat_le, ◌&&◌, IsTrue}
+use Rattle.std.proofs.Common.{◌≡◌, ℕ, ◌^◌, ◌≤◌, Bool, true, false, cond, List, if◌then◌else◌, suc, zero, ℤ, pos, negsuc, neg_ℤ, Some, Result, Ok, Err, OkIff, refl, sym, ap, ◌∙◌, arith, nat_lt, nat_le, ◌&&◌}
 use Rattle.std.specs.Result.{result_ok}
-use Rattle.std.specs.Fmt.{decimal, signed_decimal}
-use Rattle.std.specs.Ordering.{int_eq}
-use Rattle.std.proofs.lemmas.Bool.Decides.{Decides-int_eq, nat_tests}
-use Rattle.std.proofs.lemmas.Nat.{pow_pos}
 use Rattle.std.specs.Int.RustNames.{FitsSigned}
 use mir.Syntax.{Width}
 use mir.Val.{hbits}
-use Rattle.std.specs.Int.{IsInRange}
-use Rattle.std.specs.Str.{all_ascii_digits}
-use Rattle.std.specs.Str.Parse.{IsNumeral, AllDigits, digits_value, without_leading_plus, without_leading_sign, starts_with_minus, ParsesUnsigned, ParsesSigned}
-use Rattle.std.proofs.lemmas.Fmt.{decimal_is_IsNumeral_wide}
-use Rattle.std.proofs.lemmas.Str.Parse.{IsNumeralModel, numerals_by_value, tells_all_ascii_digits, without_leading_plus_none, digit_from_value}
-use borrow.Author.Tests.{lt-ltb, ltb-true, eq-eqb, eqb-true, le-leb, leb-true, ne_eqb}
-use Rattle.wkt_num.specs.Bytes.{class_of, Run, AllRun}
-use Rattle.wkt_num.specs.Number.{IsNumberText, begins_number}
+use Rattle.std.specs.Str.Parse.{IsNumeral, digits_value, without_leading_plus, without_leading_sign, starts_with_minus, ParsesUnsigned, ParsesSigned}
+use borrow.Author.Tests.{lt-ltb, ltb-true, le-leb, leb-true}
 use Rattle.wkt_num.specs.Whole.{read_unsigned, read_signed, IsSigned, is_numeral, keep_if}
-use Rattle.wkt_num.specs.WholeLaws.{own, is_numeral_of, both_true, numeral_from, first_digit, numeral_fits, read_unsigned_some, unsigned_reads_back, unsigned_reads_values, digit_run, digit_begins, minus_run, point_run, digits_are_run, numeral_text, unsigned_text, unsigned_same, read_signed_minus, read_signed_plain, signed_reads_back, signed_text, negative_signed, signed_reads_values, signed_same}
+use Rattle.wkt_num.specs.WholeLaws.{both_true, numeral_from, numeral_fits, negative_signed}
 
 -- An answer that tells a fact apart is the test's.
 pub ok_iff_keeps : {A E P : Type 0} (r : Result A E) (b : Bool) (x : A) → OkIff r P x → (b ≡ true → P) → (P → b ≡ true) → result_ok r ≡ keep_if b x

@@ -1,5 +1,5 @@
 -- The reading of a short body.
-use Rattle.std.proofs.Common.{◌≡◌, ℕ, suc, ◌+◌, ◌-◌, ◌*◌, ◌^◌, ◌<◌, ◌≤◌, Bool, true, List, [], ◌∷◌, ◌++◌, length, take, drop, get_or, if◌then◌else◌, Some, None, slice_range, sym, ap, subst, ◌∙◌, arith, length-append, length-drop, take_all}
+use Rattle.std.proofs.Common.{◌≡◌, ℕ, suc, ◌+◌, ◌-◌, ◌*◌, ◌^◌, ◌<◌, ◌≤◌, true, List, [], ◌∷◌, ◌++◌, length, take, drop, get_or, if◌then◌else◌, Some, None, slice_range, sym, ap, subst, ◌∙◌, arith, length-append, length-drop, take_all}
 use Rattle.std.specs.Char.{is_ascii_digit, digit_value}
 use Rattle.std.specs.Str.Parse.{AllDigits, digits_value, digits_value_after}
 use Rattle.std.proofs.lemmas.Bool.Decides.{nat_tests}
@@ -12,7 +12,7 @@ use Rattle.wkt_num.specs.Whole.{is_numeral, keep_if}
 use Rattle.wkt_num.specs.WholeLaws.{is_numeral_of}
 use Rattle.wkt_num.specs.Decimal.{before_point, after_point, units_of, read_magnitude}
 use Rattle.wkt_num.specs.DecimalLaws.{before_digits, after_digits, digits_append, value_append}
-use Rattle.wkt_num.specs.Units.{units_is, ten_pos}
+use Rattle.wkt_num.specs.Units.{units_is}
 
 -- one digit more
 digits-suc : (body : List ℕ) (from at : ℕ) → from ≤ at → at < length body → slice_range body from (at + 1) ≡ slice_range body from at ++ get_or body at 0 ∷ []

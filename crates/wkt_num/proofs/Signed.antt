@@ -1,12 +1,9 @@
 -- The reading with its sign, from the parts that the code makes.
-use Rattle.std.proofs.Common.{◌≡◌, ℕ, ◌*◌, ◌/◌, ◌^◌, ◌<◌, ◌≤◌, Bool, true, false, ◌&&◌, ◌==◌, nat_le, if◌then◌else◌, List, ◌++◌, length, Option, Some, None, sym, ap, ◌∙◌, arith}
-use Rattle.std.specs.Str.Parse.{digits_value, starts_with_minus, without_leading_sign}
-use borrow.Author.Tests.{le-leb, lt-leb, leb-true}
-use Rattle.wkt_num.specs.Whole.{is_numeral}
-use Rattle.wkt_num.specs.WholeLaws.{both_true}
-use Rattle.wkt_num.specs.Decimal.{before_point, after_point, units_of, read_magnitude, read_decimal, with_sign, and_then}
-use Rattle.wkt_num.specs.Units.{keep_some}
-use Rattle.wkt_num.specs.ReadDecimal.{read-near, magnitude-small}
+use Rattle.std.proofs.Common.{◌≡◌, ℕ, ◌^◌, ◌<◌, ◌≤◌, Bool, if◌then◌else◌, List, Option, None, sym, ap, ◌∙◌}
+use Rattle.std.specs.Str.Parse.{starts_with_minus, without_leading_sign}
+use borrow.Author.Tests.{lt-leb}
+use Rattle.wkt_num.specs.Decimal.{read_magnitude, read_decimal, with_sign, and_then}
+use Rattle.wkt_num.specs.ReadDecimal.{read-near}
 
 -- With too many places no text is read.
 pub read-far : (k most D : ℕ) (bs : List ℕ) → most < D → read_decimal k most D bs ≡ None

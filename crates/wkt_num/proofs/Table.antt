@@ -1,5 +1,5 @@
 -- Facts of each number below a bound, by computing them.
-use Rattle.std.proofs.Common.{◌≡◌, ℕ, zero, suc, ◌<◌, ◌≤◌, Bool, true, false, ◌&&◌, ◌==◌, refl, subst, arith, sym}
+use Rattle.std.proofs.Common.{◌≡◌, ℕ, zero, suc, ◌<◌, Bool, true, false, ◌&&◌, ◌==◌, refl, subst, arith, sym}
 use borrow.Author.Tests.{eqb-true, eqb-false}
 use Rattle.wkt_num.specs.WholeLaws.{both_true}
 

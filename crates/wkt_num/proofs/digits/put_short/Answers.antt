@@ -1,4 +1,4 @@
-use Rattle.std.proofs.Common.{◌≡◌, ◌∙◌, ◌+◌, ◌-◌, ◌/◌, ◌++◌, ◌<◌, ◌^◌, drop, set, ℕ, List, ap, arith, length-set}
+use Rattle.std.proofs.Common.{◌∙◌, ◌+◌, ◌-◌, ◌/◌, ◌++◌, ◌<◌, ◌^◌, drop, set, ℕ, List, ap, arith, length-set}
 use Rattle.std.specs.Fmt.{decimal}
 use Rattle.wkt_num.proofs.Onto.{put-more, put-first, fewer}
 use Rattle.wkt_num.proofs.digits.put_short.Goals as goal

@@ -1,4 +1,4 @@
-use Rattle.std.proofs.Common.{ℕ, ◌^◌, ◌==◌, slice_index_or, refl, arith, List, []}
+use Rattle.std.proofs.Common.{◌^◌, ◌==◌, slice_index_or, refl, arith}
 use borrow.Author.Tests.{eqb-true}
 use Rattle.wkt_num.specs.declared.powers.TheConstants.{TENS}
 use Rattle.wkt_num.proofs.Table.{below-all}

@@ -1,4 +1,3 @@
-use Rattle.std.proofs.Common.{arith}
 use Rattle.wkt_num.proofs.Printed.{no-fraction, some-fraction}
 use Rattle.wkt_num.proofs.printing.put_fraction.Goals as goal
 

@@ -1,5 +1,5 @@
 use Rattle.std.proofs.Common.{arith}
-use Rattle.wkt_num.proofs.Scaled.{starts, puts, ends, within}
+use Rattle.wkt_num.proofs.Scaled.{starts, puts, ends}
 use Rattle.wkt_num.proofs.Printed.{ten-fits, next-fits}
 use Rattle.wkt_num.proofs.printing.put_long.Goals as goal
 

@@ -1,6 +1,6 @@
 use Rattle.std.proofs.Common.{arith}
-use Rattle.wkt_num.proofs.Scaled.{starts, puts, ends, within}
-use Rattle.wkt_num.proofs.Printed.{ten-fits, next-fits}
+use Rattle.wkt_num.proofs.Scaled.{starts, puts, ends}
+use Rattle.wkt_num.proofs.Printed.{next-fits}
 use Rattle.wkt_num.proofs.printing.put_short.Goals as goal
 
 pub loop-rest-init : goal.loop-rest-init

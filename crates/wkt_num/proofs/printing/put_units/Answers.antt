@@ -1,4 +1,3 @@
-use Rattle.std.proofs.Common.{arith, sym, ap, subst, ◌∙◌}
 use Rattle.wkt_num.proofs.Printed.{fraction-less, units-piece}
 use Rattle.wkt_num.proofs.printing.put_units.Goals as goal
 

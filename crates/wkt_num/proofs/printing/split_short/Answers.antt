@@ -1,4 +1,4 @@
-use Rattle.std.proofs.Common.{◌≡◌, ◌/◌, ◌^◌, ◌∙◌, ap, arith}
+use Rattle.std.proofs.Common.{◌/◌, ◌^◌, ◌∙◌, ap, arith}
 use Rattle.std.proofs.Math.Nat.{one-le-pow}
 use Rattle.wkt_num.proofs.Printed.{whole-is, fraction-is}
 use Rattle.wkt_num.proofs.printing.split_short.Goals as goal

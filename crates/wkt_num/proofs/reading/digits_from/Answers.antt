@@ -1,4 +1,4 @@
-use Rattle.std.proofs.Common.{◌≤◌, ◌+◌, ◌*◌, ◌<◌, ◌^◌, get_or, sym, ap, ◌∙◌, arith}
+use Rattle.std.proofs.Common.{◌≤◌, get_or, sym, ◌∙◌, arith}
 use Rattle.wkt_num.proofs.Short.{digit-small, digits-more, fits-more, fits-short}
 use Rattle.wkt_num.proofs.reading.digits_from.Goals as goal
 

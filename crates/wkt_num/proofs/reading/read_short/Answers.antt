@@ -1,4 +1,4 @@
-use Rattle.std.proofs.Common.{◌≡◌, ◌-◌, ◌^◌, ◌<◌, length, ◌∙◌, ap, arith}
+use Rattle.std.proofs.Common.{◌<◌, length, ◌∙◌, arith}
 use Rattle.wkt_num.proofs.Short.{whole-body, point-body}
 use Rattle.wkt_num.proofs.reading.read_short.Goals as goal
 
