@@ -1,5 +1,5 @@
 //! Text to a byte sink, gathered in an array.
-ghost use Rattle.std.specs.Prelude.{◌≡◌, ℕ, ◌≤◌, ◌+◌, List, [], ◌∷◌, ◌++◌, OnOk, OnErr, Ok, IsSome, ◌↔◌, length, take, true, false};
+ghost use Rattle.std.specs.Prelude.{◌≡◌, ℕ, ◌≤◌, ◌<◌, ◌+◌, List, [], ◌∷◌, ◌++◌, OnOk, OnErr, Ok, IsSome, ◌↔◌, length, take, true, false};
 ghost use Rattle.std.specs.Io.KnownBytes.{Appends};
 ghost use Rattle.wkt_num.specs.Sink.{next_count, Puts};
 
@@ -98,15 +98,25 @@ impl<W: ByteSink> WriterWrapper<W> {
         ensures failures { self.new.failures ≡ self.old.failures }
         ensures tape { self.new.tape ≡ self.old.tape }
     {
-        // Most pieces are one byte, and a copy is a call.
-        if let [byte] = bytes {
-            self.held[self.len] = *byte;
-            self.len += 1;
-            return;
-        }
         let end = self.len + bytes.len();
         self.held[self.len..end].copy_from_slice(bytes);
         self.len = end;
+    }
+
+    // Takes one byte into the array.
+    fn keep_one(&mut self, bytes: &[u8])
+        requires one { length bytes.now ≡ 1 }
+        requires room { self.old.len < 256 }
+        ensures held { held_bytes self.new ≡ held_bytes self.old ++ bytes.now }
+        ensures writer { self.new.writer ≡ self.old.writer }
+        ensures state { self.new.state ≡ self.old.state }
+        ensures failures { self.new.failures ≡ self.old.failures }
+        ensures tape { self.new.tape ≡ self.old.tape }
+    {
+        if let [byte] = bytes {
+            self.held[self.len] = *byte;
+            self.len += 1;
+        }
     }
 
     // Puts out what the array holds.
@@ -142,6 +152,11 @@ impl<W: ByteSink> WriterWrapper<W> {
         let State::Well = self.state else {
             return Err(fmt::Error);
         };
+        // Most pieces are one byte, which fits, and a copy is a call.
+        if bytes.len() == 1 && self.len < 255 {
+            self.keep_one(bytes);
+            return Ok(());
+        }
         let mut at = 0;
         while at < bytes.len() {
             let room = 256 - self.len;
