@@ -3,7 +3,7 @@ use crate::odd::{Dash, Letter};
 use crate::table::answer;
 use std::alloc::{AllocError, Global};
 use std::test::Fail;
-use wkt::tokenizer::{PeekableTokens, Token, Tokens};
+use wkt::tokenizer::{Token, Tokens};
 use wkt::{Decimal, FromWktStr, ReadError, Wkt, infer_type};
 
 const NOT_WKT: &str = "Invalid WKT format";
@@ -163,21 +163,6 @@ fn front(alloc: Global, text: &str) -> Result<String, Fail> {
     Ok(format!(in alloc; "{geometry} {end}")?)
 }
 
-// What the lexemes give, and where the last one taken ends.
-fn next_front(
-    alloc: Global,
-    tokens: &mut PeekableTokens<'_, Decimal<6>>,
-) -> Result<String, AllocError> {
-    match Wkt::<Decimal<6>>::read_tokens(alloc, tokens) {
-        Ok(geometry) => {
-            let end = tokens.end();
-            format!(in alloc; "{geometry} {end}")
-        }
-        Err(ReadError::Text(message)) => format!(in alloc; "{message}"),
-        Err(ReadError::Memory(e)) => Err(e),
-    }
-}
-
 #[test]
 fn fronts(rt: HostRuntime) -> Result<(), Fail> {
     let alloc = rt.alloc();
@@ -188,14 +173,6 @@ fn fronts(rt: HostRuntime) -> Result<(), Fail> {
     ] {
         assert_eq!(rt; front(alloc, text)?.as_str(), want, "at {text}");
     }
-    let mut tokens = PeekableTokens::new(Tokens::from_str("POINT(1 2)LINESTRING EMPTY x"));
-    for want in ["POINT(1 2) 10", "LINESTRING EMPTY 26", NO_KIND, NOT_WKT] {
-        assert_eq!(rt; next_front(alloc, &mut tokens)?.as_str(), want);
-    }
-    let mut tokens = PeekableTokens::new(Tokens::from_str("POLYGON((1 2,x),3 4"));
-    assert_eq!(rt; next_front(alloc, &mut tokens)?.as_str(), NO_CLOSING);
-    let three = Decimal::from_units(3000000);
-    assert_eq!(rt; tokens.next(), Some(Ok(Token::Number(three))));
     Ok(())
 }
 
