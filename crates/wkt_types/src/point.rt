@@ -82,6 +82,17 @@ impl<T> Point<T> {
     }
 }
 
+impl<T: Default> Default for Point<T> {
+    ghost use Rattle.wkt_access.specs.declared.dimensions.Dimension.TheVariants.{XY};
+
+    ghost is_default = { λ p. (p.coord ≡ None) × (p.dim ≡ XY) };
+
+    /// A point of two dimensions without a coordinate.
+    fn default() -> Self {
+        Point::empty(Dimension::XY)
+    }
+}
+
 impl<T: WktNum> PartialEq for Point<T> {
     ghost use Rattle.wkt_types.specs.Exact.{exact_by, exact_per, held_point_eq, held_point_exact};
     ghost use Rattle.wkt_types.specs.Equal.{coord_eq, coord_exact};
