@@ -1,4 +1,5 @@
 //! Access to geometries of any kind.
+ghost use Rattle.std.specs.Prelude.{◌≡◌};
 ghost use Rattle.wkt_access.specs.Shapes.{header_of};
 ghost use Rattle.wkt_types.specs.Tree.{tree, collection_tree, tree_dim, point, line_string, polygon, multi_point, multi_line_string, multi_polygon};
 ghost use Rattle.wkt_types.specs.Values.{tree_shape, collection_shapes};
@@ -140,8 +141,11 @@ impl<T: WktNum> GeometryTrait for Point<T> {
         GeometryType::Point(self)
     }
 
-    fn geometry(&self, _i: usize) -> &Self {
-        unreachable!()
+    /// There are no members, so no index is one's.
+    fn geometry(&self, _i: usize) -> &Self
+        ensures { result.now ≡ self.now }
+    {
+        self
     }
 }
 
@@ -189,8 +193,11 @@ impl<T: WktNum> GeometryTrait for LineString<T> {
         GeometryType::LineString(self)
     }
 
-    fn geometry(&self, _i: usize) -> &Self {
-        unreachable!()
+    /// There are no members, so no index is one's.
+    fn geometry(&self, _i: usize) -> &Self
+        ensures { result.now ≡ self.now }
+    {
+        self
     }
 }
 
@@ -238,8 +245,11 @@ impl<T: WktNum> GeometryTrait for Polygon<T> {
         GeometryType::Polygon(self)
     }
 
-    fn geometry(&self, _i: usize) -> &Self {
-        unreachable!()
+    /// There are no members, so no index is one's.
+    fn geometry(&self, _i: usize) -> &Self
+        ensures { result.now ≡ self.now }
+    {
+        self
     }
 }
 
@@ -287,8 +297,11 @@ impl<T: WktNum> GeometryTrait for MultiPoint<T> {
         GeometryType::MultiPoint(self)
     }
 
-    fn geometry(&self, _i: usize) -> &Self {
-        unreachable!()
+    /// There are no members, so no index is one's.
+    fn geometry(&self, _i: usize) -> &Self
+        ensures { result.now ≡ self.now }
+    {
+        self
     }
 }
 
@@ -336,8 +349,11 @@ impl<T: WktNum> GeometryTrait for MultiLineString<T> {
         GeometryType::MultiLineString(self)
     }
 
-    fn geometry(&self, _i: usize) -> &Self {
-        unreachable!()
+    /// There are no members, so no index is one's.
+    fn geometry(&self, _i: usize) -> &Self
+        ensures { result.now ≡ self.now }
+    {
+        self
     }
 }
 
@@ -385,7 +401,10 @@ impl<T: WktNum> GeometryTrait for MultiPolygon<T> {
         GeometryType::MultiPolygon(self)
     }
 
-    fn geometry(&self, _i: usize) -> &Self {
-        unreachable!()
+    /// There are no members, so no index is one's.
+    fn geometry(&self, _i: usize) -> &Self
+        ensures { result.now ≡ self.now }
+    {
+        self
     }
 }
