@@ -3,16 +3,14 @@ ghost use Rattle.std.specs.Prelude.{◌≡◌, ◌≤◌, map, option_map, vec_l
 ghost use Rattle.wkt_access.specs.declared.dimensions.Dimensions.{Dimensions};
 
 use crate::access::{
-    CoordTrait, GeometryCollectionTrait, GeometryTrait, GeometryType, LineStringTrait, LineTrait,
-    MultiLineStringTrait, MultiPointTrait, MultiPolygonTrait, PointTrait, PolygonTrait, RectTrait,
-    TriangleTrait,
+    CoordTrait, GeometryTrait, GeometryType, LineStringTrait, LineTrait, MultiLineStringTrait,
+    MultiPointTrait, MultiPolygonTrait, PointTrait, PolygonTrait, RectTrait, TriangleTrait,
 };
 use crate::dimensions::Dimensions;
 use crate::error::Error;
 use crate::write::{
-    write_geometry, write_geometry_collection, write_line, write_linestring,
-    write_multi_linestring, write_multi_point, write_multi_polygon, write_point, write_polygon,
-    write_rect, write_triangle,
+    write_geometry, write_line, write_linestring, write_multi_linestring, write_multi_point,
+    write_multi_polygon, write_point, write_polygon, write_rect, write_triangle,
 };
 use std::alloc::{AllocError, Global};
 use std::fmt;
@@ -404,36 +402,6 @@ impl GeometryTrait for Figure {
     }
 }
 
-/// A collection without members, by itself.
-#[derive(Drop)]
-struct Nothing {
-    header: Dimensions,
-}
-
-impl GeometryCollectionTrait for Nothing {
-    type T = i32;
-
-    type GeometryType = Figure;
-
-    ghost use Rattle.wkt_access.specs.Shapes.{Shapes};
-
-    ghost dimension = { λ c. c.header };
-
-    ghost geometries = { λ _. Shapes.no_shapes };
-
-    fn dim(&self) -> Dimensions {
-        self.header
-    }
-
-    fn num_geometries(&self) -> usize {
-        0
-    }
-
-    fn geometry(&self, _i: usize) -> &Figure {
-        unreachable!()
-    }
-}
-
 /// Takes so many calls, and then each call fails.
 #[derive(Drop)]
 struct Paper {
@@ -591,13 +559,9 @@ fn writes_each_kind(rt: HostRuntime) -> Result<(), Fail> {
     write_rect(&mut f, &corners_of(alloc, Dimensions::Unknown(2), &[])?)?;
     write_triangle(&mut f, &corners_of(alloc, Dimensions::Xy, &[])?)?;
     write_line(&mut f, &corners_of(alloc, Dimensions::Xy, &[])?)?;
-    let nothing = Nothing {
-        header: Dimensions::Unknown(3),
-    };
-    write_geometry_collection(&mut f, &nothing)?;
     assert_eq!(rt;
         f.bytes.as_slice(),
-        "POINT M(1 2 3)LINESTRING(1 -2)POLYGON EMPTYMULTIPOINT((1 2),EMPTY)MULTILINESTRING((1 2,3 4),EMPTY)MULTIPOLYGON(((0 0,1 0,0 1,0 0),EMPTY),EMPTY,EMPTY)POLYGON((3 2,3 4,1 4,1 2,3 2))POLYGON((1 2,3 4,5 6,1 2))LINESTRING(1 2,3 4)GEOMETRYCOLLECTION Z EMPTY".as_bytes()
+        "POINT M(1 2 3)LINESTRING(1 -2)POLYGON EMPTYMULTIPOINT((1 2),EMPTY)MULTILINESTRING((1 2,3 4),EMPTY)MULTIPOLYGON(((0 0,1 0,0 1,0 0),EMPTY),EMPTY,EMPTY)POLYGON((3 2,3 4,1 4,1 2,3 2))POLYGON((1 2,3 4,5 6,1 2))LINESTRING(1 2,3 4)".as_bytes()
     );
     Ok(())
 }

@@ -107,6 +107,10 @@ fn collections(rt: HostRuntime) -> Result<(), Fail> {
     let first = Wkt::from(Point::from_coord(xy(1, 2)));
     let second = Wkt::from(Point::from_coord(measured));
     let both = GeometryCollection::new(vec![in alloc; first, second]?, Dimension::XYZ);
+    assert_eq!(rt;
+        both.to_string(alloc)?.as_str(),
+        "GEOMETRYCOLLECTION Z(POINT(1 2),POINT M(1 2 3))"
+    );
     shows(
         &rt,
         alloc,
