@@ -6,9 +6,13 @@
 //! program written from the rules alone, in another language.
 #![tactic(auto)]
 
+#[cfg(test)]
+mod compared;
 mod odd;
 #[cfg(test)]
 mod rows;
+#[cfg(test)]
+mod slow;
 mod table;
 #[cfg(test)]
 mod tests;

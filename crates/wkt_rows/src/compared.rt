@@ -1,0 +1,222 @@
+//! The readers against the plain program of the definitions, on all short texts of some words.
+use crate::slow::{Lexeme, front, lexemes, whole};
+use std::alloc::{AllocError, Global};
+use std::test::Fail;
+use wkt::tokenizer::{Token, Tokens};
+use wkt::{FromWktStr, ReadError, Wkt, infer_type};
+
+// Whether the lexeme is the one that is given.
+fn is_token(lexeme: Lexeme<'_>, token: Option<Result<Token<'_, i32>, &'static str>>) -> bool {
+    match (lexeme, token) {
+        (Lexeme::Open, Some(Ok(Token::ParenOpen))) => true,
+        (Lexeme::Close, Some(Ok(Token::ParenClose))) => true,
+        (Lexeme::Comma, Some(Ok(Token::Comma))) => true,
+        (Lexeme::Word(run), Some(Ok(Token::Word(word)))) => run == word.as_bytes(),
+        (Lexeme::Number(run), Some(Ok(Token::Number(number)))) => whole(run) == Some(number),
+        (Lexeme::Number(run), Some(Err(_))) => whole(run).is_none(),
+        _ => false,
+    }
+}
+
+fn same_lexemes(alloc: Global, text: &str) -> Result<bool, AllocError> {
+    let mut tokens = Tokens::<i32>::from_str(text);
+    let found = lexemes(alloc, text.as_bytes())?;
+    for lexeme in &found {
+        if !is_token(*lexeme, tokens.next()) {
+            return Ok(false);
+        }
+    }
+    Ok(tokens.next().is_none())
+}
+
+fn same_front(alloc: Global, text: &str) -> Result<bool, AllocError> {
+    let wanted = front(alloc, text)?;
+    match (wanted, Wkt::<i32>::from_str(alloc, text)) {
+        (Some(wanted), Ok(geometry)) => {
+            let written = format!(in alloc; "{geometry}")?;
+            Ok(written.as_str() == wanted.as_str())
+        }
+        (None, Err(ReadError::Text(_))) => Ok(true),
+        (_, Err(ReadError::Memory(e))) => Err(e),
+        _ => Ok(false),
+    }
+}
+
+const HEADS: [(&str, &str); 8] = [
+    ("POINT", "Point"),
+    ("LINESTRING", "LineString"),
+    ("LINEARRING", "LineString"),
+    ("POLYGON", "Polygon"),
+    ("MULTIPOINT", "MultiPoint"),
+    ("MULTILINESTRING", "MultiLineString"),
+    ("MULTIPOLYGON", "MultiPolygon"),
+    ("GEOMETRYCOLLECTION", "GeometryCollection"),
+];
+
+// What a text in capitals has before its first `(` or EMPTY, and whether EMPTY came first.
+fn head(text: &str) -> Option<(&str, bool)> {
+    match (text.split_once("("), text.split_once("EMPTY")) {
+        (None, None) => None,
+        (Some((head, _)), None) => Some((head, false)),
+        (None, Some((head, _))) => Some((head, true)),
+        (Some((a, _)), Some((b, _))) => {
+            if a.len() < b.len() {
+                Some((a, false))
+            } else {
+                Some((b, true))
+            }
+        }
+    }
+}
+
+fn dimension(rest: &str) -> &'static str {
+    if rest.contains("ZM") {
+        "XYZM"
+    } else if rest.contains("Z") {
+        "XYZ"
+    } else if rest.contains("M") {
+        "XYM"
+    } else {
+        "XY"
+    }
+}
+
+fn has_space(head: &str) -> bool {
+    head.contains(" ") || head.contains("\n") || head.contains("\r") || head.contains("\t")
+}
+
+// What the head of a text says, by the four rules.
+fn head_answer(alloc: Global, text: &str) -> Result<String, AllocError> {
+    let capitals = text.to_ascii_uppercase(alloc)?;
+    let Some((head, by_empty)) = head(capitals.trim_start()) else {
+        return String::from_str(alloc, "Invalid WKT; no '(' character and not EMPTY");
+    };
+    if by_empty && !has_space(head) {
+        return String::from_str(
+            alloc,
+            "Invalid WKT; no whitespace between geometry type and EMPTY.",
+        );
+    }
+    for (word, name) in HEADS {
+        if let Some(rest) = head.strip_prefix(word) {
+            let dimension = dimension(rest);
+            return format!(in alloc; "{name} {dimension}");
+        }
+    }
+    format!(in alloc; "Unsupported WKT prefix {head}")
+}
+
+fn same_head(alloc: Global, text: &str) -> Result<bool, AllocError> {
+    let wanted = head_answer(alloc, text)?;
+    let given = match infer_type(alloc, text) {
+        Ok((kind, dimension)) => format!(in alloc; "{kind:?} {dimension:?}")?,
+        Err(error) => format!(in alloc; "{error}")?,
+    };
+    Ok(given.as_str() == wanted.as_str())
+}
+
+// The nth of the texts that go on from a first word with words of the nine.
+fn nth(
+    alloc: Global,
+    first: &str,
+    words: [&str; 9],
+    between: &str,
+    n: usize,
+) -> Result<String, AllocError> {
+    let mut text = String::from_str(alloc, first)?;
+    let mut left = n;
+    for _ in 0..4 {
+        if left == 0 {
+            return Ok(text);
+        }
+        left -= 1;
+        text.push_str(between)?;
+        text.push_str(words[left % 9])?;
+        left /= 9;
+    }
+    Ok(text)
+}
+
+// The texts, of the first so many, at which a reader and the plain program differ.
+fn differences(
+    alloc: Global,
+    first: &str,
+    words: [&str; 9],
+    between: &str,
+    count: usize,
+) -> Result<String, AllocError> {
+    let mut wrong = String::new(alloc);
+    for n in 0..count {
+        let text = nth(alloc, first, words, between, n)?;
+        if !same_lexemes(alloc, &text)? {
+            wrong.push_str(&format!(in alloc; "lexemes of {text}\n")?)?;
+        }
+        if !same_front(alloc, &text)? {
+            wrong.push_str(&format!(in alloc; "front of {text}\n")?)?;
+        }
+        if !same_head(alloc, &text)? {
+            wrong.push_str(&format!(in alloc; "head of {text}\n")?)?;
+        }
+    }
+    Ok(wrong)
+}
+
+#[test]
+fn plain_program(rt: HostRuntime) -> Result<(), Fail> {
+    let alloc = rt.alloc();
+    for (text, wanted) in [
+        ("POINT ( 1 +-2 )", "POINT(1 -2)"),
+        ("LineString m empty 1x", "LINESTRING M EMPTY"),
+        (
+            "MULTIPOINT(1 2,(3 4),EMPTY)",
+            "MULTIPOINT((1 2),(3 4),EMPTY)",
+        ),
+        ("POLYGON(EMPTY,(1 2))", "POLYGON EMPTY"),
+        (
+            "GEOMETRYCOLLECTION Z (POINT (1 2), POINTM(1 2 3))",
+            "GEOMETRYCOLLECTION Z(POINT(1 2),POINT M(1 2 3))",
+        ),
+        ("LINEARRINGZ(1 2 3)", "none"),
+        ("MULTIPOINT((EMPTY))", "none"),
+    ] {
+        match front(alloc, text)? {
+            Some(given) => assert_eq!(rt; given.as_str(), wanted, "at {text}"),
+            None => assert_eq!(rt; "none", wanted, "at {text}"),
+        }
+    }
+    Ok(())
+}
+
+#[test]
+fn short_lists(rt: HostRuntime) -> Result<(), Fail> {
+    let alloc = rt.alloc();
+    let words = ["POINT", "m", "empty", "(", ")", ",", "1", "+-2", "1x"];
+    for first in [
+        "",
+        "point",
+        "LINESTRINGM",
+        "POLYGON",
+        "MULTIPOINT",
+        "MULTILINESTRING",
+        "MULTIPOLYGON",
+        "GeometryCollection",
+    ] {
+        let wrong = differences(alloc, first, words, " ", 7381)?;
+        assert_eq!(rt; wrong.as_str(), "");
+    }
+    Ok(())
+}
+
+#[test]
+fn short_texts(rt: HostRuntime) -> Result<(), Fail> {
+    let alloc = rt.alloc();
+    let characters = ["1", "+", "-", ".", "a", "(", " ", "\0", "¾"];
+    let wrong = differences(alloc, "", characters, "", 7381)?;
+    assert_eq!(rt; wrong.as_str(), "");
+    let pieces = ["Z", "m", "EMPTY", "(", " ", "\t", "empt", "\0", "\n"];
+    for first in ["", " point", "LINEARRING", "MultiPolygonZ"] {
+        let wrong = differences(alloc, first, pieces, "", 820)?;
+        assert_eq!(rt; wrong.as_str(), "");
+    }
+    Ok(())
+}
