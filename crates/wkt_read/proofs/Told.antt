@@ -39,27 +39,27 @@ told_behind Wider Widest B2 B3 m g ls rest (Err r) e bal w b (pre, given, e2, e3
     (g ++ pre, given, e ∙ ap (λ l. g ++ l) e2 ∙ sym (append_assoc g pre r.0), e3, b pre x, omega (arith, opens_append g pre, closes_append g pre, bal, le))
 
 -- one part, then another
-pub told_then : {A B : Type 0} (W1 : List Lexeme → A → Type 0) (B1 : List Lexeme → Type 0) (Wider : A → List Lexeme → B → Type 0) (B2 : A → List Lexeme → Type 0) (Widest : List Lexeme → B → Type 0) (B3 : List Lexeme → Type 0)
-    (ls : List Lexeme) (t : Telling A) (f : A × List Lexeme → Telling B) → Told W1 B1 ls t
-    → ((p : A × List Lexeme) (g : List Lexeme) → ls ≡ g ++ p.1 → W1 g p.0 → Told (Wider p.0) (B2 p.0) p.1 (f p))
+pub told_then : {A B : Type 0} (Wide : List Lexeme → A → Type 0) (B1 : List Lexeme → Type 0) (Wider : A → List Lexeme → B → Type 0) (B2 : A → List Lexeme → Type 0) (Widest : List Lexeme → B → Type 0) (B3 : List Lexeme → Type 0)
+    (ls : List Lexeme) (t : Telling A) (f : A × List Lexeme → Telling B) → Told Wide B1 ls t
+    → ((p : A × List Lexeme) (g : List Lexeme) → ls ≡ g ++ p.1 → Wide g p.0 → Told (Wider p.0) (B2 p.0) p.1 (f p))
     → ((pre : List Lexeme) → B1 pre → B3 pre)
-    → ((a : A) (g : List Lexeme) (b : B) (h : List Lexeme) → W1 g a → Wider a h b → Widest (g ++ h) b)
-    → ((a : A) (g h : List Lexeme) → W1 g a → B2 a h → B3 (g ++ h))
+    → ((a : A) (g : List Lexeme) (b : B) (h : List Lexeme) → Wide g a → Wider a h b → Widest (g ++ h) b)
+    → ((a : A) (g h : List Lexeme) → Wide g a → B2 a h → B3 (g ++ h))
     → Told Widest B3 ls (andthen t f)
-told_then {A} {B} W1 B1 Wider B2 Widest B3 ls (Ok p) f (g, e, x, bal) go first wholes begs = step (f p) (go p g e x)
+told_then {A} {B} Wide B1 Wider B2 Widest B3 ls (Ok p) f (g, e, x, bal) go first wholes begs = step (f p) (go p g e x)
   where
     step : (t : Telling B) → Told (Wider p.0) (B2 p.0) p.1 t → Told Widest B3 ls t
     step (Ok q) (k, e2, y, bal2) = (g ++ k, e ∙ ap (λ l. g ++ l) e2 ∙ sym (append_assoc g k q.1), wholes p.0 g q.0 k x y, omega (arith, opens_append g k, closes_append g k, bal, bal2))
     step (Err r) (pre, given, e2, e3, y, le) = (g ++ pre, given, e ∙ ap (λ l. g ++ l) e2 ∙ sym (append_assoc g pre r.0), e3, begs p.0 g pre x y, omega (arith, opens_append g pre, closes_append g pre, bal, le))
-told_then W1 B1 Wider B2 Widest B3 ls (Err r) f (pre, given, e, e2, x, le) go first wholes begs = (pre, given, e, e2, first pre x, le)
+told_then Wide B1 Wider B2 Widest B3 ls (Err r) f (pre, given, e, e2, x, le) go first wholes begs = (pre, given, e, e2, first pre x, le)
 
-pub told_map : {A B : Type 0} (W1 : List Lexeme → A → Type 0) (B1 : List Lexeme → Type 0) (Wider : List Lexeme → B → Type 0) (B2 : List Lexeme → Type 0) (m : A → B) (ls : List Lexeme) (t : Telling A) → ((f : List Lexeme) (a : A) → W1 f a → Wider f (m a)) → ((f : List Lexeme) → B1 f → B2 f) → Told W1 B1 ls t → Told Wider B2 ls (mapped m t)
-told_map W1 B1 Wider B2 m ls (Ok p) w b (f, e, x, bal) = (f, e, w f p.0 x, bal)
-told_map W1 B1 Wider B2 m ls (Err r) w b (pre, given, e, e2, x, le) = (pre, given, e, e2, b pre x, le)
+pub told_map : {A B : Type 0} (Wide : List Lexeme → A → Type 0) (B1 : List Lexeme → Type 0) (Wider : List Lexeme → B → Type 0) (B2 : List Lexeme → Type 0) (m : A → B) (ls : List Lexeme) (t : Telling A) → ((f : List Lexeme) (a : A) → Wide f a → Wider f (m a)) → ((f : List Lexeme) → B1 f → B2 f) → Told Wide B1 ls t → Told Wider B2 ls (mapped m t)
+told_map Wide B1 Wider B2 m ls (Ok p) w b (f, e, x, bal) = (f, e, w f p.0 x, bal)
+told_map Wide B1 Wider B2 m ls (Err r) w b (pre, given, e, e2, x, le) = (pre, given, e, e2, b pre x, le)
 
-pub told_weaken : {A : Type 0} (W1 : List Lexeme → A → Type 0) (B1 : List Lexeme → Type 0) (Wider : List Lexeme → A → Type 0) (B2 : List Lexeme → Type 0) (ls : List Lexeme) (t : Telling A) → ((f : List Lexeme) (a : A) → W1 f a → Wider f a) → ((f : List Lexeme) → B1 f → B2 f) → Told W1 B1 ls t → Told Wider B2 ls t
-told_weaken W1 B1 Wider B2 ls (Ok p) w b (f, e, x, bal) = (f, e, w f p.0 x, bal)
-told_weaken W1 B1 Wider B2 ls (Err r) w b (pre, given, e, e2, x, le) = (pre, given, e, e2, b pre x, le)
+pub told_weaken : {A : Type 0} (Wide : List Lexeme → A → Type 0) (B1 : List Lexeme → Type 0) (Wider : List Lexeme → A → Type 0) (B2 : List Lexeme → Type 0) (ls : List Lexeme) (t : Telling A) → ((f : List Lexeme) (a : A) → Wide f a → Wider f a) → ((f : List Lexeme) → B1 f → B2 f) → Told Wide B1 ls t → Told Wider B2 ls t
+told_weaken Wide B1 Wider B2 ls (Ok p) w b (f, e, x, bal) = (f, e, w f p.0 x, bal)
+told_weaken Wide B1 Wider B2 ls (Err r) w b (pre, given, e, e2, x, le) = (pre, given, e, e2, b pre x, le)
 
 -- items with commas
 module _ {A : Type 0} (W : List Lexeme → A → Type 0) (B : List Lexeme → Type 0) where
