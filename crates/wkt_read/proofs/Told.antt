@@ -32,34 +32,34 @@ Told W B ls (Ok p) = (f : List Lexeme) × (ls ≡ f ++ p.1) × W f p.0 × (opens
 Told W B ls (Err r) = (pre : List Lexeme) × (given : List Lexeme) × (ls ≡ pre ++ r.0) × (r.0 ≡ given ++ r.1) × B pre × (length given + closes pre ≤ 1 + opens pre)
 
 -- a part behind a whole one
-pub told_behind : {A B : Type 0} (Wider : List Lexeme → A → Type 0) (Widest : List Lexeme → B → Type 0) (B2 B3 : List Lexeme → Type 0) (m : A → B) (g ls rest : List Lexeme) (t : Telling A) → ls ≡ g ++ rest → opens g ≡ closes g → ((h : List Lexeme) (b : A) → Wider h b → Widest (g ++ h) (m b)) → ((h : List Lexeme) → B2 h → B3 (g ++ h)) → Told Wider B2 rest t → Told Widest B3 ls (mapped m t)
-told_behind Wider Widest B2 B3 m g ls rest (Ok p) e bal w b (f, e2, x, bal2) =
+pub told_behind : {A B : Type 0} (Wider : List Lexeme → A → Type 0) (Widest : List Lexeme → B → Type 0) (BegunWider BegunWidest : List Lexeme → Type 0) (m : A → B) (g ls rest : List Lexeme) (t : Telling A) → ls ≡ g ++ rest → opens g ≡ closes g → ((h : List Lexeme) (b : A) → Wider h b → Widest (g ++ h) (m b)) → ((h : List Lexeme) → BegunWider h → BegunWidest (g ++ h)) → Told Wider BegunWider rest t → Told Widest BegunWidest ls (mapped m t)
+told_behind Wider Widest BegunWider BegunWidest m g ls rest (Ok p) e bal w b (f, e2, x, bal2) =
     (g ++ f, e ∙ ap (λ l. g ++ l) e2 ∙ sym (append_assoc g f p.1), w f p.0 x, omega (arith, opens_append g f, closes_append g f, bal, bal2))
-told_behind Wider Widest B2 B3 m g ls rest (Err r) e bal w b (pre, given, e2, e3, x, le) =
+told_behind Wider Widest BegunWider BegunWidest m g ls rest (Err r) e bal w b (pre, given, e2, e3, x, le) =
     (g ++ pre, given, e ∙ ap (λ l. g ++ l) e2 ∙ sym (append_assoc g pre r.0), e3, b pre x, omega (arith, opens_append g pre, closes_append g pre, bal, le))
 
 -- one part, then another
-pub told_then : {A B : Type 0} (Wide : List Lexeme → A → Type 0) (B1 : List Lexeme → Type 0) (Wider : A → List Lexeme → B → Type 0) (B2 : A → List Lexeme → Type 0) (Widest : List Lexeme → B → Type 0) (B3 : List Lexeme → Type 0)
-    (ls : List Lexeme) (t : Telling A) (f : A × List Lexeme → Telling B) → Told Wide B1 ls t
-    → ((p : A × List Lexeme) (g : List Lexeme) → ls ≡ g ++ p.1 → Wide g p.0 → Told (Wider p.0) (B2 p.0) p.1 (f p))
-    → ((pre : List Lexeme) → B1 pre → B3 pre)
+pub told_then : {A B : Type 0} (Wide : List Lexeme → A → Type 0) (Begun : List Lexeme → Type 0) (Wider : A → List Lexeme → B → Type 0) (BegunWider : A → List Lexeme → Type 0) (Widest : List Lexeme → B → Type 0) (BegunWidest : List Lexeme → Type 0)
+    (ls : List Lexeme) (t : Telling A) (f : A × List Lexeme → Telling B) → Told Wide Begun ls t
+    → ((p : A × List Lexeme) (g : List Lexeme) → ls ≡ g ++ p.1 → Wide g p.0 → Told (Wider p.0) (BegunWider p.0) p.1 (f p))
+    → ((pre : List Lexeme) → Begun pre → BegunWidest pre)
     → ((a : A) (g : List Lexeme) (b : B) (h : List Lexeme) → Wide g a → Wider a h b → Widest (g ++ h) b)
-    → ((a : A) (g h : List Lexeme) → Wide g a → B2 a h → B3 (g ++ h))
-    → Told Widest B3 ls (andthen t f)
-told_then {A} {B} Wide B1 Wider B2 Widest B3 ls (Ok p) f (g, e, x, bal) go first wholes begs = step (f p) (go p g e x)
+    → ((a : A) (g h : List Lexeme) → Wide g a → BegunWider a h → BegunWidest (g ++ h))
+    → Told Widest BegunWidest ls (andthen t f)
+told_then {A} {B} Wide Begun Wider BegunWider Widest BegunWidest ls (Ok p) f (g, e, x, bal) go first wholes begs = step (f p) (go p g e x)
   where
-    step : (t : Telling B) → Told (Wider p.0) (B2 p.0) p.1 t → Told Widest B3 ls t
+    step : (t : Telling B) → Told (Wider p.0) (BegunWider p.0) p.1 t → Told Widest BegunWidest ls t
     step (Ok q) (k, e2, y, bal2) = (g ++ k, e ∙ ap (λ l. g ++ l) e2 ∙ sym (append_assoc g k q.1), wholes p.0 g q.0 k x y, omega (arith, opens_append g k, closes_append g k, bal, bal2))
     step (Err r) (pre, given, e2, e3, y, le) = (g ++ pre, given, e ∙ ap (λ l. g ++ l) e2 ∙ sym (append_assoc g pre r.0), e3, begs p.0 g pre x y, omega (arith, opens_append g pre, closes_append g pre, bal, le))
-told_then Wide B1 Wider B2 Widest B3 ls (Err r) f (pre, given, e, e2, x, le) go first wholes begs = (pre, given, e, e2, first pre x, le)
+told_then Wide Begun Wider BegunWider Widest BegunWidest ls (Err r) f (pre, given, e, e2, x, le) go first wholes begs = (pre, given, e, e2, first pre x, le)
 
-pub told_map : {A B : Type 0} (Wide : List Lexeme → A → Type 0) (B1 : List Lexeme → Type 0) (Wider : List Lexeme → B → Type 0) (B2 : List Lexeme → Type 0) (m : A → B) (ls : List Lexeme) (t : Telling A) → ((f : List Lexeme) (a : A) → Wide f a → Wider f (m a)) → ((f : List Lexeme) → B1 f → B2 f) → Told Wide B1 ls t → Told Wider B2 ls (mapped m t)
-told_map Wide B1 Wider B2 m ls (Ok p) w b (f, e, x, bal) = (f, e, w f p.0 x, bal)
-told_map Wide B1 Wider B2 m ls (Err r) w b (pre, given, e, e2, x, le) = (pre, given, e, e2, b pre x, le)
+pub told_map : {A B : Type 0} (Wide : List Lexeme → A → Type 0) (Begun : List Lexeme → Type 0) (Wider : List Lexeme → B → Type 0) (BegunWider : List Lexeme → Type 0) (m : A → B) (ls : List Lexeme) (t : Telling A) → ((f : List Lexeme) (a : A) → Wide f a → Wider f (m a)) → ((f : List Lexeme) → Begun f → BegunWider f) → Told Wide Begun ls t → Told Wider BegunWider ls (mapped m t)
+told_map Wide Begun Wider BegunWider m ls (Ok p) w b (f, e, x, bal) = (f, e, w f p.0 x, bal)
+told_map Wide Begun Wider BegunWider m ls (Err r) w b (pre, given, e, e2, x, le) = (pre, given, e, e2, b pre x, le)
 
-pub told_weaken : {A : Type 0} (Wide : List Lexeme → A → Type 0) (B1 : List Lexeme → Type 0) (Wider : List Lexeme → A → Type 0) (B2 : List Lexeme → Type 0) (ls : List Lexeme) (t : Telling A) → ((f : List Lexeme) (a : A) → Wide f a → Wider f a) → ((f : List Lexeme) → B1 f → B2 f) → Told Wide B1 ls t → Told Wider B2 ls t
-told_weaken Wide B1 Wider B2 ls (Ok p) w b (f, e, x, bal) = (f, e, w f p.0 x, bal)
-told_weaken Wide B1 Wider B2 ls (Err r) w b (pre, given, e, e2, x, le) = (pre, given, e, e2, b pre x, le)
+pub told_weaken : {A : Type 0} (Wide : List Lexeme → A → Type 0) (Begun : List Lexeme → Type 0) (Wider : List Lexeme → A → Type 0) (BegunWider : List Lexeme → Type 0) (ls : List Lexeme) (t : Telling A) → ((f : List Lexeme) (a : A) → Wide f a → Wider f a) → ((f : List Lexeme) → Begun f → BegunWider f) → Told Wide Begun ls t → Told Wider BegunWider ls t
+told_weaken Wide Begun Wider BegunWider ls (Ok p) w b (f, e, x, bal) = (f, e, w f p.0 x, bal)
+told_weaken Wide Begun Wider BegunWider ls (Err r) w b (pre, given, e, e2, x, le) = (pre, given, e, e2, b pre x, le)
 
 -- items with commas
 module _ {A : Type 0} (W : List Lexeme → A → Type 0) (B : List Lexeme → Type 0) where
