@@ -54,7 +54,7 @@ fn put_all<W: ByteSink>(writer: &mut W, bytes: &[u8]) -> Result<(), io::Error>
 }
 
 impl<W: ByteSink> WriterWrapper<W> {
-    ghost use Rattle.wkt_bytes.specs.Wrapper.{held_bytes, handed_text, is_well, is_untold, writer_of, Gives, Leaves};
+    ghost use Rattle.wkt_bytes.specs.Wrapper.{held_bytes, handed_text, failed_calls, is_well, is_untold, writer_of, Gives, Leaves};
 
     /// A wrapper of this writer, which holds nothing yet.
     pub fn new(writer: W) -> WriterWrapper<W>
@@ -62,6 +62,7 @@ impl<W: ByteSink> WriterWrapper<W> {
         ensures held { held_bytes result ≡ [] }
         ensures well { is_well result ≡ true }
         ensures text { handed_text result ≡ [] }
+        ensures count { failed_calls result ≡ 0 }
     {
         WriterWrapper {
             writer,
@@ -126,6 +127,7 @@ impl<W: ByteSink> WriterWrapper<W> {
         ensures well { OnOk result (is_well self.new ≡ true) }
         ensures held { OnOk result (self.new.len ≡ 0) }
         ensures err { OnErr result (Leaves W.bytes W.failures W.keeps self.old [] self.new) }
+        ensures kept { OnErr result (held_bytes self.new ≡ held_bytes self.old) }
         ensures failures { self.new.failures ≡ self.old.failures }
         ensures tape { self.new.tape ≡ self.old.tape }
     {
@@ -183,7 +185,9 @@ impl<W: ByteSink> WriterWrapper<W> {
         ensures well { OnOk result (is_well self.old ≡ true) }
         ensures empty { OnOk result (held_bytes self.new ≡ []) }
         ensures err { OnErr result (Leaves W.bytes W.failures W.keeps self.old [] self.new) }
+        ensures kept { OnErr result (held_bytes self.new ≡ held_bytes self.old) }
         ensures text { handed_text self.new ≡ handed_text self.old }
+        ensures count { failed_calls self.new ≡ failed_calls self.old }
     {
         let State::Well = self.state else {
             return Err(fmt::Error);
@@ -199,6 +203,7 @@ impl<W: ByteSink> WriterWrapper<W> {
         ensures writer { writer_of self.new ≡ writer_of self.old }
         ensures held { held_bytes self.new ≡ held_bytes self.old }
         ensures text { handed_text self.new ≡ handed_text self.old }
+        ensures count { failed_calls self.new ≡ failed_calls self.old }
     {
         match self.state {
             State::Well | State::Told => None,
