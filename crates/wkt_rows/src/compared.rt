@@ -115,39 +115,54 @@ fn same_head(alloc: Global, text: &str) -> Result<bool, AllocError> {
     Ok(given.as_str() == wanted.as_str())
 }
 
-// The nth of the texts that go on from a first word with words of the nine.
+// The nth of the texts that go on from a first word with at most so many of the words.
 fn nth(
     alloc: Global,
     first: &str,
-    words: [&str; 9],
+    words: &[&str],
     between: &str,
+    longest: usize,
     n: usize,
 ) -> Result<String, AllocError> {
     let mut text = String::from_str(alloc, first)?;
     let mut left = n;
-    for _ in 0..4 {
+    for _ in 0..longest {
         if left == 0 {
             return Ok(text);
         }
         left -= 1;
-        text.push_str(between)?;
-        text.push_str(words[left % 9])?;
-        left /= 9;
+        if let Some(i) = left.checked_rem(words.len())
+            && let Some(word) = words.get(i)
+        {
+            text.push_str(between)?;
+            text.push_str(word)?;
+        }
+        left = left.checked_div(words.len()).unwrap_or(0);
     }
     Ok(text)
 }
 
-// The texts, of the first so many, at which a reader and the plain program differ.
+// How many lists of at most so many words there are.
+fn lists(words: usize, longest: usize) -> usize {
+    let mut all = 1usize;
+    for _ in 0..longest {
+        all = all.wrapping_mul(words).wrapping_add(1);
+    }
+    all
+}
+
+// The texts that go on from a first word with at most so many of the words, and at which a reader
+// and the plain program differ.
 fn differences(
     alloc: Global,
     first: &str,
-    words: [&str; 9],
+    words: &[&str],
     between: &str,
-    count: usize,
+    longest: usize,
 ) -> Result<String, AllocError> {
     let mut wrong = String::new(alloc);
-    for n in 0..count {
-        let text = nth(alloc, first, words, between, n)?;
+    for n in 0..lists(words.len(), longest) {
+        let text = nth(alloc, first, words, between, longest, n)?;
         if !same_lexemes(alloc, &text)? {
             wrong.push_str(&format!(in alloc; "lexemes of {text}\n")?)?;
         }
@@ -190,18 +205,35 @@ fn plain_program(rt: HostRuntime) -> Result<(), Fail> {
 #[test]
 fn short_lists(rt: HostRuntime) -> Result<(), Fail> {
     let alloc = rt.alloc();
-    let words = ["POINT", "m", "empty", "(", ")", ",", "1", "+-2", "1x"];
-    for first in [
-        "",
-        "point",
+    assert_eq!(rt; lists(9, 5), 66430);
+    for kind in [
         "LINESTRINGM",
+        "LINEARRING",
         "POLYGON",
         "MULTIPOINT",
         "MULTILINESTRING",
         "MULTIPOLYGON",
         "GeometryCollection",
     ] {
-        let wrong = differences(alloc, first, words, " ", 7381)?;
+        let words = [kind, "point", "m", "empty", "(", ")", ",", "1", "1x"];
+        let wrong = differences(alloc, "", &words, " ", 5)?;
+        assert_eq!(rt; wrong.as_str(), "");
+    }
+    Ok(())
+}
+
+#[test]
+fn longer_lists(rt: HostRuntime) -> Result<(), Fail> {
+    let alloc = rt.alloc();
+    for first in [
+        "LINESTRING (",
+        "POLYGON(",
+        "MULTIPOINT (",
+        "MULTILINESTRING(",
+        "MULTIPOLYGON ((",
+        "GEOMETRYCOLLECTION(POINT",
+    ] {
+        let wrong = differences(alloc, first, &["(", ")", ",", "1 +-2", "empty"], " ", 6)?;
         assert_eq!(rt; wrong.as_str(), "");
     }
     Ok(())
@@ -211,11 +243,11 @@ fn short_lists(rt: HostRuntime) -> Result<(), Fail> {
 fn short_texts(rt: HostRuntime) -> Result<(), Fail> {
     let alloc = rt.alloc();
     let characters = ["1", "+", "-", ".", "a", "(", " ", "\0", "¾"];
-    let wrong = differences(alloc, "", characters, "", 7381)?;
+    let wrong = differences(alloc, "", &characters, "", 5)?;
     assert_eq!(rt; wrong.as_str(), "");
     let pieces = ["Z", "m", "EMPTY", "(", " ", "\t", "empt", "\0", "\n"];
     for first in ["", " point", "LINEARRING", "MultiPolygonZ"] {
-        let wrong = differences(alloc, first, pieces, "", 820)?;
+        let wrong = differences(alloc, first, &pieces, "", 4)?;
         assert_eq!(rt; wrong.as_str(), "");
     }
     Ok(())

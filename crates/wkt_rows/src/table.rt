@@ -3,13 +3,16 @@ use std::alloc::{AllocError, Global};
 use std::io;
 use thiserror::Error;
 use wkt::to_wkt::{Counted, ReadAllError, read_all};
-use wkt::{Decimal, FromWktStr, ReadError, Wkt, WktNum};
+use wkt::types::{
+    GeometryCollection, LineString, MultiLineString, MultiPoint, MultiPolygon, Polygon,
+};
+use wkt::{Decimal, FromWktStr, InferError, ReadError, Wkt, WktNum, infer_type};
 
 /// Why a table isn't checked to its end.
 #[derive(Debug, Drop, Error)]
 pub enum TableError {
     #[error("the table can't be read")]
-    Read(ReadAllError),
+    Read(io::Error),
     #[error("the table isn't UTF-8")]
     NotText,
     #[error("standard output fails")]
@@ -24,7 +27,8 @@ pub fn check_input(rt: &HostRuntime) -> Result<u64, TableError> {
     let mut reader = Counted::new(rt.stdin());
     let bytes = match read_all(alloc, &mut reader) {
         Ok(bytes) => bytes,
-        Err(e) => return Err(TableError::Read(e)),
+        Err(ReadAllError::Read(e)) => return Err(TableError::Read(e)),
+        Err(ReadAllError::Memory(e)) => return Err(TableError::Memory(e)),
     };
     match str::from_utf8(&bytes) {
         Ok(table) => check_rows(rt, alloc, table),
@@ -67,11 +71,62 @@ fn check_row(rt: &impl Print, alloc: Global, row: &str) -> Result<bool, TableErr
     }
 }
 
-/// The text of a text's geometry, or the message with which it is refused.
+/// The text of a copy of a text's geometry, or the message with which the text is refused.
 pub fn answer<T: WktNum>(alloc: Global, text: &str) -> Result<String, AllocError> {
     match Wkt::<T>::from_str(alloc, text) {
-        Ok(geometry) => format!(in alloc; "{geometry}"),
-        Err(ReadError::Text(message)) => format!(in alloc; "{message}"),
+        Ok(geometry) => {
+            let again = rebuilt(alloc, geometry.try_clone(alloc)?)?;
+            if again == geometry {
+                format!(in alloc; "{again}")
+            } else {
+                format!(in alloc; "{geometry}, but its copy is {again}")
+            }
+        }
+        Err(ReadError::Text(message)) => match infer_type(alloc, text) {
+            Err(InferError::Memory(e)) => Err(e),
+            _ => format!(in alloc; "{message}"),
+        },
         Err(ReadError::Memory(e)) => Err(e),
     }
+}
+
+/// An equal geometry, put together again from its parts.
+fn rebuilt<T: WktNum>(alloc: Global, geometry: Wkt<T>) -> Result<Wkt<T>, AllocError> {
+    let dim = geometry.dimension();
+    Ok(match geometry {
+        Wkt::Point(point) => Wkt::from(point),
+        Wkt::LineString(line) => {
+            let (coords, _) = line.into_inner();
+            let line = LineString::from_coords(alloc, coords.into_iter())?;
+            Wkt::from(line.unwrap_or_else(|| LineString::empty(alloc, dim)))
+        }
+        Wkt::Polygon(polygon) => {
+            let (rings, _) = polygon.into_inner();
+            let polygon = Polygon::from_rings(alloc, rings.into_iter())?;
+            Wkt::from(polygon.unwrap_or_else(|| Polygon::empty(alloc, dim)))
+        }
+        Wkt::MultiPoint(points) => {
+            let (points, _) = points.into_inner();
+            let points = MultiPoint::from_points(alloc, points.into_iter())?;
+            Wkt::from(points.unwrap_or_else(|| MultiPoint::empty(alloc, dim)))
+        }
+        Wkt::MultiLineString(lines) => {
+            let (lines, _) = lines.into_inner();
+            let lines = MultiLineString::from_line_strings(alloc, lines.into_iter())?;
+            Wkt::from(lines.unwrap_or_else(|| MultiLineString::empty(alloc, dim)))
+        }
+        Wkt::MultiPolygon(polygons) => {
+            let (polygons, _) = polygons.into_inner();
+            let polygons = MultiPolygon::from_polygons(alloc, polygons.into_iter())?;
+            Wkt::from(polygons.unwrap_or_else(|| MultiPolygon::empty(alloc, dim)))
+        }
+        // The dimension of a collection need not be that of its first member.
+        Wkt::GeometryCollection(all) => {
+            let (members, _) = all.into_inner();
+            let all = GeometryCollection::from_geometries(alloc, members.into_iter())?;
+            let all = all.unwrap_or_else(|| GeometryCollection::empty(alloc, dim));
+            let (members, _) = all.into_inner();
+            Wkt::from(GeometryCollection::new(members, dim))
+        }
+    })
 }

@@ -1,0 +1,65 @@
+#!/usr/bin/env bash
+# Refuses each growth of memory of the two built programs in turn, until a run meets none.
+#
+# wktline answers lines of every kind: each refusal has to end it with its words and status, behind the whole
+# answers to some first lines. wkt_rows reads each text, copies the geometry, puts the copy together again from its
+# parts and displays it: each refusal has to end it as want of memory, with no row told as wrong, or to change nothing.
+#
+# Build both first (rt run in crates/wktline and crates/wkt_rows). It needs a C compiler.
+set -u
+cd "$(dirname "$0")/.."
+dir=$(mktemp -d)
+trap 'rm -rf "$dir"' EXIT
+
+cat > "$dir/refuse.c" <<'C'
+#include <fcntl.h>
+#include <stdlib.h>
+#include <unistd.h>
+extern void *__libc_malloc(size_t);
+extern void *__libc_realloc(void *, size_t);
+static long calls;
+static int refused(void) {
+    const char *which = getenv("REFUSE");
+    if (!which || ++calls != atol(which))
+        return 0;
+    close(open(getenv("REFUSED"), O_CREAT | O_WRONLY, 0600));
+    return 1;
+}
+void *malloc(size_t size) { return refused() ? NULL : __libc_malloc(size); }
+void *realloc(void *block, size_t size) { return refused() ? NULL : __libc_realloc(block, size); }
+C
+cc -shared -fPIC -fno-builtin -o "$dir/refuse.so" "$dir/refuse.c" || exit 2
+
+fail() { echo "$1, growth $2: $3"; exit 1; }
+
+# run PROGRAM N < INPUT: leaves out, err, the status, and the file refused if a growth was refused
+run() {
+    rm -f "$dir/refused"
+    REFUSE=$2 REFUSED="$dir/refused" LD_PRELOAD="$dir/refuse.so" "crates/$1/out/$1" > "$dir/out" 2> "$dir/err"
+}
+
+# each PROGRAM INPUT STATUS: every growth in turn
+each() {
+    local program=$1 input=$2 want=$3 n=1 ended=0 status
+    "crates/$program/out/$program" < "$input" > "$dir/whole" || exit 2
+    while true; do
+        run "$program" "$n" < "$input"
+        status=$?
+        if [ "$status" = 0 ]; then
+            cmp -s "$dir/out" "$dir/whole" || fail "$program" "$n" "another output"
+            [ -e "$dir/refused" ] || break
+        else
+            [ "$status" = "$want" ] || fail "$program" "$n" "status $status"
+            grep -qx ".*: out of memory" "$dir/err" || fail "$program" "$n" "other words"
+            head -n "$(wc -l < "$dir/out")" "$dir/whole" | cmp -s - "$dir/out" || fail "$program" "$n" "another output"
+            ended=$((ended + 1))
+        fi
+        n=$((n + 1))
+    done
+    [ "$n" -gt 1 ] || fail "$program" 1 "nothing was refused"
+    echo "$program: $((n - 1)) growths refused, each in turn; $ended ended it, the others changed nothing"
+}
+
+cut -f 1 tests/growth.tsv > "$dir/lines"
+each wktline "$dir/lines" 1
+each wkt_rows tests/growth.tsv 2
