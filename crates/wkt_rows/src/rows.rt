@@ -3,8 +3,8 @@ use crate::odd::{Dash, Letter};
 use crate::table::answer;
 use std::alloc::{AllocError, Global};
 use std::test::Fail;
-use wkt::tokenizer::{Token, Tokens};
-use wkt::{Decimal, FromWktStr, ReadError, Wkt, infer_type};
+use wkt::tokenizer::{PeekableTokens, Token, Tokens};
+use wkt::{Decimal, FromWktStr, ReadError, Wkt, WktNum, infer_type};
 
 const NOT_WKT: &str = "Invalid WKT format";
 
@@ -199,6 +199,38 @@ fn lexemes(rt: HostRuntime) -> Result<(), Fail> {
     let mut tokens = Tokens::from_str("4.2p 7");
     for want in [BAD_NUMBER, "7 6 true", "none"] {
         assert_eq!(rt; next_lexeme(alloc, &mut tokens)?.as_str(), want);
+    }
+    Ok(())
+}
+
+// What the next geometry of a stream gives, and where its last lexeme ends.
+fn next_geometry<T: WktNum>(
+    alloc: Global,
+    tokens: &mut PeekableTokens<'_, T>,
+) -> Result<String, AllocError> {
+    let read = Wkt::<T>::read_tokens(alloc, tokens);
+    let end = tokens.end();
+    match read {
+        Ok(geometry) => format!(in alloc; "{geometry} {end}"),
+        Err(ReadError::Text(message)) => format!(in alloc; "{message}"),
+        Err(ReadError::Memory(e)) => Err(e),
+    }
+}
+
+#[test]
+fn streams(rt: HostRuntime) -> Result<(), Fail> {
+    let alloc = rt.alloc();
+    let mut tokens = PeekableTokens::new(Tokens::<Decimal<6>>::from_str(
+        "POINT(1 2)LINESTRING EMPTY x",
+    ));
+    for want in ["POINT(1 2) 10", "LINESTRING EMPTY 26", NO_KIND, NOT_WKT] {
+        assert_eq!(rt; next_geometry(alloc, &mut tokens)?.as_str(), want);
+    }
+    let mut tokens = PeekableTokens::new(Tokens::<Decimal<6>>::from_str("POLYGON((1 2,x),3 4"));
+    assert_eq!(rt; next_geometry(alloc, &mut tokens)?.as_str(), NO_CLOSING);
+    match tokens.next() {
+        Some(Ok(Token::Number(number))) => assert_eq!(rt; number, Decimal::from_units(3_000_000)),
+        _ => assert!(rt; false),
     }
     Ok(())
 }
