@@ -587,13 +587,15 @@ fn refuses(rt: HostRuntime) -> Result<(), Fail> {
     let mut f = paper_of(alloc, 1000);
     let point = dot_of(alloc, Dimensions::Xyzm, &[3])?;
     assert!(rt; matches!(write_point(&mut f, &point), Err(Error::TooFewNumbers)));
-    let line = track_of(alloc, Dimensions::Unknown(5), &[])?;
-    assert!(rt;
-        matches!(
-            write_linestring(&mut f, &line),
-            Err(Error::UnknownDimension)
-        )
-    );
+    for pairs in [[].as_slice(), [(1, 2)].as_slice()] {
+        let line = track_of(alloc, Dimensions::Unknown(5), pairs)?;
+        assert!(rt;
+            matches!(
+                write_linestring(&mut f, &line),
+                Err(Error::UnknownDimension)
+            )
+        );
+    }
     let rect = corners_of(alloc, Dimensions::Xyz, &[7])?;
     assert!(rt;
         matches!(

@@ -1,11 +1,11 @@
 -- The shape of a collection, by its members.
-use Rattle.std.proofs.Common.{◌≡◌, ℕ, ◌<◌, refl, ap, sym, ◌∙◌, List, [], ◌∷◌, length, map, get_or, Some, slice_get, arith}
+use Rattle.std.proofs.Common.{◌≡◌, ℕ, ◌<◌, refl, ap, sym, ◌∙◌, List, [], ◌∷◌, length, map, get_or, Some, slice_get}
 use Rattle.std.proofs.lemmas.List.{length-map}
 use Rattle.wkt_access.specs.declared.dimensions.Dimension.{Dimension}
-use Rattle.wkt_access.specs.Shapes.{Shape, shape_of, shapes_of}
+use Rattle.wkt_access.specs.Shapes.{shapes_of}
 use Rattle.wkt_access.specs.Parts.{each, members_of, IsCollectionOf}
-use Rattle.wkt_types.specs.Tree.{Tree, tree, members, collection, collection_tree}
-use Rattle.wkt_types.specs.Values.{values_of, value_of, tree_shape, collection_shapes}
+use Rattle.wkt_types.specs.Tree.{tree, members, collection, collection_tree}
+use Rattle.wkt_types.specs.Values.{values_of, tree_shape, collection_shapes}
 use Rattle.wkt_types.specs.declared.geometry.GeometryCollection.{GeometryCollection}
 use Rattle.wkt_types.specs.declared.geometry.Wkt.{Wkt}
 use Rattle.wkt_types.specs.declared.geometry.Wkt.TheViews as views

@@ -1,5 +1,5 @@
 -- A member of a list, seen as its numbers.
-use Rattle.std.proofs.Common.{◌≡◌, ℕ, zero, suc, ◌+◌, ◌<◌, refl, ap, sym, ◌∙◌, List, [], ◌∷◌, length, map, get_or, Some, slice_get, arith, add-one}
+use Rattle.std.proofs.Common.{◌≡◌, ℕ, zero, suc, ◌+◌, ◌<◌, ap, sym, List, [], ◌∷◌, length, map, get_or, Some, slice_get, arith, add-one}
 use Rattle.std.proofs.lemmas.List.{length-map}
 use Rattle.wkt_access.specs.Shapes.{polygon_of}
 use Rattle.wkt_types.specs.Held.{Held}

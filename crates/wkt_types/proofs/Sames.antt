@@ -1,5 +1,5 @@
 -- What the answer of an exact test tells.
-use Rattle.std.proofs.Common.{◌≡◌, Bool, true, ◌↔◌, sym, ◌∙◌, IsTrue}
+use Rattle.std.proofs.Common.{◌≡◌, Bool, ◌↔◌, sym, ◌∙◌, IsTrue}
 use Rattle.wkt_types.specs.Exact.{IsExact, exactly}
 
 pub told : {K : Type 0} {E : K → K → Bool} → IsExact E → (x y : K) (b : Bool) → b ≡ E x y → IsTrue b ↔ (x ≡ y)

@@ -1,10 +1,9 @@
 -- The tree of a `Wkt`, kind by kind.
-use Rattle.std.proofs.Common.{◌≡◌, ℕ, ◌<◌, ◌≤◌, ◌+◌, refl, rules, ap, sym, ◌∙◌, List, [], ◌∷◌, drop, length, get_or, Bool, true, false, ◌&&◌, Some, None, slice_get, nat_eq, add-one, arith, eq-eqb, ◌-◌, length-drop, map}
+use Rattle.std.proofs.Common.{◌≡◌, ℕ, ◌<◌, ◌≤◌, ◌+◌, refl, ap, sym, ◌∙◌, List, [], ◌∷◌, drop, length, get_or, Bool, false, ◌&&◌, Some, slice_get, nat_eq, add-one, arith, eq-eqb, ◌-◌, length-drop, map}
 use Rattle.wkt_access.specs.declared.dimensions.Dimension.{Dimension}
 use Rattle.std.proofs.lemmas.Bool.Decides.{nat_tests}
 use Rattle.std.proofs.Math.Seq.{drop-cons}
 use Rattle.std.proofs.lemmas.List.{drop_all}
-use Rattle.std.proofs.lemmas.Option.{slice_get_within, get_or_from_slice_get}
 use Rattle.wkt_types.specs.Trees.{tree_eq, trees_eq}
 use Rattle.wkt_types.specs.Tree.{collected, tree_dim, collection, Tree, tree, members, collection_tree, no_trees, wkt_step, collection_step}
 use Rattle.wkt_types.specs.declared.geometry.GeometryCollection.{GeometryCollection}

@@ -1,6 +1,6 @@
 -- When two values hold the same.
-use Rattle.std.specs.Prelude.{◌≡◌, refl, Bool, true, false, ◌&&◌, Option}
-use Rattle.std.proofs.Common.{ap, sym, ◌∙◌}
+use Rattle.std.specs.Prelude.{Bool, ◌&&◌, Option}
+use Rattle.std.proofs.Common.{ap, ◌∙◌}
 use Rattle.wkt_types.specs.Held.{Held, HeldPoint}
 use Rattle.wkt_types.specs.Exact.{IsExact, both, joined, option_eq, option_exact, held_eq, held_exact, held_point_eq, held_point_exact}
 use Rattle.wkt_types.specs.declared.coord.Coord.{Coord}

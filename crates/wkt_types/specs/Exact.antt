@@ -1,6 +1,6 @@
 -- Tests that are true of equal values alone.
 use Rattle.std.specs.Prelude.{◌≡◌, refl, Bool, true, false, ◌&&◌, List, [], ◌∷◌, Option, Some, None, ◌↔◌}
-use Rattle.std.specs.Cmp.{IsPartialEquivalence, IsEquivalence}
+use Rattle.std.specs.Cmp.{IsPartialEquivalence}
 use Rattle.std.specs.Cmp.Lexicographic.{pointwise}
 use Rattle.std.proofs.Common.{ap, sym, ◌∙◌, subst}
 use Rattle.wkt_access.specs.declared.dimensions.Dimension.{Dimension}

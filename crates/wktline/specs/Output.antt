@@ -1,5 +1,5 @@
 -- The output of a program that answers line by line. Numbers are read by `read` and printed by `num`.
-use Rattle.std.specs.Prelude.{◌≡◌, ℕ, List, [], ◌∷◌, ◌++◌, ◌⊎◌, Option, codes, IsUtf8, Bool, true, Result, Ok, Err}
+use Rattle.std.specs.Prelude.{◌≡◌, ℕ, List, [], ◌∷◌, ◌++◌, ◌⊎◌, Option, codes, IsUtf8, true, Result, Ok, Err}
 use Rattle.std.specs.Io.KnownBytes.{Appends}
 use Rattle.wkt_access.specs.Values.{Value}
 use Rattle.wkt_access.specs.Shapes.{shape_of}

@@ -1,6 +1,6 @@
-use Rattle.std.proofs.Common.{rules, ◌≡◌, ap, sym, ◌∙◌, map, ◌∷◌, [], ◌++◌, arith}
+use Rattle.std.proofs.Common.{ap, sym, ◌∙◌, ◌∷◌, []}
 use Rattle.std.proofs.lemmas.List.{map_more, map-append}
-use Rattle.wkt_types.specs.Tree.{tree, collection_tree}
+use Rattle.wkt_types.specs.Tree.{tree}
 use Rattle.wkt_types.proofs.TreeLemmas.{tree-collection}
 use Rattle.wkt_types.proofs.geometry.+copy.Goals as goal
 

@@ -1,8 +1,5 @@
-use Rattle.std.proofs.Common.{◌≡◌, refl, ◌∙◌, sym, false, true, rules, arith, ◌<◌, length}
-use Rattle.std.proofs.lemmas.Option.{slice_get_within}
-use Rattle.wkt_types.specs.Tree.{members, tree}
-use Rattle.wkt_types.specs.Trees.{trees_eq, tree_eq}
-use Rattle.wkt_types.proofs.TreeLemmas.{members_step, members_short, members_ends}
+use Rattle.std.proofs.Common.{refl, ◌∙◌, sym, arith, ◌<◌, length}
+use Rattle.wkt_types.proofs.TreeLemmas.{members_step, members_ends}
 use Rattle.wkt_types.proofs.geometry.+same.Goals as goal
 
 pub same_members-returns-then-not-same_wkt : goal.same_members-returns-then-not-same_wkt

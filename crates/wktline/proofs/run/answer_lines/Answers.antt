@@ -1,8 +1,8 @@
-use Rattle.std.proofs.Common.{◌≡◌, [], ◌∷◌, ◌++◌, ◌≢◌, ◌∙◌, ap, Err, length, refl}
+use Rattle.std.proofs.Common.{◌≡◌, [], ◌∷◌, ◌++◌, ◌≢◌, ◌∙◌, ap, Err, length}
 use Rattle.std.proofs.Common.{arith}
 use Rattle.std.proofs.lemmas.Grind.{common_steps}
 use Rattle.wkt_bytes.specs.Wrapper.{appends_more}
-use Rattle.wktline.proofs.Answering.{one_more, one_answer, next_line, write_map, begun}
+use Rattle.wktline.proofs.Answering.{one_more, one_answer, write_map, begun}
 use Rattle.wktline.proofs.run.answer_lines.Goals as goal
 
 pub returns-in-Err-clause-write : goal.returns-in-Err-clause-write

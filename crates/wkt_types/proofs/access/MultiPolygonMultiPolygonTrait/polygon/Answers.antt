@@ -1,4 +1,4 @@
-use Rattle.std.proofs.Common.{◌≡◌, ◌<◌, length, get_or, rules}
+use Rattle.std.proofs.Common.{rules}
 use Rattle.wkt_types.proofs.Members.{polygon_is}
 use Rattle.wkt_types.proofs.access.MultiPolygonMultiPolygonTrait.polygon.Goals as goal
 

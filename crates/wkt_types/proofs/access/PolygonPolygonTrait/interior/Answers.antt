@@ -1,4 +1,4 @@
-use Rattle.std.proofs.Common.{◌≡◌, ◌+◌, ◌<◌, length, get_or, refl, rules}
+use Rattle.std.proofs.Common.{rules}
 use Rattle.wkt_types.proofs.Members.{interior_is}
 use Rattle.wkt_types.proofs.access.PolygonPolygonTrait.interior.Goals as goal
 

@@ -1,4 +1,4 @@
-use Rattle.std.proofs.Common.{◌≡◌, ap, sym, ◌∙◌, refl, [], ◌∷◌, map, slice_get, Some}
+use Rattle.std.proofs.Common.{◌≡◌, ap, sym, ◌∙◌, [], map, slice_get, Some}
 use Rattle.wkt_types.specs.Tree.{tree, collected}
 use Rattle.wkt_types.proofs.TreeLemmas.{collected_some}
 use Rattle.wkt_types.proofs.Firsts.{first_none}

@@ -1,4 +1,4 @@
-use Rattle.std.proofs.Common.{◌≡◌, ◌<◌, length, arith}
+use Rattle.std.proofs.Common.{arith}
 use Rattle.wkt_types.proofs.Collections.{shapes_counted, shape_at}
 use Rattle.wkt_types.proofs.geometry_access.GeometryCollectionGeometryCollectionTrait.geometry.Goals as goal
 

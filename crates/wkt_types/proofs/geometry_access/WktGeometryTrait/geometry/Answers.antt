@@ -1,4 +1,4 @@
-use Rattle.std.proofs.Common.{◌≡◌, ◌<◌, length, arith}
+use Rattle.std.proofs.Common.{arith}
 use Rattle.wkt_types.proofs.Collections.{members_counted, member_at}
 use Rattle.wkt_types.proofs.geometry_access.WktGeometryTrait.geometry.Goals as goal
 
