@@ -49,18 +49,25 @@ fn heads(rt: HostRuntime) -> Result<(), Fail> {
     Ok(())
 }
 
+// Whether a head of so many letters is told whole.
+fn tells_prefix(alloc: Global, length: usize) -> Result<bool, AllocError> {
+    let mut text = String::new(alloc);
+    let mut wanted = String::from_str(alloc, "Unsupported WKT prefix ")?;
+    for _ in 0..length {
+        text.push('a')?;
+        wanted.push('A')?;
+    }
+    text.push('(')?;
+    Ok(shown(alloc, text.as_str())?.as_str() == wanted.as_str())
+}
+
+// An `infer_type` that gives up on unknown prefixes, or above a size, fails here.
 #[test]
 fn long_prefixes(rt: HostRuntime) -> Result<(), Fail> {
     let alloc = rt.alloc();
-    for length in [1, 15, 16, 17, 255, 256, 100000] {
-        let mut text = String::new(alloc);
-        let mut wanted = String::from_str(alloc, "Unsupported WKT prefix ")?;
-        for _ in 0..length {
-            text.push('a')?;
-            wanted.push('A')?;
-        }
-        text.push('(')?;
-        assert_eq!(rt; shown(alloc, text.as_str())?.as_str(), wanted.as_str());
+    for length in 1..=300 {
+        assert!(rt; tells_prefix(alloc, length)?, "of {length} letters");
     }
+    assert!(rt; tells_prefix(alloc, 100000)?);
     Ok(())
 }

@@ -131,6 +131,7 @@ fn reads_points(rt: HostRuntime) -> Result<(), Fail> {
     Ok(())
 }
 
+// A reader that gives up on lists fails here.
 #[test]
 fn reads_lists(rt: HostRuntime) -> Result<(), Fail> {
     let alloc = rt.alloc();

@@ -289,6 +289,7 @@ const LISTS: [(&str, &str); 6] = [
     ("GEOMETRYCOLLECTION", "POINT(1 2)"),
 ];
 
+// A reader, a copy or a constructor that gives up above a size fails here.
 #[test]
 fn ample_memory(rt: HostRuntime) -> Result<(), Fail> {
     let alloc = rt.alloc();

@@ -109,6 +109,7 @@ fn source(rest: &[u8], step: usize, calls: usize) -> Pieces<'_>
     }
 }
 
+// A program that gives up on every input fails here.
 #[test]
 fn answers_lines(rt: HostRuntime) -> Result<(), Fail> {
     for (input, want) in [
