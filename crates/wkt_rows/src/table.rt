@@ -3,6 +3,7 @@ use std::alloc::{AllocError, Global};
 use std::io;
 use thiserror::Error;
 use wkt::to_wkt::{Counted, ReadAllError, read_all};
+use wkt::tokenizer::{PeekableTokens, Tokens};
 use wkt::types::{
     GeometryCollection, LineString, MultiLineString, MultiPoint, MultiPolygon, Polygon,
 };
@@ -73,13 +74,13 @@ fn check_row(rt: &impl Print, alloc: Global, row: &str) -> Result<bool, TableErr
 
 /// The text of a copy of a text's geometry, or the message with which the text is refused.
 pub fn answer<T: WktNum>(alloc: Global, text: &str) -> Result<String, AllocError> {
-    match Wkt::<T>::from_str(alloc, text) {
-        Ok(geometry) => {
+    match read_alike::<T>(alloc, text) {
+        Ok((geometry, alike)) => {
             let again = rebuilt(alloc, geometry.try_clone(alloc)?)?;
-            if again == geometry {
+            if alike && again == geometry {
                 format!(in alloc; "{again}")
             } else {
-                format!(in alloc; "{geometry}, but its copy is {again}")
+                format!(in alloc; "{geometry}, but another call gives another, as {again}")
             }
         }
         Err(ReadError::Text(message)) => match infer_type(alloc, text) {
@@ -88,6 +89,16 @@ pub fn answer<T: WktNum>(alloc: Global, text: &str) -> Result<String, AllocError
         },
         Err(ReadError::Memory(e)) => Err(e),
     }
+}
+
+/// The geometry at the front of a text, and whether the three calls read it alike to one end.
+fn read_alike<T: WktNum>(alloc: Global, text: &str) -> Result<(Wkt<T>, bool), ReadError> {
+    let geometry = Wkt::<T>::from_str(alloc, text)?;
+    let (front, end) = Wkt::<T>::read_front(alloc, text)?;
+    let mut tokens = PeekableTokens::new(Tokens::<T>::from_str(text));
+    let streamed = Wkt::<T>::read_tokens(alloc, &mut tokens)?;
+    let alike = front == geometry && streamed == geometry && tokens.end() == end;
+    Ok((geometry, alike))
 }
 
 /// An equal geometry, put together again from its parts.
