@@ -2,8 +2,9 @@
 # Refuses each growth of memory of the two built programs in turn, until a run meets none.
 #
 # wktline answers lines of every kind: each refusal has to end it with its words and status, behind the whole
-# answers to some first lines. wkt_rows reads each text, copies the geometry, puts the copy together again from its
-# parts and displays it: each refusal has to end it as want of memory, with no row told as wrong, or to change nothing.
+# answers to some first lines. wkt_rows reads each text by three calls, copies the geometry, puts the copy together
+# again from its parts and displays it: each refusal has to end it as want of memory, with no row told as wrong, or
+# to change nothing.
 #
 # Build both first (rt run in crates/wktline and crates/wkt_rows). It needs a C compiler.
 set -u
