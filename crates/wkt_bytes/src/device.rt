@@ -82,11 +82,12 @@ pub struct Counted<D> {
 }
 
 impl<D> Counted<D> {
-    ghost use Rattle.wkt_bytes.specs.Counted.{device_of};
+    ghost use Rattle.wkt_bytes.specs.Counted.{device_of, counted};
 
     /// This device, of which no failure has been counted.
     pub fn new(device: D) -> Self
-        ensures { device_of result ≡ device }
+        ensures device { device_of result ≡ device }
+        ensures count { counted result ≡ 0 }
     {
         Counted { device, count: 0 }
     }

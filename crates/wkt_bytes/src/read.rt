@@ -28,6 +28,7 @@ pub fn read_all<R: ByteSource>(alloc: Global, reader: &mut R) -> Result<Vec<u8>,
     ensures bytes { IfOk result (λ v. Consumes (R.left reader.old) (R.left reader.new) v.items) }
     ensures end { OnOk result (IsAtEnd (R.left reader.new)) }
     ensures read { IfRead result (R.failures reader.new ≡ next_count (R.failures reader.old)) }
+    ensures count { OnOk result (R.failures reader.new ≡ R.failures reader.old) }
 {
     let mut all = Vec::new(alloc);
     let mut buf = [0u8; 65536];
