@@ -2,7 +2,7 @@
 use Rattle.std.proofs.Common.{◌≡◌, ◌≢◌, ℕ, List, [], ◌∷◌, ◌++◌, length, map, Some, None, refl, ap, sym, ◌∙◌, append_assoc, slice_get}
 use Rattle.std.specs.Prelude.{codes, Result}
 use Rattle.std.proofs.lemmas.List.{append-nil, length-map}
-use Rattle.wkt_num.specs.Sink.{Adds, Breaks, Puts}
+use Rattle.wkt_num.specs.Sink.{Sink, Adds, Breaks, Puts}
 use Rattle.wkt_access.specs.Shapes.{PolygonShape, rings_of, rings_under, corners}
 use Rattle.wkt_access.specs.Texts.{joined, listed, coordinate_text}
 use Rattle.wkt_access.specs.Pieces.{before, opening, closing, cut_line, cut_member, cut_polygon, cut_coordinate, pair_text, quad_text, corner_text, corners_text}
@@ -17,15 +17,15 @@ module _ {A : Type 0} (f : A → List ℕ) (xs : List A) where
   images : (n : ℕ) → n ≡ length xs → length (map f xs) ≡ n
   images n h = length-map xs f ∙ sym h
 
-  pub bracket_broken_opening : {S : Type 0} {text : S → List ℕ} {failures : S → ℕ} {took broke : S → List ℕ → S → Type 0} (n : ℕ) {s t : S} → n ≡ length xs → Breaks text failures took broke s (opening n) t → Breaks text failures took broke s (listed (map f xs)) t
+  pub bracket_broken_opening : {S : Type 0} {sink : Sink S} (n : ℕ) {s t : S} → n ≡ length xs → Breaks sink s (opening n) t → Breaks sink s (listed (map f xs)) t
   bracket_broken_opening n h p = rw (listed_is (map f xs), images n h) (breaks_first _ p)
 
-  module _ {S : Type 0} {text : S → List ℕ} {failures : S → ℕ} {took : S → List ℕ → S → Type 0} where
-    pub bracket_broken_items : (n : ℕ) {broke : S → List ℕ → S → Type 0} {s t u : S} → n ≡ length xs → Adds text failures took s (opening n) t → Breaks text failures took broke t (joined (codes ",") (map f xs)) u → Breaks text failures took broke s (listed (map f xs)) u
+  module _ {S : Type 0} {sink : Sink S} where
+    pub bracket_broken_items : (n : ℕ) {s t u : S} → n ≡ length xs → Adds sink s (opening n) t → Breaks sink t (joined (codes ",") (map f xs)) u → Breaks sink s (listed (map f xs)) u
     bracket_broken_items n h p q = rw (listed_is (map f xs), images n h) (breaks_then p (breaks_first _ q))
 
-    pub bracket_adds : (n i : ℕ) (broke : S → List ℕ → S → Type 0) {T E : Type 0} (r : Result T E) {s t u : S} (v : S) → n ≡ length xs → i ≡ length xs → Adds text failures took s (opening n) t → Adds text failures took t (joined (codes ",") (map f xs)) u → Puts text failures took broke u (closing i) v r → Puts text failures took broke s (listed (map f xs)) v r
-    bracket_adds n i broke r {u = u} v h g p q w = rw (listed_is (map f xs), images n h) (puts_then broke r v _ p (puts_then broke r v (closing n) q (let e : i ≡ n = g ∙ sym h in rw e at w)))
+    pub bracket_adds : (n i : ℕ) {T E : Type 0} (r : Result T E) {s t u : S} (v : S) → n ≡ length xs → i ≡ length xs → Adds sink s (opening n) t → Adds sink t (joined (codes ",") (map f xs)) u → Puts sink u (closing i) v r → Puts sink s (listed (map f xs)) v r
+    bracket_adds n i r {u = u} v h g p q w = rw (listed_is (map f xs), images n h) (puts_then r v _ p (puts_then r v (closing n) q (let e : i ≡ n = g ∙ sym h in rw e at w)))
 
 -- a list of several members by its first
 pub joined_first : (s t : List ℕ) (ts : List (List ℕ)) → joined s (t ∷ ts) ≡ t ++ (before s (length ts) ++ joined s ts)

@@ -12,7 +12,7 @@ use Rattle.wkt_access.specs.Pieces.{gap, cut_coordinate, cut_line, cut_member, c
 use Rattle.wkt_access.specs.Texts.{shape_text}
 use Rattle.wkt_access.specs.Shapes.{PolygonShape, Shape, Shapes, printed, dimension, cut, canon, canons, rings_of, corners}
 use Rattle.wkt_access.specs.Values.{size}
-use Rattle.wkt_num.specs.Sink.{Adds, Breaks, Puts}
+use Rattle.wkt_num.specs.Sink.{Sink, Adds, Breaks, Puts}
 use Rattle.wkt_access.specs.Texts.{headed, listed, suffix, space_if_empty, coordinate_text, line_text, polygon_text, text, texts}
 use Rattle.wkt_access.proofs.Bracketed.{one_listed, corners_listed}
 use Rattle.wkt_num.proofs.Calls.{breaks_first, breaks_then, puts_then}
@@ -29,14 +29,14 @@ module _ {A : Type 0} (f : A → List ℕ) (xs : List A) (word : List ℕ) (d : 
       ∙ ap (λ l. word ++ l) (sym (append_assoc (suffix d) (gap n) (listed (map f xs))))
       ∙ sym (append_assoc word (suffix d ++ gap n) (listed (map f xs)))
 
-  pub headed_broken : {S : Type 0} {text : S → List ℕ} {failures : S → ℕ} {took broke : S → List ℕ → S → Type 0} {s t : S} → Breaks text failures took broke s (word ++ (suffix d ++ gap n)) t → Breaks text failures took broke s (headed word d (map f xs)) t
+  pub headed_broken : {S : Type 0} {sink : Sink S} {s t : S} → Breaks sink s (word ++ (suffix d ++ gap n)) t → Breaks sink s (headed word d (map f xs)) t
   headed_broken p = rw headed_is (breaks_first _ p)
 
-  module _ {S : Type 0} {text : S → List ℕ} {failures : S → ℕ} {took : S → List ℕ → S → Type 0} where
-    pub headed_adds : (broke : S → List ℕ → S → Type 0) {T E : Type 0} (r : Result T E) {s t : S} (u : S) → Adds text failures took s (word ++ (suffix d ++ gap n)) t → Puts text failures took broke t (listed (map f xs)) u r → Puts text failures took broke s (headed word d (map f xs)) u r
-    headed_adds broke r u p q = rw headed_is (puts_then broke r u _ p q)
+  module _ {S : Type 0} {sink : Sink S} where
+    pub headed_adds : {T E : Type 0} (r : Result T E) {s t : S} (u : S) → Adds sink s (word ++ (suffix d ++ gap n)) t → Puts sink t (listed (map f xs)) u r → Puts sink s (headed word d (map f xs)) u r
+    headed_adds r u p q = rw headed_is (puts_then r u _ p q)
 
-    pub headed_broken_items : {broke : S → List ℕ → S → Type 0} {s t u : S} → Adds text failures took s (word ++ (suffix d ++ gap n)) t → Breaks text failures took broke t (listed (map f xs)) u → Breaks text failures took broke s (headed word d (map f xs)) u
+    pub headed_broken_items : {s t u : S} → Adds sink s (word ++ (suffix d ++ gap n)) t → Breaks sink t (listed (map f xs)) u → Breaks sink s (headed word d (map f xs)) u
     headed_broken_items p q = rw headed_is (breaks_then p q)
 
 -- an image of images

@@ -2,16 +2,16 @@
 use Rattle.std.proofs.Common.{◌≡◌, ℕ, zero, suc, ◌+◌, ◌<◌, ◌≤◌, List, [], ◌∷◌, ◌++◌, length, take, map, Some, refl, ap, sym, ◌∙◌, append_assoc, arith, slice_get, add-one}
 use Rattle.std.specs.Prelude.{flat_map}
 use Rattle.std.proofs.lemmas.List.{append-nil, take_all}
-use Rattle.wkt_num.specs.Sink.{Adds, Breaks}
+use Rattle.wkt_num.specs.Sink.{Sink, Adds, Breaks}
 use Rattle.wkt_access.specs.Texts.{joined}
 use Rattle.wkt_access.specs.Pieces.{before}
 use Rattle.wkt_num.proofs.Calls.{adds_none, adds_then, breaks_first, breaks_then}
 use Rattle.wkt_access.proofs.Pieces.{Begins, begins_self, begins_with, begins_after, breaks_in}
 
 -- i of the n members of xs, each as f says, were added
-pub record Listing {A S : Type 0} (text : S → List ℕ) (failures : S → ℕ) (took : S → List ℕ → S → Type 0) (separator : List ℕ) (f : A → List ℕ) (xs : List A) (i n : ℕ) (s : S) (t : S) : Type 0 where
+pub record Listing {A S : Type 0} (sink : Sink S) (separator : List ℕ) (f : A → List ℕ) (xs : List A) (i n : ℕ) (s : S) (t : S) : Type 0 where
   pub all : n ≡ length xs
-  pub added : Adds text failures took s (joined separator (map f (take i xs))) t
+  pub added : Adds sink s (joined separator (map f (take i xs))) t
 
 -- the items that follow one
 tail : List ℕ → List (List ℕ) → List ℕ
@@ -46,25 +46,25 @@ some_at [] i h = absurd (omega arith)
 some_at (y ∷ ys) zero h = (y, refl)
 some_at (y ∷ ys) (suc i) h = some_at ys i (omega arith)
 
-module _ {A S : Type 0} {text : S → List ℕ} {failures : S → ℕ} {took : S → List ℕ → S → Type 0} where
-  pub listing_start : (separator : List ℕ) (f : A → List ℕ) (xs : List A) (n : ℕ) (s : S) → n ≡ length xs → Listing text failures took separator f xs 0 n s s
+module _ {A S : Type 0} {sink : Sink S} where
+  pub listing_start : (separator : List ℕ) (f : A → List ℕ) (xs : List A) (n : ℕ) (s : S) → n ≡ length xs → Listing sink separator f xs 0 n s s
   unfolding joined
   listing_start separator f xs n s h = record { all = h; added = adds_none s }
 
   module _ {separator : List ℕ} {f : A → List ℕ} {xs : List A} {i n : ℕ} where
-    pub listing_more : {s t u v : S} {x : A} → Listing text failures took separator f xs i n s t → slice_get xs i ≡ Some x → Adds text failures took t (before separator i) u → Adds text failures took u (f x) v → Listing text failures took separator f xs (i + 1) n s v
+    pub listing_more : {s t u v : S} {x : A} → Listing sink separator f xs i n s t → slice_get xs i ≡ Some x → Adds sink t (before separator i) u → Adds sink u (f x) v → Listing sink separator f xs (i + 1) n s v
     listing_more {x = x} p h q r = record { all = p.all; added = rw (add-one, joined_more separator f xs i x h) (adds_then p.added (adds_then q r)) }
 
     -- the fault comes before an item
-    pub listing_broken_before : {broke : S → List ℕ → S → Type 0} {s t u : S} → Listing text failures took separator f xs i n s t → i < n → Breaks text failures took broke t (before separator i) u → Breaks text failures took broke s (joined separator (map f xs)) u
+    pub listing_broken_before : {s t u : S} → Listing sink separator f xs i n s t → i < n → Breaks sink t (before separator i) u → Breaks sink s (joined separator (map f xs)) u
     listing_broken_before p h q =
         let x = some_at xs i (omega (arith, p.all)) in
         breaks_in (joined_begins separator f xs (suc i)) (rw (joined_more separator f xs i x.0 x.1) (breaks_then p.added (breaks_first (f x.0) q)))
 
     -- the fault comes in an item
-    pub listing_broken : {broke : S → List ℕ → S → Type 0} {s t u v : S} {x : A} → Listing text failures took separator f xs i n s t → slice_get xs i ≡ Some x → Adds text failures took t (before separator i) u → Breaks text failures took broke u (f x) v → Breaks text failures took broke s (joined separator (map f xs)) v
+    pub listing_broken : {s t u v : S} {x : A} → Listing sink separator f xs i n s t → slice_get xs i ≡ Some x → Adds sink t (before separator i) u → Breaks sink u (f x) v → Breaks sink s (joined separator (map f xs)) v
     listing_broken {x = x} p h q r =
         breaks_in (joined_begins separator f xs (suc i)) (rw (joined_more separator f xs i x h) (breaks_then p.added (breaks_then q r)))
 
-    pub listing_end : {s t : S} → Listing text failures took separator f xs i n s t → n ≤ i → Adds text failures took s (joined separator (map f xs)) t
+    pub listing_end : {s t : S} → Listing sink separator f xs i n s t → n ≤ i → Adds sink s (joined separator (map f xs)) t
     listing_end p h = let q : length xs ≤ i = omega (arith, p.all) in let e : take i xs ≡ xs = take_all i xs q in rw e at p.added

@@ -1,7 +1,7 @@
 -- Beginnings of texts.
 use Rattle.std.proofs.Common.{◌≡◌, ℕ, List, [], ◌++◌, refl, ap, ◌∙◌, append_assoc, subst}
 use Rattle.std.proofs.lemmas.List.{append-nil}
-use Rattle.wkt_num.specs.Sink.{Breaks}
+use Rattle.wkt_num.specs.Sink.{Sink, Breaks}
 use Rattle.wkt_num.proofs.Calls.{breaks_first}
 
 -- whole begins with part
@@ -19,5 +19,5 @@ pub begins_after : (a : List ℕ) {b c : List ℕ} → Begins b c → Begins (a 
 begins_after a {b = b} p = record { rest = p.rest; is_whole = append_assoc a b p.rest ∙ ap (λ l. a ++ l) p.is_whole }
 
 -- a beginning broke off, so the whole did
-pub breaks_in : {S : Type 0} {text : S → List ℕ} {failures : S → ℕ} {took broke : S → List ℕ → S → Type 0} {s t : S} {a b : List ℕ} → Begins a b → Breaks text failures took broke s a t → Breaks text failures took broke s b t
-breaks_in {text = text} {failures = failures} {took = took} {broke = broke} {s = s} {t = t} h p = subst (λ (bs : List ℕ). Breaks text failures took broke s bs t) h.is_whole (breaks_first h.rest p)
+pub breaks_in : {S : Type 0} {sink : Sink S} {s t : S} {a b : List ℕ} → Begins a b → Breaks sink s a t → Breaks sink s b t
+breaks_in {sink = sink} {s = s} {t = t} h p = subst (λ (bs : List ℕ). Breaks sink s bs t) h.is_whole (breaks_first h.rest p)

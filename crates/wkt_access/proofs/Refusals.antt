@@ -8,6 +8,7 @@ use Rattle.wkt_access.specs.declared.error.Error.{Error}
 use Rattle.wkt_access.specs.declared.error.Error.TheVariants.{FmtError, RectUnsupportedDimension, UnknownDimension, TooFewNumbers, Memory}
 use Rattle.wkt_access.specs.Faults.{fault, faults, first_fault, coordinate_fault, line_fault, polygon_fault, member_fault, under, rect_fault}
 use Rattle.wkt_access.specs.Shapes.{Shape, Shapes, PolygonShape, printed, rings_of}
+use Rattle.wkt_num.specs.Sink.{Sink}
 use Rattle.wkt_access.specs.Writes.{Fails}
 
 abbrev IsOwn : Error → Type 0
@@ -73,13 +74,13 @@ mutual
   faults_own Shapes.no_shapes = tt
   faults_own (Shapes.more_shapes g gs) = or_own (fault g) (faults gs) (fault_own g) (faults_own gs)
 
-module _ {S N : Type 0} (text : S → List ℕ) (failures : S → ℕ) (took broke : S → List ℕ → S → Type 0) (num : N → List ℕ) (s : S) (shape : Shape N) where
-  own_refusal : (e : Error) → IsOwnIfAny (fault shape) → fault shape ≡ Some e → Fails text failures took broke num s shape s e
+module _ {S N : Type 0} (sink : Sink S) (num : N → List ℕ) (s : S) (shape : Shape N) where
+  own_refusal : (e : Error) → IsOwnIfAny (fault shape) → fault shape ≡ Some e → Fails sink num s shape s e
   own_refusal (FmtError x) h w = absurd (rw w at h)
   own_refusal RectUnsupportedDimension h w = record { found = w; same = refl }
   own_refusal UnknownDimension h w = record { found = w; same = refl }
   own_refusal TooFewNumbers h w = record { found = w; same = refl }
   own_refusal (Memory x) h w = record { found = w; same = refl }
 
-  pub refusal : (e : Error) → fault shape ≡ Some e → Fails text failures took broke num s shape s e
+  pub refusal : (e : Error) → fault shape ≡ Some e → Fails sink num s shape s e
   refusal e w = own_refusal e (fault_own shape) w

@@ -1,6 +1,6 @@
 -- What a writer of a shape answers, and leaves in the sink: `s` is the sink before, and `t` after.
 use Rattle.std.specs.Prelude.{◌≡◌, ℕ, List, Some, None, Result, Ok, Err}
-use Rattle.wkt_num.specs.Sink.{Adds, Breaks}
+use Rattle.wkt_num.specs.Sink.{Sink, Adds, Breaks}
 use Rattle.wkt_access.specs.declared.error.Error.{Error}
 use Rattle.wkt_access.specs.declared.error.Error.TheVariants.{FmtError, RectUnsupportedDimension, UnknownDimension, TooFewNumbers, Memory}
 use Rattle.wkt_access.specs.Shapes.{Shape}
@@ -9,15 +9,15 @@ use Rattle.wkt_access.specs.Faults.{fault}
 use Rattle.wkt_access.specs.Lawful.{IsLawful}
 
 -- The shape has no fault, its printed numbers are values of the number type, and exactly its text was added.
-pub record Written {S N : Type 0} (text : S → List ℕ) (failures : S → ℕ) (took : S → List ℕ → S → Type 0) (is_value : N → Type 0) (num : N → List ℕ) (s : S) (shape : Shape N) (t : S) : Type 0 where
+pub record Written {S N : Type 0} (sink : Sink S) (is_value : N → Type 0) (num : N → List ℕ) (s : S) (shape : Shape N) (t : S) : Type 0 where
   pub sound : fault shape ≡ None
   pub lawful : IsLawful is_value shape
-  pub added : Adds text failures took s (shape_text num shape) t
+  pub added : Adds sink s (shape_text num shape) t
 
 -- The shape has no fault, and the sink failed when a beginning of the text was added.
-pub record BrokenOff {S N : Type 0} (text : S → List ℕ) (failures : S → ℕ) (took broke : S → List ℕ → S → Type 0) (num : N → List ℕ) (s : S) (shape : Shape N) (t : S) : Type 0 where
+pub record BrokenOff {S N : Type 0} (sink : Sink S) (num : N → List ℕ) (s : S) (shape : Shape N) (t : S) : Type 0 where
   pub sound : fault shape ≡ None
-  pub broken : Breaks text failures took broke s (shape_text num shape) t
+  pub broken : Breaks sink s (shape_text num shape) t
 
 -- The shape has this fault, and the sink is as it was.
 pub record Refused {S N : Type 0} (s : S) (shape : Shape N) (t : S) (e : Error) : Type 0 where
@@ -25,14 +25,14 @@ pub record Refused {S N : Type 0} (s : S) (shape : Shape N) (t : S) (e : Error) 
   pub same : t ≡ s
 
 -- The sink's fault is told as such, and any other error is the fault of the shape.
-abbrev pub Fails : {S N : Type 0} → (S → List ℕ) → (S → ℕ) → (S → List ℕ → S → Type 0) → (S → List ℕ → S → Type 0) → (N → List ℕ) → S → Shape N → S → Error → Type 0
-Fails text failures took broke num s shape t (FmtError e) = BrokenOff text failures took broke num s shape t
-Fails text failures took broke num s shape t RectUnsupportedDimension = Refused s shape t RectUnsupportedDimension
-Fails text failures took broke num s shape t UnknownDimension = Refused s shape t UnknownDimension
-Fails text failures took broke num s shape t TooFewNumbers = Refused s shape t TooFewNumbers
-Fails text failures took broke num s shape t (Memory e) = Refused s shape t (Memory e)
+abbrev pub Fails : {S N : Type 0} → Sink S → (N → List ℕ) → S → Shape N → S → Error → Type 0
+Fails sink num s shape t (FmtError e) = BrokenOff sink num s shape t
+Fails sink num s shape t RectUnsupportedDimension = Refused s shape t RectUnsupportedDimension
+Fails sink num s shape t UnknownDimension = Refused s shape t UnknownDimension
+Fails sink num s shape t TooFewNumbers = Refused s shape t TooFewNumbers
+Fails sink num s shape t (Memory e) = Refused s shape t (Memory e)
 
 -- What a writer answers: the text was written, or it wasn't for this error.
-abbrev pub Writes : {S T N : Type 0} → (S → List ℕ) → (S → ℕ) → (S → List ℕ → S → Type 0) → (S → List ℕ → S → Type 0) → (N → Type 0) → (N → List ℕ) → S → Shape N → S → Result T Error → Type 0
-Writes text failures took broke is_value num s shape t (Ok x) = Written text failures took is_value num s shape t
-Writes text failures took broke is_value num s shape t (Err e) = Fails text failures took broke num s shape t e
+abbrev pub Writes : {S T N : Type 0} → Sink S → (N → Type 0) → (N → List ℕ) → S → Shape N → S → Result T Error → Type 0
+Writes sink is_value num s shape t (Ok x) = Written sink is_value num s shape t
+Writes sink is_value num s shape t (Err e) = Fails sink num s shape t e

@@ -25,7 +25,7 @@ use wkt_num::TextSink;
 
 pub(crate) fn put_point<W: TextSink, P: PointTrait>(f: &mut W, p: &P) -> fmt::Result
     requires { fault (Shape.point (P.dimension p.now) (P.coordinate p.now)) ≡ None }
-    ensures { Puts W.text W.failures W.took W.broke f.old (shape_text P.T.num (Shape.point (P.dimension p.now) (P.coordinate p.now))) f.new result }
+    ensures { Puts W.sink f.old (shape_text P.T.num (Shape.point (P.dimension p.now) (P.coordinate p.now))) f.new result }
 {
     let d = dimension_in(p.dim());
     put_header(f, "POINT", d, count_coord(p))?;
@@ -34,7 +34,7 @@ pub(crate) fn put_point<W: TextSink, P: PointTrait>(f: &mut W, p: &P) -> fmt::Re
 
 pub(crate) fn put_linestring<W: TextSink, L: LineStringTrait>(f: &mut W, l: &L) -> fmt::Result
     requires { fault (Shape.line_string (L.dimension l.now) (L.coordinates l.now)) ≡ None }
-    ensures { Puts W.text W.failures W.took W.broke f.old (shape_text L.T.num (Shape.line_string (L.dimension l.now) (L.coordinates l.now))) f.new result }
+    ensures { Puts W.sink f.old (shape_text L.T.num (Shape.line_string (L.dimension l.now) (L.coordinates l.now))) f.new result }
 {
     let d = dimension_in(l.dim());
     put_header(f, "LINESTRING", d, l.num_coords())?;
@@ -43,7 +43,7 @@ pub(crate) fn put_linestring<W: TextSink, L: LineStringTrait>(f: &mut W, l: &L) 
 
 pub(crate) fn put_polygon<W: TextSink, Y: PolygonTrait>(f: &mut W, y: &Y) -> fmt::Result
     requires { fault (Shape.polygon (Y.dimension y.now) (Y.polygon y.now)) ≡ None }
-    ensures { Puts W.text W.failures W.took W.broke f.old (shape_text Y.T.num (Shape.polygon (Y.dimension y.now) (Y.polygon y.now))) f.new result }
+    ensures { Puts W.sink f.old (shape_text Y.T.num (Shape.polygon (Y.dimension y.now) (Y.polygon y.now))) f.new result }
 {
     let d = dimension_in(y.dim());
     put_header(f, "POLYGON", d, some_ring(y))?;
@@ -52,7 +52,7 @@ pub(crate) fn put_polygon<W: TextSink, Y: PolygonTrait>(f: &mut W, y: &Y) -> fmt
 
 pub(crate) fn put_multi_point<W: TextSink, M: MultiPointTrait>(f: &mut W, m: &M) -> fmt::Result
     requires { fault (Shape.multi_point (M.dimension m.now) (M.points m.now)) ≡ None }
-    ensures { Puts W.text W.failures W.took W.broke f.old (shape_text M.T.num (Shape.multi_point (M.dimension m.now) (M.points m.now))) f.new result }
+    ensures { Puts W.sink f.old (shape_text M.T.num (Shape.multi_point (M.dimension m.now) (M.points m.now))) f.new result }
 {
     let d = dimension_in(m.dim());
     put_header(f, "MULTIPOINT", d, m.num_points())?;
@@ -64,7 +64,7 @@ pub(crate) fn put_multi_linestring<W: TextSink, M: MultiLineStringTrait>(
     m: &M,
 ) -> fmt::Result
     requires { fault (Shape.multi_line_string (M.dimension m.now) (M.lines m.now)) ≡ None }
-    ensures { Puts W.text W.failures W.took W.broke f.old (shape_text M.T.num (Shape.multi_line_string (M.dimension m.now) (M.lines m.now))) f.new result }
+    ensures { Puts W.sink f.old (shape_text M.T.num (Shape.multi_line_string (M.dimension m.now) (M.lines m.now))) f.new result }
 {
     let d = dimension_in(m.dim());
     put_header(f, "MULTILINESTRING", d, m.num_line_strings())?;
@@ -73,7 +73,7 @@ pub(crate) fn put_multi_linestring<W: TextSink, M: MultiLineStringTrait>(
 
 pub(crate) fn put_multi_polygon<W: TextSink, M: MultiPolygonTrait>(f: &mut W, m: &M) -> fmt::Result
     requires { fault (Shape.multi_polygon (M.dimension m.now) (M.polygons m.now)) ≡ None }
-    ensures { Puts W.text W.failures W.took W.broke f.old (shape_text M.T.num (Shape.multi_polygon (M.dimension m.now) (M.polygons m.now))) f.new result }
+    ensures { Puts W.sink f.old (shape_text M.T.num (Shape.multi_polygon (M.dimension m.now) (M.polygons m.now))) f.new result }
 {
     let d = dimension_in(m.dim());
     put_header(f, "MULTIPOLYGON", d, m.num_polygons())?;
@@ -81,7 +81,7 @@ pub(crate) fn put_multi_polygon<W: TextSink, M: MultiPolygonTrait>(f: &mut W, m:
 }
 
 pub(crate) fn put_rect<W: TextSink, R: RectTrait>(f: &mut W, r: &R) -> fmt::Result
-    ensures { Puts W.text W.failures W.took W.broke f.old (shape_text R.T.num (Shape.rect (R.dimension r.now) (R.least r.now) (R.most r.now))) f.new result }
+    ensures { Puts W.sink f.old (shape_text R.T.num (Shape.rect (R.dimension r.now) (R.least r.now) (R.most r.now))) f.new result }
 {
     let min = r.min();
     let max = r.max();
@@ -92,7 +92,7 @@ pub(crate) fn put_rect<W: TextSink, R: RectTrait>(f: &mut W, r: &R) -> fmt::Resu
 
 pub(crate) fn put_triangle<W: TextSink, Y: TriangleTrait>(f: &mut W, y: &Y) -> fmt::Result
     requires { fault (Shape.triangle (Y.dimension y.now) (Y.a y.now) (Y.b y.now) (Y.c y.now)) ≡ None }
-    ensures { Puts W.text W.failures W.took W.broke f.old (shape_text Y.T.num (Shape.triangle (Y.dimension y.now) (Y.a y.now) (Y.b y.now) (Y.c y.now))) f.new result }
+    ensures { Puts W.sink f.old (shape_text Y.T.num (Shape.triangle (Y.dimension y.now) (Y.a y.now) (Y.b y.now) (Y.c y.now))) f.new result }
 {
     let d = dimension_in(y.dim());
     put_header(f, "POLYGON", d, 1)?;
@@ -101,7 +101,7 @@ pub(crate) fn put_triangle<W: TextSink, Y: TriangleTrait>(f: &mut W, y: &Y) -> f
 
 pub(crate) fn put_line_of_two<W: TextSink, L: LineTrait>(f: &mut W, l: &L) -> fmt::Result
     requires { fault (Shape.line (L.dimension l.now) (L.from l.now) (L.to l.now)) ≡ None }
-    ensures { Puts W.text W.failures W.took W.broke f.old (shape_text L.T.num (Shape.line (L.dimension l.now) (L.from l.now) (L.to l.now))) f.new result }
+    ensures { Puts W.sink f.old (shape_text L.T.num (Shape.line (L.dimension l.now) (L.from l.now) (L.to l.now))) f.new result }
 {
     let d = dimension_in(l.dim());
     put_header(f, "LINESTRING", d, 1)?;
@@ -111,7 +111,7 @@ pub(crate) fn put_line_of_two<W: TextSink, L: LineTrait>(f: &mut W, l: &L) -> fm
 #[cycle(geometries)]
 pub(crate) fn put_geometry<W: TextSink, G: GeometryTrait>(f: &mut W, g: &G) -> fmt::Result
     requires { fault (G.shape g.now) ≡ None }
-    ensures { Puts W.text W.failures W.took W.broke f.old (shape_text G.T.num (G.shape g.now)) f.new result }
+    ensures { Puts W.sink f.old (shape_text G.T.num (G.shape g.now)) f.new result }
 {
     match g.as_type() {
         GeometryType::Point(p) => put_point(f, p),
@@ -131,7 +131,7 @@ pub(crate) fn put_geometry<W: TextSink, G: GeometryTrait>(f: &mut W, g: &G) -> f
 fn put_members<W: TextSink, G: GeometryTrait>(f: &mut W, g: &G, n: usize) -> fmt::Result
     requires fault { fault (G.shape g.now) ≡ None }
     requires count { IsCollectionOf n (G.shape g.now) }
-    ensures { Puts W.text W.failures W.took W.broke f.old (shape_text G.T.num (G.shape g.now)) f.new result }
+    ensures { Puts W.sink f.old (shape_text G.T.num (G.shape g.now)) f.new result }
 {
     put_header(f, "GEOMETRYCOLLECTION", dimension_in(g.dim()), n)?;
     put_opening(f, n)?;
@@ -144,7 +144,7 @@ fn put_members<W: TextSink, G: GeometryTrait>(f: &mut W, g: &G, n: usize) -> fmt
 
 fn put_geometries<W: TextSink, C: GeometryCollectionTrait>(f: &mut W, c: &C) -> fmt::Result
     requires { first_fault fault (each (C.geometries c.now)) ≡ None }
-    ensures { Puts W.text W.failures W.took W.broke f.old (joined (codes ",") (map (shape_text C.T.num) (each (C.geometries c.now)))) f.new result }
+    ensures { Puts W.sink f.old (joined (codes ",") (map (shape_text C.T.num) (each (C.geometries c.now)))) f.new result }
 {
     for i in 0..c.num_geometries() {
         put_separator(f, ",", i)?;
@@ -155,7 +155,7 @@ fn put_geometries<W: TextSink, C: GeometryCollectionTrait>(f: &mut W, c: &C) -> 
 
 fn put_geometries_in<W: TextSink, C: GeometryCollectionTrait>(f: &mut W, c: &C) -> fmt::Result
     requires { first_fault fault (each (C.geometries c.now)) ≡ None }
-    ensures { Puts W.text W.failures W.took W.broke f.old (listed (map (shape_text C.T.num) (each (C.geometries c.now)))) f.new result }
+    ensures { Puts W.sink f.old (listed (map (shape_text C.T.num) (each (C.geometries c.now)))) f.new result }
 {
     put_opening(f, c.num_geometries())?;
     put_geometries(f, c)?;
@@ -163,7 +163,7 @@ fn put_geometries_in<W: TextSink, C: GeometryCollectionTrait>(f: &mut W, c: &C) 
 }
 
 fn put_collection_header<W: TextSink, C: GeometryCollectionTrait>(f: &mut W, c: &C) -> fmt::Result
-    ensures { Puts W.text W.failures W.took W.broke f.old (codes "GEOMETRYCOLLECTION" ++ (suffix (dimension (C.dimension c.now)) ++ gap (length (each (C.geometries c.now))))) f.new result }
+    ensures { Puts W.sink f.old (codes "GEOMETRYCOLLECTION" ++ (suffix (dimension (C.dimension c.now)) ++ gap (length (each (C.geometries c.now))))) f.new result }
 {
     put_header(
         f,
@@ -178,7 +178,7 @@ pub(crate) fn put_collection<W: TextSink, C: GeometryCollectionTrait>(
     c: &C,
 ) -> fmt::Result
     requires { first_fault fault (each (C.geometries c.now)) ≡ None }
-    ensures { Puts W.text W.failures W.took W.broke f.old (shape_text C.T.num (Shape.collection (C.dimension c.now) (C.geometries c.now))) f.new result }
+    ensures { Puts W.sink f.old (shape_text C.T.num (Shape.collection (C.dimension c.now) (C.geometries c.now))) f.new result }
 {
     put_collection_header(f, c)?;
     put_geometries_in(f, c)

@@ -17,7 +17,7 @@ use std::fmt;
 use wkt_num::{TextSink, WktNum};
 
 pub(crate) fn put_separator<W: TextSink>(f: &mut W, separator: &str, i: usize) -> fmt::Result
-    ensures { Puts W.text W.failures W.took W.broke f.old (before separator.now i) f.new result }
+    ensures { Puts W.sink f.old (before separator.now i) f.new result }
 {
     if i == 0 {
         return Ok(());
@@ -26,7 +26,7 @@ pub(crate) fn put_separator<W: TextSink>(f: &mut W, separator: &str, i: usize) -
 }
 
 pub(crate) fn put_opening<W: TextSink>(f: &mut W, n: usize) -> fmt::Result
-    ensures { Puts W.text W.failures W.took W.broke f.old (opening n) f.new result }
+    ensures { Puts W.sink f.old (opening n) f.new result }
 {
     if n == 0 {
         return f.write_str("EMPTY");
@@ -35,7 +35,7 @@ pub(crate) fn put_opening<W: TextSink>(f: &mut W, n: usize) -> fmt::Result
 }
 
 pub(crate) fn put_closing<W: TextSink>(f: &mut W, n: usize) -> fmt::Result
-    ensures { Puts W.text W.failures W.took W.broke f.old (closing n) f.new result }
+    ensures { Puts W.sink f.old (closing n) f.new result }
 {
     if n == 0 {
         return Ok(());
@@ -45,7 +45,7 @@ pub(crate) fn put_closing<W: TextSink>(f: &mut W, n: usize) -> fmt::Result
 
 fn put_coord<W: TextSink, C: CoordTrait>(f: &mut W, c: &C, k: usize) -> fmt::Result
     requires { k ≤ length (C.numbers c.now) }
-    ensures { Puts W.text W.failures W.took W.broke f.old (cut_coordinate C.T.num k (C.numbers c.now)) f.new result }
+    ensures { Puts W.sink f.old (cut_coordinate C.T.num k (C.numbers c.now)) f.new result }
 {
     for n in 0..k {
         put_separator(f, " ", n)?;
@@ -56,7 +56,7 @@ fn put_coord<W: TextSink, C: CoordTrait>(f: &mut W, c: &C, k: usize) -> fmt::Res
 
 fn put_coords<W: TextSink, L: LineStringTrait>(f: &mut W, l: &L, k: usize) -> fmt::Result
     requires { line_fault k (L.coordinates l.now) ≡ None }
-    ensures { Puts W.text W.failures W.took W.broke f.old (joined (codes ",") (map (cut_coordinate L.T.num k) (L.coordinates l.now))) f.new result }
+    ensures { Puts W.sink f.old (joined (codes ",") (map (cut_coordinate L.T.num k) (L.coordinates l.now))) f.new result }
 {
     for i in 0..l.num_coords() {
         put_separator(f, ",", i)?;
@@ -67,7 +67,7 @@ fn put_coords<W: TextSink, L: LineStringTrait>(f: &mut W, l: &L, k: usize) -> fm
 
 pub(crate) fn put_line<W: TextSink, L: LineStringTrait>(f: &mut W, l: &L, k: usize) -> fmt::Result
     requires { line_fault k (L.coordinates l.now) ≡ None }
-    ensures { Puts W.text W.failures W.took W.broke f.old (cut_line L.T.num k (L.coordinates l.now)) f.new result }
+    ensures { Puts W.sink f.old (cut_line L.T.num k (L.coordinates l.now)) f.new result }
 {
     put_opening(f, l.num_coords())?;
     put_coords(f, l, k)?;
@@ -76,7 +76,7 @@ pub(crate) fn put_line<W: TextSink, L: LineStringTrait>(f: &mut W, l: &L, k: usi
 
 fn put_interiors<W: TextSink, Y: PolygonTrait>(f: &mut W, y: &Y, k: usize) -> fmt::Result
     requires { first_fault (line_fault k) (Y.polygon y.now).interiors ≡ None }
-    ensures { Puts W.text W.failures W.took W.broke f.old (joined (codes ",") (map (cut_line Y.T.num k) (Y.polygon y.now).interiors)) f.new result }
+    ensures { Puts W.sink f.old (joined (codes ",") (map (cut_line Y.T.num k) (Y.polygon y.now).interiors)) f.new result }
 {
     for i in 0..y.num_interiors() {
         put_separator(f, ",", i)?;
@@ -87,7 +87,7 @@ fn put_interiors<W: TextSink, Y: PolygonTrait>(f: &mut W, y: &Y, k: usize) -> fm
 
 pub(crate) fn put_rings<W: TextSink, Y: PolygonTrait>(f: &mut W, y: &Y, k: usize) -> fmt::Result
     requires { polygon_fault k (Y.polygon y.now) ≡ None }
-    ensures { Puts W.text W.failures W.took W.broke f.old (cut_polygon Y.T.num k (Y.polygon y.now)) f.new result }
+    ensures { Puts W.sink f.old (cut_polygon Y.T.num k (Y.polygon y.now)) f.new result }
 {
     match y.exterior() {
         None => put_opening(f, 0),
@@ -106,7 +106,7 @@ pub(crate) fn put_rings<W: TextSink, Y: PolygonTrait>(f: &mut W, y: &Y, k: usize
 
 pub(crate) fn put_inner_point<W: TextSink, P: PointTrait>(f: &mut W, p: &P, k: usize) -> fmt::Result
     requires { member_fault k (P.coordinate p.now) ≡ None }
-    ensures { Puts W.text W.failures W.took W.broke f.old (cut_member P.T.num k (P.coordinate p.now)) f.new result }
+    ensures { Puts W.sink f.old (cut_member P.T.num k (P.coordinate p.now)) f.new result }
 {
     match p.coord() {
         None => put_opening(f, 0),
@@ -120,7 +120,7 @@ pub(crate) fn put_inner_point<W: TextSink, P: PointTrait>(f: &mut W, p: &P, k: u
 
 fn put_points<W: TextSink, M: MultiPointTrait>(f: &mut W, m: &M, k: usize) -> fmt::Result
     requires { first_fault (member_fault k) (M.points m.now) ≡ None }
-    ensures { Puts W.text W.failures W.took W.broke f.old (joined (codes ",") (map (cut_member M.T.num k) (M.points m.now))) f.new result }
+    ensures { Puts W.sink f.old (joined (codes ",") (map (cut_member M.T.num k) (M.points m.now))) f.new result }
 {
     for i in 0..m.num_points() {
         put_separator(f, ",", i)?;
@@ -131,7 +131,7 @@ fn put_points<W: TextSink, M: MultiPointTrait>(f: &mut W, m: &M, k: usize) -> fm
 
 fn put_lines<W: TextSink, M: MultiLineStringTrait>(f: &mut W, m: &M, k: usize) -> fmt::Result
     requires { first_fault (line_fault k) (M.lines m.now) ≡ None }
-    ensures { Puts W.text W.failures W.took W.broke f.old (joined (codes ",") (map (cut_line M.T.num k) (M.lines m.now))) f.new result }
+    ensures { Puts W.sink f.old (joined (codes ",") (map (cut_line M.T.num k) (M.lines m.now))) f.new result }
 {
     for i in 0..m.num_line_strings() {
         put_separator(f, ",", i)?;
@@ -142,7 +142,7 @@ fn put_lines<W: TextSink, M: MultiLineStringTrait>(f: &mut W, m: &M, k: usize) -
 
 fn put_polygons<W: TextSink, M: MultiPolygonTrait>(f: &mut W, m: &M, k: usize) -> fmt::Result
     requires { first_fault (polygon_fault k) (M.polygons m.now) ≡ None }
-    ensures { Puts W.text W.failures W.took W.broke f.old (joined (codes ",") (map (cut_polygon M.T.num k) (M.polygons m.now))) f.new result }
+    ensures { Puts W.sink f.old (joined (codes ",") (map (cut_polygon M.T.num k) (M.polygons m.now))) f.new result }
 {
     for i in 0..m.num_polygons() {
         put_separator(f, ",", i)?;
@@ -163,7 +163,7 @@ fn suffix_of(d: Dimension) -> &'static str
 }
 
 fn put_gap<W: TextSink>(f: &mut W, n: usize) -> fmt::Result
-    ensures { Puts W.text W.failures W.took W.broke f.old (gap n) f.new result }
+    ensures { Puts W.sink f.old (gap n) f.new result }
 {
     if n == 0 {
         return f.write_str(" ");
@@ -172,7 +172,7 @@ fn put_gap<W: TextSink>(f: &mut W, n: usize) -> fmt::Result
 }
 
 pub(crate) fn put_header<W: TextSink>(f: &mut W, word: &str, d: Dimension, n: usize) -> fmt::Result
-    ensures { Puts W.text W.failures W.took W.broke f.old (word.now ++ (suffix d ++ gap n)) f.new result }
+    ensures { Puts W.sink f.old (word.now ++ (suffix d ++ gap n)) f.new result }
 {
     f.write_str(word)?;
     f.write_str(suffix_of(d))?;
@@ -209,7 +209,7 @@ pub(crate) fn put_points_in<W: TextSink, M: MultiPointTrait>(
     k: usize,
 ) -> fmt::Result
     requires { first_fault (member_fault k) (M.points m.now) ≡ None }
-    ensures { Puts W.text W.failures W.took W.broke f.old (listed (map (cut_member M.T.num k) (M.points m.now))) f.new result }
+    ensures { Puts W.sink f.old (listed (map (cut_member M.T.num k) (M.points m.now))) f.new result }
 {
     put_opening(f, m.num_points())?;
     put_points(f, m, k)?;
@@ -222,7 +222,7 @@ pub(crate) fn put_lines_in<W: TextSink, M: MultiLineStringTrait>(
     k: usize,
 ) -> fmt::Result
     requires { first_fault (line_fault k) (M.lines m.now) ≡ None }
-    ensures { Puts W.text W.failures W.took W.broke f.old (listed (map (cut_line M.T.num k) (M.lines m.now))) f.new result }
+    ensures { Puts W.sink f.old (listed (map (cut_line M.T.num k) (M.lines m.now))) f.new result }
 {
     put_opening(f, m.num_line_strings())?;
     put_lines(f, m, k)?;
@@ -235,7 +235,7 @@ pub(crate) fn put_polygons_in<W: TextSink, M: MultiPolygonTrait>(
     k: usize,
 ) -> fmt::Result
     requires { first_fault (polygon_fault k) (M.polygons m.now) ≡ None }
-    ensures { Puts W.text W.failures W.took W.broke f.old (listed (map (cut_polygon M.T.num k) (M.polygons m.now))) f.new result }
+    ensures { Puts W.sink f.old (listed (map (cut_polygon M.T.num k) (M.polygons m.now))) f.new result }
 {
     put_opening(f, m.num_polygons())?;
     put_polygons(f, m, k)?;
@@ -245,7 +245,7 @@ pub(crate) fn put_polygons_in<W: TextSink, M: MultiPolygonTrait>(
 fn put_pair<W: TextSink, C: CoordTrait>(f: &mut W, a: &C, b: &C, k: usize) -> fmt::Result
     requires a { k ≤ length (C.numbers a.now) }
     requires b { k ≤ length (C.numbers b.now) }
-    ensures { Puts W.text W.failures W.took W.broke f.old (pair_text C.T.num k (C.numbers a.now) (C.numbers b.now)) f.new result }
+    ensures { Puts W.sink f.old (pair_text C.T.num k (C.numbers a.now) (C.numbers b.now)) f.new result }
 {
     put_coord(f, a, k)?;
     f.write_str(",")?;
@@ -256,7 +256,7 @@ fn put_quad<W: TextSink, C: CoordTrait>(f: &mut W, a: &C, b: &C, c: &C, k: usize
     requires a { k ≤ length (C.numbers a.now) }
     requires b { k ≤ length (C.numbers b.now) }
     requires c { k ≤ length (C.numbers c.now) }
-    ensures { Puts W.text W.failures W.took W.broke f.old (quad_text C.T.num k (C.numbers a.now) (C.numbers b.now) (C.numbers c.now)) f.new result }
+    ensures { Puts W.sink f.old (quad_text C.T.num k (C.numbers a.now) (C.numbers b.now) (C.numbers c.now)) f.new result }
 {
     put_pair(f, a, b, k)?;
     f.write_str(",")?;
@@ -264,7 +264,7 @@ fn put_quad<W: TextSink, C: CoordTrait>(f: &mut W, a: &C, b: &C, c: &C, k: usize
 }
 
 fn put_corner<W: TextSink, C: CoordTrait>(f: &mut W, a: &C, b: &C) -> fmt::Result
-    ensures { Puts W.text W.failures W.took W.broke f.old (corner_text C.T.num (C.numbers a.now) (C.numbers b.now)) f.new result }
+    ensures { Puts W.sink f.old (corner_text C.T.num (C.numbers a.now) (C.numbers b.now)) f.new result }
 {
     let x = a.x();
     let y = b.y();
@@ -274,7 +274,7 @@ fn put_corner<W: TextSink, C: CoordTrait>(f: &mut W, a: &C, b: &C) -> fmt::Resul
 }
 
 pub(crate) fn put_corners<W: TextSink, C: CoordTrait>(f: &mut W, min: &C, max: &C) -> fmt::Result
-    ensures { Puts W.text W.failures W.took W.broke f.old (corners_text C.T.num (C.numbers min.now) (C.numbers max.now)) f.new result }
+    ensures { Puts W.sink f.old (corners_text C.T.num (C.numbers min.now) (C.numbers max.now)) f.new result }
 {
     put_corner(f, max, min)?;
     f.write_str(",")?;
@@ -289,7 +289,7 @@ pub(crate) fn put_corners<W: TextSink, C: CoordTrait>(f: &mut W, min: &C, max: &
 
 pub(crate) fn put_line_items<W: TextSink, L: LineTrait>(f: &mut W, l: &L, k: usize) -> fmt::Result
     requires { line_fault k (L.from l.now ∷ L.to l.now ∷ []) ≡ None }
-    ensures { Puts W.text W.failures W.took W.broke f.old (codes "(" ++ (pair_text L.T.num k (L.from l.now) (L.to l.now) ++ codes ")")) f.new result }
+    ensures { Puts W.sink f.old (codes "(" ++ (pair_text L.T.num k (L.from l.now) (L.to l.now) ++ codes ")")) f.new result }
 {
     f.write_str("(")?;
     put_pair(f, l.start(), l.end(), k)?;
@@ -302,7 +302,7 @@ pub(crate) fn put_triangle_items<W: TextSink, Y: TriangleTrait>(
     k: usize,
 ) -> fmt::Result
     requires { line_fault k (Y.a y.now ∷ Y.b y.now ∷ Y.c y.now ∷ []) ≡ None }
-    ensures { Puts W.text W.failures W.took W.broke f.old (codes "((" ++ (quad_text Y.T.num k (Y.a y.now) (Y.b y.now) (Y.c y.now) ++ codes "))")) f.new result }
+    ensures { Puts W.sink f.old (codes "((" ++ (quad_text Y.T.num k (Y.a y.now) (Y.b y.now) (Y.c y.now) ++ codes "))")) f.new result }
 {
     f.write_str("((")?;
     put_quad(f, y.first(), y.second(), y.third(), k)?;

@@ -411,9 +411,9 @@ struct Paper {
 }
 
 impl TextSink for Paper {
-    ghost text = { λ p. p.bytes.items };
+    ghost use Rattle.wkt_num.specs.Sink.{telling};
 
-    ghost failures = { λ p. p.failures };
+    ghost sink = { telling (λ p. p.bytes.items) (λ p. p.failures) };
 
     fn write_str(&mut self, piece: &str) -> fmt::Result {
         if self.left == 0 {

@@ -25,7 +25,7 @@ use wkt_num::{TextSink, WktNum};
 /// and 4; then [`Error::TooFewNumbers`] where its coordinate has fewer numbers than its dimension;
 /// nothing is written then. [`Error::FmtError`] where the sink fails: a beginning is written then.
 pub fn write_point<W: TextSink, P: PointTrait>(f: &mut W, g: &P) -> Result<(), Error>
-    ensures { Writes W.text W.failures W.took W.broke P.T.is_value P.T.num f.old (Shape.point (P.dimension g.now) (P.coordinate g.now)) f.new result }
+    ensures { Writes W.sink P.T.is_value P.T.num f.old (Shape.point (P.dimension g.now) (P.coordinate g.now)) f.new result }
 {
     check_point(g)?;
     put_point(f, g)?;
@@ -36,7 +36,7 @@ pub fn write_point<W: TextSink, P: PointTrait>(f: &mut W, g: &P) -> Result<(), E
 ///
 /// Errors: as [`write_point`], with the first coordinate that is too short.
 pub fn write_linestring<W: TextSink, L: LineStringTrait>(f: &mut W, g: &L) -> Result<(), Error>
-    ensures { Writes W.text W.failures W.took W.broke L.T.is_value L.T.num f.old (Shape.line_string (L.dimension g.now) (L.coordinates g.now)) f.new result }
+    ensures { Writes W.sink L.T.is_value L.T.num f.old (Shape.line_string (L.dimension g.now) (L.coordinates g.now)) f.new result }
 {
     check_linestring(g)?;
     put_linestring(f, g)?;
@@ -50,7 +50,7 @@ pub fn write_linestring<W: TextSink, L: LineStringTrait>(f: &mut W, g: &L) -> Re
 ///
 /// Errors: as [`write_point`], with the first coordinate that is too short.
 pub fn write_polygon<W: TextSink, Y: PolygonTrait>(f: &mut W, g: &Y) -> Result<(), Error>
-    ensures { Writes W.text W.failures W.took W.broke Y.T.is_value Y.T.num f.old (Shape.polygon (Y.dimension g.now) (Y.polygon g.now)) f.new result }
+    ensures { Writes W.sink Y.T.is_value Y.T.num f.old (Shape.polygon (Y.dimension g.now) (Y.polygon g.now)) f.new result }
 {
     check_polygon(g)?;
     put_polygon(f, g)?;
@@ -63,7 +63,7 @@ pub fn write_polygon<W: TextSink, Y: PolygonTrait>(f: &mut W, g: &Y) -> Result<(
 ///
 /// Errors: as [`write_point`], with the first coordinate that is too short.
 pub fn write_multi_point<W: TextSink, M: MultiPointTrait>(f: &mut W, g: &M) -> Result<(), Error>
-    ensures { Writes W.text W.failures W.took W.broke M.T.is_value M.T.num f.old (Shape.multi_point (M.dimension g.now) (M.points g.now)) f.new result }
+    ensures { Writes W.sink M.T.is_value M.T.num f.old (Shape.multi_point (M.dimension g.now) (M.points g.now)) f.new result }
 {
     check_multi_point(g)?;
     put_multi_point(f, g)?;
@@ -79,7 +79,7 @@ pub fn write_multi_linestring<W: TextSink, M: MultiLineStringTrait>(
     f: &mut W,
     g: &M,
 ) -> Result<(), Error>
-    ensures { Writes W.text W.failures W.took W.broke M.T.is_value M.T.num f.old (Shape.multi_line_string (M.dimension g.now) (M.lines g.now)) f.new result }
+    ensures { Writes W.sink M.T.is_value M.T.num f.old (Shape.multi_line_string (M.dimension g.now) (M.lines g.now)) f.new result }
 {
     check_multi_linestring(g)?;
     put_multi_linestring(f, g)?;
@@ -92,7 +92,7 @@ pub fn write_multi_linestring<W: TextSink, M: MultiLineStringTrait>(
 ///
 /// Errors: as [`write_point`], with the first coordinate that is too short.
 pub fn write_multi_polygon<W: TextSink, M: MultiPolygonTrait>(f: &mut W, g: &M) -> Result<(), Error>
-    ensures { Writes W.text W.failures W.took W.broke M.T.is_value M.T.num f.old (Shape.multi_polygon (M.dimension g.now) (M.polygons g.now)) f.new result }
+    ensures { Writes W.sink M.T.is_value M.T.num f.old (Shape.multi_polygon (M.dimension g.now) (M.polygons g.now)) f.new result }
 {
     check_multi_polygon(g)?;
     put_multi_polygon(f, g)?;
@@ -112,7 +112,7 @@ pub fn write_multi_polygon<W: TextSink, M: MultiPolygonTrait>(f: &mut W, g: &M) 
 /// Errors: those of the writer of its kind; for a collection, the first in the order of its text,
 /// where its own header comes before its members.
 pub fn write_geometry<W: TextSink, G: GeometryTrait>(f: &mut W, g: &G) -> Result<(), Error>
-    ensures { Writes W.text W.failures W.took W.broke G.T.is_value G.T.num f.old (G.shape g.now) f.new result }
+    ensures { Writes W.sink G.T.is_value G.T.num f.old (G.shape g.now) f.new result }
 {
     check_geometry(g)?;
     put_geometry(f, g)?;
@@ -126,7 +126,7 @@ pub fn write_geometry_collection<W: TextSink, C: GeometryCollectionTrait>(
     f: &mut W,
     g: &C,
 ) -> Result<(), Error>
-    ensures { Writes W.text W.failures W.took W.broke C.T.is_value C.T.num f.old (Shape.collection (C.dimension g.now) (C.geometries g.now)) f.new result }
+    ensures { Writes W.sink C.T.is_value C.T.num f.old (Shape.collection (C.dimension g.now) (C.geometries g.now)) f.new result }
 {
     check_collection(g)?;
     put_collection(f, g)?;
@@ -140,7 +140,7 @@ pub fn write_geometry_collection<W: TextSink, C: GeometryCollectionTrait>(
 /// Errors: [`Error::RectUnsupportedDimension`] where its dimension is neither `Xy` nor
 /// `Unknown(2)`; nothing is written then. [`Error::FmtError`] as in [`write_point`].
 pub fn write_rect<W: TextSink, R: RectTrait>(f: &mut W, g: &R) -> Result<(), Error>
-    ensures { Writes W.text W.failures W.took W.broke R.T.is_value R.T.num f.old (Shape.rect (R.dimension g.now) (R.least g.now) (R.most g.now)) f.new result }
+    ensures { Writes W.sink R.T.is_value R.T.num f.old (Shape.rect (R.dimension g.now) (R.least g.now) (R.most g.now)) f.new result }
 {
     check_rect(g)?;
     put_rect(f, g)?;
@@ -151,7 +151,7 @@ pub fn write_rect<W: TextSink, R: RectTrait>(f: &mut W, g: &R) -> Result<(), Err
 ///
 /// Errors: as [`write_point`], with the first corner that is too short.
 pub fn write_triangle<W: TextSink, Y: TriangleTrait>(f: &mut W, g: &Y) -> Result<(), Error>
-    ensures { Writes W.text W.failures W.took W.broke Y.T.is_value Y.T.num f.old (Shape.triangle (Y.dimension g.now) (Y.a g.now) (Y.b g.now) (Y.c g.now)) f.new result }
+    ensures { Writes W.sink Y.T.is_value Y.T.num f.old (Shape.triangle (Y.dimension g.now) (Y.a g.now) (Y.b g.now) (Y.c g.now)) f.new result }
 {
     check_triangle(g)?;
     put_triangle(f, g)?;
@@ -162,7 +162,7 @@ pub fn write_triangle<W: TextSink, Y: TriangleTrait>(f: &mut W, g: &Y) -> Result
 ///
 /// Errors: as [`write_point`], with the first end that is too short.
 pub fn write_line<W: TextSink, L: LineTrait>(f: &mut W, g: &L) -> Result<(), Error>
-    ensures { Writes W.text W.failures W.took W.broke L.T.is_value L.T.num f.old (Shape.line (L.dimension g.now) (L.from g.now) (L.to g.now)) f.new result }
+    ensures { Writes W.sink L.T.is_value L.T.num f.old (Shape.line (L.dimension g.now) (L.from g.now) (L.to g.now)) f.new result }
 {
     check_line_of_two(g)?;
     put_line_of_two(f, g)?;

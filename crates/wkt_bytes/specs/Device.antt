@@ -1,7 +1,40 @@
 -- Devices: how they count failures, and what went out.
-use Rattle.std.specs.Prelude.{◌≡◌, ℕ, zero, suc, List, [], ◌∷◌, ◌++◌, Option, Result, Ok, Err}
+use Rattle.std.specs.Prelude.{◌≡◌, ℕ, zero, suc, List, [], ◌∷◌, ◌++◌, Option, Result, Ok, Err, refl}
+use Rattle.std.specs.Borrow.{MutBor}
+use Rattle.std.proofs.Common.{◌∙◌}
 use Rattle.std.specs.Io.KnownBytes.{Appends}
 use Rattle.wkt_num.specs.Sink.{next_count}
+
+-- What is known of a device.
+pub record Device (D : Type 0) : Type 1 where
+  -- What it was given and holds, where it can tell. A call that fails leaves it as it is.
+  pub bytes : D → Option (List ℕ)
+  -- How many calls have failed, modulo 2 ^ 64: those that answered a fault, or took nothing of something.
+  pub failures : D → ℕ
+  -- That a reference stays the same reference.
+  pub keeps : D → D → Type 0
+  pub keeps_none : (d : D) → keeps d d
+  pub keeps_more : (d e f : D) → keeps d e → keeps e f → keeps d f
+
+-- A device that is no reference.
+abbrev pub owned : {D : Type 0} → (D → Option (List ℕ)) → (D → ℕ) → Device D
+owned bytes failures = record {
+  bytes = bytes;
+  failures = failures;
+  keeps = λ _ _. Unit {0};
+  keeps_none = λ _. tt;
+  keeps_more = λ _ _ _ _ _. tt;
+}
+
+-- A device behind a reference.
+abbrev pub lent_device : {D : Type 0} → Device D → Device (MutBor D)
+lent_device device = record {
+  bytes = λ d. device.bytes d.now;
+  failures = λ d. device.failures d.now;
+  keeps = λ d e. e.ghost_name ≡ d.ghost_name;
+  keeps_none = λ d. refl;
+  keeps_more = λ d e f h k. k ∙ h;
+}
 
 -- A fault is a failure, and so is taking nothing of something.
 abbrev pub count_after_put : {E : Type 0} → ℕ → Result ℕ E → List ℕ → ℕ

@@ -1,12 +1,10 @@
 -- What a wrapper holds, and what its calls do.
-use Rattle.std.specs.Prelude.{◌≡◌, ℕ, List, [], ◌∷◌, ◌++◌, Option, Some, None, Bool, true, false, take, refl}
+use Rattle.std.specs.Prelude.{◌≡◌, ℕ, List, [], ◌++◌, Option, Some, None, Bool, true, false, take, refl}
 use Rattle.std.specs.Io.KnownBytes.{Appends}
-use Rattle.std.specs.List.{FoldsTo, concat}
-use Rattle.std.specs.Fmt.{WritesInCalls}
 use Rattle.std.proofs.Common.{sym, ◌∙◌, ap, subst, append_assoc}
 use Rattle.std.proofs.lemmas.List.{append-nil}
-use Rattle.wkt_num.specs.Sink.{next_count, BreaksInCalls}
-use Rattle.wkt_bytes.specs.Device.{BeginningOut}
+use Rattle.wkt_num.specs.Sink.{next_count, Sink}
+use Rattle.wkt_bytes.specs.Device.{Device, BeginningOut}
 use Rattle.wkt_bytes.specs.declared.wrapper.State.{State}
 use Rattle.wkt_bytes.specs.declared.wrapper.State.TheVariants.{Well, Faulty, Told}
 use Rattle.wkt_bytes.specs.declared.wrapper.WriterWrapper.{WriterWrapper}
@@ -31,10 +29,6 @@ writer_of w = w.writer
 abbrev pub held_bytes : {W : Type 0} → WriterWrapper W → List ℕ
 held_bytes w = take w.len w.held
 
--- All that calls that succeeded were given.
-abbrev pub handed_text : {W : Type 0} → WriterWrapper W → List ℕ
-handed_text w = w.tape.bytes
-
 -- How many calls have failed.
 abbrev pub failed_calls : {W : Type 0} → WriterWrapper W → ℕ
 failed_calls w = w.failures
@@ -47,29 +41,34 @@ is_well w = state_well w.state
 abbrev pub is_untold : {W : Type 0} → WriterWrapper W → Bool
 is_untold w = state_untold w.state
 
-module _ {W : Type 0} (bytes : W → Option (List ℕ)) (failures : W → ℕ) (keeps : W → W → Type 0) where
+pub not_well : (s : State) → (s ≡ Well → ⊥) → state_well s ≡ false
+not_well Well h = absurd (h refl)
+not_well (Faulty e) h = refl
+not_well Told h = refl
+
+module _ {W : Type 0} (device : Device W) where
   -- What s held and was handed is what went out followed by what t holds.
   pub record Gives (s : WriterWrapper W) (handed : List ℕ) (t : WriterWrapper W) : Type 0 where
     pub out : List ℕ
-    pub went : Appends (bytes s.writer) (bytes t.writer) out
+    pub went : Appends (device.bytes s.writer) (device.bytes t.writer) out
     pub whole : held_bytes s ++ handed ≡ out ++ held_bytes t
     pub same : is_well t ≡ is_well s
     pub told : is_untold t ≡ is_untold s
-    pub count : failures t.writer ≡ failures s.writer
-    pub tied : keeps s.writer t.writer
+    pub count : device.failures t.writer ≡ device.failures s.writer
+    pub tied : device.keeps s.writer t.writer
     pub still : is_well s ≡ false → t.writer ≡ s.writer
 
   -- The writer has failed, and a beginning of what s held and was handed went out.
   pub record Leaves (s : WriterWrapper W) (handed : List ℕ) (t : WriterWrapper W) : Type 0 where
     pub out : List ℕ
     pub lost : List ℕ
-    pub went : Appends (bytes s.writer) (bytes t.writer) out
+    pub went : Appends (device.bytes s.writer) (device.bytes t.writer) out
     pub whole : held_bytes s ++ handed ≡ out ++ lost
     pub failed : is_well t ≡ false
-    pub count : is_well s ≡ true → failures t.writer ≡ next_count (failures s.writer)
+    pub count : is_well s ≡ true → device.failures t.writer ≡ next_count (device.failures s.writer)
     pub untold : is_well s ≡ true → is_untold t ≡ true
     pub kept : is_well s ≡ false → is_untold t ≡ is_untold s
-    pub tied : keeps s.writer t.writer
+    pub tied : device.keeps s.writer t.writer
     pub still : is_well s ≡ false → t.writer ≡ s.writer
 
 pub appends_none : (a : Option (List ℕ)) → Appends a a []
@@ -88,46 +87,46 @@ pub wholes : (held handed more out held' out' held'' : List ℕ) →
     held ++ (handed ++ more) ≡ (out ++ out') ++ held''
 wholes held handed more out held' out' held'' h k = rw (← append_assoc, h, append_assoc, k, ← append_assoc) refl
 
-module _ {W : Type 0} (bytes : W → Option (List ℕ)) (failures : W → ℕ) (keeps : W → W → Type 0) where
-  pub gives_none : (keeps_none : (w : W) → keeps w w) (s : WriterWrapper W) → Gives bytes failures keeps s [] s
-  gives_none keeps_none s = record {
+module _ {W : Type 0} (device : Device W) where
+  pub gives_none : (s : WriterWrapper W) → Gives device s [] s
+  gives_none s = record {
     out = [];
-    went = appends_none (bytes s.writer);
+    went = appends_none (device.bytes s.writer);
     whole = append-nil (held_bytes s);
     same = refl;
     told = refl;
     count = refl;
-    tied = keeps_none s.writer;
+    tied = device.keeps_none s.writer;
     still = λ _. refl;
   }
 
-  pub gives_more : (keeps_more : (v w x : W) → keeps v w → keeps w x → keeps v x) (s t u : WriterWrapper W) (bs cs : List ℕ) → Gives bytes failures keeps s bs t → Gives bytes failures keeps t cs u → Gives bytes failures keeps s (bs ++ cs) u
-  gives_more keeps_more s t u bs cs h k = record {
+  pub gives_more : (s t u : WriterWrapper W) (bs cs : List ℕ) → Gives device s bs t → Gives device t cs u → Gives device s (bs ++ cs) u
+  gives_more s t u bs cs h k = record {
     out = h.out ++ k.out;
-    went = appends_more (bytes s.writer) (bytes t.writer) (bytes u.writer) h.out k.out h.went k.went;
+    went = appends_more (device.bytes s.writer) (device.bytes t.writer) (device.bytes u.writer) h.out k.out h.went k.went;
     whole = wholes (held_bytes s) bs cs h.out (held_bytes t) k.out (held_bytes u) h.whole k.whole;
     same = k.same ∙ h.same;
     told = k.told ∙ h.told;
     count = k.count ∙ h.count;
-    tied = keeps_more s.writer t.writer u.writer h.tied k.tied;
+    tied = device.keeps_more s.writer t.writer u.writer h.tied k.tied;
     still = λ w. k.still (h.same ∙ w) ∙ h.still w;
   }
 
-  pub leaves_after : (keeps_more : (v w x : W) → keeps v w → keeps w x → keeps v x) (s t u : WriterWrapper W) (bs cs : List ℕ) → Gives bytes failures keeps s bs t → Leaves bytes failures keeps t cs u → Leaves bytes failures keeps s (bs ++ cs) u
-  leaves_after keeps_more s t u bs cs h k = record {
+  pub leaves_after : (s t u : WriterWrapper W) (bs cs : List ℕ) → Gives device s bs t → Leaves device t cs u → Leaves device s (bs ++ cs) u
+  leaves_after s t u bs cs h k = record {
     out = h.out ++ k.out;
     lost = k.lost;
-    went = appends_more (bytes s.writer) (bytes t.writer) (bytes u.writer) h.out k.out h.went k.went;
+    went = appends_more (device.bytes s.writer) (device.bytes t.writer) (device.bytes u.writer) h.out k.out h.went k.went;
     whole = wholes (held_bytes s) bs cs h.out (held_bytes t) k.out k.lost h.whole k.whole;
     failed = k.failed;
     count = λ w. k.count (h.same ∙ w) ∙ ap next_count h.count;
     untold = λ w. k.untold (h.same ∙ w);
     kept = λ w. k.kept (h.same ∙ w) ∙ h.told;
-    tied = keeps_more s.writer t.writer u.writer h.tied k.tied;
+    tied = device.keeps_more s.writer t.writer u.writer h.tied k.tied;
     still = λ w. k.still (h.same ∙ w) ∙ h.still w;
   }
 
-  pub leaves_longer : (s t : WriterWrapper W) (bs cs : List ℕ) → Leaves bytes failures keeps s bs t → Leaves bytes failures keeps s (bs ++ cs) t
+  pub leaves_longer : (s t : WriterWrapper W) (bs cs : List ℕ) → Leaves device s bs t → Leaves device s (bs ++ cs) t
   leaves_longer s t bs cs h = record {
     out = h.out;
     lost = h.lost ++ cs;
@@ -141,49 +140,49 @@ module _ {W : Type 0} (bytes : W → Option (List ℕ)) (failures : W → ℕ) (
     still = h.still;
   }
 
-  -- bytes were taken into the array alone
-  pub kept_gives : (keeps_none : (w : W) → keeps w w) (s t : WriterWrapper W) (bs : List ℕ) → t.writer ≡ s.writer → t.state ≡ s.state → held_bytes t ≡ held_bytes s ++ bs → Gives bytes failures keeps s bs t
-  kept_gives none s t bs e f h = record {
+  -- a wrapper whose writer has failed takes nothing
+  pub leaves_as_is : (s : WriterWrapper W) (bs : List ℕ) → is_well s ≡ false → Leaves device s bs s
+  leaves_as_is s bs h = record {
     out = [];
-    went = subst (λ (w : W). Appends (bytes s.writer) (bytes w) []) (sym e) (appends_none (bytes s.writer));
+    lost = held_bytes s ++ bs;
+    went = appends_none (device.bytes s.writer);
+    whole = refl;
+    failed = h;
+    count = λ w. cc;
+    untold = λ w. cc;
+    kept = λ _. refl;
+    tied = device.keeps_none s.writer;
+    still = λ _. refl;
+  }
+
+  -- bytes were taken into the array alone
+  pub kept_gives : (s t : WriterWrapper W) (bs : List ℕ) → t.writer ≡ s.writer → t.state ≡ s.state → held_bytes t ≡ held_bytes s ++ bs → Gives device s bs t
+  kept_gives s t bs e f h = record {
+    out = [];
+    went = subst (λ (w : W). Appends (device.bytes s.writer) (device.bytes w) []) (sym e) (appends_none (device.bytes s.writer));
     whole = sym h;
     same = ap (λ x. state_well x) f;
     told = ap (λ x. state_untold x) f;
-    count = ap (λ w. failures w) e;
-    tied = subst (λ (w : W). keeps s.writer w) (sym e) (none s.writer);
+    count = ap (λ w. device.failures w) e;
+    tied = subst (λ (w : W). device.keeps s.writer w) (sym e) (device.keeps_none s.writer);
     still = λ _. e;
   }
 
-  folds_give : (keeps_none : (w : W) → keeps w w) (keeps_more : (v w x : W) → keeps v w → keeps w x → keeps v x) (ps : List (List ℕ)) (s t : WriterWrapper W) →
-      FoldsTo (Gives bytes failures keeps) s ps t → Gives bytes failures keeps s (concat ps) t
-  folds_give none more [] s t h = subst (λ (w : WriterWrapper W). Gives bytes failures keeps s [] w) h (gives_none none s)
-  folds_give none more (p ∷ ps) s t h = gives_more more s h.0 t p (concat ps) h.1 (folds_give none more ps h.0 t h.2)
-
-  -- many calls are as one
-  pub calls_give : (keeps_none : (w : W) → keeps w w) (keeps_more : (v w x : W) → keeps v w → keeps w x → keeps v x) (s t : WriterWrapper W) (bs : List ℕ) →
-      WritesInCalls (Gives bytes failures keeps) s bs t → Gives bytes failures keeps s bs t
-  calls_give none more s t bs h = subst (λ xs. Gives bytes failures keeps s xs t) h.whole (folds_give none more h.parts s t h.calls)
-
-  pub fault_leaves : (keeps_none : (w : W) → keeps w w) (keeps_more : (v w x : W) → keeps v w → keeps w x → keeps v x) (s t : WriterWrapper W) (bs : List ℕ) →
-      BreaksInCalls (Gives bytes failures keeps) (Leaves bytes failures keeps) s bs t → Leaves bytes failures keeps s bs t
-  fault_leaves none more s t bs h = subst (λ xs. Leaves bytes failures keeps s xs t) h.whole
-      (leaves_after more s h.middle t h.given (h.last ++ h.left) (calls_give none more s h.middle h.given h.calls) (leaves_longer h.middle t h.last h.left h.broken))
-
   -- from an empty array to an empty array
-  pub all_out : (s u : WriterWrapper W) (bs : List ℕ) → Gives bytes failures keeps s bs u → held_bytes s ≡ [] → held_bytes u ≡ [] → Appends (bytes s.writer) (bytes u.writer) bs
+  pub all_out : (s u : WriterWrapper W) (bs : List ℕ) → Gives device s bs u → held_bytes s ≡ [] → held_bytes u ≡ [] → Appends (device.bytes s.writer) (device.bytes u.writer) bs
   all_out s u bs j e f =
       let same : j.out ≡ bs = sym (append-nil j.out) ∙ (ap (λ xs. j.out ++ xs) (sym f) ∙ (sym j.whole ∙ ap (λ xs. xs ++ bs) e)) in
-      subst (λ xs. Appends (bytes s.writer) (bytes u.writer) xs) same j.went
+      subst (λ xs. Appends (device.bytes s.writer) (device.bytes u.writer) xs) same j.went
 
-  pub all_sent : (keeps_more : (v w x : W) → keeps v w → keeps w x → keeps v x) (s t u : WriterWrapper W) (bs : List ℕ) → Gives bytes failures keeps s bs t → Gives bytes failures keeps t [] u →
-      held_bytes s ≡ [] → held_bytes u ≡ [] → Appends (bytes s.writer) (bytes u.writer) bs
-  all_sent keeps_more s t u bs h k e f =
-      let j = gives_more keeps_more s t u bs [] h k in
+  pub all_sent : (s t u : WriterWrapper W) (bs : List ℕ) → Gives device s bs t → Gives device t [] u →
+      held_bytes s ≡ [] → held_bytes u ≡ [] → Appends (device.bytes s.writer) (device.bytes u.writer) bs
+  all_sent s t u bs h k e f =
+      let j = gives_more s t u bs [] h k in
       let same : j.out ≡ bs = sym (append-nil j.out) ∙ (ap (λ xs. j.out ++ xs) (sym f) ∙ (sym j.whole ∙ rw (e, append-nil) refl)) in
-      subst (λ xs. Appends (bytes s.writer) (bytes u.writer) xs) same j.went
+      subst (λ xs. Appends (device.bytes s.writer) (device.bytes u.writer) xs) same j.went
 
-  pub some_sent : (s t : WriterWrapper W) (bs : List ℕ) → Leaves bytes failures keeps s bs t → held_bytes s ≡ [] →
-      BeginningOut (bytes s.writer) (bytes t.writer) bs
+  pub some_sent : (s t : WriterWrapper W) (bs : List ℕ) → Leaves device s bs t → held_bytes s ≡ [] →
+      BeginningOut (device.bytes s.writer) (device.bytes t.writer) bs
   some_sent s t bs h e = record {
     out = h.out;
     lost = h.lost;
@@ -191,6 +190,18 @@ module _ {W : Type 0} (bytes : W → Option (List ℕ)) (failures : W → ℕ) (
     whole = sym (ap (λ xs. xs ++ bs) e) ∙ h.whole;
   }
 
-  pub some_sent_late : (keeps_more : (v w x : W) → keeps v w → keeps w x → keeps v x) (s t u : WriterWrapper W) (bs : List ℕ) → Gives bytes failures keeps s bs t → Leaves bytes failures keeps t [] u →
-      held_bytes s ≡ [] → BeginningOut (bytes s.writer) (bytes u.writer) bs
-  some_sent_late keeps_more s t u bs h k e = some_sent s u bs (rw append-nil at (leaves_after keeps_more s t u bs [] h k)) e
+  pub some_sent_late : (s t u : WriterWrapper W) (bs : List ℕ) → Gives device s bs t → Leaves device t [] u →
+      held_bytes s ≡ [] → BeginningOut (device.bytes s.writer) (device.bytes u.writer) bs
+  some_sent_late s t u bs h k e = some_sent s u bs (rw append-nil at (leaves_after s t u bs [] h k)) e
+
+-- What the calls hand the writer, through the array.
+abbrev pub wrapped_sink : {W : Type 0} → Device W → Sink (WriterWrapper W)
+wrapped_sink device = record {
+  gives = Gives device;
+  leaves = Leaves device;
+  failures = failed_calls;
+  none = gives_none device;
+  more = gives_more device;
+  after = leaves_after device;
+  longer = leaves_longer device;
+}

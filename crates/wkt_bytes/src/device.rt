@@ -1,9 +1,8 @@
 //! Devices that take and give bytes.
-ghost use Rattle.std.specs.Prelude.{◌≡◌, ℕ, ◌≤◌, List, [], ◌∷◌, ◌++◌, IfOk, OnOk, OnErr, Option, length, refl};
-ghost use Rattle.std.proofs.Common.{◌∙◌};
+ghost use Rattle.std.specs.Prelude.{◌≡◌, ℕ, ◌≤◌, List, [], ◌∷◌, ◌++◌, IfOk, OnOk, OnErr, Option, length};
 ghost use Rattle.std.specs.Io.KnownBytes.{WriteAppends, ReadConsumes};
 ghost use Rattle.wkt_num.specs.Sink.{next_count};
-ghost use Rattle.wkt_bytes.specs.Device.{count_after_put, count_after_take};
+ghost use Rattle.wkt_bytes.specs.Device.{Device, lent_device, owned, count_after_put, count_after_take};
 
 use std::io;
 use std::io::{Read, Write};
@@ -14,15 +13,9 @@ use std::io::{Read, Write};
 /// impl ByteSink for MyDevice { .. put: hand over some bytes, and answer how many were taken .. }
 /// ```
 pub trait ByteSink {
-    /// What it was given and holds, where it can tell. A call that fails leaves it as it is.
-    ghost bytes: { Self → Option (List ℕ) };
-
-    /// How many calls have failed, modulo 2 ^ 64: those that answered a fault, or took nothing of
-    /// something.
-    ghost failures: { Self → ℕ };
-
-    /// That a reference stays the same reference.
-    ghost keeps: { Self → Self → Type 0 };
+    /// What it holds, where it can tell, how many calls have failed, and that a reference stays the
+    /// same reference.
+    ghost device: { Device Self };
 
     /// Takes some of the bytes from the front, and answers how many.
     ///
@@ -30,13 +23,9 @@ pub trait ByteSink {
     /// The device's fault.
     fn put(&mut self, buf: &[u8]) -> io::Result<usize>
         ensures bound { IfOk result (λ n. n ≤ length buf.now) }
-        ensures took { WriteAppends (bytes self.old) (bytes self.new) result buf.now }
-        ensures count { failures self.new ≡ count_after_put (failures self.old) result buf.now }
-        ensures keeps { keeps self.old self.new };
-
-    ghost keeps_none: { (s : Self) → keeps s s };
-
-    ghost keeps_more: { (s t u : Self) → keeps s t → keeps t u → keeps s u };
+        ensures took { WriteAppends (device.bytes self.old) (device.bytes self.new) result buf.now }
+        ensures count { device.failures self.new ≡ count_after_put (device.failures self.old) result buf.now }
+        ensures keeps { device.keeps self.old self.new };
 }
 
 /// Where bytes come from: one call of `take` is one call of a reader.
@@ -58,19 +47,11 @@ pub trait ByteSource {
 }
 
 impl<W: ByteSink> ByteSink for &mut W {
-    ghost bytes = { λ w. W.bytes w.now };
-
-    ghost failures = { λ w. W.failures w.now };
-
-    ghost keeps = { λ s t. t.ghost_name ≡ s.ghost_name };
+    ghost device = { lent_device W.device };
 
     fn put(&mut self, buf: &[u8]) -> io::Result<usize> {
         (**self).put(buf)
     }
-
-    ghost keeps_none = { λ s. refl };
-
-    ghost keeps_more = { λ s t u h k. k ∙ h };
 }
 
 /// A device of `std::io` with a count of its failures: a [`ByteSink`] over any `io::Write`, a
@@ -102,11 +83,7 @@ impl<D> Counted<D> {
 }
 
 impl<W: Write> ByteSink for Counted<W> {
-    ghost bytes = { λ c. W.contents c.device };
-
-    ghost failures = { λ c. c.count };
-
-    ghost keeps = { λ _ _. Unit {0} };
+    ghost device = { owned (λ c. W.contents c.device) (λ c. c.count) };
 
     fn put(&mut self, buf: &[u8]) -> io::Result<usize> {
         match self.device.write(buf) {
@@ -123,10 +100,6 @@ impl<W: Write> ByteSink for Counted<W> {
             }
         }
     }
-
-    ghost keeps_none = { λ s. tt };
-
-    ghost keeps_more = { λ s t u h k. tt };
 }
 
 impl<R: Read> ByteSource for Counted<R> {

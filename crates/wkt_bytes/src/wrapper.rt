@@ -7,7 +7,6 @@ use crate::device::ByteSink;
 use std::io::ErrorKind;
 use std::{fmt, io};
 use wkt_num::TextSink;
-use wkt_num::tape::Tape;
 
 /// Whether a fault came.
 #[derive(Drop)]
@@ -30,17 +29,16 @@ pub struct WriterWrapper<W> {
     len: usize,
     state: State,
     failures: u64,
-    tape: Tape,
     ghost fits: { len ≤ 256 },
 }
 
 /// Puts all the bytes out, or stops at the first fault.
 fn put_all<W: ByteSink>(writer: &mut W, bytes: &[u8]) -> Result<(), io::Error>
-    ensures ok { OnOk result (Appends (W.bytes writer.old) (W.bytes writer.new) bytes.now) }
-    ensures kept { OnOk result (W.failures writer.new ≡ W.failures writer.old) }
-    ensures err { OnErr result ((k : ℕ) × Appends (W.bytes writer.old) (W.bytes writer.new) (take k bytes.now)) }
-    ensures failed { OnErr result (W.failures writer.new ≡ next_count (W.failures writer.old)) }
-    ensures keeps { W.keeps writer.old writer.new }
+    ensures ok { OnOk result (Appends (W.device.bytes writer.old) (W.device.bytes writer.new) bytes.now) }
+    ensures kept { OnOk result (W.device.failures writer.new ≡ W.device.failures writer.old) }
+    ensures err { OnErr result ((k : ℕ) × Appends (W.device.bytes writer.old) (W.device.bytes writer.new) (take k bytes.now)) }
+    ensures failed { OnErr result (W.device.failures writer.new ≡ next_count (W.device.failures writer.old)) }
+    ensures keeps { W.device.keeps writer.old writer.new }
 {
     let mut at = 0;
     while at < bytes.len() {
@@ -54,14 +52,13 @@ fn put_all<W: ByteSink>(writer: &mut W, bytes: &[u8]) -> Result<(), io::Error>
 }
 
 impl<W: ByteSink> WriterWrapper<W> {
-    ghost use Rattle.wkt_bytes.specs.Wrapper.{held_bytes, handed_text, failed_calls, is_well, is_untold, writer_of, Gives, Leaves};
+    ghost use Rattle.wkt_bytes.specs.Wrapper.{held_bytes, failed_calls, is_well, is_untold, writer_of, Gives, Leaves};
 
     /// A wrapper of this writer, which holds nothing yet.
     pub fn new(writer: W) -> WriterWrapper<W>
         ensures writer { writer_of result ≡ writer }
         ensures held { held_bytes result ≡ [] }
         ensures well { is_well result ≡ true }
-        ensures text { handed_text result ≡ [] }
         ensures count { failed_calls result ≡ 0 }
     {
         WriterWrapper {
@@ -70,7 +67,6 @@ impl<W: ByteSink> WriterWrapper<W> {
             len: 0,
             state: State::Well,
             failures: 0,
-            tape: Tape::new(),
         }
     }
 
@@ -84,7 +80,6 @@ impl<W: ByteSink> WriterWrapper<W> {
             len: _,
             state: _,
             failures: _,
-            tape: _,
         } = self;
         writer
     }
@@ -97,7 +92,6 @@ impl<W: ByteSink> WriterWrapper<W> {
         ensures len { self.new.len ≡ self.old.len + length bytes.now }
         ensures state { self.new.state ≡ self.old.state }
         ensures failures { self.new.failures ≡ self.old.failures }
-        ensures tape { self.new.tape ≡ self.old.tape }
     {
         let end = self.len + bytes.len();
         self.held[self.len..end].copy_from_slice(bytes);
@@ -112,7 +106,6 @@ impl<W: ByteSink> WriterWrapper<W> {
         ensures writer { self.new.writer ≡ self.old.writer }
         ensures state { self.new.state ≡ self.old.state }
         ensures failures { self.new.failures ≡ self.old.failures }
-        ensures tape { self.new.tape ≡ self.old.tape }
     {
         if let [byte] = bytes {
             self.held[self.len] = *byte;
@@ -123,13 +116,12 @@ impl<W: ByteSink> WriterWrapper<W> {
     // Puts out what the array holds.
     fn empty(&mut self) -> fmt::Result
         requires { is_well self.old ≡ true }
-        ensures ok { OnOk result (Gives W.bytes W.failures W.keeps self.old [] self.new) }
+        ensures ok { OnOk result (Gives W.device self.old [] self.new) }
         ensures well { OnOk result (is_well self.new ≡ true) }
         ensures held { OnOk result (self.new.len ≡ 0) }
-        ensures err { OnErr result (Leaves W.bytes W.failures W.keeps self.old [] self.new) }
+        ensures err { OnErr result (Leaves W.device self.old [] self.new) }
         ensures kept { OnErr result (held_bytes self.new ≡ held_bytes self.old) }
         ensures failures { self.new.failures ≡ self.old.failures }
-        ensures tape { self.new.tape ≡ self.old.tape }
     {
         match put_all(&mut self.writer, &self.held[..self.len]) {
             Ok(()) => {
@@ -145,11 +137,10 @@ impl<W: ByteSink> WriterWrapper<W> {
 
     // Takes the bytes, and puts out the array each time that it is full.
     fn accept(&mut self, bytes: &[u8]) -> fmt::Result
-        ensures ok { OnOk result (Gives W.bytes W.failures W.keeps self.old bytes.now self.new) }
+        ensures ok { OnOk result (Gives W.device self.old bytes.now self.new) }
         ensures well { OnOk result (is_well self.old ≡ true) }
-        ensures err { OnErr result (Leaves W.bytes W.failures W.keeps self.old bytes.now self.new) }
+        ensures err { OnErr result (Leaves W.device self.old bytes.now self.new) }
         ensures failures { self.new.failures ≡ self.old.failures }
-        ensures tape { self.new.tape ≡ self.old.tape }
     {
         let State::Well = self.state else {
             return Err(fmt::Error);
@@ -181,12 +172,11 @@ impl<W: ByteSink> WriterWrapper<W> {
     /// # Errors
     /// `fmt::Error` where the writer failed, in this call or before it.
     pub fn finish(&mut self) -> fmt::Result
-        ensures ok { OnOk result (Gives W.bytes W.failures W.keeps self.old [] self.new) }
+        ensures ok { OnOk result (Gives W.device self.old [] self.new) }
         ensures well { OnOk result (is_well self.old ≡ true) }
         ensures empty { OnOk result (held_bytes self.new ≡ []) }
-        ensures err { OnErr result (Leaves W.bytes W.failures W.keeps self.old [] self.new) }
+        ensures err { OnErr result (Leaves W.device self.old [] self.new) }
         ensures kept { OnErr result (held_bytes self.new ≡ held_bytes self.old) }
-        ensures text { handed_text self.new ≡ handed_text self.old }
         ensures count { failed_calls self.new ≡ failed_calls self.old }
     {
         let State::Well = self.state else {
@@ -202,7 +192,6 @@ impl<W: ByteSink> WriterWrapper<W> {
         ensures well { is_well self.new ≡ is_well self.old }
         ensures writer { writer_of self.new ≡ writer_of self.old }
         ensures held { held_bytes self.new ≡ held_bytes self.old }
-        ensures text { handed_text self.new ≡ handed_text self.old }
         ensures count { failed_calls self.new ≡ failed_calls self.old }
     {
         match self.state {
@@ -216,25 +205,16 @@ impl<W: ByteSink> WriterWrapper<W> {
 }
 
 impl<W: ByteSink> TextSink for WriterWrapper<W> {
-    ghost use Rattle.wkt_bytes.specs.Wrapper.{Gives, Leaves, is_well, handed_text, failed_calls};
+    ghost use Rattle.wkt_bytes.specs.Wrapper.{wrapped_sink, is_well};
 
-    ghost text = { handed_text };
-
-    ghost failures = { failed_calls };
-
-    ghost took = { Gives W.bytes W.failures W.keeps };
-
-    ghost broke = { Leaves W.bytes W.failures W.keeps };
+    ghost sink = { wrapped_sink W.device };
 
     fn write_str(&mut self, piece: &str) -> fmt::Result
-        ensures puts { Puts handed_text failed_calls (Gives W.bytes W.failures W.keeps) (Leaves W.bytes W.failures W.keeps) self.old piece.now self.new result }
+        ensures puts { Puts (wrapped_sink W.device) self.old piece.now self.new result }
         ensures well { OnOk result (is_well self.old ≡ true) }
     {
         match self.accept(piece.as_bytes()) {
-            Ok(()) => {
-                self.tape = self.tape.and(&piece);
-                Ok(())
-            }
+            Ok(()) => Ok(()),
             Err(e) => {
                 self.failures = self.failures.wrapping_add(1);
                 Err(e)

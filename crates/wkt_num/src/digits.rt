@@ -8,7 +8,7 @@ use std::fmt;
 
 /// Writes a minus if `negative`, and then `n`.
 pub fn write_whole<W: TextSink>(negative: bool, n: u128, f: &mut W) -> fmt::Result
-    ensures { Puts W.text W.failures W.took W.broke f.old (sign_text negative ++ decimal n) f.new result }
+    ensures { Puts W.sink f.old (sign_text negative ++ decimal n) f.new result }
 {
     let mut out = [b'.'; 80];
     let start = put_whole(negative, n, &mut out);

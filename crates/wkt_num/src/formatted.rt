@@ -1,8 +1,7 @@
 //! A formatter as a sink.
-ghost use Rattle.std.specs.Prelude.{◌≡◌, []};
+ghost use Rattle.std.specs.Prelude.{◌≡◌};
 
 use crate::sink::TextSink;
-use crate::tape::Tape;
 use std::fmt;
 use std::fmt::Formatter;
 
@@ -12,22 +11,19 @@ use std::fmt::Formatter;
 pub struct FormatterText<'a, W: fmt::Write> {
     formatter: &'a mut Formatter<W>,
     failures: u64,
-    tape: Tape,
 }
 
 impl<'a, W: fmt::Write> FormatterText<'a, W> {
-    ghost use Rattle.wkt_num.specs.Counted.{formatter_of, formatted_text, formatted_failures};
+    ghost use Rattle.wkt_num.specs.Counted.{formatter_of, formatted_failures};
 
     /// A sink that has been given nothing yet.
     pub fn new(formatter: &'a mut Formatter<W>) -> FormatterText<'a, W>
         ensures formatter { formatter_of result ≡ formatter.entry }
         ensures failures { formatted_failures result ≡ 0 }
-        ensures text { formatted_text result ≡ [] }
     {
         FormatterText {
             formatter,
             failures: 0,
-            tape: Tape::new(),
         }
     }
 
@@ -40,20 +36,13 @@ impl<'a, W: fmt::Write> FormatterText<'a, W> {
 }
 
 impl<'a, W: fmt::Write> TextSink for FormatterText<'a, W> {
-    ghost use Rattle.wkt_num.specs.Counted.{Hands, Shows, formatter_of, formatted_text, formatted_failures};
+    ghost use Rattle.wkt_num.specs.Counted.{formatted_sink};
 
-    ghost text = { formatted_text };
-
-    ghost failures = { formatted_failures };
-
-    ghost took = { λ s bs t. Hands (Shows W.write_str_gives) (formatter_of s) bs (formatter_of t) };
+    ghost sink = { formatted_sink W.write_str_gives };
 
     fn write_str(&mut self, piece: &str) -> fmt::Result {
         match self.formatter.write_str(piece) {
-            Ok(()) => {
-                self.tape = self.tape.and(&piece);
-                Ok(())
-            }
+            Ok(()) => Ok(()),
             Err(e) => {
                 self.failures = self.failures.wrapping_add(1);
                 Err(e)

@@ -27,7 +27,7 @@ pub trait WktNum: Copy + PartialEq + PartialOrd + Debug {
 
     /// Adds the number's text to the sink. An error is the sink's.
     fn write_number<W: TextSink>(&self, f: &mut W) -> fmt::Result
-        ensures { Puts W.text W.failures W.took W.broke f.old (num self.now) f.new result };
+        ensures { Puts W.sink f.old (num self.now) f.new result };
 
     /// Does nothing. Its contract tells that the number is a value of the type.
     fn known(&self)

@@ -14,7 +14,7 @@ use std::fmt;
 #[inline(always)]
 pub fn write_units<W: TextSink>(places: u32, negative: bool, units: u128, f: &mut W) -> fmt::Result
     requires { places ≤ 36 }
-    ensures { Puts W.text W.failures W.took W.broke f.old (magnitude_text places negative units) f.new result }
+    ensures { Puts W.sink f.old (magnitude_text places negative units) f.new result }
 {
     let mut out = [b'.'; 80];
     let (start, end) = put_units(places, negative, units, &mut out);

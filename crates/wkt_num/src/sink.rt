@@ -1,6 +1,5 @@
 //! Where text goes to.
-ghost use Rattle.std.specs.Prelude.{◌≡◌, ℕ, List, ⊤};
-ghost use Rattle.wkt_num.specs.Sink.{Puts};
+ghost use Rattle.wkt_num.specs.Sink.{Sink, Puts};
 
 use std::fmt;
 
@@ -8,19 +7,11 @@ use std::fmt;
 ///
 /// [`CountedText`](crate::CountedText) makes one of any `fmt::Write`.
 pub trait TextSink {
-    /// The bytes that it was given.
-    ghost text: { Self → List ℕ };
-
-    /// How many calls have failed, modulo 2 ^ 64.
-    ghost failures: { Self → ℕ };
-
-    /// What a successful call does besides. The default says nothing.
-    ghost took: { Self → List ℕ → Self → Type 0 } = { λ _ _ _. ⊤ };
-
-    /// What a call that failed leaves besides. The default says nothing.
-    ghost broke: { Self → List ℕ → Self → Type 0 } = { λ _ _ _. ⊤ };
+    /// What calls give it, what a call that fails leaves, and how many have failed. A sink that knows
+    /// its text is `telling` it.
+    ghost sink: { Sink Self };
 
     /// Adds a piece of text. After an error a beginning of the piece, or nothing of it, was added.
     fn write_str(&mut self, piece: &str) -> fmt::Result
-        ensures { Puts text failures took broke self.old piece.now self.new result };
+        ensures { Puts sink self.old piece.now self.new result };
 }

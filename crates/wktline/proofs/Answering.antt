@@ -8,7 +8,7 @@ use Rattle.wktline.specs.Output.{IsAnswer, AreAnswers, BeginningOut, IfWrite}
 use Rattle.wktline.specs.declared.run.RunError.{RunError}
 use Rattle.wktline.specs.declared.run.RunError.TheVariants as run
 use Rattle.wkt_bytes.specs.Wrapper.{appends_more}
-use Rattle.wkt_num.specs.Sink.{Adds, Breaks}
+use Rattle.wkt_num.specs.Sink.{Sink, Adds, Breaks}
 use Rattle.wktline.specs.declared.answer.AnswerError.{AnswerError}
 use Rattle.wktline.specs.declared.answer.AnswerError.TheVariants as answered
 use Rattle.wktline.specs.Answer.{Answers, IfSink, IfMemory}
@@ -69,17 +69,17 @@ begun first out rest bs line a b c h n e k w (answer, is, beg) = record {
 }
 
 -- what was written is an answer
-module _ {S A : Type 0} (text : S → List ℕ) (failures : S → ℕ) (took broke : S → List ℕ → S → Type 0) where
-  pub answer_ok : {N : Type 0} (read : List ℕ → Option N) (num : N → List ℕ) (s t : S) (line answer : List ℕ) (r : Result A AnswerError) → IsAnswer read num line answer → Answers text failures took broke s answer t r → OnOk r ((a : List ℕ) × IsAnswer read num line a × Adds text failures took s a t)
+module _ {S A : Type 0} (sink : Sink S) where
+  pub answer_ok : {N : Type 0} (read : List ℕ → Option N) (num : N → List ℕ) (s t : S) (line answer : List ℕ) (r : Result A AnswerError) → IsAnswer read num line answer → Answers sink s answer t r → OnOk r ((a : List ℕ) × IsAnswer read num line a × Adds sink s a t)
   answer_ok read num s t line answer (Ok x) is h = (answer, is, h)
   answer_ok read num s t line answer (Err e) is h = tt
 
-  pub answer_sink : {N : Type 0} (read : List ℕ → Option N) (num : N → List ℕ) (s t : S) (line answer : List ℕ) (r : Result A AnswerError) → IsAnswer read num line answer → Answers text failures took broke s answer t r → IfSink r ((a : List ℕ) × IsAnswer read num line a × Breaks text failures took broke s a t)
+  pub answer_sink : {N : Type 0} (read : List ℕ → Option N) (num : N → List ℕ) (s t : S) (line answer : List ℕ) (r : Result A AnswerError) → IsAnswer read num line answer → Answers sink s answer t r → IfSink r ((a : List ℕ) × IsAnswer read num line a × Breaks sink s a t)
   answer_sink read num s t line answer (Ok x) is h = tt
   answer_sink read num s t line answer (Err (answered.Sink e)) is h = (answer, is, h)
   answer_sink read num s t line answer (Err (answered.Memory e)) is h = tt
 
-  pub answer_memory : (P : Type 0) (s t : S) (answer : List ℕ) (r : Result A AnswerError) → Answers text failures took broke s answer t r → IfMemory r P
+  pub answer_memory : (P : Type 0) (s t : S) (answer : List ℕ) (r : Result A AnswerError) → Answers sink s answer t r → IfMemory r P
   answer_memory P s t answer (Ok x) h = tt
   answer_memory P s t answer (Err (answered.Sink e)) h = tt
   answer_memory P s t answer (Err (answered.Memory e)) h = absurd h

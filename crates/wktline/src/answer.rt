@@ -31,8 +31,8 @@ pub(crate) fn write_answer<T: WktNum, W: TextSink>(
     line: &[u8],
     f: &mut W,
 ) -> Result<(), AnswerError>
-    ensures ok { OnOk result ((answer : List ℕ) × IsAnswer T.read T.num line.now answer × Adds W.text W.failures W.took f.old answer f.new) }
-    ensures sink { IfSink result ((answer : List ℕ) × IsAnswer T.read T.num line.now answer × Breaks W.text W.failures W.took W.broke f.old answer f.new) }
+    ensures ok { OnOk result ((answer : List ℕ) × IsAnswer T.read T.num line.now answer × Adds W.sink f.old answer f.new) }
+    ensures sink { IfSink result ((answer : List ℕ) × IsAnswer T.read T.num line.now answer × Breaks W.sink f.old answer f.new) }
     ensures memory { IfMemory result (f.new ≡ f.old) }
 {
     match str::from_utf8(line) {
@@ -48,8 +48,8 @@ fn write_front<T: WktNum, W: TextSink>(
     f: &mut W,
 ) -> Result<(), AnswerError>
     requires { IsUtf8 text.now }
-    ensures ok { OnOk result ((answer : List ℕ) × IsAnswer T.read T.num text.now answer × Adds W.text W.failures W.took f.old answer f.new) }
-    ensures sink { IfSink result ((answer : List ℕ) × IsAnswer T.read T.num text.now answer × Breaks W.text W.failures W.took W.broke f.old answer f.new) }
+    ensures ok { OnOk result ((answer : List ℕ) × IsAnswer T.read T.num text.now answer × Adds W.sink f.old answer f.new) }
+    ensures sink { IfSink result ((answer : List ℕ) × IsAnswer T.read T.num text.now answer × Breaks W.sink f.old answer f.new) }
     ensures memory { IfMemory result (f.new ≡ f.old) }
 {
     match Wkt::<T>::from_str(alloc, text) {
@@ -66,7 +66,7 @@ fn write_front<T: WktNum, W: TextSink>(
 /// Writes the text of a geometry that can be written.
 fn write_value<T: WktNum, W: TextSink>(wkt: &Wkt<T>, f: &mut W) -> Result<(), AnswerError>
     requires { fault (tree_shape (tree wkt.now)) ≡ None }
-    ensures { Answers W.text W.failures W.took W.broke f.old (shape_text T.num (tree_shape (tree wkt.now))) f.new result }
+    ensures { Answers W.sink f.old (shape_text T.num (tree_shape (tree wkt.now))) f.new result }
 {
     match write_geometry(f, wkt) {
         Ok(()) => Ok(()),
@@ -77,7 +77,7 @@ fn write_value<T: WktNum, W: TextSink>(wkt: &Wkt<T>, f: &mut W) -> Result<(), An
 
 /// Writes that a line is refused.
 fn refuse<W: TextSink>(f: &mut W) -> Result<(), AnswerError>
-    ensures { Answers W.text W.failures W.took W.broke f.old (codes "refused") f.new result }
+    ensures { Answers W.sink f.old (codes "refused") f.new result }
 {
     match f.write_str("refused") {
         Ok(()) => Ok(()),

@@ -42,13 +42,13 @@ pub fn run<R: ByteSource, W: ByteSink>(
     reader: &mut R,
     writer: &mut W,
 ) -> Result<(), RunError>
-    ensures ok { OnOk result (IfSome (R.left reader.old) (AllOut read_line print_line (W.bytes writer.old) (W.bytes writer.new))) }
+    ensures ok { OnOk result (IfSome (R.left reader.old) (AllOut read_line print_line (W.device.bytes writer.old) (W.device.bytes writer.new))) }
     ensures end { OnOk result (IsAtEnd (R.left reader.new)) }
     ensures read { IfRead result (writer.new ≡ writer.old) }
     ensures read_count { IfRead result (R.failures reader.new ≡ next_count (R.failures reader.old)) }
-    ensures write { IfWrite result (IfSome (R.left reader.old) (BeginningOut read_line print_line (W.bytes writer.old) (W.bytes writer.new))) }
-    ensures write_count { IfWrite result (W.failures writer.new ≡ next_count (W.failures writer.old)) }
-    ensures memory { IfMemory result (IfSome (R.left reader.old) (FirstOut read_line print_line (W.bytes writer.old) (W.bytes writer.new))) }
+    ensures write { IfWrite result (IfSome (R.left reader.old) (BeginningOut read_line print_line (W.device.bytes writer.old) (W.device.bytes writer.new))) }
+    ensures write_count { IfWrite result (W.device.failures writer.new ≡ next_count (W.device.failures writer.old)) }
+    ensures memory { IfMemory result (IfSome (R.left reader.old) (FirstOut read_line print_line (W.device.bytes writer.old) (W.device.bytes writer.new))) }
 {
     match read_all(alloc, reader) {
         Ok(bytes) => answer_all::<Decimal<6>, W>(alloc, &bytes, writer),
@@ -63,10 +63,10 @@ fn answer_all<T: WktNum, W: ByteSink>(
     input: &[u8],
     writer: &mut W,
 ) -> Result<(), RunError>
-    ensures ok { OnOk result (AllOut T.read T.num (W.bytes writer.old) (W.bytes writer.new) input.now) }
-    ensures write { IfWrite result (BeginningOut T.read T.num (W.bytes writer.old) (W.bytes writer.new) input.now) }
-    ensures write_count { IfWrite result (W.failures writer.new ≡ next_count (W.failures writer.old)) }
-    ensures memory { IfMemory result (FirstOut T.read T.num (W.bytes writer.old) (W.bytes writer.new) input.now) }
+    ensures ok { OnOk result (AllOut T.read T.num (W.device.bytes writer.old) (W.device.bytes writer.new) input.now) }
+    ensures write { IfWrite result (BeginningOut T.read T.num (W.device.bytes writer.old) (W.device.bytes writer.new) input.now) }
+    ensures write_count { IfWrite result (W.device.failures writer.new ≡ next_count (W.device.failures writer.old)) }
+    ensures memory { IfMemory result (FirstOut T.read T.num (W.device.bytes writer.old) (W.device.bytes writer.new) input.now) }
     ensures read { IfRead result ⊥ }
 {
     let mut wrapper = WriterWrapper::new(writer);
@@ -83,12 +83,12 @@ fn answer_lines<T: WktNum, W: ByteSink>(
 ) -> Result<(), RunError>
     requires well { is_well wrapper.old ≡ true }
     requires held { held_bytes wrapper.old ≡ [] }
-    ensures ok { OnOk result (AllOut T.read T.num (W.bytes (writer_of wrapper.old)) (W.bytes (writer_of wrapper.new)) input.now) }
-    ensures write { IfWrite result (BeginningOut T.read T.num (W.bytes (writer_of wrapper.old)) (W.bytes (writer_of wrapper.new)) input.now) }
-    ensures write_count { IfWrite result (W.failures (writer_of wrapper.new) ≡ next_count (W.failures (writer_of wrapper.old))) }
-    ensures memory { IfMemory result (FirstOut T.read T.num (W.bytes (writer_of wrapper.old)) (W.bytes (writer_of wrapper.new)) input.now) }
+    ensures ok { OnOk result (AllOut T.read T.num (W.device.bytes (writer_of wrapper.old)) (W.device.bytes (writer_of wrapper.new)) input.now) }
+    ensures write { IfWrite result (BeginningOut T.read T.num (W.device.bytes (writer_of wrapper.old)) (W.device.bytes (writer_of wrapper.new)) input.now) }
+    ensures write_count { IfWrite result (W.device.failures (writer_of wrapper.new) ≡ next_count (W.device.failures (writer_of wrapper.old))) }
+    ensures memory { IfMemory result (FirstOut T.read T.num (W.device.bytes (writer_of wrapper.old)) (W.device.bytes (writer_of wrapper.new)) input.now) }
     ensures read { IfRead result ⊥ }
-    ensures keeps { W.keeps (writer_of wrapper.old) (writer_of wrapper.new) }
+    ensures keeps { W.device.keeps (writer_of wrapper.old) (writer_of wrapper.new) }
 {
     let mut rest = input;
     'lines: while !rest.is_empty() {
@@ -134,15 +134,15 @@ fn answer_line<T: WktNum, W: ByteSink>(
 ) -> Result<(), RunError>
     requires well { is_well wrapper.old ≡ true }
     requires held { held_bytes wrapper.old ≡ [] }
-    ensures ok { OnOk result ((answer : List ℕ) × IsAnswer T.read T.num line.now answer × Appends (W.bytes (writer_of wrapper.old)) (W.bytes (writer_of wrapper.new)) (answer ++ 10 ∷ [])) }
+    ensures ok { OnOk result ((answer : List ℕ) × IsAnswer T.read T.num line.now answer × Appends (W.device.bytes (writer_of wrapper.old)) (W.device.bytes (writer_of wrapper.new)) (answer ++ 10 ∷ [])) }
     ensures well { OnOk result (is_well wrapper.new ≡ true) }
     ensures held { OnOk result (held_bytes wrapper.new ≡ []) }
-    ensures count { OnOk result (W.failures (writer_of wrapper.new) ≡ W.failures (writer_of wrapper.old)) }
-    ensures write { IfWrite result ((answer : List ℕ) × IsAnswer T.read T.num line.now answer × BeginsOut (W.bytes (writer_of wrapper.old)) (W.bytes (writer_of wrapper.new)) (answer ++ 10 ∷ [])) }
-    ensures write_count { IfWrite result (W.failures (writer_of wrapper.new) ≡ next_count (W.failures (writer_of wrapper.old))) }
+    ensures count { OnOk result (W.device.failures (writer_of wrapper.new) ≡ W.device.failures (writer_of wrapper.old)) }
+    ensures write { IfWrite result ((answer : List ℕ) × IsAnswer T.read T.num line.now answer × BeginsOut (W.device.bytes (writer_of wrapper.old)) (W.device.bytes (writer_of wrapper.new)) (answer ++ 10 ∷ [])) }
+    ensures write_count { IfWrite result (W.device.failures (writer_of wrapper.new) ≡ next_count (W.device.failures (writer_of wrapper.old))) }
     ensures memory { IfMemory result (wrapper.new ≡ wrapper.old) }
     ensures read { IfRead result ⊥ }
-    ensures keeps { W.keeps (writer_of wrapper.old) (writer_of wrapper.new) }
+    ensures keeps { W.device.keeps (writer_of wrapper.old) (writer_of wrapper.new) }
 {
     match write_answer::<T, WriterWrapper<W>>(alloc, line, wrapper) {
         Err(AnswerError::Memory(e)) => Err(RunError::Memory(e)),
@@ -156,9 +156,9 @@ fn answer_line<T: WktNum, W: ByteSink>(
 
 /// Ends a line, and puts it out.
 fn end_line<W: ByteSink>(wrapper: &mut WriterWrapper<W>) -> fmt::Result
-    ensures ok { OnOk result (Gives W.bytes W.failures W.keeps wrapper.old (10 ∷ []) wrapper.new) }
+    ensures ok { OnOk result (Gives W.device wrapper.old (10 ∷ []) wrapper.new) }
     ensures held { OnOk result (held_bytes wrapper.new ≡ []) }
-    ensures err { OnErr result (Leaves W.bytes W.failures W.keeps wrapper.old (10 ∷ []) wrapper.new) }
+    ensures err { OnErr result (Leaves W.device wrapper.old (10 ∷ []) wrapper.new) }
 {
     match wrapper.write_str("\n") {
         Ok(()) => wrapper.finish(),

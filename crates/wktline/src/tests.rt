@@ -36,12 +36,9 @@ impl Slow {
 
 impl ByteSink for Slow {
     ghost use Rattle.std.specs.Prelude.{Some, take};
+    ghost use Rattle.wkt_bytes.specs.Device.{owned};
 
-    ghost bytes = { λ s. Some (take s.len s.held) };
-
-    ghost failures = { λ s. s.failures };
-
-    ghost keeps = { λ _ _. Unit {0} };
+    ghost device = { owned (λ s. Some (take s.len s.held)) (λ s. s.failures) };
 
     fn put(&mut self, buf: &[u8]) -> io::Result<usize> {
         if self.calls == 0 {
@@ -57,10 +54,6 @@ impl ByteSink for Slow {
         }
         Ok(count)
     }
-
-    ghost keeps_none = { λ s. tt };
-
-    ghost keeps_more = { λ s t u h k. tt };
 }
 
 /// Gives `step` bytes a call, and fails at each call after the first `calls`.

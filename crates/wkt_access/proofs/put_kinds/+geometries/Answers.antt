@@ -56,5 +56,5 @@ pub put_members-returns : goal.put_members-returns
 put_members-returns g t c =
     let e = collection_text g.G.T.WktNum.num _ (g.G.GeometryTrait.shape c.args.g.now) c.requires.count in
     rw (e, ← c.dim.ensures, ← c.dimension_in.ensures)
-    (headed_adds _ (members_of (g.G.GeometryTrait.shape c.args.g.now)) _ _ _ (ap gap (members_counted _ _ c.requires.count)) _ _ _ c.in_ok-put_header.ensures
-    (bracket_adds _ _ _ _ _ _ _ (members_counted _ _ c.requires.count) (members_counted _ _ c.requires.count) c.in_ok-put_opening.ensures (listing_end c.loop-i.invariant c.loop-i-test.false) c.put_closing.ensures))
+    (headed_adds _ (members_of (g.G.GeometryTrait.shape c.args.g.now)) _ _ _ (ap gap (members_counted _ _ c.requires.count)) _ _ c.in_ok-put_header.ensures
+    (bracket_adds _ _ _ _ _ _ (members_counted _ _ c.requires.count) (members_counted _ _ c.requires.count) c.in_ok-put_opening.ensures (listing_end c.loop-i.invariant c.loop-i-test.false) c.put_closing.ensures))

@@ -13,4 +13,4 @@ returns-in_err-put_collection_header g c =
 pub returns : goal.returns
 returns g c =
     let e = shapes_text g.C.T.WktNum.num (g.C.GeometryCollectionTrait.dimension c.args.c.now) (g.C.GeometryCollectionTrait.geometries c.args.c.now) in
-    rw e (headed_adds _ (each (g.C.GeometryCollectionTrait.geometries c.args.c.now)) _ _ (length (each (g.C.GeometryCollectionTrait.geometries c.args.c.now))) refl _ _ _ c.in_ok-put_collection_header.ensures c.put_geometries_in.ensures)
+    rw e (headed_adds _ (each (g.C.GeometryCollectionTrait.geometries c.args.c.now)) _ _ (length (each (g.C.GeometryCollectionTrait.geometries c.args.c.now))) refl _ _ c.in_ok-put_collection_header.ensures c.put_geometries_in.ensures)

@@ -5,4 +5,4 @@ use Rattle.wkt_access.specs.Texts.{shape_text}
 use Rattle.wkt_access.proofs.put_kinds.put_geometries.Given as goal
 
 abbrev pub invariant-loop-i : goal.invariant-loop-i
-invariant-loop-i g l = Listing g.W.TextSink.text g.W.TextSink.failures g.W.TextSink.took (codes ",") (shape_text g.C.T.WktNum.num) (each (g.C.GeometryCollectionTrait.geometries l.c)) l.i l.i-end l.initial.f l.f
+invariant-loop-i g l = Listing g.W.TextSink.sink (codes ",") (shape_text g.C.T.WktNum.num) (each (g.C.GeometryCollectionTrait.geometries l.c)) l.i l.i-end l.initial.f l.f

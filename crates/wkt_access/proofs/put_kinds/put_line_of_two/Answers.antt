@@ -15,4 +15,4 @@ pub returns : goal.returns
 returns g c =
     let e = pair_listed g.L.T.WktNum.num c.size_in.result (g.L.LineTrait.from c.args.l.now) (g.L.LineTrait.to c.args.l.now) in
     rw (← c.dim.ensures, ← c.dimension_in-d.ensures, ← c.size_in.ensures)
-    (headed_adds (cut_coordinate g.L.T.WktNum.num c.size_in.result) ((g.L.LineTrait.from c.args.l.now) ∷ (g.L.LineTrait.to c.args.l.now) ∷ []) _ _ 1 refl _ _ _ c.in_ok-put_header.ensures (rw e c.put_line_items.ensures))
+    (headed_adds (cut_coordinate g.L.T.WktNum.num c.size_in.result) ((g.L.LineTrait.from c.args.l.now) ∷ (g.L.LineTrait.to c.args.l.now) ∷ []) _ _ 1 refl _ _ c.in_ok-put_header.ensures (rw e c.put_line_items.ensures))

@@ -14,4 +14,4 @@ pub returns : goal.returns
 returns g c =
     let e = line_string_text g.L.T.WktNum.num (g.L.LineStringTrait.dimension c.args.l.now) (g.L.LineStringTrait.coordinates c.args.l.now) in
     rw (e, ← c.dim.ensures, ← c.dimension_in-d.ensures, ← c.size_in.ensures)
-    (headed_adds _ (g.L.LineStringTrait.coordinates c.args.l.now) _ _ _ (ap gap c.num_coords.ensures) _ _ _ c.in_ok-put_header.ensures c.put_line.ensures)
+    (headed_adds _ (g.L.LineStringTrait.coordinates c.args.l.now) _ _ _ (ap gap c.num_coords.ensures) _ _ c.in_ok-put_header.ensures c.put_line.ensures)

@@ -14,4 +14,4 @@ pub returns : goal.returns
 returns g c =
     let e = multi_line_string_text g.M.T.WktNum.num (g.M.MultiLineStringTrait.dimension c.args.m.now) (g.M.MultiLineStringTrait.lines c.args.m.now) in
     rw (e, ← c.dim.ensures, ← c.dimension_in-d.ensures, ← c.size_in.ensures)
-    (headed_adds _ (g.M.MultiLineStringTrait.lines c.args.m.now) _ _ _ (ap gap c.num_line_strings.ensures) _ _ _ c.in_ok-put_header.ensures c.put_lines_in.ensures)
+    (headed_adds _ (g.M.MultiLineStringTrait.lines c.args.m.now) _ _ _ (ap gap c.num_line_strings.ensures) _ _ c.in_ok-put_header.ensures c.put_lines_in.ensures)

@@ -14,4 +14,4 @@ pub returns : goal.returns
 returns g c =
     let e = multi_point_text g.M.T.WktNum.num (g.M.MultiPointTrait.dimension c.args.m.now) (g.M.MultiPointTrait.points c.args.m.now) in
     rw (e, ← c.dim.ensures, ← c.dimension_in-d.ensures, ← c.size_in.ensures)
-    (headed_adds _ (g.M.MultiPointTrait.points c.args.m.now) _ _ _ (ap gap c.num_points.ensures) _ _ _ c.in_ok-put_header.ensures c.put_points_in.ensures)
+    (headed_adds _ (g.M.MultiPointTrait.points c.args.m.now) _ _ _ (ap gap c.num_points.ensures) _ _ c.in_ok-put_header.ensures c.put_points_in.ensures)

@@ -14,4 +14,4 @@ pub returns : goal.returns
 returns g c =
     let e = multi_polygon_text g.M.T.WktNum.num (g.M.MultiPolygonTrait.dimension c.args.m.now) (g.M.MultiPolygonTrait.polygons c.args.m.now) in
     rw (e, ← c.dim.ensures, ← c.dimension_in-d.ensures, ← c.size_in.ensures)
-    (headed_adds _ (g.M.MultiPolygonTrait.polygons c.args.m.now) _ _ _ (ap gap c.num_polygons.ensures) _ _ _ c.in_ok-put_header.ensures c.put_polygons_in.ensures)
+    (headed_adds _ (g.M.MultiPolygonTrait.polygons c.args.m.now) _ _ _ (ap gap c.num_polygons.ensures) _ _ c.in_ok-put_header.ensures c.put_polygons_in.ensures)

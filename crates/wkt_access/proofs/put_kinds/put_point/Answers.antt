@@ -15,4 +15,4 @@ pub returns : goal.returns
 returns g c =
     let e = point_text g.P.T.WktNum.num (g.P.PointTrait.dimension c.args.p.now) (g.P.PointTrait.coordinate c.args.p.now) in
     rw (e, ← c.dim.ensures, ← c.dimension_in-d.ensures, ← c.size_in.ensures)
-    (headed_adds _ (option_to_list (g.P.PointTrait.coordinate c.args.p.now)) _ _ _ (ap gap c.count_coord.ensures) _ _ _ c.in_ok-put_header.ensures c.put_inner_point.ensures)
+    (headed_adds _ (option_to_list (g.P.PointTrait.coordinate c.args.p.now)) _ _ _ (ap gap c.count_coord.ensures) _ _ c.in_ok-put_header.ensures c.put_inner_point.ensures)

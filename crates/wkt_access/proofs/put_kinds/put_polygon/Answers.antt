@@ -13,4 +13,4 @@ pub returns : goal.returns
 returns g c =
     let e = rings_text g.Y.T.WktNum.num (g.Y.PolygonTrait.dimension c.args.y.now) (g.Y.PolygonTrait.polygon c.args.y.now) in
     rw (e, ← c.dim.ensures, ← c.dimension_in-d.ensures, ← c.size_in.ensures)
-    (headed_adds _ (rings_of (g.Y.PolygonTrait.polygon c.args.y.now)) _ _ _ c.some_ring.ensures _ _ _ c.in_ok-put_header.ensures c.put_rings.ensures)
+    (headed_adds _ (rings_of (g.Y.PolygonTrait.polygon c.args.y.now)) _ _ _ c.some_ring.ensures _ _ c.in_ok-put_header.ensures c.put_rings.ensures)

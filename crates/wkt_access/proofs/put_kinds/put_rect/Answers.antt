@@ -15,4 +15,4 @@ returns-in_err-put_corners g c =
 pub returns : goal.returns
 returns g c =
     let e = rect_text g.R.T.WktNum.num (g.R.RectTrait.dimension c.args.r.now) _ _ _ _ c.min-min.ensures c.max-max.ensures in
-    rw e (puts_then _ _ _ _ c.in_ok-write_str.ensures (puts_then _ _ _ _ c.in_ok-put_corners.ensures (c.write_str-2.ensures)))
+    rw e (puts_then _ _ _ c.in_ok-write_str.ensures (puts_then _ _ _ c.in_ok-put_corners.ensures (c.write_str-2.ensures)))

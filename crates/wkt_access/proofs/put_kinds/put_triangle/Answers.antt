@@ -15,4 +15,4 @@ pub returns : goal.returns
 returns g c =
     let e = triangle_listed g.Y.T.WktNum.num c.size_in.result (g.Y.TriangleTrait.a c.args.y.now) (g.Y.TriangleTrait.b c.args.y.now) (g.Y.TriangleTrait.c c.args.y.now) in
     rw (← c.dim.ensures, ← c.dimension_in-d.ensures, ← c.size_in.ensures)
-    (headed_adds (cut_line g.Y.T.WktNum.num c.size_in.result) (((g.Y.TriangleTrait.a c.args.y.now) ∷ (g.Y.TriangleTrait.b c.args.y.now) ∷ (g.Y.TriangleTrait.c c.args.y.now) ∷ (g.Y.TriangleTrait.a c.args.y.now) ∷ []) ∷ []) _ _ 1 refl _ _ _ c.in_ok-put_header.ensures (rw e c.put_triangle_items.ensures))
+    (headed_adds (cut_line g.Y.T.WktNum.num c.size_in.result) (((g.Y.TriangleTrait.a c.args.y.now) ∷ (g.Y.TriangleTrait.b c.args.y.now) ∷ (g.Y.TriangleTrait.c c.args.y.now) ∷ (g.Y.TriangleTrait.a c.args.y.now) ∷ []) ∷ []) _ _ 1 refl _ _ c.in_ok-put_header.ensures (rw e c.put_triangle_items.ensures))

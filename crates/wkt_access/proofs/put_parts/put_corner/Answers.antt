@@ -15,4 +15,4 @@ returns-in_err-write_str g c =
 pub returns : goal.returns
 returns g c =
     let e = corner_pieces g.C.T.WktNum.num (g.C.CoordTrait.numbers c.args.a.now) (g.C.CoordTrait.numbers c.args.b.now) _ _ c.x-x.ensures c.y-y.ensures in
-    rw e (puts_then _ _ _ _ c.in_ok-write_number.ensures (puts_then _ _ _ _ c.in_ok-write_str.ensures (c.write_number-2.ensures)))
+    rw e (puts_then _ _ _ c.in_ok-write_number.ensures (puts_then _ _ _ c.in_ok-write_str.ensures (c.write_number-2.ensures)))

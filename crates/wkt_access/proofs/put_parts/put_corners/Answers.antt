@@ -31,7 +31,7 @@ returns-in_err-write_str-4 g c =
 
 pub returns : goal.returns
 returns g c =
-    puts_then _ _ _ _ c.in_ok-put_corner.ensures (puts_then _ _ _ _ c.in_ok-write_str.ensures (puts_then _ _ _ _ c.in_ok-put_corner-2.ensures (puts_then _ _ _ _ c.in_ok-write_str-2.ensures (puts_then _ _ _ _ c.in_ok-put_corner-3.ensures (puts_then _ _ _ _ c.in_ok-write_str-3.ensures (puts_then _ _ _ _ c.in_ok-put_corner-4.ensures (puts_then _ _ _ _ c.in_ok-write_str-4.ensures (c.put_corner-5.ensures))))))))
+    puts_then _ _ _ c.in_ok-put_corner.ensures (puts_then _ _ _ c.in_ok-write_str.ensures (puts_then _ _ _ c.in_ok-put_corner-2.ensures (puts_then _ _ _ c.in_ok-write_str-2.ensures (puts_then _ _ _ c.in_ok-put_corner-3.ensures (puts_then _ _ _ c.in_ok-write_str-3.ensures (puts_then _ _ _ c.in_ok-put_corner-4.ensures (puts_then _ _ _ c.in_ok-write_str-4.ensures (c.put_corner-5.ensures))))))))
 
 pub returns-in_err-put_corner : goal.returns-in_err-put_corner
 returns-in_err-put_corner g c = puts_err _ _ c.from_residual.ensures.1 (breaks_first _ c.in_err-put_corner.ensures)

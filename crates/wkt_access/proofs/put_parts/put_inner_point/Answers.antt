@@ -18,4 +18,4 @@ returns-in-None g c = rw (c.in-None.ensures, member_no_piece) c.put_opening.ensu
 pub returns-in_ok-put_coord-in-Some : goal.returns-in_ok-put_coord-in-Some
 returns-in_ok-put_coord-in-Some g c =
     rw (c.in-Some.ensures, member_pieces)
-    (puts_then _ _ _ _ c.in_ok-put_opening-in-Some.ensures (puts_then _ _ _ _ c.in_ok-put_coord-in-Some.ensures c.put_closing.ensures))
+    (puts_then _ _ _ c.in_ok-put_opening-in-Some.ensures (puts_then _ _ _ c.in_ok-put_coord-in-Some.ensures c.put_closing.ensures))

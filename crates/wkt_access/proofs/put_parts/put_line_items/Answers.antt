@@ -10,4 +10,4 @@ returns-in_err-put_pair g c =
     puts_err _ _ c.from_residual-in_err-put_pair.ensures.1 (breaks_then c.in_ok-write_str.ensures (breaks_first _ (rw (c.start.ensures, c.end.ensures) at c.in_err-put_pair.ensures)))
 
 pub returns : goal.returns
-returns g c = puts_then _ _ _ _ c.in_ok-write_str.ensures (puts_then _ _ _ _ (rw (c.start.ensures, c.end.ensures) at c.in_ok-put_pair.ensures) c.write_str-2.ensures)
+returns g c = puts_then _ _ _ c.in_ok-write_str.ensures (puts_then _ _ _ (rw (c.start.ensures, c.end.ensures) at c.in_ok-put_pair.ensures) c.write_str-2.ensures)

@@ -13,4 +13,4 @@ returns-in_err-put_lines g c =
 
 pub returns : goal.returns
 returns g c =
-    bracket_adds _ _ _ _ _ _ _ c.num_line_strings.ensures c.num_line_strings-2.ensures c.in_ok-put_opening.ensures c.in_ok-put_lines.ensures c.put_closing.ensures
+    bracket_adds _ _ _ _ _ _ c.num_line_strings.ensures c.num_line_strings-2.ensures c.in_ok-put_opening.ensures c.in_ok-put_lines.ensures c.put_closing.ensures

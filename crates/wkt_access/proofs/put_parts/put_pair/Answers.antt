@@ -9,4 +9,4 @@ pub returns-in_err-put_coord : goal.returns-in_err-put_coord
 returns-in_err-put_coord g c = puts_err _ _ c.from_residual.ensures.1 (breaks_first _ c.in_err-put_coord.ensures)
 
 pub returns : goal.returns
-returns g c = puts_then _ _ _ _ c.in_ok-put_coord.ensures (puts_then _ _ _ _ c.in_ok-write_str.ensures c.put_coord-2.ensures)
+returns g c = puts_then _ _ _ c.in_ok-put_coord.ensures (puts_then _ _ _ c.in_ok-write_str.ensures c.put_coord-2.ensures)

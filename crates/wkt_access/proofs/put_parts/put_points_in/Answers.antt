@@ -13,4 +13,4 @@ returns-in_err-put_points g c =
 
 pub returns : goal.returns
 returns g c =
-    bracket_adds _ _ _ _ _ _ _ c.num_points.ensures c.num_points-2.ensures c.in_ok-put_opening.ensures c.in_ok-put_points.ensures c.put_closing.ensures
+    bracket_adds _ _ _ _ _ _ c.num_points.ensures c.num_points-2.ensures c.in_ok-put_opening.ensures c.in_ok-put_points.ensures c.put_closing.ensures

@@ -9,4 +9,4 @@ pub returns-in_err-put_pair : goal.returns-in_err-put_pair
 returns-in_err-put_pair g c = puts_err _ _ c.from_residual.ensures.1 (breaks_first _ c.in_err-put_pair.ensures)
 
 pub returns : goal.returns
-returns g c = puts_then _ _ _ _ c.in_ok-put_pair.ensures (puts_then _ _ _ _ c.in_ok-write_str.ensures c.put_pair-2.ensures)
+returns g c = puts_then _ _ _ c.in_ok-put_pair.ensures (puts_then _ _ _ c.in_ok-write_str.ensures c.put_pair-2.ensures)

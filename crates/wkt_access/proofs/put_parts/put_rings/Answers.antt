@@ -36,4 +36,4 @@ returns-in_err-put_interiors-in-Some g c =
 pub returns-in_ok-put_interiors-in-Some : goal.returns-in_ok-put_interiors-in-Some
 returns-in_ok-put_interiors-in-Some g c =
     let e = rings_pieces g.Y.T.WktNum.num c.args.k (g.Y.PolygonTrait.polygon c.args.y.now) _ _ _ c.in-Some.ensures c.num_coords.ensures c.if-num_coords-eq0.false c.num_interiors.ensures in
-    rw e (puts_then _ _ _ _ c.in_ok-put_opening-in-Some.ensures (puts_then _ _ _ _ c.in_ok-put_line-in-Some.ensures (puts_then _ _ _ _ c.in_ok-put_separator-in-Some.ensures (puts_then _ _ _ _ c.in_ok-put_interiors-in-Some.ensures c.put_closing.ensures))))
+    rw e (puts_then _ _ _ c.in_ok-put_opening-in-Some.ensures (puts_then _ _ _ c.in_ok-put_line-in-Some.ensures (puts_then _ _ _ c.in_ok-put_separator-in-Some.ensures (puts_then _ _ _ c.in_ok-put_interiors-in-Some.ensures c.put_closing.ensures))))

@@ -10,4 +10,4 @@ returns-in_err-put_quad g c =
     puts_err _ _ c.from_residual-in_err-put_quad.ensures.1 (breaks_then c.in_ok-write_str.ensures (breaks_first _ (rw (c.first.ensures, c.second.ensures, c.third.ensures) at c.in_err-put_quad.ensures)))
 
 pub returns : goal.returns
-returns g c = puts_then _ _ _ _ c.in_ok-write_str.ensures (puts_then _ _ _ _ (rw (c.first.ensures, c.second.ensures, c.third.ensures) at c.in_ok-put_quad.ensures) c.write_str-2.ensures)
+returns g c = puts_then _ _ _ c.in_ok-write_str.ensures (puts_then _ _ _ (rw (c.first.ensures, c.second.ensures, c.third.ensures) at c.in_ok-put_quad.ensures) c.write_str-2.ensures)

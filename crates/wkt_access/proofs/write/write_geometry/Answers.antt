@@ -6,7 +6,7 @@ use Rattle.wkt_access.proofs.write.write_geometry.Goals as goal
 pub returns-in_err-check_geometry : goal.returns-in_err-check_geometry
 returns-in_err-check_geometry g c =
     let p = err_from_is_err_and c.from_residual.result c.from_residual.ensures.1 in
-    rw (p.1, p.2) (refusal _ _ _ _ _ _ (g.G.GeometryTrait.shape c.args.g.now) _ c.in_err-check_geometry.ensures)
+    rw (p.1, p.2) (refusal _ _ _ (g.G.GeometryTrait.shape c.args.g.now) _ c.in_err-check_geometry.ensures)
 
 pub returns-in_err-put_geometry : goal.returns-in_err-put_geometry
 returns-in_err-put_geometry g c =

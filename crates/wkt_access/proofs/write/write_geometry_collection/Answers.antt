@@ -7,7 +7,7 @@ use Rattle.wkt_access.proofs.write.write_geometry_collection.Goals as goal
 pub returns-in_err-check_collection : goal.returns-in_err-check_collection
 returns-in_err-check_collection g c =
     let p = err_from_is_err_and c.from_residual.result c.from_residual.ensures.1 in
-    rw (p.1, p.2) (refusal _ _ _ _ _ _ (Shape.collection (g.C.GeometryCollectionTrait.dimension c.args.g.now) (g.C.GeometryCollectionTrait.geometries c.args.g.now)) _ c.in_err-check_collection.ensures.collection)
+    rw (p.1, p.2) (refusal _ _ _ (Shape.collection (g.C.GeometryCollectionTrait.dimension c.args.g.now) (g.C.GeometryCollectionTrait.geometries c.args.g.now)) _ c.in_err-check_collection.ensures.collection)
 
 pub returns-in_err-put_collection : goal.returns-in_err-put_collection
 returns-in_err-put_collection g c =

@@ -7,7 +7,7 @@ use Rattle.wkt_access.proofs.write.write_line.Goals as goal
 pub returns-in_err-check_line_of_two : goal.returns-in_err-check_line_of_two
 returns-in_err-check_line_of_two g c =
     let p = err_from_is_err_and c.from_residual.result c.from_residual.ensures.1 in
-    rw (p.1, p.2) (refusal _ _ _ _ _ _ (Shape.line (g.L.LineTrait.dimension c.args.g.now) (g.L.LineTrait.from c.args.g.now) (g.L.LineTrait.to c.args.g.now)) _ c.in_err-check_line_of_two.ensures)
+    rw (p.1, p.2) (refusal _ _ _ (Shape.line (g.L.LineTrait.dimension c.args.g.now) (g.L.LineTrait.from c.args.g.now) (g.L.LineTrait.to c.args.g.now)) _ c.in_err-check_line_of_two.ensures)
 
 pub returns-in_err-put_line_of_two : goal.returns-in_err-put_line_of_two
 returns-in_err-put_line_of_two g c =

@@ -7,7 +7,7 @@ use Rattle.wkt_access.proofs.write.write_linestring.Goals as goal
 pub returns-in_err-check_linestring : goal.returns-in_err-check_linestring
 returns-in_err-check_linestring g c =
     let p = err_from_is_err_and c.from_residual.result c.from_residual.ensures.1 in
-    rw (p.1, p.2) (refusal _ _ _ _ _ _ (Shape.line_string (g.L.LineStringTrait.dimension c.args.g.now) (g.L.LineStringTrait.coordinates c.args.g.now)) _ c.in_err-check_linestring.ensures)
+    rw (p.1, p.2) (refusal _ _ _ (Shape.line_string (g.L.LineStringTrait.dimension c.args.g.now) (g.L.LineStringTrait.coordinates c.args.g.now)) _ c.in_err-check_linestring.ensures)
 
 pub returns-in_err-put_linestring : goal.returns-in_err-put_linestring
 returns-in_err-put_linestring g c =

@@ -7,7 +7,7 @@ use Rattle.wkt_access.proofs.write.write_multi_point.Goals as goal
 pub returns-in_err-check_multi_point : goal.returns-in_err-check_multi_point
 returns-in_err-check_multi_point g c =
     let p = err_from_is_err_and c.from_residual.result c.from_residual.ensures.1 in
-    rw (p.1, p.2) (refusal _ _ _ _ _ _ (Shape.multi_point (g.M.MultiPointTrait.dimension c.args.g.now) (g.M.MultiPointTrait.points c.args.g.now)) _ c.in_err-check_multi_point.ensures)
+    rw (p.1, p.2) (refusal _ _ _ (Shape.multi_point (g.M.MultiPointTrait.dimension c.args.g.now) (g.M.MultiPointTrait.points c.args.g.now)) _ c.in_err-check_multi_point.ensures)
 
 pub returns-in_err-put_multi_point : goal.returns-in_err-put_multi_point
 returns-in_err-put_multi_point g c =

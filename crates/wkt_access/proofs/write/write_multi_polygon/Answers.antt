@@ -7,7 +7,7 @@ use Rattle.wkt_access.proofs.write.write_multi_polygon.Goals as goal
 pub returns-in_err-check_multi_polygon : goal.returns-in_err-check_multi_polygon
 returns-in_err-check_multi_polygon g c =
     let p = err_from_is_err_and c.from_residual.result c.from_residual.ensures.1 in
-    rw (p.1, p.2) (refusal _ _ _ _ _ _ (Shape.multi_polygon (g.M.MultiPolygonTrait.dimension c.args.g.now) (g.M.MultiPolygonTrait.polygons c.args.g.now)) _ c.in_err-check_multi_polygon.ensures)
+    rw (p.1, p.2) (refusal _ _ _ (Shape.multi_polygon (g.M.MultiPolygonTrait.dimension c.args.g.now) (g.M.MultiPolygonTrait.polygons c.args.g.now)) _ c.in_err-check_multi_polygon.ensures)
 
 pub returns-in_err-put_multi_polygon : goal.returns-in_err-put_multi_polygon
 returns-in_err-put_multi_polygon g c =

@@ -7,7 +7,7 @@ use Rattle.wkt_access.proofs.write.write_point.Goals as goal
 pub returns-in_err-check_point : goal.returns-in_err-check_point
 returns-in_err-check_point g c =
     let p = err_from_is_err_and c.from_residual.result c.from_residual.ensures.1 in
-    rw (p.1, p.2) (refusal _ _ _ _ _ _ (Shape.point (g.P.PointTrait.dimension c.args.g.now) (g.P.PointTrait.coordinate c.args.g.now)) _ c.in_err-check_point.ensures)
+    rw (p.1, p.2) (refusal _ _ _ (Shape.point (g.P.PointTrait.dimension c.args.g.now) (g.P.PointTrait.coordinate c.args.g.now)) _ c.in_err-check_point.ensures)
 
 pub returns-in_err-put_point : goal.returns-in_err-put_point
 returns-in_err-put_point g c =

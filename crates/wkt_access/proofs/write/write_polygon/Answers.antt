@@ -7,7 +7,7 @@ use Rattle.wkt_access.proofs.write.write_polygon.Goals as goal
 pub returns-in_err-check_polygon : goal.returns-in_err-check_polygon
 returns-in_err-check_polygon g c =
     let p = err_from_is_err_and c.from_residual.result c.from_residual.ensures.1 in
-    rw (p.1, p.2) (refusal _ _ _ _ _ _ (Shape.polygon (g.Y.PolygonTrait.dimension c.args.g.now) (g.Y.PolygonTrait.polygon c.args.g.now)) _ c.in_err-check_polygon.ensures)
+    rw (p.1, p.2) (refusal _ _ _ (Shape.polygon (g.Y.PolygonTrait.dimension c.args.g.now) (g.Y.PolygonTrait.polygon c.args.g.now)) _ c.in_err-check_polygon.ensures)
 
 pub returns-in_err-put_polygon : goal.returns-in_err-put_polygon
 returns-in_err-put_polygon g c =

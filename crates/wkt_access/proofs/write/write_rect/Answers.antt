@@ -7,7 +7,7 @@ use Rattle.wkt_access.proofs.write.write_rect.Goals as goal
 pub returns-in_err-check_rect : goal.returns-in_err-check_rect
 returns-in_err-check_rect g c =
     let p = err_from_is_err_and c.from_residual.result c.from_residual.ensures.1 in
-    rw (p.1, p.2) (refusal _ _ _ _ _ _ (Shape.rect (g.R.RectTrait.dimension c.args.g.now) (g.R.RectTrait.least c.args.g.now) (g.R.RectTrait.most c.args.g.now)) _ c.in_err-check_rect.ensures)
+    rw (p.1, p.2) (refusal _ _ _ (Shape.rect (g.R.RectTrait.dimension c.args.g.now) (g.R.RectTrait.least c.args.g.now) (g.R.RectTrait.most c.args.g.now)) _ c.in_err-check_rect.ensures)
 
 pub returns-in_err-put_rect : goal.returns-in_err-put_rect
 returns-in_err-put_rect g c =

@@ -17,6 +17,6 @@ loop-at-preserved g c =
     record {
       within = omega (arith, length-drop at bs, bound);
       out = rw step (appends_more _ _ _ _ _ i.out h.took);
-      tied = g.met.W.ByteSink.keeps_more _ _ _ i.tied h.keeps;
+      tied = g.W.ByteSink.device.keeps_more _ _ _ i.tied h.keeps;
       kept = h.count ∙ (count_kept Error _ _ _ test.1 ∙ i.kept);
     }

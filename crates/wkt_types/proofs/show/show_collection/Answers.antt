@@ -10,11 +10,11 @@ returns-in-Ok-clause-styled g c =
     let s = Shape.collection (g.C.GeometryCollectionTrait.dimension c.args.c.now) (g.C.GeometryCollectionTrait.geometries c.args.c.now) in
     let num = g.C.T.WktNum.num in
     shown_styled _ num s _ _ c.in-Ok.ensures.sound (λ flush.
-    displayed_styled _ (λ s. s.formatter) c.new-sink.result c.write_geometry_collection-result.new.f _ c.into_formatter.result _ (shape_text num s) c.new-sink.ensures.formatter c.into_formatter.ensures (λ same. search rules) c.in-Ok.ensures.added.calls flush)
+    displayed_styled _ _ _ _ c.into_formatter.result _ (shape_text num s) c.new-sink.ensures.formatter c.into_formatter.ensures (λ same. search rules) c.in-Ok.ensures.added.given flush)
 
 pub returns-in-Ok-clause-writes : goal.returns-in-Ok-clause-writes
 returns-in-Ok-clause-writes g c =
     let s = Shape.collection (g.C.GeometryCollectionTrait.dimension c.args.c.now) (g.C.GeometryCollectionTrait.geometries c.args.c.now) in
     let num = g.C.T.WktNum.num in
     shown_plain _ num s _ _ c.in-Ok.ensures.sound (λ flush.
-    displayed_styled _ (λ s. s.formatter) c.new-sink.result c.write_geometry_collection-result.new.f _ c.into_formatter.result _ (shape_text num s) c.new-sink.ensures.formatter c.into_formatter.ensures (λ same. search rules) c.in-Ok.ensures.added.calls flush)
+    displayed_styled _ _ _ _ c.into_formatter.result _ (shape_text num s) c.new-sink.ensures.formatter c.into_formatter.ensures (λ same. search rules) c.in-Ok.ensures.added.given flush)

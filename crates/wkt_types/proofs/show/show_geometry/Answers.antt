@@ -6,9 +6,9 @@ use Rattle.wkt_types.proofs.show.show_geometry.Goals as goal
 pub returns-in-Ok-clause-styled : goal.returns-in-Ok-clause-styled
 returns-in-Ok-clause-styled g c =
     shown_styled _ _ _ _ _ c.in-Ok.ensures.sound (λ flush.
-    displayed_styled _ (λ s. s.formatter) c.new-sink.result c.write_geometry-result.new.f _ c.into_formatter.result _ _ c.new-sink.ensures.formatter c.into_formatter.ensures (λ same. search rules) c.in-Ok.ensures.added.calls flush)
+    displayed_styled _ _ _ _ c.into_formatter.result _ _ c.new-sink.ensures.formatter c.into_formatter.ensures (λ same. search rules) c.in-Ok.ensures.added.given flush)
 
 pub returns-in-Ok-clause-writes : goal.returns-in-Ok-clause-writes
 returns-in-Ok-clause-writes g c =
     shown_plain _ _ _ _ _ c.in-Ok.ensures.sound (λ flush.
-    displayed_styled _ (λ s. s.formatter) c.new-sink.result c.write_geometry-result.new.f _ c.into_formatter.result _ _ c.new-sink.ensures.formatter c.into_formatter.ensures (λ same. search rules) c.in-Ok.ensures.added.calls flush)
+    displayed_styled _ _ _ _ c.into_formatter.result _ _ c.new-sink.ensures.formatter c.into_formatter.ensures (λ same. search rules) c.in-Ok.ensures.added.given flush)

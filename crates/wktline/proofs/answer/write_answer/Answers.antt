@@ -4,13 +4,13 @@ use Rattle.wktline.proofs.answer.write_answer.Goals as goal
 
 pub returns-in-Err-clause-ok : goal.returns-in-Err-clause-ok
 returns-in-Err-clause-ok g c =
-    answer_ok g.W.TextSink.text g.W.TextSink.failures g.W.TextSink.took g.W.TextSink.broke g.T.WktNum.read g.T.WktNum.num c.args.f.now c.refuse.new.f c.args.line.now (codes "refused") c.refuse.result
+    answer_ok g.W.TextSink.sink g.T.WktNum.read g.T.WktNum.num c.args.f.now c.refuse.new.f c.args.line.now (codes "refused") c.refuse.result
     (inr (record { cause = inl c.in-Err.ensures.cases.0; refused = refl })) c.refuse.ensures
 
 pub returns-in-Err-clause-sink : goal.returns-in-Err-clause-sink
 returns-in-Err-clause-sink g c =
-    answer_sink g.W.TextSink.text g.W.TextSink.failures g.W.TextSink.took g.W.TextSink.broke g.T.WktNum.read g.T.WktNum.num c.args.f.now c.refuse.new.f c.args.line.now (codes "refused") c.refuse.result
+    answer_sink g.W.TextSink.sink g.T.WktNum.read g.T.WktNum.num c.args.f.now c.refuse.new.f c.args.line.now (codes "refused") c.refuse.result
     (inr (record { cause = inl c.in-Err.ensures.cases.0; refused = refl })) c.refuse.ensures
 
 pub returns-in-Err-clause-memory : goal.returns-in-Err-clause-memory
-returns-in-Err-clause-memory g c = answer_memory g.W.TextSink.text g.W.TextSink.failures g.W.TextSink.took g.W.TextSink.broke _ c.args.f.now c.refuse.new.f (codes "refused") c.refuse.result c.refuse.ensures
+returns-in-Err-clause-memory g c = answer_memory g.W.TextSink.sink _ c.args.f.now c.refuse.new.f (codes "refused") c.refuse.result c.refuse.ensures

@@ -14,7 +14,6 @@ returns-in-Err-clause-write g c =
 pub lines-preserved : goal.lines-preserved
 lines-preserved g c =
     let i = c.lines.invariant in
-    let k = g.met.W.ByteSink in
     let a = c.in-Ok.ensures.ok in
     let some : c.lines.rest.now ≢ [] = λ e. let n : length c.lines.rest.now ≡ 0 = ap length e in grind (arith, common_steps, n) in
     record {
@@ -26,5 +25,5 @@ lines-preserved g c =
       well = c.in-Ok.ensures.well;
       held = c.in-Ok.ensures.held;
       count = c.in-Ok.ensures.count ∙ i.count;
-      tied = k.keeps_more _ _ _ i.tied c.answer_line.ensures.keeps;
+      tied = g.W.ByteSink.device.keeps_more _ _ _ i.tied c.answer_line.ensures.keeps;
     }

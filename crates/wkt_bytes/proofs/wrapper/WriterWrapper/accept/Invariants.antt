@@ -5,10 +5,9 @@ use Rattle.wkt_bytes.proofs.wrapper.WriterWrapper.accept.Given as goal
 abbrev pub invariant-loop-at : goal.invariant-loop-at
 invariant-loop-at g l = record {
   within : l.at ≤ length l.bytes;
-  gave : Gives g.W.ByteSink.bytes g.W.ByteSink.failures g.W.ByteSink.keeps l.initial.self (take l.at l.bytes) l.self;
+  gave : Gives g.W.ByteSink.device l.initial.self (take l.at l.bytes) l.self;
   well : is_well l.self ≡ true;
   failures : l.self.failures ≡ l.initial.self.failures;
-  tape : l.self.tape ≡ l.initial.self.tape;
 }
 
 abbrev pub decreases-loop-at : goal.decreases-loop-at
