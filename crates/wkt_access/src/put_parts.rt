@@ -162,6 +162,15 @@ fn suffix_of(d: Dimension) -> &'static str
     }
 }
 
+fn put_suffix<W: TextSink>(f: &mut W, d: Dimension) -> fmt::Result
+    ensures { Puts W.sink f.old (suffix d) f.new result }
+{
+    if let Dimension::XY = d {
+        return Ok(());
+    }
+    f.write_str(suffix_of(d))
+}
+
 fn put_gap<W: TextSink>(f: &mut W, n: usize) -> fmt::Result
     ensures { Puts W.sink f.old (gap n) f.new result }
 {
@@ -175,7 +184,7 @@ pub(crate) fn put_header<W: TextSink>(f: &mut W, word: &str, d: Dimension, n: us
     ensures { Puts W.sink f.old (word.now ++ (suffix d ++ gap n)) f.new result }
 {
     f.write_str(word)?;
-    f.write_str(suffix_of(d))?;
+    put_suffix(f, d)?;
     put_gap(f, n)
 }
 

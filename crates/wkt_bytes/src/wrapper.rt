@@ -135,7 +135,7 @@ impl<W: ByteSink> WriterWrapper<W> {
         }
     }
 
-    // Takes the bytes, and puts out the array each time that it is full.
+    // Takes the bytes, and puts out the array each time that it is full. Most pieces just fit.
     fn accept(&mut self, bytes: &[u8]) -> fmt::Result
         ensures ok { OnOk result (Gives W.device self.old bytes.now self.new) }
         ensures well { OnOk result (is_well self.old ≡ true) }
@@ -150,6 +150,22 @@ impl<W: ByteSink> WriterWrapper<W> {
             self.keep_one(bytes);
             return Ok(());
         }
+        if bytes.len() < 256 - self.len {
+            self.keep(bytes);
+            return Ok(());
+        }
+        self.accept_long(bytes)
+    }
+
+    // The same for a piece that fills the array.
+    #[inline(never)]
+    fn accept_long(&mut self, bytes: &[u8]) -> fmt::Result
+        requires { is_well self.old ≡ true }
+        ensures ok { OnOk result (Gives W.bytes W.failures W.keeps self.old bytes.now self.new) }
+        ensures err { OnErr result (Leaves W.bytes W.failures W.keeps self.old bytes.now self.new) }
+        ensures failures { self.new.failures ≡ self.old.failures }
+        ensures tape { self.new.tape ≡ self.old.tape }
+    {
         let mut at = 0;
         while at < bytes.len() {
             let room = 256 - self.len;

@@ -1,5 +1,5 @@
 -- The reading of a short body.
-use Rattle.std.proofs.Common.{◌≡◌, ℕ, suc, ◌+◌, ◌-◌, ◌*◌, ◌^◌, ◌<◌, ◌≤◌, true, List, [], ◌∷◌, ◌++◌, length, take, drop, get_or, if◌then◌else◌, Some, None, slice_range, sym, ap, subst, ◌∙◌, arith, length-append, length-drop, take_all}
+use Rattle.std.proofs.Common.{◌≡◌, ℕ, suc, ◌+◌, ◌-◌, ◌*◌, ◌^◌, ◌%◌, ◌<◌, ◌≤◌, true, List, [], ◌∷◌, ◌++◌, length, take, drop, get_or, if◌then◌else◌, Some, None, Option, IfSome, slice_range, sym, ap, subst, ◌∙◌, arith, length-append, length-drop, take_all}
 use Rattle.std.specs.Char.{is_ascii_digit, digit_value}
 use Rattle.std.specs.Str.Parse.{AllDigits, digits_value, digits_value_after}
 use Rattle.std.proofs.lemmas.Bool.Decides.{nat_tests}
@@ -24,6 +24,9 @@ digits-suc body from at h k =
 digit_is : (b : ℕ) → is_ascii_digit b ≡ true → (digit_value b ≡ b - 48) × (b - 48 ≤ 9)
 digit_is b e = (grind (arith, nat_tests), grind (arith, nat_tests))
 
+digit-test : (b : ℕ) → 48 ≤ b → b ≤ 57 → is_ascii_digit b ≡ true
+digit-test b h k = grind (arith, nat_tests)
+
 pub digit-small : (b : ℕ) → is_ascii_digit b ≡ true → b - 48 ≤ 9
 digit-small b e = (digit_is b e).1
 
@@ -37,6 +40,19 @@ digits-more number all body from at d h k digit e before value =
       subst (λ (l : List ℕ). AllDigits 10 l) (sym more) (digits_append (slice_range body from at) (b ∷ []) before (omega (arith, is.0, is.1), tt)),
       ap (λ n. n * 10 + d) value ∙ omega (arith, is.0, e) ∙ sym (value_append number (slice_range body from at) (b ∷ [])) ∙ ap (digits_value_after 10 number) (sym more),
     )
+
+-- no digit yet
+pub digits-none : (body : List ℕ) (from : ℕ) → slice_range body from (from + 0) ≡ []
+digits-none body from = ap (λ (n : ℕ). take n (drop from body)) {x = from + 0 - from} {y = 0} (omega arith)
+
+-- a byte that is a digit when 48 is taken away, as 64 bits wrap
+pub digit-in : (b r : ℕ) → b < 256 → r ≡ b → (r + 18446744073709551568) % 18446744073709551616 ≤ 9
+    → (is_ascii_digit b ≡ true) × ((r + 18446744073709551568) % 18446744073709551616 ≡ b - 48)
+digit-in b r h e k = let d : (48 ≤ b) × (b ≤ 57) = (omega (arith, h, e, k), omega (arith, h, e, k)) in (digit-test b d.0 d.1, omega (arith, h, e, k))
+
+-- the last place
+pub to-end : {done count : ℕ} (from : ℕ) → done ≤ count → count ≤ done → from + done ≡ from + count
+to-end from h k = omega (arith, h, k)
 
 pub fits-more : (all at d : ℕ) → all < 10 ^ at → d ≤ 9 → all * 10 + d < 10 ^ (at + 1)
 fits-more all at d h k = omega (arith, h, k, pow-suc 10 at, ap (λ n. 10 ^ n) {x = at + 1} {y = suc at} (omega arith))
@@ -100,3 +116,23 @@ point-body D at whole all end t body inside short point past within some few bef
     (omega (arith, length-append ds fs, long, some))
     (omega (arith, ap (λ x. all * x) scale) ∙ ap (λ x. x * 10 ^ D) (value_all ∙ ap (λ n. digits_value_after 10 n fs) value ∙ sym (value_append 0 ds fs)))
     (product-fits all t (D - k) (fits-short all end small (omega (arith, within, short))) ten (omega (arith, most)))
+
+-- digits around a point, as many behind it as there are places
+full-body : (D at whole all : ℕ) (body : List ℕ) → at ≡ length body - D - 1 → D < length body → length body ≤ 19 → (D ≡ 0 → ⊥) → get_or body at 0 ≡ 46
+    → AllDigits 10 (slice_range body 0 (0 + at)) → whole ≡ digits_value_after 10 0 (slice_range body 0 (0 + at))
+    → AllDigits 10 (slice_range body (at + 1) (at + 1 + D)) → all ≡ digits_value_after 10 whole (slice_range body (at + 1) (at + 1 + D)) → all < 10 ^ (at + 1 + D)
+    → read_magnitude (2 ^ 127) D body ≡ Some all
+full-body D at whole all body place inside short some point before value behind value_all small =
+    let none : 0 + at ≡ at = omega arith in
+    let k : length body - at - 1 ≡ D = omega (arith, place, inside) in
+    let one : 1 ≡ 10 ^ (D - (length body - at - 1)) = ap (λ n. 10 ^ n) {x = 0} {y = D - (length body - at - 1)} (omega (arith, k)) in
+    subst (λ n. read_magnitude (2 ^ 127) D body ≡ Some n) {x = all * 1} {y = all} (omega arith)
+    (point-body D at whole all (at + 1 + D) 1 body (omega (arith, place, inside)) short point (omega (arith, place, inside)) (omega (arith, place, inside)) (λ e. some (omega (arith, k, e))) (omega (arith, k))
+    (subst (λ n. AllDigits 10 (slice_range body 0 n)) none before) (value ∙ ap (λ n. digits_value_after 10 0 (slice_range body 0 n)) none) behind value_all small one (omega (arith, inside, short)))
+
+pub full : (D at whole : ℕ) (body : List ℕ) (o : Option ℕ) → at ≡ length body - D - 1 → D < length body → length body ≤ 19 → (D ≡ 0 → ⊥) → get_or body at 0 ≡ 46
+    → AllDigits 10 (slice_range body 0 (0 + at)) → whole ≡ digits_value_after 10 0 (slice_range body 0 (0 + at))
+    → IfSome o (λ n. AllDigits 10 (slice_range body (at + 1) (at + 1 + D))) → IfSome o (λ n. n ≡ digits_value_after 10 whole (slice_range body (at + 1) (at + 1 + D))) → IfSome o (λ n. n < 10 ^ (at + 1 + D))
+    → IfSome o (λ units. read_magnitude (2 ^ 127) D body ≡ Some units)
+full D at whole body None place inside short some point before value behind value_all small = tt
+full D at whole body (Some all) place inside short some point before value behind value_all small = full-body D at whole all body place inside short some point before value behind value_all small

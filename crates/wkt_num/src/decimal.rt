@@ -72,6 +72,7 @@ impl<const D: u32> WktNum for Decimal<D> {
 
     ghost same = { decimal_same };
 
+    #[inline(always)]
     fn read_number(text: &str) -> Option<Decimal<D>> {
         if D > MOST_PLACES {
             return None;

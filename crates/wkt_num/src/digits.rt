@@ -24,11 +24,32 @@ pub fn put_whole(negative: bool, n: u128, out: &mut [u8; 80]) -> usize
     ensures value { drop result out.new ≡ sign_text negative ++ decimal n ++ drop 40 out.old }
 {
     let start = put_digits(n, out);
+    put_minus(negative, start, out)
+}
+
+/// Puts a minus before `start` if `negative`, and answers where the text starts then.
+#[inline(always)]
+fn put_minus(negative: bool, start: usize, out: &mut [u8; 80]) -> usize
+    requires some { 1 ≤ start }
+    requires within { start ≤ 40 }
+    ensures bound { result ≤ 40 }
+    ensures value { drop result out.new ≡ sign_text negative ++ drop start out.old }
+{
     if !negative {
         return start;
     }
     out[start - 1] = b'-';
     start - 1
+}
+
+/// Puts a minus if `negative` and the digits of `n`, in 64 bits, before place 40, and answers where they start.
+#[inline(always)]
+pub fn put_small_whole(negative: bool, n: u64, out: &mut [u8; 80]) -> usize
+    ensures bound { result ≤ 40 }
+    ensures value { drop result out.new ≡ sign_text negative ++ decimal n ++ drop 40 out.old }
+{
+    let start = put_short(n, 40, out);
+    put_minus(negative, start, out)
 }
 
 /// Puts the digits of `n` before place 40, and answers where they start.

@@ -1,14 +1,17 @@
 //! Decimal fractions as text, in one piece to a sink.
 //!
 //! What is inlined always divides by a power of ten that is then a constant of the type.
-ghost use Rattle.std.specs.Prelude.{◌≡◌, ◌<◌, ◌≤◌, ◌+◌, ◌-◌, ◌/◌, ◌%◌, ◌^◌, ◌++◌, take, drop, slice_index};
+ghost use Rattle.std.specs.Prelude.{◌≡◌, ◌≢◌, ℕ, List, length, ◌<◌, ◌≤◌, ◌+◌, ◌-◌, ◌/◌, ◌%◌, ◌^◌, ◌++◌, take, drop, not, reverse, ◌==◌, slice_index};
+ghost use Rattle.std.specs.List.{prefix_len};
 ghost use Rattle.wkt_num.specs.Sink.{Puts};
+ghost use Rattle.wkt_num.specs.Padded.{zeros, EndsInDigit, padded};
 ghost use Rattle.wkt_num.specs.Decimal.{magnitude_text, fraction_text, fraction_digits};
 
-use crate::digits::put_whole;
+use crate::digits::{put_small_whole, put_whole};
 use crate::powers::{SHORT_PLACES, five_to, ten_to};
 use crate::sink::TextSink;
 use std::fmt;
+use std::simd::prelude::*;
 
 /// Writes a minus if `negative`, and `units` of ten to the minus `places`.
 #[inline(always)]
@@ -16,12 +19,67 @@ pub fn write_units<W: TextSink>(places: u32, negative: bool, units: u128, f: &mu
     requires { places ≤ 36 }
     ensures { Puts W.sink f.old (magnitude_text places negative units) f.new result }
 {
+    if places <= SHORT_PLACES && units >> places <= u128::from(u64::MAX) {
+        return write_small(places, negative, units, f);
+    }
+    write_large(places, negative, units, f)
+}
+
+/// The same where the whole part fits 64 bits even before the division by the power of five.
+#[inline(always)]
+fn write_small<W: TextSink>(places: u32, negative: bool, units: u128, f: &mut W) -> fmt::Result
+    requires few { places ≤ 18 }
+    requires small { units / 2 ^ places < 2 ^ 64 }
+    ensures { Puts W.text W.failures W.took W.broke f.old (magnitude_text places negative units) f.new result }
+{
+    let mut out = [b'.'; 80];
+    let (start, end) = put_small(places, negative, units, &mut out);
+    // Its bytes are ASCII, as the proof says, so they aren't read again.
+    f.write_str(unsafe { str::from_utf8_unchecked(&out[start..end]) })
+}
+
+/// Puts the text around the point, which stands at place 40, and answers where it starts and ends.
+#[inline(always)]
+fn put_small(places: u32, negative: bool, units: u128, out: &mut [u8; 80]) -> (usize, usize)
+    requires few { places ≤ 18 }
+    requires small { units / 2 ^ places < 2 ^ 64 }
+    requires point { slice_index out.old 40 ≡ 46 }
+    ensures order { result.0 ≤ result.1 }
+    ensures within { result.1 ≤ 80 }
+    ensures value { take (result.1 - result.0) (drop result.0 out.new) ≡ magnitude_text places negative units }
+{
+    let (whole, fraction) = split_short(places, units);
+    let end = put_small_fraction(places, fraction, out);
+    let start = put_small_whole(negative, whole, out);
+    (start, end)
+}
+
+/// Puts the digits behind the point, and answers where the fraction ends: before the point if it is 0.
+#[inline(always)]
+fn put_small_fraction(places: u32, fraction: u64, out: &mut [u8; 80]) -> usize
+    requires few { places ≤ 18 }
+    requires less { fraction < 10 ^ places }
+    requires point { slice_index out.old 40 ≡ 46 }
+    ensures start { 40 ≤ result }
+    ensures bound { result ≤ 80 }
+    ensures value { drop 40 (take result out.new) ≡ fraction_text places fraction }
+{
+    if fraction == 0 {
+        return 40;
+    }
+    put_short(places, fraction, out)
+}
+
+/// The same for any units.
+#[inline(never)]
+fn write_large<W: TextSink>(places: u32, negative: bool, units: u128, f: &mut W) -> fmt::Result
+    requires { places ≤ 36 }
+    ensures { Puts W.text W.failures W.took W.broke f.old (magnitude_text places negative units) f.new result }
+{
     let mut out = [b'.'; 80];
     let (start, end) = put_units(places, negative, units, &mut out);
-    let Ok(text) = str::from_utf8(&out[start..end]) else {
-        unreachable!();
-    };
-    f.write_str(text)
+    // Its bytes are ASCII, as the proof says, so they aren't read again.
+    f.write_str(unsafe { str::from_utf8_unchecked(&out[start..end]) })
 }
 
 /// Puts the text around the point, which stands at place 40, and answers where it starts and ends.
@@ -46,23 +104,21 @@ fn split_units(places: u32, units: u128) -> (u128, u128)
     ensures whole { result.0 ≡ units / 10 ^ places }
     ensures fraction { result.1 ≡ units % 10 ^ places }
 {
-    if places <= SHORT_PLACES && units >> places <= u128::from(u64::MAX) {
-        return split_short(places, units);
-    }
     let unit = 10u128.pow(places);
     (units / unit, units % unit)
 }
 
 /// The same where the whole part fits 64 bits even before the division by the power of five.
 #[inline(always)]
-fn split_short(places: u32, units: u128) -> (u128, u128)
+fn split_short(places: u32, units: u128) -> (u64, u64)
     requires few { places ≤ 18 }
     requires small { units / 2 ^ places < 2 ^ 64 }
     ensures whole { result.0 ≡ units / 10 ^ places }
     ensures fraction { result.1 ≡ units % 10 ^ places }
 {
-    let whole = u128::from((units >> places) as u64 / five_to(places));
-    (whole, units - whole * u128::from(ten_to(places)))
+    let whole = (units >> places) as u64 / five_to(places);
+    let fraction = units - u128::from(whole) * u128::from(ten_to(places));
+    (whole, fraction as u64)
 }
 
 /// Puts the digits behind the point, and answers where the fraction ends: before the point if it is 0.
@@ -86,22 +142,92 @@ fn put_fraction(places: u32, fraction: u128, out: &mut [u8; 80]) -> usize
 }
 
 /// Puts the digits behind the point, and answers where they end.
+///
+/// The fraction is first made one of 18 places, of which sixteen are put at once.
 #[inline(always)]
 fn put_short(places: u32, fraction: u64, out: &mut [u8; 80]) -> usize
     requires few { places ≤ 18 }
     requires less { fraction < 10 ^ places }
+    requires some { fraction ≢ 0 }
     ensures start { 41 ≤ result }
     ensures bound { result ≤ 80 }
     ensures value { take result out.new ≡ take 41 out.old ++ fraction_digits places fraction }
 {
-    let one = ten_to(places);
-    let mut rest = fraction;
-    let mut at = 41;
-    while rest != 0 {
-        let next = rest * 10;
-        out[at] = b'0' + (next / one) as u8;
-        rest = next % one;
-        at += 1;
+    let all = fraction * ten_to(SHORT_PLACES - places);
+    let front = all / 100;
+    let last = all % 100;
+    let digits = sixteen(front);
+    digits.copy_to_slice(&mut out[41..57]);
+    if last == 0 {
+        return 57 - zeros_behind(digits);
+    }
+    out[57] = b'0' + (last / 10) as u8;
+    out[58] = b'0' + (last % 10) as u8;
+    without_zeros(out, 59)
+}
+
+/// Sixteen digits.
+#[inline(always)]
+fn sixteen(n: u64) -> u8x16
+    requires { n < 10 ^ 16 }
+    ensures { result ≡ padded 16 n }
+{
+    let front = n / 100_000_000;
+    let back = n % 100_000_000;
+    four_fours(
+        (front / 10000) as u32,
+        (front % 10000) as u32,
+        (back / 10000) as u32,
+        (back % 10000) as u32,
+    )
+}
+
+/// Four digits of each number.
+#[inline(always)]
+fn four_fours(a: u32, b: u32, c: u32, d: u32) -> u8x16
+    requires { (a < 10000) × (b < 10000) × (c < 10000) × (d < 10000) }
+    ensures { result ≡ padded 4 a ++ (padded 4 b ++ (padded 4 c ++ padded 4 d)) }
+{
+    // A division by 100, and then one by 10.
+    let fours = u32x4::from_array([a, b, c, d]);
+    let hundreds = (fours * u32x4::splat(5243)) >> u32x4::splat(19);
+    let rests = fours - hundreds * u32x4::splat(100);
+    let pairs: u32x8 = hundreds.shuffle(rests, [0, 4, 1, 5, 2, 6, 3, 7]);
+    let pairs: u16x8 = pairs.cast();
+    let tens = (pairs * u16x8::splat(103)) >> u16x8::splat(10);
+    let ones = pairs - tens * u16x8::splat(10);
+    let digits: u16x16 = tens.shuffle(ones, [0, 8, 1, 9, 2, 10, 3, 11, 4, 12, 5, 13, 6, 14, 7, 15]);
+    let digits: u8x16 = digits.cast();
+    digits + u8x16::splat(48)
+}
+
+/// How many zeros stand last.
+#[inline(always)]
+fn zeros_behind(digits: u8x16) -> usize
+    ensures { result ≡ prefix_len (λ b. not (not (b == 48))) (reverse digits) }
+{
+    let others = digits
+        .reverse()
+        .simd_ne(u8x16::splat(b'0'))
+        .to_bitmask();
+    if others == 0 {
+        16
+    } else {
+        others.trailing_zeros() as usize
+    }
+}
+
+/// Where what ends at `end` ends without its last zeros.
+#[inline(always)]
+fn without_zeros(out: &[u8; 80], end: usize) -> usize
+    requires { 41 ≤ end × end ≤ 80 }
+    ensures start { 41 ≤ result }
+    ensures bound { result ≤ end }
+    ensures value { (kept : List ℕ) (m : ℕ) → EndsInDigit kept → 41 < length kept → take end out.now ≡ kept ++ zeros m → take result out.now ≡ kept }
+{
+    let mut at = end;
+    while at > 41 && out[at - 1] == b'0' {
+        at -= 1;
     }
     at
 }

@@ -19,6 +19,7 @@ pub fn split_sign(text: &[u8]) -> (bool, &[u8])
 }
 
 /// Reads digits with at most one point, as units of ten to the minus `places`.
+#[inline(always)]
 pub fn read_body(places: u32, body: &[u8]) -> Option<u128>
     requires { places ≤ 36 }
     ensures { result ≡ read_magnitude (2 ^ 127) places body.now }
@@ -34,6 +35,7 @@ const SHORT_BYTES: usize = 19;
 
 /// The same by 64 bits, for a short body of digits, or of digits around a point with at most `places`
 /// behind it. `None` says nothing of the body: it is then read in the plain way.
+#[inline(always)]
 fn read_short(places: u32, body: &[u8]) -> Option<u128>
     ensures { IfSome result (λ units. read_magnitude (2 ^ 127) places body.now ≡ Some units) }
 {
@@ -62,6 +64,7 @@ fn read_short(places: u32, body: &[u8]) -> Option<u128>
 }
 
 /// The number followed by the digits from `from` on, and where they end.
+#[inline(always)]
 fn digits_from(body: &[u8], from: usize, number: u64) -> (u64, usize)
     requires short { length body.now ≤ 19 }
     requires within { from ≤ length body.now }
@@ -85,6 +88,7 @@ fn digits_from(body: &[u8], from: usize, number: u64) -> (u64, usize)
 const LIMIT: u128 = 1 << 127;
 
 /// The same, one digit after the other.
+#[inline(never)]
 fn read_magnitude(places: u32, body: &[u8]) -> Option<u128>
     requires { places ≤ 36 }
     ensures { result ≡ read_magnitude (2 ^ 127) places body.now }

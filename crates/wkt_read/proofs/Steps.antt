@@ -5,6 +5,7 @@ use Rattle.std.specs.Str.{IsCharBoundary}
 use Rattle.std.proofs.lemmas.Str.{IsCharBoundary-end, IsCharBoundary-before_ascii, IsCharBoundary-after_ascii}
 use Rattle.std.proofs.lemmas.List.{take_more, get_or-drop, length-drop, length-take}
 use Rattle.std.proofs.Math.Seq.{drop-cons, drop-length}
+use borrow.Author.Tests.{ne_eqb}
 use Rattle.wkt_num.specs.Bytes.{Lexeme, Class, Nul, White, Mark, Run, class_of}
 use Rattle.wkt_num.specs.Bytes as lex
 use Rattle.wkt_read.specs.Lexemes.{lexeme_of}
@@ -134,6 +135,11 @@ ends-text text from at end so_far =
       until = subst (IsCharBoundary text) (sym end) (IsCharBoundary-end text);
       boundary = subst (IsCharBoundary text) (sym end) (IsCharBoundary-end text);
     }
+
+-- a byte behind the last mark is a part of a run
+pub late-run : (b : ℕ) → 44 < b → class_of b ≡ Run
+unfolding class_of
+late-run b h = rw (ne_eqb b 0 (λ e. omega arith), ne_eqb b 32 (λ e. omega arith), ne_eqb b 10 (λ e. omega arith), ne_eqb b 13 (λ e. omega arith), ne_eqb b 9 (λ e. omega arith), ne_eqb b 40 (λ e. omega arith), ne_eqb b 41 (λ e. omega arith), ne_eqb b 44 (λ e. omega arith)) refl
 
 -- one turn of the loop over white space
 pub first-step : (left : List Placed) (text text' : List ℕ) (was c : code.Class) (at at' b : ℕ) → text' ≡ text → at' ≡ at + 1 → at < length text → b ≡ get_or text at 0 → IsUtf8 text → was ≡ class.White → meant c ≡ class_of b → Found left text was at → Found left text' c at'

@@ -59,6 +59,7 @@ impl<'a, T: WktNum> PeekableTokens<'a, T> {
     }
 
     // The next lexeme, which stays.
+    #[inline(always)]
     pub(crate) fn look(&mut self) -> Raw<'a>
         ensures left { left self.new ≡ left self.old }
         ensures end { end_of self.new ≡ end_of self.old }
@@ -79,6 +80,7 @@ impl<'a, T: WktNum> PeekableTokens<'a, T> {
     }
 
     // The next lexeme, which is taken.
+    #[inline(always)]
     pub(crate) fn take(&mut self) -> Raw<'a>
         ensures goes_on { GoesOn self.old self.new }
         ensures grows { taken_of self.old ≤ taken_of self.new }
@@ -89,6 +91,7 @@ impl<'a, T: WktNum> PeekableTokens<'a, T> {
         self.step()
     }
 
+    #[inline(always)]
     fn step(&mut self) -> Raw<'a>
         ensures { Moves self.old (found result) self.new }
     {

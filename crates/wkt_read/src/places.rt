@@ -20,6 +20,7 @@ use wkt_access::Dimension;
 use wkt_num::WktNum;
 use wkt_types::Coord;
 
+#[inline(never)]
 #[tactic(auto, unfolding(crate::specs::Reading::number_at))]
 fn number<T: WktNum>(tokens: &mut PeekableTokens<'_, T>, expected: Message) -> Result<T, Message>
     requires plain { expected ≢ BadNumber }
@@ -66,6 +67,7 @@ pub(crate) fn coord<T: WktNum>(
 }
 
 /// Whether the opening place is a parenthesis, and not EMPTY.
+#[inline(always)]
 #[tactic(auto, unfolding(crate::specs::Reading::opening_at))]
 pub(crate) fn opening<T: WktNum>(tokens: &mut PeekableTokens<'_, T>) -> Result<bool, Message>
     ensures exact { Reads (λ x. x) result (opening_at (rest tokens.old)) (rest tokens.new) }
@@ -84,6 +86,7 @@ pub(crate) fn opening<T: WktNum>(tokens: &mut PeekableTokens<'_, T>) -> Result<b
     }
 }
 
+#[inline(always)]
 #[tactic(auto, unfolding(crate::specs::Reading::closing_at))]
 fn closing<T: WktNum>(tokens: &mut PeekableTokens<'_, T>) -> Result<(), Message>
     ensures exact { Reads (λ _. tt) result (closing_at (rest tokens.old)) (rest tokens.new) }
@@ -102,7 +105,7 @@ fn closing<T: WktNum>(tokens: &mut PeekableTokens<'_, T>) -> Result<(), Message>
 }
 
 /// What stands behind the head of a point.
-#[inline(never)]
+#[inline(always)]
 #[tactic(auto, unfolding(crate::specs::Reading::framed, crate::specs::Reading::closed))]
 pub(crate) fn point<T: WktNum>(
     tokens: &mut PeekableTokens<'_, T>,

@@ -8,6 +8,7 @@ use crate::class::{Class, class_of};
 use crate::cursor::Cursor;
 
 /// The class of the first byte that is no white space, which is taken.
+#[inline(always)]
 pub(crate) fn first_class(bytes: &mut Cursor<'_>, ahead: Class) -> Class
     requires boundary { IsCharBoundary bytes.old.text.now bytes.old.taken }
     requires start { ahead ≢ Class.Run }
@@ -19,7 +20,12 @@ pub(crate) fn first_class(bytes: &mut Cursor<'_>, ahead: Class) -> Class
     let mut class = ahead;
     'white: while let Class::White = class {
         match bytes.next_byte() {
-            Some(byte) => class = class_of(byte),
+            Some(byte) => {
+                if byte > b',' {
+                    return Class::Run;
+                }
+                class = class_of(byte);
+            }
             None => return Class::Nul,
         }
     }
@@ -27,6 +33,7 @@ pub(crate) fn first_class(bytes: &mut Cursor<'_>, ahead: Class) -> Class
 }
 
 /// The end of the run that begins at `from`, and the class of the byte behind it, which is taken.
+#[inline(always)]
 pub(crate) fn end_of_run(bytes: &mut Cursor<'_>, from: usize) -> (usize, Class)
     requires { IsRunSoFar bytes.old.text.now from bytes.old.taken }
     ensures text { bytes.new.text ≡ bytes.old.text }
@@ -38,10 +45,14 @@ pub(crate) fn end_of_run(bytes: &mut Cursor<'_>, from: usize) -> (usize, Class)
     'run: loop {
         let end = bytes.taken();
         match bytes.next_byte() {
-            Some(byte) => match class_of(byte) {
-                Class::Run => {}
-                class => return (end, class),
-            },
+            Some(byte) => {
+                if byte <= b',' {
+                    match class_of(byte) {
+                        Class::Run => {}
+                        class => return (end, class),
+                    }
+                }
+            }
             None => return (end, Class::Nul),
         }
     }

@@ -63,6 +63,7 @@ impl<'a, T: WktNum> Tokens<'a, T> {
     }
 
     // The next lexeme, its number not read.
+    #[inline(always)]
     pub(crate) fn next_raw(&mut self) -> Raw<'a>
         ensures { Steps self.old (found result) self.new }
     {

@@ -143,11 +143,12 @@ fn collection_of<T>(geometries: Vec<Wkt<T>>, dim: Dimension) -> Wkt<T>
 fn read_point<T: WktNum>(
     tokens: &mut PeekableTokens<'_, T>,
     dim: Dimension,
-) -> Result<Wkt<T>, Message>
-    ensures exact { (fuel : ℕ) → Reads wkt_value result (body_at T.read (value_at T.read fuel) fuel GeometryType.Point dim (rest tokens.old)) (rest tokens.new) }
+) -> Result<Wkt<T>, Fault>
+    ensures exact { (fuel : ℕ) → length (rest tokens.old) ≤ fuel → ReadsIn wkt_value result (body_at T.read (value_at T.read fuel) fuel GeometryType.Point dim (rest tokens.old)) (rest tokens.new) }
     ensures uniform { IfOk result UniformWkt }
+    ensures memory { OnMemory result ⊥ }
     ensures near { OnOk result (IsNear tokens.new) }
-    ensures bad { Blames T.read tokens.old result }
+    ensures bad { BlamesIn T.read tokens.old result }
     ensures goes_on { GoesOn tokens.old tokens.new }
     ensures grows { taken_of tokens.old ≤ taken_of tokens.new }
     ensures fewer { length (rest tokens.new) ≤ length (rest tokens.old) }
@@ -335,7 +336,7 @@ pub(crate) fn value<T: WktNum>(
 {
     let (kind, dim) = head(tokens, inside)?;
     match kind {
-        GeometryType::Point => Ok(read_point(tokens, dim)?),
+        GeometryType::Point => read_point(tokens, dim),
         GeometryType::LineString => read_line_string(alloc, tokens, dim),
         GeometryType::Polygon => read_polygon(alloc, tokens, dim),
         GeometryType::MultiPoint => read_multi_point(alloc, tokens, dim),

@@ -35,6 +35,10 @@ pub(crate) fn write_answer<T: WktNum, W: TextSink>(
     ensures sink { IfSink result ((answer : List ℕ) × IsAnswer T.read T.num line.now answer × Breaks W.sink f.old answer f.new) }
     ensures memory { IfMemory result (f.new ≡ f.old) }
 {
+    // Most lines are ASCII, which one look at eight bytes at a time tells.
+    if line.is_ascii() {
+        return write_front::<T, W>(alloc, unsafe { str::from_utf8_unchecked(line) }, f);
+    }
     match str::from_utf8(line) {
         Ok(text) => write_front::<T, W>(alloc, text, f),
         Err(_) => refuse(f),

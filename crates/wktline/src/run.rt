@@ -1,5 +1,7 @@
 //! Answers each line of a whole input.
-ghost use Rattle.std.specs.Prelude.{◌≡◌, ◌≤◌, ℕ, ◌+◌, List, [], ◌∷◌, ◌++◌, IfSome, OnOk, OnErr, true, length, take, drop};
+ghost use Rattle.std.specs.Prelude.{◌≡◌, ◌≤◌, ℕ, ◌+◌, List, [], ◌∷◌, ◌++◌, IfSome, OnOk, OnErr, true, not, ◌==◌, length, take, drop};
+ghost use Rattle.std.specs.List.{prefix_len};
+ghost use Rattle.std.specs.Simd.Lanes.{chunk};
 ghost use Rattle.std.specs.Io.KnownBytes.{Appends, IsAtEnd};
 ghost use Rattle.wkt_num.specs.Sink.{next_count};
 ghost use Rattle.wkt_bytes.specs.Device.{BeginningOut as BeginsOut};
@@ -10,6 +12,7 @@ ghost use Rattle.wktline.specs.Splitting.{before_feed, after_feed};
 
 use crate::answer::{AnswerError, write_answer};
 use std::alloc::{AllocError, Global};
+use std::simd::prelude::*;
 use std::{fmt, io};
 use thiserror::Error;
 use wkt::to_wkt::{ByteSink, ByteSource, ReadAllError, TextSink, WriterWrapper, read_all};
@@ -33,7 +36,7 @@ pub enum RunError {
 ///
 /// The whole input is read first. Lines are the pieces between line feeds; a last empty piece is
 /// dropped. Each line is answered with the text of the geometry that it begins with, or with
-/// `refused` where it has none or isn't UTF-8, and a line feed. Numbers are decimals of six places.
+/// `refused` where it has none or isn't UTF-8, and a line feed. Numbers are decimals of eighteen places.
 ///
 /// # Errors
 /// [`RunError`] tells when each comes, and what is out then. No fault is tried again.
@@ -51,7 +54,7 @@ pub fn run<R: ByteSource, W: ByteSink>(
     ensures memory { IfMemory result (IfSome (R.left reader.old) (FirstOut read_line print_line (W.device.bytes writer.old) (W.device.bytes writer.new))) }
 {
     match read_all(alloc, reader) {
-        Ok(bytes) => answer_all::<Decimal<6>, W>(alloc, &bytes, writer),
+        Ok(bytes) => answer_all::<Decimal<18>, W>(alloc, &bytes, writer),
         Err(ReadAllError::Read(e)) => Err(RunError::Read(e)),
         Err(ReadAllError::Memory(e)) => Err(RunError::Memory(e)),
     }
@@ -107,12 +110,34 @@ fn line_end(rest: &[u8]) -> usize
     ensures before { take result rest.now ≡ before_feed rest.now }
     ensures after { drop (result + 1) rest.now ≡ after_feed rest.now }
 {
-    for (i, b) in rest.iter().enumerate() {
-        if *b == b'\n' {
-            return i;
+    let mut at = 0;
+    'wide: while rest.len() - at >= 32 {
+        let feed = feed_in(rest, at);
+        if feed < 32 {
+            return at + feed;
         }
+        at += 32;
     }
-    rest.len()
+    'bytes: while at < rest.len() && rest[at] != b'\n' {
+        at += 1;
+    }
+    at
+}
+
+/// The place of the first line feed among the 32 bytes from `at` on, or 32.
+#[inline(always)]
+fn feed_in(rest: &[u8], at: usize) -> usize
+    requires { at + 32 ≤ length rest.now }
+    ensures { result ≡ prefix_len (λ b. not (b == 10)) (chunk at 32 rest.now) }
+{
+    let feeds = u8x32::from_slice(&rest[at..])
+        .simd_eq(u8x32::splat(b'\n'))
+        .to_bitmask();
+    if feeds == 0 {
+        32
+    } else {
+        feeds.trailing_zeros() as usize
+    }
 }
 
 /// What follows a line and its line feed.

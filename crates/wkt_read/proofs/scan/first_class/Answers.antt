@@ -1,5 +1,6 @@
-use Rattle.std.proofs.Common.{ap, ◌∙◌, arith}
-use Rattle.wkt_read.proofs.Steps.{first-step, first-end}
+use Rattle.std.proofs.Common.{ap, sym, refl, ◌∙◌, arith}
+use Rattle.wkt_read.proofs.Steps.{first-step, first-end, late-run}
+use Rattle.wkt_read.specs.declared.class.Class.TheVariants as class
 use Rattle.wkt_read.proofs.scan.first_class.Goals as goal
 
 pub white-preserved : goal.white-preserved
@@ -16,3 +17,8 @@ pub returns-in-None-clause-found : goal.returns-in-None-clause-found
 returns-in-None-clause-found c =
     let e = c.in-None.ensures in
     first-end _ _ _ _ _ _ (ap (λ t. t.now) e.text) e.cases.0 e.cases.1 c.in-White.is c.white.invariant.found
+
+pub returns-then-byte-gt44-clause-found : goal.returns-then-byte-gt44-clause-found
+returns-then-byte-gt44-clause-found c =
+    let e = c.in-Some.ensures in
+    first-step _ _ _ _ class.Run _ _ _ (ap (λ t. t.now) e.text) e.cases.0 e.cases.1 e.cases.2 e.utf8 c.in-White.is (sym (late-run _ c.if-byte-gt44.true)) c.white.invariant.found

@@ -70,11 +70,8 @@ read_collection-returns-clause-exact g t c = λ fuel h. ap (λ t. t >>= (λ p. O
 pub value-returns-in_err-kind-clause-exact : goal.value-returns-in_err-kind-clause-exact
 value-returns-in_err-kind-clause-exact g t c = λ fuel h. reads-err _ _ _ _ c.from_residual.ensures.0 (value-head-err g.T.WktNum.read fuel _ _ c.in_err-kind.ensures.exact h)
 
-pub value-returns-in_err-read_point-in-Point-clause-exact : goal.value-returns-in_err-read_point-in-Point-clause-exact
-value-returns-in_err-read_point-in-Point-clause-exact g t c = λ fuel h. value-in g.T.WktNum.read fuel _ _ _ _ _ _ _ c.in_ok-kind.ensures.exact c.in-Point.is c.in_ok-kind.ensures.taken h (λ n e. reads-err _ _ _ _ c.from_residual-in_err-read_point-in-Point.ensures.0 (c.in_err-read_point-in-Point.ensures.exact n))
-
-pub value-returns-in_ok-read_point-in-Point-clause-exact : goal.value-returns-in_ok-read_point-in-Point-clause-exact
-value-returns-in_ok-read_point-in-Point-clause-exact g t c = λ fuel h. value-in g.T.WktNum.read fuel _ _ _ _ _ _ (Ok c.in_ok-read_point-in-Point.field-0) c.in_ok-kind.ensures.exact c.in-Point.is c.in_ok-kind.ensures.taken h (λ n e. c.in_ok-read_point-in-Point.ensures.exact n)
+pub value-returns-in-Point-clause-exact : goal.value-returns-in-Point-clause-exact
+value-returns-in-Point-clause-exact g t c = λ fuel h. value-in g.T.WktNum.read fuel _ _ _ _ _ _ _ c.in_ok-kind.ensures.exact c.in-Point.is c.in_ok-kind.ensures.taken h (λ n e. c.read_point.ensures.exact n e)
 
 pub value-returns-in-LineString-clause-exact : goal.value-returns-in-LineString-clause-exact
 value-returns-in-LineString-clause-exact g t c = λ fuel h. value-in g.T.WktNum.read fuel _ _ _ _ _ _ _ c.in_ok-kind.ensures.exact c.in-LineString.is c.in_ok-kind.ensures.taken h (λ n e. c.read_line_string.ensures.exact n e)

@@ -1,4 +1,5 @@
 use Rattle.std.proofs.Common.{codes, inl, inr, refl}
+use Rattle.std.proofs.lemmas.Str.{IsUtf8-from_ascii}
 use Rattle.wktline.proofs.Answering.{answer_ok, answer_sink, answer_memory}
 use Rattle.wktline.proofs.answer.write_answer.Goals as goal
 
@@ -14,3 +15,6 @@ returns-in-Err-clause-sink g c =
 
 pub returns-in-Err-clause-memory : goal.returns-in-Err-clause-memory
 returns-in-Err-clause-memory g c = answer_memory g.W.TextSink.sink _ c.args.f.now c.refuse.new.f (codes "refused") c.refuse.result c.refuse.ensures
+
+pub from_utf8_unchecked-requires : goal.from_utf8_unchecked-requires
+from_utf8_unchecked-requires g c = IsUtf8-from_ascii _ c.if-is_ascii.ensures.cases

@@ -1,9 +1,21 @@
-use Rattle.std.proofs.Common.{◌≡◌, ◌++◌, take, drop}
-use Rattle.wktline.specs.Splitting.{before_feed, after_feed}
+use Rattle.std.proofs.Common.{◌≤◌, ◌-◌, length}
+use Rattle.wktline.proofs.Feeds.{NoFeed}
 use Rattle.wktline.proofs.run.line_end.Given as goal
 
-abbrev pub invariant-loop-i : goal.invariant-loop-i
-invariant-loop-i l = record {
-  before : before_feed l.rest ≡ take l.i l.rest ++ before_feed (drop l.i l.rest);
-  after : after_feed l.rest ≡ after_feed (drop l.i l.rest);
+abbrev pub invariant-wide : goal.invariant-wide
+invariant-wide l = record {
+  within : l.at ≤ length l.rest;
+  none : NoFeed l.rest l.at;
 }
+
+abbrev pub invariant-bytes : goal.invariant-bytes
+invariant-bytes l = record {
+  within : l.at ≤ length l.rest;
+  none : NoFeed l.rest l.at;
+}
+
+abbrev pub decreases-wide : goal.decreases-wide
+decreases-wide l = length l.rest - l.at
+
+abbrev pub decreases-bytes : goal.decreases-bytes
+decreases-bytes l = length l.rest - l.at

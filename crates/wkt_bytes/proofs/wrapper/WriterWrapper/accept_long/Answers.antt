@@ -2,8 +2,8 @@ use Rattle.std.proofs.Common.{◌≤◌, ◌∙◌, ap, refl, drop, length, arit
 use Rattle.std.proofs.lemmas.List.{append-nil}
 use Rattle.wkt_bytes.specs.Wrapper.{state_well, not_well, leaves_as_is, gives_more, kept_gives, leaves_after, leaves_longer}
 use Rattle.wkt_bytes.proofs.DeviceLemmas.{any_err, take_step, with_rest}
-use Rattle.wkt_bytes.proofs.wrapper.WriterWrapper.accept.Goals as goal
-use Rattle.wkt_bytes.proofs.wrapper.WriterWrapper.accept.Goals.{then-bytes-at, else-bytes-at}
+use Rattle.wkt_bytes.proofs.wrapper.WriterWrapper.accept_long.Goals as goal
+use Rattle.wkt_bytes.proofs.wrapper.WriterWrapper.accept_long.Goals.{then-bytes-at, else-bytes-at}
 
 pub loop-at-preserved : goal.loop-at-preserved
 loop-at-preserved g c =

@@ -1,6 +1,6 @@
 use Rattle.std.proofs.Common.{◌≡◌, ◌≤◌, ◌-◌, ◌+◌, ◌*◌, take, length, true}
 use Rattle.wkt_bytes.specs.Wrapper.{Gives, is_well}
-use Rattle.wkt_bytes.proofs.wrapper.WriterWrapper.accept.Given as goal
+use Rattle.wkt_bytes.proofs.wrapper.WriterWrapper.accept_long.Given as goal
 
 abbrev pub invariant-loop-at : goal.invariant-loop-at
 invariant-loop-at g l = record {

@@ -1,0 +1,179 @@
+-- A fraction of 18 places, put as sixteen digits and two.
+use Rattle.std.proofs.Common.{◌≡◌, ℕ, zero, suc, ◌+◌, ◌-◌, ◌*◌, ◌/◌, ◌%◌, ◌^◌, ◌<◌, ◌≤◌, true, false, not, ◌==◌, List, [], ◌∷◌, ◌++◌, length, reverse, get_or, take, set, cond, refl, sym, ap, ◌∙◌, subst, arith, append_assoc, length-append, length-set}
+use Rattle.std.specs.List.{prefix_len}
+use Rattle.std.proofs.lemmas.List.{append-nil, reverse-append, length-take-le, take-take}
+use Rattle.std.proofs.Math.Seq.{take-append_seam, take-suc, take-suc-set}
+use Rattle.std.proofs.lemmas.Nat.{pow-add, mod-mul-add, div-add-mod'}
+use Rattle.std.proofs.Math.Arith.{mod-mul}
+use Rattle.std.proofs.Math.Nat.{pow-suc, mod-lt, mod-eq_of_lt, div-div-eq-div-mul, mul-div-mul_right, mul-mod_left, add-mul-div_left, mul_comm, le-mul_of_pos_right, div-eq_of_lt}
+use Rattle.std.proofs.lemmas.Slice.{take-put_mid}
+use Rattle.std.proofs.lemmas.Simd.{put_chunk_whole, length-put_chunk}
+use borrow.Rule.Slice.PartMut.{put_mid, mid_of, mid_len, same_len_mid}
+use lib.Lanes.{put_chunk}
+use lib.Arith.{digits_lt}
+use borrow.Author.Tests.{ne_eqb, eqb-true, eqb-false}
+use Rattle.wkt_num.specs.Decimal.{fraction_digits}
+use Rattle.wkt_num.specs.Units.{ten_pos}
+use Rattle.wkt_num.specs.Fraction.{fraction-none}
+use Rattle.wkt_num.specs.Padded.{zeros, EndsInDigit, padded}
+use Rattle.wkt_num.proofs.Padded.{step, pads, last-digit, length-padded, zeros-snoc}
+
+quotient : (a w b : ℕ) → b < w → (a * w + b) / w ≡ a
+quotient a w b less =
+    ap (λ m. m / w) {x = a * w + b} {y = b + w * a} (omega (arith, mul_comm a w)) ∙ add-mul-div_left b a (omega (arith, less)) ∙ omega (arith, div-eq_of_lt less)
+
+-- the digits of two parts
+pub padded-two : (j k n f : ℕ) → n ≡ j + k → f < 10 ^ n → padded n f ≡ padded j (f / 10 ^ k) ++ padded k (f % 10 ^ k)
+padded-two zero k n f e less =
+    let same : n ≡ k = omega (arith, e) in
+    ap (λ m. padded m f) same ∙ ap (padded k) (sym (mod-eq_of_lt (subst (λ m. f < 10 ^ m) same less)))
+padded-two (suc j) k zero f e less = absurd (omega (arith, e))
+padded-two (suc j) k (suc n) f e less =
+    let both : 10 ^ n ≡ 10 ^ j * 10 ^ k = ap (λ m. 10 ^ m) {x = n} {y = j + k} (omega (arith, e)) ∙ pow-add 10 j k in
+    let head : f / 10 ^ n ≡ f / 10 ^ k / 10 ^ j = ap (λ p. f / p) (both ∙ mul_comm (10 ^ j) (10 ^ k)) ∙ sym (div-div-eq-div-mul f (10 ^ k) (10 ^ j)) in
+    let low : f % 10 ^ n ≡ (f / 10 ^ k % 10 ^ j) * 10 ^ k + f % 10 ^ k = ap (λ p. f % p) both ∙ mod-mul f (ten_pos j) (ten_pos k) in
+    let less-back = mod-lt f (ten_pos k) in
+    ap (λ d. (48 + d) ∷ padded n (f % 10 ^ n)) head
+    ∙ ap (λ l. (48 + f / 10 ^ k / 10 ^ j) ∷ l) (padded-two j k n (f % 10 ^ n) (omega (arith, e)) (mod-lt f (ten_pos n))
+      ∙ ap (λ m. padded j (m / 10 ^ k) ++ padded k (m % 10 ^ k)) low
+      ∙ ap (λ m. padded j m ++ padded k (((f / 10 ^ k % 10 ^ j) * 10 ^ k + f % 10 ^ k) % 10 ^ k)) (quotient (f / 10 ^ k % 10 ^ j) (10 ^ k) (f % 10 ^ k) less-back)
+      ∙ ap (λ m. padded j (f / 10 ^ k % 10 ^ j) ++ padded k m) (mod-mul-add (f / 10 ^ k % 10 ^ j) (10 ^ k) (f % 10 ^ k) less-back))
+
+-- a fraction of more places
+pub digits-scaled : (j e n f : ℕ) → n ≡ j + e → f < 10 ^ j → fraction_digits n (f * 10 ^ e) ≡ fraction_digits j f
+digits-scaled zero e n f same less = let none : f ≡ 0 = omega (arith, less) in fraction-none n (f * 10 ^ e) (ap (λ m. m * 10 ^ e) none ∙ omega arith)
+digits-scaled (suc j) e zero f same less = absurd (omega (arith, same))
+digits-scaled (suc j) e (suc n) f same less = elim (f == 0) as (λ b. (f == 0) ≡ b → fraction_digits (suc n) (f * 10 ^ e) ≡ fraction_digits (suc j) f) [
+  | true ↦ λ z. let none = eqb-true f 0 z in fraction-none (suc n) (f * 10 ^ e) (ap (λ m. m * 10 ^ e) none ∙ omega arith) ∙ sym (fraction-none (suc j) f none)
+  | false ↦ λ z.
+      let some = eqb-false f 0 z in
+      let both : 10 ^ n ≡ 10 ^ j * 10 ^ e = ap (λ m. 10 ^ m) {x = n} {y = j + e} (omega (arith, same)) ∙ pow-add 10 j e in
+      let more = le-mul_of_pos_right f (ten_pos e) in
+      let back : f * 10 ^ e % 10 ^ n ≡ (f % 10 ^ j) * 10 ^ e =
+          ap (λ p. f * 10 ^ e % p) both ∙ mod-mul (f * 10 ^ e) (ten_pos j) (ten_pos e)
+          ∙ ap (λ m. (m % 10 ^ j) * 10 ^ e + f * 10 ^ e % 10 ^ e) (ap (λ m. m / 10 ^ e) {x = f * 10 ^ e} {y = f * 10 ^ e + 0} (omega arith) ∙ quotient f (10 ^ e) 0 (ten_pos e))
+          ∙ ap (λ m. (f % 10 ^ j) * 10 ^ e + m) (mul-mod_left f (10 ^ e)) ∙ omega arith in
+      step n (f * 10 ^ e) (λ h. some (omega (arith, more, h)))
+      ∙ ap (λ d. (48 + d) ∷ fraction_digits n (f * 10 ^ e % 10 ^ n)) (ap (λ p. f * 10 ^ e / p) both ∙ mul-div-mul_right f (10 ^ j) (ten_pos e))
+      ∙ ap (λ m. (48 + f / 10 ^ j) ∷ fraction_digits n m) back
+      ∙ ap (λ l. (48 + f / 10 ^ j) ∷ l) (digits-scaled j e n (f % 10 ^ j) (omega (arith, same)) (mod-lt f (ten_pos j)))
+      ∙ sym (step j f some)
+] refl
+
+-- how many zeros stand last
+zeros-back : (m : ℕ) → reverse (zeros m) ≡ zeros m
+zeros-back zero = refl
+zeros-back (suc m) = reverse-append (48 ∷ []) (zeros m) ∙ ap (λ l. l ++ 48 ∷ []) (zeros-back m) ∙ sym (zeros-snoc m)
+
+zeros-first : (m d : ℕ) (l : List ℕ) → 0 < d → prefix_len (λ b. not (not (b == 48))) (zeros m ++ (48 + d) ∷ l) ≡ m
+zeros-first zero d l some = ap (λ b. cond (not (not b)) (1 + prefix_len (λ b. not (not (b == 48))) l) 0) (ne_eqb (48 + d) 48 (λ e. omega (arith, some, e)))
+zeros-first (suc m) d l some = ap (λ n. 1 + n) (zeros-first m d l some) ∙ omega arith
+
+pub zeros-last : (kept : List ℕ) (m : ℕ) → EndsInDigit kept → prefix_len (λ b. not (not (b == 48))) (reverse (kept ++ zeros m)) ≡ m
+zeros-last kept m ends =
+    ap (prefix_len (λ b. not (not (b == 48)))) (reverse-append kept (zeros m) ∙ ap (λ l. l ++ reverse kept) (zeros-back m) ∙ ap (λ l. zeros m ++ l) (ap reverse ends.2 ∙ reverse-append ends.0 ((48 + ends.1) ∷ [])))
+    ∙ zeros-first m ends.1 (reverse ends.0) ends.3
+
+-- the first n, last first
+abbrev pub down : ℕ → List ℕ → List ℕ
+down zero v = []
+down (suc n) v = get_or v n 0 ∷ down n v
+
+down-take : (n : ℕ) (v : List ℕ) → n ≤ length v → down n v ≡ reverse (take n v)
+down-take zero v h = refl
+down-take (suc n) v h = ap (λ l. get_or v n 0 ∷ l) (down-take n v (omega (arith, h))) ∙ sym (ap reverse (take-suc v n 0 (omega (arith, h))) ∙ reverse-append (take n v) (get_or v n 0 ∷ []))
+
+pub down-reverse : (v : List ℕ) → length v ≡ 16 → down 16 (v ++ v) ≡ reverse v
+down-reverse v long = down-take 16 (v ++ v) (omega (arith, long, length-append v v)) ∙ ap reverse (ap (λ (n : ℕ). take n (v ++ v)) (sym long) ∙ take-append_seam v v)
+
+length-zeros : (m : ℕ) → length (zeros m) ≡ m
+length-zeros zero = refl
+length-zeros (suc m) = ap suc (length-zeros m)
+
+module _ (D F T : ℕ) (few : D ≤ 18) (less : F < 10 ^ D) (some : F ≡ 0 → ⊥) (ten : T ≡ 10 ^ (18 - D)) where
+  same : F * T ≡ F * 10 ^ (18 - D)
+  same = ap (λ n. F * n) ten
+
+  pub small : F * T < 10 ^ 18
+  small =
+      let p : 10 ^ 18 ≡ 10 ^ D * 10 ^ (18 - D) = ap (λ n. 10 ^ n) {x = 18} {y = D + (18 - D)} (omega (arith, few)) ∙ pow-add 10 D (18 - D) in
+      omega (arith, same, p, digits_lt {q = F} {m = 10 ^ D} {r = 0} {c = 10 ^ (18 - D)} less (ten_pos (18 - D)))
+
+  some-all : F * T ≡ 0 → ⊥
+  some-all h = some (omega (arith, same, h, le-mul_of_pos_right F (ten_pos (18 - D))))
+
+  pub scaled : fraction_digits 18 (F * T) ≡ fraction_digits D F
+  scaled = ap (fraction_digits 18) same ∙ digits-scaled D (18 - D) 18 F (omega (arith, few)) less
+
+  -- sixteen digits are put, of which r are zeros behind the others
+  module _ (out old lanes : List ℕ) (long : length old ≡ 80) (within : 59 ≤ length out) (there : take 57 out ≡ take 41 old ++ lanes) (digits : lanes ≡ padded 16 (F * T / 100)) where
+    before : length (take 41 old) ≡ 41
+    before = length-take-le 41 old (omega (arith, long))
+
+    module _ (r : ℕ) (none : F * T % 100 ≡ 0) (count : r ≡ prefix_len (λ b. not (not (b == 48))) (reverse lanes)) where
+      p : (m : ℕ) × (padded 16 (F * T / 100) ≡ fraction_digits 16 (F * T / 100) ++ zeros m)
+      p = pads 16 (F * T / 100)
+
+      front-less : F * T / 100 < 10 ^ 16
+      front-less = omega (arith, small)
+
+      kept : List ℕ
+      kept = fraction_digits 16 (F * T / 100)
+
+      kept-is : fraction_digits 16 (F * T / 100) ≡ fraction_digits D F
+      kept-is = sym (digits-scaled 16 2 18 (F * T / 100) refl front-less) ∙ ap (fraction_digits 18) {x = F * T / 100 * 10 ^ 2} {y = F * T} (omega (arith, none)) ∙ scaled
+
+      r-is : r ≡ p.0
+      r-is =
+          count ∙ ap (λ l. prefix_len (λ b. not (not (b == 48))) (reverse l)) (digits ∙ p.1)
+          ∙ zeros-last (fraction_digits 16 (F * T / 100)) p.0 (last-digit 16 (F * T / 100) front-less (λ h. some-all (omega (arith, h, none))))
+
+      text : take 57 out ≡ (take 41 old ++ fraction_digits 16 (F * T / 100)) ++ zeros p.0
+      text = there ∙ ap (λ l. take 41 old ++ l) (digits ∙ p.1) ∙ sym (append_assoc (take 41 old) (fraction_digits 16 (F * T / 100)) (zeros p.0))
+
+      place : 57 - r ≡ length (take 41 old ++ fraction_digits 16 (F * T / 100))
+      place = omega (arith, r-is, before, length-append (take 41 old) (fraction_digits 16 (F * T / 100)), ap length p.1, length-append (fraction_digits 16 (F * T / 100)) (zeros p.0), length-zeros p.0, length-padded 16 (F * T / 100))
+
+      pub cut : take (57 - r) out ≡ take 41 old ++ fraction_digits D F
+      cut =
+          sym (take-take (57 - r) 57 out (omega arith)) ∙ ap (take (57 - r)) text
+          ∙ ap (λ (n : ℕ). take n ((take 41 old ++ fraction_digits 16 (F * T / 100)) ++ zeros p.0)) place
+          ∙ take-append_seam (take 41 old ++ fraction_digits 16 (F * T / 100)) (zeros p.0)
+          ∙ ap (λ l. take 41 old ++ l) kept-is
+
+    -- and two more
+    abbrev pub whole : List ℕ
+    whole = take 41 old ++ fraction_digits 18 (F * T)
+
+    pub all : take 59 (set (set out 57 (48 + F * T % 100 / 10)) 58 (48 + F * T % 100 % 10)) ≡ whole ++ zeros (pads 18 (F * T)).0
+    all =
+        let x = 48 + F * T % 100 / 10 in
+        let y = 48 + F * T % 100 % 10 in
+        take-suc-set (set out 57 x) 58 y (omega (arith, within, length-set out 57 x))
+        ∙ ap (λ l. l ++ y ∷ []) (take-suc-set out 57 x (omega (arith, within)) ∙ ap (λ l. l ++ x ∷ []) there)
+        ∙ append_assoc (take 41 old ++ lanes) (x ∷ []) (y ∷ [])
+        ∙ append_assoc (take 41 old) lanes (x ∷ y ∷ [])
+        ∙ ap (λ l. take 41 old ++ l) (ap (λ l. l ++ x ∷ y ∷ []) digits
+          ∙ ap (λ n. padded 16 (F * T / 100) ++ x ∷ (48 + n) ∷ []) {x = F * T % 100 % 10} {y = F * T % 100 % 10 / 1} (omega arith)
+          ∙ sym (padded-two 16 2 18 (F * T) refl small) ∙ (pads 18 (F * T)).1)
+        ∙ sym (append_assoc (take 41 old) (fraction_digits 18 (F * T)) (zeros (pads 18 (F * T)).0))
+
+    pub whole-ends : EndsInDigit whole
+    whole-ends = let e = last-digit 18 (F * T) small some-all in
+        (take 41 old ++ e.0, e.1, ap (λ l. take 41 old ++ l) e.2 ∙ sym (append_assoc (take 41 old) e.0 ((48 + e.1) ∷ [])), e.3)
+
+    pub whole-long : 41 < length whole
+    whole-long = let e = last-digit 18 (F * T) small some-all in
+        omega (arith, length-append (take 41 old) (fraction_digits 18 (F * T)), before, ap length e.2, length-append e.0 ((48 + e.1) ∷ []))
+
+-- sixteen bytes are copied to place 41
+abbrev pub copied : List ℕ → List ℕ → List ℕ
+copied old lanes = put_mid 41 16 old (put_chunk 0 (mid_of 41 16 old) lanes)
+
+pub copied-there : (old lanes : List ℕ) → length old ≡ 80 → length lanes ≡ 16 → take 57 (copied old lanes) ≡ take 41 old ++ lanes
+copied-there old lanes long sixteen =
+    ap (λ l. take 57 (put_mid 41 16 old l)) (put_chunk_whole (mid_of 41 16 old) lanes (mid_len 41 57 old (omega (arith, long)) ∙ sym sixteen))
+    ∙ take-put_mid 41 16 old lanes 57 (omega (arith, sixteen)) (omega (arith, long))
+
+pub copied-long : (old lanes : List ℕ) → length old ≡ 80 → length (copied old lanes) ≡ 80
+copied-long old lanes long = same_len_mid 41 16 old (put_chunk 0 (mid_of 41 16 old) lanes) (length-put_chunk 0 (mid_of 41 16 old) lanes) ∙ long

@@ -1,0 +1,5 @@
+use Rattle.wkt_num.proofs.Fours.{four-fours}
+use Rattle.wkt_num.proofs.printing.four_fours.Goals as goal
+
+pub returns : goal.returns
+returns c = four-fours c.args.a c.args.b c.args.c c.args.d c.requires.0 c.requires.1 c.requires.2 c.requires.3

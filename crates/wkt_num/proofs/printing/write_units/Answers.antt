@@ -1,9 +1,0 @@
-use Rattle.std.proofs.Common.{subst, sym, arith}
-use Rattle.std.specs.Str.{IsUtf8}
-use Rattle.std.proofs.lemmas.Str.{IsUtf8-from_ascii}
-use Rattle.wkt_num.proofs.Printed.{magnitude-ascii}
-use Rattle.wkt_num.proofs.printing.write_units.Goals as goal
-
-pub unreachable-requires : goal.unreachable-requires
-unreachable-requires g c =
-    c.in_default.ensures.cases.0 (subst IsUtf8 (sym c.put_units-start.ensures.value) (IsUtf8-from_ascii _ (magnitude-ascii c.args.places c.args.units c.args.negative (omega (arith, c.ranges.units.fits)))))
