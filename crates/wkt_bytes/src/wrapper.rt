@@ -161,10 +161,9 @@ impl<W: ByteSink> WriterWrapper<W> {
     #[inline(never)]
     fn accept_long(&mut self, bytes: &[u8]) -> fmt::Result
         requires { is_well self.old ≡ true }
-        ensures ok { OnOk result (Gives W.bytes W.failures W.keeps self.old bytes.now self.new) }
-        ensures err { OnErr result (Leaves W.bytes W.failures W.keeps self.old bytes.now self.new) }
+        ensures ok { OnOk result (Gives W.device self.old bytes.now self.new) }
+        ensures err { OnErr result (Leaves W.device self.old bytes.now self.new) }
         ensures failures { self.new.failures ≡ self.old.failures }
-        ensures tape { self.new.tape ≡ self.old.tape }
     {
         let mut at = 0;
         while at < bytes.len() {

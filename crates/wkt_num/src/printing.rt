@@ -30,7 +30,7 @@ pub fn write_units<W: TextSink>(places: u32, negative: bool, units: u128, f: &mu
 fn write_small<W: TextSink>(places: u32, negative: bool, units: u128, f: &mut W) -> fmt::Result
     requires few { places ≤ 18 }
     requires small { units / 2 ^ places < 2 ^ 64 }
-    ensures { Puts W.text W.failures W.took W.broke f.old (magnitude_text places negative units) f.new result }
+    ensures { Puts W.sink f.old (magnitude_text places negative units) f.new result }
 {
     let mut out = [b'.'; 80];
     let (start, end) = put_small(places, negative, units, &mut out);
@@ -74,7 +74,7 @@ fn put_small_fraction(places: u32, fraction: u64, out: &mut [u8; 80]) -> usize
 #[inline(never)]
 fn write_large<W: TextSink>(places: u32, negative: bool, units: u128, f: &mut W) -> fmt::Result
     requires { places ≤ 36 }
-    ensures { Puts W.text W.failures W.took W.broke f.old (magnitude_text places negative units) f.new result }
+    ensures { Puts W.sink f.old (magnitude_text places negative units) f.new result }
 {
     let mut out = [b'.'; 80];
     let (start, end) = put_units(places, negative, units, &mut out);

@@ -15,7 +15,7 @@ pub all-push : {A : Type 0} (P : A → Type 0) (xs : List A) (x : A) → AllByRe
 all-push P [] x h p = (p, tt)
 all-push P (y ∷ xs) x h p = (h.0, all-push P xs x h.1 p)
 
-err-ok : (X E : Type 0) (x : X) → IsErr {T = X} {E = E} (Ok x) → ⊥
+pub err-ok : (X E : Type 0) (x : X) → IsErr {T = X} {E = E} (Ok x) → ⊥
 err-ok X E x h = cc
 
 module _ {A : Type 0} where
@@ -79,8 +79,13 @@ module _ {A : Type 0} (empty : A) (body : List Lexeme → Reading A) where
   unfolding framed
   framed-empty lexemes r paren is e = ap (λ t. t >>= (λ o. cond o.0 (closed (body o.1)) (Ok (empty, o.1)))) e ∙ ap (λ b. cond b (closed (body r)) (Ok (empty, r))) is
 
-module _ {A X : Type 0} (view : X → A) (empty : A) (body : List Lexeme → Reading A) where
-  closed-in : (b res : Result X Fault) (read : Reading A) (old new : List Lexeme) → ReadsIn view b read old → Closes b res old new → ReadsIn view res (closed read) new
+  pub framed-paren : (lexemes r : List Lexeme) (paren : Bool) → paren ≡ true → opening_at lexemes ≡ Ok (paren, r) → framed empty body lexemes ≡ closed (body r)
+  unfolding framed
+  framed-paren lexemes r paren is e = ap (λ t. t >>= (λ o. cond o.0 (closed (body o.1)) (Ok (empty, o.1)))) e ∙ ap (λ b. cond b (closed (body r)) (Ok (empty, r))) is
+
+module _ {A X : Type 0} (view : X → A) where
+  -- a closing place behind a body
+  pub closed-in : (b res : Result X Fault) (read : Reading A) (old new : List Lexeme) → ReadsIn view b read old → Closes b res old new → ReadsIn view res (closed read) new
   unfolding closed
   closed-in (Ok x) (Ok y) read old new reads closes = ap closed reads ∙ ap (λ t. t >>= (λ c. Ok (view x, c.1))) closes.0 ∙ ap (λ z. Ok (view z, new)) (sym closes.1)
   closed-in (Ok x) (Err (Text m)) read old new reads closes = ap closed reads ∙ ap (λ t. t >>= (λ c. Ok (view x, c.1))) closes
@@ -92,10 +97,11 @@ module _ {A X : Type 0} (view : X → A) (empty : A) (body : List Lexeme → Rea
   closed-in (Err (Memory e)) (Err (Text n)) read old new reads closes = absurd closes
   closed-in (Err (Memory e)) (Err (Memory f)) read old new reads closes = tt
 
+module _ {A X : Type 0} (view : X → A) (empty : A) (body : List Lexeme → Reading A) where
   pub framed-closed : (lexemes r old new : List Lexeme) (paren : Bool) (b res : Result X Fault) → paren ≡ true → opening_at lexemes ≡ Ok (paren, r) → ReadsIn view b (body r) old → Closes b res old new → ReadsIn view res (framed empty body lexemes) new
   unfolding framed
   framed-closed lexemes r old new paren b res is e reads closes =
-      subst (λ t. ReadsIn view res t new) (sym (ap (λ t. t >>= (λ o. cond o.0 (closed (body o.1)) (Ok (empty, o.1)))) e ∙ ap (λ b. cond b (closed (body r)) (Ok (empty, r))) is)) (closed-in b res (body r) old new reads closes)
+      subst (λ t. ReadsIn view res t new) (sym (ap (λ t. t >>= (λ o. cond o.0 (closed (body o.1)) (Ok (empty, o.1)))) e ∙ ap (λ b. cond b (closed (body r)) (Ok (empty, r))) is)) (closed-in view b res (body r) old new reads closes)
 
 -- a refusal of a callee that is passed on as it is
 pub reads-pass : {A B X Y : Type 0} (view : X → A) (other : Y → B) (e : Fault) (r : Result X Fault) (item : Reading B) (whole : Reading A) (rest : List Lexeme) → IsErrAnd r (λ y. y ≡ e) → ReadsIn other (Err e) item rest → (item ≡ Err rest → whole ≡ Err rest) → ReadsIn view r whole rest

@@ -6,10 +6,13 @@ ghost use Rattle.wkt_types.specs.Coords.{numbers_of};
 ghost use Rattle.wkt_types.specs.Values.{HasDim, HasDimIfAny, IsPointIn, IsLineIn, IsPolygonIn, point_numbers, line_numbers, polygon_numbers};
 ghost use Rattle.wkt_read.specs.Ahead.{rest, taken_of};
 ghost use Rattle.wkt_read.specs.Walks.{GoesOn};
-ghost use Rattle.wkt_read.specs.Ahead.{IsNear};
+ghost use Rattle.wkt_read.specs.Ahead.{IsNear, IsBehind};
 ghost use Rattle.wkt_read.specs.Reading.{Reads, dimension_at, head_at, many_at, members_at, members_of, body_at, value_at, IsOpened, HasMembers};
 ghost use Rattle.wkt_read.specs.Reads.{ReadsIn, Blames, BlamesIn, wkt_value, UniformWkt};
-ghost use Rattle.wkt_read.specs.Faults.{OnMemory};
+ghost use Rattle.wkt_read.specs.Faults.{OnMemory, OnBadIn};
+ghost use Rattle.wkt_read.specs.Placed.{lexemes_of};
+ghost use Rattle.wkt_read.specs.Bad.{HasBad};
+ghost use Rattle.wkt_read.specs.Nests.{Starts, IfWhole, OnWhole, Wants, shut_at, weight, most_behind};
 
 use crate::fault::{Fault, Message};
 use crate::lists::{line, lines, points, polygons};
@@ -252,74 +255,93 @@ fn read_multi_polygon<T: WktNum>(
     Ok(polygons_of(polygons, dim))
 }
 
-// The geometries of a collection.
-#[cycle(value)]
-fn geometries<T: WktNum>(
-    alloc: Global,
-    tokens: &mut PeekableTokens<'_, T>,
-) -> Result<Vec<Wkt<T>>, Fault>
-    ensures exact { (fuel : ℕ) → length (rest tokens.old) ≤ fuel → ReadsIn (λ v. map wkt_value v.items) result (many_at (value_at T.read fuel) fuel (rest tokens.old)) (rest tokens.new) }
-    ensures uniform { IfOk result (λ v. AllByRecursion UniformWkt v.items) }
-    ensures bad { BlamesIn T.read tokens.old result }
-    ensures goes_on { GoesOn tokens.old tokens.new }
-    ensures grows { taken_of tokens.old ≤ taken_of tokens.new }
-    ensures fewer { length (rest tokens.new) ≤ length (rest tokens.old) }
-{
-    let mut items = Vec::new(alloc);
-    let first = value(alloc, tokens, true)?;
-    items.push(first)?;
-    'more: while tokens.take_comma() {
-        let next = value(alloc, tokens, true)?;
-        items.push(next)?;
-    }
-    Ok(items)
+// An open collection: the members read so far, and its dimension.
+#[derive(Drop)]
+struct Nest<T> {
+    members: Vec<Wkt<T>>,
+    dim: Dimension,
 }
 
-// What stands behind the head of a collection.
-#[cycle(value)]
-fn members<T: WktNum>(
+// What begins at a place: a whole geometry, or a collection, of which the parenthesis was taken.
+#[derive(Drop)]
+enum Start<T> {
+    Whole(Wkt<T>),
+    Opened(Dimension),
+}
+
+// What stands behind the head of a collection: EMPTY, or its parenthesis.
+#[inline(never)]
+fn begin_collection<T: WktNum>(
     alloc: Global,
     tokens: &mut PeekableTokens<'_, T>,
-) -> Result<Vec<Wkt<T>>, Fault>
-    ensures exact { (fuel : ℕ) → length (rest tokens.old) ≤ fuel → ReadsIn (λ v. map wkt_value v.items) result (members_at T.read (value_at T.read fuel) fuel (rest tokens.old)) (rest tokens.new) }
-    ensures uniform { IfOk result (λ v. AllByRecursion UniformWkt v.items) }
-    ensures memory { OnMemory result (IsOpened (rest tokens.old)) }
-    ensures near { OnOk result (IsNear tokens.new) }
+    dim: Dimension,
+) -> Result<Start<T>, Fault>
+    ensures exact { (fuel : ℕ) → length (rest tokens.old) ≤ fuel → Starts T.read result (body_at T.read (value_at T.read fuel) fuel GeometryType.GeometryCollection dim (rest tokens.old)) (rest tokens.new) }
+    ensures uniform { IfWhole result UniformWkt }
+    ensures memory { Wants result (IsOpened (rest tokens.old)) }
+    ensures near { OnWhole result (IsNear tokens.new) }
     ensures bad { BlamesIn T.read tokens.old result }
     ensures goes_on { GoesOn tokens.old tokens.new }
     ensures grows { taken_of tokens.old ≤ taken_of tokens.new }
     ensures fewer { length (rest tokens.new) ≤ length (rest tokens.old) }
 {
     let paren = opening(tokens)?;
-    if !paren {
-        return Ok(Vec::new(alloc));
+    if paren {
+        return Ok(Start::Opened(dim));
     }
-    let body = geometries(alloc, tokens);
-    close(tokens, body)
+    Ok(Start::Whole(collection_of(Vec::new(alloc), dim)))
 }
 
-#[inline(never)]
-#[cycle(value)]
-fn read_collection<T: WktNum>(
+// The geometry that begins here, but no member of a collection.
+fn begin<T: WktNum>(
     alloc: Global,
     tokens: &mut PeekableTokens<'_, T>,
-    dim: Dimension,
-) -> Result<Wkt<T>, Fault>
-    ensures exact { (fuel : ℕ) → length (rest tokens.old) ≤ fuel → ReadsIn wkt_value result (body_at T.read (value_at T.read fuel) fuel GeometryType.GeometryCollection dim (rest tokens.old)) (rest tokens.new) }
-    ensures uniform { IfOk result UniformWkt }
-    ensures memory { OnMemory result (IsOpened (rest tokens.old)) }
-    ensures near { OnOk result (IsNear tokens.new) }
+    inside: bool,
+) -> Result<Start<T>, Fault>
+    ensures exact { (fuel : ℕ) → length (rest tokens.old) ≤ fuel → Starts T.read result (value_at T.read fuel (rest tokens.old)) (rest tokens.new) }
+    ensures uniform { IfWhole result UniformWkt }
+    ensures memory { Wants result (HasMembers T.read (rest tokens.old)) }
+    ensures near { OnWhole result (IsNear tokens.new) }
     ensures bad { BlamesIn T.read tokens.old result }
     ensures goes_on { GoesOn tokens.old tokens.new }
     ensures grows { taken_of tokens.old ≤ taken_of tokens.new }
     ensures fewer { length (rest tokens.new) ≤ length (rest tokens.old) }
+    ensures taken { OnOk result (length (rest tokens.new) < length (rest tokens.old)) }
 {
-    let geometries = members(alloc, tokens)?;
-    Ok(collection_of(geometries, dim))
+    let (kind, dim) = head(tokens, inside)?;
+    match kind {
+        GeometryType::Point => Ok(Start::Whole(read_point(tokens, dim)?)),
+        GeometryType::LineString => Ok(Start::Whole(read_line_string(alloc, tokens, dim)?)),
+        GeometryType::Polygon => Ok(Start::Whole(read_polygon(alloc, tokens, dim)?)),
+        GeometryType::MultiPoint => Ok(Start::Whole(read_multi_point(alloc, tokens, dim)?)),
+        GeometryType::MultiLineString => {
+            Ok(Start::Whole(read_multi_line_string(alloc, tokens, dim)?))
+        }
+        GeometryType::MultiPolygon => Ok(Start::Whole(read_multi_polygon(alloc, tokens, dim)?)),
+        GeometryType::GeometryCollection => begin_collection(alloc, tokens, dim),
+    }
+}
+
+// The collection of these members, behind its closing place.
+fn shut<T: WktNum>(
+    tokens: &mut PeekableTokens<'_, T>,
+    body: Result<Vec<Wkt<T>>, Fault>,
+    dim: Dimension,
+) -> Result<Start<T>, Fault>
+    ensures exact { (whole : _) → ReadsIn (λ v. map wkt_value v.items) body whole (rest tokens.old) → Starts T.read result (shut_at dim whole) (rest tokens.new) }
+    ensures uniform { IfOk body (λ v. AllByRecursion UniformWkt v.items) → IfWhole result UniformWkt }
+    ensures lighter { weight result ≤ most_behind body }
+    ensures near { OnWhole result (IsNear tokens.new) }
+    ensures bad { (start : _) → IsBehind start tokens.old → OnBadIn body (HasBad T.read (lexemes_of start)) → OnBadIn result (HasBad T.read (lexemes_of start)) }
+    ensures goes_on { GoesOn tokens.old tokens.new }
+    ensures grows { taken_of tokens.old ≤ taken_of tokens.new }
+    ensures fewer { length (rest tokens.new) ≤ length (rest tokens.old) }
+{
+    let members = close(tokens, body)?;
+    Ok(Start::Whole(collection_of(members, dim)))
 }
 
 /// A geometry with its head; `inside` says that it is a member of a collection.
-#[cycle(value)]
 pub(crate) fn value<T: WktNum>(
     alloc: Global,
     tokens: &mut PeekableTokens<'_, T>,
@@ -334,14 +356,33 @@ pub(crate) fn value<T: WktNum>(
     ensures grows { taken_of tokens.old ≤ taken_of tokens.new }
     ensures fewer { length (rest tokens.new) ≤ length (rest tokens.old) }
 {
-    let (kind, dim) = head(tokens, inside)?;
-    match kind {
-        GeometryType::Point => read_point(tokens, dim),
-        GeometryType::LineString => read_line_string(alloc, tokens, dim),
-        GeometryType::Polygon => read_polygon(alloc, tokens, dim),
-        GeometryType::MultiPoint => read_multi_point(alloc, tokens, dim),
-        GeometryType::MultiLineString => read_multi_line_string(alloc, tokens, dim),
-        GeometryType::MultiPolygon => read_multi_polygon(alloc, tokens, dim),
-        GeometryType::GeometryCollection => read_collection(alloc, tokens, dim),
+    let mut open = Vec::new(alloc);
+    let mut now = begin(alloc, tokens, inside);
+    'levels: loop {
+        now = match now {
+            Ok(Start::Opened(dim)) => {
+                open.push(Nest {
+                    members: Vec::new(alloc),
+                    dim,
+                })?;
+                begin(alloc, tokens, true)
+            }
+            Ok(Start::Whole(geometry)) => match open.pop() {
+                None => return Ok(geometry),
+                Some(Nest { mut members, dim }) => {
+                    members.push(geometry)?;
+                    if tokens.take_comma() {
+                        open.push(Nest { members, dim })?;
+                        begin(alloc, tokens, true)
+                    } else {
+                        shut(tokens, Ok(members), dim)
+                    }
+                }
+            },
+            Err(fault) => match open.pop() {
+                None => return Err(fault),
+                Some(nest) => shut(tokens, Err(fault), nest.dim),
+            },
+        };
     }
 }

@@ -1,11 +1,13 @@
 -- The tree of a `Wkt`, kind by kind.
-use Rattle.std.proofs.Common.{◌≡◌, ℕ, ◌<◌, ◌≤◌, ◌+◌, refl, ap, sym, ◌∙◌, List, [], ◌∷◌, drop, length, get_or, Bool, false, ◌&&◌, Some, slice_get, nat_eq, add-one, arith, eq-eqb, ◌-◌, length-drop, map}
+use Rattle.std.proofs.Common.{◌≡◌, ℕ, ◌<◌, ◌≤◌, ◌+◌, refl, ap, sym, ◌∙◌, List, [], ◌∷◌, drop, length, get_or, Bool, false, ◌&&◌, Some, slice_get, nat_eq, add-one, arith, eq-eqb, ◌-◌, length-drop, map, ◌++◌, Result, Ok, Err}
+use Rattle.std.specs.Prelude.{OnOk}
+use Rattle.std.specs.Result.{IsOk}
 use Rattle.wkt_access.specs.declared.dimensions.Dimension.{Dimension}
 use Rattle.std.proofs.lemmas.Bool.Decides.{nat_tests}
 use Rattle.std.proofs.Math.Seq.{drop-cons}
 use Rattle.std.proofs.lemmas.List.{drop_all}
 use Rattle.wkt_types.specs.Trees.{tree_eq, trees_eq}
-use Rattle.wkt_types.specs.Tree.{collected, tree_dim, collection, Tree, tree, members, collection_tree, no_trees, wkt_step, collection_step}
+use Rattle.wkt_types.specs.Tree.{trees_of, collected, tree_dim, collection, Tree, tree, members, collection_tree, no_trees, wkt_step, collection_step}
 use Rattle.wkt_types.specs.declared.geometry.GeometryCollection.{GeometryCollection}
 use Rattle.wkt_types.specs.declared.geometry.Wkt.{Wkt}
 use Rattle.wkt_types.specs.declared.geometry.Wkt.TheViews as views
@@ -50,3 +52,18 @@ collected_some (v ∷ vs) w d h k =
     let e : v ≡ w = cc in
     let f : d ≡ tree_dim (tree v) = rw e k in
     ap (λ x. Some (collection (members (v ∷ vs)) x)) f
+
+pub tree-members : {T : Type 0} (c : GeometryCollection T) → collection_tree c ≡ collection (members c.geometries.items) c.dim
+tree-members {T} c = folds.fold-roll-GeometryCollection T (Tree T) (Tree T) wkt_step collection_step (record { geometries = c.geometries; dim = c.dim })
+
+pub copied-in : {T E : Type 0} (r filled : Result (Unit {0}) E) (olds news copies all : List (Wkt T)) (d : Dimension) (t : Tree T) →
+    OnOk r (IsOk filled) → OnOk filled (map tree copies ≡ map tree all) → t ≡ collection (members all) d →
+    OnOk r (map tree news ≡ map tree olds ++ collection (members copies) d ∷ []) → OnOk r (map tree news ≡ map tree olds ++ t ∷ [])
+copied-in (Ok u) (Ok v) olds news copies all d t o same is pushed =
+    pushed ∙ ap (λ l. map tree olds ++ collection (trees_of l) d ∷ []) same ∙ ap (λ t. map tree olds ++ t ∷ []) (sym is)
+copied-in (Ok u) (Err e) olds news copies all d t o same is pushed = cc
+copied-in (Err e) filled olds news copies all d t o same is pushed = tt
+
+pub on-ok-map : {X E : Type 0} (r : Result X E) (P Q : Type 0) → (P → Q) → OnOk r P → OnOk r Q
+on-ok-map (Ok x) P Q f p = f p
+on-ok-map (Err e) P Q f p = tt

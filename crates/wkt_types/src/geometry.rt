@@ -1,6 +1,7 @@
 //! Geometries of any kind, and collections of them.
-ghost use Rattle.std.specs.Prelude.{◌≡◌, IsTrue, ◌↔◌, IfOk, map};
+ghost use Rattle.std.specs.Prelude.{◌≡◌, IsTrue, ◌↔◌, IfOk, OnOk, map, ◌++◌, ◌∷◌, []};
 ghost use Rattle.std.specs.Option.{option_map};
+ghost use Rattle.std.specs.Result.{IsOk};
 ghost use Rattle.std.specs.Cmp.{on_per};
 ghost use Rattle.std.specs.Iterator.{IsFinite};
 ghost use Rattle.std.specs.Iterator.Runs.{WholeRun};
@@ -21,7 +22,7 @@ use wkt_num::WktNum;
 
 /// A collection: geometries in order, each with its own dimension, and the dimension of the header.
 #[cycle(wkt)]
-#[derive(Debug, Drop)]
+#[derive(Debug)]
 pub struct GeometryCollection<T> {
     geometries: Vec<Wkt<T>>,
     dim: Dimension,
@@ -38,6 +39,18 @@ pub enum Wkt<T> {
     MultiLineString(MultiLineString<T>),
     MultiPolygon(MultiPolygon<T>),
     GeometryCollection(GeometryCollection<T>),
+}
+
+impl<T: Drop> Drop for GeometryCollection<T> {
+    // A function of its own, so that a level takes little stack.
+    #[cycle(letting_go)]
+    #[inline(never)]
+    fn drop(self) {
+        let GeometryCollection {
+            geometries: _,
+            dim: _,
+        } = self;
+    }
 }
 
 impl<T> GeometryCollection<T> {
@@ -123,7 +136,131 @@ impl<T> Wkt<T> {
     }
 }
 
+// Each kind is copied in a function of its own, so that a level of nesting takes little stack.
+#[inline(never)]
+fn push_point<T: Copy + Drop>(part: &Point<T>, copies: &mut Vec<Wkt<T>>) -> Result<(), AllocError>
+    ensures { OnOk result (map tree copies.new.items ≡ map tree copies.old.items ++ point part.now ∷ []) }
+{
+    copies.push(Wkt::Point(*part))?;
+    Ok(())
+}
+
+#[inline(never)]
+fn push_line<T: Copy + Drop>(
+    part: &LineString<T>,
+    alloc: Global,
+    copies: &mut Vec<Wkt<T>>,
+) -> Result<(), AllocError>
+    ensures { OnOk result (map tree copies.new.items ≡ map tree copies.old.items ++ line_string part.now ∷ []) }
+{
+    copies.push(Wkt::LineString(part.try_clone(alloc)?))?;
+    Ok(())
+}
+
+#[inline(never)]
+fn push_polygon<T: Copy + Drop>(
+    part: &Polygon<T>,
+    alloc: Global,
+    copies: &mut Vec<Wkt<T>>,
+) -> Result<(), AllocError>
+    ensures { OnOk result (map tree copies.new.items ≡ map tree copies.old.items ++ polygon part.now ∷ []) }
+{
+    copies.push(Wkt::Polygon(part.try_clone(alloc)?))?;
+    Ok(())
+}
+
+#[inline(never)]
+fn push_points<T: Copy + Drop>(
+    part: &MultiPoint<T>,
+    alloc: Global,
+    copies: &mut Vec<Wkt<T>>,
+) -> Result<(), AllocError>
+    ensures { OnOk result (map tree copies.new.items ≡ map tree copies.old.items ++ multi_point part.now ∷ []) }
+{
+    copies.push(Wkt::MultiPoint(part.try_clone(alloc)?))?;
+    Ok(())
+}
+
+#[inline(never)]
+fn push_lines<T: Copy + Drop>(
+    part: &MultiLineString<T>,
+    alloc: Global,
+    copies: &mut Vec<Wkt<T>>,
+) -> Result<(), AllocError>
+    ensures { OnOk result (map tree copies.new.items ≡ map tree copies.old.items ++ multi_line_string part.now ∷ []) }
+{
+    copies.push(Wkt::MultiLineString(part.try_clone(alloc)?))?;
+    Ok(())
+}
+
+#[inline(never)]
+fn push_polygons<T: Copy + Drop>(
+    part: &MultiPolygon<T>,
+    alloc: Global,
+    copies: &mut Vec<Wkt<T>>,
+) -> Result<(), AllocError>
+    ensures { OnOk result (map tree copies.new.items ≡ map tree copies.old.items ++ multi_polygon part.now ∷ []) }
+{
+    copies.push(Wkt::MultiPolygon(part.try_clone(alloc)?))?;
+    Ok(())
+}
+
+// The collection of those geometries, if they are filled. It alone lets them go where they aren't,
+// since that takes stack.
+#[inline(never)]
+fn push_collection<T: Copy + Drop>(
+    filled: Result<(), AllocError>,
+    geometries: Vec<Wkt<T>>,
+    dim: Dimension,
+    copies: &mut Vec<Wkt<T>>,
+) -> Result<(), AllocError>
+    ensures filled { OnOk result (IsOk filled) }
+    ensures pushed { OnOk result (map tree copies.new.items ≡ map tree copies.old.items ++ collection (members geometries.items) dim ∷ []) }
+{
+    filled?;
+    let collection = GeometryCollection::new(geometries, dim);
+    copies.push(Wkt::GeometryCollection(collection))?;
+    Ok(())
+}
+
+// A copy, behind others.
 #[cycle(copy)]
+fn push_copy<T: Copy + Drop>(
+    w: &Wkt<T>,
+    alloc: Global,
+    copies: &mut Vec<Wkt<T>>,
+) -> Result<(), AllocError>
+    ensures { OnOk result (map tree copies.new.items ≡ map tree copies.old.items ++ tree w.now ∷ []) }
+{
+    match w {
+        Wkt::Point(p) => push_point(p, copies),
+        Wkt::LineString(l) => push_line(l, alloc, copies),
+        Wkt::Polygon(y) => push_polygon(y, alloc, copies),
+        Wkt::MultiPoint(m) => push_points(m, alloc, copies),
+        Wkt::MultiLineString(m) => push_lines(m, alloc, copies),
+        Wkt::MultiPolygon(m) => push_polygons(m, alloc, copies),
+        Wkt::GeometryCollection(c) => {
+            let mut geometries = Vec::with_capacity(alloc, c.geometries.len())?;
+            let filled = push_copies(&c.geometries, alloc, &mut geometries);
+            push_collection(filled, geometries, c.dim, copies)
+        }
+    }
+}
+
+#[cycle(copy)]
+fn push_copies<T: Copy + Drop>(
+    all: &Vec<Wkt<T>>,
+    alloc: Global,
+    copies: &mut Vec<Wkt<T>>,
+) -> Result<(), AllocError>
+    ensures { OnOk result (map tree copies.new.items ≡ map tree copies.old.items ++ map tree all.now.items) }
+{
+    for w in all {
+        push_copy(w, alloc, copies)?;
+    }
+    Ok(())
+}
+
 fn copy_wkt<T: Copy + Drop>(w: &Wkt<T>, alloc: Global) -> Result<Wkt<T>, AllocError>
     ensures { IfOk result (λ c. tree c ≡ tree w.now) }
 {
@@ -138,28 +275,18 @@ fn copy_wkt<T: Copy + Drop>(w: &Wkt<T>, alloc: Global) -> Result<Wkt<T>, AllocEr
     }
 }
 
-#[cycle(copy)]
 fn copy_collection<T: Copy + Drop>(
     c: &GeometryCollection<T>,
     alloc: Global,
 ) -> Result<GeometryCollection<T>, AllocError>
     ensures { IfOk result (λ r. collection_tree r ≡ collection_tree c.now) }
 {
+    let mut geometries = Vec::with_capacity(alloc, c.geometries.len())?;
+    push_copies(&c.geometries, alloc, &mut geometries)?;
     Ok(GeometryCollection {
-        geometries: copy_members(&c.geometries, alloc)?,
+        geometries,
         dim: c.dim,
     })
-}
-
-#[cycle(copy)]
-fn copy_members<T: Copy + Drop>(all: &Vec<Wkt<T>>, alloc: Global) -> Result<Vec<Wkt<T>>, AllocError>
-    ensures { IfOk result (λ v. members v.items ≡ members all.now.items) }
-{
-    let mut copies = Vec::with_capacity(alloc, all.len())?;
-    for w in all {
-        copies.push(copy_wkt(w, alloc)?)?;
-    }
-    Ok(copies)
 }
 
 impl<T: Copy + Drop> Wkt<T> {

@@ -129,6 +129,7 @@ impl<T: WktNum> PartialEq for LineString<T> {
     ghost laws = { exact_per (held_exact (coord_exact (exact_by T.same))) };
 
     /// True exactly if coordinates and dimension are equal.
+    #[inline(never)]
     fn eq(&self, other: &Self) -> bool
         ensures eq { result ≡ held_eq (coord_eq T.eq) self.now other.now }
         ensures exact { IsTrue result ↔ (self.now ≡ other.now) }

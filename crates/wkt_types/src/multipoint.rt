@@ -128,6 +128,7 @@ impl<T: WktNum> PartialEq for MultiPoint<T> {
     ghost laws = { exact_per (held_exact (point_exact (exact_by T.same))) };
 
     /// True exactly if points and dimension are equal.
+    #[inline(never)]
     fn eq(&self, other: &Self) -> bool
         ensures eq { result ≡ held_eq (point_eq T.eq) self.now other.now }
         ensures exact { IsTrue result ↔ (self.now ≡ other.now) }

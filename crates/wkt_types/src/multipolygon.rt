@@ -128,6 +128,7 @@ impl<T: WktNum> PartialEq for MultiPolygon<T> {
     ghost laws = { exact_per (held_exact (polygon_exact (exact_by T.same))) };
 
     /// True exactly if polygons and dimension are equal.
+    #[inline(never)]
     fn eq(&self, other: &Self) -> bool
         ensures eq { result ≡ held_eq (polygon_eq T.eq) self.now other.now }
         ensures exact { IsTrue result ↔ (self.now ≡ other.now) }

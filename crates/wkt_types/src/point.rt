@@ -102,6 +102,7 @@ impl<T: WktNum> PartialEq for Point<T> {
     ghost laws = { exact_per (held_point_exact (coord_exact (exact_by T.same))) };
 
     /// True exactly if coordinate and dimension are equal.
+    #[inline(never)]
     fn eq(&self, other: &Self) -> bool
         ensures eq { result ≡ held_point_eq (coord_eq T.eq) self.now other.now }
         ensures exact { IsTrue result ↔ (self.now ≡ other.now) }

@@ -1,6 +1,6 @@
-use Rattle.std.proofs.Common.{◌≤◌, ◌∙◌, ap, refl, drop, length, arith}
+use Rattle.std.proofs.Common.{◌≤◌, ◌∙◌, ap, drop, length, arith}
 use Rattle.std.proofs.lemmas.List.{append-nil}
-use Rattle.wkt_bytes.specs.Wrapper.{state_well, not_well, leaves_as_is, gives_more, kept_gives, leaves_after, leaves_longer}
+use Rattle.wkt_bytes.specs.Wrapper.{state_well, gives_more, kept_gives, leaves_after, leaves_longer}
 use Rattle.wkt_bytes.proofs.DeviceLemmas.{any_err, take_step, with_rest}
 use Rattle.wkt_bytes.proofs.wrapper.WriterWrapper.accept_long.Goals as goal
 use Rattle.wkt_bytes.proofs.wrapper.WriterWrapper.accept_long.Goals.{then-bytes-at, else-bytes-at}
@@ -47,6 +47,3 @@ returns-in_err-empty-clause-err g c =
     let m = gives_more g.W.ByteSink.device _ _ _ _ _ i.gave k in
     let l = leaves_longer g.W.ByteSink.device _ _ _ (drop next bs) (leaves_after g.W.ByteSink.device _ _ _ _ _ m c.in_err-empty.ensures.err) in
     any_err c.from_residual.result (rw (with_rest bs c.loop-at.at next low) at l)
-
-pub returns-in_default : goal.returns-in_default
-returns-in_default g c = record { ok = tt; well = tt; err = leaves_as_is g.W.ByteSink.device _ _ (not_well _ c.in_default.not-Well); failures = refl }

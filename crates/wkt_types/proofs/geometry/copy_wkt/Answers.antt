@@ -1,0 +1,10 @@
+use Rattle.std.proofs.Common.{ap, sym, ◌∙◌}
+use Rattle.wkt_types.specs.Tree.{tree}
+use Rattle.wkt_types.proofs.TreeLemmas.{tree-collection}
+use Rattle.wkt_types.proofs.geometry.copy_wkt.Goals as goal
+
+pub returns-in_ok-copy_collection-in-GeometryCollection : goal.returns-in_ok-copy_collection-in-GeometryCollection
+returns-in_ok-copy_collection-in-GeometryCollection g c =
+    tree-collection c.in_ok-copy_collection-in-GeometryCollection.field-0
+    ∙ (c.in_ok-copy_collection-in-GeometryCollection.ensures
+    ∙ (sym (tree-collection c.in-GeometryCollection.c) ∙ sym (ap tree c.in-GeometryCollection.is)))
