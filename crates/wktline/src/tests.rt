@@ -125,6 +125,18 @@ fn answers_lines(rt: HostRuntime) -> Result<(), Fail> {
             b"MULTIPOINT (EMPTY)\n".as_slice(),
             b"MULTIPOINT(EMPTY)\n".as_slice(),
         ),
+        (
+            b"POINT(-71.1776848522251 42.3902909739571)\n".as_slice(),
+            b"POINT(-71.1776848522251 42.3902909739571)\n".as_slice(),
+        ),
+        (
+            b"POINT(0.000000000000000001 170141183460469231731.687303715884105727)\n".as_slice(),
+            b"POINT(0.000000000000000001 170141183460469231731.687303715884105727)\n".as_slice(),
+        ),
+        (
+            b"POINT(0 170141183460469231731.687303715884105728)\nPOINT(0 0.0000000000000000001)\n".as_slice(),
+            b"refused\nrefused\n".as_slice(),
+        ),
     ] {
         let mut reader = source(input, 1000, 1000);
         let mut writer = Slow::new(1000, 1000);
