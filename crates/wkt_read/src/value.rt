@@ -341,15 +341,17 @@ fn shut<T: WktNum>(
     Ok(Start::Whole(collection_of(members, dim)))
 }
 
-/// A geometry with its head; `inside` says that it is a member of a collection.
-pub(crate) fn value<T: WktNum>(
+// A collection after its header, with all that is nested in it. Open collections are kept in a list, so that
+// nesting takes no stack.
+#[inline(never)]
+fn read_collection<T: WktNum>(
     alloc: Global,
     tokens: &mut PeekableTokens<'_, T>,
-    inside: bool,
+    dim: Dimension,
 ) -> Result<Wkt<T>, Fault>
-    ensures exact { (fuel : ℕ) → length (rest tokens.old) ≤ fuel → ReadsIn wkt_value result (value_at T.read fuel (rest tokens.old)) (rest tokens.new) }
+    ensures exact { (fuel : ℕ) → length (rest tokens.old) ≤ fuel → ReadsIn wkt_value result (body_at T.read (value_at T.read fuel) fuel GeometryType.GeometryCollection dim (rest tokens.old)) (rest tokens.new) }
     ensures uniform { IfOk result UniformWkt }
-    ensures memory { OnMemory result (HasMembers T.read (rest tokens.old)) }
+    ensures memory { OnMemory result (IsOpened (rest tokens.old)) }
     ensures near { OnOk result (IsNear tokens.new) }
     ensures bad { BlamesIn T.read tokens.old result }
     ensures goes_on { GoesOn tokens.old tokens.new }
@@ -357,7 +359,7 @@ pub(crate) fn value<T: WktNum>(
     ensures fewer { length (rest tokens.new) ≤ length (rest tokens.old) }
 {
     let mut open = Vec::new(alloc);
-    let mut now = begin(alloc, tokens, inside);
+    let mut now = begin_collection(alloc, tokens, dim);
     'levels: loop {
         now = match now {
             Ok(Start::Opened(dim)) => {
@@ -384,5 +386,34 @@ pub(crate) fn value<T: WktNum>(
                 Some(nest) => shut(tokens, Err(fault), nest.dim),
             },
         };
+    }
+}
+
+/// A geometry with its header; `inside` says that it is a member of a collection.
+///
+/// What isn't a collection takes no step of the loop over open ones, which would move it about.
+pub(crate) fn value<T: WktNum>(
+    alloc: Global,
+    tokens: &mut PeekableTokens<'_, T>,
+    inside: bool,
+) -> Result<Wkt<T>, Fault>
+    ensures exact { (fuel : ℕ) → length (rest tokens.old) ≤ fuel → ReadsIn wkt_value result (value_at T.read fuel (rest tokens.old)) (rest tokens.new) }
+    ensures uniform { IfOk result UniformWkt }
+    ensures memory { OnMemory result (HasMembers T.read (rest tokens.old)) }
+    ensures near { OnOk result (IsNear tokens.new) }
+    ensures bad { BlamesIn T.read tokens.old result }
+    ensures goes_on { GoesOn tokens.old tokens.new }
+    ensures grows { taken_of tokens.old ≤ taken_of tokens.new }
+    ensures fewer { length (rest tokens.new) ≤ length (rest tokens.old) }
+{
+    let (kind, dim) = head(tokens, inside)?;
+    match kind {
+        GeometryType::Point => read_point(tokens, dim),
+        GeometryType::LineString => read_line_string(alloc, tokens, dim),
+        GeometryType::Polygon => read_polygon(alloc, tokens, dim),
+        GeometryType::MultiPoint => read_multi_point(alloc, tokens, dim),
+        GeometryType::MultiLineString => read_multi_line_string(alloc, tokens, dim),
+        GeometryType::MultiPolygon => read_multi_polygon(alloc, tokens, dim),
+        GeometryType::GeometryCollection => read_collection(alloc, tokens, dim),
     }
 }

@@ -1,15 +1,16 @@
 use Rattle.std.proofs.Common.{◌≤◌, ◌+◌, ◌*◌, ℕ, length}
 use Rattle.std.specs.List.{AllByRecursion}
+use Rattle.wkt_types.specs.declared.geometry_type.GeometryType.TheVariants.{GeometryCollection}
 use Rattle.wkt_read.specs.Placed.{lexemes_of}
 use Rattle.wkt_read.specs.Ahead.{rest, taken_of, IsBehind, IsNear}
 use Rattle.wkt_read.specs.Walks.{GoesOn}
 use Rattle.wkt_read.specs.Bad.{HasBad}
 use Rattle.wkt_read.specs.Faults.{OnBadIn}
 use Rattle.wkt_read.specs.Reads.{UniformWkt}
-use Rattle.wkt_read.specs.Reading.{value_at, HasMembers}
+use Rattle.wkt_read.specs.Reading.{value_at, body_at, IsOpened}
 use Rattle.wkt_read.specs.Nests.{IfWhole, OnWhole, Wants, weight}
 use Rattle.wkt_read.proofs.Nests.{IfAny, Inside}
-use Rattle.wkt_read.proofs.value.value.Given as goal
+use Rattle.wkt_read.proofs.value.read_collection.Given as goal
 
 abbrev pub invariant-levels : goal.invariant-levels
 invariant-levels g l =
@@ -20,11 +21,11 @@ invariant-levels g l =
       fewer : length (rest l.tokens) ≤ length (rest l.fn.tokens);
       members : AllByRecursion (λ o. AllByRecursion UniformWkt o.members.items) l.open.items;
       uniform : IfWhole l.now UniformWkt;
-      opened : IfAny l.open.items (HasMembers read (rest l.fn.tokens));
-      memory : Wants l.now (HasMembers read (rest l.fn.tokens));
+      opened : IfAny l.open.items (IsOpened (rest l.fn.tokens));
+      memory : Wants l.now (IsOpened (rest l.fn.tokens));
       near : OnWhole l.now (IsNear l.tokens);
       bad : (start : _) → IsBehind start l.fn.tokens → OnBadIn l.now (HasBad read (lexemes_of start));
-      exact : (fuel : ℕ) → length (rest l.fn.tokens) ≤ fuel → Inside read l.open.items l.now (rest l.tokens) (value_at read fuel (rest l.fn.tokens));
+      exact : (fuel : ℕ) → length (rest l.fn.tokens) ≤ fuel → Inside read l.open.items l.now (rest l.tokens) (body_at read (value_at read fuel) fuel GeometryCollection l.fn.dim (rest l.fn.tokens));
     }
 
 abbrev pub decreases-levels : goal.decreases-levels
