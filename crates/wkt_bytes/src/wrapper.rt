@@ -51,21 +51,6 @@ fn put_all<W: ByteSink>(writer: &mut W, bytes: &[u8]) -> Result<(), io::Error>
     Ok(())
 }
 
-/// Copies a piece of `K` to twice `K` bytes: its first and its last `K`, which overlap.
-///
-/// Two copies of a length that the compiler knows cost less than a call of one that it doesn't.
-#[inline(always)]
-fn copy_ends<const K: usize>(to: &mut [u8], piece: &[u8])
-    requires least { K ≤ length piece.now }
-    requires most { length piece.now ≤ K + K }
-    requires fits { length to.old ≡ length piece.now }
-    ensures { to.new ≡ piece.now }
-{
-    let last = piece.len() - K;
-    to[..K].copy_from_slice(&piece[..K]);
-    to[last..].copy_from_slice(&piece[last..]);
-}
-
 impl<W: ByteSink> WriterWrapper<W> {
     ghost use Rattle.wkt_bytes.specs.Wrapper.{held_bytes, failed_calls, is_well, is_untold, writer_of, Gives, Leaves};
 
@@ -109,12 +94,7 @@ impl<W: ByteSink> WriterWrapper<W> {
         ensures failures { self.new.failures ≡ self.old.failures }
     {
         let end = self.len + bytes.len();
-        let room = &mut self.held[self.len..end];
-        match bytes.len() {
-            8..=16 => copy_ends::<8>(room, bytes),
-            17..=32 => copy_ends::<16>(room, bytes),
-            _ => room.copy_from_slice(bytes),
-        }
+        self.held[self.len..end].copy_from_slice(bytes);
         self.len = end;
     }
 
