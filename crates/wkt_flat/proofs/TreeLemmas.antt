@@ -1,10 +1,12 @@
 -- The tree of a geometry, kind by kind.
-use Rattle.std.proofs.Common.{◌≡◌, ℕ, ◌<◌, ◌≤◌, ◌+◌, refl, ap, sym, ◌∙◌, List, [], ◌∷◌, drop, length, get_or, Bool, false, ◌&&◌, nat_eq, add-one, arith, eq-eqb, ◌-◌, length-drop}
+use Rattle.std.proofs.Common.{◌≡◌, ℕ, ◌<◌, ◌≤◌, ◌+◌, refl, ap, sym, ◌∙◌, List, [], ◌∷◌, drop, length, get_or, Bool, false, ◌&&◌, nat_eq, add-one, arith, eq-eqb, ◌-◌, length-drop, map, ◌++◌, Result, Ok, Err}
+use Rattle.std.specs.Prelude.{OnOk}
+use Rattle.std.specs.Result.{IsOk}
 use Rattle.std.proofs.lemmas.Bool.Decides.{nat_tests}
 use Rattle.std.proofs.Math.Seq.{drop-cons}
 use Rattle.std.proofs.lemmas.List.{drop_all}
 use Rattle.wkt_flat.specs.Trees.{flat_eq, flats_eq}
-use Rattle.wkt_flat.specs.Tree.{collection, Flat, Flats, flat_tree, flat_trees, flat_members, no_flats, geometry_step, collection_step}
+use Rattle.wkt_flat.specs.Tree.{flats_of, collection, Flat, Flats, flat_tree, flat_trees, flat_members, no_flats, geometry_step, collection_step}
 use Rattle.wkt_flat.specs.declared.geometry.GeometryCollection.{GeometryCollection}
 use Rattle.wkt_flat.specs.declared.geometry.Geometry.{Geometry}
 use Rattle.wkt_flat.specs.declared.geometry.Geometry.TheViews as views
@@ -41,3 +43,18 @@ pub members_ends : {T : Type 0} (E : T → T → Bool) (as' bs : List (Geometry 
 members_ends E as' bs i h k l =
     rw (drop_all i as' h)
     (ends E (length as') (length bs) (drop i bs) (length-drop i bs ∙ ap (λ n. length bs - n) (omega arith)) (omega arith))
+
+pub flat-members : {T : Type 0} (c : GeometryCollection T) → flat_trees c ≡ flat_members c.0.items
+flat-members {T} c = folds.fold-roll-GeometryCollection T (Flat T) (Flats T) geometry_step collection_step (record { 0 = c.0 })
+
+pub copied-in : {T E : Type 0} (r filled : Result (Unit {0}) E) (olds news copies all : List (Geometry T)) (t : Flat T) →
+    OnOk r (IsOk filled) → OnOk filled (map flat_tree copies ≡ map flat_tree all) → t ≡ collection (flat_members all) →
+    OnOk r (map flat_tree news ≡ map flat_tree olds ++ collection (flat_members copies) ∷ []) → OnOk r (map flat_tree news ≡ map flat_tree olds ++ t ∷ [])
+copied-in (Ok u) (Ok v) olds news copies all t o same is pushed =
+    pushed ∙ ap (λ l. map flat_tree olds ++ collection (flats_of l) ∷ []) same ∙ ap (λ t. map flat_tree olds ++ t ∷ []) (sym is)
+copied-in (Ok u) (Err e) olds news copies all t o same is pushed = cc
+copied-in (Err e) filled olds news copies all t o same is pushed = tt
+
+pub on-ok-map : {X E : Type 0} (r : Result X E) (P Q : Type 0) → (P → Q) → OnOk r P → OnOk r Q
+on-ok-map (Ok x) P Q f p = f p
+on-ok-map (Err e) P Q f p = tt

@@ -1,5 +1,6 @@
 //! Geometries of any kind, and collections of them.
-ghost use Rattle.std.specs.Prelude.{◌≡◌, IsTrue, ◌↔◌};
+ghost use Rattle.std.specs.Prelude.{◌≡◌, IsTrue, ◌↔◌, IfOk, OnOk, map, ◌++◌, ◌∷◌, []};
+ghost use Rattle.std.specs.Result.{IsOk};
 ghost use Rattle.std.specs.Cmp.{on_per};
 ghost use Rattle.wkt_flat.specs.Exact.{exact_by, exact_per};
 ghost use Rattle.wkt_flat.specs.Tree.{flat_tree, flat_trees, flat_members, collection, point, line, line_string, polygon, multi_point, multi_line_string, multi_polygon, rect, triangle};
@@ -14,11 +15,12 @@ use crate::multilinestring::MultiLineString;
 use crate::multipolygon::MultiPolygon;
 use crate::rect::Rect;
 use crate::triangle::Triangle;
+use std::alloc::{AllocError, Global};
 use wkt_num::WktNum;
 
 /// A collection of geometries, in order.
 #[cycle(geometry)]
-#[derive(Debug, Drop)]
+#[derive(Debug)]
 pub struct GeometryCollection<T>(pub Vec<Geometry<T>>);
 
 /// A geometry of any kind.
@@ -37,6 +39,15 @@ pub enum Geometry<T> {
     Triangle(Triangle<T>),
 }
 
+impl<T: Drop> Drop for GeometryCollection<T> {
+    // A function of its own, so that a level takes little stack.
+    #[cycle(letting_go)]
+    #[inline(never)]
+    fn drop(self) {
+        let GeometryCollection(_) = self;
+    }
+}
+
 impl<T> GeometryCollection<T> {
     /// The collection of those geometries.
     pub fn new_from(geometries: Vec<Geometry<T>>) -> Self
@@ -50,6 +61,176 @@ impl<T> GeometryCollection<T> {
         ensures { flat_trees self.now ≡ flat_members result.now }
     {
         self.0.as_slice()
+    }
+}
+
+// Each kind is copied in a function of its own, so that a level of nesting takes little stack.
+#[inline(never)]
+fn push_point<T: Copy + Drop>(part: &Point<T>, copies: &mut Vec<Geometry<T>>) -> Result<(), AllocError>
+    ensures { OnOk result (map flat_tree copies.new.items ≡ map flat_tree copies.old.items ++ point part.now ∷ []) }
+{
+    copies.push(Geometry::Point(*part))?;
+    Ok(())
+}
+
+#[inline(never)]
+fn push_line<T: Copy + Drop>(part: &Line<T>, copies: &mut Vec<Geometry<T>>) -> Result<(), AllocError>
+    ensures { OnOk result (map flat_tree copies.new.items ≡ map flat_tree copies.old.items ++ line part.now ∷ []) }
+{
+    copies.push(Geometry::Line(*part))?;
+    Ok(())
+}
+
+#[inline(never)]
+fn push_line_string<T: Copy + Drop>(part: &LineString<T>, alloc: Global, copies: &mut Vec<Geometry<T>>) -> Result<(), AllocError>
+    ensures { OnOk result (map flat_tree copies.new.items ≡ map flat_tree copies.old.items ++ line_string part.now ∷ []) }
+{
+    copies.push(Geometry::LineString(part.try_clone(alloc)?))?;
+    Ok(())
+}
+
+#[inline(never)]
+fn push_polygon<T: Copy + Drop>(part: &Polygon<T>, alloc: Global, copies: &mut Vec<Geometry<T>>) -> Result<(), AllocError>
+    ensures { OnOk result (map flat_tree copies.new.items ≡ map flat_tree copies.old.items ++ polygon part.now ∷ []) }
+{
+    copies.push(Geometry::Polygon(part.try_clone(alloc)?))?;
+    Ok(())
+}
+
+#[inline(never)]
+fn push_points<T: Copy + Drop>(part: &MultiPoint<T>, alloc: Global, copies: &mut Vec<Geometry<T>>) -> Result<(), AllocError>
+    ensures { OnOk result (map flat_tree copies.new.items ≡ map flat_tree copies.old.items ++ multi_point part.now ∷ []) }
+{
+    copies.push(Geometry::MultiPoint(part.try_clone(alloc)?))?;
+    Ok(())
+}
+
+#[inline(never)]
+fn push_line_strings<T: Copy + Drop>(part: &MultiLineString<T>, alloc: Global, copies: &mut Vec<Geometry<T>>) -> Result<(), AllocError>
+    ensures { OnOk result (map flat_tree copies.new.items ≡ map flat_tree copies.old.items ++ multi_line_string part.now ∷ []) }
+{
+    copies.push(Geometry::MultiLineString(part.try_clone(alloc)?))?;
+    Ok(())
+}
+
+#[inline(never)]
+fn push_polygons<T: Copy + Drop>(part: &MultiPolygon<T>, alloc: Global, copies: &mut Vec<Geometry<T>>) -> Result<(), AllocError>
+    ensures { OnOk result (map flat_tree copies.new.items ≡ map flat_tree copies.old.items ++ multi_polygon part.now ∷ []) }
+{
+    copies.push(Geometry::MultiPolygon(part.try_clone(alloc)?))?;
+    Ok(())
+}
+
+#[inline(never)]
+fn push_rect<T: Copy + Drop>(part: &Rect<T>, copies: &mut Vec<Geometry<T>>) -> Result<(), AllocError>
+    ensures { OnOk result (map flat_tree copies.new.items ≡ map flat_tree copies.old.items ++ rect part.now ∷ []) }
+{
+    copies.push(Geometry::Rect(*part))?;
+    Ok(())
+}
+
+#[inline(never)]
+fn push_triangle<T: Copy + Drop>(part: &Triangle<T>, copies: &mut Vec<Geometry<T>>) -> Result<(), AllocError>
+    ensures { OnOk result (map flat_tree copies.new.items ≡ map flat_tree copies.old.items ++ triangle part.now ∷ []) }
+{
+    copies.push(Geometry::Triangle(*part))?;
+    Ok(())
+}
+
+// The collection of those geometries, if they are filled. It alone drops them where they aren't,
+// since that takes stack.
+#[inline(never)]
+fn push_collection<T: Copy + Drop>(
+    filled: Result<(), AllocError>,
+    geometries: Vec<Geometry<T>>,
+    copies: &mut Vec<Geometry<T>>,
+) -> Result<(), AllocError>
+    ensures filled { OnOk result (IsOk filled) }
+    ensures pushed { OnOk result (map flat_tree copies.new.items ≡ map flat_tree copies.old.items ++ collection (flat_members geometries.items) ∷ []) }
+{
+    filled?;
+    let collection = GeometryCollection::new_from(geometries);
+    copies.push(Geometry::GeometryCollection(collection))?;
+    Ok(())
+}
+
+// A copy, after others.
+#[cycle(copy)]
+fn push_copy<T: Copy + Drop>(
+    g: &Geometry<T>,
+    alloc: Global,
+    copies: &mut Vec<Geometry<T>>,
+) -> Result<(), AllocError>
+    ensures { OnOk result (map flat_tree copies.new.items ≡ map flat_tree copies.old.items ++ flat_tree g.now ∷ []) }
+{
+    match g {
+        Geometry::Point(p) => push_point(p, copies),
+        Geometry::Line(l) => push_line(l, copies),
+        Geometry::LineString(l) => push_line_string(l, alloc, copies),
+        Geometry::Polygon(y) => push_polygon(y, alloc, copies),
+        Geometry::MultiPoint(m) => push_points(m, alloc, copies),
+        Geometry::MultiLineString(m) => push_line_strings(m, alloc, copies),
+        Geometry::MultiPolygon(m) => push_polygons(m, alloc, copies),
+        Geometry::Rect(r) => push_rect(r, copies),
+        Geometry::Triangle(t) => push_triangle(t, copies),
+        Geometry::GeometryCollection(c) => {
+            let mut geometries = Vec::with_capacity(alloc, c.0.len())?;
+            let filled = push_copies(&c.0, alloc, &mut geometries);
+            push_collection(filled, geometries, copies)
+        }
+    }
+}
+
+#[cycle(copy)]
+fn push_copies<T: Copy + Drop>(
+    all: &Vec<Geometry<T>>,
+    alloc: Global,
+    copies: &mut Vec<Geometry<T>>,
+) -> Result<(), AllocError>
+    ensures { OnOk result (map flat_tree copies.new.items ≡ map flat_tree copies.old.items ++ map flat_tree all.now.items) }
+{
+    for g in all {
+        push_copy(g, alloc, copies)?;
+    }
+    Ok(())
+}
+
+impl<T: Copy + Drop> Geometry<T> {
+    /// An equal geometry.
+    ///
+    /// # Errors
+    /// Out of memory.
+    pub fn try_clone(&self, alloc: Global) -> Result<Self, AllocError>
+        ensures { IfOk result (λ g. flat_tree g ≡ flat_tree self.now) }
+    {
+        match self {
+            Geometry::Point(p) => Ok(Geometry::Point(*p)),
+            Geometry::Line(l) => Ok(Geometry::Line(*l)),
+            Geometry::LineString(l) => Ok(Geometry::LineString(l.try_clone(alloc)?)),
+            Geometry::Polygon(y) => Ok(Geometry::Polygon(y.try_clone(alloc)?)),
+            Geometry::MultiPoint(m) => Ok(Geometry::MultiPoint(m.try_clone(alloc)?)),
+            Geometry::MultiLineString(m) => Ok(Geometry::MultiLineString(m.try_clone(alloc)?)),
+            Geometry::MultiPolygon(m) => Ok(Geometry::MultiPolygon(m.try_clone(alloc)?)),
+            Geometry::Rect(r) => Ok(Geometry::Rect(*r)),
+            Geometry::Triangle(t) => Ok(Geometry::Triangle(*t)),
+            Geometry::GeometryCollection(c) => {
+                Ok(Geometry::GeometryCollection(c.try_clone(alloc)?))
+            }
+        }
+    }
+}
+
+impl<T: Copy + Drop> GeometryCollection<T> {
+    /// An equal collection.
+    ///
+    /// # Errors
+    /// Out of memory.
+    pub fn try_clone(&self, alloc: Global) -> Result<Self, AllocError>
+        ensures { IfOk result (λ c. flat_trees c ≡ flat_trees self.now) }
+    {
+        let mut geometries = Vec::with_capacity(alloc, self.0.len())?;
+        push_copies(&self.0, alloc, &mut geometries)?;
+        Ok(GeometryCollection(geometries))
     }
 }
 
