@@ -6,13 +6,13 @@ ghost use Rattle.wkt_flat.specs.Exact.{exact_by, exact_per};
 ghost use Rattle.wkt_flat.specs.Tree.{flat_tree, flat_trees, flat_members, collection, point, line, line_string, polygon, multi_point, multi_line_string, multi_polygon, rect, triangle};
 ghost use Rattle.wkt_flat.specs.Trees.{flat_eq, flats_eq, flat_exact, flats_exact};
 
-use crate::point::Point;
 use crate::line::Line;
 use crate::linestring::LineString;
-use crate::polygon::Polygon;
-use crate::multipoint::MultiPoint;
 use crate::multilinestring::MultiLineString;
+use crate::multipoint::MultiPoint;
 use crate::multipolygon::MultiPolygon;
+use crate::point::Point;
+use crate::polygon::Polygon;
 use crate::rect::Rect;
 use crate::triangle::Triangle;
 use std::alloc::{AllocError, Global};
@@ -62,11 +62,22 @@ impl<T> GeometryCollection<T> {
     {
         self.0.as_slice()
     }
+
+    /// The geometries in order, taken out of the collection.
+    pub fn into_inner(self) -> Vec<Geometry<T>>
+        ensures { flat_trees self ≡ flat_members result.items }
+    {
+        let GeometryCollection(geometries) = self;
+        geometries
+    }
 }
 
 // Each kind is copied in a function of its own, so that a level of nesting takes little stack.
 #[inline(never)]
-fn push_point<T: Copy + Drop>(part: &Point<T>, copies: &mut Vec<Geometry<T>>) -> Result<(), AllocError>
+fn push_point<T: Copy + Drop>(
+    part: &Point<T>,
+    copies: &mut Vec<Geometry<T>>,
+) -> Result<(), AllocError>
     ensures { OnOk result (map flat_tree copies.new.items ≡ map flat_tree copies.old.items ++ point part.now ∷ []) }
 {
     copies.push(Geometry::Point(*part))?;
@@ -74,7 +85,10 @@ fn push_point<T: Copy + Drop>(part: &Point<T>, copies: &mut Vec<Geometry<T>>) ->
 }
 
 #[inline(never)]
-fn push_line<T: Copy + Drop>(part: &Line<T>, copies: &mut Vec<Geometry<T>>) -> Result<(), AllocError>
+fn push_line<T: Copy + Drop>(
+    part: &Line<T>,
+    copies: &mut Vec<Geometry<T>>,
+) -> Result<(), AllocError>
     ensures { OnOk result (map flat_tree copies.new.items ≡ map flat_tree copies.old.items ++ line part.now ∷ []) }
 {
     copies.push(Geometry::Line(*part))?;
@@ -82,7 +96,11 @@ fn push_line<T: Copy + Drop>(part: &Line<T>, copies: &mut Vec<Geometry<T>>) -> R
 }
 
 #[inline(never)]
-fn push_line_string<T: Copy + Drop>(part: &LineString<T>, alloc: Global, copies: &mut Vec<Geometry<T>>) -> Result<(), AllocError>
+fn push_line_string<T: Copy + Drop>(
+    part: &LineString<T>,
+    alloc: Global,
+    copies: &mut Vec<Geometry<T>>,
+) -> Result<(), AllocError>
     ensures { OnOk result (map flat_tree copies.new.items ≡ map flat_tree copies.old.items ++ line_string part.now ∷ []) }
 {
     copies.push(Geometry::LineString(part.try_clone(alloc)?))?;
@@ -90,7 +108,11 @@ fn push_line_string<T: Copy + Drop>(part: &LineString<T>, alloc: Global, copies:
 }
 
 #[inline(never)]
-fn push_polygon<T: Copy + Drop>(part: &Polygon<T>, alloc: Global, copies: &mut Vec<Geometry<T>>) -> Result<(), AllocError>
+fn push_polygon<T: Copy + Drop>(
+    part: &Polygon<T>,
+    alloc: Global,
+    copies: &mut Vec<Geometry<T>>,
+) -> Result<(), AllocError>
     ensures { OnOk result (map flat_tree copies.new.items ≡ map flat_tree copies.old.items ++ polygon part.now ∷ []) }
 {
     copies.push(Geometry::Polygon(part.try_clone(alloc)?))?;
@@ -98,7 +120,11 @@ fn push_polygon<T: Copy + Drop>(part: &Polygon<T>, alloc: Global, copies: &mut V
 }
 
 #[inline(never)]
-fn push_points<T: Copy + Drop>(part: &MultiPoint<T>, alloc: Global, copies: &mut Vec<Geometry<T>>) -> Result<(), AllocError>
+fn push_points<T: Copy + Drop>(
+    part: &MultiPoint<T>,
+    alloc: Global,
+    copies: &mut Vec<Geometry<T>>,
+) -> Result<(), AllocError>
     ensures { OnOk result (map flat_tree copies.new.items ≡ map flat_tree copies.old.items ++ multi_point part.now ∷ []) }
 {
     copies.push(Geometry::MultiPoint(part.try_clone(alloc)?))?;
@@ -106,7 +132,11 @@ fn push_points<T: Copy + Drop>(part: &MultiPoint<T>, alloc: Global, copies: &mut
 }
 
 #[inline(never)]
-fn push_line_strings<T: Copy + Drop>(part: &MultiLineString<T>, alloc: Global, copies: &mut Vec<Geometry<T>>) -> Result<(), AllocError>
+fn push_line_strings<T: Copy + Drop>(
+    part: &MultiLineString<T>,
+    alloc: Global,
+    copies: &mut Vec<Geometry<T>>,
+) -> Result<(), AllocError>
     ensures { OnOk result (map flat_tree copies.new.items ≡ map flat_tree copies.old.items ++ multi_line_string part.now ∷ []) }
 {
     copies.push(Geometry::MultiLineString(part.try_clone(alloc)?))?;
@@ -114,7 +144,11 @@ fn push_line_strings<T: Copy + Drop>(part: &MultiLineString<T>, alloc: Global, c
 }
 
 #[inline(never)]
-fn push_polygons<T: Copy + Drop>(part: &MultiPolygon<T>, alloc: Global, copies: &mut Vec<Geometry<T>>) -> Result<(), AllocError>
+fn push_polygons<T: Copy + Drop>(
+    part: &MultiPolygon<T>,
+    alloc: Global,
+    copies: &mut Vec<Geometry<T>>,
+) -> Result<(), AllocError>
     ensures { OnOk result (map flat_tree copies.new.items ≡ map flat_tree copies.old.items ++ multi_polygon part.now ∷ []) }
 {
     copies.push(Geometry::MultiPolygon(part.try_clone(alloc)?))?;
@@ -122,7 +156,10 @@ fn push_polygons<T: Copy + Drop>(part: &MultiPolygon<T>, alloc: Global, copies: 
 }
 
 #[inline(never)]
-fn push_rect<T: Copy + Drop>(part: &Rect<T>, copies: &mut Vec<Geometry<T>>) -> Result<(), AllocError>
+fn push_rect<T: Copy + Drop>(
+    part: &Rect<T>,
+    copies: &mut Vec<Geometry<T>>,
+) -> Result<(), AllocError>
     ensures { OnOk result (map flat_tree copies.new.items ≡ map flat_tree copies.old.items ++ rect part.now ∷ []) }
 {
     copies.push(Geometry::Rect(*part))?;
@@ -130,7 +167,10 @@ fn push_rect<T: Copy + Drop>(part: &Rect<T>, copies: &mut Vec<Geometry<T>>) -> R
 }
 
 #[inline(never)]
-fn push_triangle<T: Copy + Drop>(part: &Triangle<T>, copies: &mut Vec<Geometry<T>>) -> Result<(), AllocError>
+fn push_triangle<T: Copy + Drop>(
+    part: &Triangle<T>,
+    copies: &mut Vec<Geometry<T>>,
+) -> Result<(), AllocError>
     ensures { OnOk result (map flat_tree copies.new.items ≡ map flat_tree copies.old.items ++ triangle part.now ∷ []) }
 {
     copies.push(Geometry::Triangle(*part))?;

@@ -4,16 +4,16 @@ ghost use Rattle.wkt_access.specs.declared.dimensions.Dimensions.TheVariants.{Xy
 ghost use Rattle.wkt_flat.specs.Shape.{flat_shape, flat_shapes};
 ghost use Rattle.wkt_flat.specs.Tree.{flat_tree, flat_trees, point, line, line_string, polygon, multi_point, multi_line_string, multi_polygon, rect, triangle};
 
-use crate::point::Point;
+use crate::geometry::{Geometry, GeometryCollection};
 use crate::line::Line;
 use crate::linestring::LineString;
-use crate::polygon::Polygon;
-use crate::multipoint::MultiPoint;
 use crate::multilinestring::MultiLineString;
+use crate::multipoint::MultiPoint;
 use crate::multipolygon::MultiPolygon;
+use crate::point::Point;
+use crate::polygon::Polygon;
 use crate::rect::Rect;
 use crate::triangle::Triangle;
-use crate::geometry::{Geometry, GeometryCollection};
 use wkt_access::{Dimensions, GeometryCollectionTrait, GeometryTrait, GeometryType};
 use wkt_num::WktNum;
 
@@ -90,7 +90,9 @@ impl<T: WktNum> GeometryTrait for Geometry<T> {
             Geometry::MultiPolygon(m) => GeometryType::MultiPolygon(m),
             Geometry::Rect(r) => GeometryType::Rect(r),
             Geometry::Triangle(t) => GeometryType::Triangle(t),
-            Geometry::GeometryCollection(c) => GeometryType::GeometryCollection(c.geometries().len()),
+            Geometry::GeometryCollection(c) => GeometryType::GeometryCollection(
+                c.geometries().len(),
+            ),
         }
     }
 
