@@ -18,24 +18,37 @@ use crate::triangle::Triangle;
 use std::alloc::{AllocError, Global};
 use wkt_num::WktNum;
 
-/// A collection of geometries, in order.
+/// A collection: geometries in order, which may be collections too. It may be empty.
+///
+/// Since a drop of its own saves stack at deep nesting, no pattern of another crate takes it apart:
+/// [`GeometryCollection::into_inner`] gives its geometries.
 #[cycle(geometry)]
 #[derive(Debug)]
 pub struct GeometryCollection<T>(pub Vec<Geometry<T>>);
 
-/// A geometry of any kind.
+/// A geometry of one of ten kinds.
 #[cycle(geometry)]
 #[derive(Debug, Drop)]
 pub enum Geometry<T> {
+    /// A point.
     Point(Point<T>),
+    /// A line between two coordinates.
     Line(Line<T>),
+    /// A line string.
     LineString(LineString<T>),
+    /// A polygon.
     Polygon(Polygon<T>),
+    /// A list of points.
     MultiPoint(MultiPoint<T>),
+    /// A list of line strings.
     MultiLineString(MultiLineString<T>),
+    /// A list of polygons.
     MultiPolygon(MultiPolygon<T>),
+    /// A collection of geometries.
     GeometryCollection(GeometryCollection<T>),
+    /// A rectangle.
     Rect(Rect<T>),
+    /// A triangle.
     Triangle(Triangle<T>),
 }
 
@@ -49,7 +62,7 @@ impl<T: Drop> Drop for GeometryCollection<T> {
 }
 
 impl<T> GeometryCollection<T> {
-    /// The collection of those geometries.
+    /// The collection of those geometries, in their order.
     pub fn new_from(geometries: Vec<Geometry<T>>) -> Self
         ensures { flat_trees result ≡ flat_members geometries.items }
     {
@@ -236,7 +249,7 @@ fn push_copies<T: Copy + Drop>(
 }
 
 impl<T: Copy + Drop> Geometry<T> {
-    /// An equal geometry.
+    /// An equal geometry, with all that it holds.
     ///
     /// # Errors
     /// Out of memory.
@@ -261,7 +274,7 @@ impl<T: Copy + Drop> Geometry<T> {
 }
 
 impl<T: Copy + Drop> GeometryCollection<T> {
-    /// An equal collection.
+    /// An equal collection, with all that it holds.
     ///
     /// # Errors
     /// Out of memory.
@@ -322,7 +335,7 @@ impl<T: WktNum> PartialEq for Geometry<T> {
 
     ghost laws = { on_per flat_tree (exact_per (flat_exact (exact_by T.same))) };
 
-    /// True exactly if kind and parts are equal.
+    /// True exactly if the kinds are equal, and what the geometries hold.
     fn eq(&self, other: &Self) -> bool
         ensures eq { result ≡ flat_eq T.eq (flat_tree self.now) (flat_tree other.now) }
         ensures exact { IsTrue result ↔ (flat_tree self.now ≡ flat_tree other.now) }
@@ -336,7 +349,7 @@ impl<T: WktNum> PartialEq for GeometryCollection<T> {
 
     ghost laws = { on_per flat_trees (exact_per (flats_exact (exact_by T.same))) };
 
-    /// True exactly if the geometries are equal.
+    /// True exactly if the geometries are equal, in order.
     fn eq(&self, other: &Self) -> bool
         ensures eq { result ≡ flats_eq T.eq (flat_trees self.now) (flat_trees other.now) }
         ensures exact { IsTrue result ↔ (flat_trees self.now ≡ flat_trees other.now) }
