@@ -16,7 +16,10 @@ pub mod geo_traits {
 
 /// Two-dimensional types.
 pub mod geo_types {
-    pub use wkt_flat::{Coord, Line, Rect, Triangle};
+    pub use wkt_flat::{
+        Coord, Geometry, GeometryCollection, Line, LineString, MultiLineString, MultiPoint,
+        MultiPolygon, Point, Polygon, Rect, Triangle,
+    };
 }
 
 /// The types of well-known text.
@@ -51,6 +54,7 @@ pub mod tokenizer {
 /// The laws of the definitions that the contracts cite: public functions with empty bodies, whose
 /// contracts are the laws.
 pub mod laws {
+    pub use wkt_flat::laws::flat_is_writable;
     pub use wkt_num::laws::{finer_keeps, reading_is_equation, wider_keeps};
     pub use wkt_read::laws::{
         canon_once, dead_for_good, front_is_writable, head_names, old_forms, one_form, one_front,

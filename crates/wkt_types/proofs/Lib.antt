@@ -1,5 +1,4 @@
 pub mod Firsts
-pub mod Sames
 pub mod TreeLemmas
 pub mod Members
 pub mod Collections

@@ -2,7 +2,8 @@
 use Rattle.std.specs.Prelude.{Bool, ◌&&◌, Option}
 use Rattle.std.proofs.Common.{ap, ◌∙◌}
 use Rattle.wkt_types.specs.Held.{Held, HeldPoint}
-use Rattle.wkt_types.specs.Exact.{IsExact, both, joined, option_eq, option_exact, held_eq, held_exact, held_point_eq, held_point_exact}
+use Rattle.wkt_flat.specs.Exact.{IsExact, both, joined}
+use Rattle.wkt_types.specs.Exact.{option_eq, option_exact, held_eq, held_exact, held_point_eq, held_point_exact}
 use Rattle.wkt_types.specs.declared.coord.Coord.{Coord}
 
 -- Two coordinates are the same by a test of their numbers.

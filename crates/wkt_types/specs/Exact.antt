@@ -1,44 +1,11 @@
--- Tests that are true of equal values alone.
-use Rattle.std.specs.Prelude.{◌≡◌, refl, Bool, true, false, ◌&&◌, List, [], ◌∷◌, Option, Some, None, ◌↔◌}
-use Rattle.std.specs.Cmp.{IsPartialEquivalence}
+-- Tests of what the types hold that are true of equal values alone.
+use Rattle.std.specs.Prelude.{◌≡◌, refl, Bool, true, false, ◌&&◌, List, Option, Some, None}
 use Rattle.std.specs.Cmp.Lexicographic.{pointwise}
-use Rattle.std.proofs.Common.{ap, sym, ◌∙◌, subst}
+use Rattle.std.proofs.Common.{ap, ◌∙◌}
 use Rattle.wkt_access.specs.declared.dimensions.Dimension.{Dimension}
 use Rattle.wkt_access.specs.declared.dimensions.Dimension.TheVariants.{XY, XYZ, XYM, XYZM}
+use Rattle.wkt_flat.specs.Exact.{IsExact, both, joined, pointwise_exact}
 use Rattle.wkt_types.specs.Held.{Held, HeldPoint}
-
--- A test is exact if it is true of x and y exactly where they are equal.
-pub record IsExact {K : Type 0} (E : K → K → Bool) : Type 0 where
-  pub only : (x y : K) → E x y ≡ true → x ≡ y
-  pub each : (x : K) → E x x ≡ true
-
--- The law of a number type in this form.
-pub exact_by : {K : Type 0} {E : K → K → Bool} → ((x y : K) → (E x y ≡ true) ↔ (x ≡ y)) → IsExact E
-exact_by h = record { only = λ x y. (h x y).0; each = λ x. (h x x).1 refl }
-
-pub exactly : {K : Type 0} {E : K → K → Bool} → IsExact E → (x y : K) → (E x y ≡ true) ↔ (x ≡ y)
-exactly {E = E} e x y = (e.only x y, λ p. subst (λ z. E x z ≡ true) p (e.each x))
-
-pub both : (a b : Bool) → (a && b) ≡ true → (a ≡ true) × (b ≡ true)
-both true true h = (refl, refl)
-both true false h = cc
-both false b h = cc
-
-pub joined : {a b : Bool} → a ≡ true → b ≡ true → (a && b) ≡ true
-joined h k = rw (h, k) refl
-
-alike : {K : Type 0} {E : K → K → Bool} → IsExact E → (x y : K) (b c : Bool) → E x y ≡ b → E y x ≡ c → b ≡ c
-alike e x y true true h k = refl
-alike e x y false false h k = refl
-alike {K} {E} e x y true false h k = let p : E y x ≡ true = subst (λ z. E z x ≡ true) (e.only x y h) (e.each x) in cc
-alike {K} {E} e x y false true h k = let p : E x y ≡ true = subst (λ z. E x z ≡ true) (sym (e.only y x k)) (e.each x) in cc
-
--- An exact test is symmetric and transitive.
-pub exact_per : {K : Type 0} {E : K → K → Bool} → IsExact E → IsPartialEquivalence E
-exact_per {K} {E} e = record {
-  symm = λ x y. alike e x y (E x y) (E y x) refl refl;
-  trans = λ x y z h k. subst (λ w. E x w ≡ true) (e.only y z k) h;
-}
 
 -- Two options hold the same, or nothing both.
 abbrev pub option_eq : {K : Type 0} → (K → K → Bool) → Option K → Option K → Bool
@@ -59,23 +26,6 @@ option_each e (Some x) = e.each x
 
 pub option_exact : {K : Type 0} {E : K → K → Bool} → IsExact E → IsExact (option_eq E)
 option_exact e = record { only = option_only e; each = option_each e }
-
-pointwise_only : {K : Type 0} {E : K → K → Bool} → IsExact E → (x y : List K) → pointwise E x y ≡ true → x ≡ y
-pointwise_only e [] [] h = refl
-pointwise_only e [] (y ∷ ys) h = cc
-pointwise_only e (x ∷ xs) [] h = cc
-pointwise_only {K} {E} e (x ∷ xs) (y ∷ ys) h =
-    let p = both (E x y) (pointwise E xs ys) h in
-    let heads = e.only x y p.0 in
-    let tails = pointwise_only e xs ys p.1 in
-    cc
-
-pointwise_each : {K : Type 0} {E : K → K → Bool} → IsExact E → (x : List K) → pointwise E x x ≡ true
-pointwise_each e [] = refl
-pointwise_each e (x ∷ xs) = joined (e.each x) (pointwise_each e xs)
-
-pub pointwise_exact : {K : Type 0} {E : K → K → Bool} → IsExact E → IsExact (pointwise E)
-pointwise_exact e = record { only = pointwise_only e; each = pointwise_each e }
 
 -- Two dimensions are the same.
 abbrev pub dim_eq : Dimension → Dimension → Bool

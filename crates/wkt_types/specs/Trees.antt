@@ -1,7 +1,8 @@
 -- When two trees are the same.
 use Rattle.std.specs.Prelude.{◌≡◌, refl, Bool, true, false, ◌&&◌}
 use Rattle.std.proofs.Common.{ap}
-use Rattle.wkt_types.specs.Exact.{IsExact, both, joined, dim_eq, dim_exact, held_eq, held_exact}
+use Rattle.wkt_flat.specs.Exact.{IsExact, both, joined}
+use Rattle.wkt_types.specs.Exact.{dim_eq, dim_exact, held_eq, held_exact}
 use Rattle.wkt_types.specs.Equal.{point_eq, point_exact, line_eq, line_exact, polygon_eq, polygon_exact}
 use Rattle.wkt_types.specs.Tree.{Tree, Trees, point, line_string, polygon, multi_point, multi_line_string, multi_polygon, collection, no_trees, more_trees}
 

@@ -32,7 +32,7 @@ impl<T> Coord<T> {
 }
 
 impl<T: WktNum> PartialEq for Coord<T> {
-    ghost use Rattle.wkt_types.specs.Exact.{exact_by, exact_per};
+    ghost use Rattle.wkt_flat.specs.Exact.{exact_by, exact_per};
     ghost use Rattle.wkt_types.specs.Equal.{coord_eq, coord_exact};
 
     ghost eq = { coord_eq T.eq };

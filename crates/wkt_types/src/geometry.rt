@@ -5,7 +5,7 @@ ghost use Rattle.std.specs.Result.{IsOk};
 ghost use Rattle.std.specs.Cmp.{on_per};
 ghost use Rattle.std.specs.Iterator.{IsFinite};
 ghost use Rattle.std.specs.Iterator.Runs.{WholeRun};
-ghost use Rattle.wkt_types.specs.Exact.{exact_by, exact_per};
+ghost use Rattle.wkt_flat.specs.Exact.{exact_by, exact_per};
 ghost use Rattle.wkt_types.specs.Tree.{tree, collection_tree, members, no_trees, collection, collected, tree_dim, point, line_string, polygon, multi_point, multi_line_string, multi_polygon};
 ghost use Rattle.wkt_types.specs.Trees.{tree_eq, trees_eq, tree_exact};
 

@@ -121,7 +121,8 @@ impl<T: Copy + Drop> Part for LineString<T> {
 }
 
 impl<T: WktNum> PartialEq for LineString<T> {
-    ghost use Rattle.wkt_types.specs.Exact.{exact_by, exact_per, held_eq, held_exact};
+    ghost use Rattle.wkt_flat.specs.Exact.{exact_by, exact_per};
+    ghost use Rattle.wkt_types.specs.Exact.{held_eq, held_exact};
     ghost use Rattle.wkt_types.specs.Equal.{coord_eq, coord_exact};
 
     ghost eq = { held_eq (coord_eq T.eq) };

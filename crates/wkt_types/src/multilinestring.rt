@@ -120,7 +120,8 @@ impl<T: Copy + Drop> Part for MultiLineString<T> {
 }
 
 impl<T: WktNum> PartialEq for MultiLineString<T> {
-    ghost use Rattle.wkt_types.specs.Exact.{exact_by, exact_per, held_eq, held_exact};
+    ghost use Rattle.wkt_flat.specs.Exact.{exact_by, exact_per};
+    ghost use Rattle.wkt_types.specs.Exact.{held_eq, held_exact};
     ghost use Rattle.wkt_types.specs.Equal.{line_eq, line_exact};
 
     ghost eq = { held_eq (line_eq T.eq) };

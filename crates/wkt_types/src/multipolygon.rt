@@ -120,7 +120,8 @@ impl<T: Copy + Drop> Part for MultiPolygon<T> {
 }
 
 impl<T: WktNum> PartialEq for MultiPolygon<T> {
-    ghost use Rattle.wkt_types.specs.Exact.{exact_by, exact_per, held_eq, held_exact};
+    ghost use Rattle.wkt_flat.specs.Exact.{exact_by, exact_per};
+    ghost use Rattle.wkt_types.specs.Exact.{held_eq, held_exact};
     ghost use Rattle.wkt_types.specs.Equal.{polygon_eq, polygon_exact};
 
     ghost eq = { held_eq (polygon_eq T.eq) };

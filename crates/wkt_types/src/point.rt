@@ -94,7 +94,8 @@ impl<T: Default> Default for Point<T> {
 }
 
 impl<T: WktNum> PartialEq for Point<T> {
-    ghost use Rattle.wkt_types.specs.Exact.{exact_by, exact_per, held_point_eq, held_point_exact};
+    ghost use Rattle.wkt_flat.specs.Exact.{exact_by, exact_per};
+    ghost use Rattle.wkt_types.specs.Exact.{held_point_eq, held_point_exact};
     ghost use Rattle.wkt_types.specs.Equal.{coord_eq, coord_exact};
 
     ghost eq = { held_point_eq (coord_eq T.eq) };

@@ -1,6 +1,6 @@
-use Rattle.wkt_types.specs.Exact.{exact_by}
+use Rattle.wkt_flat.specs.Exact.{exact_by}
 use Rattle.wkt_types.specs.Trees.{tree_exact}
-use Rattle.wkt_types.proofs.Sames.{told}
+use Rattle.wkt_flat.proofs.Sames.{told}
 use Rattle.wkt_types.proofs.geometry.GeometryCollectionPartialEq.eq.Goals as goal
 
 pub returns-clause-exact : goal.returns-clause-exact

@@ -1,7 +1,8 @@
 use Rattle.std.proofs.Common.{rules}
-use Rattle.wkt_types.specs.Exact.{exact_by, held_exact}
+use Rattle.wkt_flat.specs.Exact.{exact_by}
+use Rattle.wkt_types.specs.Exact.{held_exact}
 use Rattle.wkt_types.specs.Equal.{polygon_exact}
-use Rattle.wkt_types.proofs.Sames.{told}
+use Rattle.wkt_flat.proofs.Sames.{told}
 use Rattle.wkt_types.proofs.multipolygon.MultiPolygonPartialEq.eq.Goals as goal
 
 pub returns-clause-exact : goal.returns-clause-exact

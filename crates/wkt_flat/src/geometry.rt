@@ -1,0 +1,439 @@
+//! Geometries of any kind, and collections of them.
+ghost use Rattle.std.specs.Prelude.{◌≡◌, IsTrue, ◌↔◌, IfOk, OnOk, map, ◌++◌, ◌∷◌, []};
+ghost use Rattle.std.specs.Result.{IsOk};
+ghost use Rattle.std.specs.Cmp.{on_per};
+ghost use Rattle.wkt_flat.specs.Exact.{exact_by, exact_per};
+ghost use Rattle.wkt_flat.specs.Tree.{flat_tree, flat_trees, flat_members, collection, point, line, line_string, polygon, multi_point, multi_line_string, multi_polygon, rect, triangle};
+ghost use Rattle.wkt_flat.specs.Trees.{flat_eq, flats_eq, flat_exact, flats_exact};
+
+use crate::line::Line;
+use crate::linestring::LineString;
+use crate::multilinestring::MultiLineString;
+use crate::multipoint::MultiPoint;
+use crate::multipolygon::MultiPolygon;
+use crate::point::Point;
+use crate::polygon::Polygon;
+use crate::rect::Rect;
+use crate::triangle::Triangle;
+use std::alloc::{AllocError, Global};
+use wkt_num::WktNum;
+
+/// A collection: geometries in order, which may be collections too. It may be empty.
+///
+/// Since a drop of its own saves stack at deep nesting, no pattern of another crate takes it apart:
+/// [`GeometryCollection::into_inner`] gives its geometries.
+#[cycle(geometry)]
+#[derive(Debug)]
+pub struct GeometryCollection<T>(pub Vec<Geometry<T>>);
+
+/// A geometry of one of ten kinds.
+#[cycle(geometry)]
+#[derive(Debug, Drop)]
+pub enum Geometry<T> {
+    /// A point.
+    Point(Point<T>),
+    /// A line between two coordinates.
+    Line(Line<T>),
+    /// A line string.
+    LineString(LineString<T>),
+    /// A polygon.
+    Polygon(Polygon<T>),
+    /// A list of points.
+    MultiPoint(MultiPoint<T>),
+    /// A list of line strings.
+    MultiLineString(MultiLineString<T>),
+    /// A list of polygons.
+    MultiPolygon(MultiPolygon<T>),
+    /// A collection of geometries.
+    GeometryCollection(GeometryCollection<T>),
+    /// A rectangle.
+    Rect(Rect<T>),
+    /// A triangle.
+    Triangle(Triangle<T>),
+}
+
+impl<T: Drop> Drop for GeometryCollection<T> {
+    // A function of its own, so that a level takes little stack.
+    #[cycle(letting_go)]
+    #[inline(never)]
+    fn drop(self) {
+        let GeometryCollection(_) = self;
+    }
+}
+
+impl<T> GeometryCollection<T> {
+    /// The collection of those geometries, in their order.
+    pub fn new_from(geometries: Vec<Geometry<T>>) -> Self
+        ensures { flat_trees result ≡ flat_members geometries.items }
+    {
+        GeometryCollection(geometries)
+    }
+
+    /// The geometries in order.
+    pub fn geometries(&self) -> &[Geometry<T>]
+        ensures { flat_trees self.now ≡ flat_members result.now }
+    {
+        self.0.as_slice()
+    }
+
+    /// The geometries in order, taken out of the collection.
+    pub fn into_inner(self) -> Vec<Geometry<T>>
+        ensures { flat_trees self ≡ flat_members result.items }
+    {
+        let GeometryCollection(geometries) = self;
+        geometries
+    }
+}
+
+// Each kind is copied in a function of its own, so that a level of nesting takes little stack.
+#[inline(never)]
+fn push_point<T: Copy + Drop>(
+    part: &Point<T>,
+    copies: &mut Vec<Geometry<T>>,
+) -> Result<(), AllocError>
+    ensures { OnOk result (map flat_tree copies.new.items ≡ map flat_tree copies.old.items ++ point part.now ∷ []) }
+{
+    copies.push(Geometry::Point(*part))?;
+    Ok(())
+}
+
+#[inline(never)]
+fn push_line<T: Copy + Drop>(
+    part: &Line<T>,
+    copies: &mut Vec<Geometry<T>>,
+) -> Result<(), AllocError>
+    ensures { OnOk result (map flat_tree copies.new.items ≡ map flat_tree copies.old.items ++ line part.now ∷ []) }
+{
+    copies.push(Geometry::Line(*part))?;
+    Ok(())
+}
+
+#[inline(never)]
+fn push_line_string<T: Copy + Drop>(
+    part: &LineString<T>,
+    alloc: Global,
+    copies: &mut Vec<Geometry<T>>,
+) -> Result<(), AllocError>
+    ensures { OnOk result (map flat_tree copies.new.items ≡ map flat_tree copies.old.items ++ line_string part.now ∷ []) }
+{
+    copies.push(Geometry::LineString(part.try_clone(alloc)?))?;
+    Ok(())
+}
+
+#[inline(never)]
+fn push_polygon<T: Copy + Drop>(
+    part: &Polygon<T>,
+    alloc: Global,
+    copies: &mut Vec<Geometry<T>>,
+) -> Result<(), AllocError>
+    ensures { OnOk result (map flat_tree copies.new.items ≡ map flat_tree copies.old.items ++ polygon part.now ∷ []) }
+{
+    copies.push(Geometry::Polygon(part.try_clone(alloc)?))?;
+    Ok(())
+}
+
+#[inline(never)]
+fn push_points<T: Copy + Drop>(
+    part: &MultiPoint<T>,
+    alloc: Global,
+    copies: &mut Vec<Geometry<T>>,
+) -> Result<(), AllocError>
+    ensures { OnOk result (map flat_tree copies.new.items ≡ map flat_tree copies.old.items ++ multi_point part.now ∷ []) }
+{
+    copies.push(Geometry::MultiPoint(part.try_clone(alloc)?))?;
+    Ok(())
+}
+
+#[inline(never)]
+fn push_line_strings<T: Copy + Drop>(
+    part: &MultiLineString<T>,
+    alloc: Global,
+    copies: &mut Vec<Geometry<T>>,
+) -> Result<(), AllocError>
+    ensures { OnOk result (map flat_tree copies.new.items ≡ map flat_tree copies.old.items ++ multi_line_string part.now ∷ []) }
+{
+    copies.push(Geometry::MultiLineString(part.try_clone(alloc)?))?;
+    Ok(())
+}
+
+#[inline(never)]
+fn push_polygons<T: Copy + Drop>(
+    part: &MultiPolygon<T>,
+    alloc: Global,
+    copies: &mut Vec<Geometry<T>>,
+) -> Result<(), AllocError>
+    ensures { OnOk result (map flat_tree copies.new.items ≡ map flat_tree copies.old.items ++ multi_polygon part.now ∷ []) }
+{
+    copies.push(Geometry::MultiPolygon(part.try_clone(alloc)?))?;
+    Ok(())
+}
+
+#[inline(never)]
+fn push_rect<T: Copy + Drop>(
+    part: &Rect<T>,
+    copies: &mut Vec<Geometry<T>>,
+) -> Result<(), AllocError>
+    ensures { OnOk result (map flat_tree copies.new.items ≡ map flat_tree copies.old.items ++ rect part.now ∷ []) }
+{
+    copies.push(Geometry::Rect(*part))?;
+    Ok(())
+}
+
+#[inline(never)]
+fn push_triangle<T: Copy + Drop>(
+    part: &Triangle<T>,
+    copies: &mut Vec<Geometry<T>>,
+) -> Result<(), AllocError>
+    ensures { OnOk result (map flat_tree copies.new.items ≡ map flat_tree copies.old.items ++ triangle part.now ∷ []) }
+{
+    copies.push(Geometry::Triangle(*part))?;
+    Ok(())
+}
+
+// The collection of those geometries, if they are filled. It alone drops them where they aren't,
+// since that takes stack.
+#[inline(never)]
+fn push_collection<T: Copy + Drop>(
+    filled: Result<(), AllocError>,
+    geometries: Vec<Geometry<T>>,
+    copies: &mut Vec<Geometry<T>>,
+) -> Result<(), AllocError>
+    ensures filled { OnOk result (IsOk filled) }
+    ensures pushed { OnOk result (map flat_tree copies.new.items ≡ map flat_tree copies.old.items ++ collection (flat_members geometries.items) ∷ []) }
+{
+    filled?;
+    let collection = GeometryCollection::new_from(geometries);
+    copies.push(Geometry::GeometryCollection(collection))?;
+    Ok(())
+}
+
+// A copy, after others.
+#[cycle(copy)]
+fn push_copy<T: Copy + Drop>(
+    g: &Geometry<T>,
+    alloc: Global,
+    copies: &mut Vec<Geometry<T>>,
+) -> Result<(), AllocError>
+    ensures { OnOk result (map flat_tree copies.new.items ≡ map flat_tree copies.old.items ++ flat_tree g.now ∷ []) }
+{
+    match g {
+        Geometry::Point(p) => push_point(p, copies),
+        Geometry::Line(l) => push_line(l, copies),
+        Geometry::LineString(l) => push_line_string(l, alloc, copies),
+        Geometry::Polygon(y) => push_polygon(y, alloc, copies),
+        Geometry::MultiPoint(m) => push_points(m, alloc, copies),
+        Geometry::MultiLineString(m) => push_line_strings(m, alloc, copies),
+        Geometry::MultiPolygon(m) => push_polygons(m, alloc, copies),
+        Geometry::Rect(r) => push_rect(r, copies),
+        Geometry::Triangle(t) => push_triangle(t, copies),
+        Geometry::GeometryCollection(c) => {
+            let mut geometries = Vec::with_capacity(alloc, c.0.len())?;
+            let filled = push_copies(&c.0, alloc, &mut geometries);
+            push_collection(filled, geometries, copies)
+        }
+    }
+}
+
+#[cycle(copy)]
+fn push_copies<T: Copy + Drop>(
+    all: &Vec<Geometry<T>>,
+    alloc: Global,
+    copies: &mut Vec<Geometry<T>>,
+) -> Result<(), AllocError>
+    ensures { OnOk result (map flat_tree copies.new.items ≡ map flat_tree copies.old.items ++ map flat_tree all.now.items) }
+{
+    for g in all {
+        push_copy(g, alloc, copies)?;
+    }
+    Ok(())
+}
+
+impl<T: Copy + Drop> Geometry<T> {
+    /// An equal geometry, with all that it holds.
+    ///
+    /// # Errors
+    /// Out of memory.
+    pub fn try_clone(&self, alloc: Global) -> Result<Self, AllocError>
+        ensures { IfOk result (λ g. flat_tree g ≡ flat_tree self.now) }
+    {
+        match self {
+            Geometry::Point(p) => Ok(Geometry::Point(*p)),
+            Geometry::Line(l) => Ok(Geometry::Line(*l)),
+            Geometry::LineString(l) => Ok(Geometry::LineString(l.try_clone(alloc)?)),
+            Geometry::Polygon(y) => Ok(Geometry::Polygon(y.try_clone(alloc)?)),
+            Geometry::MultiPoint(m) => Ok(Geometry::MultiPoint(m.try_clone(alloc)?)),
+            Geometry::MultiLineString(m) => Ok(Geometry::MultiLineString(m.try_clone(alloc)?)),
+            Geometry::MultiPolygon(m) => Ok(Geometry::MultiPolygon(m.try_clone(alloc)?)),
+            Geometry::Rect(r) => Ok(Geometry::Rect(*r)),
+            Geometry::Triangle(t) => Ok(Geometry::Triangle(*t)),
+            Geometry::GeometryCollection(c) => {
+                Ok(Geometry::GeometryCollection(c.try_clone(alloc)?))
+            }
+        }
+    }
+}
+
+impl<T: Copy + Drop> GeometryCollection<T> {
+    /// An equal collection, with all that it holds.
+    ///
+    /// # Errors
+    /// Out of memory.
+    pub fn try_clone(&self, alloc: Global) -> Result<Self, AllocError>
+        ensures { IfOk result (λ c. flat_trees c ≡ flat_trees self.now) }
+    {
+        let mut geometries = Vec::with_capacity(alloc, self.0.len())?;
+        push_copies(&self.0, alloc, &mut geometries)?;
+        Ok(GeometryCollection(geometries))
+    }
+}
+
+#[cycle(same)]
+fn same_geometry<T: WktNum>(a: &Geometry<T>, b: &Geometry<T>) -> bool
+    ensures { result ≡ flat_eq T.eq (flat_tree a.now) (flat_tree b.now) }
+{
+    match (a, b) {
+        (Geometry::Point(x), Geometry::Point(y)) => x == y,
+        (Geometry::Line(x), Geometry::Line(y)) => x == y,
+        (Geometry::LineString(x), Geometry::LineString(y)) => x == y,
+        (Geometry::Polygon(x), Geometry::Polygon(y)) => x == y,
+        (Geometry::MultiPoint(x), Geometry::MultiPoint(y)) => x == y,
+        (Geometry::MultiLineString(x), Geometry::MultiLineString(y)) => x == y,
+        (Geometry::MultiPolygon(x), Geometry::MultiPolygon(y)) => x == y,
+        (Geometry::Rect(x), Geometry::Rect(y)) => x == y,
+        (Geometry::Triangle(x), Geometry::Triangle(y)) => x == y,
+        (Geometry::GeometryCollection(x), Geometry::GeometryCollection(y)) => same_collection(x, y),
+        _ => false,
+    }
+}
+
+#[cycle(same)]
+fn same_collection<T: WktNum>(a: &GeometryCollection<T>, b: &GeometryCollection<T>) -> bool
+    ensures { result ≡ flats_eq T.eq (flat_trees a.now) (flat_trees b.now) }
+{
+    same_members(&a.0, &b.0)
+}
+
+#[cycle(same)]
+fn same_members<T: WktNum>(a: &[Geometry<T>], b: &[Geometry<T>]) -> bool
+    ensures { result ≡ flats_eq T.eq (flat_members a.now) (flat_members b.now) }
+{
+    for (i, x) in a.iter().enumerate() {
+        match b.get(i) {
+            None => return false,
+            Some(y) => {
+                if !same_geometry(x, y) {
+                    return false;
+                }
+            }
+        }
+    }
+    a.len() == b.len()
+}
+
+impl<T: WktNum> PartialEq for Geometry<T> {
+    ghost eq = { λ a b. flat_eq T.eq (flat_tree a) (flat_tree b) };
+
+    ghost laws = { on_per flat_tree (exact_per (flat_exact (exact_by T.same))) };
+
+    /// True exactly if the kinds are equal, and what the geometries hold.
+    fn eq(&self, other: &Self) -> bool
+        ensures eq { result ≡ flat_eq T.eq (flat_tree self.now) (flat_tree other.now) }
+        ensures exact { IsTrue result ↔ (flat_tree self.now ≡ flat_tree other.now) }
+    {
+        same_geometry(self, other)
+    }
+}
+
+impl<T: WktNum> PartialEq for GeometryCollection<T> {
+    ghost eq = { λ a b. flats_eq T.eq (flat_trees a) (flat_trees b) };
+
+    ghost laws = { on_per flat_trees (exact_per (flats_exact (exact_by T.same))) };
+
+    /// True exactly if the geometries are equal, in order.
+    fn eq(&self, other: &Self) -> bool
+        ensures eq { result ≡ flats_eq T.eq (flat_trees self.now) (flat_trees other.now) }
+        ensures exact { IsTrue result ↔ (flat_trees self.now ≡ flat_trees other.now) }
+    {
+        same_collection(self, other)
+    }
+}
+
+impl<T> From<Point<T>> for Geometry<T> {
+    ghost from_gives = { λ x r. flat_tree r ≡ point x };
+
+    fn from(x: Point<T>) -> Self {
+        Geometry::Point(x)
+    }
+}
+
+impl<T> From<Line<T>> for Geometry<T> {
+    ghost from_gives = { λ x r. flat_tree r ≡ line x };
+
+    fn from(x: Line<T>) -> Self {
+        Geometry::Line(x)
+    }
+}
+
+impl<T> From<LineString<T>> for Geometry<T> {
+    ghost from_gives = { λ x r. flat_tree r ≡ line_string x };
+
+    fn from(x: LineString<T>) -> Self {
+        Geometry::LineString(x)
+    }
+}
+
+impl<T> From<Polygon<T>> for Geometry<T> {
+    ghost from_gives = { λ x r. flat_tree r ≡ polygon x };
+
+    fn from(x: Polygon<T>) -> Self {
+        Geometry::Polygon(x)
+    }
+}
+
+impl<T> From<MultiPoint<T>> for Geometry<T> {
+    ghost from_gives = { λ x r. flat_tree r ≡ multi_point x };
+
+    fn from(x: MultiPoint<T>) -> Self {
+        Geometry::MultiPoint(x)
+    }
+}
+
+impl<T> From<MultiLineString<T>> for Geometry<T> {
+    ghost from_gives = { λ x r. flat_tree r ≡ multi_line_string x };
+
+    fn from(x: MultiLineString<T>) -> Self {
+        Geometry::MultiLineString(x)
+    }
+}
+
+impl<T> From<MultiPolygon<T>> for Geometry<T> {
+    ghost from_gives = { λ x r. flat_tree r ≡ multi_polygon x };
+
+    fn from(x: MultiPolygon<T>) -> Self {
+        Geometry::MultiPolygon(x)
+    }
+}
+
+impl<T> From<GeometryCollection<T>> for Geometry<T> {
+    ghost from_gives = { λ x r. flat_tree r ≡ collection (flat_trees x) };
+
+    fn from(x: GeometryCollection<T>) -> Self {
+        Geometry::GeometryCollection(x)
+    }
+}
+
+impl<T> From<Rect<T>> for Geometry<T> {
+    ghost from_gives = { λ x r. flat_tree r ≡ rect x };
+
+    fn from(x: Rect<T>) -> Self {
+        Geometry::Rect(x)
+    }
+}
+
+impl<T> From<Triangle<T>> for Geometry<T> {
+    ghost from_gives = { λ x r. flat_tree r ≡ triangle x };
+
+    fn from(x: Triangle<T>) -> Self {
+        Geometry::Triangle(x)
+    }
+}

@@ -1,0 +1,573 @@
+//! Access to geometries of any kind.
+ghost use Rattle.std.specs.Prelude.{◌≡◌};
+ghost use Rattle.wkt_access.specs.declared.dimensions.Dimensions.TheVariants.{Xy};
+ghost use Rattle.wkt_flat.specs.Shape.{flat_shape, flat_shapes};
+ghost use Rattle.wkt_flat.specs.Tree.{flat_tree, flat_trees, point, line, line_string, polygon, multi_point, multi_line_string, multi_polygon, rect, triangle};
+
+use crate::geometry::{Geometry, GeometryCollection};
+use crate::line::Line;
+use crate::linestring::LineString;
+use crate::multilinestring::MultiLineString;
+use crate::multipoint::MultiPoint;
+use crate::multipolygon::MultiPolygon;
+use crate::point::Point;
+use crate::polygon::Polygon;
+use crate::rect::Rect;
+use crate::triangle::Triangle;
+use wkt_access::{Dimensions, GeometryCollectionTrait, GeometryTrait, GeometryType};
+use wkt_num::WktNum;
+
+impl<T: WktNum> GeometryCollectionTrait for GeometryCollection<T> {
+    type T = T;
+
+    type GeometryType = Geometry<T>;
+
+    ghost dimension = { λ _. Xy };
+
+    ghost geometries = { λ c. flat_shapes (flat_trees c) };
+
+    fn dim(&self) -> Dimensions {
+        Dimensions::Xy
+    }
+
+    fn num_geometries(&self) -> usize {
+        self.geometries().len()
+    }
+
+    fn geometry(&self, i: usize) -> &Geometry<T> {
+        &self.geometries()[i]
+    }
+}
+
+impl<T: WktNum> GeometryTrait for Geometry<T> {
+    type T = T;
+
+    type PointType = Point<T>;
+
+    type LineStringType = LineString<T>;
+
+    type PolygonType = Polygon<T>;
+
+    type MultiPointType = MultiPoint<T>;
+
+    type MultiLineStringType = MultiLineString<T>;
+
+    type MultiPolygonType = MultiPolygon<T>;
+
+    type RectType = Rect<T>;
+
+    type TriangleType = Triangle<T>;
+
+    type LineType = Line<T>;
+
+    ghost shape = { λ g. flat_shape (flat_tree g) };
+
+    fn dim(&self) -> Dimensions {
+        Dimensions::Xy
+    }
+
+    fn as_type(
+        &self,
+    ) -> GeometryType<
+        '_,
+        Point<T>,
+        LineString<T>,
+        Polygon<T>,
+        MultiPoint<T>,
+        MultiLineString<T>,
+        MultiPolygon<T>,
+        Rect<T>,
+        Triangle<T>,
+        Line<T>,
+    > {
+        match self {
+            Geometry::Point(p) => GeometryType::Point(p),
+            Geometry::Line(l) => GeometryType::Line(l),
+            Geometry::LineString(l) => GeometryType::LineString(l),
+            Geometry::Polygon(y) => GeometryType::Polygon(y),
+            Geometry::MultiPoint(m) => GeometryType::MultiPoint(m),
+            Geometry::MultiLineString(m) => GeometryType::MultiLineString(m),
+            Geometry::MultiPolygon(m) => GeometryType::MultiPolygon(m),
+            Geometry::Rect(r) => GeometryType::Rect(r),
+            Geometry::Triangle(t) => GeometryType::Triangle(t),
+            Geometry::GeometryCollection(c) => GeometryType::GeometryCollection(
+                c.geometries().len(),
+            ),
+        }
+    }
+
+    fn geometry(&self, i: usize) -> &Self {
+        match self {
+            Geometry::GeometryCollection(c) => &c.geometries()[i],
+            _ => unreachable!(),
+        }
+    }
+}
+
+impl<T: WktNum> GeometryTrait for Point<T> {
+    type T = T;
+
+    type PointType = Point<T>;
+
+    type LineStringType = LineString<T>;
+
+    type PolygonType = Polygon<T>;
+
+    type MultiPointType = MultiPoint<T>;
+
+    type MultiLineStringType = MultiLineString<T>;
+
+    type MultiPolygonType = MultiPolygon<T>;
+
+    type RectType = Rect<T>;
+
+    type TriangleType = Triangle<T>;
+
+    type LineType = Line<T>;
+
+    ghost shape = { λ x. flat_shape (point x) };
+
+    fn dim(&self) -> Dimensions {
+        Dimensions::Xy
+    }
+
+    fn as_type(
+        &self,
+    ) -> GeometryType<
+        '_,
+        Point<T>,
+        LineString<T>,
+        Polygon<T>,
+        MultiPoint<T>,
+        MultiLineString<T>,
+        MultiPolygon<T>,
+        Rect<T>,
+        Triangle<T>,
+        Line<T>,
+    > {
+        GeometryType::Point(self)
+    }
+
+    /// There are no members, so no index is one's.
+    fn geometry(&self, _i: usize) -> &Self
+        ensures { result.now ≡ self.now }
+    {
+        self
+    }
+}
+
+impl<T: WktNum> GeometryTrait for Line<T> {
+    type T = T;
+
+    type PointType = Point<T>;
+
+    type LineStringType = LineString<T>;
+
+    type PolygonType = Polygon<T>;
+
+    type MultiPointType = MultiPoint<T>;
+
+    type MultiLineStringType = MultiLineString<T>;
+
+    type MultiPolygonType = MultiPolygon<T>;
+
+    type RectType = Rect<T>;
+
+    type TriangleType = Triangle<T>;
+
+    type LineType = Line<T>;
+
+    ghost shape = { λ x. flat_shape (line x) };
+
+    fn dim(&self) -> Dimensions {
+        Dimensions::Xy
+    }
+
+    fn as_type(
+        &self,
+    ) -> GeometryType<
+        '_,
+        Point<T>,
+        LineString<T>,
+        Polygon<T>,
+        MultiPoint<T>,
+        MultiLineString<T>,
+        MultiPolygon<T>,
+        Rect<T>,
+        Triangle<T>,
+        Line<T>,
+    > {
+        GeometryType::Line(self)
+    }
+
+    /// There are no members, so no index is one's.
+    fn geometry(&self, _i: usize) -> &Self
+        ensures { result.now ≡ self.now }
+    {
+        self
+    }
+}
+
+impl<T: WktNum> GeometryTrait for LineString<T> {
+    type T = T;
+
+    type PointType = Point<T>;
+
+    type LineStringType = LineString<T>;
+
+    type PolygonType = Polygon<T>;
+
+    type MultiPointType = MultiPoint<T>;
+
+    type MultiLineStringType = MultiLineString<T>;
+
+    type MultiPolygonType = MultiPolygon<T>;
+
+    type RectType = Rect<T>;
+
+    type TriangleType = Triangle<T>;
+
+    type LineType = Line<T>;
+
+    ghost shape = { λ x. flat_shape (line_string x) };
+
+    fn dim(&self) -> Dimensions {
+        Dimensions::Xy
+    }
+
+    fn as_type(
+        &self,
+    ) -> GeometryType<
+        '_,
+        Point<T>,
+        LineString<T>,
+        Polygon<T>,
+        MultiPoint<T>,
+        MultiLineString<T>,
+        MultiPolygon<T>,
+        Rect<T>,
+        Triangle<T>,
+        Line<T>,
+    > {
+        GeometryType::LineString(self)
+    }
+
+    /// There are no members, so no index is one's.
+    fn geometry(&self, _i: usize) -> &Self
+        ensures { result.now ≡ self.now }
+    {
+        self
+    }
+}
+
+impl<T: WktNum> GeometryTrait for Polygon<T> {
+    type T = T;
+
+    type PointType = Point<T>;
+
+    type LineStringType = LineString<T>;
+
+    type PolygonType = Polygon<T>;
+
+    type MultiPointType = MultiPoint<T>;
+
+    type MultiLineStringType = MultiLineString<T>;
+
+    type MultiPolygonType = MultiPolygon<T>;
+
+    type RectType = Rect<T>;
+
+    type TriangleType = Triangle<T>;
+
+    type LineType = Line<T>;
+
+    ghost shape = { λ x. flat_shape (polygon x) };
+
+    fn dim(&self) -> Dimensions {
+        Dimensions::Xy
+    }
+
+    fn as_type(
+        &self,
+    ) -> GeometryType<
+        '_,
+        Point<T>,
+        LineString<T>,
+        Polygon<T>,
+        MultiPoint<T>,
+        MultiLineString<T>,
+        MultiPolygon<T>,
+        Rect<T>,
+        Triangle<T>,
+        Line<T>,
+    > {
+        GeometryType::Polygon(self)
+    }
+
+    /// There are no members, so no index is one's.
+    fn geometry(&self, _i: usize) -> &Self
+        ensures { result.now ≡ self.now }
+    {
+        self
+    }
+}
+
+impl<T: WktNum> GeometryTrait for MultiPoint<T> {
+    type T = T;
+
+    type PointType = Point<T>;
+
+    type LineStringType = LineString<T>;
+
+    type PolygonType = Polygon<T>;
+
+    type MultiPointType = MultiPoint<T>;
+
+    type MultiLineStringType = MultiLineString<T>;
+
+    type MultiPolygonType = MultiPolygon<T>;
+
+    type RectType = Rect<T>;
+
+    type TriangleType = Triangle<T>;
+
+    type LineType = Line<T>;
+
+    ghost shape = { λ x. flat_shape (multi_point x) };
+
+    fn dim(&self) -> Dimensions {
+        Dimensions::Xy
+    }
+
+    fn as_type(
+        &self,
+    ) -> GeometryType<
+        '_,
+        Point<T>,
+        LineString<T>,
+        Polygon<T>,
+        MultiPoint<T>,
+        MultiLineString<T>,
+        MultiPolygon<T>,
+        Rect<T>,
+        Triangle<T>,
+        Line<T>,
+    > {
+        GeometryType::MultiPoint(self)
+    }
+
+    /// There are no members, so no index is one's.
+    fn geometry(&self, _i: usize) -> &Self
+        ensures { result.now ≡ self.now }
+    {
+        self
+    }
+}
+
+impl<T: WktNum> GeometryTrait for MultiLineString<T> {
+    type T = T;
+
+    type PointType = Point<T>;
+
+    type LineStringType = LineString<T>;
+
+    type PolygonType = Polygon<T>;
+
+    type MultiPointType = MultiPoint<T>;
+
+    type MultiLineStringType = MultiLineString<T>;
+
+    type MultiPolygonType = MultiPolygon<T>;
+
+    type RectType = Rect<T>;
+
+    type TriangleType = Triangle<T>;
+
+    type LineType = Line<T>;
+
+    ghost shape = { λ x. flat_shape (multi_line_string x) };
+
+    fn dim(&self) -> Dimensions {
+        Dimensions::Xy
+    }
+
+    fn as_type(
+        &self,
+    ) -> GeometryType<
+        '_,
+        Point<T>,
+        LineString<T>,
+        Polygon<T>,
+        MultiPoint<T>,
+        MultiLineString<T>,
+        MultiPolygon<T>,
+        Rect<T>,
+        Triangle<T>,
+        Line<T>,
+    > {
+        GeometryType::MultiLineString(self)
+    }
+
+    /// There are no members, so no index is one's.
+    fn geometry(&self, _i: usize) -> &Self
+        ensures { result.now ≡ self.now }
+    {
+        self
+    }
+}
+
+impl<T: WktNum> GeometryTrait for MultiPolygon<T> {
+    type T = T;
+
+    type PointType = Point<T>;
+
+    type LineStringType = LineString<T>;
+
+    type PolygonType = Polygon<T>;
+
+    type MultiPointType = MultiPoint<T>;
+
+    type MultiLineStringType = MultiLineString<T>;
+
+    type MultiPolygonType = MultiPolygon<T>;
+
+    type RectType = Rect<T>;
+
+    type TriangleType = Triangle<T>;
+
+    type LineType = Line<T>;
+
+    ghost shape = { λ x. flat_shape (multi_polygon x) };
+
+    fn dim(&self) -> Dimensions {
+        Dimensions::Xy
+    }
+
+    fn as_type(
+        &self,
+    ) -> GeometryType<
+        '_,
+        Point<T>,
+        LineString<T>,
+        Polygon<T>,
+        MultiPoint<T>,
+        MultiLineString<T>,
+        MultiPolygon<T>,
+        Rect<T>,
+        Triangle<T>,
+        Line<T>,
+    > {
+        GeometryType::MultiPolygon(self)
+    }
+
+    /// There are no members, so no index is one's.
+    fn geometry(&self, _i: usize) -> &Self
+        ensures { result.now ≡ self.now }
+    {
+        self
+    }
+}
+
+impl<T: WktNum> GeometryTrait for Rect<T> {
+    type T = T;
+
+    type PointType = Point<T>;
+
+    type LineStringType = LineString<T>;
+
+    type PolygonType = Polygon<T>;
+
+    type MultiPointType = MultiPoint<T>;
+
+    type MultiLineStringType = MultiLineString<T>;
+
+    type MultiPolygonType = MultiPolygon<T>;
+
+    type RectType = Rect<T>;
+
+    type TriangleType = Triangle<T>;
+
+    type LineType = Line<T>;
+
+    ghost shape = { λ x. flat_shape (rect x) };
+
+    fn dim(&self) -> Dimensions {
+        Dimensions::Xy
+    }
+
+    fn as_type(
+        &self,
+    ) -> GeometryType<
+        '_,
+        Point<T>,
+        LineString<T>,
+        Polygon<T>,
+        MultiPoint<T>,
+        MultiLineString<T>,
+        MultiPolygon<T>,
+        Rect<T>,
+        Triangle<T>,
+        Line<T>,
+    > {
+        GeometryType::Rect(self)
+    }
+
+    /// There are no members, so no index is one's.
+    fn geometry(&self, _i: usize) -> &Self
+        ensures { result.now ≡ self.now }
+    {
+        self
+    }
+}
+
+impl<T: WktNum> GeometryTrait for Triangle<T> {
+    type T = T;
+
+    type PointType = Point<T>;
+
+    type LineStringType = LineString<T>;
+
+    type PolygonType = Polygon<T>;
+
+    type MultiPointType = MultiPoint<T>;
+
+    type MultiLineStringType = MultiLineString<T>;
+
+    type MultiPolygonType = MultiPolygon<T>;
+
+    type RectType = Rect<T>;
+
+    type TriangleType = Triangle<T>;
+
+    type LineType = Line<T>;
+
+    ghost shape = { λ x. flat_shape (triangle x) };
+
+    fn dim(&self) -> Dimensions {
+        Dimensions::Xy
+    }
+
+    fn as_type(
+        &self,
+    ) -> GeometryType<
+        '_,
+        Point<T>,
+        LineString<T>,
+        Polygon<T>,
+        MultiPoint<T>,
+        MultiLineString<T>,
+        MultiPolygon<T>,
+        Rect<T>,
+        Triangle<T>,
+        Line<T>,
+    > {
+        GeometryType::Triangle(self)
+    }
+
+    /// There are no members, so no index is one's.
+    fn geometry(&self, _i: usize) -> &Self
+        ensures { result.now ≡ self.now }
+    {
+        self
+    }
+}
