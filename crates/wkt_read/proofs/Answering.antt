@@ -1,20 +1,21 @@
 -- From the lexemes of a stream to its text.
-use Rattle.std.proofs.Common.{◌≡◌, ℕ, ◌<◌, List, [], ◌∷◌, ◌++◌, length, sym, subst, refl, ap, ◌∙◌, arith, length-append, Option, Err, true}
+use Rattle.std.proofs.Common.{◌≡◌, ℕ, ◌≤◌, ◌<◌, List, [], ◌∷◌, ◌++◌, length, sym, subst, refl, ap, ◌∙◌, arith, length-append, Option, Err, true}
 use Rattle.std.proofs.lemmas.List.{append_cancel_right}
 use Rattle.std.specs.declared.alloc.AllocError.{AllocError}
-use Rattle.wkt_num.specs.Bytes.{Lexeme}
+use Rattle.wkt_num.specs.Bytes.{Lexeme, Open}
 use Rattle.wkt_access.specs.Values.{Value}
 use Rattle.wkt_read.specs.Lexemes.{Takes, IsSplit}
 use Rattle.wkt_read.specs.Grammar.{Geometry}
-use Rattle.wkt_read.specs.Front.{Front, HasNoFront}
-use Rattle.wkt_read.specs.Placed.{Placed, lexemes_of, end_after, placed}
-use Rattle.wkt_read.specs.Ahead.{left, rest, end_of, IfLast, IsBehind}
+use Rattle.wkt_read.specs.Front.{FrontBy, HasNoFront}
+use Rattle.wkt_read.specs.Placed.{Placed, lexemes_of, end_after, AreEnds, placed}
+use Rattle.wkt_read.specs.Ahead.{left, rest, end_of, taken_of, IfLast, IsBehind, Advances}
+use Rattle.wkt_read.specs.Walks.{GoesOn}
 use Rattle.wkt_read.specs.Messages.{text_of}
 use Rattle.wkt_read.specs.Reading.{Reading}
 use Rattle.wkt_read.specs.Reads.{ReadsIn}
 use Rattle.wkt_read.specs.Faults.{OnBad, OnBadIn, OnMemory}
 use Rattle.wkt_read.specs.Answered.{Begins, OnText, OnMessage}
-use Rattle.wkt_read.specs.Begun.{NoneBegins}
+use Rattle.wkt_read.specs.Begun.{NoneBeginsBy}
 use Rattle.wkt_read.specs.declared.error.ReadError.{ReadError}
 use Rattle.wkt_read.specs.declared.error.ReadError.TheVariants as error
 use Rattle.wkt_read.specs.declared.fault.Fault.{Fault}
@@ -23,48 +24,63 @@ use Rattle.wkt_read.specs.declared.fault.Message.{Message}
 use Rattle.wkt_read.specs.declared.fault.Message.TheVariants as message
 use Rattle.wkt_read.specs.declared.peekable.PeekableTokens.{PeekableTokens}
 use Rattle.wkt_read.proofs.Behind.{lexemes_of-append}
-use Rattle.wkt_read.proofs.Placings.{placed-split, placed-taken}
+use Rattle.wkt_read.proofs.Placings.{placed-split}
+use Rattle.wkt_read.proofs.FrontEnds.{geometry-some, front-of-lexemes}
+use Rattle.wkt_read.proofs.Few.{lexemes-length}
 use Rattle.wkt_read.proofs.Splits.{split_one}
 use Rattle.wkt_read.proofs.Fronts.{taken_begin}
-use Rattle.wkt_read.proofs.OneForm.{geometry_body}
-use Rattle.wkt_read.proofs.Readings.{head_long}
-
-last-after : (at end : ℕ) (given : List Placed) → (lexemes_of given ≡ [] → ⊥) → IfLast given end → end_after at given ≡ end
-last-after at end [] some last = absurd (some refl)
-last-after at end (x ∷ []) some last = last
-last-after at end (x ∷ y ∷ given) some last = last-after x.end end (y ∷ given) (λ e. cc) last
 
 module _ {T : Type 0} where
   pub rest-is : (s : PeekableTokens T) (ps : List Placed) → left s ≡ ps → rest s ≡ lexemes_of ps
   unfolding rest
   rest-is s ps e = ap lexemes_of e
 
+last-end : (x : Placed) (given : List Placed) (end : ℕ) → IfLast (x ∷ given) end → end_after x.end given ≡ end
+last-end x [] end last = last
+last-end x (y ∷ given) end last = last-end y given end last
+
+long : (ls : List Lexeme) → (ls ≡ [] → ⊥) → 0 < length ls
+long [] some = absurd (some refl)
+long (l ∷ ls) some = omega arith
+
+module _ {T : Type 0} (s t : PeekableTokens T) where
+  -- a stream that is after whatever another is after: so much of that was taken
+  advanced : (x : Placed) (given : List Placed) → left s ≡ given ++ left t → x.end ≡ end_of s → IfLast (x ∷ given) (end_of t) → taken_of s ≤ taken_of t → Advances s t
+  advanced x given split at last grows = record {
+    given = given;
+    split = split;
+    end = sym (last-end x given (end_of t) last) ∙ ap (λ n. end_after n given) at;
+    grows = grows;
+  }
+
+  pub advances : GoesOn s t → taken_of s ≤ taken_of t → length (rest t) ≤ length (rest s) → Advances s t
+  advances go grows fewer = let b = go (mark ∷ left s) (record { given = mark ∷ []; split = refl; last = refl }) in pick b.given b.split b.last
+    where
+      abbrev mark : Placed
+      mark = record { lexeme = Open; end = end_of s }
+
+      pick : (given : List Placed) → mark ∷ left s ≡ given ++ left t → IfLast given (end_of t) → Advances s t
+      pick [] e last = absurd (omega (arith, fewer, ap length e, ap length (rest-is s (left s) refl), ap length (rest-is t (left t) refl), lexemes-length (left s), lexemes-length (left t)))
+      pick (x ∷ given) e last =
+          let split : left s ≡ given ++ left t = cc in
+          let same : mark ≡ x = cc in
+          advanced x given split (ap (λ (p : Placed). p.end) (sym same)) last grows
+
 module _ {T : Type 0} (read : List ℕ → Option T) where
-  -- no geometry stands for no lexeme
-  geometry-some : (f : List Lexeme) (v : Value T) → Geometry read true f v → f ≡ [] → ⊥
-  geometry-some f v g e =
-      let (h, b, split, head, body) = geometry_body read true f v g in
-      let long : 0 < length h = head_long _ _ h head in
-      absurd (omega (arith, long, ap length (sym e ∙ split), length-append h b))
+  -- a geometry was read, so a lexeme was taken
+  pub some-taken : (ls : List Lexeme) (v : Value T) (after : List Lexeme) → Begins read ls v after → length after < length ls
+  some-taken ls v after (f, split, g) = omega (arith, long f (geometry-some read f v g), ap length split, length-append f after)
 
   -- where the front of a text ends
-  pub to-front : (text : List ℕ) (s t : PeekableTokens T) (v : Value T) → left s ≡ placed text → IsBehind (left s) t → Begins read (rest s) v (rest t) → Front read true text v (end_of t)
-  to-front text s t v start b (f, split, g) =
-      let at : placed text ≡ b.given ++ left t = sym start ∙ b.split in
-      let whole : lexemes_of b.given ++ rest t ≡ f ++ rest t = ap (λ l. lexemes_of b.given ++ l) (rest-is t (left t) refl) ∙ sym (lexemes_of-append b.given (left t)) ∙ ap lexemes_of (sym b.split) ∙ sym (rest-is s (left s) refl) ∙ split in
-      let same : lexemes_of b.given ≡ f = append_cancel_right (lexemes_of b.given) f (rest t) whole in
-      let (after, taken, ends) = placed-taken text b.given (left t) at in
-      let last : end_after 0 b.given ≡ end_of t = last-after 0 (end_of t) b.given (λ e. geometry-some f v g (sym same ∙ e)) b.last in
-      record {
-        lexemes = f;
-        rest = after;
-        taken = subst (λ l. Takes text l after) same taken;
-        reads = g;
-        ends = omega (arith, ends, last);
-      }
+  pub to-front : (text : List ℕ) (s t : PeekableTokens T) (v : Value T) → AreEnds text (left s) → end_of s ≡ 0 → Advances s t → Begins read (rest s) v (rest t) → FrontBy read true text v (end_of t)
+  to-front text s t v are zero a (f, split, g) =
+      let whole : lexemes_of a.given ++ rest t ≡ f ++ rest t = ap (λ l. lexemes_of a.given ++ l) (rest-is t (left t) refl) ∙ sym (lexemes_of-append a.given (left t)) ∙ ap lexemes_of (sym a.split) ∙ sym (rest-is s (left s) refl) ∙ split in
+      let same : f ≡ lexemes_of a.given = sym (append_cancel_right (lexemes_of a.given) f (rest t) whole) in
+      let at : end_of t ≡ end_after 0 a.given = a.end ∙ ap (λ n. end_after n a.given) zero in
+      subst (FrontBy read true text v) (sym at) (front-of-lexemes read text a.given (left t) v (subst (AreEnds text) a.split are) (subst (λ l. Geometry read true l v) same g))
 
   -- the lexemes of a text with a front begin with it
-  pub from-front : (text : List ℕ) (s : PeekableTokens T) (v : Value T) (end : ℕ) → left s ≡ placed text → Front read true text v end → (after : List Lexeme) × Begins read (rest s) v after
+  pub from-front : (text : List ℕ) (s : PeekableTokens T) (v : Value T) (end : ℕ) → left s ≡ placed text → FrontBy read true text v end → (after : List Lexeme) × Begins read (rest s) v after
   from-front text s v end start front =
       let (more, is) = taken_begin text front.rest front.lexemes front.taken in
       let same : lexemes_of (placed text) ≡ front.lexemes ++ more = split_one text _ _ (placed-split text) is in
@@ -73,7 +89,7 @@ module _ {T : Type 0} (read : List ℕ → Option T) where
   pub split-of : (text : List ℕ) (s : PeekableTokens T) → left s ≡ placed text → IsSplit text (rest s)
   split-of text s start = subst (IsSplit text) (sym (rest-is s (placed text) start)) (placed-split text)
 
-  pub no-front : (text : List ℕ) (s : PeekableTokens T) → left s ≡ placed text → NoneBegins read true (rest s) → HasNoFront read true text
+  pub no-front : (text : List ℕ) (s : PeekableTokens T) → left s ≡ placed text → NoneBeginsBy read true (rest s) → HasNoFront read text
   no-front text s start none v end front =
       let (after, (f, split, g)) = from-front text s v end start front in
       none f after v split g

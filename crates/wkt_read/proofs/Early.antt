@@ -4,7 +4,7 @@ use Rattle.std.specs.Prelude.{◌⊎◌}
 use Rattle.wkt_num.specs.Bytes.{Lexeme}
 use Rattle.wkt_access.specs.Values.{Value}
 use Rattle.wkt_read.specs.Grammar.{Geometry}
-use Rattle.wkt_read.specs.Begun.{BegunGeometry, IsDead}
+use Rattle.wkt_read.specs.Begun.{BegunGeometry, IsDeadBy}
 use Rattle.wkt_read.specs.Early.{opens, closes, IsJustDead, StopsEarly}
 use Rattle.wkt_read.specs.Reading.{Reading, value_at}
 use Rattle.wkt_read.proofs.Begun.{CutIn, Later, Earlier, cut_in}
@@ -25,7 +25,7 @@ module _ {N : Type 0} (read : List ℕ → Option N) where
     pub taken : List Lexeme
     pub split : old ≡ before ++ (fault ∷ after)
     pub begun : Begun before
-    pub dead : IsDead read true (before ++ (fault ∷ []))
+    pub dead : IsDeadBy read true (before ++ (fault ∷ []))
     pub left : fault ∷ after ≡ taken ++ new
     pub few : length taken + closes before ≤ 1 + opens before
 
@@ -33,7 +33,7 @@ module _ {N : Type 0} (read : List ℕ → Option N) where
   abbrev pub IsEarly : List Lexeme → List Lexeme → Type 0
   IsEarly old new = (Begun old × (new ≡ [])) ⊎ IsFault old new
 
-  dead : (n : ℕ) (pre after ls left : List Lexeme) (x : Lexeme) → ls ≡ pre ++ (x ∷ after) → value_f read n ls ≡ Err (x ∷ after, left) → value_at read n ls ≡ Err left → length ls ≤ n → IsDead read true (pre ++ (x ∷ []))
+  dead : (n : ℕ) (pre after ls left : List Lexeme) (x : Lexeme) → ls ≡ pre ++ (x ∷ after) → value_f read n ls ≡ Err (x ∷ after, left) → value_at read n ls ≡ Err left → length ls ≤ n → IsDeadBy read true (pre ++ (x ∷ []))
   dead n pre after ls left x e told reads le = record {
     none_begins = λ f later v e2 g.
         let e3 : ls ≡ f ++ (later ++ after) = e ∙ sym (append_assoc pre (x ∷ []) after) ∙ ap (λ l. l ++ after) e2 ∙ append_assoc f later after in
@@ -77,7 +77,7 @@ module _ {N : Type 0} (read : List ℕ → Option N) where
       let (d, e2) = last_cut b a c x y (cc) in
       (d, ap (λ l. w ∷ l) e2 ∙ ap (λ v. v ∷ (a ++ d)) same)
 
-  just : (b : List Lexeme) (x : Lexeme) → Begun b → IsDead read true (b ++ (x ∷ [])) → IsJustDead read (b ++ (x ∷ []))
+  just : (b : List Lexeme) (x : Lexeme) → Begun b → IsDeadBy read true (b ++ (x ∷ [])) → IsJustDead read (b ++ (x ∷ []))
   just b x begun dead = record {
     dead = dead;
     shortest = λ a c y e d. let (u, e2) = last_cut b a c x y e in d.not_begun (beginnings a u (subst Begun e2 begun));
@@ -103,7 +103,7 @@ module _ {N : Type 0} (read : List ℕ → Option N) where
       go (Earlier [] e1 e2) = e1 ∙ append-nil b2
       go (Earlier (z ∷ u) e1 e2) = let same : z ≡ y = cc in absurd (k.dead.not_begun (beginnings (b2 ++ (y ∷ [])) u (subst Begun (e1 ∙ ap (λ v. b2 ++ (v ∷ u)) same ∙ sym (append_assoc b2 (y ∷ []) u)) begun)))
 
-  none_dead : (old b c : List Lexeme) (x : Lexeme) → Begun old → old ≡ b ++ (x ∷ c) → IsDead read true (b ++ (x ∷ [])) → ⊥
+  none_dead : (old b c : List Lexeme) (x : Lexeme) → Begun old → old ≡ b ++ (x ∷ c) → IsDeadBy read true (b ++ (x ∷ [])) → ⊥
   none_dead old b c x begun e dead = dead.not_begun (beginnings (b ++ (x ∷ [])) c (subst Begun (e ∙ sym (append_assoc b (x ∷ []) c)) begun))
 
   pub stops_early : (old new : List Lexeme) → IsEarly old new → StopsEarly read old new

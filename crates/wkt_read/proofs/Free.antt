@@ -8,7 +8,7 @@ use Rattle.wkt_types.specs.declared.geometry_type.GeometryType.{GeometryType}
 use Rattle.wkt_types.specs.declared.geometry_type.GeometryType.TheVariants as kind
 use Rattle.wkt_read.specs.Kinds.{kind_of, dim_of}
 use Rattle.wkt_read.specs.Grammar.{Head, IsEmptyWord, Listed, Geometry, Geometries}
-use Rattle.wkt_read.specs.Begun.{NoneBegins}
+use Rattle.wkt_read.specs.Begun.{NoneBeginsBy}
 use Rattle.wkt_read.specs.Front.{NeedsNoMemory}
 use Rattle.wkt_read.specs.Reading.{Reading, opening_at, head_at, value_at, IsOpened, HasMembers}
 use Rattle.wkt_read.proofs.OneForm.{BeginsBody, BodyOf, geometry_body, body_begins}
@@ -58,7 +58,7 @@ module _ {N : Type 0} (read : List ℕ → Option N) where
       ]
 
   -- where the reading refuses, no geometry begins the lexemes
-  pub none_begins : (n : ℕ) (ls left : List Lexeme) → length ls ≤ n → value_at read n ls ≡ Err left → NoneBegins read true ls
+  pub none_begins : (n : ℕ) (ls left : List Lexeme) → length ls ≤ n → value_at read n ls ≡ Err left → NoneBeginsBy read true ls
   none_begins n ls left le reads f rest v e g =
       let ok : value_at read n ls ≡ Ok (v, rest) = ap (value_at read n) e ∙ complete read n v f rest g (omega (arith, le, ap length e)) in
       let clash : ◌≡◌ {A = Reading (Value N)} (Err left) (Ok (v, rest)) = sym reads ∙ ok in cc

@@ -2,7 +2,7 @@
 use Rattle.std.proofs.Common.{◌≡◌, ◌≢◌, ℕ, suc, ◌+◌, List, [], ◌∷◌, ◌++◌, length, inl, inr, refl, sym, ap, ◌∙◌, subst, arith, length-append}
 use Rattle.wkt_num.specs.Bytes.{Class, Nul, White, Mark, Run, class_of, AllWhite, AllRun}
 use Rattle.wkt_read.specs.Lexemes.{IsBoundary, Spells, Takes, IsOver, IsSplit}
-use Rattle.wkt_read.specs.Placed.{Placed, lexemes_of, end_after, marks, front, behind_run, joined, placed_from, placed}
+use Rattle.wkt_read.specs.Placed.{Placed, lexemes_of, end_after, AreEnds, marks, front, behind_run, joined, placed_from, placed}
 
 -- The bytes are these lexemes, where `at` bytes stand before them.
 abbrev pub Stands : ℕ → List ℕ → List Placed → Type 0
@@ -63,7 +63,7 @@ stands-taken at text (p ∷ given) later (gap, body, after, e, w, s, n, st) =
     (rest, (gap, body, after, e, w, s, t), omega (arith, end, n, ap length e, length-append gap (body ++ after), length-append body after))
 
 -- a beginning of them is taken from the text, and what is left of it begins at the last one's end
-pub placed-taken : (text : List ℕ) (given later : List Placed) → placed text ≡ given ++ later → (rest : List ℕ) × Takes text (lexemes_of given) rest × (length rest + end_after 0 given ≡ length text)
-placed-taken text given later e =
+pub placed-ends : (text : List ℕ) → AreEnds text (placed text)
+placed-ends text given later e =
     let (rest, t, end) = stands-taken 0 text given later (subst (Stands 0 text) e (stands 0 text)) in
     (rest, t, omega (arith, end))

@@ -4,7 +4,7 @@ use Rattle.std.specs.Iterator.{Count, at_most}
 use Rattle.std.specs.Borrow.{Bor}
 use Rattle.std.specs.Option.{option_copied}
 use Rattle.wkt_num.specs.Bytes.{Lexeme}
-use Rattle.wkt_read.specs.Placed.{Placed, lexemes_of}
+use Rattle.wkt_read.specs.Placed.{Placed, lexemes_of, end_after}
 use Rattle.wkt_read.specs.Items.{IsItem}
 use Rattle.wkt_read.specs.Raws.{found}
 use Rattle.wkt_read.specs.Stream.{coming}
@@ -74,6 +74,13 @@ pub record IsBehind {T : Type 0} (start : List Placed) (p : PeekableTokens T) : 
   pub given : List Placed
   pub split : start ≡ given ++ left p
   pub last : IfLast given (end_of p)
+
+-- Of the lexemes that `old` had left, some were taken, in order, and the others are left. The end is that of the last one taken, or stays where none was, and no byte is given back.
+pub record Advances {T : Type 0} (old new : PeekableTokens T) : Type 0 where
+  pub given : List Placed
+  pub split : left old ≡ given ++ left new
+  pub end : end_of new ≡ end_after (end_of old) given
+  pub grows : taken_of old ≤ taken_of new
 
 -- No byte was taken past the last lexeme given, but for one.
 pub record IsNear {T : Type 0} (p : PeekableTokens T) : Type 0 where

@@ -1,7 +1,7 @@
 -- The lexemes of a text, each with its end, as a function of its bytes.
-use Rattle.std.specs.Prelude.{ℕ, suc, ◌+◌, List, [], ◌∷◌, length}
+use Rattle.std.specs.Prelude.{◌≡◌, ℕ, suc, ◌+◌, List, [], ◌∷◌, ◌++◌, length}
 use Rattle.wkt_num.specs.Bytes.{Lexeme, Class, Nul, White, Mark, Run, class_of}
-use Rattle.wkt_read.specs.Lexemes.{lexeme_of}
+use Rattle.wkt_read.specs.Lexemes.{lexeme_of, Takes}
 
 -- A lexeme, and how many bytes of the text there are up to and with it.
 pub record Placed : Type 0 where
@@ -17,6 +17,12 @@ lexemes_of (x ∷ xs) = x.lexeme ∷ lexemes_of xs
 abbrev pub end_after : ℕ → List Placed → ℕ
 end_after at [] = at
 end_after at (x ∷ xs) = end_after x.end xs
+
+-- Where each of the lexemes ends in the text: after each beginning of them, the rest of the text begins at the end of its last.
+abbrev pub AreEnds : List ℕ → List Placed → Type 0
+AreEnds text ps =
+    (given later : List Placed) → ps ≡ given ++ later
+    → (rest : List ℕ) × Takes text (lexemes_of given) rest × (length rest + end_after 0 given ≡ length text)
 
 -- What stands behind a byte of this class, with it where it is a mark: nothing comes after a NUL.
 abbrev pub marks : Class → ℕ → List Placed → List Placed

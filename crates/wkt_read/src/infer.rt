@@ -21,9 +21,20 @@ pub enum InferError {
     /// The text has neither `(` nor EMPTY.
     #[error("Invalid WKT; no '(' character and not EMPTY")]
     NoOpenParen,
-    /// There was no memory for an unsupported prefix. No other answer takes any.
+    /// Memory ran out for an unsupported prefix. No other answer takes any.
     #[error("out of memory")]
     Memory(AllocError),
+}
+
+/// So that `?` passes on what allocates, beside what infers.
+impl From<AllocError> for InferError {
+    ghost use Rattle.wkt_read.specs.declared.infer.InferError.TheVariants.{Memory};
+
+    ghost from_gives = { λ error result. result ≡ Memory error };
+
+    fn from(error: AllocError) -> Self {
+        InferError::Memory(error)
+    }
 }
 
 // Whether the text begins with the word, which is in capitals, whatever the text's case.

@@ -17,6 +17,6 @@ impl<'a, T: WktNum> PeekableTokens<'a, T> {
         ensures* { sem 𝓛 (follows_so (the_row (record { mir = named 0; lft = [] }) T.row) (the_row (record { mir = named 0; lft = [] }) T.row) self.entry.ghost_name none (λ _ _. ⊤) (λ v. Peeks T.read self.old v result)) }
     {
         self.fill();
-        self.peeked.as_ref()
+        self.peeked.item.as_ref()
     }
 }

@@ -6,7 +6,24 @@ ghost use Rattle.wkt_read.specs.Raws.{found};
 
 use crate::token::{Raw, Token, item_of};
 use crate::tokens::Tokens;
+use std::marker::Model;
 use wkt_num::WktNum;
+
+/// The item that `peek` returns a reference to. A contract sees it as the item alone.
+#[derive(Drop)]
+pub(crate) struct Peeked<'a, T> {
+    pub(crate) item: Option<Result<Token<'a, T>, &'static str>>,
+}
+
+impl<'a, T> Model for Peeked<'a, T> {
+    ghost use Rattle.std.specs.Prelude.{ℕ, List, Option, Result};
+    ghost use Rattle.std.specs.Borrow.{Bor};
+    ghost use Rattle.wkt_read.specs.declared.token.Token.{Token};
+
+    ghost Value = { Option (Result (Token T) (Bor (List ℕ))) };
+
+    ghost view = { λ p. p.item };
+}
 
 /// The lexemes of a text, one after the other, of which one may be looked at ahead.
 #[derive(Drop)]
@@ -14,8 +31,8 @@ pub struct PeekableTokens<'a, T> {
     tokens: Tokens<'a, T>,
     ahead: Option<Raw<'a>>,
     end: usize,
-    // What `peek` lends: it alone reads the number ahead of its time.
-    pub(crate) peeked: Option<Result<Token<'a, T>, &'static str>>,
+    // What `peek` returns a reference to: it alone reads the number ahead of its time.
+    pub(crate) peeked: Peeked<'a, T>,
     ghost near: { (raw : _) (l : Lexeme) → ahead ≡ Some raw → found raw ≡ Some l → (tokens.end ≤ tokens.bytes.taken) × (tokens.bytes.taken ≤ tokens.end + 1) },
     ghost level: { ahead ≡ None → end ≡ tokens.end },
 }
@@ -40,7 +57,7 @@ impl<'a, T: WktNum> PeekableTokens<'a, T> {
             tokens,
             ahead: None,
             end,
-            peeked: None,
+            peeked: Peeked { item: None },
         }
     }
 
@@ -126,14 +143,15 @@ impl<'a, T: WktNum> PeekableTokens<'a, T> {
         }
     }
 
-    // Reads what `peek` lends.
+    // Reads what `peek` returns a reference to.
     pub(crate) fn fill(&mut self)
         ensures left { left self.new ≡ left self.old }
         ensures end { end_of self.new ≡ end_of self.old }
         ensures grows { taken_of self.old ≤ taken_of self.new }
         ensures first { IsItem T.read (first_of (left self.old)) self.new.peeked }
     {
-        self.peeked = item_of(self.look());
+        let item = item_of(self.look());
+        self.peeked = Peeked { item };
     }
 }
 

@@ -1,5 +1,5 @@
 //! The lexemes of a text.
-ghost use Rattle.std.specs.Prelude.{◌≡◌, ◌≢◌, ℕ};
+ghost use Rattle.std.specs.Prelude.{◌≡◌, ◌≢◌, ◌≤◌, ℕ, length};
 ghost use Rattle.std.specs.Str.{IsCharBoundary};
 ghost use Rattle.wkt_read.specs.declared.class.Class.TheVariants.{Run};
 
@@ -27,7 +27,7 @@ pub struct Tokens<'a, T> {
 
 impl<'a, T: WktNum> Tokens<'a, T> {
     ghost use Rattle.wkt_read.specs.Lexemes.{IsSplit};
-    ghost use Rattle.wkt_read.specs.Placed.{placed, lexemes_of};
+    ghost use Rattle.wkt_read.specs.Placed.{placed, lexemes_of, AreEnds};
     ghost use Rattle.wkt_read.specs.Stream.{coming, bytes_taken, end_of_last, Steps};
     ghost use Rattle.wkt_read.specs.Raws.{found};
 
@@ -35,6 +35,8 @@ impl<'a, T: WktNum> Tokens<'a, T> {
     pub fn from_str(text: &'a str) -> Self
         ensures placed { coming result ≡ placed text.now }
         ensures split { IsSplit text.now (lexemes_of (coming result)) }
+        ensures ends { AreEnds text.now (coming result) }
+        ensures few { length (coming result) ≤ length text.now }
         ensures untaken { bytes_taken result ≡ 0 }
         ensures start { end_of_last result ≡ 0 }
     {
