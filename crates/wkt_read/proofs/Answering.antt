@@ -43,6 +43,10 @@ long : (ls : List Lexeme) → (ls ≡ [] → ⊥) → 0 < length ls
 long [] some = absurd (some refl)
 long (l ∷ ls) some = omega arith
 
+-- a lexeme that could have been the last one given
+abbrev marked : {T : Type 0} → PeekableTokens T → Placed
+marked s = record { lexeme = Open; end = end_of s }
+
 module _ {T : Type 0} (s t : PeekableTokens T) where
   -- a stream that is after whatever another is after: so much of that was taken
   advanced : (x : Placed) (given : List Placed) → left s ≡ given ++ left t → x.end ≡ end_of s → IfLast (x ∷ given) (end_of t) → taken_of s ≤ taken_of t → Advances s t
@@ -54,16 +58,13 @@ module _ {T : Type 0} (s t : PeekableTokens T) where
   }
 
   pub advances : GoesOn s t → taken_of s ≤ taken_of t → length (rest t) ≤ length (rest s) → Advances s t
-  advances go grows fewer = let b = go (mark ∷ left s) (record { given = mark ∷ []; split = refl; last = refl }) in pick b.given b.split b.last
+  advances go grows fewer = let b = go (marked s ∷ left s) (record { given = marked s ∷ []; split = refl; last = refl }) in pick b.given b.split b.last
     where
-      abbrev mark : Placed
-      mark = record { lexeme = Open; end = end_of s }
-
-      pick : (given : List Placed) → mark ∷ left s ≡ given ++ left t → IfLast given (end_of t) → Advances s t
+      pick : (given : List Placed) → marked s ∷ left s ≡ given ++ left t → IfLast given (end_of t) → Advances s t
       pick [] e last = absurd (omega (arith, fewer, ap length e, ap length (rest-is s (left s) refl), ap length (rest-is t (left t) refl), lexemes-length (left s), lexemes-length (left t)))
       pick (x ∷ given) e last =
           let split : left s ≡ given ++ left t = cc in
-          let same : mark ≡ x = cc in
+          let same : marked s ≡ x = cc in
           advanced x given split (ap (λ (p : Placed). p.end) (sym same)) last grows
 
 module _ {T : Type 0} (read : List ℕ → Option T) where

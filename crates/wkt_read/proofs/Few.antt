@@ -2,8 +2,9 @@
 use Rattle.std.proofs.Common.{◌≡◌, ◌≢◌, ℕ, ◌+◌, ◌≤◌, ◌<◌, List, [], ◌∷◌, ◌++◌, length, refl, ap, arith, length-append}
 use Rattle.wkt_num.specs.Bytes.{Lexeme}
 use Rattle.wkt_read.specs.Lexemes.{Takes, IsSplit}
-use Rattle.wkt_read.specs.Placed.{Placed, lexemes_of}
+use Rattle.wkt_read.specs.Placed.{Placed, lexemes_of, placed}
 use Rattle.wkt_read.proofs.Stable.{body_not_empty}
+use Rattle.wkt_read.proofs.Placings.{placed-split}
 
 long : (bs : List ℕ) → bs ≢ [] → 0 < length bs
 long [] some = absurd (some refl)
@@ -20,3 +21,6 @@ few text ls (rest, t, over) = omega (arith, takes-few ls text rest t)
 pub lexemes-length : (ps : List Placed) → length (lexemes_of ps) ≡ length ps
 lexemes-length [] = refl
 lexemes-length (p ∷ ps) = omega (arith, lexemes-length ps)
+
+pub placed-few : (text : List ℕ) → length (placed text) ≤ length text
+placed-few text = omega (arith, few text (lexemes_of (placed text)) (placed-split text), lexemes-length (placed text))

@@ -1,8 +1,8 @@
-use Rattle.std.proofs.Common.{refl, sym, subst, arith}
+use Rattle.std.proofs.Common.{refl, sym, subst, ◌≤◌, length}
 use Rattle.wkt_read.specs.Lexemes.{IsSplit}
 use Rattle.wkt_read.specs.Placed.{lexemes_of, AreEnds}
 use Rattle.wkt_read.specs.Stream.{coming, bytes_taken, end_of_last}
-use Rattle.wkt_read.proofs.Few.{few, lexemes-length}
+use Rattle.wkt_read.proofs.Few.{placed-few}
 use Rattle.wkt_read.proofs.Placings.{placed-split, placed-ends}
 use Rattle.wkt_read.proofs.tokens.Tokens.from_str.Goals as goal
 
@@ -17,7 +17,7 @@ pub returns-clause-ends : goal.returns-clause-ends
 returns-clause-ends g c = subst (AreEnds c.args.text.now) (sym (returns-clause-placed g c)) (placed-ends c.args.text.now)
 
 pub returns-clause-few : goal.returns-clause-few
-returns-clause-few g c = omega (arith, few c.args.text.now (lexemes_of (coming _)) (returns-clause-split g c), lexemes-length (coming _))
+returns-clause-few g c = subst (λ l. length l ≤ length c.args.text.now) (sym (returns-clause-placed g c)) (placed-few c.args.text.now)
 
 pub returns-clause-untaken : goal.returns-clause-untaken
 unfolding bytes_taken
