@@ -53,7 +53,7 @@ pub mod tokenizer {
 pub mod laws {
     pub use wkt_num::laws::{finer_keeps, reading_is_equation, wider_keeps};
     pub use wkt_read::laws::{
-        canon_once, dead_for_good, few_lexemes, front_is_writable, front_of_lexemes, head_names,
+        canon_once, dead_for_good, few_lexemes, front_is_writable, front_of_lexemes, header_names,
         old_forms, one_form, one_front, one_reading, one_split, one_text, one_value_text, one_wkt,
         read_values_are_writable, reads_back, stable_front, value_reads_back, whole_characters,
     };

@@ -28,17 +28,17 @@ module _ {T : Type 0} (read : List ℕ → Option T) where
   abbrev pub IsReadOff : List Lexeme → Tree T → List Lexeme → Type 0
   IsReadOff old t new = (v : Value T) × Begins old v new × IsWktOf v t
 
-  -- Some number run of the text is one that the number type refuses.
+  -- Some number run of the text is one that the number type doesn't read.
   abbrev pub HasBadNumber : List ℕ → Type 0
   HasBadNumber text = (ls : List Lexeme) × IsSplit text ls × HasBad read ls
 
--- this holds where the answer is a refusal of the text
+-- this holds where the answer is `Text`
 abbrev pub OnText : {X : Type 0} → Result X ReadError → Type 0 → Type 0
 OnText (Ok x) P = Unit {0}
 OnText (Err (Text m)) P = P
 OnText (Err (Memory e)) P = Unit {0}
 
--- this holds where the answer is a refusal of the text with this message
+-- this holds where the answer is `Text` with this message
 abbrev pub OnMessage : {X : Type 0} → Result X ReadError → List ℕ → Type 0 → Type 0
 OnMessage (Ok x) message P = Unit {0}
 OnMessage (Err (Text m)) message P = m.now ≡ message → P

@@ -1,4 +1,4 @@
--- A refusal comes early: it takes no more lexemes than it must.
+-- An error comes early: its reader takes no more lexemes than it must.
 use Rattle.std.specs.Prelude.{◌≡◌, ℕ, suc, ◌+◌, ◌≤◌, List, [], ◌∷◌, ◌++◌, length, Option, ◌⊎◌}
 use Rattle.wkt_num.specs.Bytes.{Lexeme, Open, Close, Comma, Word, Num}
 use Rattle.wkt_read.specs.Begun.{IsDead}

@@ -13,17 +13,17 @@ ghost use Rattle.wkt_read.specs.Ahead.{rest, Advances, IsNear};
 ghost use Rattle.wkt_read.specs.Answered.{IsFront, IsFrontTo, Begins, IsReadOff, HasBadNumber, OnText, OnMessage};
 
 use crate::error::ReadError;
-use crate::fault::{Fault, text};
-use crate::peekable::PeekableTokens;
-use crate::tokens::Tokens;
-use crate::value::value;
+use crate::messages::{ParseError, text};
+use crate::tokenizer::peekable::PeekableTokens;
+use crate::tokenizer::tokens::Tokens;
+use crate::parser::geometries::value;
 use std::alloc::Global;
 use wkt_num::WktNum;
 use wkt_types::Wkt;
 
 fn read<T: WktNum>(alloc: Global, tokens: &mut PeekableTokens<'_, T>) -> Result<Wkt<T>, ReadError>
     ensures found { IfOk result (λ w. IsReadOff T.read (rest tokens.old) (tree w) (rest tokens.new)) }
-    ensures refused { OnText result (NoneBegins T.read (rest tokens.old)) }
+    ensures no_geometry { OnText result (NoneBegins T.read (rest tokens.old)) }
     ensures early { OnText result (StopsEarly T.read (rest tokens.old) (rest tokens.new)) }
     ensures bad { OnMessage result bad_number (HasBad T.read (rest tokens.old)) }
     ensures free { (v after : _) → Begins T.read (rest tokens.old) v after → NeedsNoMemory v → IsOk result }
@@ -33,8 +33,8 @@ fn read<T: WktNum>(alloc: Global, tokens: &mut PeekableTokens<'_, T>) -> Result<
 {
     match value(alloc, tokens, false) {
         Ok(value) => Ok(value),
-        Err(Fault::Text(message)) => Err(ReadError::Text(text(message))),
-        Err(Fault::Memory(error)) => Err(ReadError::Memory(error)),
+        Err(ParseError::Text(message)) => Err(ReadError::Text(text(message))),
+        Err(ParseError::Memory(error)) => Err(ReadError::Memory(error)),
     }
 }
 
@@ -43,7 +43,7 @@ fn read_text<T: WktNum>(alloc: Global, text: &str) -> Result<(Wkt<T>, usize), Re
     ensures some { IfOk result (λ r. 0 < r.1) }
     ensures within { IfOk result (λ r. r.1 ≤ length text.now) }
     ensures boundary { IfOk result (λ r. IsCharBoundary text.now r.1) }
-    ensures refused { OnText result (HasNoFront T.read text.now) }
+    ensures no_front { OnText result (HasNoFront T.read text.now) }
     ensures bad { OnMessage result bad_number (HasBadNumber T.read text.now) }
     ensures free { (v end : _) → Front T.read text.now v end → NeedsNoMemory v → IsOk result }
 {
@@ -69,7 +69,7 @@ pub trait FromWktStr {
     /// memory ran out.
     fn from_str(alloc: Global, text: &str) -> Result<Self, ReadError>
         ensures found { IfOk result (λ w. IsFront Self.Num.read text.now (tree w)) }
-        ensures refused { OnText result (HasNoFront Self.Num.read text.now) }
+        ensures no_front { OnText result (HasNoFront Self.Num.read text.now) }
         ensures bad { OnMessage result bad_number (HasBadNumber Self.Num.read text.now) }
         ensures free { (v end : _) → Front Self.Num.read text.now v end → NeedsNoMemory v → IsOk result };
 
@@ -84,7 +84,7 @@ pub trait FromWktStr {
         ensures some { IfOk result (λ r. 0 < r.1) }
         ensures within { IfOk result (λ r. r.1 ≤ length text.now) }
         ensures boundary { IfOk result (λ r. IsCharBoundary text.now r.1) }
-        ensures refused { OnText result (HasNoFront Self.Num.read text.now) }
+        ensures no_front { OnText result (HasNoFront Self.Num.read text.now) }
         ensures bad { OnMessage result bad_number (HasBadNumber Self.Num.read text.now) }
         ensures free { (v end : _) → Front Self.Num.read text.now v end → NeedsNoMemory v → IsOk result };
 
@@ -99,7 +99,7 @@ pub trait FromWktStr {
         tokens: &mut PeekableTokens<'_, Self::Num>,
     ) -> Result<Self, ReadError>
         ensures found { IfOk result (λ w. IsReadOff Self.Num.read (rest tokens.old) (tree w) (rest tokens.new)) }
-        ensures refused { OnText result (NoneBegins Self.Num.read (rest tokens.old)) }
+        ensures no_geometry { OnText result (NoneBegins Self.Num.read (rest tokens.old)) }
         ensures early { OnText result (StopsEarly Self.Num.read (rest tokens.old) (rest tokens.new)) }
         ensures bad { OnMessage result bad_number (HasBad Self.Num.read (rest tokens.old)) }
         ensures free { (v after : _) → Begins Self.Num.read (rest tokens.old) v after → NeedsNoMemory v → IsOk result }

@@ -7,8 +7,8 @@ use Rattle.wkt_read.specs.Front.{FrontBy, HasNoFront}
 use Rattle.wkt_read.specs.Answered.{HasBadNumber}
 use Rattle.wkt_read.specs.Items.{bad_number}
 use Rattle.wkt_read.specs.Placed.{AreEnds}
-use Rattle.wkt_read.proofs.FrontEnds.{front-some, front-within, front-boundary}
-use Rattle.wkt_read.proofs.Answering.{to-front, from-front, no-front, split-of, text-map, message-map}
+use Rattle.wkt_read.proofs.LawLemmas.FrontEnds.{front-some, front-within, front-boundary}
+use Rattle.wkt_read.proofs.ParserLemmas.Answering.{to-front, from-front, no-front, split-of, text-map, message-map}
 use Rattle.wkt_read.proofs.api.read_text.Goals as goal
 
 pub returns-in-Ok-clause-found : goal.returns-in-Ok-clause-found
@@ -25,10 +25,10 @@ returns-in-Ok-clause-within g c = let (v, front, is) = returns-in-Ok-clause-foun
 pub returns-in-Ok-clause-boundary : goal.returns-in-Ok-clause-boundary
 returns-in-Ok-clause-boundary g c = let (v, front, is) = returns-in-Ok-clause-found g c in front-boundary g.T.WktNum.read c.args.text.now v _ c.utf8.text front
 
-pub returns-in-Err-clause-refused : goal.returns-in-Err-clause-refused
-returns-in-Err-clause-refused g c =
+pub returns-in-Err-clause-no_front : goal.returns-in-Err-clause-no_front
+returns-in-Err-clause-no_front g c =
     text-map (Wkt g.row.T.Denot) (Wkt g.row.T.Denot) c.in-Err.error (NoneBeginsBy g.T.WktNum.read true (rest c.new-tokens.result)) (HasNoFront g.T.WktNum.read c.args.text.now)
-    (no-front g.T.WktNum.read c.args.text.now c.new-tokens.result (c.new-tokens.ensures.left ∙ c.from_str.ensures.placed)) c.in-Err.ensures.refused
+    (no-front g.T.WktNum.read c.args.text.now c.new-tokens.result (c.new-tokens.ensures.left ∙ c.from_str.ensures.placed)) c.in-Err.ensures.no_geometry
 
 pub returns-in-Err-clause-bad : goal.returns-in-Err-clause-bad
 returns-in-Err-clause-bad g c =

@@ -1,4 +1,4 @@
-use Rattle.wkt_read.proofs.Few.{few}
+use Rattle.wkt_read.proofs.LawLemmas.Few.{few}
 use Rattle.wkt_read.proofs.laws.few_lexemes.Goals as goal
 
 pub returns : goal.returns

@@ -1,4 +1,4 @@
-use Rattle.wkt_read.proofs.FrontEnds.{front-of-lexemes}
+use Rattle.wkt_read.proofs.LawLemmas.FrontEnds.{front-of-lexemes}
 use Rattle.wkt_read.proofs.laws.front_of_lexemes.Goals as goal
 
 pub returns : goal.returns

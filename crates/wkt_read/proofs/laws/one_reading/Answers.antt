@@ -1,4 +1,4 @@
-use Rattle.wkt_read.proofs.OneWkt.{reading-one}
+use Rattle.wkt_read.proofs.LawLemmas.OneWkt.{reading-one}
 use Rattle.wkt_read.proofs.laws.one_reading.Goals as goal
 
 pub returns : goal.returns

@@ -1,4 +1,4 @@
-use Rattle.wkt_read.proofs.OneWkt.{wkt-one}
+use Rattle.wkt_read.proofs.LawLemmas.OneWkt.{wkt-one}
 use Rattle.wkt_read.proofs.laws.one_wkt.Goals as goal
 
 pub returns : goal.returns
