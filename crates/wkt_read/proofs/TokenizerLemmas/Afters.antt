@@ -58,7 +58,7 @@ module _ {T : Type 0} (read : List ℕ → Option T) where
     run = digits.now;
     after = lexemes_of (left t);
     split = ap lexemes_of (b.split ∙ ap (λ l. b.given ++ l) h.0) ∙ lexemes_of-append b.given _;
-    refused = bad;
+    unread = bad;
   }
 
 pub other-message : (X : Type 0) (m : Message) (P : Type 0) → m ≢ message.BadNumber → OnBad {X = X} (Err m) P

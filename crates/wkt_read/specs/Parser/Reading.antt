@@ -13,6 +13,10 @@ use Rattle.wkt_read.specs.Grammar.{KindWord, kind_word, dim_word}
 abbrev pub Reading : Type 0 → Type 0
 Reading A = Result (A × List Lexeme) (List Lexeme)
 
+-- What reads: of lexemes, what a reading gives.
+abbrev pub Reader : Type 0 → Type 0
+Reader A = List Lexeme → Reading A
+
 infixl 10 ◌>>=◌
 -- One reading, then another after it.
 abbrev pub ◌>>=◌ : {A B : Type 0} → Reading A → (A × List Lexeme → Reading B) → Reading B
@@ -89,6 +93,10 @@ tail_at item fuel (Num run ∷ rest) = Ok ([], Num run ∷ rest)
 -- One item or more; the list ends at the first lexeme that is no comma.
 unfoldable pub many_at : {A : Type 0} → (List Lexeme → Reading A) → ℕ → List Lexeme → Reading (List A)
 many_at item fuel lexemes = item lexemes >>= λ p. with_front (p.0 ∷ []) (tail_at item fuel p.1)
+
+-- What stands after a header whose kind has a list of these items: EMPTY, or items in parentheses.
+abbrev pub list_at : {A : Type 0} → (List Lexeme → Reading A) → ℕ → List Lexeme → Reading (List A)
+list_at item fuel = framed [] (many_at item fuel)
 
 module _ {N : Type 0} (read : List ℕ → Option N) where
   -- A number, if the number type reads the run.
@@ -177,15 +185,15 @@ module _ {N : Type 0} (read : List ℕ → Option N) where
 
   -- A line string or ring: what stands after the header of a LineString.
   abbrev pub line_string_at : Dimension → ℕ → List Lexeme → Reading (List (List N))
-  line_string_at d fuel = framed [] (many_at (coord_at d) fuel)
+  line_string_at d = list_at (coord_at d)
 
   -- Line strings or rings: what stands after the header of a Polygon or MultiLineString.
   abbrev pub line_strings_at : Dimension → ℕ → List Lexeme → Reading (List (List (List N)))
-  line_strings_at d fuel = framed [] (many_at (line_string_at d fuel) fuel)
+  line_strings_at d fuel = list_at (line_string_at d fuel) fuel
 
   -- What stands after the header of a MultiPolygon.
   abbrev pub polygons_at : Dimension → ℕ → List Lexeme → Reading (List (List (List (List N))))
-  polygons_at d fuel = framed [] (many_at (line_strings_at d fuel) fuel)
+  polygons_at d fuel = list_at (line_strings_at d fuel) fuel
 
   -- A member of a MultiPoint by its first lexeme: `(` and a coordinate and `)`, the word EMPTY, or else a coordinate.
   unfoldable pub member_at : Dimension → List Lexeme → Reading (Option (List N))
@@ -198,11 +206,11 @@ module _ {N : Type 0} (read : List ℕ → Option N) where
 
   -- What stands after the header of a MultiPoint.
   abbrev pub points_at : Dimension → ℕ → List Lexeme → Reading (List (Option (List N)))
-  points_at d fuel = framed [] (many_at (member_at d) fuel)
+  points_at d = list_at (member_at d)
 
   -- What stands after the header of a GeometryCollection.
   abbrev pub members_at : (List Lexeme → Reading (Value N)) → ℕ → List Lexeme → Reading (List (Value N))
-  members_at value fuel = framed [] (many_at value fuel)
+  members_at = list_at
 
   -- What stands after a header, by its kind.
   abbrev pub body_at : (List Lexeme → Reading (Value N)) → ℕ → GeometryType → Dimension → List Lexeme → Reading (Value N)

@@ -15,7 +15,7 @@ ghost use Rattle.wkt_read.specs.Bad.{HasBad};
 ghost use Rattle.wkt_read.specs.Parser.Nests.{StartsAll, StartsBody, Shuts, IfWhole, OnWhole, Wants, weight, most_after};
 
 use crate::messages::{ParseError, Message};
-use crate::parser::lists::{line, lines, points, polygons};
+use crate::parser::lists::list;
 use crate::tokenizer::peekable::PeekableTokens;
 use crate::parser::coordinates::{close, opening, point};
 use crate::tokenizer::token::Lexeme;
@@ -96,7 +96,7 @@ fn point_of<T>(coord: Option<Coord<T>>, dim: Dimension) -> Wkt<T>
     Wkt::from(Point::new(coord, dim))
 }
 
-fn line_of<T>(coords: Vec<Coord<T>>, dim: Dimension) -> Wkt<T>
+fn line_string_of<T>(coords: Vec<Coord<T>>, dim: Dimension) -> Wkt<T>
     ensures value { wkt_value result ≡ Value.line_string dim (map numbers_of coords.items) }
     ensures uniform { AllByRecursion (HasDim dim) coords.items → UniformWkt result }
 {
@@ -117,7 +117,7 @@ fn points_of<T>(points: Vec<Point<T>>, dim: Dimension) -> Wkt<T>
     Wkt::from(MultiPoint::new(points, dim))
 }
 
-fn lines_of<T>(lines: Vec<LineString<T>>, dim: Dimension) -> Wkt<T>
+fn line_strings_of<T>(lines: Vec<LineString<T>>, dim: Dimension) -> Wkt<T>
     ensures value { wkt_value result ≡ Value.multi_line_string dim (map line_numbers lines.items) }
     ensures uniform { AllByRecursion (IsLineIn dim) lines.items → UniformWkt result }
 {
@@ -167,8 +167,8 @@ fn read_line_string<T: WktNum>(
     ensures bad { BlamesIn T.read tokens.old result }
     ensures goes_on { GoesOn tokens.old tokens.new }
 {
-    let coords = line(alloc, tokens, dim)?;
-    Ok(line_of(coords, dim))
+    let coords = list(alloc, tokens, dim)?;
+    Ok(line_string_of(coords, dim))
 }
 
 #[inline(never)]
@@ -184,7 +184,7 @@ fn read_polygon<T: WktNum>(
     ensures bad { BlamesIn T.read tokens.old result }
     ensures goes_on { GoesOn tokens.old tokens.new }
 {
-    let rings = lines(alloc, tokens, dim)?;
+    let rings = list(alloc, tokens, dim)?;
     Ok(polygon_of(rings, dim))
 }
 
@@ -201,7 +201,7 @@ fn read_multi_point<T: WktNum>(
     ensures bad { BlamesIn T.read tokens.old result }
     ensures goes_on { GoesOn tokens.old tokens.new }
 {
-    let points = points(alloc, tokens, dim)?;
+    let points = list(alloc, tokens, dim)?;
     Ok(points_of(points, dim))
 }
 
@@ -218,8 +218,8 @@ fn read_multi_line_string<T: WktNum>(
     ensures bad { BlamesIn T.read tokens.old result }
     ensures goes_on { GoesOn tokens.old tokens.new }
 {
-    let lines = lines(alloc, tokens, dim)?;
-    Ok(lines_of(lines, dim))
+    let lines = list(alloc, tokens, dim)?;
+    Ok(line_strings_of(lines, dim))
 }
 
 #[inline(never)]
@@ -235,7 +235,7 @@ fn read_multi_polygon<T: WktNum>(
     ensures bad { BlamesIn T.read tokens.old result }
     ensures goes_on { GoesOn tokens.old tokens.new }
 {
-    let polygons = polygons(alloc, tokens, dim)?;
+    let polygons = list(alloc, tokens, dim)?;
     Ok(polygons_of(polygons, dim))
 }
 

@@ -15,4 +15,4 @@ pub returns-in_err-lines-clause-exact : goal.returns-in_err-lines-clause-exact
 returns-in_err-lines-clause-exact g c = λ fuel h. reads-pass wkt_value (λ (v : Vec (Held (Coord g.row.T.Denot)) Global). map line_numbers v.items) _ _ _ _ _ c.from_residual.ensures.1 (c.in_err-lines.ensures.exact fuel h) (λ e. ap (λ t. t >>= (λ p. Ok (Value.multi_line_string c.args.dim p.0, p.1))) e)
 
 pub returns-clause-exact : goal.returns-clause-exact
-returns-clause-exact g c = λ fuel h. ap (λ t. t >>= (λ p. Ok (Value.multi_line_string c.args.dim p.0, p.1))) (c.in_ok-lines.ensures.exact fuel h) ∙ ap (λ v. Ok (v, rest c.lines.new.tokens)) (sym c.lines_of.ensures.value)
+returns-clause-exact g c = λ fuel h. ap (λ t. t >>= (λ p. Ok (Value.multi_line_string c.args.dim p.0, p.1))) (c.in_ok-lines.ensures.exact fuel h) ∙ ap (λ v. Ok (v, rest c.list.new.tokens)) (sym c.line_strings_of.ensures.value)

@@ -15,4 +15,4 @@ pub returns-in_err-polygons-clause-exact : goal.returns-in_err-polygons-clause-e
 returns-in_err-polygons-clause-exact g c = λ fuel h. reads-pass wkt_value (λ (v : Vec (Held (Held (Coord g.row.T.Denot))) Global). map polygon_numbers v.items) _ _ _ _ _ c.from_residual.ensures.1 (c.in_err-polygons.ensures.exact fuel h) (λ e. ap (λ t. t >>= (λ p. Ok (Value.multi_polygon c.args.dim p.0, p.1))) e)
 
 pub returns-clause-exact : goal.returns-clause-exact
-returns-clause-exact g c = λ fuel h. ap (λ t. t >>= (λ p. Ok (Value.multi_polygon c.args.dim p.0, p.1))) (c.in_ok-polygons.ensures.exact fuel h) ∙ ap (λ v. Ok (v, rest c.polygons.new.tokens)) (sym c.polygons_of.ensures.value)
+returns-clause-exact g c = λ fuel h. ap (λ t. t >>= (λ p. Ok (Value.multi_polygon c.args.dim p.0, p.1))) (c.in_ok-polygons.ensures.exact fuel h) ∙ ap (λ v. Ok (v, rest c.list.new.tokens)) (sym c.polygons_of.ensures.value)
