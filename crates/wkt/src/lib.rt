@@ -57,8 +57,8 @@ pub mod laws {
     pub use wkt_flat::laws::flat_is_writable;
     pub use wkt_num::laws::{finer_keeps, reading_is_equation, wider_keeps};
     pub use wkt_read::laws::{
-        canon_once, dead_for_good, front_is_writable, head_names, old_forms, one_form, one_front,
-        one_split, one_text, one_value_text, read_values_are_writable, reads_back, stable_front,
-        value_reads_back, whole_characters,
+        canon_once, dead_for_good, few_lexemes, front_is_writable, front_of_lexemes, header_names,
+        old_forms, one_form, one_front, one_reading, one_split, one_text, one_value_text, one_wkt,
+        read_values_are_writable, reads_back, stable_front, value_reads_back, whole_characters,
     };
 }

@@ -1,5 +1,5 @@
 -- The output of a program that answers line by line. Numbers are read by `read` and printed by `num`.
-use Rattle.std.specs.Prelude.{◌≡◌, ℕ, List, [], ◌∷◌, ◌++◌, ◌⊎◌, Option, codes, IsUtf8, true, Result, Ok, Err}
+use Rattle.std.specs.Prelude.{◌≡◌, ℕ, List, [], ◌∷◌, ◌++◌, ◌⊎◌, Option, codes, IsUtf8, Result, Ok, Err}
 use Rattle.std.specs.Io.KnownBytes.{Appends}
 use Rattle.wkt_access.specs.Values.{Value}
 use Rattle.wkt_access.specs.Shapes.{shape_of}
@@ -15,12 +15,12 @@ module _ {N : Type 0} (read : List ℕ → Option N) (num : N → List ℕ) wher
     pub utf8 : IsUtf8 line
     pub value : Value N
     pub end : ℕ
-    pub front : Front read true line value end
+    pub front : Front read line value end
     pub text : answer ≡ shape_text num (shape_of value)
 
   -- The line isn't UTF-8 or has no front, and the answer is `refused`.
   pub record IsRefusal (line answer : List ℕ) : Type 0 where
-    pub cause : (IsUtf8 line → ⊥) ⊎ HasNoFront read true line
+    pub cause : (IsUtf8 line → ⊥) ⊎ HasNoFront read line
     pub refused : answer ≡ codes "refused"
 
   -- What a line is answered with.

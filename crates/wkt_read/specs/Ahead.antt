@@ -4,27 +4,27 @@ use Rattle.std.specs.Iterator.{Count, at_most}
 use Rattle.std.specs.Borrow.{Bor}
 use Rattle.std.specs.Option.{option_copied}
 use Rattle.wkt_num.specs.Bytes.{Lexeme}
-use Rattle.wkt_read.specs.Placed.{Placed, lexemes_of}
+use Rattle.wkt_read.specs.Placed.{Placed, lexemes_of, end_after}
 use Rattle.wkt_read.specs.Items.{IsItem}
-use Rattle.wkt_read.specs.Raws.{found}
+use Rattle.wkt_read.specs.Tokenizer.Unread.{found}
 use Rattle.wkt_read.specs.Stream.{coming}
-use Rattle.wkt_read.specs.declared.token.Raw.{Raw}
-use Rattle.wkt_read.specs.declared.token.Token.{Token}
-use Rattle.wkt_read.specs.declared.peekable.PeekableTokens.{PeekableTokens}
+use Rattle.wkt_read.specs.declared.tokenizer.token.Lexeme as code
+use Rattle.wkt_read.specs.declared.tokenizer.token.Token.{Token}
+use Rattle.wkt_read.specs.declared.tokenizer.peekable.PeekableTokens.{PeekableTokens}
 
--- a lexeme that was looked at, before the later ones; behind the text's end none stands
+-- a lexeme that was looked at, before the later ones; after the text's end none stands
 abbrev pub looked_at : Option Lexeme → ℕ → List Placed → List Placed
 looked_at None end later = []
 looked_at (Some l) end later = record { lexeme = l; end = end } ∷ later
 
 -- what was looked at, if anything was, before the later lexemes
-abbrev pub behind_look : Option Raw → ℕ → List Placed → List Placed
-behind_look None end later = later
-behind_look (Some raw) end later = looked_at (found raw) end later
+abbrev pub after_look : Option code.Lexeme → ℕ → List Placed → List Placed
+after_look None end later = later
+after_look (Some raw) end later = looked_at (found raw) end later
 
 -- the lexemes that `next` has not given yet
 unfoldable pub left : {T : Type 0} → PeekableTokens T → List Placed
-left p = behind_look p.ahead p.tokens.end (coming p.tokens)
+left p = after_look p.ahead p.tokens.end (coming p.tokens)
 
 -- how many bytes of the text were taken, for what was looked at too
 unfoldable pub taken_of : {T : Type 0} → PeekableTokens T → ℕ
@@ -38,7 +38,7 @@ end_of p = p.end
 unfoldable pub rest : {T : Type 0} → PeekableTokens T → List Lexeme
 rest p = lexemes_of (left p)
 
--- One step of a stream: the first of the lexemes, behind which at most one byte was taken; or none, where none is left.
+-- One step of a stream: the first of the lexemes, after which at most one byte was taken; or none, where none is left.
 abbrev pub Moves : {T : Type 0} → PeekableTokens T → Option Lexeme → PeekableTokens T → Type 0
 Moves s None t = (left s ≡ []) × (left t ≡ []) × (end_of t ≡ end_of s) × (taken_of s ≤ taken_of t)
 Moves s (Some l) t =
@@ -58,7 +58,7 @@ abbrev pub first_of : List Placed → Option Lexeme
 first_of [] = None
 first_of (x ∷ xs) = Some x.lexeme
 
--- One call of `peek`: it lends the item that `next` gives next, and all lexemes are still to come.
+-- One call of `peek`: it returns a reference to the item that `next` gives next, and all lexemes are still to come.
 abbrev pub Peeks : {T : Type 0} → (List ℕ → Option T) → PeekableTokens T → PeekableTokens T → Option (Bor (Result (Token T) (Bor (List ℕ)))) → Type 0
 Peeks read s t r =
     (left t ≡ left s) × (end_of t ≡ end_of s) × (taken_of s ≤ taken_of t) × IsItem read (first_of (left s)) (option_copied r)
@@ -69,11 +69,18 @@ IfLast [] end = Unit {0}
 IfLast (x ∷ []) end = x.end ≡ end
 IfLast (x ∷ y ∷ xs) end = IfLast (y ∷ xs) end
 
--- The stream is at a place behind some of the lexemes.
-pub record IsBehind {T : Type 0} (start : List Placed) (p : PeekableTokens T) : Type 0 where
+-- The stream is at a place after some of the lexemes.
+pub record IsAfter {T : Type 0} (start : List Placed) (p : PeekableTokens T) : Type 0 where
   pub given : List Placed
   pub split : start ≡ given ++ left p
   pub last : IfLast given (end_of p)
+
+-- Of the lexemes that `old` had left, some were taken, in order, and the others are left. The end is that of the last one taken, or stays where none was, and no byte is given back.
+pub record Advances {T : Type 0} (old new : PeekableTokens T) : Type 0 where
+  pub given : List Placed
+  pub split : left old ≡ given ++ left new
+  pub end : end_of new ≡ end_after (end_of old) given
+  pub grows : taken_of old ≤ taken_of new
 
 -- No byte was taken past the last lexeme given, but for one.
 pub record IsNear {T : Type 0} (p : PeekableTokens T) : Type 0 where

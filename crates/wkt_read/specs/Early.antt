@@ -1,5 +1,5 @@
--- A refusal comes early: it takes no more lexemes than it must.
-use Rattle.std.specs.Prelude.{◌≡◌, ℕ, suc, ◌+◌, ◌≤◌, List, [], ◌∷◌, ◌++◌, length, Option, ◌⊎◌, true}
+-- An error comes early: its reader takes no more lexemes than it must.
+use Rattle.std.specs.Prelude.{◌≡◌, ℕ, suc, ◌+◌, ◌≤◌, List, [], ◌∷◌, ◌++◌, length, Option, ◌⊎◌}
 use Rattle.wkt_num.specs.Bytes.{Lexeme, Open, Close, Comma, Word, Num}
 use Rattle.wkt_read.specs.Begun.{IsDead}
 
@@ -24,8 +24,8 @@ closes (Num run ∷ ls) = closes ls
 module _ {N : Type 0} (read : List ℕ → Option N) where
   -- The lexemes are dead, and no shorter beginning of them is.
   pub record IsJustDead (ls : List Lexeme) : Type 0 where
-    pub dead : IsDead read true ls
-    pub shortest : (a more : List Lexeme) (x : Lexeme) → ls ≡ a ++ (x ∷ more) → IsDead read true a → ⊥
+    pub dead : IsDead read ls
+    pub shortest : (a more : List Lexeme) (x : Lexeme) → ls ≡ a ++ (x ∷ more) → IsDead read a → ⊥
 
   -- Of `old` some lexemes were taken, and `new` is left: all of `old`, or its shortest dead beginning, whose last lexeme may have stayed;
   -- past that beginning at most as many lexemes were taken as it has `(` more than `)` before its last lexeme.

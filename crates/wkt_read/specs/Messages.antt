@@ -1,8 +1,8 @@
--- The messages of refusals.
+-- The messages, as texts.
 use Rattle.std.specs.Prelude.{ℕ, List, codes}
 use Rattle.wkt_read.specs.Items.{bad_number}
-use Rattle.wkt_read.specs.declared.fault.Message.{Message}
-use Rattle.wkt_read.specs.declared.fault.Message.TheVariants.{BadNumber, Format, NonAscii, Kind, Word, End, Open, Close, X, Y, Z, M, Member}
+use Rattle.wkt_read.specs.declared.messages.Message.{Message}
+use Rattle.wkt_read.specs.declared.messages.Message.TheVariants.{BadNumber, Format, NonAscii, Kind, Word, End, Open, Close, X, Y, Z, M, Member}
 
 abbrev pub text_of : Message → List ℕ
 text_of BadNumber = bad_number

@@ -1,7 +1,7 @@
 -- The lexemes of a text, each with its end, as a function of its bytes.
-use Rattle.std.specs.Prelude.{ℕ, suc, ◌+◌, List, [], ◌∷◌, length}
+use Rattle.std.specs.Prelude.{◌≡◌, ℕ, suc, ◌+◌, List, [], ◌∷◌, ◌++◌, length}
 use Rattle.wkt_num.specs.Bytes.{Lexeme, Class, Nul, White, Mark, Run, class_of}
-use Rattle.wkt_read.specs.Lexemes.{lexeme_of}
+use Rattle.wkt_read.specs.Lexemes.{lexeme_of, Takes}
 
 -- A lexeme, and how many bytes of the text there are up to and with it.
 pub record Placed : Type 0 where
@@ -18,7 +18,13 @@ abbrev pub end_after : ℕ → List Placed → ℕ
 end_after at [] = at
 end_after at (x ∷ xs) = end_after x.end xs
 
--- What stands behind a byte of this class, with it where it is a mark: nothing comes after a NUL.
+-- Where each of the lexemes ends in the text: after each beginning of them, the rest of the text begins at the end of its last.
+abbrev pub AreEnds : List ℕ → List Placed → Type 0
+AreEnds text ps =
+    (given later : List Placed) → ps ≡ given ++ later
+    → (rest : List ℕ) × Takes text (lexemes_of given) rest × (length rest + end_after 0 given ≡ length text)
+
+-- What stands after a byte of this class, with it where it is a mark: nothing comes after a NUL.
 abbrev pub marks : Class → ℕ → List Placed → List Placed
 marks Nul end later = []
 marks White end later = later
@@ -26,16 +32,16 @@ marks (Mark l) end later = record { lexeme = l; end = end } ∷ later
 marks Run end later = later
 
 -- a run of which `at` bytes stand before it, and the lexemes after it
-abbrev pub behind_run : ℕ → List ℕ → List Placed → List Placed
-behind_run at [] later = later
-behind_run at (b ∷ run) later = record { lexeme = lexeme_of (b ∷ run); end = at + length (b ∷ run) } ∷ later
+abbrev pub after_run : ℕ → List ℕ → List Placed → List Placed
+after_run at [] later = later
+after_run at (b ∷ run) later = record { lexeme = lexeme_of (b ∷ run); end = at + length (b ∷ run) } ∷ later
 
 -- a byte of this class before a run and the lexemes after it
 abbrev pub joined : Class → ℕ → ℕ → List ℕ → List Placed → List ℕ × List Placed
 joined Run b at run later = (b ∷ run, later)
-joined Nul b at run later = ([], marks Nul (suc at) (behind_run (suc at) run later))
-joined White b at run later = ([], marks White (suc at) (behind_run (suc at) run later))
-joined (Mark l) b at run later = ([], marks (Mark l) (suc at) (behind_run (suc at) run later))
+joined Nul b at run later = ([], marks Nul (suc at) (after_run (suc at) run later))
+joined White b at run later = ([], marks White (suc at) (after_run (suc at) run later))
+joined (Mark l) b at run later = ([], marks (Mark l) (suc at) (after_run (suc at) run later))
 
 -- the run with which the bytes begin, where `at` bytes stand before them, and the lexemes after it
 unfoldable pub front : ℕ → List ℕ → List ℕ × List Placed
@@ -44,7 +50,7 @@ front at (b ∷ bytes) = joined (class_of b) b at (front (suc at) bytes).0 (fron
 
 -- the lexemes of bytes before which `at` others stand
 unfoldable pub placed_from : ℕ → List ℕ → List Placed
-placed_from at bytes = behind_run at (front at bytes).0 (front at bytes).1
+placed_from at bytes = after_run at (front at bytes).0 (front at bytes).1
 
 -- the lexemes of a text
 abbrev pub placed : List ℕ → List Placed

@@ -4,11 +4,11 @@ use Rattle.std.specs.Borrow.{Bor}
 use Rattle.std.specs.Iterator.{Count, at_most}
 use Rattle.wkt_num.specs.Bytes.{Lexeme}
 use Rattle.wkt_read.specs.Placed.{Placed}
-use Rattle.wkt_read.specs.Classes.{meant}
-use Rattle.wkt_read.specs.Scan.{coming_at}
+use Rattle.wkt_read.specs.Tokenizer.Classes.{meant}
+use Rattle.wkt_read.specs.Tokenizer.Scan.{coming_at}
 use Rattle.wkt_read.specs.Items.{IsItem}
-use Rattle.wkt_read.specs.declared.token.Token.{Token}
-use Rattle.wkt_read.specs.declared.tokens.Tokens.{Tokens}
+use Rattle.wkt_read.specs.declared.tokenizer.token.Token.{Token}
+use Rattle.wkt_read.specs.declared.tokenizer.tokens.Tokens.{Tokens}
 
 -- the lexemes that `next` has not given yet
 unfoldable pub coming : {T : Type 0} → Tokens T → List Placed
@@ -22,7 +22,7 @@ bytes_taken s = s.bytes.taken
 unfoldable pub end_of_last : {T : Type 0} → Tokens T → ℕ
 end_of_last s = s.end
 
--- One step of a stream: the first of the lexemes, behind which at most one byte was taken; or none, where none is left.
+-- One step of a stream: the first of the lexemes, after which at most one byte was taken; or none, where none is left.
 abbrev pub Steps : {T : Type 0} → Tokens T → Option Lexeme → Tokens T → Type 0
 Steps s None t =
     (coming s ≡ []) × (coming t ≡ []) × (end_of_last t ≡ end_of_last s) × (bytes_taken s ≤ bytes_taken t)

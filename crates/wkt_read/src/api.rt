@@ -1,6 +1,7 @@
 //! Types that are read from well-known text.
-ghost use Rattle.std.specs.Prelude.{◌≡◌, ◌≤◌, ℕ, true, OnOk, IfOk};
+ghost use Rattle.std.specs.Prelude.{◌≡◌, ◌≤◌, ◌<◌, ℕ, length, OnOk, IfOk};
 ghost use Rattle.std.specs.Result.{IsOk};
+ghost use Rattle.std.specs.Str.{IsCharBoundary};
 ghost use Rattle.wkt_access.specs.Values.{Value};
 ghost use Rattle.wkt_types.specs.Tree.{Tree, tree};
 ghost use Rattle.wkt_read.specs.Items.{bad_number};
@@ -8,40 +9,43 @@ ghost use Rattle.wkt_read.specs.Front.{Front, HasNoFront, NeedsNoMemory};
 ghost use Rattle.wkt_read.specs.Begun.{NoneBegins};
 ghost use Rattle.wkt_read.specs.Early.{StopsEarly};
 ghost use Rattle.wkt_read.specs.Bad.{HasBad};
-ghost use Rattle.wkt_read.specs.Ahead.{left, rest, taken_of, IsBehind, IsNear};
+ghost use Rattle.wkt_read.specs.Ahead.{rest, Advances, IsNear};
 ghost use Rattle.wkt_read.specs.Answered.{IsFront, IsFrontTo, Begins, IsReadOff, HasBadNumber, OnText, OnMessage};
 
 use crate::error::ReadError;
-use crate::fault::{Fault, text};
-use crate::peekable::PeekableTokens;
-use crate::tokens::Tokens;
-use crate::value::value;
+use crate::messages::{ParseError, text};
+use crate::tokenizer::peekable::PeekableTokens;
+use crate::tokenizer::tokens::Tokens;
+use crate::parser::geometries::value;
 use std::alloc::Global;
 use wkt_num::WktNum;
 use wkt_types::Wkt;
 
 fn read<T: WktNum>(alloc: Global, tokens: &mut PeekableTokens<'_, T>) -> Result<Wkt<T>, ReadError>
     ensures found { IfOk result (λ w. IsReadOff T.read (rest tokens.old) (tree w) (rest tokens.new)) }
-    ensures refused { OnText result (NoneBegins T.read true (rest tokens.old)) }
+    ensures no_geometry { OnText result (NoneBegins T.read (rest tokens.old)) }
     ensures early { OnText result (StopsEarly T.read (rest tokens.old) (rest tokens.new)) }
     ensures bad { OnMessage result bad_number (HasBad T.read (rest tokens.old)) }
     ensures free { (v after : _) → Begins T.read (rest tokens.old) v after → NeedsNoMemory v → IsOk result }
-    ensures behind { IsBehind (left tokens.old) tokens.new }
-    ensures grows { taken_of tokens.old ≤ taken_of tokens.new }
+    ensures taken { OnOk result (length (rest tokens.new) < length (rest tokens.old)) }
+    ensures advances { Advances tokens.old tokens.new }
     ensures near { OnOk result (IsNear tokens.new) }
 {
     match value(alloc, tokens, false) {
         Ok(value) => Ok(value),
-        Err(Fault::Text(message)) => Err(ReadError::Text(text(message))),
-        Err(Fault::Memory(error)) => Err(ReadError::Memory(error)),
+        Err(ParseError::Text(message)) => Err(ReadError::Text(text(message))),
+        Err(ParseError::Memory(error)) => Err(ReadError::Memory(error)),
     }
 }
 
 fn read_text<T: WktNum>(alloc: Global, text: &str) -> Result<(Wkt<T>, usize), ReadError>
     ensures found { IfOk result (λ r. IsFrontTo T.read text.now (tree r.0) r.1) }
-    ensures refused { OnText result (HasNoFront T.read true text.now) }
+    ensures some { IfOk result (λ r. 0 < r.1) }
+    ensures within { IfOk result (λ r. r.1 ≤ length text.now) }
+    ensures boundary { IfOk result (λ r. IsCharBoundary text.now r.1) }
+    ensures no_front { OnText result (HasNoFront T.read text.now) }
     ensures bad { OnMessage result bad_number (HasBadNumber T.read text.now) }
-    ensures free { (v end : _) → Front T.read true text.now v end → NeedsNoMemory v → IsOk result }
+    ensures free { (v end : _) → Front T.read text.now v end → NeedsNoMemory v → IsOk result }
 {
     let mut tokens = PeekableTokens::new(Tokens::from_str(text));
     match read(alloc, &mut tokens) {
@@ -61,39 +65,46 @@ pub trait FromWktStr {
     /// The geometry at the front of the text; what follows it is not looked at.
     ///
     /// # Errors
-    /// `Text` where no beginning of the text is a geometry; `Memory` where there was none.
+    /// `Text` where no beginning of the text is a geometry, with what was found amiss; `Memory` where
+    /// memory ran out.
     fn from_str(alloc: Global, text: &str) -> Result<Self, ReadError>
         ensures found { IfOk result (λ w. IsFront Self.Num.read text.now (tree w)) }
-        ensures refused { OnText result (HasNoFront Self.Num.read true text.now) }
+        ensures no_front { OnText result (HasNoFront Self.Num.read text.now) }
         ensures bad { OnMessage result bad_number (HasBadNumber Self.Num.read text.now) }
-        ensures free { (v end : _) → Front Self.Num.read true text.now v end → NeedsNoMemory v → IsOk result };
+        ensures free { (v end : _) → Front Self.Num.read text.now v end → NeedsNoMemory v → IsOk result };
 
-    /// The geometry at the front of the text, and where its last lexeme ends, in bytes.
+    /// The geometry at the front of the text, and where its last lexeme ends, in bytes. The end is past
+    /// the text's start, and a character boundary of the text: so a text of several geometries is read
+    /// one after the other, each time from `&text[end..]`.
     ///
     /// # Errors
-    /// As `from_str`.
+    /// Those of `from_str`.
     fn read_front(alloc: Global, text: &str) -> Result<(Self, usize), ReadError>
         ensures found { IfOk result (λ r. IsFrontTo Self.Num.read text.now (tree r.0) r.1) }
-        ensures refused { OnText result (HasNoFront Self.Num.read true text.now) }
+        ensures some { IfOk result (λ r. 0 < r.1) }
+        ensures within { IfOk result (λ r. r.1 ≤ length text.now) }
+        ensures boundary { IfOk result (λ r. IsCharBoundary text.now r.1) }
+        ensures no_front { OnText result (HasNoFront Self.Num.read text.now) }
         ensures bad { OnMessage result bad_number (HasBadNumber Self.Num.read text.now) }
-        ensures free { (v end : _) → Front Self.Num.read true text.now v end → NeedsNoMemory v → IsOk result };
+        ensures free { (v end : _) → Front Self.Num.read text.now v end → NeedsNoMemory v → IsOk result };
 
-    /// The geometry at the front of the lexemes, which are taken; those behind it are left.
+    /// The geometry at the front of the lexemes, which are taken; those after it are left.
     ///
     /// # Errors
-    /// `Text` where no beginning of the lexemes is a geometry; then no more of them are taken than it takes to see that.
-    /// `Memory` where there was none. Both leave the stream behind some of its lexemes.
+    /// `Text` where no beginning of the lexemes is a geometry; then no more of them are taken than it
+    /// takes to see that. `Memory` where memory ran out. Both leave the stream after some of its
+    /// lexemes, or where it was.
     fn read_tokens(
         alloc: Global,
         tokens: &mut PeekableTokens<'_, Self::Num>,
     ) -> Result<Self, ReadError>
         ensures found { IfOk result (λ w. IsReadOff Self.Num.read (rest tokens.old) (tree w) (rest tokens.new)) }
-        ensures refused { OnText result (NoneBegins Self.Num.read true (rest tokens.old)) }
+        ensures no_geometry { OnText result (NoneBegins Self.Num.read (rest tokens.old)) }
         ensures early { OnText result (StopsEarly Self.Num.read (rest tokens.old) (rest tokens.new)) }
         ensures bad { OnMessage result bad_number (HasBad Self.Num.read (rest tokens.old)) }
         ensures free { (v after : _) → Begins Self.Num.read (rest tokens.old) v after → NeedsNoMemory v → IsOk result }
-        ensures behind { IsBehind (left tokens.old) tokens.new }
-        ensures grows { taken_of tokens.old ≤ taken_of tokens.new }
+        ensures taken { OnOk result (length (rest tokens.new) < length (rest tokens.old)) }
+        ensures advances { Advances tokens.old tokens.new }
         ensures near { OnOk result (IsNear tokens.new) };
 }
 

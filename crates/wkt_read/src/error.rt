@@ -1,4 +1,5 @@
 //! Why a text is not read.
+ghost use Rattle.std.specs.Prelude.{◌≡◌};
 
 use std::alloc::AllocError;
 
@@ -8,7 +9,18 @@ pub enum ReadError {
     /// The text has no geometry at its front; the message says what was found amiss.
     #[error("{0}")]
     Text(&'static str),
-    /// There was no memory.
+    /// Memory ran out.
     #[error("out of memory")]
     Memory(AllocError),
+}
+
+/// So that `?` passes on what allocates, beside what reads.
+impl From<AllocError> for ReadError {
+    ghost use Rattle.wkt_read.specs.declared.error.ReadError.TheVariants.{Memory};
+
+    ghost from_gives = { λ error result. result ≡ Memory error };
+
+    fn from(error: AllocError) -> Self {
+        ReadError::Memory(error)
+    }
 }

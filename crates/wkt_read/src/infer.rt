@@ -1,14 +1,14 @@
-//! The kind and the dimension that the head of a text names.
+//! The kind and the dimension that the header of a text names.
 ghost use Rattle.std.specs.Prelude.{◌≡◌};
 ghost use Rattle.std.specs.Str.{str_to_ascii_uppercase};
-ghost use Rattle.wkt_read.specs.Head.{begins, holds, has_space, dim_said, head_rule};
-ghost use Rattle.wkt_read.specs.HeadSteps.{EndsHead, Strips, BeginsKind, head_answer};
+ghost use Rattle.wkt_read.specs.Header.{begins, holds, has_space, dim_said, header_rule};
+ghost use Rattle.wkt_read.specs.HeaderSteps.{EndsHeader, Strips, BeginsKind, header_answer};
 ghost use Rattle.wkt_read.specs.Infer.{Infers};
 
 use std::alloc::{AllocError, Global};
 use wkt_types::{Dimension, GeometryType};
 
-/// Why the head of a text names no kind.
+/// Why the header of a text names no kind.
 #[derive(Debug, Drop, thiserror::Error)]
 pub enum InferError {
     /// The text begins with none of the kind words. This is what it has before its first `(` or
@@ -21,9 +21,20 @@ pub enum InferError {
     /// The text has neither `(` nor EMPTY.
     #[error("Invalid WKT; no '(' character and not EMPTY")]
     NoOpenParen,
-    /// There was no memory for an unsupported prefix. No other answer takes any.
+    /// Memory ran out for an unsupported prefix. No other answer takes any.
     #[error("out of memory")]
     Memory(AllocError),
+}
+
+/// So that `?` passes on what allocates, beside what infers.
+impl From<AllocError> for InferError {
+    ghost use Rattle.wkt_read.specs.declared.infer.InferError.TheVariants.{Memory};
+
+    ghost from_gives = { λ error result. result ≡ Memory error };
+
+    fn from(error: AllocError) -> Self {
+        InferError::Memory(error)
+    }
 }
 
 // Whether the text begins with the word, which is in capitals, whatever the text's case.
@@ -57,9 +68,9 @@ fn holds(word: &[u8], text: &[u8]) -> bool
     begins(word, &text[i..])
 }
 
-// The length of the head, and whether EMPTY is behind it.
-fn head_length(text: &[u8]) -> Option<(usize, bool)>
-    ensures { EndsHead result text.now }
+// The length of the header, and whether EMPTY is after it.
+fn header_length(text: &[u8]) -> Option<(usize, bool)>
+    ensures { EndsHeader result text.now }
 {
     let mut i = 0;
     'place: while i < text.len() {
@@ -96,26 +107,26 @@ fn strip<'a>(word: &[u8], text: &'a [u8]) -> Option<&'a [u8]>
     }
 }
 
-// The kind that the head begins with, and what follows its word.
+// The kind that the header begins with, and what follows its word.
 #[tactic(auto, unfolding(crate::specs::Grammar::kind_words))]
-fn kind(head: &[u8]) -> Option<(GeometryType, &[u8])>
-    ensures named { BeginsKind result (str_to_ascii_uppercase head.now) }
+fn kind(header: &[u8]) -> Option<(GeometryType, &[u8])>
+    ensures named { BeginsKind result (str_to_ascii_uppercase header.now) }
 {
-    if let Some(rest) = strip(b"POINT", head) {
+    if let Some(rest) = strip(b"POINT", header) {
         Some((GeometryType::Point, rest))
-    } else if let Some(rest) = strip(b"LINESTRING", head) {
+    } else if let Some(rest) = strip(b"LINESTRING", header) {
         Some((GeometryType::LineString, rest))
-    } else if let Some(rest) = strip(b"LINEARRING", head) {
+    } else if let Some(rest) = strip(b"LINEARRING", header) {
         Some((GeometryType::LineString, rest))
-    } else if let Some(rest) = strip(b"POLYGON", head) {
+    } else if let Some(rest) = strip(b"POLYGON", header) {
         Some((GeometryType::Polygon, rest))
-    } else if let Some(rest) = strip(b"MULTIPOINT", head) {
+    } else if let Some(rest) = strip(b"MULTIPOINT", header) {
         Some((GeometryType::MultiPoint, rest))
-    } else if let Some(rest) = strip(b"MULTILINESTRING", head) {
+    } else if let Some(rest) = strip(b"MULTILINESTRING", header) {
         Some((GeometryType::MultiLineString, rest))
-    } else if let Some(rest) = strip(b"MULTIPOLYGON", head) {
+    } else if let Some(rest) = strip(b"MULTIPOLYGON", header) {
         Some((GeometryType::MultiPolygon, rest))
-    } else if let Some(rest) = strip(b"GEOMETRYCOLLECTION", head) {
+    } else if let Some(rest) = strip(b"GEOMETRYCOLLECTION", header) {
         Some((GeometryType::GeometryCollection, rest))
     } else {
         None
@@ -136,27 +147,27 @@ fn dimension(rest: &[u8]) -> Dimension
     }
 }
 
-// What a head names, behind which EMPTY stands or not.
-fn named(alloc: Global, head: &str, by_empty: bool) -> Result<(GeometryType, Dimension), InferError>
-    ensures exact { Infers result (head_answer head.now by_empty) }
+// What a header names, after which EMPTY stands or not.
+fn named(alloc: Global, header: &str, by_empty: bool) -> Result<(GeometryType, Dimension), InferError>
+    ensures exact { Infers result (header_answer header.now by_empty) }
 {
-    if by_empty && !has_space(head.as_bytes()) {
+    if by_empty && !has_space(header.as_bytes()) {
         return Err(InferError::NoSpaceBeforeEmpty);
     }
-    match kind(head.as_bytes()) {
+    match kind(header.as_bytes()) {
         Some((kind, rest)) => Ok((kind, dimension(rest))),
-        None => match head.to_ascii_uppercase(alloc) {
+        None => match header.to_ascii_uppercase(alloc) {
             Ok(prefix) => Err(InferError::UnsupportedPrefix(prefix)),
             Err(error) => Err(InferError::Memory(error)),
         },
     }
 }
 
-/// The kind and the dimension that the head of a text names.
+/// The kind and the dimension that the header of a text names.
 ///
-/// White space of Unicode at the start is dropped. The head ends before the first `(` or the first
+/// White space of Unicode at the start is dropped. The header ends before the first `(` or the first
 /// EMPTY, whichever comes first; EMPTY is looked for as a part of the text, and letters of ASCII
-/// count in either case. What the head has behind its kind word says the dimension: ZM, else Z,
+/// count in either case. What the header has after its kind word says the dimension: ZM, else Z,
 /// else M, else XY. LINEARRING counts as a LineString.
 ///
 /// A text that can be read as a geometry is answered with that geometry's kind and dimension,
@@ -164,17 +175,17 @@ fn named(alloc: Global, head: &str, by_empty: bool) -> Result<(GeometryType, Dim
 ///
 /// - `NoOpenParen`: there is neither `(` nor EMPTY.
 /// - `NoSpaceBeforeEmpty`: EMPTY comes first and no space, LF, CR or TAB stands before it.
-/// - `UnsupportedPrefix`: the head begins with no kind word.
+/// - `UnsupportedPrefix`: the header begins with no kind word.
 /// - `Memory`: the unsupported prefix could not be kept.
 ///
-/// The upstream crate has this call with a `String` for its errors; where the head ends is this
+/// The upstream crate has this call with a `String` for its errors; where the header ends is this
 /// project's own choice. ` POINT (10 20.1)` is a Point of XY, `LINEARRING Z(1 2 3)` a LineString
 /// of XYZ.
 pub fn infer_type(alloc: Global, text: &str) -> Result<(GeometryType, Dimension), InferError>
-    ensures exact { Infers result (head_rule text.now) }
+    ensures exact { Infers result (header_rule text.now) }
 {
     let text = text.trim_start();
-    match head_length(text.as_bytes()) {
+    match header_length(text.as_bytes()) {
         Some((end, by_empty)) => named(alloc, &text[..end], by_empty),
         None => Err(InferError::NoOpenParen),
     }

@@ -1,9 +1,9 @@
-//! Heads and what they name, from outside.
+//! Headers and what they name, from outside.
 use crate::infer::infer_type;
 use std::alloc::{AllocError, Global};
 use std::test::Fail;
 
-// The kind and the dimension, or the text of the refusal.
+// The kind and the dimension, or the text of the error.
 fn shown(alloc: Global, text: &str) -> Result<String, AllocError> {
     match infer_type(alloc, text) {
         Ok((kind, dimension)) => format!(in alloc; "{kind:?} {dimension:?}"),
@@ -16,7 +16,7 @@ const NO_PAREN: &str = "Invalid WKT; no '(' character and not EMPTY";
 const NO_SPACE: &str = "Invalid WKT; no whitespace between geometry type and EMPTY.";
 
 #[test]
-fn heads(rt: HostRuntime) -> Result<(), Fail> {
+fn headers(rt: HostRuntime) -> Result<(), Fail> {
     let alloc = rt.alloc();
     for (text, wanted) in [
         ("POINTZ EMPTY", "Point XYZ"),
@@ -49,7 +49,7 @@ fn heads(rt: HostRuntime) -> Result<(), Fail> {
     Ok(())
 }
 
-// Whether a head of so many letters is told whole.
+// Whether a header of so many letters is told whole.
 fn tells_prefix(alloc: Global, length: usize) -> Result<bool, AllocError> {
     let mut text = String::new(alloc);
     let mut wanted = String::from_str(alloc, "Unsupported WKT prefix ")?;

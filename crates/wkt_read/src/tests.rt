@@ -165,7 +165,7 @@ fn reads_lists(rt: HostRuntime) -> Result<(), Fail> {
     Ok(())
 }
 
-// The number that `peek` lends, if it lends one.
+// The number that `peek` returns a reference to, if it is one.
 fn peeked(tokens: &mut PeekableTokens<'_, i32>) -> Option<i32> {
     match tokens.peek() {
         Some(Ok(Token::Number(number))) => Some(*number),
@@ -197,8 +197,31 @@ fn gives_lexemes(rt: HostRuntime) {
     assert_eq!(rt; tokens.next(), None);
 }
 
+// The texts of all geometries of a text, each read where the one before it ends.
+fn rewritten(alloc: Global, text: &str) -> Result<String, ReadError> {
+    let mut out = String::new(alloc);
+    let mut rest = text;
+    'fronts: while !rest.is_empty() {
+        let (geometry, end) = Wkt::<i32>::read_front(alloc, rest)?;
+        rest = &rest[end..];
+        out.push_str(geometry.to_string(alloc)?.as_str())?;
+        out.push(';')?;
+    }
+    Ok(out)
+}
+
 #[test]
-fn goes_on_behind_a_geometry(rt: HostRuntime) -> Result<(), Fail> {
+fn reads_one_front_after_the_other(rt: HostRuntime) -> Result<(), Fail> {
+    let alloc = rt.alloc();
+    let text = "point ( +1 2 ) Linestring z empty MULTIPOINT((1 2),3 4)";
+    let want = "POINT(1 2);LINESTRING Z EMPTY;MULTIPOINT((1 2),(3 4));";
+    assert_eq!(rt; rewritten(alloc, text)?.as_str(), want);
+    assert!(rt; rewritten(alloc, "POINT(1 2) x").is_err());
+    Ok(())
+}
+
+#[test]
+fn goes_on_after_a_geometry(rt: HostRuntime) -> Result<(), Fail> {
     let alloc = rt.alloc();
     let mut tokens = PeekableTokens::new(Tokens::from_str("POINT(1 2)LINESTRING EMPTY x"));
     assert!(rt; Wkt::<i32>::read_tokens(alloc, &mut tokens).is_ok());

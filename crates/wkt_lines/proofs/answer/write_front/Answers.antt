@@ -29,13 +29,13 @@ returns-in-Ok-clause-memory g c = answer_memory g.W.TextSink.sink _ c.args.f.now
 
 pub returns-in-Err-Text-clause-ok : goal.returns-in-Err-Text-clause-ok
 returns-in-Err-Text-clause-ok g c =
-    let none = rw c.in-Err-Text.field-0-is at c.in-Err-Text.ensures.refused in
+    let none = rw c.in-Err-Text.field-0-is at c.in-Err-Text.ensures.no_front in
     answer_ok g.W.TextSink.sink g.T.WktNum.read g.T.WktNum.num c.args.f.now c.refuse.new.f c.args.text.now (codes "refused") c.refuse.result
     (inr (record { cause = inr none; refused = refl })) c.refuse.ensures
 
 pub returns-in-Err-Text-clause-sink : goal.returns-in-Err-Text-clause-sink
 returns-in-Err-Text-clause-sink g c =
-    let none = rw c.in-Err-Text.field-0-is at c.in-Err-Text.ensures.refused in
+    let none = rw c.in-Err-Text.field-0-is at c.in-Err-Text.ensures.no_front in
     answer_sink g.W.TextSink.sink g.T.WktNum.read g.T.WktNum.num c.args.f.now c.refuse.new.f c.args.text.now (codes "refused") c.refuse.result
     (inr (record { cause = inr none; refused = refl })) c.refuse.ensures
 

@@ -1,5 +1,5 @@
 use Rattle.std.proofs.Common.{◌∙◌, sym, arith}
-use Rattle.wkt_read.proofs.HeadPlaces.{begins_short, begins_other}
+use Rattle.wkt_read.proofs.LawLemmas.HeaderPlaces.{begins_short, begins_other}
 use Rattle.wkt_read.proofs.infer.begins.Goals as goal
 
 pub returns-then-i-text : goal.returns-then-i-text

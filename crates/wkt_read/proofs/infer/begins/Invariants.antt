@@ -1,6 +1,6 @@
 use Rattle.std.proofs.Common.{◌≡◌, ◌≤◌, ◌-◌, length, drop}
 use Rattle.std.specs.Str.{str_to_ascii_uppercase}
-use Rattle.wkt_read.specs.Head.{begins}
+use Rattle.wkt_read.specs.Header.{begins}
 use Rattle.wkt_read.proofs.infer.begins.Given as goal
 
 abbrev pub invariant-byte : goal.invariant-byte

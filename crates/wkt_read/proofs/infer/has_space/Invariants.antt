@@ -1,5 +1,5 @@
 use Rattle.std.proofs.Common.{◌≡◌, drop}
-use Rattle.wkt_read.specs.Head.{has_space}
+use Rattle.wkt_read.specs.Header.{has_space}
 use Rattle.wkt_read.proofs.infer.has_space.Given as goal
 
 abbrev pub invariant-loop-byte : goal.invariant-loop-byte

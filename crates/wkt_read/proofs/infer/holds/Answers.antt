@@ -1,5 +1,5 @@
 use Rattle.std.proofs.Common.{◌∙◌, sym, arith}
-use Rattle.wkt_read.proofs.HeadPlaces.{holds_next}
+use Rattle.wkt_read.proofs.LawLemmas.HeaderPlaces.{holds_next}
 use Rattle.wkt_read.proofs.infer.holds.Goals as goal
 
 pub place-preserved : goal.place-preserved

@@ -1,6 +1,6 @@
 use Rattle.std.proofs.Common.{◌≡◌, ◌≤◌, ◌-◌, length, drop}
 use Rattle.std.specs.Str.{str_to_ascii_uppercase}
-use Rattle.wkt_read.specs.Head.{holds}
+use Rattle.wkt_read.specs.Header.{holds}
 use Rattle.wkt_read.proofs.infer.holds.Given as goal
 
 abbrev pub invariant-place : goal.invariant-place

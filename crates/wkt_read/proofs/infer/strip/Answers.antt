@@ -1,5 +1,5 @@
 use Rattle.std.proofs.Common.{◌∙◌, sym, length}
-use Rattle.wkt_read.proofs.HeadPlaces.{upper_long, upper_rest}
+use Rattle.wkt_read.proofs.LawLemmas.HeaderPlaces.{upper_long, upper_rest}
 use Rattle.wkt_read.proofs.infer.strip.Goals as goal
 
 pub slice_bounds-result-count : goal.slice_bounds-result-count

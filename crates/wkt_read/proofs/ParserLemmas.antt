@@ -1,0 +1,13 @@
+pub mod Parts
+pub mod Coords
+pub mod Readings
+pub mod Many
+pub mod Nests
+pub mod Wkts
+pub mod Tells
+pub mod Told
+pub mod Reaches
+pub mod Early
+pub mod Free
+pub mod Answering
+pub mod Refusals

@@ -1,0 +1,130 @@
+-- From the lexemes of a stream to its text.
+use Rattle.std.proofs.Common.{◌≡◌, ℕ, ◌≤◌, ◌<◌, List, [], ◌∷◌, ◌++◌, length, sym, subst, refl, ap, ◌∙◌, arith, length-append, Option, Err, true}
+use Rattle.std.proofs.lemmas.List.{append_cancel_right}
+use Rattle.std.specs.declared.alloc.AllocError.{AllocError}
+use Rattle.wkt_num.specs.Bytes.{Lexeme, Open}
+use Rattle.wkt_access.specs.Values.{Value}
+use Rattle.wkt_read.specs.Lexemes.{Takes, IsSplit}
+use Rattle.wkt_read.specs.Grammar.{Geometry}
+use Rattle.wkt_read.specs.Front.{FrontBy, HasNoFront}
+use Rattle.wkt_read.specs.Placed.{Placed, lexemes_of, end_after, AreEnds, placed}
+use Rattle.wkt_read.specs.Ahead.{left, rest, end_of, taken_of, IfLast, IsAfter, Advances}
+use Rattle.wkt_read.specs.Parser.Walks.{GoesOn}
+use Rattle.wkt_read.specs.Messages.{text_of}
+use Rattle.wkt_read.specs.Parser.Reading.{Reading}
+use Rattle.wkt_read.specs.Parser.Reads.{ReadsIn}
+use Rattle.wkt_read.specs.Parser.Errors.{OnBad, OnBadIn, OnMemory}
+use Rattle.wkt_read.specs.Answered.{Begins, OnText, OnMessage}
+use Rattle.wkt_read.specs.Begun.{NoneBeginsBy}
+use Rattle.wkt_read.specs.declared.error.ReadError.{ReadError}
+use Rattle.wkt_read.specs.declared.error.ReadError.TheVariants as error
+use Rattle.wkt_read.specs.declared.messages.ParseError.{ParseError}
+use Rattle.wkt_read.specs.declared.messages.ParseError.TheVariants.{Text, Memory}
+use Rattle.wkt_read.specs.declared.messages.Message.{Message}
+use Rattle.wkt_read.specs.declared.messages.Message.TheVariants as message
+use Rattle.wkt_read.specs.declared.tokenizer.peekable.PeekableTokens.{PeekableTokens}
+use Rattle.wkt_read.proofs.TokenizerLemmas.Afters.{lexemes_of-append}
+use Rattle.wkt_read.proofs.TokenizerLemmas.Placings.{placed-split}
+use Rattle.wkt_read.proofs.LawLemmas.FrontEnds.{geometry-some, front-of-lexemes}
+use Rattle.wkt_read.proofs.LawLemmas.Few.{lexemes-length}
+use Rattle.wkt_read.proofs.LawLemmas.Splits.{split_one}
+use Rattle.wkt_read.proofs.LawLemmas.Fronts.{taken_begin}
+
+module _ {T : Type 0} where
+  pub rest-is : (s : PeekableTokens T) (ps : List Placed) → left s ≡ ps → rest s ≡ lexemes_of ps
+  unfolding rest
+  rest-is s ps e = ap lexemes_of e
+
+last-end : (x : Placed) (given : List Placed) (end : ℕ) → IfLast (x ∷ given) end → end_after x.end given ≡ end
+last-end x [] end last = last
+last-end x (y ∷ given) end last = last-end y given end last
+
+long : (ls : List Lexeme) → (ls ≡ [] → ⊥) → 0 < length ls
+long [] some = absurd (some refl)
+long (l ∷ ls) some = omega arith
+
+-- a lexeme that could have been the last one given
+abbrev marked : {T : Type 0} → PeekableTokens T → Placed
+marked s = record { lexeme = Open; end = end_of s }
+
+module _ {T : Type 0} (s t : PeekableTokens T) where
+  -- a stream that is after whatever another is after: so much of that was taken
+  advanced : (x : Placed) (given : List Placed) → left s ≡ given ++ left t → x.end ≡ end_of s → IfLast (x ∷ given) (end_of t) → taken_of s ≤ taken_of t → Advances s t
+  advanced x given split at last grows = record {
+    given = given;
+    split = split;
+    end = sym (last-end x given (end_of t) last) ∙ ap (λ n. end_after n given) at;
+    grows = grows;
+  }
+
+  pub advances : GoesOn s t → Advances s t
+  advances go = let b = go.keeps (marked s ∷ left s) (record { given = marked s ∷ []; split = refl; last = refl }) in pick b.given b.split b.last
+    where
+      pick : (given : List Placed) → marked s ∷ left s ≡ given ++ left t → IfLast given (end_of t) → Advances s t
+      pick [] e last = absurd (omega (arith, go.fewer, ap length e, ap length (rest-is s (left s) refl), ap length (rest-is t (left t) refl), lexemes-length (left s), lexemes-length (left t)))
+      pick (x ∷ given) e last =
+          let split : left s ≡ given ++ left t = cc in
+          let same : marked s ≡ x = cc in
+          advanced x given split (ap (λ (p : Placed). p.end) (sym same)) last go.grows
+
+module _ {T : Type 0} (read : List ℕ → Option T) where
+  -- a geometry was read, so a lexeme was taken
+  pub some-taken : (ls : List Lexeme) (v : Value T) (after : List Lexeme) → Begins read ls v after → length after < length ls
+  some-taken ls v after (f, split, g) = omega (arith, long f (geometry-some read f v g), ap length split, length-append f after)
+
+  -- where the front of a text ends
+  pub to-front : (text : List ℕ) (s t : PeekableTokens T) (v : Value T) → AreEnds text (left s) → end_of s ≡ 0 → Advances s t → Begins read (rest s) v (rest t) → FrontBy read true text v (end_of t)
+  to-front text s t v are zero a (f, split, g) =
+      let whole : lexemes_of a.given ++ rest t ≡ f ++ rest t = ap (λ l. lexemes_of a.given ++ l) (rest-is t (left t) refl) ∙ sym (lexemes_of-append a.given (left t)) ∙ ap lexemes_of (sym a.split) ∙ sym (rest-is s (left s) refl) ∙ split in
+      let same : f ≡ lexemes_of a.given = sym (append_cancel_right (lexemes_of a.given) f (rest t) whole) in
+      let at : end_of t ≡ end_after 0 a.given = a.end ∙ ap (λ n. end_after n a.given) zero in
+      subst (FrontBy read true text v) (sym at) (front-of-lexemes read text a.given (left t) v (subst (AreEnds text) a.split are) (subst (λ l. Geometry read true l v) same g))
+
+  -- the lexemes of a text with a front begin with it
+  pub from-front : (text : List ℕ) (s : PeekableTokens T) (v : Value T) (end : ℕ) → left s ≡ placed text → FrontBy read true text v end → (after : List Lexeme) × Begins read (rest s) v after
+  from-front text s v end start front =
+      let (more, is) = taken_begin text front.rest front.lexemes front.taken in
+      let same : lexemes_of (placed text) ≡ front.lexemes ++ more = split_one text _ _ (placed-split text) is in
+      (more, (front.lexemes, rest-is s (placed text) start ∙ same, front.reads))
+
+  pub split-of : (text : List ℕ) (s : PeekableTokens T) → left s ≡ placed text → IsSplit text (rest s)
+  split-of text s start = subst (IsSplit text) (sym (rest-is s (placed text) start)) (placed-split text)
+
+  pub no-front : (text : List ℕ) (s : PeekableTokens T) → left s ≡ placed text → NoneBeginsBy read true (rest s) → HasNoFront read text
+  no-front text s start none v end front =
+      let (after, (f, split, g)) = from-front text s v end start front in
+      none f after v split g
+
+-- an error that is passed on
+pub text-map : (X Y : Type 0) (e : ReadError) (P Q : Type 0) → (P → Q) → OnText {X = X} (Err e) P → OnText {X = Y} (Err e) Q
+text-map X Y (error.Text m) P Q f h = f h
+text-map X Y (error.Memory m) P Q f h = tt
+
+pub message-map : (X Y : Type 0) (e : ReadError) (m : List ℕ) (P Q : Type 0) → (P → Q) → OnMessage {X = X} (Err e) m P → OnMessage {X = Y} (Err e) m Q
+message-map X Y (error.Text t) m P Q f h = λ e. f (h e)
+message-map X Y (error.Memory t) m P Q f h = tt
+
+-- no other message is that of a bad number
+pub bad-text : (X : Type 0) (m : Message) (P : Type 0) → text_of m ≡ text_of message.BadNumber → OnBad {X = X} (Err m) P → P
+bad-text X message.BadNumber P e h = h
+bad-text X message.Format P e h = absurd (omega (arith, ap length e))
+bad-text X message.NonAscii P e h = absurd (omega (arith, ap length e))
+bad-text X message.Kind P e h = absurd (omega (arith, ap length e))
+bad-text X message.Word P e h = absurd (omega (arith, ap length e))
+bad-text X message.End P e h = absurd (omega (arith, ap length e))
+bad-text X message.Open P e h = absurd (omega (arith, ap length e))
+bad-text X message.Close P e h = absurd (omega (arith, ap length e))
+bad-text X message.X P e h = absurd (omega (arith, ap length e))
+bad-text X message.Y P e h = absurd (omega (arith, ap length e))
+bad-text X message.Z P e h = absurd (omega (arith, ap length e))
+bad-text X message.M P e h = absurd (omega (arith, ap length e))
+bad-text X message.Member P e h = absurd (omega (arith, ap length e))
+
+pub text-reads : {A X : Type 0} (view : X → A) (f : ParseError) (m : Message) (reading : Reading A) (after : List Lexeme) → f ≡ Text m → ReadsIn view (Err f) reading after → reading ≡ Err after
+text-reads view f m reading after e h = subst (λ f. ReadsIn view (Err f) reading after) e h
+
+pub text-bad : (X : Type 0) (f : ParseError) (m : Message) (P : Type 0) → f ≡ Text m → OnBadIn {X = X} (Err f) P → OnBad {X = X} (Err m) P
+text-bad X f m P e h = subst (λ f. OnBadIn {X = X} (Err f) P) e h
+
+pub memory-in : (X : Type 0) (f : ParseError) (m : AllocError) (P : Type 0) → f ≡ Memory m → OnMemory {X = X} (Err f) P → P
+memory-in X f m P e h = subst (λ f. OnMemory {X = X} (Err f) P) e h

@@ -1,0 +1,186 @@
+-- Coordinates and lists of them, each part with its reading.
+use Rattle.std.proofs.Common.{◌≡◌, ℕ, zero, suc, ◌≤◌, List, [], ◌∷◌, ◌++◌, length, sym, refl, ap, ◌∙◌, subst, append_assoc, arith, Option, Some, None, Ok, Bool, true, false, cond, inl, inr}
+use Rattle.std.specs.Prelude.{◌⊎◌}
+use Rattle.wkt_num.specs.Bytes.{Lexeme, Open, Close, Comma, Word, Num}
+use Rattle.wkt_access.specs.declared.dimensions.Dimension.{Dimension}
+use Rattle.wkt_access.specs.Values.{size}
+use Rattle.wkt_read.specs.Grammar.{IsEmptyWord, Within, Numbers, Coord, Ring, Poly, Member}
+use Rattle.wkt_read.specs.Begun.{BegunCoord, BegunRing, BegunPoly, BegunMember}
+use Rattle.wkt_read.specs.Parser.Reading.{is_empty_word, number_in, number_at, coord_at, inside_at, line_string_at, line_strings_at, member_at, closing_at}
+use Rattle.wkt_read.proofs.LawLemmas.OneForm.{coord_starts}
+use Rattle.wkt_read.proofs.LawLemmas.Begun.{cuts_word, cuts_numbers, cuts_coord, cuts_member}
+use Rattle.wkt_read.proofs.ParserLemmas.Tells.{told, tell, andthen, mapped, closed_f, numbers_f, coord_f, inside_f, line_f, lines_f, member_f, plain_coord, plain_member}
+use Rattle.wkt_read.proofs.ParserLemmas.Told.{Told, told_then, told_weaken, told_closed, Framed, BegunFrame, empty_is, is_empty}
+use Rattle.wkt_read.proofs.ParserLemmas.Reaches.{reach, told_reach, reach_closed}
+use Rattle.wkt_read.proofs.ParserLemmas.Parts.{Part, Anything, Just, just_part, listed_part, whole_begun, within_cut}
+
+module _ {N : Type 0} (read : List ℕ → Option N) where
+  abbrev pub NumberPart : List Lexeme → N → Type 0
+  NumberPart f x = (run : List ℕ) × (f ≡ Num run ∷ []) × (read run ≡ Some x)
+
+  abbrev pub Nothing : List Lexeme → Type 0
+  Nothing f = f ≡ []
+
+  told_run : (o : Option N) (run : List ℕ) (rest : List Lexeme) → read run ≡ o → Told NumberPart Nothing (Num run ∷ rest) (told (Num run ∷ rest) (number_in read o rest))
+  told_run (Some x) run rest is = (Num run ∷ [], refl, (run, refl, is), refl)
+  told_run None run rest is = ([], Num run ∷ [], refl, refl, refl, omega arith)
+
+  told_number : (ls : List Lexeme) → Told NumberPart Nothing ls (tell (number_at read) ls)
+  unfolding number_at
+  told_number [] = ([], [], refl, refl, refl, omega arith)
+  told_number (Num run ∷ rest) = told_run (read run) run rest refl
+  told_number (Open ∷ rest) = ([], Open ∷ [], refl, refl, refl, omega arith)
+  told_number (Close ∷ rest) = ([], Close ∷ [], refl, refl, refl, omega arith)
+  told_number (Comma ∷ rest) = ([], Comma ∷ [], refl, refl, refl, omega arith)
+  told_number (Word w ∷ rest) = ([], Word w ∷ [], refl, refl, refl, omega arith)
+
+  -- n numbers, which k puts after others
+  abbrev pub NumbersPart : ℕ → (List N → List N) → List Lexeme → List N → Type 0
+  NumbersPart n k f c = (xs : List N) × (c ≡ k xs) × Numbers read f xs × (length xs ≡ n)
+
+  abbrev pub BegunNumbers : ℕ → List Lexeme → Type 0
+  BegunNumbers n f = (xs : List N) × Numbers read f xs × (length xs ≤ n)
+
+  told_numbers : (n : ℕ) (k : List N → List N) (ls : List Lexeme) → Told (NumbersPart n k) (BegunNumbers n) ls (numbers_f read n k ls)
+  unfolding numbers_f
+  told_numbers zero k ls = ([], refl, ([], refl, refl, refl), refl)
+  told_numbers (suc n) k ls =
+      told_then NumberPart Nothing (λ x. NumbersPart n (λ xs. k (x ∷ xs))) (λ x. BegunNumbers n) (NumbersPart (suc n) k) (BegunNumbers (suc n)) ls (tell (number_at read) ls) _ (told_number ls)
+      (λ p g e w. told_numbers n (λ xs. k (p.0 ∷ xs)) p.1)
+      (λ pre e. ([], e, omega arith))
+      (λ x g c h (run, e, is) (xs, e2, m, len). (x ∷ xs, e2, (run, h, ap (λ l. l ++ h) e, is, m), omega (arith, len)))
+      (λ x g h (run, e, is) (xs, m, le). (x ∷ xs, (run, h, ap (λ l. l ++ h) e, is, m), omega (arith, le)))
+
+  numbers_exact : (xs : List N) (k : List N → List N) (f r : List Lexeme) → Numbers read f xs → numbers_f read (length xs) k (f ++ r) ≡ Ok (k xs, r)
+  unfolding numbers_f number_at
+  numbers_exact [] k f r e = ap (λ l. Ok (k [], l ++ r)) e
+  numbers_exact (x ∷ xs) k f r (run, more, e, is, m) =
+      ap (λ l. numbers_f read (suc (length xs)) k (l ++ r)) e
+      ∙ ap (λ o. andthen (told (Num run ∷ (more ++ r)) (number_in read o (more ++ r))) (λ x. numbers_f read (length xs) (λ xs. k (x.0 ∷ xs)) x.1)) is
+      ∙ numbers_exact xs (λ xs. k (x ∷ xs)) more r m
+
+  numbers_reach : (xs : List N) (n : ℕ) (k : List N → List N) (b c : List Lexeme) → Numbers read b xs → length xs ≤ n → reach (numbers_f read n k (b ++ c)) ≤ length c
+  unfolding numbers_f number_at
+  numbers_reach [] n k b c e le = subst (λ l. reach (numbers_f read n k (l ++ c)) ≤ length c) (sym e) (told_reach (NumbersPart n k) (BegunNumbers n) c (numbers_f read n k c) (told_numbers n k c))
+  numbers_reach (x ∷ xs) zero k b c m le = absurd (omega (arith, le))
+  numbers_reach (x ∷ xs) (suc n) k b c (run, more, e, is, m) le =
+      let e2 : numbers_f read (suc n) k (b ++ c) ≡ numbers_f read n (λ xs. k (x ∷ xs)) (more ++ c) =
+      ap (λ l. numbers_f read (suc n) k (l ++ c)) e
+      ∙ ap (λ o. andthen (told (Num run ∷ (more ++ c)) (number_in read o (more ++ c))) (λ x. numbers_f read n (λ xs. k (x.0 ∷ xs)) x.1)) is in
+      subst (λ t. reach t ≤ length c) (sym e2) (numbers_reach xs n (λ xs. k (x ∷ xs)) more c m (omega (arith, le)))
+
+  coord_cut : (d : Dimension) (a b : List Lexeme) → BegunCoord read true d (a ++ b) → BegunCoord read true d a
+  coord_cut d a b (xs, m, le) = let (ys, n, le2) = cuts_numbers read true xs (a ++ b) a b m refl in (ys, n, omega (arith, le, le2))
+
+  module _ (d : Dimension) (n : ℕ) where
+    pub coord_part : Part (Coord read d) (BegunCoord read true d) Anything (coord_at read d) (coord_f read d) n
+    coord_part = record {
+      same = plain_coord read d;
+      told = λ ls le. told_weaken (NumbersPart (size d) (λ xs. xs)) (BegunNumbers (size d)) (Coord read d) (BegunCoord read true d) ls (coord_f read d ls)
+          (λ f c (xs, e, m, len). subst (Coord read d f) (sym e) (m, len)) (λ f b. b) (told_numbers (size d) (λ xs. xs) ls);
+      exact = λ c f r (m, len) k le. subst (λ s. numbers_f read s (λ xs. xs) (f ++ r) ≡ Ok (c, r)) len (numbers_exact c (λ xs. xs) f r m);
+      reaches = λ b c (xs, m, few) le. numbers_reach xs (size d) (λ xs. xs) b c m few;
+      cuts = cuts_coord read true d;
+      begun = λ a b le h. coord_cut d a b h;
+    }
+
+    pub line_part : Part (Ring read d) (BegunRing read true d) Anything (line_string_at read d n) (line_f read d n) n
+    line_part = listed_part (Coord read d) (BegunCoord read true d) (coord_at read d) (coord_f read d) n coord_part
+
+    pub lines_part : Part (Poly read d) (BegunPoly read true d) Anything (line_strings_at read d n) (lines_f read d n) n
+    lines_part = listed_part (Ring read d) (BegunRing read true d) (line_string_at read d n) (line_f read d n) n line_part
+
+    inside_part : Part (Just (Coord read d)) (BegunCoord read true d) Anything (inside_at read d) (inside_f read d) n
+    inside_part = just_part (Coord read d) (BegunCoord read true d) (coord_at read d) (coord_f read d) n coord_part
+
+  -- a member of a multipoint
+  module _ (d : Dimension) where
+    abbrev pub TheMember : List Lexeme → Option (List N) → Type 0
+    TheMember = Member read true d
+
+    abbrev pub TheBegun : List Lexeme → Type 0
+    TheBegun = BegunMember read true d
+
+    bare : (f : List Lexeme) (o : Option (List N)) → Just (Coord read d) f o → TheMember f o
+    bare f None w = absurd w
+    bare f (Some c) w = inl w
+
+    in_parens : (f : List Lexeme) (o : Option (List N)) → ((o ≡ None) × IsEmptyWord f) ⊎ Within (λ b. Just (Coord read d) b o) f → TheMember f o
+    in_parens f None (inl e) = (refl, e.1)
+    in_parens f None (inr w) = absurd w.2
+    in_parens f (Some c) (inl e) = cc
+    in_parens f (Some c) (inr w) = inr w
+
+    told_inside : (ls : List Lexeme) → Told (Just (Coord read d)) (BegunCoord read true d) ls (inside_f read d ls)
+    told_inside ls = (inside_part d (length ls)).told ls (omega arith)
+
+    told_bare : (ls : List Lexeme) → Told TheMember TheBegun ls (inside_f read d ls)
+    told_bare ls = told_weaken (Just (Coord read d)) (BegunCoord read true d) TheMember TheBegun ls (inside_f read d ls) bare (λ f b. inr (inl b)) (told_inside ls)
+
+    begin : (f : List Lexeme) (o : Option (List N)) → Just (Coord read d) f o → BegunCoord read true d f
+    begin = whole_begun (Just (Coord read d)) (BegunCoord read true d) (inside_part d 0).cuts
+
+    frame_member : (f : List Lexeme) → BegunFrame None (inside_f read d) (Just (Coord read d)) (BegunCoord read true d) begin f → TheBegun f
+    frame_member f (inl e) = inr (inr (inl e))
+    frame_member f (inr b) = inr (inr (inr (inl b)))
+
+    told_word : (w : List ℕ) (rest : List Lexeme) (b : Bool) → is_empty_word w ≡ b → Told TheMember TheBegun (Word w ∷ rest) (cond b (Ok (None, rest)) (inside_f read d (Word w ∷ rest)))
+    told_word w rest true is = (Word w ∷ [], refl, (refl, (w, refl, empty_is w is)), refl)
+    told_word w rest false is = told_bare (Word w ∷ rest)
+
+    told_member : (ls : List Lexeme) → Told TheMember TheBegun ls (member_f read d ls)
+    unfolding member_f
+    told_member [] = told_bare []
+    told_member (Open ∷ rest) =
+        told_weaken (Framed None (inside_f read d) (Just (Coord read d)) (BegunCoord read true d) begin) (BegunFrame None (inside_f read d) (Just (Coord read d)) (BegunCoord read true d) begin) TheMember TheBegun (Open ∷ rest) (closed_f (inside_f read d rest))
+        in_parens frame_member (told_closed None (inside_f read d) (Just (Coord read d)) (BegunCoord read true d) begin rest (inside_f read d rest) (told_inside rest))
+    told_member (Word w ∷ rest) = told_word w rest (is_empty_word w) refl
+    told_member (Close ∷ rest) = told_bare (Close ∷ rest)
+    told_member (Comma ∷ rest) = told_bare (Comma ∷ rest)
+    told_member (Num w ∷ rest) = told_bare (Num w ∷ rest)
+
+    coord_exact : (c : List N) (f r : List Lexeme) → Coord read d f c → coord_f read d (f ++ r) ≡ Ok (c, r)
+    coord_exact c f r h = (coord_part d (length (f ++ r))).exact c f r h tt (omega arith)
+
+    member_exact : (o : Option (List N)) (f r : List Lexeme) → TheMember f o → member_f read d (f ++ r) ≡ Ok (o, r)
+    unfolding member_f closed_f closing_at
+    member_exact None f r (t, (w, e, is)) = ap (λ l. member_f read d (l ++ r)) e ∙ ap (λ b. cond b (Ok (None, r)) (inside_f read d (Word w ∷ r))) (is_empty w is)
+    member_exact (Some c) f r (inl h) =
+        let (run, more, e) = coord_starts read d f c h in
+        ap (λ l. member_f read d (l ++ r)) e ∙ ap (λ l. inside_f read d (l ++ r)) (sym e) ∙ ap (mapped (λ c. Some c)) (coord_exact c f r h)
+    member_exact (Some c) f r (inr (k, e, h)) =
+        ap (λ l. member_f read d (l ++ r)) e ∙ ap (λ l. closed_f (inside_f read d l)) (append_assoc k (Close ∷ []) r) ∙ ap (λ t. closed_f (mapped (λ c. Some c) t)) (coord_exact c k (Close ∷ r) h)
+
+    nothing_reach : (b c : List Lexeme) → b ≡ [] → reach (member_f read d (b ++ c)) ≤ length c
+    nothing_reach b c e = subst (λ l. reach (member_f read d (l ++ c)) ≤ length c) (sym e) (told_reach TheMember TheBegun c (member_f read d c) (told_member c))
+
+    inside_reach : (b c : List Lexeme) → BegunCoord read true d b → reach (inside_f read d (b ++ c)) ≤ length c
+    inside_reach b c h = (inside_part d (length (b ++ c))).reaches b c h (omega arith)
+
+    member_reach : (b c : List Lexeme) → TheBegun b → reach (member_f read d (b ++ c)) ≤ length c
+    unfolding member_f
+    member_reach b c (inl (t, inl e)) = nothing_reach b c e
+    member_reach b c (inl (t, inr em)) = omega (arith, ap reach (member_exact None b c (refl, em)))
+    member_reach b c (inr (inl ([], e, le))) = nothing_reach b c e
+    member_reach b c (inr (inl (x ∷ xs, (run, more, e, is, m), le))) =
+        subst (λ l. reach (member_f read d (l ++ c)) ≤ length c) (sym e) (inside_reach (Num run ∷ more) c (x ∷ xs, (run, more, refl, is, m), le))
+    member_reach b c (inr (inr (inl e))) = nothing_reach b c e
+    member_reach b c (inr (inr (inr (inl (k, e, h))))) = subst (λ l. reach (member_f read d (l ++ c)) ≤ length c) (sym e) (reach_closed (inside_f read d (k ++ c)) (length c) (inside_reach k c h))
+    member_reach b c (inr (inr (inr (inr (k, e, (x, h)))))) = omega (arith, ap reach (member_exact (Some x) b c (inr (k, e, h))))
+
+    member_cut : (a b : List Lexeme) → TheBegun (a ++ b) → TheBegun a
+    member_cut [] b h = inr (inr (inl refl))
+    member_cut (x ∷ a) b (inl (t, inl e)) = cc
+    member_cut (x ∷ a) b (inl (t, inr em)) = inl (t, cuts_word _ (x ∷ a) b em refl)
+    member_cut (x ∷ a) b (inr (inl c)) = inr (inl (coord_cut d (x ∷ a) b c))
+    member_cut (x ∷ a) b (inr (inr w)) = inr (inr (within_cut (Coord read d) (BegunCoord read true d) (length (x ∷ (a ++ b))) (cuts_coord read true d) (λ a b le h. coord_cut d a b h) (x ∷ a) b (omega arith) w))
+
+    pub member_part : (n : ℕ) → Part TheMember TheBegun Anything (member_at read d) (member_f read d) n
+    member_part n = record {
+      same = plain_member read d;
+      told = λ ls le. told_member ls;
+      exact = λ o f r w k le. member_exact o f r w;
+      reaches = λ b c h le. member_reach b c h;
+      cuts = cuts_member read true d;
+      begun = λ a b le h. member_cut a b h;
+    }

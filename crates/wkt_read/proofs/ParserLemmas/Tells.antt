@@ -1,0 +1,214 @@
+-- The reading that also tells where it stops: an error is the lexemes from the bad one on (none if the lexemes end), and those that are left.
+use Rattle.std.proofs.Common.{◌≡◌, ℕ, zero, suc, List, [], ◌∷◌, ◌++◌, refl, ap, ◌∙◌, Option, Some, None, Result, Ok, Err, Bool, true, false, cond}
+use Rattle.wkt_num.specs.Bytes.{Lexeme, Open, Close, Comma, Word, Num}
+use Rattle.wkt_access.specs.declared.dimensions.Dimension.{Dimension}
+use Rattle.wkt_access.specs.declared.dimensions.Dimension.TheVariants.{XY, XYZ, XYM, XYZM}
+use Rattle.wkt_access.specs.Values.{size, Value}
+use Rattle.wkt_types.specs.declared.geometry_type.GeometryType.{GeometryType}
+use Rattle.wkt_types.specs.declared.geometry_type.GeometryType.TheVariants as kind
+use Rattle.wkt_read.specs.Grammar.{KindWord, kind_word}
+use Rattle.wkt_read.specs.Parser.Reading.{Reading, ◌>>=◌, with_front, left_by, is_empty_word, members_of, opening_at, closing_at, closed, framed, tail_at, many_at, number_at, coord_at, dimension_at, joined_or_at, kinded, header_at, inside_at, member_at}
+
+abbrev pub Telling : Type 0 → Type 0
+Telling A = Result (A × List Lexeme) (List Lexeme × List Lexeme)
+
+abbrev pub told : {A : Type 0} → List Lexeme → Reading A → Telling A
+told ls (Ok p) = Ok p
+told ls (Err left) = Err (ls, left)
+
+-- a part whose error is at its first lexeme
+abbrev pub tell : {A : Type 0} → (List Lexeme → Reading A) → List Lexeme → Telling A
+tell item ls = told ls (item ls)
+
+abbrev pub plain : {A : Type 0} → Telling A → Reading A
+plain (Ok p) = Ok p
+plain (Err r) = Err r.1
+
+abbrev pub andthen : {A B : Type 0} → Telling A → (A × List Lexeme → Telling B) → Telling B
+andthen (Ok p) f = f p
+andthen (Err r) f = Err r
+
+abbrev pub fronted : {A : Type 0} → List A → Telling (List A) → Telling (List A)
+fronted front (Ok p) = Ok (front ++ p.0, p.1)
+fronted front (Err r) = Err r
+
+abbrev pub mapped : {A B : Type 0} → (A → B) → Telling A → Telling B
+mapped m t = andthen t (λ p. Ok (m p.0, p.1))
+
+unfoldable pub closed_f : {A : Type 0} → Telling A → Telling A
+closed_f (Ok p) = andthen (tell closing_at p.1) (λ c. Ok (p.0, c.1))
+closed_f (Err r) = Err (r.0, left_by (closing_at r.1))
+
+unfoldable pub framed_f : {A : Type 0} → A → (List Lexeme → Telling A) → List Lexeme → Telling A
+framed_f empty body ls = andthen (tell opening_at ls) (λ o. cond o.0 (closed_f (body o.1)) (Ok (empty, o.1)))
+
+unfoldable pub tail_f : {A : Type 0} → (List Lexeme → Telling A) → ℕ → List Lexeme → Telling (List A)
+tail_f item fuel [] = Ok ([], [])
+tail_f item zero (Comma ∷ rest) = Err ([], rest)
+tail_f item (suc fuel) (Comma ∷ rest) = andthen (item rest) (λ p. fronted (p.0 ∷ []) (tail_f item fuel p.1))
+tail_f item fuel (Open ∷ rest) = Ok ([], Open ∷ rest)
+tail_f item fuel (Close ∷ rest) = Ok ([], Close ∷ rest)
+tail_f item fuel (Word w ∷ rest) = Ok ([], Word w ∷ rest)
+tail_f item fuel (Num w ∷ rest) = Ok ([], Num w ∷ rest)
+
+abbrev pub many_f : {A : Type 0} → (List Lexeme → Telling A) → ℕ → List Lexeme → Telling (List A)
+many_f item fuel ls = andthen (item ls) (λ p. fronted (p.0 ∷ []) (tail_f item fuel p.1))
+
+module _ {N : Type 0} (read : List ℕ → Option N) where
+  -- n numbers, with those before them put in front by k
+  unfoldable pub numbers_f : ℕ → (List N → List N) → List Lexeme → Telling (List N)
+  numbers_f zero k ls = Ok (k [], ls)
+  numbers_f (suc n) k ls = andthen (tell (number_at read) ls) (λ x. numbers_f n (λ xs. k (x.0 ∷ xs)) x.1)
+
+  abbrev pub coord_f : Dimension → List Lexeme → Telling (List N)
+  coord_f d = numbers_f (size d) (λ xs. xs)
+
+  abbrev pub joined_or_f : GeometryType → Option Dimension → List Lexeme → Telling (GeometryType × Dimension)
+  joined_or_f k (Some d) rest = Ok ((k, d), rest)
+  joined_or_f k None rest = andthen (tell (dimension_at read) rest) (λ d. Ok ((k, d.0), d.1))
+
+  abbrev pub kinded_f : Option KindWord → List Lexeme → List Lexeme → Telling (GeometryType × Dimension)
+  kinded_f None ls rest = Err (ls, rest)
+  kinded_f (Some e) ls rest = joined_or_f e.kind e.joined rest
+
+  unfoldable pub header_f : List Lexeme → Telling (GeometryType × Dimension)
+  header_f [] = Err ([], [])
+  header_f (Word w ∷ rest) = kinded_f (kind_word w) (Word w ∷ rest) rest
+  header_f (Open ∷ rest) = Err (Open ∷ rest, rest)
+  header_f (Close ∷ rest) = Err (Close ∷ rest, rest)
+  header_f (Comma ∷ rest) = Err (Comma ∷ rest, rest)
+  header_f (Num w ∷ rest) = Err (Num w ∷ rest, rest)
+
+  abbrev pub inside_f : Dimension → List Lexeme → Telling (Option (List N))
+  inside_f d ls = mapped (λ c. Some c) (coord_f d ls)
+
+  unfoldable pub member_f : Dimension → List Lexeme → Telling (Option (List N))
+  member_f d [] = inside_f d []
+  member_f d (Open ∷ rest) = closed_f (inside_f d rest)
+  member_f d (Word w ∷ rest) = cond (is_empty_word w) (Ok (None, rest)) (inside_f d (Word w ∷ rest))
+  member_f d (Close ∷ rest) = inside_f d (Close ∷ rest)
+  member_f d (Comma ∷ rest) = inside_f d (Comma ∷ rest)
+  member_f d (Num w ∷ rest) = inside_f d (Num w ∷ rest)
+
+  abbrev pub line_f : Dimension → ℕ → List Lexeme → Telling (List (List N))
+  line_f d n = framed_f [] (many_f (coord_f d) n)
+
+  abbrev pub lines_f : Dimension → ℕ → List Lexeme → Telling (List (List (List N)))
+  lines_f d n = framed_f [] (many_f (line_f d n) n)
+
+  abbrev pub polygons_f : Dimension → ℕ → List Lexeme → Telling (List (List (List (List N))))
+  polygons_f d n = framed_f [] (many_f (lines_f d n) n)
+
+  abbrev pub points_f : Dimension → ℕ → List Lexeme → Telling (List (Option (List N)))
+  points_f d n = framed_f [] (many_f (member_f d) n)
+
+  abbrev pub body_f : (List Lexeme → Telling (Value N)) → ℕ → GeometryType → Dimension → List Lexeme → Telling (Value N)
+  body_f value n kind.Point d ls = mapped (λ c. Value.point d c) (framed_f None (inside_f d) ls)
+  body_f value n kind.LineString d ls = mapped (λ c. Value.line_string d c) (line_f d n ls)
+  body_f value n kind.Polygon d ls = mapped (λ c. Value.polygon d c) (lines_f d n ls)
+  body_f value n kind.MultiPoint d ls = mapped (λ c. Value.multi_point d c) (points_f d n ls)
+  body_f value n kind.MultiLineString d ls = mapped (λ c. Value.multi_line_string d c) (lines_f d n ls)
+  body_f value n kind.MultiPolygon d ls = mapped (λ c. Value.multi_polygon d c) (polygons_f d n ls)
+  body_f value n kind.GeometryCollection d ls = mapped (λ vs. Value.collection d (members_of vs)) (framed_f [] (many_f value n) ls)
+
+  unfoldable pub value_f : ℕ → List Lexeme → Telling (Value N)
+  value_f zero ls = Err ([], ls)
+  value_f (suc n) ls = andthen (header_f ls) (λ h. body_f (value_f n) n h.0.0 h.0.1 h.1)
+
+-- it reads as the plain reading does
+pub plain_told : {A : Type 0} (ls : List Lexeme) (r : Reading A) → plain (told ls r) ≡ r
+plain_told ls (Ok p) = refl
+plain_told ls (Err left) = refl
+
+pub plain_then : {A B : Type 0} (t : Telling A) (f : A × List Lexeme → Telling B) (u : Reading A) (g : A × List Lexeme → Reading B) → plain t ≡ u → ((p : A × List Lexeme) → plain (f p) ≡ g p) → plain (andthen t f) ≡ (u >>= g)
+plain_then (Ok p) f u g e h = h p ∙ ap (λ v. v >>= g) e
+plain_then (Err r) f u g e h = ap (λ v. v >>= g) e
+
+plain_fronted : {A : Type 0} (front : List A) (t : Telling (List A)) → plain (fronted front t) ≡ with_front front (plain t)
+plain_fronted front (Ok p) = refl
+plain_fronted front (Err r) = refl
+
+pub plain_closed : {A : Type 0} (t : Telling A) → plain (closed_f t) ≡ closed (plain t)
+unfolding closed_f closed
+plain_closed (Ok p) = plain_then (tell closing_at p.1) _ _ _ (plain_told p.1 (closing_at p.1)) (λ c. refl)
+plain_closed (Err r) = refl
+
+module _ {A : Type 0} (item_f : List Lexeme → Telling A) (item : List Lexeme → Reading A) (same : (ls : List Lexeme) → plain (item_f ls) ≡ item ls) where
+  plain_tail : (n : ℕ) (ls : List Lexeme) → plain (tail_f item_f n ls) ≡ tail_at item n ls
+  unfolding tail_f tail_at
+  plain_tail zero [] = refl
+  plain_tail (suc n) [] = refl
+  plain_tail zero (Comma ∷ rest) = refl
+  plain_tail (suc n) (Comma ∷ rest) = plain_then (item_f rest) _ _ _ (same rest) (λ p. plain_fronted (p.0 ∷ []) (tail_f item_f n p.1) ∙ ap (with_front (p.0 ∷ [])) (plain_tail n p.1))
+  plain_tail zero (Open ∷ rest) = refl
+  plain_tail (suc n) (Open ∷ rest) = refl
+  plain_tail zero (Close ∷ rest) = refl
+  plain_tail (suc n) (Close ∷ rest) = refl
+  plain_tail zero (Word w ∷ rest) = refl
+  plain_tail (suc n) (Word w ∷ rest) = refl
+  plain_tail zero (Num w ∷ rest) = refl
+  plain_tail (suc n) (Num w ∷ rest) = refl
+
+  pub plain_many : (n : ℕ) (ls : List Lexeme) → plain (many_f item_f n ls) ≡ many_at item n ls
+  unfolding many_at
+  plain_many n ls = plain_then (item_f ls) _ _ _ (same ls) (λ p. plain_fronted (p.0 ∷ []) (tail_f item_f n p.1) ∙ ap (with_front (p.0 ∷ [])) (plain_tail n p.1))
+
+  plain_opened : (empty : A) (o : Bool × List Lexeme) → plain (cond o.0 (closed_f (item_f o.1)) (Ok (empty, o.1))) ≡ cond o.0 (closed (item o.1)) (Ok (empty, o.1))
+  plain_opened empty (true, r) = plain_closed (item_f r) ∙ ap closed (same r)
+  plain_opened empty (false, r) = refl
+
+  pub plain_framed : (empty : A) (ls : List Lexeme) → plain (framed_f empty item_f ls) ≡ framed empty item ls
+  unfolding framed_f framed
+  plain_framed empty ls = plain_then (tell opening_at ls) _ _ _ (plain_told ls (opening_at ls)) (plain_opened empty)
+
+  pub plain_mapped : {B : Type 0} (m : A → B) (ls : List Lexeme) → plain (mapped m (item_f ls)) ≡ (item ls >>= (λ p. Ok (m p.0, p.1)))
+  plain_mapped m ls = plain_then (item_f ls) _ _ _ (same ls) (λ p. refl)
+
+module _ {N : Type 0} (read : List ℕ → Option N) where
+  plain_number : (ls : List Lexeme) → plain (tell (number_at read) ls) ≡ number_at read ls
+  plain_number ls = plain_told ls (number_at read ls)
+
+  pub plain_coord : (d : Dimension) (ls : List Lexeme) → plain (coord_f read d ls) ≡ coord_at read d ls
+  unfolding numbers_f coord_at
+  plain_coord XY ls = plain_then (tell (number_at read) ls) _ _ _ (plain_number ls) (λ x. plain_then (tell (number_at read) x.1) _ _ _ (plain_number x.1) (λ y. refl))
+  plain_coord XYZ ls = plain_then (tell (number_at read) ls) _ _ _ (plain_number ls) (λ x. plain_then (tell (number_at read) x.1) _ _ _ (plain_number x.1) (λ y. plain_then (tell (number_at read) y.1) _ _ _ (plain_number y.1) (λ z. refl)))
+  plain_coord XYM ls = plain_then (tell (number_at read) ls) _ _ _ (plain_number ls) (λ x. plain_then (tell (number_at read) x.1) _ _ _ (plain_number x.1) (λ y. plain_then (tell (number_at read) y.1) _ _ _ (plain_number y.1) (λ z. refl)))
+  plain_coord XYZM ls = plain_then (tell (number_at read) ls) _ _ _ (plain_number ls) (λ x. plain_then (tell (number_at read) x.1) _ _ _ (plain_number x.1) (λ y. plain_then (tell (number_at read) y.1) _ _ _ (plain_number y.1) (λ z. plain_then (tell (number_at read) z.1) _ _ _ (plain_number z.1) (λ m. refl))))
+
+  plain_joined : (k : GeometryType) (j : Option Dimension) (rest : List Lexeme) → plain (joined_or_f read k j rest) ≡ joined_or_at read k j rest
+  plain_joined k (Some d) rest = refl
+  plain_joined k None rest = plain_then (tell (dimension_at read) rest) _ _ _ (plain_told rest (dimension_at read rest)) (λ d. refl)
+
+  plain_kinded : (o : Option KindWord) (ls rest : List Lexeme) → plain (kinded_f read o ls rest) ≡ kinded read o rest
+  plain_kinded None ls rest = refl
+  plain_kinded (Some e) ls rest = plain_joined e.kind e.joined rest
+
+  pub plain_header : (ls : List Lexeme) → plain (header_f read ls) ≡ header_at read ls
+  unfolding header_f header_at
+  plain_header [] = refl
+  plain_header (Word w ∷ rest) = plain_kinded (kind_word w) (Word w ∷ rest) rest
+  plain_header (Open ∷ rest) = refl
+  plain_header (Close ∷ rest) = refl
+  plain_header (Comma ∷ rest) = refl
+  plain_header (Num w ∷ rest) = refl
+
+  plain_inside : (d : Dimension) (ls : List Lexeme) → plain (inside_f read d ls) ≡ inside_at read d ls
+  plain_inside d = plain_mapped (coord_f read d) (coord_at read d) (plain_coord d) (λ c. Some c)
+
+  plain_word : (d : Dimension) (w : List ℕ) (rest : List Lexeme) (b : Bool) → plain (cond b (Ok (None, rest)) (inside_f read d (Word w ∷ rest))) ≡ cond b (Ok (None, rest)) (inside_at read d (Word w ∷ rest))
+  plain_word d w rest true = refl
+  plain_word d w rest false = plain_inside d (Word w ∷ rest)
+
+  pub plain_member : (d : Dimension) (ls : List Lexeme) → plain (member_f read d ls) ≡ member_at read d ls
+  unfolding member_f member_at
+  plain_member d [] = plain_inside d []
+  plain_member d (Open ∷ rest) = plain_closed (inside_f read d rest) ∙ ap closed (plain_inside d rest)
+  plain_member d (Word w ∷ rest) = plain_word d w rest (is_empty_word w)
+  plain_member d (Close ∷ rest) = plain_inside d (Close ∷ rest)
+  plain_member d (Comma ∷ rest) = plain_inside d (Comma ∷ rest)
+  plain_member d (Num w ∷ rest) = plain_inside d (Num w ∷ rest)
+
+-- what the plain reading answers is told
+pub ok_told : {A : Type 0} (t : Telling A) (p : A × List Lexeme) → plain t ≡ Ok p → t ≡ Ok p
+ok_told (Ok q) p e = let h : q ≡ p = cc in ap (λ r. Ok r) h
+ok_told (Err r) p e = cc

@@ -1,0 +1,77 @@
+-- One lexeme further.
+use Rattle.std.proofs.Common.{◌≤◌, ◌≡◌, ℕ, length, arith, List, [], ◌∷◌, ◌++◌, sym, refl, ap, ◌∙◌, subst, append_assoc, Option, Some, None, Err, ◌≢◌}
+use Rattle.wkt_num.specs.Bytes.{Lexeme}
+use Rattle.wkt_read.specs.Placed.{Placed, lexemes_of}
+use Rattle.wkt_read.specs.declared.tokenizer.token.Lexeme as code
+use Rattle.wkt_read.specs.declared.tokenizer.token.Lexeme.TheVariants as raw
+use Rattle.wkt_read.specs.Tokenizer.Unread.{found}
+use Rattle.wkt_read.specs.Parser.Blames.{BlamesLexeme}
+use Rattle.wkt_read.specs.declared.messages.Message.{Message}
+use Rattle.wkt_read.specs.declared.messages.Message.TheVariants as message
+use Rattle.wkt_read.specs.Parser.Errors.{OnBad}
+use Rattle.wkt_read.specs.declared.tokenizer.peekable.PeekableTokens.{PeekableTokens}
+use Rattle.wkt_read.specs.Ahead.{left, end_of, taken_of, rest, Moves}
+use Rattle.wkt_read.specs.Parser.Walks.{GoesOn, Takes}
+use Rattle.wkt_read.specs.Ahead.{IfLast, IsAfter}
+
+last-push : (given : List Placed) (x : Placed) → IfLast (given ++ x ∷ []) x.end
+last-push [] x = refl
+last-push (y ∷ []) x = refl
+last-push (y ∷ z ∷ given) x = last-push (z ∷ given) x
+
+takes-fewer : (o : Option Lexeme) (old new : List Lexeme) → Takes o old new → length new ≤ length old
+takes-fewer None old new h = omega (arith, ap length h.0, ap length h.1)
+takes-fewer (Some l) old new h = omega (arith, ap length h)
+
+module _ {T : Type 0} where
+  keeps-moves : (s : PeekableTokens T) (o : Option Lexeme) (t : PeekableTokens T) → Moves s o t → (start : List Placed) → IsAfter start s → IsAfter start t
+  keeps-moves s None t h start b = record { given = b.given; split = b.split ∙ ap (λ l. b.given ++ l) (h.0 ∙ sym h.1); last = subst (IfLast b.given) (sym h.2) b.last }
+  keeps-moves s (Some l) t h start b =
+      let y : Placed = record { lexeme = l; end = end_of t } in
+      record { given = b.given ++ (y ∷ []); split = b.split ∙ ap (λ l. b.given ++ l) h.0 ∙ sym (append_assoc b.given (y ∷ []) (left t)); last = last-push b.given y }
+
+  grows-moves : (s : PeekableTokens T) (o : Option Lexeme) (t : PeekableTokens T) → Moves s o t → taken_of s ≤ taken_of t
+  grows-moves s None t h = h.3
+  grows-moves s (Some l) t h = h.3
+
+  pub takes-moves : (s : PeekableTokens T) (o : Option Lexeme) (t : PeekableTokens T) → Moves s o t → Takes o (rest s) (rest t)
+  unfolding rest
+  takes-moves s None t h = (ap lexemes_of h.0, ap lexemes_of h.1)
+  takes-moves s (Some l) t h = ap lexemes_of h.0
+
+  pub goes-moves : (s : PeekableTokens T) (o : Option Lexeme) (t : PeekableTokens T) → Moves s o t → GoesOn s t
+  goes-moves s o t h = record { keeps = keeps-moves s o t h; grows = grows-moves s o t h; fewer = takes-fewer o (rest s) (rest t) (takes-moves s o t h) }
+
+pub lexemes_of-append : (xs ys : List Placed) → lexemes_of (xs ++ ys) ≡ lexemes_of xs ++ lexemes_of ys
+lexemes_of-append [] ys = refl
+lexemes_of-append (x ∷ xs) ys = ap (λ l. x.lexeme ∷ l) (lexemes_of-append xs ys)
+
+module _ {T : Type 0} (read : List ℕ → Option T) where
+  pub blames-lexeme : (s : PeekableTokens T) (r : code.Lexeme) (t : PeekableTokens T) → Moves s (found r) t → BlamesLexeme read s r
+  blames-lexeme s raw.End t h = tt
+  blames-lexeme s raw.Comma t h = tt
+  blames-lexeme s raw.Close t h = tt
+  blames-lexeme s raw.Open t h = tt
+  blames-lexeme s (raw.Word w) t h = tt
+  blames-lexeme s (raw.Number digits) t h = λ bad start b. record {
+    before = lexemes_of b.given;
+    run = digits.now;
+    after = lexemes_of (left t);
+    split = ap lexemes_of (b.split ∙ ap (λ l. b.given ++ l) h.0) ∙ lexemes_of-append b.given _;
+    unread = bad;
+  }
+
+pub other-message : (X : Type 0) (m : Message) (P : Type 0) → m ≢ message.BadNumber → OnBad {X = X} (Err m) P
+other-message X message.BadNumber P h = absurd (h refl)
+other-message X message.Format P h = tt
+other-message X message.NonAscii P h = tt
+other-message X message.Kind P h = tt
+other-message X message.Word P h = tt
+other-message X message.End P h = tt
+other-message X message.Open P h = tt
+other-message X message.Close P h = tt
+other-message X message.X P h = tt
+other-message X message.Y P h = tt
+other-message X message.Z P h = tt
+other-message X message.M P h = tt
+other-message X message.Member P h = tt

@@ -1,0 +1,5 @@
+use Rattle.wkt_read.proofs.LawLemmas.Few.{few}
+use Rattle.wkt_read.proofs.laws.few_lexemes.Goals as goal
+
+pub returns : goal.returns
+returns c text ls s = few text ls s

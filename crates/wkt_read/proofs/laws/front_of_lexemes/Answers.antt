@@ -1,0 +1,5 @@
+use Rattle.wkt_read.proofs.LawLemmas.FrontEnds.{front-of-lexemes}
+use Rattle.wkt_read.proofs.laws.front_of_lexemes.Goals as goal
+
+pub returns : goal.returns
+returns g c text given later v are h = front-of-lexemes g.T.WktNum.read text given later v are h

@@ -1,0 +1,5 @@
+use Rattle.wkt_read.proofs.LawLemmas.OneWkt.{wkt-one}
+use Rattle.wkt_read.proofs.laws.one_wkt.Goals as goal
+
+pub returns : goal.returns
+returns g c v s t h k = wkt-one v s t h k

@@ -1,0 +1,11 @@
+use Rattle.wkt_read.proofs.TokenizerLemmas.Afters.{goes-moves, takes-moves, blames-lexeme}
+use Rattle.wkt_read.proofs.tokenizer.peekable.PeekableTokens.take.Goals as goal
+
+pub returns-clause-goes_on : goal.returns-clause-goes_on
+returns-clause-goes_on g c = goes-moves _ _ _ c.step.ensures
+
+pub returns-clause-takes : goal.returns-clause-takes
+returns-clause-takes g c = takes-moves _ _ _ c.step.ensures
+
+pub returns-clause-bad : goal.returns-clause-bad
+returns-clause-bad g c = blames-lexeme g.T.WktNum.read _ _ _ c.step.ensures

@@ -1,5 +1,0 @@
-use Rattle.wkt_read.proofs.Spelling.{empty-word}
-use Rattle.wkt_read.proofs.words.is_empty.Goals as goal
-
-pub returns : goal.returns
-returns c = empty-word c.args.word.now _ c.eq_ignore_ascii_case.ensures.test

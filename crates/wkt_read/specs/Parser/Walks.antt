@@ -1,0 +1,31 @@
+-- How readers go over the lexemes of a stream. Only private contracts cite this file.
+use Rattle.std.specs.Prelude.{◌≡◌, ◌≤◌, ◌∷◌, [], List, length, Option, Some, None}
+use Rattle.wkt_num.specs.Bytes.{Lexeme, Open, Close, Comma, Word, Num}
+use Rattle.wkt_read.specs.Placed.{Placed}
+use Rattle.wkt_read.specs.Ahead.{rest, taken_of, IsAfter}
+use Rattle.wkt_read.specs.declared.tokenizer.peekable.PeekableTokens.{PeekableTokens}
+
+-- one lexeme is taken, if there is one
+abbrev pub Takes : Option Lexeme → List Lexeme → List Lexeme → Type 0
+Takes None old new = (old ≡ []) × (new ≡ [])
+Takes (Some l) old new = old ≡ l ∷ new
+
+-- the first of these lexemes is this one, or there is none
+abbrev pub IsFirst : Option Lexeme → List Lexeme → Type 0
+IsFirst None ls = ls ≡ []
+IsFirst (Some l) ls = (later : List Lexeme) × (ls ≡ l ∷ later)
+
+-- the first of these lexemes, if there is one, is no comma
+abbrev pub BeginsWithoutComma : List Lexeme → Type 0
+BeginsWithoutComma [] = Unit {0}
+BeginsWithoutComma (Comma ∷ later) = ⊥
+BeginsWithoutComma (Open ∷ later) = Unit {0}
+BeginsWithoutComma (Close ∷ later) = Unit {0}
+BeginsWithoutComma (Word run ∷ later) = Unit {0}
+BeginsWithoutComma (Num run ∷ later) = Unit {0}
+
+-- A reader goes on: the new stream is after whatever lexemes the old one was after, no byte is given back, and no lexeme comes back.
+pub record GoesOn {T : Type 0} (old new : PeekableTokens T) : Type 0 where
+  pub keeps : (start : List Placed) → IsAfter start old → IsAfter start new
+  pub grows : taken_of old ≤ taken_of new
+  pub fewer : length (rest new) ≤ length (rest old)

@@ -1,0 +1,3 @@
+pub mod Classes
+pub mod Scan
+pub mod Unread

@@ -1,0 +1,37 @@
+-- What the scanner knows at a place of a text. Only private contracts cite this file.
+use Rattle.std.specs.Prelude.{◌≡◌, ℕ, ◌+◌, ◌≤◌, ◌++◌, [], List, drop, slice_range}
+use Rattle.std.specs.Str.{IsCharBoundary}
+use Rattle.wkt_num.specs.Bytes.{Class, White}
+use Rattle.wkt_read.specs.Placed.{Placed, marks, front, placed_from}
+use Rattle.wkt_read.specs.Tokenizer.Classes.{meant}
+use Rattle.wkt_read.specs.declared.tokenizer.class.Class as code
+use Rattle.wkt_read.specs.declared.tokenizer.class.Class.TheVariants as class
+
+-- the lexemes at a place of a text, after a byte of this class
+abbrev pub coming_at : List ℕ → Class → ℕ → List Placed
+coming_at text ahead at = marks ahead at (placed_from at (drop at text))
+
+-- The bytes from `from` to `at` are in the run that begins at `from`.
+pub record IsRunSoFar (text : List ℕ) (from at : ℕ) : Type 0 where
+  pub order : from ≤ at
+  pub run : (front from (drop from text)).0 ≡ slice_range text from at ++ (front at (drop at text)).0
+  pub later : (front from (drop from text)).1 ≡ (front at (drop at text)).1
+
+-- The run that begins at `from` ends at `end`; the byte after it, of this class, was taken too.
+pub record EndsRun (text : List ℕ) (from end at : ℕ) (ahead : code.Class) : Type 0 where
+  pub order : from ≤ end
+  pub taken : end ≤ at
+  pub near : at ≤ end + 1
+  pub run : (front from (drop from text)).0 ≡ slice_range text from end
+  pub later : (front from (drop from text)).1 ≡ coming_at text (meant ahead) at
+  pub until : IsCharBoundary text end
+  pub boundary : IsCharBoundary text at
+
+-- Of the lexemes `left`, the first begins with a byte of this class, the last that was taken.
+abbrev pub Found : List Placed → List ℕ → code.Class → ℕ → Type 0
+Found left text class.Nul at = (left ≡ []) × IsCharBoundary text at
+Found left text class.White at = (left ≡ coming_at text White at) × IsCharBoundary text at
+Found left text class.Open at = (left ≡ coming_at text (meant class.Open) at) × IsCharBoundary text at
+Found left text class.Close at = (left ≡ coming_at text (meant class.Close) at) × IsCharBoundary text at
+Found left text class.Comma at = (left ≡ coming_at text (meant class.Comma) at) × IsCharBoundary text at
+Found left text class.Run at = (from : ℕ) × (from + 1 ≡ at) × (left ≡ placed_from from (drop from text)) × IsRunSoFar text from at × IsCharBoundary text from

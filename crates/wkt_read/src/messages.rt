@@ -1,0 +1,70 @@
+//! The thirteen messages, and the errors of the readers of parts.
+ghost use Rattle.std.specs.Prelude.{◌≡◌};
+ghost use Rattle.wkt_read.specs.Messages.{text_of};
+
+use std::alloc::{AllocError, AllocFailed};
+
+/// What was found amiss in a text.
+#[derive(Clone, Copy)]
+pub(crate) enum Message {
+    BadNumber,
+    Format,
+    NonAscii,
+    Kind,
+    Word,
+    End,
+    Open,
+    Close,
+    X,
+    Y,
+    Z,
+    M,
+    Member,
+}
+
+pub(crate) fn text(message: Message) -> &'static str
+    ensures { result.now ≡ text_of message }
+{
+    match message {
+        Message::BadNumber => "Unable to parse input number as the desired output type",
+        Message::Format => "Invalid WKT format",
+        Message::NonAscii => "Encountered non-ascii word",
+        Message::Kind => "Invalid type encountered",
+        Message::Word => "Unexpected word before open paren",
+        Message::End => "End of stream",
+        Message::Open => "Missing open parenthesis for type",
+        Message::Close => "Missing closing parenthesis for type",
+        Message::X => "Expected a number for the X coordinate",
+        Message::Y => "Expected a number for the Y coordinate",
+        Message::Z => "Expected a number for the Z coordinate",
+        Message::M => "Expected a number for the M coordinate",
+        Message::Member => "Expected a word in GEOMETRYCOLLECTION",
+    }
+}
+
+/// The error of a reader of a part: its message is no text yet.
+#[derive(Drop)]
+pub(crate) enum ParseError {
+    Text(Message),
+    Memory(AllocError),
+}
+
+impl From<Message> for ParseError {
+    ghost use Rattle.wkt_read.specs.declared.messages.ParseError.TheVariants.{Text};
+
+    ghost from_gives = { λ message e. e ≡ Text message };
+
+    fn from(message: Message) -> Self {
+        ParseError::Text(message)
+    }
+}
+
+impl<V: Drop> From<AllocFailed<V>> for ParseError {
+    ghost use Rattle.wkt_read.specs.Parser.Errors.{IsMemory};
+
+    ghost from_gives = { λ _ e. IsMemory e };
+
+    fn from(failed: AllocFailed<V>) -> Self {
+        ParseError::Memory(AllocError::from(failed))
+    }
+}

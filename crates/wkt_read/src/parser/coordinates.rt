@@ -1,0 +1,143 @@
+//! Readers of what geometries are made of.
+ghost use Rattle.std.specs.Prelude.{◌≡◌, ◌≢◌, ℕ, ◌≤◌, ◌<◌, length, option_map, OnOk, IfOk};
+ghost use Rattle.wkt_types.specs.Coords.{numbers_of};
+ghost use Rattle.wkt_types.specs.Values.{HasDim, HasDimIfAny};
+ghost use Rattle.wkt_read.specs.Placed.{lexemes_of};
+ghost use Rattle.wkt_read.specs.Ahead.{rest, taken_of};
+ghost use Rattle.wkt_read.specs.Parser.Walks.{GoesOn};
+ghost use Rattle.wkt_read.specs.Ahead.{IsNear, IsAfter};
+ghost use Rattle.wkt_read.specs.Parser.Reading.{Reads, number_at, coord_at, opening_at, closing_at, closed, framed, point_at};
+ghost use Rattle.wkt_read.specs.Parser.Reads.{Closes, Blames, BlamesAs};
+ghost use Rattle.wkt_read.specs.Parser.Errors.{OnBadIn};
+ghost use Rattle.wkt_read.specs.Bad.{HasBad};
+ghost use Rattle.wkt_read.specs.declared.messages.Message.TheVariants.{BadNumber};
+
+use crate::messages::{ParseError, Message};
+use crate::tokenizer::peekable::PeekableTokens;
+use crate::tokenizer::token::Lexeme;
+use crate::keywords::is_empty;
+use wkt_access::Dimension;
+use wkt_num::WktNum;
+use wkt_types::Coord;
+
+#[inline(never)]
+#[tactic(auto, unfolding(crate::specs::Parser::Reading::number_at))]
+fn number<T: WktNum>(tokens: &mut PeekableTokens<'_, T>, expected: Message) -> Result<T, Message>
+    requires plain { expected ≢ BadNumber }
+    ensures exact { Reads (λ x. x) result (number_at T.read (rest tokens.old)) (rest tokens.new) }
+    ensures bad { Blames T.read tokens.old result }
+    ensures goes_on { GoesOn tokens.old tokens.new }
+    ensures taken { OnOk result (length (rest tokens.new) < length (rest tokens.old)) }
+{
+    match tokens.take() {
+        Lexeme::Number(digits) => match T::read_number(digits) {
+            Some(number) => Ok(number),
+            None => Err(Message::BadNumber),
+        },
+        _ => Err(expected),
+    }
+}
+
+#[tactic(auto, unfolding(crate::specs::Parser::Reading::coord_at))]
+pub(crate) fn coord<T: WktNum>(
+    tokens: &mut PeekableTokens<'_, T>,
+    dim: Dimension,
+) -> Result<Coord<T>, Message>
+    ensures exact { Reads numbers_of result (coord_at T.read dim (rest tokens.old)) (rest tokens.new) }
+    ensures uniform { IfOk result (HasDim dim) }
+    ensures bad { Blames T.read tokens.old result }
+    ensures goes_on { GoesOn tokens.old tokens.new }
+    ensures taken { OnOk result (length (rest tokens.new) < length (rest tokens.old)) }
+{
+    let x = number(tokens, Message::X)?;
+    let y = number(tokens, Message::Y)?;
+    let z = match dim {
+        Dimension::XY | Dimension::XYM => None,
+        Dimension::XYZ | Dimension::XYZM => Some(number(tokens, Message::Z)?),
+    };
+    let m = match dim {
+        Dimension::XY | Dimension::XYZ => None,
+        Dimension::XYM | Dimension::XYZM => Some(number(tokens, Message::M)?),
+    };
+    Ok(Coord { x, y, z, m })
+}
+
+/// Whether the opening place is a parenthesis, and not EMPTY.
+#[inline(always)]
+#[tactic(auto, unfolding(crate::specs::Parser::Reading::opening_at))]
+pub(crate) fn opening<T: WktNum>(tokens: &mut PeekableTokens<'_, T>) -> Result<bool, Message>
+    ensures exact { Reads (λ x. x) result (opening_at (rest tokens.old)) (rest tokens.new) }
+    ensures near { OnOk result (IsNear tokens.new) }
+    ensures bad { Blames T.read tokens.old result }
+    ensures goes_on { GoesOn tokens.old tokens.new }
+    ensures taken { OnOk result (length (rest tokens.new) < length (rest tokens.old)) }
+{
+    match tokens.take() {
+        Lexeme::Open => Ok(true),
+        Lexeme::Word(word) if is_empty(word) => Ok(false),
+        Lexeme::Number(digits) if T::read_number(digits).is_none() => Err(Message::BadNumber),
+        _ => Err(Message::Open),
+    }
+}
+
+#[inline(always)]
+#[tactic(auto, unfolding(crate::specs::Parser::Reading::closing_at))]
+fn closing<T: WktNum>(tokens: &mut PeekableTokens<'_, T>) -> Result<(), Message>
+    ensures exact { Reads (λ _. tt) result (closing_at (rest tokens.old)) (rest tokens.new) }
+    ensures near { OnOk result (IsNear tokens.new) }
+    ensures bad { Blames T.read tokens.old result }
+    ensures goes_on { GoesOn tokens.old tokens.new }
+    ensures taken { OnOk result (length (rest tokens.new) < length (rest tokens.old)) }
+{
+    match tokens.take() {
+        Lexeme::Close => Ok(()),
+        Lexeme::Number(digits) if T::read_number(digits).is_none() => Err(Message::BadNumber),
+        _ => Err(Message::Close),
+    }
+}
+
+/// What stands after the header of a point.
+#[inline(always)]
+#[tactic(auto, unfolding(crate::specs::Parser::Reading::framed, crate::specs::Parser::Reading::closed))]
+pub(crate) fn point<T: WktNum>(
+    tokens: &mut PeekableTokens<'_, T>,
+    dim: Dimension,
+) -> Result<Option<Coord<T>>, Message>
+    ensures exact { Reads (option_map numbers_of) result (point_at T.read dim (rest tokens.old)) (rest tokens.new) }
+    ensures uniform { IfOk result (HasDimIfAny dim) }
+    ensures near { OnOk result (IsNear tokens.new) }
+    ensures bad { Blames T.read tokens.old result }
+    ensures goes_on { GoesOn tokens.old tokens.new }
+    ensures taken { OnOk result (length (rest tokens.new) < length (rest tokens.old)) }
+{
+    if !opening(tokens)? {
+        return Ok(None);
+    }
+    let body = coord(tokens, dim);
+    closing(tokens)?;
+    Ok(Some(body?))
+}
+
+/// The closing place, after a body that was read or not. Its error goes before the body's.
+#[tactic(auto, unfolding(crate::specs::Parser::Reading::closing_at))]
+pub(crate) fn close<T: WktNum, X: Drop>(
+    tokens: &mut PeekableTokens<'_, T>,
+    body: Result<X, ParseError>,
+) -> Result<X, ParseError>
+    ensures exact { Closes body result (rest tokens.old) (rest tokens.new) }
+    ensures near { OnOk result (IsNear tokens.new) }
+    ensures bad { BlamesAs T.read tokens.old body result }
+    ensures goes_on { GoesOn tokens.old tokens.new }
+{
+    match body {
+        Err(ParseError::Memory(error)) => Err(ParseError::Memory(error)),
+        Err(ParseError::Text(message)) => match closing(tokens) {
+            Ok(()) => Err(ParseError::Text(message)),
+            Err(missing) => Err(ParseError::Text(missing)),
+        },
+        Ok(value) => match closing(tokens) {
+            Ok(()) => Ok(value),
+            Err(missing) => Err(ParseError::Text(missing)),
+        },
+    }
+}

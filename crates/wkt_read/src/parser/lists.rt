@@ -1,0 +1,212 @@
+//! Lists, with a comma between neighbours, of whatever stands between the commas.
+ghost use Rattle.std.specs.Prelude.{◌≡◌, OnOk, IfOk};
+ghost use Rattle.std.specs.List.{AllByRecursion};
+ghost use Rattle.wkt_types.specs.Values.{IsPointIn, point_numbers};
+ghost use Rattle.wkt_read.specs.Ahead.{rest, IsNear};
+ghost use Rattle.wkt_read.specs.Parser.Walks.{GoesOn};
+ghost use Rattle.wkt_read.specs.Parser.Reading.{Reads, member_at, many_at, list_at, IsOpened};
+ghost use Rattle.wkt_read.specs.Parser.Reads.{ReadsAll, ReadsList, Blames, BlamesIn};
+ghost use Rattle.wkt_read.specs.Parser.Errors.{OnMemory};
+
+use crate::keywords::is_empty;
+use crate::messages::{Message, ParseError};
+use crate::parser::coordinates::{close, coord, opening, point};
+use crate::tokenizer::peekable::PeekableTokens;
+use crate::tokenizer::token::Lexeme;
+use std::alloc::Global;
+use wkt_access::Dimension;
+use wkt_num::WktNum;
+use wkt_types::{Coord, LineString, Point, Polygon};
+
+/// What stands between the commas of a list.
+pub(crate) trait Item<T: WktNum>: Drop {
+    ghost use Rattle.std.specs.Prelude.{ℕ};
+    ghost use Rattle.wkt_access.specs.declared.dimensions.Dimension.{Dimension};
+    ghost use Rattle.wkt_read.specs.Parser.Reading.{Reader};
+
+    /// What an item shows of what was read.
+    ghost View: { Type 0 };
+
+    ghost view: { Self → View };
+
+    /// The reading of an item.
+    ghost item_at: { Dimension → ℕ → Reader View };
+
+    /// All parts of an item carry the dimension.
+    ghost IsIn: { Dimension → Self → Type 0 };
+
+    /// The item that stands here.
+    fn read(
+        alloc: Global,
+        tokens: &mut PeekableTokens<'_, T>,
+        dim: Dimension,
+    ) -> Result<Self, ParseError>
+        ensures exact { ReadsAll view (item_at dim) tokens.old result tokens.new }
+        ensures uniform { IfOk result (IsIn dim) }
+        ensures bad { BlamesIn T.read tokens.old result }
+        ensures goes_on { GoesOn tokens.old tokens.new };
+}
+
+// One item or more.
+fn many<T: WktNum, X: Item<T>>(
+    alloc: Global,
+    tokens: &mut PeekableTokens<'_, T>,
+    dim: Dimension,
+) -> Result<Vec<X>, ParseError>
+    ensures exact { ReadsList X.view (λ n. many_at (X.item_at dim n) n) tokens.old result tokens.new }
+    ensures uniform { IfOk result (λ v. AllByRecursion (X.IsIn dim) v.items) }
+    ensures bad { BlamesIn T.read tokens.old result }
+    ensures goes_on { GoesOn tokens.old tokens.new }
+{
+    let mut items = Vec::new(alloc);
+    let first = X::read(alloc, tokens, dim)?;
+    items.push(first)?;
+    'more: while tokens.take_comma() {
+        let next = X::read(alloc, tokens, dim)?;
+        items.push(next)?;
+    }
+    Ok(items)
+}
+
+/// What stands after a header whose kind has a list of these items: EMPTY, or items in parentheses.
+#[inline(never)]
+pub(crate) fn list<T: WktNum, X: Item<T>>(
+    alloc: Global,
+    tokens: &mut PeekableTokens<'_, T>,
+    dim: Dimension,
+) -> Result<Vec<X>, ParseError>
+    ensures exact { ReadsList X.view (λ n. list_at (X.item_at dim n) n) tokens.old result tokens.new }
+    ensures uniform { IfOk result (λ v. AllByRecursion (X.IsIn dim) v.items) }
+    ensures memory { OnMemory result (IsOpened (rest tokens.old)) }
+    ensures near { OnOk result (IsNear tokens.new) }
+    ensures bad { BlamesIn T.read tokens.old result }
+    ensures goes_on { GoesOn tokens.old tokens.new }
+{
+    let paren = opening(tokens)?;
+    if !paren {
+        return Ok(Vec::new(alloc));
+    }
+    let body = many(alloc, tokens, dim);
+    close(tokens, body)
+}
+
+/// A coordinate of a line string.
+impl<T: WktNum> Item<T> for Coord<T> {
+    ghost use Rattle.std.specs.Prelude.{List};
+    ghost use Rattle.wkt_types.specs.Coords.{numbers_of};
+    ghost use Rattle.wkt_types.specs.Values.{HasDim};
+    ghost use Rattle.wkt_read.specs.Parser.Reading.{coord_at};
+
+    ghost View = { List T };
+
+    ghost view = { numbers_of };
+
+    ghost item_at = { λ d n. coord_at T.read d };
+
+    ghost IsIn = { HasDim };
+
+    #[inline(always)]
+    fn read(
+        _alloc: Global,
+        tokens: &mut PeekableTokens<'_, T>,
+        dim: Dimension,
+    ) -> Result<Self, ParseError> {
+        Ok(coord(tokens, dim)?)
+    }
+}
+
+/// A line string of a multi line string, or a ring of a polygon.
+impl<T: WktNum> Item<T> for LineString<T> {
+    ghost use Rattle.std.specs.Prelude.{List};
+    ghost use Rattle.wkt_types.specs.Values.{IsLineIn, line_numbers};
+    ghost use Rattle.wkt_read.specs.Parser.Reading.{line_string_at};
+
+    ghost View = { List (List T) };
+
+    ghost view = { line_numbers };
+
+    ghost item_at = { line_string_at T.read };
+
+    ghost IsIn = { IsLineIn };
+
+    fn read(
+        alloc: Global,
+        tokens: &mut PeekableTokens<'_, T>,
+        dim: Dimension,
+    ) -> Result<Self, ParseError> {
+        let coords = list(alloc, tokens, dim)?;
+        Ok(LineString::new(coords, dim))
+    }
+}
+
+/// A polygon of a multi polygon.
+impl<T: WktNum> Item<T> for Polygon<T> {
+    ghost use Rattle.std.specs.Prelude.{List};
+    ghost use Rattle.wkt_types.specs.Values.{IsPolygonIn, polygon_numbers};
+    ghost use Rattle.wkt_read.specs.Parser.Reading.{line_strings_at};
+
+    ghost View = { List (List (List T)) };
+
+    ghost view = { polygon_numbers };
+
+    ghost item_at = { line_strings_at T.read };
+
+    ghost IsIn = { IsPolygonIn };
+
+    fn read(
+        alloc: Global,
+        tokens: &mut PeekableTokens<'_, T>,
+        dim: Dimension,
+    ) -> Result<Self, ParseError> {
+        let rings = list(alloc, tokens, dim)?;
+        Ok(Polygon::new(rings, dim))
+    }
+}
+
+// A member of a multi point: a coordinate, in parentheses or not, or EMPTY.
+#[tactic(auto, unfolding(crate::specs::Parser::Reading::member_at, crate::specs::Parser::Reading::framed, crate::specs::Parser::Reading::opening_at))]
+fn member<T: WktNum>(
+    tokens: &mut PeekableTokens<'_, T>,
+    dim: Dimension,
+) -> Result<Point<T>, Message>
+    ensures exact { Reads point_numbers result (member_at T.read dim (rest tokens.old)) (rest tokens.new) }
+    ensures uniform { IfOk result (IsPointIn dim) }
+    ensures bad { Blames T.read tokens.old result }
+    ensures goes_on { GoesOn tokens.old tokens.new }
+{
+    let framed = match tokens.look() {
+        Lexeme::Open => true,
+        Lexeme::Word(word) => is_empty(word),
+        _ => false,
+    };
+    let coord = if framed {
+        point(tokens, dim)?
+    } else {
+        Some(coord(tokens, dim)?)
+    };
+    Ok(Point::new(coord, dim))
+}
+
+/// A member of a multi point.
+impl<T: WktNum> Item<T> for Point<T> {
+    ghost use Rattle.std.specs.Prelude.{List, Option};
+    ghost use Rattle.wkt_types.specs.Values.{IsPointIn, point_numbers};
+    ghost use Rattle.wkt_read.specs.Parser.Reading.{member_at};
+
+    ghost View = { Option (List T) };
+
+    ghost view = { point_numbers };
+
+    ghost item_at = { λ d n. member_at T.read d };
+
+    ghost IsIn = { IsPointIn };
+
+    #[inline(always)]
+    fn read(
+        _alloc: Global,
+        tokens: &mut PeekableTokens<'_, T>,
+        dim: Dimension,
+    ) -> Result<Self, ParseError> {
+        Ok(member(tokens, dim)?)
+    }
+}

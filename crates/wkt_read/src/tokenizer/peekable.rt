@@ -1,0 +1,168 @@
+//! The lexemes of a text, of which one may be looked at ahead.
+ghost use Rattle.std.specs.Prelude.{◌≡◌, ◌+◌, ◌≤◌, ℕ, ◌∷◌, Some, None, OnSome};
+ghost use Rattle.std.specs.Bool.{MatchBool, OnFalse};
+ghost use Rattle.wkt_num.specs.Bytes.{Lexeme, Comma};
+ghost use Rattle.wkt_read.specs.Tokenizer.Unread.{found};
+
+use crate::tokenizer::token::{Lexeme, Token, item_of};
+use crate::tokenizer::tokens::Tokens;
+use std::marker::Model;
+use wkt_num::WktNum;
+
+/// The item that `peek` returns a reference to. A contract sees it as the item alone.
+#[derive(Drop)]
+pub(crate) struct Peeked<'a, T> {
+    pub(crate) item: Option<Result<Token<'a, T>, &'static str>>,
+}
+
+impl<'a, T> Model for Peeked<'a, T> {
+    ghost use Rattle.std.specs.Prelude.{ℕ, List, Option, Result};
+    ghost use Rattle.std.specs.Borrow.{Bor};
+    ghost use Rattle.wkt_read.specs.declared.tokenizer.token.Token.{Token};
+
+    ghost Value = { Option (Result (Token T) (Bor (List ℕ))) };
+
+    ghost view = { λ p. p.item };
+}
+
+/// The lexemes of a text, one after the other, of which one may be looked at ahead.
+#[derive(Drop)]
+pub struct PeekableTokens<'a, T> {
+    tokens: Tokens<'a, T>,
+    ahead: Option<Lexeme<'a>>,
+    end: usize,
+    // What `peek` returns a reference to: it alone reads the number ahead of its time.
+    pub(crate) peeked: Peeked<'a, T>,
+    ghost near: { (raw : _) (l : Lexeme) → ahead ≡ Some raw → found raw ≡ Some l → (tokens.end ≤ tokens.bytes.taken) × (tokens.bytes.taken ≤ tokens.end + 1) },
+    ghost level: { ahead ≡ None → end ≡ tokens.end },
+}
+
+#[tactic(auto, unfolding(crate::specs::Ahead::left, crate::specs::Ahead::taken_of, crate::specs::Ahead::end_of, crate::specs::Ahead::rest, crate::specs::Stream::bytes_taken, crate::specs::Stream::end_of_last))]
+impl<'a, T: WktNum> PeekableTokens<'a, T> {
+    ghost use Rattle.wkt_read.specs.Stream.{coming, bytes_taken, end_of_last};
+    ghost use Rattle.wkt_read.specs.Items.{IsItem};
+    ghost use Rattle.wkt_read.specs.Ahead.{left, taken_of, end_of, rest, first_of, Moves};
+    ghost use Rattle.wkt_read.specs.Parser.Blames.{BlamesLexeme};
+    ghost use Rattle.wkt_read.specs.Parser.Walks.{Takes, IsFirst, BeginsWithoutComma, GoesOn};
+    ghost use Rattle.wkt_read.specs.Ahead.{IsNear};
+
+    /// The lexemes that the stream has still to give; none is looked at yet.
+    pub fn new(tokens: Tokens<'a, T>) -> Self
+        ensures left { left result ≡ coming tokens.entry }
+        ensures taken { taken_of result ≡ bytes_taken tokens.entry }
+        ensures end { end_of result ≡ end_of_last tokens.entry }
+    {
+        let end = tokens.end();
+        PeekableTokens {
+            tokens,
+            ahead: None,
+            end,
+            peeked: Peeked { item: None },
+        }
+    }
+
+    /// How many bytes of the text were taken, for what was looked at too.
+    pub fn taken(&self) -> usize
+        ensures { result ≡ taken_of self.now }
+    {
+        self.tokens.taken()
+    }
+
+    /// Where the last lexeme that `next` gave ends, in bytes; before the first, where that of the stream below ended.
+    pub fn end(&self) -> usize
+        ensures { result ≡ end_of self.now }
+    {
+        self.end
+    }
+
+    // The next lexeme, which stays.
+    #[inline(always)]
+    pub(crate) fn look(&mut self) -> Lexeme<'a>
+        ensures left { left self.new ≡ left self.old }
+        ensures end { end_of self.new ≡ end_of self.old }
+        ensures goes_on { GoesOn self.old self.new }
+        ensures same { rest self.new ≡ rest self.old }
+        ensures first { first_of (left self.old) ≡ found result }
+        ensures sees { IsFirst (found result) (rest self.old) }
+    {
+        match self.ahead {
+            Some(raw) => raw,
+            None => {
+                let raw = self.tokens.next_lexeme();
+                self.ahead = Some(raw);
+                raw
+            }
+        }
+    }
+
+    // The next lexeme, which is taken.
+    #[inline(always)]
+    pub(crate) fn take(&mut self) -> Lexeme<'a>
+        ensures goes_on { GoesOn self.old self.new }
+        ensures near { OnSome (found result) (IsNear self.new) }
+        ensures takes { Takes (found result) (rest self.old) (rest self.new) }
+        ensures bad { BlamesLexeme T.read self.old result }
+    {
+        self.step()
+    }
+
+    #[inline(always)]
+    fn step(&mut self) -> Lexeme<'a>
+        ensures { Moves self.old (found result) self.new }
+    {
+        match self.ahead {
+            Some(Lexeme::End) => Lexeme::End,
+            Some(raw) => {
+                self.ahead = None;
+                self.end = self.tokens.end();
+                raw
+            }
+            None => {
+                let raw = self.tokens.next_lexeme();
+                self.end = self.tokens.end();
+                raw
+            }
+        }
+    }
+
+    // Takes the next lexeme if it is a comma.
+    pub(crate) fn take_comma(&mut self) -> bool
+        ensures goes_on { GoesOn self.old self.new }
+        ensures takes { MatchBool result (rest self.old ≡ Comma ∷ rest self.new) (rest self.new ≡ rest self.old) }
+        ensures none { OnFalse result (BeginsWithoutComma (rest self.old)) }
+    {
+        match self.look() {
+            Lexeme::Comma => {
+                let _ = self.take();
+                true
+            }
+            _ => false,
+        }
+    }
+
+    // Reads what `peek` returns a reference to.
+    pub(crate) fn fill(&mut self)
+        ensures left { left self.new ≡ left self.old }
+        ensures end { end_of self.new ≡ end_of self.old }
+        ensures grows { taken_of self.old ≤ taken_of self.new }
+        ensures first { IsItem T.read (first_of (left self.old)) self.new.peeked }
+    {
+        let item = item_of(self.look());
+        self.peeked = Peeked { item };
+    }
+}
+
+#[tactic(auto, unfolding(crate::specs::Ahead::left, crate::specs::Ahead::taken_of, crate::specs::Ahead::end_of))]
+impl<'a, T: WktNum> Iterator for PeekableTokens<'a, T> {
+    ghost use Rattle.wkt_read.specs.Ahead.{Gives, count};
+
+    type Item = Result<Token<'a, T>, &'static str>;
+
+    ghost next_gives = { Gives T.read };
+
+    ghost remaining = { count };
+
+    fn next(&mut self) -> Option<Result<Token<'a, T>, &'static str>> {
+        item_of(self.step())
+    }
+}

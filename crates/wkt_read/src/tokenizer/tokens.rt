@@ -1,0 +1,106 @@
+//! The lexemes of a text.
+ghost use Rattle.std.specs.Prelude.{◌≡◌, ◌≢◌, ◌≤◌, ℕ, length};
+ghost use Rattle.std.specs.Str.{IsCharBoundary};
+ghost use Rattle.wkt_read.specs.declared.tokenizer.class.Class.TheVariants.{Run};
+
+use crate::tokenizer::class::Class;
+use crate::tokenizer::cursor::Cursor;
+use crate::tokenizer::scan::{end_of_run, first_class};
+use crate::tokenizer::token::{Lexeme, Token, item_of, lexeme_of};
+use std::marker::PhantomData;
+use wkt_num::WktNum;
+
+/// The lexemes of a text, one after the other.
+///
+/// White space is space, LF, CR and TAB, the marks are `(`, `)` and `,`, and a run is a longest stretch of other
+/// characters. The text ends at its first NUL.
+#[derive(Drop)]
+pub struct Tokens<'a, T> {
+    bytes: Cursor<'a>,
+    // The byte that was taken after a run, if it is a mark or NUL.
+    ahead: Class,
+    end: usize,
+    of: PhantomData<T>,
+    ghost boundary: { IsCharBoundary bytes.text.now bytes.taken },
+    ghost no_run: { ahead ≢ Run },
+}
+
+impl<'a, T: WktNum> Tokens<'a, T> {
+    ghost use Rattle.wkt_read.specs.Lexemes.{IsSplit};
+    ghost use Rattle.wkt_read.specs.Placed.{placed, lexemes_of, AreEnds};
+    ghost use Rattle.wkt_read.specs.Stream.{coming, bytes_taken, end_of_last, Steps};
+    ghost use Rattle.wkt_read.specs.Tokenizer.Unread.{found};
+
+    /// The lexemes of the text; none of it is taken yet.
+    pub fn from_str(text: &'a str) -> Self
+        ensures placed { coming result ≡ placed text.now }
+        ensures split { IsSplit text.now (lexemes_of (coming result)) }
+        ensures ends { AreEnds text.now (coming result) }
+        ensures few { length (coming result) ≤ length text.now }
+        ensures untaken { bytes_taken result ≡ 0 }
+        ensures start { end_of_last result ≡ 0 }
+    {
+        Tokens {
+            bytes: Cursor::new(text),
+            ahead: Class::White,
+            end: 0,
+            of: PhantomData,
+        }
+    }
+
+    /// How many bytes of the text were taken.
+    #[tactic(auto, unfolding(crate::specs::Stream::bytes_taken))]
+    pub fn taken(&self) -> usize
+        ensures { result ≡ bytes_taken self.now }
+    {
+        self.bytes.taken()
+    }
+
+    /// Where the last lexeme that `next` gave ends, in bytes; 0 before the first.
+    #[tactic(auto, unfolding(crate::specs::Stream::end_of_last))]
+    pub fn end(&self) -> usize
+        ensures { result ≡ end_of_last self.now }
+    {
+        self.end
+    }
+
+    // The next lexeme, its number not read.
+    #[inline(always)]
+    pub(crate) fn next_lexeme(&mut self) -> Lexeme<'a>
+        ensures { Steps self.old (found result) self.new }
+    {
+        let mark = match first_class(&mut self.bytes, self.ahead) {
+            Class::Open => Lexeme::Open,
+            Class::Close => Lexeme::Close,
+            Class::Comma => Lexeme::Comma,
+            Class::Run => {
+                let from = self.bytes.taken() - 1;
+                let (end, ahead) = end_of_run(&mut self.bytes, from);
+                self.end = end;
+                self.ahead = ahead;
+                return lexeme_of(self.bytes.part(from, end));
+            }
+            Class::Nul | Class::White => {
+                self.ahead = Class::Nul;
+                return Lexeme::End;
+            }
+        };
+        self.ahead = Class::White;
+        self.end = self.bytes.taken();
+        mark
+    }
+}
+
+impl<'a, T: WktNum> Iterator for Tokens<'a, T> {
+    ghost use Rattle.wkt_read.specs.Stream.{Gives, count};
+
+    type Item = Result<Token<'a, T>, &'static str>;
+
+    ghost next_gives = { Gives T.read };
+
+    ghost remaining = { count };
+
+    fn next(&mut self) -> Option<Result<Token<'a, T>, &'static str>> {
+        item_of(self.next_lexeme())
+    }
+}
