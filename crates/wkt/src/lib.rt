@@ -30,7 +30,7 @@ pub mod types {
 /// Writing, and where text and bytes go.
 pub mod to_wkt {
     pub use wkt_access::{
-        write_geometry, write_geometry_collection, write_line, write_linestring,
+        push_geometry, write_geometry, write_geometry_collection, write_line, write_linestring,
         write_multi_linestring, write_multi_point, write_multi_polygon, write_point, write_polygon,
         write_rect, write_triangle,
     };

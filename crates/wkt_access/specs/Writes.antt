@@ -36,3 +36,12 @@ Fails sink num s shape t (Memory e) = Refused s shape t (Memory e)
 abbrev pub Writes : {S T N : Type 0} → Sink S → (N → Type 0) → (N → List ℕ) → S → Shape N → S → Result T Error → Type 0
 Writes sink is_value num s shape t (Ok x) = Written sink is_value num s shape t
 Writes sink is_value num s shape t (Err e) = Fails sink num s shape t e
+
+-- The fact is claimed of an error that is a fault of the shape, and not of the sink.
+abbrev pub IfFault : {T : Type 0} → Result T Error → (Error → Type 0) → Type 0
+IfFault (Ok x) P = Unit {0}
+IfFault (Err (FmtError e)) P = Unit {0}
+IfFault (Err RectUnsupportedDimension) P = P RectUnsupportedDimension
+IfFault (Err UnknownDimension) P = P UnknownDimension
+IfFault (Err TooFewNumbers) P = P TooFewNumbers
+IfFault (Err (Memory e)) P = P (Memory e)

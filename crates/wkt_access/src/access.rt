@@ -306,6 +306,7 @@ pub trait TriangleTrait {
 /// The kind of a geometry, and the geometry as one of that kind.
 ///
 /// A collection lends no part here: its members come from [`GeometryTrait::geometry`].
+#[derive(Clone, Copy)]
 pub enum GeometryType<'a, P, L, Y, MP, ML, MY, R, T, N> {
     /// A point.
     Point(&'a P),

@@ -32,6 +32,7 @@ pub(crate) fn put_point<W: TextSink, P: PointTrait>(f: &mut W, p: &P) -> fmt::Re
     put_inner_point(f, p, size_in(d))
 }
 
+#[inline(never)]
 pub(crate) fn put_linestring<W: TextSink, L: LineStringTrait>(f: &mut W, l: &L) -> fmt::Result
     requires { fault (Shape.line_string (L.dimension l.now) (L.coordinates l.now)) ≡ None }
     ensures { Puts W.sink f.old (shape_text L.T.num (Shape.line_string (L.dimension l.now) (L.coordinates l.now))) f.new result }
@@ -41,6 +42,7 @@ pub(crate) fn put_linestring<W: TextSink, L: LineStringTrait>(f: &mut W, l: &L) 
     put_line(f, l, size_in(d))
 }
 
+#[inline(never)]
 pub(crate) fn put_polygon<W: TextSink, Y: PolygonTrait>(f: &mut W, y: &Y) -> fmt::Result
     requires { fault (Shape.polygon (Y.dimension y.now) (Y.polygon y.now)) ≡ None }
     ensures { Puts W.sink f.old (shape_text Y.T.num (Shape.polygon (Y.dimension y.now) (Y.polygon y.now))) f.new result }
@@ -50,6 +52,7 @@ pub(crate) fn put_polygon<W: TextSink, Y: PolygonTrait>(f: &mut W, y: &Y) -> fmt
     put_rings(f, y, size_in(d))
 }
 
+#[inline(never)]
 pub(crate) fn put_multi_point<W: TextSink, M: MultiPointTrait>(f: &mut W, m: &M) -> fmt::Result
     requires { fault (Shape.multi_point (M.dimension m.now) (M.points m.now)) ≡ None }
     ensures { Puts W.sink f.old (shape_text M.T.num (Shape.multi_point (M.dimension m.now) (M.points m.now))) f.new result }
@@ -59,6 +62,7 @@ pub(crate) fn put_multi_point<W: TextSink, M: MultiPointTrait>(f: &mut W, m: &M)
     put_points_in(f, m, size_in(d))
 }
 
+#[inline(never)]
 pub(crate) fn put_multi_linestring<W: TextSink, M: MultiLineStringTrait>(
     f: &mut W,
     m: &M,
@@ -71,6 +75,7 @@ pub(crate) fn put_multi_linestring<W: TextSink, M: MultiLineStringTrait>(
     put_lines_in(f, m, size_in(d))
 }
 
+#[inline(never)]
 pub(crate) fn put_multi_polygon<W: TextSink, M: MultiPolygonTrait>(f: &mut W, m: &M) -> fmt::Result
     requires { fault (Shape.multi_polygon (M.dimension m.now) (M.polygons m.now)) ≡ None }
     ensures { Puts W.sink f.old (shape_text M.T.num (Shape.multi_polygon (M.dimension m.now) (M.polygons m.now))) f.new result }
@@ -80,6 +85,7 @@ pub(crate) fn put_multi_polygon<W: TextSink, M: MultiPolygonTrait>(f: &mut W, m:
     put_polygons_in(f, m, size_in(d))
 }
 
+#[inline(never)]
 pub(crate) fn put_rect<W: TextSink, R: RectTrait>(f: &mut W, r: &R) -> fmt::Result
     ensures { Puts W.sink f.old (shape_text R.T.num (Shape.rect (R.dimension r.now) (R.least r.now) (R.most r.now))) f.new result }
 {
@@ -90,6 +96,7 @@ pub(crate) fn put_rect<W: TextSink, R: RectTrait>(f: &mut W, r: &R) -> fmt::Resu
     f.write_str("))")
 }
 
+#[inline(never)]
 pub(crate) fn put_triangle<W: TextSink, Y: TriangleTrait>(f: &mut W, y: &Y) -> fmt::Result
     requires { fault (Shape.triangle (Y.dimension y.now) (Y.a y.now) (Y.b y.now) (Y.c y.now)) ≡ None }
     ensures { Puts W.sink f.old (shape_text Y.T.num (Shape.triangle (Y.dimension y.now) (Y.a y.now) (Y.b y.now) (Y.c y.now))) f.new result }
@@ -99,6 +106,7 @@ pub(crate) fn put_triangle<W: TextSink, Y: TriangleTrait>(f: &mut W, y: &Y) -> f
     put_triangle_items(f, y, size_in(d))
 }
 
+#[inline(never)]
 pub(crate) fn put_line_of_two<W: TextSink, L: LineTrait>(f: &mut W, l: &L) -> fmt::Result
     requires { fault (Shape.line (L.dimension l.now) (L.from l.now) (L.to l.now)) ≡ None }
     ensures { Puts W.sink f.old (shape_text L.T.num (Shape.line (L.dimension l.now) (L.from l.now) (L.to l.now))) f.new result }

@@ -9,8 +9,8 @@ use crate::access::{
 use crate::dimensions::Dimensions;
 use crate::error::Error;
 use crate::write::{
-    write_geometry, write_line, write_linestring, write_multi_linestring, write_multi_point,
-    write_multi_polygon, write_point, write_polygon, write_rect, write_triangle,
+    push_geometry, write_geometry, write_line, write_linestring, write_multi_linestring,
+    write_multi_point, write_multi_polygon, write_point, write_polygon, write_rect, write_triangle,
 };
 use std::alloc::{AllocError, Global};
 use std::fmt;
@@ -605,6 +605,23 @@ fn refuses(rt: HostRuntime) -> Result<(), Fail> {
     );
     assert!(rt; f.bytes.is_empty());
     assert_eq!(rt; f.failures, 0);
+    Ok(())
+}
+
+#[test]
+fn pushes_onto_a_string(rt: HostRuntime) -> Result<(), Fail> {
+    let alloc = rt.alloc();
+    let mut out = String::from_str(alloc, "at: ")?;
+    push_geometry(
+        &mut out,
+        &Figure::Point(dot_of(alloc, Dimensions::Xy, &[])?),
+    )?;
+    assert_eq!(rt; out.as_str(), "at: POINT(1 2)");
+    let short = Figure::Point(dot_of(alloc, Dimensions::Xyzm, &[3])?);
+    assert!(rt; matches!(push_geometry(&mut out, &short), Err(Error::TooFewNumbers)));
+    assert_eq!(rt; out.as_str(), "at: POINT(1 2)");
+    push_geometry(&mut out, &group(alloc)?)?;
+    assert_eq!(rt; out.as_str().strip_prefix("at: POINT(1 2)"), Some(GROUP));
     Ok(())
 }
 

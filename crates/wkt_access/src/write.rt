@@ -1,8 +1,11 @@
 //! The eleven writers. Each checks the whole shape first, so that nothing is written of one that is refused.
 #![tactic(auto)]
 
+ghost use Rattle.std.specs.Prelude.{◌≡◌, ◌++◌, OnOk, Some, string_bytes};
+ghost use Rattle.wkt_access.specs.Faults.{fault};
 ghost use Rattle.wkt_access.specs.Shapes.{Shape};
-ghost use Rattle.wkt_access.specs.Writes.{Writes};
+ghost use Rattle.wkt_access.specs.Texts.{shape_text};
+ghost use Rattle.wkt_access.specs.Writes.{Writes, IfFault};
 
 use crate::access::{
     GeometryCollectionTrait, GeometryTrait, LineStringTrait, LineTrait, MultiLineStringTrait,
@@ -17,7 +20,7 @@ use crate::put_kinds::{
     put_collection, put_geometry, put_line_of_two, put_linestring, put_multi_linestring,
     put_multi_point, put_multi_polygon, put_point, put_polygon, put_rect, put_triangle,
 };
-use wkt_num::{TextSink, WktNum};
+use wkt_num::{CountedText, TextSink, WktNum};
 
 /// Writes a point, as `POINT Z(1 2 3)` or `POINT EMPTY`.
 ///
@@ -117,6 +120,27 @@ pub fn write_geometry<W: TextSink, G: GeometryTrait>(f: &mut W, g: &G) -> Result
     check_geometry(g)?;
     put_geometry(f, g)?;
     Ok(())
+}
+
+/// Adds the text of a geometry of any kind to a string.
+///
+/// ```text
+/// let mut out = String::new(alloc);
+/// push_geometry(&mut out, &geometry)?;
+/// ```
+///
+/// # Errors
+/// As [`write_geometry`]: the geometry's first error in the order of its text, and then the string is as it was;
+/// [`Error::FmtError`] where the string has no memory to grow into.
+pub fn push_geometry<G: GeometryTrait>(out: &mut String, g: &G) -> Result<(), Error>
+    ensures added { OnOk result (string_bytes out.new ≡ string_bytes out.old ++ shape_text G.T.num (G.shape g.now)) }
+    ensures fault { IfFault result (λ e. fault (G.shape g.now) ≡ Some e) }
+    ensures untouched { IfFault result (λ e. string_bytes out.new ≡ string_bytes out.old) }
+{
+    let mut sink = CountedText::new(out);
+    let result = write_geometry(&mut sink, g);
+    sink.into_writer();
+    result
 }
 
 /// Writes a collection, as `GEOMETRYCOLLECTION(POINT(1 2))` or `GEOMETRYCOLLECTION EMPTY`.

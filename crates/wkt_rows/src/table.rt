@@ -59,7 +59,7 @@ fn check_row(rt: &impl Print, alloc: Global, row: &str) -> Result<bool, TableErr
         Some(pair) => pair,
         None => (row, ""),
     };
-    let answer = match answer::<Decimal<6>>(alloc, text) {
+    let answer = match answer::<Decimal<18>>(alloc, text) {
         Ok(answer) => answer,
         Err(e) => return Err(TableError::Memory(e)),
     };

@@ -2,14 +2,9 @@
 //! `refused`.
 #![tactic(auto)]
 
-mod answer;
-mod run;
-#[cfg(test)]
-mod tests;
-
-use run::{RunError, run};
 use std::process::ExitCode;
 use wkt::to_wkt::Counted;
+use wkt_lines::{RunError, run};
 
 fn main(rt: HostRuntime) -> ExitCode {
     let mut reader = Counted::new(rt.stdin());

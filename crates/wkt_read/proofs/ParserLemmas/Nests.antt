@@ -117,22 +117,26 @@ module _ {T : Type 0} (read : List ℕ → Option T) where
       → Inside os s left whole → s ≡ Ok f → f ≡ Opened o.dim → o.members.items ≡ [] → os2 ≡ os ++ o ∷ [] → length left2 ≤ length left
       → ((fuel : ℕ) → length left ≤ fuel → Starts read s2 (value_at read fuel left) left2) → Inside os2 s2 left2 whole
   opened-next os os2 o s s2 f left left2 whole (now, starts, nested) is fis empty more le exact =
-      let (n, enough, e) : Starts read (Ok (Opened o.dim)) now left = subst (λ r. Starts read r now left) (is ∙ ap (λ f. Ok f) fis) starts in
-      (value_at read n left, exact n enough,
+      let (n, enough, e) : Starts read (Ok (Opened o.dim)) now left = subst (λ r. Starts read r now left) (is ∙ ap (λ f. Ok f) fis) starts in (
+        value_at read n left,
+        exact n enough,
         subst (λ l. Nested read l (length left2) whole (value_at read n left)) (sym more)
-          (nested-push os o (length left2) n n whole now (value_at read n left) (omega (arith, enough, le)) (omega (arith, enough, le)) (e ∙ opened-put n o left empty) (nested-fewer os (length left) (length left2) whole now le nested)))
+            (nested-push os o (length left2) n n whole now (value_at read n left) (omega (arith, enough, le)) (omega (arith, enough, le)) (e ∙ opened-put n o left empty) (nested-fewer os (length left) (length left2) whole now le nested)),
+      )
 
   -- a comma after a member
   comma-put : (n m : ℕ) (o o2 : Nest T) (w : Wkt T) (left r : List Lexeme) → length left ≤ m → left ≡ Comma ∷ r → o2.members.items ≡ o.members.items ++ w ∷ [] → o2.dim ≡ o.dim
       → (j : ℕ) × (length r ≤ j) × (put_in read n m o (Ok (wkt_value w, left)) ≡ put_in read n j o2 (value_at read n r))
   unfolding tail_at
   comma-put n zero o o2 w left r le is e d = absurd (omega (arith, le, ap length is))
-  comma-put n (suc j) o o2 w left r le is e d =
-      (j, omega (arith, le, ap length is),
-        ap (λ l. shut_at o.dim (with_front (map wkt_value o.members.items ++ (wkt_value w ∷ [])) (tail_at (value_at read n) (suc j) l))) is
+  comma-put n (suc j) o o2 w left r le is e d = (
+    j,
+    omega (arith, le, ap length is),
+    ap (λ l. shut_at o.dim (with_front (map wkt_value o.members.items ++ (wkt_value w ∷ [])) (tail_at (value_at read n) (suc j) l))) is
         ∙ ap (shut_at o.dim) (front-then (map wkt_value o.members.items ++ (wkt_value w ∷ [])) (value_at read n r) (tail_at (value_at read n) j))
         ∙ ap (λ l. shut_at o.dim (value_at read n r >>= (λ p. with_front (l ++ (p.0 ∷ [])) (tail_at (value_at read n) j p.1)))) (sym (ap (map wkt_value) e ∙ map-append wkt_value o.members.items (w ∷ [])))
-        ∙ ap (λ d. shut_at d (value_at read n r >>= (λ p. with_front (map wkt_value o2.members.items ++ (p.0 ∷ [])) (tail_at (value_at read n) j p.1)))) (sym d))
+        ∙ ap (λ d. shut_at d (value_at read n r >>= (λ p. with_front (map wkt_value o2.members.items ++ (p.0 ∷ [])) (tail_at (value_at read n) j p.1)))) (sym d),
+  )
 
   -- the last collection, in which a geometry was read
   read-in : (os all : List (Nest T)) (o : Nest T) (w : Wkt T) (s : Result (Start T) ParseError) (f : Start T) (left : List Lexeme) (whole : Reading (Value T))
@@ -149,10 +153,12 @@ module _ {T : Type 0} (read : List ℕ → Option T) where
       let (n, m, a, b, h) = read-in os all o w s f left whole inside is fis last in
       let (j, c, same) = comma-put n m o o2 w left r b comma e d in
       let short : length r ≤ n = omega (arith, a, ap length comma) in
-      let few : length left2 ≤ length left = omega (arith, le, ap length comma) in
-      (value_at read n r, exact n short,
+      let few : length left2 ≤ length left = omega (arith, le, ap length comma) in (
+        value_at read n r,
+        exact n short,
         subst (λ l. Nested read l (length left2) whole (value_at read n r)) (sym more)
-          (nested-push os o2 (length left2) n j whole _ (value_at read n r) (omega (arith, short, le)) (omega (arith, c, le)) same (nested-fewer os (length left) (length left2) whole _ few h)))
+            (nested-push os o2 (length left2) n j whole _ (value_at read n r) (omega (arith, short, le)) (omega (arith, c, le)) same (nested-fewer os (length left) (length left2) whole _ few h)),
+      )
 
   -- no comma after a member: the closing place
   pub shut-next : (os all : List (Nest T)) (o : Nest T) (w : Wkt T) (ms : List (Wkt T)) (s s2 : Result (Start T) ParseError) (f : Start T) (left left2 left3 : List Lexeme) (whole : Reading (Value T))
@@ -162,9 +168,11 @@ module _ {T : Type 0} (read : List ℕ → Option T) where
       let (n, m, a, b, h) = read-in os all o w s f left whole inside is fis last in
       let body : Reading (List (Value T)) = with_front (map wkt_value o.members.items ++ (wkt_value w ∷ [])) (tail_at (value_at read n) m left) in
       let stops : body ≡ Ok (map wkt_value o.members.items ++ (wkt_value w ∷ []), left) = many-stop (value_at read n) body (map wkt_value o.members.items ++ (wkt_value w ∷ [])) m left refl none in
-      let named : map wkt_value ms ≡ map wkt_value o.members.items ++ (wkt_value w ∷ []) = ap (map wkt_value) e ∙ map-append wkt_value o.members.items (w ∷ []) in
-      (shut_at o.dim body, exact body (stops ∙ ap (λ l. Ok (l, left)) (sym named) ∙ ap (λ l. Ok (map wkt_value ms, l)) (sym stays)),
-        nested-fewer os (length left) (length left2) whole (shut_at o.dim body) (omega (arith, le, ap length stays)) h)
+      let named : map wkt_value ms ≡ map wkt_value o.members.items ++ (wkt_value w ∷ []) = ap (map wkt_value) e ∙ map-append wkt_value o.members.items (w ∷ []) in (
+        shut_at o.dim body,
+        exact body (stops ∙ ap (λ l. Ok (l, left)) (sym named) ∙ ap (λ l. Ok (map wkt_value ms, l)) (sym stays)),
+        nested-fewer os (length left) (length left2) whole (shut_at o.dim body) (omega (arith, le, ap length stays)) h,
+      )
 
   -- an error inside a collection: its closing place
   refusal-in : {A X : Type 0} (view : X → A) (e : ParseError) (now : Reading (Value T)) (left : List Lexeme) (then : Value T × List Lexeme → Reading A) → Starts read (Err e) now left → ReadsIn view (Err e) (now >>= then) left
@@ -175,10 +183,11 @@ module _ {T : Type 0} (read : List ℕ → Option T) where
       → Inside all s left whole → s ≡ Err e → all ≡ os ++ o ∷ [] → length left2 ≤ length left
       → ((body : Reading (List (Value T))) → ReadsIn view (Err e) body left → Starts read s2 (shut_at o.dim body) left2) → Inside os s2 left2 whole
   refused-next view os all o e s s2 left left2 whole (now, starts, nested) is last le exact =
-      let (n, m, a, b, h) = nested-pop os o (length left) whole now (subst (λ l. Nested read l (length left) whole now) last nested) in
-      (put_in read n m o now,
+      let (n, m, a, b, h) = nested-pop os o (length left) whole now (subst (λ l. Nested read l (length left) whole now) last nested) in (
+        put_in read n m o now,
         exact (now >>= (λ p. with_front (map wkt_value o.members.items ++ (p.0 ∷ [])) (tail_at (value_at read n) m p.1))) (refusal-in view e now left _ (subst (λ r. Starts read r now left) is starts)),
-        nested-fewer os (length left) (length left2) whole (put_in read n m o now) le h)
+        nested-fewer os (length left) (length left2) whole (put_in read n m o now) le h,
+      )
 
   -- no collection is open
   outside : (os : List (Nest T)) (k : ℕ) (whole now : Reading (Value T)) → os ≡ [] → Nested read os k whole now → whole ≡ now

@@ -319,21 +319,23 @@ fn shut<T: WktNum>(
     Ok(Start::Whole(collection_of(members, dim)))
 }
 
-/// A geometry with its header; `inside` says that it is a member of a collection.
-pub(crate) fn value<T: WktNum>(
+// A collection after its header, with all that is nested in it. Open collections are kept in a list, so that
+// nesting takes no stack.
+#[inline(never)]
+fn read_collection<T: WktNum>(
     alloc: Global,
     tokens: &mut PeekableTokens<'_, T>,
-    inside: bool,
+    dim: Dimension,
 ) -> Result<Wkt<T>, ParseError>
-    ensures exact { ReadsAll wkt_value (value_at T.read) tokens.old result tokens.new }
+    ensures exact { ReadsBody T.read GeometryType.GeometryCollection dim tokens.old result tokens.new }
     ensures uniform { IfOk result UniformWkt }
-    ensures memory { OnMemory result (HasMembers T.read (rest tokens.old)) }
+    ensures memory { OnMemory result (IsOpened (rest tokens.old)) }
     ensures near { OnOk result (IsNear tokens.new) }
     ensures bad { BlamesIn T.read tokens.old result }
     ensures goes_on { GoesOn tokens.old tokens.new }
 {
     let mut open = Vec::new(alloc);
-    let mut now = begin(alloc, tokens, inside);
+    let mut now = begin_collection(alloc, tokens, dim);
     'levels: loop {
         now = match now {
             Ok(Start::Opened(dim)) => {
@@ -360,5 +362,32 @@ pub(crate) fn value<T: WktNum>(
                 Some(nest) => shut(tokens, Err(error), nest.dim),
             },
         };
+    }
+}
+
+/// A geometry with its header; `inside` says that it is a member of a collection.
+///
+/// What isn't a collection takes no step of the loop over open ones, which would move it about.
+pub(crate) fn value<T: WktNum>(
+    alloc: Global,
+    tokens: &mut PeekableTokens<'_, T>,
+    inside: bool,
+) -> Result<Wkt<T>, ParseError>
+    ensures exact { ReadsAll wkt_value (value_at T.read) tokens.old result tokens.new }
+    ensures uniform { IfOk result UniformWkt }
+    ensures memory { OnMemory result (HasMembers T.read (rest tokens.old)) }
+    ensures near { OnOk result (IsNear tokens.new) }
+    ensures bad { BlamesIn T.read tokens.old result }
+    ensures goes_on { GoesOn tokens.old tokens.new }
+{
+    let (kind, dim) = header(tokens, inside)?;
+    match kind {
+        GeometryType::Point => read_point(tokens, dim),
+        GeometryType::LineString => read_line_string(alloc, tokens, dim),
+        GeometryType::Polygon => read_polygon(alloc, tokens, dim),
+        GeometryType::MultiPoint => read_multi_point(alloc, tokens, dim),
+        GeometryType::MultiLineString => read_multi_line_string(alloc, tokens, dim),
+        GeometryType::MultiPolygon => read_multi_polygon(alloc, tokens, dim),
+        GeometryType::GeometryCollection => read_collection(alloc, tokens, dim),
     }
 }

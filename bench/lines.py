@@ -1,0 +1,100 @@
+#!/usr/bin/env python3
+"""Writes the workloads: lines.py mixed|points DECIMALS BYTES > FILE.
+
+`points` are lines of one POINT each; `mixed` are lines of all kinds, short and long. Half of the lines have a space
+after the kind word and after each comma, as some databases print them. Numbers have DECIMALS decimals, from 0 to 14,
+or, where DECIMALS is 15, thirteen to fifteen. The same arguments give the same bytes on every machine.
+"""
+import sys
+
+
+class Numbers:
+    """A generator of its own (splitmix64), so that the bytes don't depend on the version of a library."""
+
+    def __init__(self, seed):
+        self.state = seed
+
+    def below(self, n):
+        self.state = (self.state + 0x9E3779B97F4A7C15) % 2**64
+        z = self.state
+        z = (z ^ (z >> 30)) * 0xBF58476D1CE4E5B9 % 2**64
+        z = (z ^ (z >> 27)) * 0x94D049BB133111EB % 2**64
+        return (z ^ (z >> 31)) % n
+
+
+class Lines:
+    def __init__(self, decimals):
+        self.numbers = Numbers(14)
+        self.decimals = decimals
+
+    def units(self, limit):
+        return self.numbers.below(2 * limit * 10**15) - limit * 10**15
+
+    def text(self, units):
+        places = 13 + self.numbers.below(3) if self.decimals == 15 else self.decimals
+        whole, fraction = divmod(abs(units) // 10 ** (15 - places), 10**places)
+        sign = "-" if units < 0 else ""
+        return f"{sign}{whole}.{fraction:0{places}}" if places else f"{sign}{whole}"
+
+    def path(self, count, closed):
+        """Coordinates that wander from a place, as those of a coast or a road do."""
+        x, y = self.units(180), self.units(90)
+        path = []
+        for _ in range(count):
+            path.append(f"{self.text(x)} {self.text(y)}")
+            x += self.numbers.below(2 * 10**13) - 10**13
+            y += self.numbers.below(2 * 10**13) - 10**13
+        return path + path[:1] if closed else path
+
+    def several(self, most, item):
+        return [item() for _ in range(1 + self.numbers.below(most))]
+
+    def line(self, long):
+        return self.path(2 + self.numbers.below(long), False)
+
+    def polygon(self, long):
+        rings = [self.path(3 + self.numbers.below(long), True)]
+        if self.numbers.below(4) == 0:
+            rings.append(self.path(3 + self.numbers.below(long // 4 + 1), True))
+        return [f"({self.comma.join(ring)})" for ring in rings]
+
+    def body(self, kind, long):
+        join, parens = self.comma.join, "({})".format
+        if kind == "POINT":
+            return join(self.path(1, False))
+        if kind == "LINESTRING":
+            return join(self.line(long))
+        if kind == "POLYGON":
+            return join(self.polygon(long))
+        if kind == "MULTIPOINT":
+            points = self.path(2 + self.numbers.below(40), False)
+            return join(points if self.numbers.below(2) else [parens(p) for p in points])
+        if kind == "MULTILINESTRING":
+            return join(self.several(6, lambda: parens(join(self.line(long // 4)))))
+        if kind == "MULTIPOLYGON":
+            return join(self.several(4, lambda: parens(join(self.polygon(long // 4)))))
+        return join(self.several(4, lambda: self.geometry(["POINT", "LINESTRING", "POLYGON"][self.numbers.below(3)], 12)))
+
+    def geometry(self, kind, long):
+        return f"{kind}{self.space}({self.body(kind, long)})"
+
+    def next_line(self, workload):
+        spaced = self.numbers.below(2)
+        self.space, self.comma = (" ", ", ") if spaced else ("", ",")
+        kinds = ["POINT"] * 31 + ["LINESTRING"] * 6 + ["POLYGON"] * 10 + ["MULTIPOINT"] * 1
+        kinds += ["MULTILINESTRING"] * 1 + ["MULTIPOLYGON"] * 1 + ["GEOMETRYCOLLECTION"] * 1
+        kind = "POINT" if workload == "points" else kinds[self.numbers.below(len(kinds))]
+        return self.geometry(kind, 900 if kind == "LINESTRING" else 400)
+
+
+def main():
+    workload, decimals, size = sys.argv[1], int(sys.argv[2]), int(sys.argv[3])
+    lines = Lines(decimals)
+    written = 0
+    while written < size:
+        line = lines.next_line(workload) + "\n"
+        written += len(line)
+        sys.stdout.write(line)
+
+
+main()

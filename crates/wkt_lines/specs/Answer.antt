@@ -1,0 +1,23 @@
+-- A fact for one fault of an answer. Only private contracts cite these words.
+use Rattle.std.specs.Prelude.{ℕ, List, Result, Ok, Err}
+use Rattle.wkt_num.specs.Sink.{Sink, Adds, Breaks}
+use Rattle.wkt_lines.specs.declared.answer.AnswerError.{AnswerError}
+use Rattle.wkt_lines.specs.declared.answer.AnswerError.TheVariants as answered
+
+-- The fact is claimed where the sink failed.
+abbrev pub IfSink : {A : Type 0} → Result A AnswerError → Type 0 → Type 0
+IfSink (Ok x) P = Unit {0}
+IfSink (Err (answered.Sink e)) P = P
+IfSink (Err (answered.Memory e)) P = Unit {0}
+
+-- The fact is claimed where there was no memory.
+abbrev pub IfMemory : {A : Type 0} → Result A AnswerError → Type 0 → Type 0
+IfMemory (Ok x) P = Unit {0}
+IfMemory (Err (answered.Sink e)) P = Unit {0}
+IfMemory (Err (answered.Memory e)) P = P
+
+-- The text was added, or the sink broke off when a beginning of it was.
+abbrev pub Answers : {S A : Type 0} → Sink S → S → List ℕ → S → Result A AnswerError → Type 0
+Answers sink s bs t (Ok x) = Adds sink s bs t
+Answers sink s bs t (Err (answered.Sink e)) = Breaks sink s bs t
+Answers sink s bs t (Err (answered.Memory e)) = ⊥

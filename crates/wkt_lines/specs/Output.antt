@@ -1,0 +1,87 @@
+-- The output of a program that answers line by line. Numbers are read by `read` and printed by `num`.
+use Rattle.std.specs.Prelude.{◌≡◌, ℕ, List, [], ◌∷◌, ◌++◌, ◌⊎◌, Option, codes, IsUtf8, Result, Ok, Err}
+use Rattle.std.specs.Io.KnownBytes.{Appends}
+use Rattle.wkt_access.specs.Values.{Value}
+use Rattle.wkt_access.specs.Shapes.{shape_of}
+use Rattle.wkt_access.specs.Texts.{shape_text}
+use Rattle.wkt_read.specs.Front.{Front, HasNoFront}
+use Rattle.wkt_lines.specs.Lines.{input_lines}
+use Rattle.wkt_lines.specs.declared.lines.RunError.{RunError}
+use Rattle.wkt_lines.specs.declared.lines.RunError.TheVariants as run
+
+module _ {N : Type 0} (read : List ℕ → Option N) (num : N → List ℕ) where
+  -- The line is UTF-8 and has a front, and the answer is the text of the front's value.
+  pub record IsText (line answer : List ℕ) : Type 0 where
+    pub utf8 : IsUtf8 line
+    pub value : Value N
+    pub end : ℕ
+    pub front : Front read line value end
+    pub text : answer ≡ shape_text num (shape_of value)
+
+  -- The line isn't UTF-8 or has no front, and the answer is `refused`.
+  pub record IsRefusal (line answer : List ℕ) : Type 0 where
+    pub cause : (IsUtf8 line → ⊥) ⊎ HasNoFront read line
+    pub refused : answer ≡ codes "refused"
+
+  -- What a line is answered with.
+  abbrev pub IsAnswer : List ℕ → List ℕ → Type 0
+  IsAnswer line answer = IsText line answer ⊎ IsRefusal line answer
+
+  -- Each line's answer, followed by a line feed.
+  abbrev pub AreAnswers : List (List ℕ) → List ℕ → Type 0
+  AreAnswers [] out = out ≡ []
+  AreAnswers (line ∷ lines) out =
+      (answer : List ℕ) × (rest : List ℕ) × (out ≡ (answer ++ 10 ∷ []) ++ rest) × IsAnswer line answer × AreAnswers lines rest
+
+  -- The answers to all lines of the input.
+  abbrev pub IsOutput : List ℕ → List ℕ → Type 0
+  IsOutput input out = AreAnswers (input_lines input) out
+
+  -- The output went out whole.
+  abbrev pub AllOut : Option (List ℕ) → Option (List ℕ) → List ℕ → Type 0
+  AllOut old new input = (out : List ℕ) × IsOutput input out × Appends old new out
+
+  -- The whole answers to some first lines went out, and nothing else.
+  pub record FirstOut (old new : Option (List ℕ)) (input : List ℕ) : Type 0 where
+    pub first : List (List ℕ)
+    pub others : List (List ℕ)
+    pub lines : first ++ others ≡ input_lines input
+    pub out : List ℕ
+    pub answers : AreAnswers first out
+    pub went : Appends old new out
+
+  -- The whole answers to some first lines went out, and then a beginning of the next line's.
+  pub record PartOut (old new : Option (List ℕ)) (input : List ℕ) : Type 0 where
+    pub first : List (List ℕ)
+    pub line : List ℕ
+    pub others : List (List ℕ)
+    pub lines : first ++ (line ∷ others) ≡ input_lines input
+    pub out : List ℕ
+    pub answers : AreAnswers first out
+    pub answer : List ℕ
+    pub is_answer : IsAnswer line answer
+    pub part : List ℕ
+    pub lost : List ℕ
+    pub whole : answer ++ 10 ∷ [] ≡ part ++ lost
+    pub went : Appends old new (out ++ part)
+
+-- The fact is claimed where the reader failed.
+abbrev pub IfRead : {A : Type 0} → Result A RunError → Type 0 → Type 0
+IfRead (Ok x) P = Unit {0}
+IfRead (Err (run.Read e)) P = P
+IfRead (Err (run.Write e)) P = Unit {0}
+IfRead (Err (run.Memory e)) P = Unit {0}
+
+-- The fact is claimed where the writer failed.
+abbrev pub IfWrite : {A : Type 0} → Result A RunError → Type 0 → Type 0
+IfWrite (Ok x) P = Unit {0}
+IfWrite (Err (run.Read e)) P = Unit {0}
+IfWrite (Err (run.Write e)) P = P
+IfWrite (Err (run.Memory e)) P = Unit {0}
+
+-- The fact is claimed where there was no memory.
+abbrev pub IfMemory : {A : Type 0} → Result A RunError → Type 0 → Type 0
+IfMemory (Ok x) P = Unit {0}
+IfMemory (Err (run.Read e)) P = Unit {0}
+IfMemory (Err (run.Write e)) P = Unit {0}
+IfMemory (Err (run.Memory e)) P = P

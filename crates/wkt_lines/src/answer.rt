@@ -1,0 +1,90 @@
+//! The answer to one line.
+ghost use Rattle.std.specs.Prelude.{◌≡◌, ℕ, List, None, OnOk, codes, IsUtf8};
+ghost use Rattle.wkt_num.specs.Sink.{Adds, Breaks};
+ghost use Rattle.wkt_access.specs.Faults.{fault};
+ghost use Rattle.wkt_access.specs.Texts.{shape_text};
+ghost use Rattle.wkt_types.specs.Tree.{tree};
+ghost use Rattle.wkt_types.specs.Values.{tree_shape};
+ghost use Rattle.wkt_lines.specs.Answer.{Answers, IfSink, IfMemory};
+ghost use Rattle.wkt_lines.specs.Output.{IsAnswer};
+
+use std::alloc::{AllocError, Global};
+use std::fmt;
+use thiserror::Error;
+use wkt::error::Error as WriteError;
+use wkt::laws::read_values_are_writable;
+use wkt::to_wkt::{TextSink, write_geometry};
+use wkt::{FromWktStr, ReadError, Wkt, WktNum};
+
+/// Why a line wasn't answered.
+#[derive(Debug, Drop, Error)]
+pub(crate) enum AnswerError {
+    #[error("{0}")]
+    Sink(fmt::Error),
+    #[error("out of memory")]
+    Memory(AllocError),
+}
+
+/// Writes the answer to a line.
+pub(crate) fn write_answer<T: WktNum, W: TextSink>(
+    alloc: Global,
+    line: &[u8],
+    f: &mut W,
+) -> Result<(), AnswerError>
+    ensures ok { OnOk result ((answer : List ℕ) × IsAnswer T.read T.num line.now answer × Adds W.sink f.old answer f.new) }
+    ensures sink { IfSink result ((answer : List ℕ) × IsAnswer T.read T.num line.now answer × Breaks W.sink f.old answer f.new) }
+    ensures memory { IfMemory result (f.new ≡ f.old) }
+{
+    // Most lines are ASCII, which one look at eight bytes at a time tells.
+    if line.is_ascii() {
+        return write_front::<T, W>(alloc, unsafe { str::from_utf8_unchecked(line) }, f);
+    }
+    match str::from_utf8(line) {
+        Ok(text) => write_front::<T, W>(alloc, text, f),
+        Err(_) => refuse(f),
+    }
+}
+
+/// Writes the answer to a line that is text.
+fn write_front<T: WktNum, W: TextSink>(
+    alloc: Global,
+    text: &str,
+    f: &mut W,
+) -> Result<(), AnswerError>
+    requires { IsUtf8 text.now }
+    ensures ok { OnOk result ((answer : List ℕ) × IsAnswer T.read T.num text.now answer × Adds W.sink f.old answer f.new) }
+    ensures sink { IfSink result ((answer : List ℕ) × IsAnswer T.read T.num text.now answer × Breaks W.sink f.old answer f.new) }
+    ensures memory { IfMemory result (f.new ≡ f.old) }
+{
+    match Wkt::<T>::from_str(alloc, text) {
+        Ok(wkt) => {
+            // No effect at run time. The proof reads that what was read can be written.
+            read_values_are_writable::<T>();
+            write_value(&wkt, f)
+        }
+        Err(ReadError::Text(_)) => refuse(f),
+        Err(ReadError::Memory(e)) => Err(AnswerError::Memory(e)),
+    }
+}
+
+/// Writes the text of a geometry that can be written.
+fn write_value<T: WktNum, W: TextSink>(wkt: &Wkt<T>, f: &mut W) -> Result<(), AnswerError>
+    requires { fault (tree_shape (tree wkt.now)) ≡ None }
+    ensures { Answers W.sink f.old (shape_text T.num (tree_shape (tree wkt.now))) f.new result }
+{
+    match write_geometry(f, wkt) {
+        Ok(()) => Ok(()),
+        Err(WriteError::FmtError(e)) => Err(AnswerError::Sink(e)),
+        Err(_) => unreachable!(),
+    }
+}
+
+/// Writes that a line is refused.
+fn refuse<W: TextSink>(f: &mut W) -> Result<(), AnswerError>
+    ensures { Answers W.sink f.old (codes "refused") f.new result }
+{
+    match f.write_str("refused") {
+        Ok(()) => Ok(()),
+        Err(e) => Err(AnswerError::Sink(e)),
+    }
+}

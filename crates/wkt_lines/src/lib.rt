@@ -1,0 +1,18 @@
+//! Inputs that are answered line by line: each line with the text of the geometry that it begins with, or with
+//! `refused`.
+//!
+//! The program `wktline` is this call over standard input and output:
+//!
+//! ```text
+//! let mut reader = Counted::new(rt.stdin());
+//! let mut writer = Counted::new(rt.stdout());
+//! run(rt.alloc(), &mut reader, &mut writer)?;
+//! ```
+#![tactic(auto)]
+
+mod answer;
+mod lines;
+#[cfg(test)]
+mod tests;
+
+pub use lines::{RunError, run};
