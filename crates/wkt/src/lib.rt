@@ -1,6 +1,18 @@
 //! Well-known text read and written, proved: every name of the crates below, in one place.
 #![tactic(auto)]
 
+mod back;
+mod convert;
+mod flat_text;
+mod flat_to_wkt;
+mod flat_written;
+mod flatten;
+mod kinds;
+mod send;
+mod string_text;
+mod to_text;
+
+pub use to_text::ToWkt;
 pub use wkt_num::{Decimal, WktNum};
 pub use wkt_read::{FromWktStr, InferError, ReadError, infer_type};
 pub use wkt_types::Wkt;
@@ -16,7 +28,10 @@ pub mod geo_traits {
 
 /// Two-dimensional types.
 pub mod geo_types {
-    pub use wkt_flat::{Coord, Line, Rect, Triangle};
+    pub use wkt_flat::{
+        Coord, Geometry, GeometryCollection, Line, LineString, MultiLineString, MultiPoint,
+        MultiPolygon, Point, Polygon, Rect, Triangle,
+    };
 }
 
 /// The types of well-known text.
@@ -29,6 +44,8 @@ pub mod types {
 
 /// Writing, and where text and bytes go.
 pub mod to_wkt {
+    pub use crate::send::ToWktError;
+    pub use crate::to_text::ToWkt;
     pub use wkt_access::{
         write_geometry, write_geometry_collection, write_line, write_linestring,
         write_multi_linestring, write_multi_point, write_multi_polygon, write_point, write_polygon,
@@ -36,6 +53,12 @@ pub mod to_wkt {
     };
     pub use wkt_bytes::{ByteSink, ByteSource, Counted, ReadAllError, WriterWrapper, read_all};
     pub use wkt_num::{CountedText, FormatterText, TextSink};
+}
+
+/// Conversions of the types of well-known text into two-dimensional ones.
+pub mod geo_types_from_wkt {
+    pub use crate::convert::{ConvertFrom, try_into_geometry, try_into_geometry_collection};
+    pub use wkt_types::ConvertError as Error;
 }
 
 /// Why a geometry isn't written.
