@@ -21,10 +21,10 @@ use wkt_bytes::ByteSink;
 /// A flat value of one kind or of any, as a tree.
 pub(crate) trait FlatValue: Written {
     /// What it holds.
-    ghost value: { Self → Flat Self.Written.T };
+    ghost value: { Self → Flat Self.T };
 
     /// Its shape is that of what it holds.
-    ghost same: { (g : Self) → Self.Written.shape g ≡ flat_shape (value g) };
+    ghost same: { (g : Self) → Self.shape g ≡ flat_shape (value g) };
 }
 
 /// The text of a flat value. It is refused for memory alone.

@@ -7,11 +7,13 @@ mod flat_text;
 mod flat_to_wkt;
 mod flat_written;
 mod flatten;
+mod from_text;
 mod kinds;
 mod send;
 mod string_text;
 mod to_text;
 
+pub use from_text::TryFromWkt;
 pub use to_text::ToWkt;
 pub use wkt_num::{Decimal, WktNum};
 pub use wkt_read::{FromWktStr, InferError, ReadError, infer_type};

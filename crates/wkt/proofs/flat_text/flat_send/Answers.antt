@@ -11,14 +11,14 @@ use Rattle.wkt.proofs.flat_text.flat_send.Goals as goal
 
 pub returns-clause-ok : goal.returns-clause-ok
 returns-clause-ok g c =
-    let num = g.G.Written.T.WktNum.num in
+    let num = g.G.T.WktNum.num in
     let device = g.W.ByteSink.device in
     let same = ap (shape_text num) (g.met.G.FlatValue.same c.args.g.now) ∙ same_text num (g.G.FlatValue.value c.args.g.now) in
     subst (λ (bs : List ℕ). OnOk c.send.result (Appends (device.bytes c.args.writer.now) (device.bytes c.send.new.writer) bs)) same c.send.ensures.ok
 
 pub returns-clause-io : goal.returns-clause-io
 returns-clause-io g c =
-    let num = g.G.Written.T.WktNum.num in
+    let num = g.G.T.WktNum.num in
     let device = g.W.ByteSink.device in
     let same = ap (shape_text num) (g.met.G.FlatValue.same c.args.g.now) ∙ same_text num (g.G.FlatValue.value c.args.g.now) in
     subst (λ (bs : List ℕ). IfIo c.send.result (BeginningOut (device.bytes c.args.writer.now) (device.bytes c.send.new.writer) bs)) same c.send.ensures.io
@@ -26,9 +26,9 @@ returns-clause-io g c =
 pub returns-clause-never : goal.returns-clause-never
 returns-clause-never g c =
     let sound = ap fault (g.met.G.FlatValue.same c.args.g.now) ∙ writable (g.G.FlatValue.value c.args.g.now) in
-    never _ sound c.send.result c.send.ensures.cause
+    never (g.G.Written.shape c.args.g.now) sound c.send.result c.send.ensures.cause
 
 pub returns-clause-cause : goal.returns-clause-cause
 returns-clause-cause g c =
     let sound = ap fault (g.met.G.FlatValue.same c.args.g.now) ∙ writable (g.G.FlatValue.value c.args.g.now) in
-    whatever _ c.send.result (never _ sound c.send.result c.send.ensures.cause)
+    whatever _ c.send.result (never (g.G.Written.shape c.args.g.now) sound c.send.result c.send.ensures.cause)
