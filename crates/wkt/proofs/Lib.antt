@@ -6,3 +6,4 @@ pub mod FlatKinds
 pub mod Backs
 pub mod Plain
 pub mod Sends
+pub mod Texts
