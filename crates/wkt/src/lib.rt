@@ -12,6 +12,8 @@ mod from_text;
 mod kinds;
 mod send;
 mod string_text;
+#[cfg(test)]
+mod text_tests;
 mod to_text;
 
 pub use from_text::TryFromWkt;
