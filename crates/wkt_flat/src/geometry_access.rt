@@ -148,7 +148,7 @@ impl<T: WktNum> GeometryTrait for Point<T> {
         GeometryType::Point(self)
     }
 
-    /// There are no members, so no index is one's.
+    /// This kind has no members, so there is no index to ask for.
     fn geometry(&self, _i: usize) -> &Self
         ensures { result.now ≡ self.now }
     {
@@ -200,7 +200,7 @@ impl<T: WktNum> GeometryTrait for Line<T> {
         GeometryType::Line(self)
     }
 
-    /// There are no members, so no index is one's.
+    /// This kind has no members, so there is no index to ask for.
     fn geometry(&self, _i: usize) -> &Self
         ensures { result.now ≡ self.now }
     {
@@ -252,7 +252,7 @@ impl<T: WktNum> GeometryTrait for LineString<T> {
         GeometryType::LineString(self)
     }
 
-    /// There are no members, so no index is one's.
+    /// This kind has no members, so there is no index to ask for.
     fn geometry(&self, _i: usize) -> &Self
         ensures { result.now ≡ self.now }
     {
@@ -304,7 +304,7 @@ impl<T: WktNum> GeometryTrait for Polygon<T> {
         GeometryType::Polygon(self)
     }
 
-    /// There are no members, so no index is one's.
+    /// This kind has no members, so there is no index to ask for.
     fn geometry(&self, _i: usize) -> &Self
         ensures { result.now ≡ self.now }
     {
@@ -356,7 +356,7 @@ impl<T: WktNum> GeometryTrait for MultiPoint<T> {
         GeometryType::MultiPoint(self)
     }
 
-    /// There are no members, so no index is one's.
+    /// This kind has no members, so there is no index to ask for.
     fn geometry(&self, _i: usize) -> &Self
         ensures { result.now ≡ self.now }
     {
@@ -408,7 +408,7 @@ impl<T: WktNum> GeometryTrait for MultiLineString<T> {
         GeometryType::MultiLineString(self)
     }
 
-    /// There are no members, so no index is one's.
+    /// This kind has no members, so there is no index to ask for.
     fn geometry(&self, _i: usize) -> &Self
         ensures { result.now ≡ self.now }
     {
@@ -460,7 +460,7 @@ impl<T: WktNum> GeometryTrait for MultiPolygon<T> {
         GeometryType::MultiPolygon(self)
     }
 
-    /// There are no members, so no index is one's.
+    /// This kind has no members, so there is no index to ask for.
     fn geometry(&self, _i: usize) -> &Self
         ensures { result.now ≡ self.now }
     {
@@ -512,7 +512,7 @@ impl<T: WktNum> GeometryTrait for Rect<T> {
         GeometryType::Rect(self)
     }
 
-    /// There are no members, so no index is one's.
+    /// This kind has no members, so there is no index to ask for.
     fn geometry(&self, _i: usize) -> &Self
         ensures { result.now ≡ self.now }
     {
@@ -564,7 +564,7 @@ impl<T: WktNum> GeometryTrait for Triangle<T> {
         GeometryType::Triangle(self)
     }
 
-    /// There are no members, so no index is one's.
+    /// This kind has no members, so there is no index to ask for.
     fn geometry(&self, _i: usize) -> &Self
         ensures { result.now ≡ self.now }
     {

@@ -1,4 +1,4 @@
-use Rattle.std.proofs.Common.{◌≡◌, ◌++◌, [], ap, ◌∙◌, map}
+use Rattle.std.proofs.Common.{◌≡◌, ◌++◌, ap, ◌∙◌, map}
 use Rattle.wkt_flat.specs.Tree.{flat_tree, collection}
 use Rattle.wkt_flat.proofs.TreeLemmas.{flat-collection, flat-members, copied-in, on-ok-map}
 use Rattle.wkt_flat.proofs.geometry.+copy.Goals as goal
