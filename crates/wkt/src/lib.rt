@@ -3,6 +3,10 @@
 
 mod back;
 mod convert;
+#[cfg(test)]
+mod convert_tests;
+#[cfg(test)]
+mod device_tests;
 mod flat_laws;
 mod flat_text;
 mod flat_to_wkt;

@@ -137,7 +137,9 @@ fn geometries_are_read(rt: HostRuntime) -> Result<(), Fail> {
 #[test]
 fn each_kind_is_read(rt: HostRuntime) -> Result<(), Fail> {
     let alloc = rt.alloc();
-    let point = Point::<Number>::try_from_wkt_str(alloc, "POINT(10 20)")?;
+    let Ok(point) = Point::<Number>::try_from_wkt_str(alloc, "POINT(10 20)") else {
+        panic!(rt; "a point wasn't read");
+    };
     assert_eq!(rt; point.y().units(), 20_000_000);
     assert_eq!(rt; point.x().units(), 10_000_000);
     let text = again::<LineString<Number>>(alloc, "LINESTRING Z(1 2 3,4 5 6)")?;
