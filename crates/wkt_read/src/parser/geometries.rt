@@ -15,7 +15,7 @@ ghost use Rattle.wkt_read.specs.Bad.{HasBad};
 ghost use Rattle.wkt_read.specs.Parser.Nests.{StartsAll, StartsBody, Shuts, IfWhole, OnWhole, Wants, weight, most_after};
 
 use crate::messages::{ParseError, Message};
-use crate::parser::lists::list;
+use crate::parser::lists::{coordinates, list};
 use crate::tokenizer::peekable::PeekableTokens;
 use crate::parser::coordinates::{close, opening, point};
 use crate::tokenizer::token::Lexeme;
@@ -167,7 +167,7 @@ fn read_line_string<T: WktNum>(
     ensures bad { BlamesIn T.read tokens.old result }
     ensures goes_on { GoesOn tokens.old tokens.new }
 {
-    let coords = list(alloc, tokens, dim)?;
+    let coords = coordinates(alloc, tokens, dim)?;
     Ok(line_string_of(coords, dim))
 }
 

@@ -1,10 +1,11 @@
 //! Lists, with a comma between neighbours, of whatever stands between the commas.
 ghost use Rattle.std.specs.Prelude.{◌≡◌, OnOk, IfOk};
 ghost use Rattle.std.specs.List.{AllByRecursion};
-ghost use Rattle.wkt_types.specs.Values.{IsPointIn, point_numbers};
+ghost use Rattle.wkt_types.specs.Coords.{numbers_of};
+ghost use Rattle.wkt_types.specs.Values.{HasDim, IsPointIn, point_numbers};
 ghost use Rattle.wkt_read.specs.Ahead.{rest, IsNear};
 ghost use Rattle.wkt_read.specs.Parser.Walks.{GoesOn};
-ghost use Rattle.wkt_read.specs.Parser.Reading.{Reads, member_at, many_at, list_at, IsOpened};
+ghost use Rattle.wkt_read.specs.Parser.Reading.{Reads, coord_at, line_string_at, member_at, many_at, list_at, IsOpened};
 ghost use Rattle.wkt_read.specs.Parser.Reads.{ReadsAll, ReadsList, Blames, BlamesIn};
 ghost use Rattle.wkt_read.specs.Parser.Errors.{OnMemory};
 
@@ -90,29 +91,48 @@ pub(crate) fn list<T: WktNum, X: Item<T>>(
     close(tokens, body)
 }
 
-/// A coordinate of a line string.
-impl<T: WktNum> Item<T> for Coord<T> {
-    ghost use Rattle.std.specs.Prelude.{List};
-    ghost use Rattle.wkt_types.specs.Coords.{numbers_of};
-    ghost use Rattle.wkt_types.specs.Values.{HasDim};
-    ghost use Rattle.wkt_read.specs.Parser.Reading.{coord_at};
-
-    ghost View = { List T };
-
-    ghost view = { numbers_of };
-
-    ghost item_at = { λ d n. coord_at T.read d };
-
-    ghost IsIn = { HasDim };
-
-    #[inline(always)]
-    fn read(
-        _alloc: Global,
-        tokens: &mut PeekableTokens<'_, T>,
-        dim: Dimension,
-    ) -> Result<Self, ParseError> {
-        Ok(coord(tokens, dim)?)
+// One coordinate or more.
+fn coords<T: WktNum>(
+    alloc: Global,
+    tokens: &mut PeekableTokens<'_, T>,
+    dim: Dimension,
+) -> Result<Vec<Coord<T>>, ParseError>
+    ensures exact { ReadsList numbers_of (many_at (coord_at T.read dim)) tokens.old result tokens.new }
+    ensures uniform { IfOk result (λ v. AllByRecursion (HasDim dim) v.items) }
+    ensures bad { BlamesIn T.read tokens.old result }
+    ensures goes_on { GoesOn tokens.old tokens.new }
+{
+    let mut items = Vec::new(alloc);
+    let first = coord(tokens, dim)?;
+    items.push(first)?;
+    'more: while tokens.take_comma() {
+        let next = coord(tokens, dim)?;
+        items.push(next)?;
     }
+    Ok(items)
+}
+
+/// What stands after the header of a line string: EMPTY, or coordinates in parentheses. They are no
+/// items of `list`, whose reader would hand on each through one more result, in more instructions.
+#[inline(never)]
+pub(crate) fn coordinates<T: WktNum>(
+    alloc: Global,
+    tokens: &mut PeekableTokens<'_, T>,
+    dim: Dimension,
+) -> Result<Vec<Coord<T>>, ParseError>
+    ensures exact { ReadsList numbers_of (line_string_at T.read dim) tokens.old result tokens.new }
+    ensures uniform { IfOk result (λ v. AllByRecursion (HasDim dim) v.items) }
+    ensures memory { OnMemory result (IsOpened (rest tokens.old)) }
+    ensures near { OnOk result (IsNear tokens.new) }
+    ensures bad { BlamesIn T.read tokens.old result }
+    ensures goes_on { GoesOn tokens.old tokens.new }
+{
+    let paren = opening(tokens)?;
+    if !paren {
+        return Ok(Vec::new(alloc));
+    }
+    let body = coords(alloc, tokens, dim);
+    close(tokens, body)
 }
 
 /// A line string of a multi line string, or a ring of a polygon.
@@ -134,7 +154,7 @@ impl<T: WktNum> Item<T> for LineString<T> {
         tokens: &mut PeekableTokens<'_, T>,
         dim: Dimension,
     ) -> Result<Self, ParseError> {
-        let coords = list(alloc, tokens, dim)?;
+        let coords = coordinates(alloc, tokens, dim)?;
         Ok(LineString::new(coords, dim))
     }
 }

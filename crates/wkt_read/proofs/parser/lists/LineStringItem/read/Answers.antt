@@ -12,4 +12,4 @@ pub returns-in_err-coords-clause-exact : goal.returns-in_err-coords-clause-exact
 returns-in_err-coords-clause-exact g c = λ fuel h. reads-pass line_numbers (λ (v : Vec (Coord g.row.T.Denot) Global). map numbers_of v.items) _ _ _ _ _ c.from_residual.ensures.1 (c.in_err-coords.ensures.exact fuel h) (λ e. e)
 
 pub returns-clause-exact : goal.returns-clause-exact
-returns-clause-exact g c = λ fuel h. c.in_ok-coords.ensures.exact fuel h ∙ ap (λ l. Ok (map numbers_of l, rest c.list.new.tokens)) (sym c.new.ensures.coords)
+returns-clause-exact g c = λ fuel h. c.in_ok-coords.ensures.exact fuel h ∙ ap (λ l. Ok (map numbers_of l, rest c.coordinates.new.tokens)) (sym c.new.ensures.coords)
