@@ -35,9 +35,9 @@ padded-two (suc j) k (suc n) f e less =
     let less-back = mod-lt f (ten_pos k) in
     ap (λ d. (48 + d) ∷ padded n (f % 10 ^ n)) head
     ∙ ap (λ l. (48 + f / 10 ^ k / 10 ^ j) ∷ l) (padded-two j k n (f % 10 ^ n) (omega (arith, e)) (mod-lt f (ten_pos n))
-      ∙ ap (λ m. padded j (m / 10 ^ k) ++ padded k (m % 10 ^ k)) low
-      ∙ ap (λ m. padded j m ++ padded k (((f / 10 ^ k % 10 ^ j) * 10 ^ k + f % 10 ^ k) % 10 ^ k)) (quotient (f / 10 ^ k % 10 ^ j) (10 ^ k) (f % 10 ^ k) less-back)
-      ∙ ap (λ m. padded j (f / 10 ^ k % 10 ^ j) ++ padded k m) (mod-mul-add (f / 10 ^ k % 10 ^ j) (10 ^ k) (f % 10 ^ k) less-back))
+    ∙ ap (λ m. padded j (m / 10 ^ k) ++ padded k (m % 10 ^ k)) low
+    ∙ ap (λ m. padded j m ++ padded k (((f / 10 ^ k % 10 ^ j) * 10 ^ k + f % 10 ^ k) % 10 ^ k)) (quotient (f / 10 ^ k % 10 ^ j) (10 ^ k) (f % 10 ^ k) less-back)
+    ∙ ap (λ m. padded j (f / 10 ^ k % 10 ^ j) ++ padded k m) (mod-mul-add (f / 10 ^ k % 10 ^ j) (10 ^ k) (f % 10 ^ k) less-back))
 
 -- a fraction of more places
 pub digits-scaled : (j e n f : ℕ) → n ≡ j + e → f < 10 ^ j → fraction_digits n (f * 10 ^ e) ≡ fraction_digits j f
@@ -50,9 +50,9 @@ digits-scaled (suc j) e (suc n) f same less = elim (f == 0) as (λ b. (f == 0) �
       let both : 10 ^ n ≡ 10 ^ j * 10 ^ e = ap (λ m. 10 ^ m) {x = n} {y = j + e} (omega (arith, same)) ∙ pow-add 10 j e in
       let more = le-mul_of_pos_right f (ten_pos e) in
       let back : f * 10 ^ e % 10 ^ n ≡ (f % 10 ^ j) * 10 ^ e =
-          ap (λ p. f * 10 ^ e % p) both ∙ mod-mul (f * 10 ^ e) (ten_pos j) (ten_pos e)
-          ∙ ap (λ m. (m % 10 ^ j) * 10 ^ e + f * 10 ^ e % 10 ^ e) (ap (λ m. m / 10 ^ e) {x = f * 10 ^ e} {y = f * 10 ^ e + 0} (omega arith) ∙ quotient f (10 ^ e) 0 (ten_pos e))
-          ∙ ap (λ m. (f % 10 ^ j) * 10 ^ e + m) (mul-mod_left f (10 ^ e)) ∙ omega arith in
+      ap (λ p. f * 10 ^ e % p) both ∙ mod-mul (f * 10 ^ e) (ten_pos j) (ten_pos e)
+      ∙ ap (λ m. (m % 10 ^ j) * 10 ^ e + f * 10 ^ e % 10 ^ e) (ap (λ m. m / 10 ^ e) {x = f * 10 ^ e} {y = f * 10 ^ e + 0} (omega arith) ∙ quotient f (10 ^ e) 0 (ten_pos e))
+      ∙ ap (λ m. (f % 10 ^ j) * 10 ^ e + m) (mul-mod_left f (10 ^ e)) ∙ omega arith in
       step n (f * 10 ^ e) (λ h. some (omega (arith, more, h)))
       ∙ ap (λ d. (48 + d) ∷ fraction_digits n (f * 10 ^ e % 10 ^ n)) (ap (λ p. f * 10 ^ e / p) both ∙ mul-div-mul_right f (10 ^ j) (ten_pos e))
       ∙ ap (λ m. (48 + f / 10 ^ j) ∷ fraction_digits n m) back
@@ -154,8 +154,8 @@ module _ (D F T : ℕ) (few : D ≤ 18) (less : F < 10 ^ D) (some : F ≡ 0 → 
         ∙ append_assoc (take 41 old ++ lanes) (x ∷ []) (y ∷ [])
         ∙ append_assoc (take 41 old) lanes (x ∷ y ∷ [])
         ∙ ap (λ l. take 41 old ++ l) (ap (λ l. l ++ x ∷ y ∷ []) digits
-          ∙ ap (λ n. padded 16 (F * T / 100) ++ x ∷ (48 + n) ∷ []) {x = F * T % 100 % 10} {y = F * T % 100 % 10 / 1} (omega arith)
-          ∙ sym (padded-two 16 2 18 (F * T) refl small) ∙ (pads 18 (F * T)).1)
+        ∙ ap (λ n. padded 16 (F * T / 100) ++ x ∷ (48 + n) ∷ []) {x = F * T % 100 % 10} {y = F * T % 100 % 10 / 1} (omega arith)
+        ∙ sym (padded-two 16 2 18 (F * T) refl small) ∙ (pads 18 (F * T)).1)
         ∙ sym (append_assoc (take 41 old) (fraction_digits 18 (F * T)) (zeros (pads 18 (F * T)).0))
 
     pub whole-ends : EndsInDigit whole

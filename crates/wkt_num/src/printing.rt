@@ -206,10 +206,7 @@ fn four_fours(a: u32, b: u32, c: u32, d: u32) -> u8x16
 fn zeros_behind(digits: u8x16) -> usize
     ensures { result ≡ prefix_len (λ b. not (not (b == 48))) (reverse digits) }
 {
-    let others = digits
-        .reverse()
-        .simd_ne(u8x16::splat(b'0'))
-        .to_bitmask();
+    let others = digits.reverse().simd_ne(u8x16::splat(b'0')).to_bitmask();
     if others == 0 {
         16
     } else {

@@ -14,9 +14,9 @@ ghost use Rattle.wkt_read.specs.Answered.{IsFront, IsFrontTo, Begins, IsReadOff,
 
 use crate::error::ReadError;
 use crate::messages::{ParseError, text};
+use crate::parser::geometries::value;
 use crate::tokenizer::peekable::PeekableTokens;
 use crate::tokenizer::tokens::Tokens;
-use crate::parser::geometries::value;
 use std::alloc::Global;
 use wkt_num::WktNum;
 use wkt_types::Wkt;

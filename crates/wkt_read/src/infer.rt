@@ -148,7 +148,11 @@ fn dimension(rest: &[u8]) -> Dimension
 }
 
 // What a header names, after which EMPTY stands or not.
-fn named(alloc: Global, header: &str, by_empty: bool) -> Result<(GeometryType, Dimension), InferError>
+fn named(
+    alloc: Global,
+    header: &str,
+    by_empty: bool,
+) -> Result<(GeometryType, Dimension), InferError>
     ensures exact { Infers result (header_answer header.now by_empty) }
 {
     if by_empty && !has_space(header.as_bytes()) {

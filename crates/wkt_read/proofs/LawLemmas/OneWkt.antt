@@ -3,10 +3,10 @@ use Rattle.std.proofs.Common.{◌≡◌, ℕ, List, [], ◌∷◌, ◌++◌, ref
 use Rattle.std.specs.Prelude.{map, option_map, option_to_list}
 use Rattle.std.specs.List.{AllByRecursion}
 use Rattle.wkt_access.specs.declared.dimensions.Dimension.{Dimension}
-use Rattle.wkt_access.specs.Values.{Value, Values}
+use Rattle.wkt_access.specs.Values.{Value}
 use Rattle.wkt_types.specs.declared.coord.Coord.{Coord}
 use Rattle.wkt_types.specs.Held.{Held, HeldPoint}
-use Rattle.wkt_types.specs.Coords.{numbers_of, coord_dim, dim_by}
+use Rattle.wkt_types.specs.Coords.{numbers_of, dim_by}
 use Rattle.wkt_types.specs.Tree.{Tree, Trees, point, line_string, polygon, multi_point, multi_line_string, multi_polygon, collection, no_trees, more_trees}
 use Rattle.wkt_types.specs.Values.{value_of, values_of, point_numbers, line_numbers, polygon_numbers, HasDim, HasDimIfAny, IsPointIn, IsLineIn, IsPolygonIn, IsUniform, AreUniform, IsWktOf}
 use Rattle.wkt_read.specs.Answered.{IsFrontTo}

@@ -4,11 +4,11 @@ use Rattle.std.proofs.lemmas.List.{append_cancel_right}
 use Rattle.std.specs.declared.alloc.AllocError.{AllocError}
 use Rattle.wkt_num.specs.Bytes.{Lexeme, Open}
 use Rattle.wkt_access.specs.Values.{Value}
-use Rattle.wkt_read.specs.Lexemes.{Takes, IsSplit}
+use Rattle.wkt_read.specs.Lexemes.{IsSplit}
 use Rattle.wkt_read.specs.Grammar.{Geometry}
 use Rattle.wkt_read.specs.Front.{FrontBy, HasNoFront}
 use Rattle.wkt_read.specs.Placed.{Placed, lexemes_of, end_after, AreEnds, placed}
-use Rattle.wkt_read.specs.Ahead.{left, rest, end_of, taken_of, IfLast, IsAfter, Advances}
+use Rattle.wkt_read.specs.Ahead.{left, rest, end_of, taken_of, IfLast, Advances}
 use Rattle.wkt_read.specs.Parser.Walks.{GoesOn}
 use Rattle.wkt_read.specs.Messages.{text_of}
 use Rattle.wkt_read.specs.Parser.Reading.{Reading}

@@ -1,9 +1,8 @@
 -- Open collections, and what is read inside them.
-use Rattle.std.proofs.Common.{◌≡◌, ℕ, zero, suc, ◌≤◌, ◌<◌, ◌+◌, List, [], ◌∷◌, ◌++◌, length, sym, refl, ap, ◌∙◌, subst, append_assoc, arith, Result, Ok, Err, Bool, true, false, cond}
+use Rattle.std.proofs.Common.{◌≡◌, ℕ, zero, suc, ◌≤◌, List, [], ◌∷◌, ◌++◌, length, sym, refl, ap, ◌∙◌, subst, arith, Result, Ok, Err}
 use Rattle.std.specs.Prelude.{map, Option}
 use Rattle.std.specs.Result.{IsErr, IsErrAnd}
 use Rattle.wkt_num.specs.Bytes.{Lexeme, Comma}
-use Rattle.wkt_access.specs.declared.dimensions.Dimension.{Dimension}
 use Rattle.wkt_access.specs.Values.{Value}
 use Rattle.wkt_types.specs.declared.geometry.Wkt.{Wkt}
 use Rattle.wkt_read.specs.declared.messages.ParseError.{ParseError}
@@ -11,7 +10,7 @@ use Rattle.wkt_read.specs.declared.messages.ParseError.TheVariants.{Text, Memory
 use Rattle.wkt_read.specs.declared.parser.geometries.Nest.{Nest}
 use Rattle.wkt_read.specs.declared.parser.geometries.Start.{Start}
 use Rattle.wkt_read.specs.declared.parser.geometries.Start.TheVariants.{Whole, Opened}
-use Rattle.wkt_read.specs.Parser.Reading.{Reading, ◌>>=◌, with_front, closed, many_at, tail_at, value_at}
+use Rattle.wkt_read.specs.Parser.Reading.{Reading, ◌>>=◌, with_front, many_at, tail_at, value_at}
 use Rattle.wkt_read.specs.Parser.Reads.{ReadsIn, wkt_value}
 use Rattle.wkt_read.proofs.ParserLemmas.Many.{err-ok, with_front-front, many-stop}
 use Rattle.wkt_read.specs.Parser.Walks.{BeginsWithoutComma}

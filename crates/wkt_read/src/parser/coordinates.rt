@@ -12,10 +12,10 @@ ghost use Rattle.wkt_read.specs.Parser.Errors.{OnBadIn};
 ghost use Rattle.wkt_read.specs.Bad.{HasBad};
 ghost use Rattle.wkt_read.specs.declared.messages.Message.TheVariants.{BadNumber};
 
-use crate::messages::{ParseError, Message};
+use crate::keywords::is_empty;
+use crate::messages::{Message, ParseError};
 use crate::tokenizer::peekable::PeekableTokens;
 use crate::tokenizer::token::Lexeme;
-use crate::keywords::is_empty;
 use wkt_access::Dimension;
 use wkt_num::WktNum;
 use wkt_types::Coord;

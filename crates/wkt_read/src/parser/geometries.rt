@@ -14,12 +14,12 @@ ghost use Rattle.wkt_read.specs.Placed.{lexemes_of};
 ghost use Rattle.wkt_read.specs.Bad.{HasBad};
 ghost use Rattle.wkt_read.specs.Parser.Nests.{StartsAll, StartsBody, Shuts, IfWhole, OnWhole, Wants, weight, most_after};
 
-use crate::messages::{ParseError, Message};
+use crate::keywords::{dimension_of, is_empty, kind_of};
+use crate::messages::{Message, ParseError};
+use crate::parser::coordinates::{close, opening, point};
 use crate::parser::lists::{coordinates, list};
 use crate::tokenizer::peekable::PeekableTokens;
-use crate::parser::coordinates::{close, opening, point};
 use crate::tokenizer::token::Lexeme;
-use crate::keywords::{dimension_of, is_empty, kind_of};
 use std::alloc::Global;
 use wkt_access::Dimension;
 use wkt_num::WktNum;
@@ -68,7 +68,9 @@ fn header<T: WktNum>(
 {
     let word = match tokens.take() {
         Lexeme::Word(word) => word,
-        Lexeme::Number(digits) if T::read_number(digits).is_none() => return Err(Message::BadNumber),
+        Lexeme::Number(digits) if T::read_number(digits).is_none() => return Err(
+            Message::BadNumber,
+        ),
         _ => return Err(if inside {
             Message::Member
         } else {

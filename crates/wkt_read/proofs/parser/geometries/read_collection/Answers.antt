@@ -1,4 +1,4 @@
-use Rattle.std.proofs.Common.{◌≡◌, ◌++◌, ◌∷◌, [], ap, sym, refl, subst, ◌∙◌, arith, length, length-append, Ok, Err}
+use Rattle.std.proofs.Common.{◌≡◌, ◌∷◌, [], ap, sym, refl, subst, ◌∙◌, arith, length, length-append, Ok}
 use Rattle.std.proofs.lemmas.List.{nil_from_length}
 use Rattle.std.specs.Prelude.{map, Vec}
 use Rattle.std.specs.List.{AllByRecursion}

@@ -2,7 +2,7 @@ use Rattle.std.proofs.Common.{◌≤◌, ◌+◌, ◌*◌, ℕ, length}
 use Rattle.std.specs.List.{AllByRecursion}
 use Rattle.wkt_types.specs.declared.geometry_type.GeometryType.TheVariants.{GeometryCollection}
 use Rattle.wkt_read.specs.Placed.{lexemes_of}
-use Rattle.wkt_read.specs.Ahead.{rest, taken_of, IsAfter, IsNear}
+use Rattle.wkt_read.specs.Ahead.{rest, IsAfter, IsNear}
 use Rattle.wkt_read.specs.Parser.Walks.{GoesOn}
 use Rattle.wkt_read.specs.Bad.{HasBad}
 use Rattle.wkt_read.specs.Parser.Errors.{OnBadIn}

@@ -3,7 +3,7 @@ use Rattle.std.specs.Prelude.{map}
 use Rattle.std.specs.List.{AllByRecursion}
 use Rattle.wkt_types.specs.Coords.{numbers_of}
 use Rattle.wkt_types.specs.Values.{HasDim}
-use Rattle.wkt_read.specs.Ahead.{rest, taken_of}
+use Rattle.wkt_read.specs.Ahead.{rest}
 use Rattle.wkt_read.specs.Parser.Walks.{GoesOn}
 use Rattle.wkt_read.specs.Parser.Reading.{coord_at, many_at, tail_at, with_front}
 use Rattle.wkt_read.proofs.parser.lists.coords.Given as goal

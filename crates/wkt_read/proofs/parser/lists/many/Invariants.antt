@@ -1,7 +1,7 @@
 use Rattle.std.proofs.Common.{◌≡◌, ◌≤◌, ℕ, length}
 use Rattle.std.specs.Prelude.{map}
 use Rattle.std.specs.List.{AllByRecursion}
-use Rattle.wkt_read.specs.Ahead.{rest, taken_of}
+use Rattle.wkt_read.specs.Ahead.{rest}
 use Rattle.wkt_read.specs.Parser.Walks.{GoesOn}
 use Rattle.wkt_read.specs.Parser.Reading.{many_at, tail_at, with_front}
 use Rattle.wkt_read.proofs.parser.lists.many.Given as goal
