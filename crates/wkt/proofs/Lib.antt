@@ -7,3 +7,5 @@ pub mod Backs
 pub mod Plain
 pub mod Sends
 pub mod Texts
+pub mod OneWkt
+pub mod BackValues
