@@ -7,3 +7,4 @@ pub mod Backs
 pub mod Plain
 pub mod Sends
 pub mod Texts
+pub mod BackValues

@@ -1,13 +1,18 @@
 -- What the laws of the definitions say; `laws` proves each.
-use Rattle.std.specs.Prelude.{◌≡◌, None, Bool, List, [], ◌∷◌}
+use Rattle.std.specs.Prelude.{◌≡◌, ◌↔◌, ℕ, None, Bool, List, [], ◌∷◌, Option}
 use Rattle.std.specs.List.{AllByRecursion}
 use Rattle.wkt_flat.specs.Rings.{Rings, AreClosed}
 use Rattle.wkt_flat.specs.Equal.{coord_eq}
 use Rattle.wkt.specs.Flatten.{flat}
-use Rattle.wkt_types.specs.Outcome.{value}
+use Rattle.wkt_types.specs.Outcome.{Outcome, value}
+use Rattle.wkt.specs.FromText.{FrontGives}
+use Rattle.wkt_access.specs.Values.{Value}
+use Rattle.wkt_access.specs.Lawful.{IsLawful}
+use Rattle.wkt_access.specs.Texts.{shape_text}
 use Rattle.wkt_access.specs.Shapes.{canon}
 use Rattle.wkt_access.specs.Faults.{fault}
-use Rattle.wkt_types.specs.Values.{tree_shape}
+use Rattle.wkt_types.specs.Tree.{Tree}
+use Rattle.wkt_types.specs.Values.{tree_shape, IsWktOf}
 use Rattle.wkt_flat.specs.Shape.{flat_shape}
 use Rattle.wkt_flat.specs.Tree.{Flat, Flats}
 use Rattle.wkt.specs.Back.{back}
@@ -43,3 +48,9 @@ abbrev mutual
 -- A plain value comes back from its `Wkt`.
 abbrev pub PlainComesBack : {T : Type 0} → (T → T → Bool) → Type 0
 PlainComesBack {T} E = (t : Flat T) → IsPlain t → flat (coord_eq E) (back t) ≡ value t
+
+-- The text of a plain flat value is answered with that value, and with nothing else.
+abbrev pub PlainReadsBack : {T : Type 0} → (T → Type 0) → (T → List ℕ) → (List ℕ → Option T) → (T → T → Bool) → Type 0
+PlainReadsBack {T} is_value num read E =
+    (t : Flat T) → IsPlain t → IsLawful is_value (flat_shape t) → (o : Outcome (Flat T))
+    → FrontGives read (flat (coord_eq E)) (shape_text num (flat_shape t)) o ↔ (o ≡ value t)

@@ -3,5 +3,5 @@ pub mod Flatten
 pub mod Kinds
 pub mod Back
 pub mod Sent
-pub mod Laws
 pub mod FromText
+pub mod Laws

@@ -101,57 +101,35 @@ fn empty_members_are_refused(rt: HostRuntime) -> Result<(), Fail> {
     Ok(())
 }
 
-/// Kinds of flat value that a geometry of this kind becomes by `convert_from`.
-fn kinds(alloc: Global, text: &str) -> Result<String, Fail> {
-    let mut names = String::new(alloc);
-    if Point::convert_from(alloc, wkt(alloc, text)?).is_ok() {
-        names.push_str("Point ")?;
-    }
-    if Line::convert_from(alloc, wkt(alloc, text)?).is_ok() {
-        names.push_str("Line ")?;
-    }
-    if LineString::convert_from(alloc, wkt(alloc, text)?).is_ok() {
-        names.push_str("LineString ")?;
-    }
-    if Polygon::convert_from(alloc, wkt(alloc, text)?).is_ok() {
-        names.push_str("Polygon ")?;
-    }
-    if MultiPoint::convert_from(alloc, wkt(alloc, text)?).is_ok() {
-        names.push_str("MultiPoint ")?;
-    }
-    if MultiLineString::convert_from(alloc, wkt(alloc, text)?).is_ok() {
-        names.push_str("MultiLineString ")?;
-    }
-    if MultiPolygon::convert_from(alloc, wkt(alloc, text)?).is_ok() {
-        names.push_str("MultiPolygon ")?;
-    }
-    if GeometryCollection::convert_from(alloc, wkt(alloc, text)?).is_ok() {
-        names.push_str("GeometryCollection ")?;
-    }
-    if Rect::convert_from(alloc, wkt(alloc, text)?).is_ok() {
-        names.push_str("Rect ")?;
-    }
-    if Triangle::convert_from(alloc, wkt(alloc, text)?).is_ok() {
-        names.push_str("Triangle ")?;
-    }
-    Ok(names)
+/// Whether the text's geometry becomes a flat value of that type by `convert_from`.
+fn becomes<G: ConvertFrom<Wkt<Number>> + Drop>(alloc: Global, text: &str) -> Result<bool, Fail> {
+    Ok(G::convert_from(alloc, wkt(alloc, text)?).is_ok())
 }
 
 #[test]
 fn each_kind_becomes_one(rt: HostRuntime) -> Result<(), Fail> {
     let alloc = rt.alloc();
-    for (text, want) in [
-        ("POINT(1 2)", "Point "),
-        ("POINT EMPTY", "MultiPoint "),
-        ("LINESTRING(1 2,3 4)", "LineString "),
-        ("POLYGON((8 4,8 8,4 8,4 4,8 4))", "Polygon "),
-        ("MULTIPOINT(1 2)", "MultiPoint "),
-        ("MULTIPOINT(EMPTY)", ""),
-        ("MULTILINESTRING EMPTY", "MultiLineString "),
-        ("MULTIPOLYGON EMPTY", "MultiPolygon "),
-        ("GEOMETRYCOLLECTION(POINT(1 2))", "GeometryCollection "),
+    for (text, kind) in [
+        ("POINT(1 2)", 0u8),
+        ("LINESTRING(1 2,3 4)", 1),
+        ("POLYGON((8 4,8 8,4 8,4 4,8 4))", 2),
+        ("MULTIPOINT(1 2)", 3),
+        ("POINT EMPTY", 3),
+        ("MULTIPOINT(EMPTY)", 7),
+        ("MULTILINESTRING EMPTY", 4),
+        ("MULTIPOLYGON EMPTY", 5),
+        ("GEOMETRYCOLLECTION(POINT(1 2))", 6),
     ] {
-        assert_eq!(rt; kinds(alloc, text)?.as_str(), want);
+        assert_eq!(rt; becomes::<Point<Number>>(alloc, text)?, kind == 0);
+        assert_eq!(rt; becomes::<LineString<Number>>(alloc, text)?, kind == 1);
+        assert_eq!(rt; becomes::<Polygon<Number>>(alloc, text)?, kind == 2);
+        assert_eq!(rt; becomes::<MultiPoint<Number>>(alloc, text)?, kind == 3);
+        assert_eq!(rt; becomes::<MultiLineString<Number>>(alloc, text)?, kind == 4);
+        assert_eq!(rt; becomes::<MultiPolygon<Number>>(alloc, text)?, kind == 5);
+        assert_eq!(rt; becomes::<GeometryCollection<Number>>(alloc, text)?, kind == 6);
+        assert!(rt; !becomes::<Line<Number>>(alloc, text)?);
+        assert!(rt; !becomes::<Rect<Number>>(alloc, text)?);
+        assert!(rt; !becomes::<Triangle<Number>>(alloc, text)?);
     }
     Ok(())
 }

@@ -1,5 +1,5 @@
 //! Laws of flat values and their `Wkt`: each function does nothing, and its contract is the law.
-ghost use Rattle.wkt.specs.Laws.{FlatAndBack, PlainComesBack};
+ghost use Rattle.wkt.specs.Laws.{FlatAndBack, PlainComesBack, PlainReadsBack};
 
 use wkt_num::WktNum;
 
@@ -12,4 +12,10 @@ pub fn flat_and_back<T: WktNum>()
 /// ring is closed, and polygons with an empty exterior have no interiors.
 pub fn plain_comes_back<T: WktNum>()
     ensures { PlainComesBack T.eq }
+{}
+
+/// The text of a flat value is answered with that value, and with nothing else, if the value is as
+/// `plain_comes_back` asks and its numbers are values of the number type.
+pub fn plain_reads_back<T: WktNum>()
+    ensures { PlainReadsBack T.is_value T.num T.read T.eq }
 {}

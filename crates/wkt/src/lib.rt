@@ -83,7 +83,7 @@ pub mod tokenizer {
 /// The laws of the definitions that the contracts cite: public functions with empty bodies, whose
 /// contracts are the laws.
 pub mod laws {
-    pub use crate::flat_laws::{flat_and_back, plain_comes_back};
+    pub use crate::flat_laws::{flat_and_back, plain_comes_back, plain_reads_back};
     pub use wkt_flat::laws::flat_is_writable;
     pub use wkt_num::laws::{finer_keeps, reading_is_equation, wider_keeps};
     pub use wkt_read::laws::{
