@@ -1,6 +1,10 @@
 //! Well-known text read and written, proved: every name of the crates below, in one place.
 #![tactic(auto)]
 
+#[cfg(test)]
+mod macro_tests;
+mod macros;
+
 pub use wkt_num::{Decimal, WktNum};
 pub use wkt_read::{FromWktStr, InferError, ReadError, infer_type};
 pub use wkt_types::Wkt;
