@@ -3,8 +3,10 @@
 
 #[cfg(test)]
 mod macro_tests;
+mod json;
 mod macros;
 
+pub use json::wkt_from_value;
 pub use wkt_num::{Decimal, WktNum};
 pub use wkt_read::{FromWktStr, InferError, ReadError, infer_type};
 pub use wkt_types::Wkt;
@@ -50,6 +52,11 @@ pub mod error {
 /// The lexemes of a text.
 pub mod tokenizer {
     pub use wkt_read::{PeekableTokens, Token, Tokens};
+}
+
+/// Geometries out of JSON.
+pub mod deserialize {
+    pub use crate::json::{ValueError, wkt_from_value};
 }
 
 /// The laws of the definitions that the contracts cite: public functions with empty bodies, whose
