@@ -1,1 +1,8 @@
+pub mod Outcomes
+pub mod Flatten
+pub mod Kinds
+pub mod Back
+pub mod Sent
+pub mod Laws
+pub mod FromText
 pub mod Json

@@ -1,12 +1,36 @@
 //! Well-known text read and written, proved: every name of the crates below, in one place.
 #![tactic(auto)]
 
+mod back;
+mod convert;
+#[cfg(test)]
+mod convert_tests;
+#[cfg(test)]
+mod device_tests;
+mod flat_laws;
+mod flat_text;
+mod flat_to_wkt;
+mod flat_written;
+mod flatten;
+mod from_text;
+mod json;
+#[cfg(test)]
+mod json_tests;
+mod kinds;
 #[cfg(test)]
 mod macro_tests;
-mod json;
 mod macros;
+mod send;
+mod string_text;
+#[cfg(test)]
+mod text_tests;
+mod to_text;
 
-pub use json::wkt_from_value;
+pub use from_text::TryFromWkt;
+pub use json::{
+    ValueError, deserialize_geometry, deserialize_point, deserialize_wkt, wkt_from_value,
+};
+pub use to_text::ToWkt;
 pub use wkt_num::{Decimal, WktNum};
 pub use wkt_read::{FromWktStr, InferError, ReadError, infer_type};
 pub use wkt_types::Wkt;
@@ -22,7 +46,10 @@ pub mod geo_traits {
 
 /// Two-dimensional types.
 pub mod geo_types {
-    pub use wkt_flat::{Coord, Line, Rect, Triangle};
+    pub use wkt_flat::{
+        Coord, Geometry, GeometryCollection, Line, LineString, MultiLineString, MultiPoint,
+        MultiPolygon, Point, Polygon, Rect, Triangle,
+    };
 }
 
 /// The types of well-known text.
@@ -35,6 +62,8 @@ pub mod types {
 
 /// Writing, and where text and bytes go.
 pub mod to_wkt {
+    pub use crate::send::ToWktError;
+    pub use crate::to_text::ToWkt;
     pub use wkt_access::{
         push_geometry, write_geometry, write_geometry_collection, write_line, write_linestring,
         write_multi_linestring, write_multi_point, write_multi_polygon, write_point, write_polygon,
@@ -42,6 +71,12 @@ pub mod to_wkt {
     };
     pub use wkt_bytes::{ByteSink, ByteSource, Counted, ReadAllError, WriterWrapper, read_all};
     pub use wkt_num::{CountedText, FormatterText, TextSink};
+}
+
+/// Conversions of the types of well-known text into two-dimensional ones.
+pub mod geo_types_from_wkt {
+    pub use crate::convert::{ConvertFrom, try_into_geometry, try_into_geometry_collection};
+    pub use wkt_types::ConvertError as Error;
 }
 
 /// Why a geometry isn't written.
@@ -56,12 +91,18 @@ pub mod tokenizer {
 
 /// Geometries out of JSON.
 pub mod deserialize {
-    pub use crate::json::{ValueError, wkt_from_value};
+    pub use crate::json::{ValueError, deserialize_wkt, wkt_from_value};
+
+    /// Two-dimensional geometries out of JSON.
+    pub mod geo_types {
+        pub use crate::json::{deserialize_geometry, deserialize_point};
+    }
 }
 
 /// The laws of the definitions that the contracts cite: public functions with empty bodies, whose
 /// contracts are the laws.
 pub mod laws {
+    pub use crate::flat_laws::{flat_and_back, plain_comes_back};
     pub use wkt_num::laws::{finer_keeps, reading_is_equation, wider_keeps};
     pub use wkt_read::laws::{
         canon_once, dead_for_good, front_is_writable, head_names, old_forms, one_form, one_front,

@@ -6,3 +6,5 @@ pub mod Tree
 pub mod Trees
 pub mod Values
 pub mod Shown
+pub mod Outcome
+pub mod Flattened

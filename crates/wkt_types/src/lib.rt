@@ -2,6 +2,7 @@
 #![tactic(auto)]
 
 mod access;
+mod convert;
 mod coord;
 mod copies;
 mod dimension;
@@ -19,6 +20,7 @@ mod show;
 #[cfg(test)]
 mod tests;
 
+pub use convert::ConvertError;
 pub use coord::Coord;
 pub use geometry::{GeometryCollection, Wkt};
 pub use geometry_type::GeometryType;

@@ -1,0 +1,6 @@
+use Rattle.wkt_flat.specs.Exact.{exact_by}
+use Rattle.wkt.proofs.Plain.{again}
+use Rattle.wkt.proofs.flat_laws.plain_comes_back.Goals as goal
+
+pub returns : goal.returns
+returns g c = again (exact_by g.met.T.WktNum.same)

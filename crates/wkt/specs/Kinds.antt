@@ -1,0 +1,70 @@
+-- A flat value of one kind asked of a geometry of any.
+use Rattle.std.specs.Prelude.{List, Option, Some, None, ℕ, codes}
+use Rattle.wkt_types.specs.Outcome.{Outcome, value, refused, mismatched}
+use Rattle.wkt_flat.specs.Corners.{Corners}
+use Rattle.wkt_flat.specs.Rings.{Rings}
+use Rattle.wkt_flat.specs.Tree.{Flat}
+use Rattle.wkt_flat.specs.declared.coord.Coord.{Coord}
+use Rattle.wkt_flat.specs.declared.line.Line.{Line}
+use Rattle.wkt_flat.specs.declared.point.Point.{Point}
+use Rattle.wkt_flat.specs.declared.triangle.Triangle.{Triangle}
+
+-- The plain name of a flat kind.
+abbrev pub flat_name : {T : Type 0} → Flat T → List ℕ
+flat_name (Flat.point p) = codes "Point"
+flat_name (Flat.line l) = codes "Line"
+flat_name (Flat.line_string l) = codes "LineString"
+flat_name (Flat.polygon y) = codes "Polygon"
+flat_name (Flat.multi_point m) = codes "MultiPoint"
+flat_name (Flat.multi_line_string m) = codes "MultiLineString"
+flat_name (Flat.multi_polygon m) = codes "MultiPolygon"
+flat_name (Flat.collection ts) = codes "GeometryCollection"
+flat_name (Flat.rect r) = codes "Rect"
+flat_name (Flat.triangle t) = codes "Triangle"
+
+-- What is asked for, or else a mismatch of names.
+abbrev pub asked : {X : Type 0} → List ℕ → List ℕ → Option X → Outcome X
+asked expected found (Some x) = value x
+asked expected found None = refused (mismatched expected found)
+
+-- The content of a flat value that is of the kind asked for; a fault of the conversion comes first.
+abbrev pub only : {T X : Type 0} → List ℕ → (Flat T → Option X) → Outcome (Flat T) → Outcome X
+only expected pick (value t) = asked expected (flat_name t) (pick t)
+only expected pick (refused k) = refused k
+
+-- The content of each kind, if the value is of that kind.
+abbrev pub point_in : {T : Type 0} → Flat T → Option (Point T)
+point_in (Flat.point p) = Some p
+point_in _ = None
+
+abbrev pub line_in : {T : Type 0} → Flat T → Option (Line T)
+line_in (Flat.line l) = Some l
+line_in _ = None
+
+abbrev pub path_in : {T : Type 0} → Flat T → Option (List (Coord T))
+path_in (Flat.line_string l) = Some l
+path_in _ = None
+
+abbrev pub rings_in : {T : Type 0} → Flat T → Option (Rings (Coord T))
+rings_in (Flat.polygon y) = Some y
+rings_in _ = None
+
+abbrev pub points_in : {T : Type 0} → Flat T → Option (List (Point T))
+points_in (Flat.multi_point m) = Some m
+points_in _ = None
+
+abbrev pub paths_in : {T : Type 0} → Flat T → Option (List (List (Coord T)))
+paths_in (Flat.multi_line_string m) = Some m
+paths_in _ = None
+
+abbrev pub polygons_in : {T : Type 0} → Flat T → Option (List (Rings (Coord T)))
+polygons_in (Flat.multi_polygon m) = Some m
+polygons_in _ = None
+
+abbrev pub corners_in : {T : Type 0} → Flat T → Option (Corners T)
+corners_in (Flat.rect r) = Some r
+corners_in _ = None
+
+abbrev pub triangle_in : {T : Type 0} → Flat T → Option (Triangle T)
+triangle_in (Flat.triangle t) = Some t
+triangle_in _ = None

@@ -1,0 +1,278 @@
+//! Each conversion once, and all of them at many sizes.
+use crate::geo_types_from_wkt::{
+    ConvertFrom, Error, try_into_geometry, try_into_geometry_collection,
+};
+use crate::{FromWktStr, ToWkt, TryFromWkt, Wkt, types};
+use std::alloc::Global;
+use std::process::Abort;
+use std::test::Fail;
+use wkt_bytes::Counted;
+use wkt_flat::{
+    Geometry, GeometryCollection, Line, LineString, MultiLineString, MultiPoint, MultiPolygon,
+    Point, Polygon, Rect, Triangle,
+};
+use wkt_num::Decimal;
+
+type Number = Decimal<6>;
+
+fn wkt(alloc: Global, text: &str) -> Result<Wkt<Number>, Fail> {
+    Ok(Wkt::from_str(alloc, text)?)
+}
+
+/// The text of the flat value of a value of that type, by value and by reference.
+fn both_ways(alloc: Global, text: &str) -> Result<String, Fail> {
+    let (by_reference, by_value) = match wkt(alloc, text)? {
+        Wkt::LineString(x) => (
+            Geometry::convert_from(alloc, &x)?,
+            Geometry::from(LineString::convert_from(alloc, x)?),
+        ),
+        Wkt::Polygon(x) => (
+            Geometry::convert_from(alloc, &x)?,
+            Geometry::from(Polygon::convert_from(alloc, x)?),
+        ),
+        Wkt::MultiPoint(x) => (
+            Geometry::convert_from(alloc, &x)?,
+            Geometry::from(MultiPoint::convert_from(alloc, x)?),
+        ),
+        Wkt::MultiLineString(x) => (
+            Geometry::convert_from(alloc, &x)?,
+            Geometry::from(MultiLineString::convert_from(alloc, x)?),
+        ),
+        Wkt::MultiPolygon(x) => (
+            Geometry::convert_from(alloc, &x)?,
+            Geometry::from(MultiPolygon::convert_from(alloc, x)?),
+        ),
+        Wkt::GeometryCollection(x) => (
+            try_into_geometry_collection(alloc, &x)?,
+            Geometry::from(GeometryCollection::convert_from(alloc, x)?),
+        ),
+        Wkt::Point(x) => (
+            try_into_geometry(alloc, &Wkt::Point(x))?,
+            Geometry::convert_from(alloc, Wkt::Point(x))?,
+        ),
+    };
+    if by_reference == by_value {
+        Ok(by_value.wkt_string(alloc)?)
+    } else {
+        Ok(format!(in alloc; "two answers")?)
+    }
+}
+
+#[test]
+fn each_type_is_converted(rt: HostRuntime) -> Result<(), Fail> {
+    let alloc = rt.alloc();
+    for (text, want) in [
+        ("POINT ZM(1 2 3 4)", "POINT(1 2)"),
+        ("POINT M EMPTY", "MULTIPOINT EMPTY"),
+        ("LINESTRING Z(1 2 3,4 5 6)", "LINESTRING(1 2,4 5)"),
+        (
+            "POLYGON M((0 0 9,4 0 9,2 4 9),(1 1 9,2 2 8))",
+            "POLYGON((0 0,4 0,2 4,0 0),(1 1,2 2,1 1))",
+        ),
+        ("POLYGON EMPTY", "POLYGON EMPTY"),
+        ("MULTIPOINT Z(8 4 1,4 0 2)", "MULTIPOINT((8 4),(4 0))"),
+        (
+            "MULTILINESTRING((8 4,-3 0),EMPTY)",
+            "MULTILINESTRING((8 4,-3 0),EMPTY)",
+        ),
+        (
+            "MULTIPOLYGON(((0 0,4 0,2 4)))",
+            "MULTIPOLYGON(((0 0,4 0,2 4,0 0)))",
+        ),
+        (
+            "GEOMETRYCOLLECTION(POLYGON((0 0,4 0,2 4)),POINT EMPTY)",
+            "GEOMETRYCOLLECTION(POLYGON((0 0,4 0,2 4,0 0)),MULTIPOINT EMPTY)",
+        ),
+    ] {
+        assert_eq!(rt; both_ways(alloc, text)?.as_str(), want);
+    }
+    Ok(())
+}
+
+/// A multipoint with an empty member is refused, wherever it stands.
+#[test]
+fn empty_members_are_refused(rt: HostRuntime) -> Result<(), Fail> {
+    let alloc = rt.alloc();
+    let Wkt::MultiPoint(points) = wkt(alloc, "MULTIPOINT(1 2,EMPTY)")? else {
+        panic!(rt; "another kind");
+    };
+    assert!(rt;
+        matches!(
+            Geometry::convert_from(alloc, &points),
+            Err(Error::PointConversionError)
+        )
+    );
+    assert!(rt;
+        matches!(
+            MultiPoint::convert_from(alloc, points),
+            Err(Error::PointConversionError)
+        )
+    );
+    let Wkt::GeometryCollection(all) = wkt(
+        alloc,
+        "GEOMETRYCOLLECTION(POINT(1 2),GEOMETRYCOLLECTION(MULTIPOINT(EMPTY)))",
+    )?
+    else {
+        panic!(rt; "another kind");
+    };
+    assert!(rt;
+        matches!(
+            try_into_geometry_collection(alloc, &all),
+            Err(Error::PointConversionError)
+        )
+    );
+    assert!(rt;
+        matches!(
+            GeometryCollection::convert_from(alloc, all),
+            Err(Error::PointConversionError)
+        )
+    );
+    let empty = types::Point::<Number>::empty(types::Dimension::XYZ);
+    assert!(rt; matches!(Point::try_from(empty), Err(Error::PointConversionError)));
+    Ok(())
+}
+
+/// Kinds of flat value that a geometry of this kind becomes by `convert_from`.
+fn kinds(alloc: Global, text: &str) -> Result<String, Fail> {
+    let mut names = String::new(alloc);
+    if Point::convert_from(alloc, wkt(alloc, text)?).is_ok() {
+        names.push_str("Point ")?;
+    }
+    if Line::convert_from(alloc, wkt(alloc, text)?).is_ok() {
+        names.push_str("Line ")?;
+    }
+    if LineString::convert_from(alloc, wkt(alloc, text)?).is_ok() {
+        names.push_str("LineString ")?;
+    }
+    if Polygon::convert_from(alloc, wkt(alloc, text)?).is_ok() {
+        names.push_str("Polygon ")?;
+    }
+    if MultiPoint::convert_from(alloc, wkt(alloc, text)?).is_ok() {
+        names.push_str("MultiPoint ")?;
+    }
+    if MultiLineString::convert_from(alloc, wkt(alloc, text)?).is_ok() {
+        names.push_str("MultiLineString ")?;
+    }
+    if MultiPolygon::convert_from(alloc, wkt(alloc, text)?).is_ok() {
+        names.push_str("MultiPolygon ")?;
+    }
+    if GeometryCollection::convert_from(alloc, wkt(alloc, text)?).is_ok() {
+        names.push_str("GeometryCollection ")?;
+    }
+    if Rect::convert_from(alloc, wkt(alloc, text)?).is_ok() {
+        names.push_str("Rect ")?;
+    }
+    if Triangle::convert_from(alloc, wkt(alloc, text)?).is_ok() {
+        names.push_str("Triangle ")?;
+    }
+    Ok(names)
+}
+
+#[test]
+fn each_kind_becomes_one(rt: HostRuntime) -> Result<(), Fail> {
+    let alloc = rt.alloc();
+    for (text, want) in [
+        ("POINT(1 2)", "Point "),
+        ("POINT EMPTY", "MultiPoint "),
+        ("LINESTRING(1 2,3 4)", "LineString "),
+        ("POLYGON((8 4,8 8,4 8,4 4,8 4))", "Polygon "),
+        ("MULTIPOINT(1 2)", "MultiPoint "),
+        ("MULTIPOINT(EMPTY)", ""),
+        ("MULTILINESTRING EMPTY", "MultiLineString "),
+        ("MULTIPOLYGON EMPTY", "MultiPolygon "),
+        ("GEOMETRYCOLLECTION(POINT(1 2))", "GeometryCollection "),
+    ] {
+        assert_eq!(rt; kinds(alloc, text)?.as_str(), want);
+    }
+    Ok(())
+}
+
+/// The text of a geometry of n equal members.
+fn members(alloc: Global, word: &str, member: &str, n: usize) -> Result<String, Fail> {
+    let mut text = format!(in alloc; "{word}(")?;
+    for i in 0..n {
+        if i > 0 {
+            text.push_str(",")?;
+        }
+        text.push_str(member)?;
+    }
+    text.push_str(")")?;
+    Ok(text)
+}
+
+/// A text goes through every call and comes back as it was. Its polygons are closed.
+fn comes_back(alloc: Global, text: &str) -> Result<bool, Fail> {
+    let read = Geometry::<Number>::try_from_wkt_reader(alloc, &mut Counted::new(text.as_bytes()))?;
+    let geometry = try_into_geometry(alloc, &wkt(alloc, text)?)?;
+    let mut out = Vec::new(alloc);
+    geometry.write_wkt(alloc, &mut Counted::new(&mut out))?;
+    let displayed = format!(in alloc; "{}", read.to_wkt(alloc)?)?;
+    Ok(
+        read == geometry
+            && read.wkt_string(alloc)?.as_str() == text
+            && out.as_slice() == text.as_bytes()
+            && displayed.as_str() == text,
+    )
+}
+
+/// Geometries of 1 to 300 and of 100,000 members come back. A call that gives up above a size fails here.
+fn all_sizes(rt: &impl Abort, alloc: Global, word: &str, member: &str) -> Result<(), Fail> {
+    for n in 1..=300 {
+        let text = members(alloc, word, member, n)?;
+        assert!(rt; comes_back(alloc, &text)?, "{n} of {word}");
+    }
+    let text = members(alloc, word, member, 100_000)?;
+    assert!(rt; comes_back(alloc, &text)?, "100000 of {word}");
+    Ok(())
+}
+
+#[test]
+fn line_strings_of_all_sizes(rt: HostRuntime) -> Result<(), Fail> {
+    all_sizes(&rt, rt.alloc(), "LINESTRING", "1 2")
+}
+
+#[test]
+fn polygons_of_all_sizes(rt: HostRuntime) -> Result<(), Fail> {
+    all_sizes(&rt, rt.alloc(), "POLYGON", "(1 2)")
+}
+
+#[test]
+fn multipoints_of_all_sizes(rt: HostRuntime) -> Result<(), Fail> {
+    all_sizes(&rt, rt.alloc(), "MULTIPOINT", "(1 2)")
+}
+
+#[test]
+fn multi_line_strings_of_all_sizes(rt: HostRuntime) -> Result<(), Fail> {
+    all_sizes(&rt, rt.alloc(), "MULTILINESTRING", "(1 2)")
+}
+
+#[test]
+fn multi_polygons_of_all_sizes(rt: HostRuntime) -> Result<(), Fail> {
+    all_sizes(&rt, rt.alloc(), "MULTIPOLYGON", "((1 2))")
+}
+
+#[test]
+fn collections_of_all_sizes(rt: HostRuntime) -> Result<(), Fail> {
+    all_sizes(&rt, rt.alloc(), "GEOMETRYCOLLECTION", "POINT(1 2)")
+}
+
+#[test]
+fn multi_polygons_of_many_rings(rt: HostRuntime) -> Result<(), Fail> {
+    let alloc = rt.alloc();
+    for n in [1, 2, 300, 100_000] {
+        let mut text = members(alloc, "MULTIPOLYGON(", "(1 2)", n)?;
+        text.push_str(")")?;
+        assert!(rt; comes_back(alloc, &text)?, "{n} rings");
+    }
+    Ok(())
+}
+
+#[test]
+fn nested_collections(rt: HostRuntime) -> Result<(), Fail> {
+    let alloc = rt.alloc();
+    let mut text = "GEOMETRYCOLLECTION(".repeat(alloc, 300)?;
+    text.push_str("POINT(1 2)")?;
+    text.push_str(&")".repeat(alloc, 300)?)?;
+    assert!(rt; comes_back(alloc, &text)?);
+    Ok(())
+}

@@ -1,0 +1,282 @@
+//! Flat values to writers, and from readers, which are slow or fail.
+ghost use Rattle.std.specs.Prelude.{◌≡◌, ◌≤◌, ◌<◌};
+
+use crate::geo_types_from_wkt::Error;
+use crate::to_wkt::{ByteSink, ByteSource, TextSink, ToWktError, WriterWrapper};
+use crate::{ToWkt, TryFromWkt};
+use std::io;
+use std::io::ErrorKind;
+use std::test::Fail;
+use wkt_access::Error as WriteError;
+use wkt_flat::{Coord, Geometry, GeometryCollection, Line, LineString, Point, Rect};
+use wkt_num::Decimal;
+
+type Number = Decimal<6>;
+
+/// Takes `step` bytes a call, and fails at each call after the first `calls`.
+#[derive(Drop)]
+struct Slow {
+    held: [u8; 512],
+    len: usize,
+    step: usize,
+    calls: usize,
+    failures: u64,
+    ghost fits: { len ≤ 512 },
+}
+
+impl Slow {
+    fn new(step: usize, calls: usize) -> Slow {
+        Slow {
+            held: [0; 512],
+            len: 0,
+            step,
+            calls,
+            failures: 0,
+        }
+    }
+
+    fn taken(&self) -> &[u8] {
+        &self.held[..self.len]
+    }
+}
+
+impl ByteSink for Slow {
+    ghost use Rattle.std.specs.Prelude.{Some, take};
+    ghost use Rattle.wkt_bytes.specs.Device.{owned};
+
+    ghost device = { owned (λ s. Some (take s.len s.held)) (λ s. s.failures) };
+
+    fn put(&mut self, buf: &[u8]) -> io::Result<usize> {
+        if self.calls == 0 {
+            self.failures = self.failures.wrapping_add(1);
+            return Err(io::Error::from(ErrorKind::BrokenPipe));
+        }
+        self.calls -= 1;
+        let count = buf.len().min(self.step).min(512 - self.len);
+        self.held[self.len..self.len + count].copy_from_slice(&buf[..count]);
+        self.len += count;
+        if count == 0 && !buf.is_empty() {
+            self.failures = self.failures.wrapping_add(1);
+        }
+        Ok(count)
+    }
+}
+
+/// Gives `step` bytes a call, and fails at each call after the first `calls`.
+#[derive(Drop)]
+struct Pieces<'a> {
+    rest: &'a [u8],
+    step: usize,
+    calls: usize,
+    failures: u64,
+    ghost moves: { 0 < step },
+}
+
+impl ByteSource for Pieces<'_> {
+    ghost use Rattle.std.specs.Prelude.{Some};
+
+    ghost left = { λ s. Some s.rest.now };
+
+    ghost failures = { λ s. s.failures };
+
+    fn take(&mut self, buf: &mut [u8]) -> io::Result<usize> {
+        if self.calls == 0 {
+            self.failures = self.failures.wrapping_add(1);
+            return Err(io::Error::from(ErrorKind::Interrupted));
+        }
+        self.calls -= 1;
+        let count = buf.len().min(self.step).min(self.rest.len());
+        buf[..count].copy_from_slice(&self.rest[..count]);
+        self.rest = &self.rest[count..];
+        Ok(count)
+    }
+}
+
+/// A source of these bytes, at most so many a call.
+fn source(rest: &[u8], step: usize, calls: usize) -> Pieces<'_>
+    requires { 0 < step }
+{
+    Pieces {
+        rest,
+        step,
+        calls,
+        failures: 0,
+    }
+}
+
+const TEXT: &[u8] = b"POINT(1.2 3.4)";
+
+fn point() -> Point<Number> {
+    Point::new(
+        Decimal::from_units(1_200_000),
+        Decimal::from_units(3_400_000),
+    )
+}
+
+/// The kind of the writer's error that the answer tells.
+fn io_kind(answer: Result<(), ToWktError>) -> Option<ErrorKind> {
+    match answer {
+        Err(ToWktError::Io(e)) => Some(e.kind()),
+        _ => None,
+    }
+}
+
+#[test]
+fn one_byte_a_call(rt: HostRuntime) -> Result<(), Fail> {
+    let alloc = rt.alloc();
+    let mut writer = Slow::new(1, 100);
+    point().write_wkt(alloc, &mut writer)?;
+    assert_eq!(rt; writer.taken(), TEXT);
+    assert_eq!(rt; writer.calls, 100 - 14);
+    let mut writer = Slow::new(1, 100);
+    Geometry::from(point()).write_wkt(alloc, &mut writer)?;
+    assert_eq!(rt; writer.taken(), TEXT);
+    let rect = Rect::new(Coord { x: 4i32, y: 4 }, Coord { x: 8, y: 8 });
+    let mut writer = Slow::new(1, 100);
+    rect.write_wkt(alloc, &mut writer)?;
+    assert_eq!(rt;
+        writer.taken(),
+        b"POLYGON((8 4,8 8,4 8,4 4,8 4))".as_slice()
+    );
+    Ok(())
+}
+
+#[test]
+fn fails_at_each_call(rt: HostRuntime) -> Result<(), Fail> {
+    let alloc = rt.alloc();
+    for k in 1..=14 {
+        let mut writer = Slow::new(1, k - 1);
+        let answer = point().write_wkt(alloc, &mut writer);
+        assert_eq!(rt; io_kind(answer), Some(ErrorKind::BrokenPipe));
+        assert_eq!(rt; writer.taken(), &TEXT[..k - 1]);
+        let mut writer = Slow::new(1, k - 1);
+        let answer = Geometry::from(point()).write_wkt(alloc, &mut writer);
+        assert_eq!(rt; io_kind(answer), Some(ErrorKind::BrokenPipe));
+        assert_eq!(rt; writer.taken(), &TEXT[..k - 1]);
+    }
+    let mut writer = Slow::new(5, 1);
+    let answer = point().write_wkt(alloc, &mut writer);
+    assert_eq!(rt; io_kind(answer), Some(ErrorKind::BrokenPipe));
+    assert_eq!(rt; writer.taken(), b"POINT".as_slice());
+    Ok(())
+}
+
+#[test]
+fn takes_nothing(rt: HostRuntime) -> Result<(), Fail> {
+    let mut writer = Slow::new(0, 100);
+    let answer = point().write_wkt(rt.alloc(), &mut writer);
+    assert_eq!(rt; io_kind(answer), Some(ErrorKind::WriteZero));
+    assert_eq!(rt; writer.taken().len(), 0);
+    assert_eq!(rt; writer.calls, 99);
+    Ok(())
+}
+
+#[test]
+fn gathers_256_bytes(rt: HostRuntime) -> Result<(), Fail> {
+    let alloc = rt.alloc();
+    let mut coords = Vec::new(alloc);
+    for _ in 0..100 {
+        coords.push(Coord { x: 1i32, y: 1 })?;
+    }
+    let line = LineString(coords);
+    let mut writer = Slow::new(1000, 100);
+    line.write_wkt(alloc, &mut writer)?;
+    assert_eq!(rt; writer.len, 411);
+    assert_eq!(rt; writer.calls, 98);
+    let mut writer = Slow::new(1000, 1);
+    let answer = line.write_wkt(alloc, &mut writer);
+    assert_eq!(rt; io_kind(answer), Some(ErrorKind::BrokenPipe));
+    assert_eq!(rt; writer.len, 256);
+    let piece = "POINT Z ".repeat(alloc, 16)?;
+    let mut writer = Slow::new(1000, 100);
+    let mut wrapper = WriterWrapper::new(&mut writer);
+    assert!(rt; wrapper.write_str(&piece).is_ok());
+    assert!(rt; wrapper.write_str(&piece).is_ok());
+    assert!(rt; wrapper.finish().is_ok());
+    wrapper.into_writer();
+    assert_eq!(rt; writer.len, 256);
+    assert_eq!(rt; writer.calls, 99);
+    Ok(())
+}
+
+#[test]
+fn reads_one_byte_a_call(rt: HostRuntime) -> Result<(), Fail> {
+    let alloc = rt.alloc();
+    let mut reader = source(b"POINT(10 20)", 1, 100);
+    let Ok(point) = Point::<Number>::try_from_wkt_reader(alloc, &mut reader) else {
+        panic!(rt; "a point wasn't read");
+    };
+    assert_eq!(rt; point.x().units(), 10_000_000);
+    assert_eq!(rt; point.y().units(), 20_000_000);
+    assert_eq!(rt; reader.rest.len(), 0);
+    // What follows the front is read too, and isn't looked at.
+    let mut reader = source(b"LINESTRING(1 2,3 4)x(", 3, 100);
+    let Ok(line) = LineString::<i32>::try_from_wkt_reader(alloc, &mut reader) else {
+        panic!(rt; "a line string wasn't read");
+    };
+    assert_eq!(rt; line.0.len(), 2);
+    assert_eq!(rt; reader.rest.len(), 0);
+    Ok(())
+}
+
+#[test]
+fn reader_fails(rt: HostRuntime) -> Result<(), Fail> {
+    let mut reader = source(b"POINT(10 20)", 1, 2);
+    match Point::<Number>::try_from_wkt_reader(rt.alloc(), &mut reader) {
+        Err(Error::Reader(e)) => assert!(rt; e.kind() == ErrorKind::Interrupted),
+        _ => panic!(rt; "a reader that failed was answered otherwise"),
+    }
+    assert_eq!(rt; reader.failures, 1);
+    Ok(())
+}
+
+#[test]
+fn bytes_that_are_no_text(rt: HostRuntime) -> Result<(), Fail> {
+    let alloc = rt.alloc();
+    for bytes in [
+        b"POINT (1 2)\xc2".as_slice(),
+        b"\xc2".as_slice(),
+        b"LINESTRING(\xff".as_slice(),
+    ] {
+        for step in [1usize, 1000] {
+            let answer = Geometry::<Number>::try_from_wkt_reader(
+                alloc,
+                &mut source(bytes, step, 100),
+            );
+            assert!(rt; matches!(answer, Err(Error::Utf8)));
+            let answer = Point::<Number>::try_from_wkt_reader(alloc, &mut source(bytes, step, 100));
+            assert!(rt; matches!(answer, Err(Error::Utf8)));
+        }
+    }
+    let mut reader = source(b"POINT (1 2)", 4, 100);
+    match Line::<Number>::try_from_wkt_reader(alloc, &mut reader) {
+        Err(Error::MismatchedGeometry { expected, found }) => {
+            assert_eq!(rt; expected, "Line");
+            assert_eq!(rt; found, "Point");
+        }
+        _ => panic!(rt; "a point became a line"),
+    }
+    let mut reader = source(b"", 4, 100);
+    match GeometryCollection::<Number>::try_from_wkt_reader(alloc, &mut reader) {
+        Err(Error::InvalidWKT(message)) => assert_eq!(rt; message, "Invalid WKT format"),
+        _ => panic!(rt; "nothing was read as a collection"),
+    }
+    Ok(())
+}
+
+#[test]
+fn errors_have_texts(rt: HostRuntime) -> Result<(), Fail> {
+    let alloc = rt.alloc();
+    let shape = ToWktError::Shape(WriteError::TooFewNumbers);
+    let text = format!(in alloc; "{shape}")?;
+    assert_eq!(rt;
+        text.as_str(),
+        "A coordinate has fewer numbers than its dimension."
+    );
+    let fault = io::Error::from(ErrorKind::WriteZero);
+    let want = format!(in alloc; "{fault}")?;
+    let fault = ToWktError::Io(fault);
+    let text = format!(in alloc; "{fault}")?;
+    assert_eq!(rt; text.as_str(), want.as_str());
+    Ok(())
+}

@@ -1,0 +1,410 @@
+//! Types that are read from well-known text through a conversion.
+ghost use Rattle.std.specs.Prelude.{◌≡◌, ℕ, List, MatchResult, Result, IfSome, codes};
+ghost use Rattle.std.specs.Io.KnownBytes.{IsAtEnd};
+ghost use Rattle.std.specs.String.{string_bytes};
+ghost use Rattle.wkt_num.specs.Sink.{next_count};
+ghost use Rattle.wkt_types.specs.Tree.{tree};
+ghost use Rattle.wkt_flat.specs.Tree.{flat_tree, flat_trees};
+ghost use Rattle.wkt_flat.specs.Equal.{coord_eq};
+ghost use Rattle.wkt_read.specs.Answered.{IsFront};
+ghost use Rattle.wkt.specs.Flatten.{flat, flat_collection};
+ghost use Rattle.wkt.specs.FromText.{TextAnswers, BytesAnswer, IfAllRead, IfReader, IsUnread, IsUntold};
+ghost use Rattle.wkt.specs.Kinds.{only, point_in, line_in, path_in, rings_in, points_in, paths_in, polygons_in, corners_in, triangle_in};
+
+use crate::convert::ConvertFrom;
+use std::alloc::Global;
+use wkt_bytes::{ByteSource, ReadAllError, read_all};
+use wkt_flat as flat;
+use wkt_num::WktNum;
+use wkt_read::{FromWktStr, ReadError};
+use wkt_types::{ConvertError, Wkt};
+
+/// A type that is read from well-known text through a conversion.
+///
+/// ```text
+/// let point = Point::<Decimal<6>>::try_from_wkt_str(alloc, "POINT (10 20)")?;
+/// ```
+pub trait TryFromWkt<T>: Sized {
+    /// Why a text is refused.
+    type Error;
+
+    /// What a text may be answered with.
+    ghost answers: { List ℕ → Result Self Self.Error → Type 0 };
+
+    /// What all bytes of a source may be answered with.
+    ghost bytes_answers: { List ℕ → Result Self Self.Error → Type 0 };
+
+    /// A fact claimed of each answer that comes after all bytes were read.
+    ghost if_all_read: { Result Self Self.Error → Type 0 → Type 0 };
+
+    /// A fact claimed where the source failed.
+    ghost if_failed: { Result Self Self.Error → Type 0 → Type 0 };
+
+    /// The value of the geometry at the front of the text. What follows the front isn't looked at.
+    ///
+    /// # Errors
+    /// `InvalidWKT` with the reader's message where the text doesn't begin with a geometry; then the
+    /// refusal of the conversion; `Memory` where no memory is left.
+    fn try_from_wkt_str(alloc: Global, text: &str) -> Result<Self, Self::Error>
+        ensures { answers text.now result };
+
+    /// The value of the geometry at the front of the text that the source holds. The source is read to
+    /// its end first.
+    ///
+    /// # Errors
+    /// `Reader` where the source failed, by an error of whatever kind; then `Utf8`; then the errors of
+    /// `try_from_wkt_str`. A source without end comes to `Memory`.
+    fn try_from_wkt_reader<R: ByteSource>(
+        alloc: Global,
+        reader: &mut R,
+    ) -> Result<Self, Self::Error>
+        ensures answer { IfSome (R.left reader.old) (λ bs. bytes_answers bs result) }
+        ensures end { if_all_read result (IsAtEnd (R.left reader.new)) }
+        ensures failed { if_failed result (R.failures reader.new ≡ next_count (R.failures reader.old)) };
+}
+
+/// The geometry at the front of the text.
+fn read_text<T: WktNum>(alloc: Global, text: &str) -> Result<Wkt<T>, ConvertError>
+    ensures { MatchResult result (λ w. IsFront T.read text.now (tree w)) (IsUnread T.read text.now) }
+{
+    match Wkt::<T>::from_str(alloc, text) {
+        Ok(wkt) => Ok(wkt),
+        Err(ReadError::Text(message)) => Err(ConvertError::InvalidWKT(message)),
+        Err(ReadError::Memory(error)) => Err(ConvertError::Memory(error)),
+    }
+}
+
+/// The text that the source holds.
+fn text_from<R: ByteSource>(alloc: Global, reader: &mut R) -> Result<String, ConvertError>
+    ensures text { IfSome (R.left reader.old) (λ bs. MatchResult result (λ s. string_bytes s ≡ bs) (IsUntold bs)) }
+    ensures end { IfAllRead result (IsAtEnd (R.left reader.new)) }
+    ensures failed { IfReader result (R.failures reader.new ≡ next_count (R.failures reader.old)) }
+{
+    match read_all(alloc, reader) {
+        Ok(bytes) => match String::from_utf8(bytes) {
+            Ok(text) => Ok(text),
+            Err(_) => Err(ConvertError::Utf8),
+        },
+        Err(ReadAllError::Read(error)) => Err(ConvertError::Reader(error)),
+        Err(ReadAllError::Memory(error)) => Err(ConvertError::Memory(error)),
+    }
+}
+
+impl<T: WktNum> TryFromWkt<T> for flat::Point<T> {
+    type Error = ConvertError;
+
+    ghost answers = { λ text r. TextAnswers T.read (λ x. x) (λ t. only (codes "Point") point_in (flat (coord_eq T.eq) t)) text r };
+
+    ghost bytes_answers = { λ bytes r. BytesAnswer T.read (λ x. x) (λ t. only (codes "Point") point_in (flat (coord_eq T.eq) t)) bytes r };
+
+    ghost if_all_read = { IfAllRead };
+
+    ghost if_failed = { IfReader };
+
+    fn try_from_wkt_str(alloc: Global, text: &str) -> Result<Self, ConvertError> {
+        match read_text(alloc, text) {
+            Ok(wkt) => Self::convert_from(alloc, wkt),
+            Err(e) => Err(e),
+        }
+    }
+
+    fn try_from_wkt_reader<R: ByteSource>(
+        alloc: Global,
+        reader: &mut R,
+    ) -> Result<Self, ConvertError> {
+        match text_from(alloc, reader) {
+            Ok(text) => Self::try_from_wkt_str(alloc, &text),
+            Err(e) => Err(e),
+        }
+    }
+}
+
+impl<T: WktNum> TryFromWkt<T> for flat::Line<T> {
+    type Error = ConvertError;
+
+    ghost answers = { λ text r. TextAnswers T.read (λ x. x) (λ t. only (codes "Line") line_in (flat (coord_eq T.eq) t)) text r };
+
+    ghost bytes_answers = { λ bytes r. BytesAnswer T.read (λ x. x) (λ t. only (codes "Line") line_in (flat (coord_eq T.eq) t)) bytes r };
+
+    ghost if_all_read = { IfAllRead };
+
+    ghost if_failed = { IfReader };
+
+    fn try_from_wkt_str(alloc: Global, text: &str) -> Result<Self, ConvertError> {
+        match read_text(alloc, text) {
+            Ok(wkt) => Self::convert_from(alloc, wkt),
+            Err(e) => Err(e),
+        }
+    }
+
+    fn try_from_wkt_reader<R: ByteSource>(
+        alloc: Global,
+        reader: &mut R,
+    ) -> Result<Self, ConvertError> {
+        match text_from(alloc, reader) {
+            Ok(text) => Self::try_from_wkt_str(alloc, &text),
+            Err(e) => Err(e),
+        }
+    }
+}
+
+impl<T: WktNum> TryFromWkt<T> for flat::LineString<T> {
+    type Error = ConvertError;
+
+    ghost answers = { λ text r. TextAnswers T.read (λ x. x) (λ t. only (codes "LineString") path_in (flat (coord_eq T.eq) t)) text r };
+
+    ghost bytes_answers = { λ bytes r. BytesAnswer T.read (λ x. x) (λ t. only (codes "LineString") path_in (flat (coord_eq T.eq) t)) bytes r };
+
+    ghost if_all_read = { IfAllRead };
+
+    ghost if_failed = { IfReader };
+
+    fn try_from_wkt_str(alloc: Global, text: &str) -> Result<Self, ConvertError> {
+        match read_text(alloc, text) {
+            Ok(wkt) => Self::convert_from(alloc, wkt),
+            Err(e) => Err(e),
+        }
+    }
+
+    fn try_from_wkt_reader<R: ByteSource>(
+        alloc: Global,
+        reader: &mut R,
+    ) -> Result<Self, ConvertError> {
+        match text_from(alloc, reader) {
+            Ok(text) => Self::try_from_wkt_str(alloc, &text),
+            Err(e) => Err(e),
+        }
+    }
+}
+
+impl<T: WktNum> TryFromWkt<T> for flat::Polygon<T> {
+    type Error = ConvertError;
+
+    ghost answers = { λ text r. TextAnswers T.read (λ x. x) (λ t. only (codes "Polygon") rings_in (flat (coord_eq T.eq) t)) text r };
+
+    ghost bytes_answers = { λ bytes r. BytesAnswer T.read (λ x. x) (λ t. only (codes "Polygon") rings_in (flat (coord_eq T.eq) t)) bytes r };
+
+    ghost if_all_read = { IfAllRead };
+
+    ghost if_failed = { IfReader };
+
+    fn try_from_wkt_str(alloc: Global, text: &str) -> Result<Self, ConvertError> {
+        match read_text(alloc, text) {
+            Ok(wkt) => Self::convert_from(alloc, wkt),
+            Err(e) => Err(e),
+        }
+    }
+
+    fn try_from_wkt_reader<R: ByteSource>(
+        alloc: Global,
+        reader: &mut R,
+    ) -> Result<Self, ConvertError> {
+        match text_from(alloc, reader) {
+            Ok(text) => Self::try_from_wkt_str(alloc, &text),
+            Err(e) => Err(e),
+        }
+    }
+}
+
+impl<T: WktNum> TryFromWkt<T> for flat::MultiPoint<T> {
+    type Error = ConvertError;
+
+    ghost answers = { λ text r. TextAnswers T.read (λ x. x) (λ t. only (codes "MultiPoint") points_in (flat (coord_eq T.eq) t)) text r };
+
+    ghost bytes_answers = { λ bytes r. BytesAnswer T.read (λ x. x) (λ t. only (codes "MultiPoint") points_in (flat (coord_eq T.eq) t)) bytes r };
+
+    ghost if_all_read = { IfAllRead };
+
+    ghost if_failed = { IfReader };
+
+    fn try_from_wkt_str(alloc: Global, text: &str) -> Result<Self, ConvertError> {
+        match read_text(alloc, text) {
+            Ok(wkt) => Self::convert_from(alloc, wkt),
+            Err(e) => Err(e),
+        }
+    }
+
+    fn try_from_wkt_reader<R: ByteSource>(
+        alloc: Global,
+        reader: &mut R,
+    ) -> Result<Self, ConvertError> {
+        match text_from(alloc, reader) {
+            Ok(text) => Self::try_from_wkt_str(alloc, &text),
+            Err(e) => Err(e),
+        }
+    }
+}
+
+impl<T: WktNum> TryFromWkt<T> for flat::MultiLineString<T> {
+    type Error = ConvertError;
+
+    ghost answers = { λ text r. TextAnswers T.read (λ x. x) (λ t. only (codes "MultiLineString") paths_in (flat (coord_eq T.eq) t)) text r };
+
+    ghost bytes_answers = { λ bytes r. BytesAnswer T.read (λ x. x) (λ t. only (codes "MultiLineString") paths_in (flat (coord_eq T.eq) t)) bytes r };
+
+    ghost if_all_read = { IfAllRead };
+
+    ghost if_failed = { IfReader };
+
+    fn try_from_wkt_str(alloc: Global, text: &str) -> Result<Self, ConvertError> {
+        match read_text(alloc, text) {
+            Ok(wkt) => Self::convert_from(alloc, wkt),
+            Err(e) => Err(e),
+        }
+    }
+
+    fn try_from_wkt_reader<R: ByteSource>(
+        alloc: Global,
+        reader: &mut R,
+    ) -> Result<Self, ConvertError> {
+        match text_from(alloc, reader) {
+            Ok(text) => Self::try_from_wkt_str(alloc, &text),
+            Err(e) => Err(e),
+        }
+    }
+}
+
+impl<T: WktNum> TryFromWkt<T> for flat::MultiPolygon<T> {
+    type Error = ConvertError;
+
+    ghost answers = { λ text r. TextAnswers T.read (λ x. x) (λ t. only (codes "MultiPolygon") polygons_in (flat (coord_eq T.eq) t)) text r };
+
+    ghost bytes_answers = { λ bytes r. BytesAnswer T.read (λ x. x) (λ t. only (codes "MultiPolygon") polygons_in (flat (coord_eq T.eq) t)) bytes r };
+
+    ghost if_all_read = { IfAllRead };
+
+    ghost if_failed = { IfReader };
+
+    fn try_from_wkt_str(alloc: Global, text: &str) -> Result<Self, ConvertError> {
+        match read_text(alloc, text) {
+            Ok(wkt) => Self::convert_from(alloc, wkt),
+            Err(e) => Err(e),
+        }
+    }
+
+    fn try_from_wkt_reader<R: ByteSource>(
+        alloc: Global,
+        reader: &mut R,
+    ) -> Result<Self, ConvertError> {
+        match text_from(alloc, reader) {
+            Ok(text) => Self::try_from_wkt_str(alloc, &text),
+            Err(e) => Err(e),
+        }
+    }
+}
+
+impl<T: WktNum> TryFromWkt<T> for flat::Rect<T> {
+    type Error = ConvertError;
+
+    ghost answers = { λ text r. TextAnswers T.read (λ x. x) (λ t. only (codes "Rect") corners_in (flat (coord_eq T.eq) t)) text r };
+
+    ghost bytes_answers = { λ bytes r. BytesAnswer T.read (λ x. x) (λ t. only (codes "Rect") corners_in (flat (coord_eq T.eq) t)) bytes r };
+
+    ghost if_all_read = { IfAllRead };
+
+    ghost if_failed = { IfReader };
+
+    fn try_from_wkt_str(alloc: Global, text: &str) -> Result<Self, ConvertError> {
+        match read_text(alloc, text) {
+            Ok(wkt) => Self::convert_from(alloc, wkt),
+            Err(e) => Err(e),
+        }
+    }
+
+    fn try_from_wkt_reader<R: ByteSource>(
+        alloc: Global,
+        reader: &mut R,
+    ) -> Result<Self, ConvertError> {
+        match text_from(alloc, reader) {
+            Ok(text) => Self::try_from_wkt_str(alloc, &text),
+            Err(e) => Err(e),
+        }
+    }
+}
+
+impl<T: WktNum> TryFromWkt<T> for flat::Triangle<T> {
+    type Error = ConvertError;
+
+    ghost answers = { λ text r. TextAnswers T.read (λ x. x) (λ t. only (codes "Triangle") triangle_in (flat (coord_eq T.eq) t)) text r };
+
+    ghost bytes_answers = { λ bytes r. BytesAnswer T.read (λ x. x) (λ t. only (codes "Triangle") triangle_in (flat (coord_eq T.eq) t)) bytes r };
+
+    ghost if_all_read = { IfAllRead };
+
+    ghost if_failed = { IfReader };
+
+    fn try_from_wkt_str(alloc: Global, text: &str) -> Result<Self, ConvertError> {
+        match read_text(alloc, text) {
+            Ok(wkt) => Self::convert_from(alloc, wkt),
+            Err(e) => Err(e),
+        }
+    }
+
+    fn try_from_wkt_reader<R: ByteSource>(
+        alloc: Global,
+        reader: &mut R,
+    ) -> Result<Self, ConvertError> {
+        match text_from(alloc, reader) {
+            Ok(text) => Self::try_from_wkt_str(alloc, &text),
+            Err(e) => Err(e),
+        }
+    }
+}
+
+impl<T: WktNum> TryFromWkt<T> for flat::GeometryCollection<T> {
+    type Error = ConvertError;
+
+    ghost answers = { λ text r. TextAnswers T.read flat_trees (flat_collection (coord_eq T.eq)) text r };
+
+    ghost bytes_answers = { λ bytes r. BytesAnswer T.read flat_trees (flat_collection (coord_eq T.eq)) bytes r };
+
+    ghost if_all_read = { IfAllRead };
+
+    ghost if_failed = { IfReader };
+
+    fn try_from_wkt_str(alloc: Global, text: &str) -> Result<Self, ConvertError> {
+        match read_text(alloc, text) {
+            Ok(wkt) => Self::convert_from(alloc, wkt),
+            Err(e) => Err(e),
+        }
+    }
+
+    fn try_from_wkt_reader<R: ByteSource>(
+        alloc: Global,
+        reader: &mut R,
+    ) -> Result<Self, ConvertError> {
+        match text_from(alloc, reader) {
+            Ok(text) => Self::try_from_wkt_str(alloc, &text),
+            Err(e) => Err(e),
+        }
+    }
+}
+
+impl<T: WktNum> TryFromWkt<T> for flat::Geometry<T> {
+    type Error = ConvertError;
+
+    ghost answers = { λ text r. TextAnswers T.read flat_tree (flat (coord_eq T.eq)) text r };
+
+    ghost bytes_answers = { λ bytes r. BytesAnswer T.read flat_tree (flat (coord_eq T.eq)) bytes r };
+
+    ghost if_all_read = { IfAllRead };
+
+    ghost if_failed = { IfReader };
+
+    fn try_from_wkt_str(alloc: Global, text: &str) -> Result<Self, ConvertError> {
+        match read_text(alloc, text) {
+            Ok(wkt) => Self::convert_from(alloc, wkt),
+            Err(e) => Err(e),
+        }
+    }
+
+    fn try_from_wkt_reader<R: ByteSource>(
+        alloc: Global,
+        reader: &mut R,
+    ) -> Result<Self, ConvertError> {
+        match text_from(alloc, reader) {
+            Ok(text) => Self::try_from_wkt_str(alloc, &text),
+            Err(e) => Err(e),
+        }
+    }
+}

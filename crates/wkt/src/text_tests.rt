@@ -1,0 +1,315 @@
+//! Flat values to text and back.
+use crate::geo_types_from_wkt::Error;
+use crate::{ToWkt, TryFromWkt};
+use std::alloc::{AllocError, Global};
+use std::process::Abort;
+use std::test::Fail;
+use wkt_bytes::Counted;
+use wkt_flat::{
+    Coord, Geometry, GeometryCollection, Line, LineString, MultiLineString, MultiPoint,
+    MultiPolygon, Point, Polygon, Rect, Triangle,
+};
+use wkt_num::Decimal;
+
+type Number = Decimal<6>;
+
+fn at(x: i32, y: i32) -> Coord<i32> {
+    Coord { x, y }
+}
+
+/// The three calls of `ToWkt` give one text.
+fn gives<G: ToWkt<i32>>(rt: &impl Abort, alloc: Global, value: &G, want: &str) -> Result<(), Fail> {
+    let displayed = format!(in alloc; "{}", value.to_wkt(alloc)?)?;
+    assert_eq!(rt; displayed.as_str(), want);
+    assert_eq!(rt; value.wkt_string(alloc)?.as_str(), want);
+    let mut out = Vec::new(alloc);
+    value.write_wkt(alloc, &mut Counted::new(&mut out))?;
+    assert_eq!(rt; out.as_slice(), want.as_bytes());
+    Ok(())
+}
+
+fn path(alloc: Global, coords: &[Coord<i32>]) -> Result<LineString<i32>, AllocError> {
+    Ok(LineString(coords.to_vec(alloc)?))
+}
+
+/// The polygon without an exterior around the interior (1 2).
+fn hollow(alloc: Global) -> Result<Polygon<i32>, Fail> {
+    let interiors = vec![in alloc; path(alloc, &[at(1, 2)])?]?;
+    Ok(Polygon::new(alloc, path(alloc, &[])?, interiors)?)
+}
+
+/// The polygon (0 0), (4 0), (2 4) with one empty interior.
+fn holed(alloc: Global) -> Result<Polygon<i32>, Fail> {
+    let ring = path(alloc, &[at(0, 0), at(4, 0), at(2, 4)])?;
+    let interiors = vec![in alloc; path(alloc, &[])?]?;
+    Ok(Polygon::new(alloc, ring, interiors)?)
+}
+
+#[test]
+fn single_values_are_written(rt: HostRuntime) -> Result<(), Fail> {
+    let alloc = rt.alloc();
+    let rect = Rect::new(at(4, 4), at(8, 8));
+    gives(&rt, alloc, &rect, "POLYGON((8 4,8 8,4 8,4 4,8 4))")?;
+    gives(&rt, alloc, &Point::new(1, 2), "POINT(1 2)")?;
+    gives(
+        &rt,
+        alloc,
+        &Line::new(at(1, 2), at(3, 4)),
+        "LINESTRING(1 2,3 4)",
+    )?;
+    let triangle = Triangle::new(at(0, 0), at(4, 0), at(2, 4));
+    gives(&rt, alloc, &triangle, "POLYGON((0 0,4 0,2 4,0 0))")?;
+    gives(
+        &rt,
+        alloc,
+        &path(alloc, &[at(10, -20), at(0, 5)])?,
+        "LINESTRING(10 -20,0 5)",
+    )?;
+    gives(&rt, alloc, &path(alloc, &[])?, "LINESTRING EMPTY")?;
+    gives(
+        &rt,
+        alloc,
+        &holed(alloc)?,
+        "POLYGON((0 0,4 0,2 4,0 0),EMPTY)",
+    )?;
+    gives(&rt, alloc, &hollow(alloc)?, "POLYGON EMPTY")?;
+    gives(
+        &rt,
+        alloc,
+        &Geometry::from(rect),
+        "POLYGON((8 4,8 8,4 8,4 4,8 4))",
+    )?;
+    gives(
+        &rt,
+        alloc,
+        &Geometry::from(triangle),
+        "POLYGON((0 0,4 0,2 4,0 0))",
+    )?;
+    gives(&rt, alloc, &Geometry::from(hollow(alloc)?), "POLYGON EMPTY")
+}
+
+#[test]
+fn lists_are_written(rt: HostRuntime) -> Result<(), Fail> {
+    let alloc = rt.alloc();
+    let points = MultiPoint(vec![in alloc; Point::new(8, 4), Point::new(4, 0)]?);
+    gives(&rt, alloc, &points, "MULTIPOINT((8 4),(4 0))")?;
+    gives(
+        &rt,
+        alloc,
+        &MultiPoint::<i32>(Vec::new(alloc)),
+        "MULTIPOINT EMPTY",
+    )?;
+    let lines = vec![in alloc; path(alloc, &[at(8, 4), at(-3, 0)])?, path(alloc, &[])?]?;
+    gives(
+        &rt,
+        alloc,
+        &MultiLineString(lines),
+        "MULTILINESTRING((8 4,-3 0),EMPTY)",
+    )?;
+    gives(
+        &rt,
+        alloc,
+        &MultiLineString::<i32>(Vec::new(alloc)),
+        "MULTILINESTRING EMPTY",
+    )?;
+    let polygons = vec![in alloc; hollow(alloc)?, holed(alloc)?]?;
+    let want = "MULTIPOLYGON(EMPTY,((0 0,4 0,2 4,0 0),EMPTY))";
+    gives(&rt, alloc, &MultiPolygon(polygons), want)?;
+    gives(
+        &rt,
+        alloc,
+        &MultiPolygon::<i32>(Vec::new(alloc)),
+        "MULTIPOLYGON EMPTY",
+    )?;
+    gives(
+        &rt,
+        alloc,
+        &GeometryCollection::<i32>(Vec::new(alloc)),
+        "GEOMETRYCOLLECTION EMPTY",
+    )?;
+    let rect = Geometry::from(Rect::new(at(4, 4), at(8, 8)));
+    let line = Geometry::from(Line::new(at(1, 2), at(3, 4)));
+    let all = GeometryCollection(vec![in alloc; rect, line]?);
+    let want = "GEOMETRYCOLLECTION(POLYGON((8 4,8 8,4 8,4 4,8 4)),LINESTRING(1 2,3 4))";
+    gives(&rt, alloc, &all, want)?;
+    gives(&rt, alloc, &Geometry::from(all), want)
+}
+
+/// What a text is read as, and the text of it again; or the refusal.
+fn again<G: TryFromWkt<Number, Error = Error> + ToWkt<Number> + Drop>(
+    alloc: Global,
+    text: &str,
+) -> Result<String, Fail> {
+    match G::try_from_wkt_str(alloc, text) {
+        Ok(value) => Ok(value.wkt_string(alloc)?),
+        Err(error) => Ok(format!(in alloc; "{error}")?),
+    }
+}
+
+#[test]
+fn geometries_are_read(rt: HostRuntime) -> Result<(), Fail> {
+    let alloc = rt.alloc();
+    let empty = "The WKT Point was empty, but geo_type::Points cannot be empty";
+    for (text, want) in [
+        ("POINT Z(1 2 3)", "POINT(1 2)"),
+        ("POINT EMPTY", "MULTIPOINT EMPTY"),
+        (
+            "LINEARRING ZM(1.50 2 3 4,5 6 7 8)x",
+            "LINESTRING(1.5 2,5 6)",
+        ),
+        (
+            "POLYGON((0 0,4 0,2 4),EMPTY,(1 1,2 2))",
+            "POLYGON((0 0,4 0,2 4,0 0),EMPTY,(1 1,2 2,1 1))",
+        ),
+        ("POLYGON((1 2))", "POLYGON((1 2))"),
+        ("POLYGON(EMPTY,(1 1,2 2))", "POLYGON EMPTY"),
+        ("POLYGON M EMPTY", "POLYGON EMPTY"),
+        ("MULTIPOINT M(8 4 1,(4 0 2))", "MULTIPOINT((8 4),(4 0))"),
+        ("MULTIPOINT(1 2,EMPTY)", empty),
+        (
+            "MULTILINESTRING Z((8 4 0,-3 0 0),EMPTY)",
+            "MULTILINESTRING((8 4,-3 0),EMPTY)",
+        ),
+        (
+            "MULTIPOLYGON(((0 0,4 0,2 4)),EMPTY)",
+            "MULTIPOLYGON(((0 0,4 0,2 4,0 0)),EMPTY)",
+        ),
+        (
+            "GEOMETRYCOLLECTION ZM(GEOMETRYCOLLECTION M(POINT(1 2)),POINT EMPTY)",
+            "GEOMETRYCOLLECTION(GEOMETRYCOLLECTION(POINT(1 2)),MULTIPOINT EMPTY)",
+        ),
+        ("GEOMETRYCOLLECTION(POINT(1 2),MULTIPOINT(EMPTY))", empty),
+        ("", "Invalid WKT: Invalid WKT format"),
+        (
+            "LINEARRINGZ(1 2 3)",
+            "Invalid WKT: Invalid type encountered",
+        ),
+        (
+            "POINT EMPTYX",
+            "Invalid WKT: Unexpected word before open paren",
+        ),
+    ] {
+        assert_eq!(rt; again::<Geometry<Number>>(alloc, text)?.as_str(), want);
+    }
+    Ok(())
+}
+
+#[test]
+fn each_kind_is_read(rt: HostRuntime) -> Result<(), Fail> {
+    let alloc = rt.alloc();
+    let Ok(point) = Point::<Number>::try_from_wkt_str(alloc, "POINT(10 20)") else {
+        panic!(rt; "a point wasn't read");
+    };
+    assert_eq!(rt; point.y().units(), 20_000_000);
+    assert_eq!(rt; point.x().units(), 10_000_000);
+    let text = again::<LineString<Number>>(alloc, "LINESTRING Z(1 2 3,4 5 6)")?;
+    assert_eq!(rt; text.as_str(), "LINESTRING(1 2,4 5)");
+    let text = again::<Polygon<Number>>(alloc, "POLYGON((0 0,4 0,2 4))")?;
+    assert_eq!(rt; text.as_str(), "POLYGON((0 0,4 0,2 4,0 0))");
+    for text in ["POINT EMPTY", "MULTIPOINT Z EMPTY"] {
+        let text = again::<MultiPoint<Number>>(alloc, text)?;
+        assert_eq!(rt; text.as_str(), "MULTIPOINT EMPTY");
+    }
+    let text = again::<MultiPoint<Number>>(alloc, "MULTIPOINT(8 4,4 0)")?;
+    assert_eq!(rt; text.as_str(), "MULTIPOINT((8 4),(4 0))");
+    let text = again::<MultiLineString<Number>>(alloc, "MULTILINESTRING M((1 2 3),EMPTY)")?;
+    assert_eq!(rt; text.as_str(), "MULTILINESTRING((1 2),EMPTY)");
+    let text = again::<MultiPolygon<Number>>(alloc, "MULTIPOLYGON(((0 0,4 0,2 4)))")?;
+    assert_eq!(rt; text.as_str(), "MULTIPOLYGON(((0 0,4 0,2 4,0 0)))");
+    let want = "GEOMETRYCOLLECTION(POINT(8 4),LINESTRING(4 6,7 10))";
+    let text = again::<GeometryCollection<Number>>(alloc, want)?;
+    assert_eq!(rt; text.as_str(), want);
+    Ok(())
+}
+
+/// The text is refused for its kind, with these names.
+fn mismatches<G: TryFromWkt<Number, Error = Error> + Drop>(
+    alloc: Global,
+    text: &str,
+    want: &str,
+    kind: &str,
+) -> bool {
+    match G::try_from_wkt_str(alloc, text) {
+        Err(Error::MismatchedGeometry { expected, found }) => expected == want && found == kind,
+        _ => false,
+    }
+}
+
+#[test]
+fn other_kinds_are_refused(rt: HostRuntime) -> Result<(), Fail> {
+    let alloc = rt.alloc();
+    let ring = "POLYGON((8 4,8 8,4 8,4 4,8 4))";
+    for (text, kind) in [
+        ("POINT EMPTY", "MultiPoint"),
+        ("LINESTRING(1 2,3 4)", "LineString"),
+        (ring, "Polygon"),
+        ("MULTILINESTRING EMPTY", "MultiLineString"),
+        ("MULTIPOLYGON EMPTY", "MultiPolygon"),
+        ("GEOMETRYCOLLECTION EMPTY", "GeometryCollection"),
+    ] {
+        assert!(rt; mismatches::<Point<Number>>(alloc, text, "Point", kind));
+        assert!(rt; mismatches::<Line<Number>>(alloc, text, "Line", kind));
+        assert!(rt; mismatches::<Rect<Number>>(alloc, text, "Rect", kind));
+        assert!(rt; mismatches::<Triangle<Number>>(alloc, text, "Triangle", kind));
+    }
+    for (text, kind) in [("POINT (1 2)", "Point"), ("POINT EMPTY", "MultiPoint")] {
+        assert!(rt; mismatches::<LineString<Number>>(alloc, text, "LineString", kind));
+        assert!(rt; mismatches::<Polygon<Number>>(alloc, text, "Polygon", kind));
+        assert!(rt; mismatches::<MultiLineString<Number>>(alloc, text, "MultiLineString", kind));
+        assert!(rt; mismatches::<MultiPolygon<Number>>(alloc, text, "MultiPolygon", kind));
+    }
+    assert!(rt; mismatches::<MultiPoint<Number>>(alloc, ring, "MultiPoint", "Polygon"));
+    // A collection asked of another kind is refused at once, by the kind of the `Wkt`.
+    for (text, kind) in [
+        ("POINT EMPTY", "Point"),
+        ("LINESTRING EMPTY", "LineString"),
+        (ring, "Polygon"),
+        ("MULTIPOINT(EMPTY)", "MultiPoint"),
+        ("MULTILINESTRING EMPTY", "MultiLineString"),
+        ("MULTIPOLYGON EMPTY", "MultiPolygon"),
+    ] {
+        let want = "GeometryCollection";
+        assert!(rt; mismatches::<GeometryCollection<Number>>(alloc, text, want, kind));
+    }
+    // Every other kind is asked of the geometry, whose refusal comes first.
+    match Rect::<Number>::try_from_wkt_str(alloc, "MULTIPOINT(EMPTY)") {
+        Err(Error::PointConversionError) => Ok(()),
+        _ => panic!(rt; "a multipoint with an empty member was converted"),
+    }
+}
+
+#[test]
+fn refusals_have_texts(rt: HostRuntime) -> Result<(), Fail> {
+    let alloc = rt.alloc();
+    for (error, want) in [
+        (
+            Error::PointConversionError,
+            "The WKT Point was empty, but geo_type::Points cannot be empty",
+        ),
+        (
+            Error::MismatchedGeometry {
+                expected: "Point",
+                found: "MultiPoint",
+            },
+            "Mismatched geometry (expected \"Point\", found \"MultiPoint\")",
+        ),
+        (
+            Error::WrongNumberOfGeometries(3),
+            "Wrong number of Geometries: 3",
+        ),
+        (
+            Error::InvalidWKT("End of stream"),
+            "Invalid WKT: End of stream",
+        ),
+        (
+            Error::Reader(std::io::Error::from(std::io::ErrorKind::Other)),
+            "External error: read fault",
+        ),
+        (Error::Utf8, "External error: not UTF-8"),
+        (Error::Memory(AllocError), "out of memory"),
+    ] {
+        let text = format!(in alloc; "{error}")?;
+        assert_eq!(rt; text.as_str(), want);
+    }
+    Ok(())
+}
