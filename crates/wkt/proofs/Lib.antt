@@ -8,3 +8,4 @@ pub mod Plain
 pub mod Sends
 pub mod Texts
 pub mod BackValues
+mod JsonPoints

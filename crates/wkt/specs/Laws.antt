@@ -6,13 +6,11 @@ use Rattle.wkt_flat.specs.Equal.{coord_eq}
 use Rattle.wkt.specs.Flatten.{flat}
 use Rattle.wkt_types.specs.Outcome.{Outcome, value}
 use Rattle.wkt.specs.FromText.{FrontGives}
-use Rattle.wkt_access.specs.Values.{Value}
 use Rattle.wkt_access.specs.Lawful.{IsLawful}
 use Rattle.wkt_access.specs.Texts.{shape_text}
 use Rattle.wkt_access.specs.Shapes.{canon}
 use Rattle.wkt_access.specs.Faults.{fault}
-use Rattle.wkt_types.specs.Tree.{Tree}
-use Rattle.wkt_types.specs.Values.{tree_shape, IsWktOf}
+use Rattle.wkt_types.specs.Values.{tree_shape}
 use Rattle.wkt_flat.specs.Shape.{flat_shape}
 use Rattle.wkt_flat.specs.Tree.{Flat, Flats}
 use Rattle.wkt.specs.Back.{back}

@@ -5,3 +5,4 @@ pub mod Back
 pub mod Sent
 pub mod FromText
 pub mod Laws
+pub mod Json

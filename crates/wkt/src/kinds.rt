@@ -16,7 +16,7 @@ use wkt_num::WktNum;
 use wkt_types::{ConvertError, Wkt};
 
 /// The refusal of a geometry that isn't of the kind asked for.
-fn mismatch<T, X>(expected: &'static str, found: &Geometry<T>) -> Result<X, ConvertError>
+pub(crate) fn mismatch<T, X>(expected: &'static str, found: &Geometry<T>) -> Result<X, ConvertError>
     ensures { Answers (λ x. x) (refused (mismatched expected.now (flat_name (flat_tree found.now)))) result }
 {
     let found = match found {

@@ -13,7 +13,13 @@ mod flat_to_wkt;
 mod flat_written;
 mod flatten;
 mod from_text;
+mod json;
+#[cfg(test)]
+mod json_tests;
 mod kinds;
+#[cfg(test)]
+mod macro_tests;
+mod macros;
 mod send;
 mod string_text;
 #[cfg(test)]
@@ -21,6 +27,9 @@ mod text_tests;
 mod to_text;
 
 pub use from_text::TryFromWkt;
+pub use json::{
+    ValueError, deserialize_geometry, deserialize_point, deserialize_wkt, wkt_from_value,
+};
 pub use to_text::ToWkt;
 pub use wkt_num::{Decimal, WktNum};
 pub use wkt_read::{FromWktStr, InferError, ReadError, infer_type};
@@ -78,6 +87,16 @@ pub mod error {
 /// The lexemes of a text.
 pub mod tokenizer {
     pub use wkt_read::{PeekableTokens, Token, Tokens};
+}
+
+/// Geometries out of JSON.
+pub mod deserialize {
+    pub use crate::json::{ValueError, deserialize_wkt, wkt_from_value};
+
+    /// Two-dimensional geometries out of JSON.
+    pub mod geo_types {
+        pub use crate::json::{deserialize_geometry, deserialize_point};
+    }
 }
 
 /// The laws of the definitions that the contracts cite: public functions with empty bodies, whose
