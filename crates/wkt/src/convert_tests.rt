@@ -157,7 +157,10 @@ fn each_kind_becomes_one(rt: HostRuntime) -> Result<(), Fail> {
         assert_eq!(rt; becomes::<MultiPoint<Number>>(alloc, text)?, kind == 3);
         assert_eq!(rt; becomes::<MultiLineString<Number>>(alloc, text)?, kind == 4);
         assert_eq!(rt; becomes::<MultiPolygon<Number>>(alloc, text)?, kind == 5);
-        assert_eq!(rt; becomes::<GeometryCollection<Number>>(alloc, text)?, kind == 6);
+        assert_eq!(rt;
+            becomes::<GeometryCollection<Number>>(alloc, text)?,
+            kind == 6
+        );
         assert!(rt; !becomes::<Line<Number>>(alloc, text)?);
         assert!(rt; !becomes::<Rect<Number>>(alloc, text)?);
         assert!(rt; !becomes::<Triangle<Number>>(alloc, text)?);

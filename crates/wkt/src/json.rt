@@ -53,9 +53,9 @@ pub fn wkt_from_value<T: WktNum>(
 ) -> Result<Wkt<T>, ValueError<ReadError>>
     ensures not_a_string { IsErrOf result ValueError.NotAString ↔ IsNone (text_of value.now) }
     ensures found { AsText (text_of value.now) result (λ text r. IfOk r (λ w. IsFront T.read text (tree w))) }
-    ensures refused { AsText (text_of value.now) result (λ text r. OnText r (HasNoFront T.read true text)) }
+    ensures refused { AsText (text_of value.now) result (λ text r. OnText r (HasNoFront T.read text)) }
     ensures bad { AsText (text_of value.now) result (λ text r. OnMessage r bad_number (HasBadNumber T.read text)) }
-    ensures free { AsText (text_of value.now) result (λ text r. (v end : _) → Front T.read true text v end → NeedsNoMemory v → IsOk r) }
+    ensures free { AsText (text_of value.now) result (λ text r. (v end : _) → Front T.read text v end → NeedsNoMemory v → IsOk r) }
 {
     match value.as_str() {
         None => Err(ValueError::NotAString),
