@@ -33,7 +33,6 @@ flatten_members E [] = refl
 flatten_members E (w ∷ ws) =
     ap (outcome_both Flats.more_flats (flat E (tree w))) (flatten_members E ws) ∙ gather (flat E (tree w)) (outcomes (λ w. flat E (tree w)) ws)
 
-
 pub tree-multi_point : {T : Type 0} (m : Held (HeldPoint (Coord T))) → tree (variants.MultiPoint m) ≡ Tree.multi_point m
 tree-multi_point {T} m =
     ap tree (sym (variants.rolls-MultiPoint m))
@@ -47,4 +46,3 @@ tree-line_string {T} l =
 pub all_back_members : {T : Type 0} (gs : List (Geometry T)) → all_back (flat_members gs) ≡ trees_of (map (λ g. back (flat_tree g)) gs)
 all_back_members [] = refl
 all_back_members (g ∷ gs) = ap (λ ts. Trees.more_trees (back (flat_tree g)) ts) (all_back_members gs)
-

@@ -11,7 +11,10 @@ use std::alloc::{AllocError, Global};
 use wkt_flat as flat;
 use wkt_flat::Geometry;
 use wkt_num::WktNum;
-use wkt_types::{Coord, Dimension, GeometryCollection, LineString, MultiLineString, MultiPoint, MultiPolygon, Point, Polygon, Wkt};
+use wkt_types::{
+    Coord, Dimension, GeometryCollection, LineString, MultiLineString, MultiPoint, MultiPolygon,
+    Point, Polygon, Wkt,
+};
 
 /// A coordinate without z and m.
 fn coord<T: Copy>(c: flat::Coord<T>) -> Coord<T>
@@ -33,7 +36,10 @@ pub(crate) fn point<T: Copy>(p: flat::Point<T>) -> Point<T>
 }
 
 /// A line.
-pub(crate) fn line<T: Copy + Drop>(alloc: Global, cs: &[flat::Coord<T>]) -> Result<LineString<T>, AllocError>
+pub(crate) fn line<T: Copy + Drop>(
+    alloc: Global,
+    cs: &[flat::Coord<T>],
+) -> Result<LineString<T>, AllocError>
     ensures { IfOk result (λ r. r ≡ line_back cs.now) }
 {
     let mut all = Vec::with_capacity(alloc, cs.len())?;
@@ -44,7 +50,10 @@ pub(crate) fn line<T: Copy + Drop>(alloc: Global, cs: &[flat::Coord<T>]) -> Resu
 }
 
 /// A line from a start to an end.
-pub(crate) fn two<T: Copy + Drop>(alloc: Global, l: &flat::Line<T>) -> Result<LineString<T>, AllocError>
+pub(crate) fn two<T: Copy + Drop>(
+    alloc: Global,
+    l: &flat::Line<T>,
+) -> Result<LineString<T>, AllocError>
     ensures { IfOk result (λ r. r ≡ line_back (l.now.start ∷ l.now.end ∷ [])) }
 {
     let mut all = Vec::with_capacity(alloc, 2)?;
@@ -54,7 +63,11 @@ pub(crate) fn two<T: Copy + Drop>(alloc: Global, l: &flat::Line<T>) -> Result<Li
 }
 
 /// A line of each path.
-pub(crate) fn push_lines<T: Copy + Drop>(alloc: Global, ls: &[flat::LineString<T>], mut all: Vec<LineString<T>>) -> Result<Vec<LineString<T>>, AllocError>
+pub(crate) fn push_lines<T: Copy + Drop>(
+    alloc: Global,
+    ls: &[flat::LineString<T>],
+    mut all: Vec<LineString<T>>,
+) -> Result<Vec<LineString<T>>, AllocError>
     ensures { IfOk result (λ r. r.items ≡ all.items ++ map line_back ls.now) }
 {
     for l in ls {
@@ -64,7 +77,10 @@ pub(crate) fn push_lines<T: Copy + Drop>(alloc: Global, ls: &[flat::LineString<T
 }
 
 /// A polygon, which has no rings where the exterior is empty.
-pub(crate) fn polygon<T: Copy + Drop>(alloc: Global, y: &flat::Polygon<T>) -> Result<Polygon<T>, AllocError>
+pub(crate) fn polygon<T: Copy + Drop>(
+    alloc: Global,
+    y: &flat::Polygon<T>,
+) -> Result<Polygon<T>, AllocError>
     ensures { IfOk result (λ r. r ≡ polygon_back y.now) }
 {
     let exterior = y.exterior().0.as_slice();
@@ -77,7 +93,10 @@ pub(crate) fn polygon<T: Copy + Drop>(alloc: Global, y: &flat::Polygon<T>) -> Re
 }
 
 /// A point of each point.
-pub(crate) fn points<T: Copy + Drop>(alloc: Global, ps: &[flat::Point<T>]) -> Result<Vec<Point<T>>, AllocError>
+pub(crate) fn points<T: Copy + Drop>(
+    alloc: Global,
+    ps: &[flat::Point<T>],
+) -> Result<Vec<Point<T>>, AllocError>
     ensures { IfOk result (λ r. r.items ≡ map point_back ps.now) }
 {
     let mut all = Vec::with_capacity(alloc, ps.len())?;
@@ -88,7 +107,10 @@ pub(crate) fn points<T: Copy + Drop>(alloc: Global, ps: &[flat::Point<T>]) -> Re
 }
 
 /// A polygon of each polygon.
-pub(crate) fn polygons<T: Copy + Drop>(alloc: Global, ys: &[flat::Polygon<T>]) -> Result<Vec<Polygon<T>>, AllocError>
+pub(crate) fn polygons<T: Copy + Drop>(
+    alloc: Global,
+    ys: &[flat::Polygon<T>],
+) -> Result<Vec<Polygon<T>>, AllocError>
     ensures { IfOk result (λ r. r.items ≡ map polygon_back ys.now) }
 {
     let mut all = Vec::with_capacity(alloc, ys.len())?;
@@ -108,9 +130,18 @@ pub(crate) fn geometry<T: WktNum>(alloc: Global, g: &Geometry<T>) -> Result<Wkt<
         Geometry::Line(l) => Ok(Wkt::LineString(two(alloc, l)?)),
         Geometry::LineString(l) => Ok(Wkt::LineString(line(alloc, l.0.as_slice())?)),
         Geometry::Polygon(y) => Ok(Wkt::Polygon(polygon(alloc, y)?)),
-        Geometry::MultiPoint(m) => Ok(Wkt::MultiPoint(MultiPoint::new(points(alloc, m.0.as_slice())?, Dimension::XY))),
-        Geometry::MultiLineString(m) => Ok(Wkt::MultiLineString(MultiLineString::new(push_lines(alloc, m.0.as_slice(), Vec::new(alloc))?, Dimension::XY))),
-        Geometry::MultiPolygon(m) => Ok(Wkt::MultiPolygon(MultiPolygon::new(polygons(alloc, m.0.as_slice())?, Dimension::XY))),
+        Geometry::MultiPoint(m) => Ok(Wkt::MultiPoint(MultiPoint::new(
+            points(alloc, m.0.as_slice())?,
+            Dimension::XY,
+        ))),
+        Geometry::MultiLineString(m) => Ok(Wkt::MultiLineString(MultiLineString::new(
+            push_lines(alloc, m.0.as_slice(), Vec::new(alloc))?,
+            Dimension::XY,
+        ))),
+        Geometry::MultiPolygon(m) => Ok(Wkt::MultiPolygon(MultiPolygon::new(
+            polygons(alloc, m.0.as_slice())?,
+            Dimension::XY,
+        ))),
         Geometry::GeometryCollection(c) => {
             let members = geometries(alloc, c.geometries())?;
             Ok(Wkt::GeometryCollection(GeometryCollection::new(members, Dimension::XY)))
@@ -122,7 +153,10 @@ pub(crate) fn geometry<T: WktNum>(alloc: Global, g: &Geometry<T>) -> Result<Wkt<
 
 /// The `Wkt` of each geometry.
 #[cycle(back)]
-pub(crate) fn geometries<T: WktNum>(alloc: Global, gs: &[Geometry<T>]) -> Result<Vec<Wkt<T>>, AllocError>
+pub(crate) fn geometries<T: WktNum>(
+    alloc: Global,
+    gs: &[Geometry<T>],
+) -> Result<Vec<Wkt<T>>, AllocError>
     ensures { IfOk result (λ r. trees.members r.items ≡ all_back (flat_members gs.now)) }
 {
     let mut all = Vec::with_capacity(alloc, gs.len())?;

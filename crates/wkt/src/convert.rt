@@ -8,7 +8,9 @@ ghost use Rattle.wkt_flat.specs.Equal.{coord_eq};
 ghost use Rattle.wkt.specs.Outcomes.{outcome_map};
 ghost use Rattle.wkt.specs.Flatten.{path, rings, points, flat, flat_all, trees_in};
 
-use crate::flatten::{all_points, collection, geometry, line_string, line_strings, polygon, polygons};
+use crate::flatten::{
+    all_points, collection, geometry, line_string, line_strings, polygon, polygons,
+};
 use std::alloc::Global;
 use wkt_flat as flat;
 use wkt_flat::Geometry;
@@ -58,10 +60,7 @@ pub fn try_into_geometry_collection<T: WktNum>(
 ) -> Result<Geometry<T>, ConvertError>
     ensures { Answers flat_tree (outcome_map Flat.collection (flat_all (coord_eq T.eq) (trees_in (collection_tree geometry_collection.now)))) result }
 {
-    Ok(Geometry::GeometryCollection(collection(
-        alloc,
-        geometry_collection.geometries(),
-    )?))
+    Ok(Geometry::GeometryCollection(collection(alloc, geometry_collection.geometries())?))
 }
 
 impl<T: WktNum> ConvertFrom<types::LineString<T>> for flat::LineString<T> {
@@ -97,10 +96,7 @@ impl<T: WktNum> ConvertFrom<types::MultiLineString<T>> for flat::MultiLineString
         alloc: Global,
         source: types::MultiLineString<T>,
     ) -> Result<Self, ConvertError> {
-        Ok(flat::MultiLineString(line_strings(
-            alloc,
-            source.line_strings(),
-        )?))
+        Ok(flat::MultiLineString(line_strings(alloc, source.line_strings())?))
     }
 }
 
@@ -158,9 +154,10 @@ impl<T: WktNum> ConvertFrom<&types::MultiLineString<T>> for Geometry<T> {
         alloc: Global,
         source: &types::MultiLineString<T>,
     ) -> Result<Self, ConvertError> {
-        Ok(Geometry::MultiLineString(flat::MultiLineString(
-            line_strings(alloc, source.line_strings())?,
-        )))
+        Ok(Geometry::MultiLineString(flat::MultiLineString(line_strings(
+            alloc,
+            source.line_strings(),
+        )?)))
     }
 }
 
@@ -170,10 +167,7 @@ impl<T: WktNum> ConvertFrom<&types::MultiPolygon<T>> for Geometry<T> {
     ghost converts = { λ m r. Answers flat_tree (value (Flat.multi_polygon (map (rings (coord_eq T.eq)) m.now.parts))) r };
 
     fn convert_from(alloc: Global, source: &types::MultiPolygon<T>) -> Result<Self, ConvertError> {
-        Ok(Geometry::MultiPolygon(flat::MultiPolygon(polygons(
-            alloc,
-            source.polygons(),
-        )?)))
+        Ok(Geometry::MultiPolygon(flat::MultiPolygon(polygons(alloc, source.polygons())?)))
     }
 }
 

@@ -65,11 +65,20 @@ fn each_type_is_converted(rt: HostRuntime) -> Result<(), Fail> {
         ("POINT ZM(1 2 3 4)", "POINT(1 2)"),
         ("POINT M EMPTY", "MULTIPOINT EMPTY"),
         ("LINESTRING Z(1 2 3,4 5 6)", "LINESTRING(1 2,4 5)"),
-        ("POLYGON M((0 0 9,4 0 9,2 4 9),(1 1 9,2 2 8))", "POLYGON((0 0,4 0,2 4,0 0),(1 1,2 2,1 1))"),
+        (
+            "POLYGON M((0 0 9,4 0 9,2 4 9),(1 1 9,2 2 8))",
+            "POLYGON((0 0,4 0,2 4,0 0),(1 1,2 2,1 1))",
+        ),
         ("POLYGON EMPTY", "POLYGON EMPTY"),
         ("MULTIPOINT Z(8 4 1,4 0 2)", "MULTIPOINT((8 4),(4 0))"),
-        ("MULTILINESTRING((8 4,-3 0),EMPTY)", "MULTILINESTRING((8 4,-3 0),EMPTY)"),
-        ("MULTIPOLYGON(((0 0,4 0,2 4)))", "MULTIPOLYGON(((0 0,4 0,2 4,0 0)))"),
+        (
+            "MULTILINESTRING((8 4,-3 0),EMPTY)",
+            "MULTILINESTRING((8 4,-3 0),EMPTY)",
+        ),
+        (
+            "MULTIPOLYGON(((0 0,4 0,2 4)))",
+            "MULTIPOLYGON(((0 0,4 0,2 4,0 0)))",
+        ),
         (
             "GEOMETRYCOLLECTION(POLYGON((0 0,4 0,2 4)),POINT EMPTY)",
             "GEOMETRYCOLLECTION(POLYGON((0 0,4 0,2 4,0 0)),MULTIPOINT EMPTY)",
@@ -87,15 +96,37 @@ fn empty_members_are_refused(rt: HostRuntime) -> Result<(), Fail> {
     let Wkt::MultiPoint(points) = wkt(alloc, "MULTIPOINT(1 2,EMPTY)")? else {
         panic!(rt; "another kind");
     };
-    assert!(rt; matches!(Geometry::convert_from(alloc, &points), Err(Error::PointConversionError)));
-    assert!(rt; matches!(MultiPoint::convert_from(alloc, points), Err(Error::PointConversionError)));
-    let Wkt::GeometryCollection(all) =
-        wkt(alloc, "GEOMETRYCOLLECTION(POINT(1 2),GEOMETRYCOLLECTION(MULTIPOINT(EMPTY)))")?
+    assert!(rt;
+        matches!(
+            Geometry::convert_from(alloc, &points),
+            Err(Error::PointConversionError)
+        )
+    );
+    assert!(rt;
+        matches!(
+            MultiPoint::convert_from(alloc, points),
+            Err(Error::PointConversionError)
+        )
+    );
+    let Wkt::GeometryCollection(all) = wkt(
+        alloc,
+        "GEOMETRYCOLLECTION(POINT(1 2),GEOMETRYCOLLECTION(MULTIPOINT(EMPTY)))",
+    )?
     else {
         panic!(rt; "another kind");
     };
-    assert!(rt; matches!(try_into_geometry_collection(alloc, &all), Err(Error::PointConversionError)));
-    assert!(rt; matches!(GeometryCollection::convert_from(alloc, all), Err(Error::PointConversionError)));
+    assert!(rt;
+        matches!(
+            try_into_geometry_collection(alloc, &all),
+            Err(Error::PointConversionError)
+        )
+    );
+    assert!(rt;
+        matches!(
+            GeometryCollection::convert_from(alloc, all),
+            Err(Error::PointConversionError)
+        )
+    );
     let empty = types::Point::<Number>::empty(types::Dimension::XYZ);
     assert!(rt; matches!(Point::try_from(empty), Err(Error::PointConversionError)));
     Ok(())
@@ -126,7 +157,10 @@ fn each_kind_becomes_one(rt: HostRuntime) -> Result<(), Fail> {
         assert_eq!(rt; becomes::<MultiPoint<Number>>(alloc, text)?, kind == 3);
         assert_eq!(rt; becomes::<MultiLineString<Number>>(alloc, text)?, kind == 4);
         assert_eq!(rt; becomes::<MultiPolygon<Number>>(alloc, text)?, kind == 5);
-        assert_eq!(rt; becomes::<GeometryCollection<Number>>(alloc, text)?, kind == 6);
+        assert_eq!(rt;
+            becomes::<GeometryCollection<Number>>(alloc, text)?,
+            kind == 6
+        );
         assert!(rt; !becomes::<Line<Number>>(alloc, text)?);
         assert!(rt; !becomes::<Rect<Number>>(alloc, text)?);
         assert!(rt; !becomes::<Triangle<Number>>(alloc, text)?);
@@ -154,10 +188,12 @@ fn comes_back(alloc: Global, text: &str) -> Result<bool, Fail> {
     let mut out = Vec::new(alloc);
     geometry.write_wkt(alloc, &mut Counted::new(&mut out))?;
     let displayed = format!(in alloc; "{}", read.to_wkt(alloc)?)?;
-    Ok(read == geometry
-        && read.wkt_string(alloc)?.as_str() == text
-        && out.as_slice() == text.as_bytes()
-        && displayed.as_str() == text)
+    Ok(
+        read == geometry
+            && read.wkt_string(alloc)?.as_str() == text
+            && out.as_slice() == text.as_bytes()
+            && displayed.as_str() == text,
+    )
 }
 
 /// Geometries of 1 to 300 and of 100,000 members come back. A call that gives up above a size fails here.

@@ -107,7 +107,10 @@ fn source(rest: &[u8], step: usize, calls: usize) -> Pieces<'_>
 const TEXT: &[u8] = b"POINT(1.2 3.4)";
 
 fn point() -> Point<Number> {
-    Point::new(Decimal::from_units(1_200_000), Decimal::from_units(3_400_000))
+    Point::new(
+        Decimal::from_units(1_200_000),
+        Decimal::from_units(3_400_000),
+    )
 }
 
 /// The kind of the writer's error that the answer tells.
@@ -131,7 +134,10 @@ fn one_byte_a_call(rt: HostRuntime) -> Result<(), Fail> {
     let rect = Rect::new(Coord { x: 4i32, y: 4 }, Coord { x: 8, y: 8 });
     let mut writer = Slow::new(1, 100);
     rect.write_wkt(alloc, &mut writer)?;
-    assert_eq!(rt; writer.taken(), b"POLYGON((8 4,8 8,4 8,4 4,8 4))".as_slice());
+    assert_eq!(rt;
+        writer.taken(),
+        b"POLYGON((8 4,8 8,4 8,4 4,8 4))".as_slice()
+    );
     Ok(())
 }
 
@@ -227,9 +233,16 @@ fn reader_fails(rt: HostRuntime) -> Result<(), Fail> {
 #[test]
 fn bytes_that_are_no_text(rt: HostRuntime) -> Result<(), Fail> {
     let alloc = rt.alloc();
-    for bytes in [b"POINT (1 2)\xc2".as_slice(), b"\xc2".as_slice(), b"LINESTRING(\xff".as_slice()] {
+    for bytes in [
+        b"POINT (1 2)\xc2".as_slice(),
+        b"\xc2".as_slice(),
+        b"LINESTRING(\xff".as_slice(),
+    ] {
         for step in [1usize, 1000] {
-            let answer = Geometry::<Number>::try_from_wkt_reader(alloc, &mut source(bytes, step, 100));
+            let answer = Geometry::<Number>::try_from_wkt_reader(
+                alloc,
+                &mut source(bytes, step, 100),
+            );
             assert!(rt; matches!(answer, Err(Error::Utf8)));
             let answer = Point::<Number>::try_from_wkt_reader(alloc, &mut source(bytes, step, 100));
             assert!(rt; matches!(answer, Err(Error::Utf8)));
@@ -256,7 +269,10 @@ fn errors_have_texts(rt: HostRuntime) -> Result<(), Fail> {
     let alloc = rt.alloc();
     let shape = ToWktError::Shape(WriteError::TooFewNumbers);
     let text = format!(in alloc; "{shape}")?;
-    assert_eq!(rt; text.as_str(), "A coordinate has fewer numbers than its dimension.");
+    assert_eq!(rt;
+        text.as_str(),
+        "A coordinate has fewer numbers than its dimension."
+    );
     let fault = io::Error::from(ErrorKind::WriteZero);
     let want = format!(in alloc; "{fault}")?;
     let fault = ToWktError::Io(fault);

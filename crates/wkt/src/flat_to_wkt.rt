@@ -20,9 +20,7 @@ use wkt_access::Error;
 use wkt_bytes::ByteSink;
 use wkt_flat as flat;
 use wkt_num::WktNum;
-use wkt_types::{
-    Dimension, GeometryCollection, MultiLineString, MultiPoint, MultiPolygon, Wkt,
-};
+use wkt_types::{Dimension, GeometryCollection, MultiLineString, MultiPoint, MultiPolygon, Wkt};
 
 /// Its `Wkt` is a point.
 impl<T: WktNum> ToWkt<T> for flat::Point<T> {

@@ -10,10 +10,15 @@ use std::alloc::{AllocError, Global};
 use wkt_flat as flat;
 use wkt_flat::Geometry;
 use wkt_num::WktNum;
-use wkt_types::{ConvertError, LineString, MultiLineString, MultiPoint, MultiPolygon, Point, Polygon, Wkt};
+use wkt_types::{
+    ConvertError, LineString, MultiLineString, MultiPoint, MultiPolygon, Point, Polygon, Wkt,
+};
 
 /// The path of a line.
-pub(crate) fn line_string<T: WktNum>(alloc: Global, l: &LineString<T>) -> Result<flat::LineString<T>, AllocError>
+pub(crate) fn line_string<T: WktNum>(
+    alloc: Global,
+    l: &LineString<T>,
+) -> Result<flat::LineString<T>, AllocError>
     ensures { IfOk result (λ r. r ≡ path l.now) }
 {
     let coords = l.coords();
@@ -25,7 +30,10 @@ pub(crate) fn line_string<T: WktNum>(alloc: Global, l: &LineString<T>) -> Result
 }
 
 /// The polygon of closed rings.
-pub(crate) fn polygon<T: WktNum>(alloc: Global, y: &Polygon<T>) -> Result<flat::Polygon<T>, AllocError>
+pub(crate) fn polygon<T: WktNum>(
+    alloc: Global,
+    y: &Polygon<T>,
+) -> Result<flat::Polygon<T>, AllocError>
     ensures { IfOk result (λ r. r ≡ rings (coord_eq T.eq) y.now) }
 {
     match y.rings() {
@@ -39,7 +47,10 @@ pub(crate) fn polygon<T: WktNum>(alloc: Global, y: &Polygon<T>) -> Result<flat::
 }
 
 /// The path of each line.
-pub(crate) fn line_strings<T: WktNum>(alloc: Global, lines: &[LineString<T>]) -> Result<Vec<flat::LineString<T>>, AllocError>
+pub(crate) fn line_strings<T: WktNum>(
+    alloc: Global,
+    lines: &[LineString<T>],
+) -> Result<Vec<flat::LineString<T>>, AllocError>
     ensures { IfOk result (λ r. r.items ≡ map path lines.now) }
 {
     let mut all = Vec::with_capacity(alloc, lines.len())?;
@@ -50,7 +61,10 @@ pub(crate) fn line_strings<T: WktNum>(alloc: Global, lines: &[LineString<T>]) ->
 }
 
 /// The polygon of each polygon.
-pub(crate) fn polygons<T: WktNum>(alloc: Global, ys: &[Polygon<T>]) -> Result<Vec<flat::Polygon<T>>, AllocError>
+pub(crate) fn polygons<T: WktNum>(
+    alloc: Global,
+    ys: &[Polygon<T>],
+) -> Result<Vec<flat::Polygon<T>>, AllocError>
     ensures { IfOk result (λ r. r.items ≡ map (rings (coord_eq T.eq)) ys.now) }
 {
     let mut all = Vec::with_capacity(alloc, ys.len())?;
@@ -61,7 +75,10 @@ pub(crate) fn polygons<T: WktNum>(alloc: Global, ys: &[Polygon<T>]) -> Result<Ve
 }
 
 /// The point of each point; refused where one is empty.
-pub(crate) fn all_points<T: WktNum>(alloc: Global, ps: &[Point<T>]) -> Result<flat::MultiPoint<T>, ConvertError>
+pub(crate) fn all_points<T: WktNum>(
+    alloc: Global,
+    ps: &[Point<T>],
+) -> Result<flat::MultiPoint<T>, ConvertError>
     ensures { Answers (λ m. m) (points ps.now) result }
 {
     let mut all = Vec::with_capacity(alloc, ps.len())?;
@@ -98,15 +115,27 @@ pub(crate) fn geometry<T: WktNum>(alloc: Global, w: &Wkt<T>) -> Result<Geometry<
         Wkt::LineString(l) => Ok(Geometry::LineString(line_string(alloc, l)?)),
         Wkt::Polygon(y) => Ok(Geometry::Polygon(polygon(alloc, y)?)),
         Wkt::MultiPoint(m) => Ok(Geometry::MultiPoint(all_points(alloc, m.points())?)),
-        Wkt::MultiLineString(m) => Ok(Geometry::MultiLineString(flat::MultiLineString(line_strings(alloc, m.line_strings())?))),
-        Wkt::MultiPolygon(m) => Ok(Geometry::MultiPolygon(flat::MultiPolygon(polygons(alloc, m.polygons())?))),
-        Wkt::GeometryCollection(c) => Ok(Geometry::GeometryCollection(collection(alloc, c.geometries())?)),
+        Wkt::MultiLineString(m) => Ok(Geometry::MultiLineString(flat::MultiLineString(line_strings(
+            alloc,
+            m.line_strings(),
+        )?))),
+        Wkt::MultiPolygon(m) => Ok(Geometry::MultiPolygon(flat::MultiPolygon(polygons(
+            alloc,
+            m.polygons(),
+        )?))),
+        Wkt::GeometryCollection(c) => Ok(Geometry::GeometryCollection(collection(
+            alloc,
+            c.geometries(),
+        )?)),
     }
 }
 
 /// The flat collection of those members.
 #[cycle(flatten)]
-pub(crate) fn collection<T: WktNum>(alloc: Global, ws: &[Wkt<T>]) -> Result<flat::GeometryCollection<T>, ConvertError>
+pub(crate) fn collection<T: WktNum>(
+    alloc: Global,
+    ws: &[Wkt<T>],
+) -> Result<flat::GeometryCollection<T>, ConvertError>
     ensures { Answers flat_trees (flat_all (coord_eq T.eq) (members ws.now)) result }
 {
     let mut all = Vec::with_capacity(alloc, ws.len())?;

@@ -18,12 +18,7 @@ fn at(x: i32, y: i32) -> Coord<i32> {
 }
 
 /// The three calls of `ToWkt` give one text.
-fn gives<G: ToWkt<i32>>(
-    rt: &impl Abort,
-    alloc: Global,
-    value: &G,
-    want: &str,
-) -> Result<(), Fail> {
+fn gives<G: ToWkt<i32>>(rt: &impl Abort, alloc: Global, value: &G, want: &str) -> Result<(), Fail> {
     let displayed = format!(in alloc; "{}", value.to_wkt(alloc)?)?;
     assert_eq!(rt; displayed.as_str(), want);
     assert_eq!(rt; value.wkt_string(alloc)?.as_str(), want);
@@ -56,15 +51,40 @@ fn single_values_are_written(rt: HostRuntime) -> Result<(), Fail> {
     let rect = Rect::new(at(4, 4), at(8, 8));
     gives(&rt, alloc, &rect, "POLYGON((8 4,8 8,4 8,4 4,8 4))")?;
     gives(&rt, alloc, &Point::new(1, 2), "POINT(1 2)")?;
-    gives(&rt, alloc, &Line::new(at(1, 2), at(3, 4)), "LINESTRING(1 2,3 4)")?;
+    gives(
+        &rt,
+        alloc,
+        &Line::new(at(1, 2), at(3, 4)),
+        "LINESTRING(1 2,3 4)",
+    )?;
     let triangle = Triangle::new(at(0, 0), at(4, 0), at(2, 4));
     gives(&rt, alloc, &triangle, "POLYGON((0 0,4 0,2 4,0 0))")?;
-    gives(&rt, alloc, &path(alloc, &[at(10, -20), at(0, 5)])?, "LINESTRING(10 -20,0 5)")?;
+    gives(
+        &rt,
+        alloc,
+        &path(alloc, &[at(10, -20), at(0, 5)])?,
+        "LINESTRING(10 -20,0 5)",
+    )?;
     gives(&rt, alloc, &path(alloc, &[])?, "LINESTRING EMPTY")?;
-    gives(&rt, alloc, &holed(alloc)?, "POLYGON((0 0,4 0,2 4,0 0),EMPTY)")?;
+    gives(
+        &rt,
+        alloc,
+        &holed(alloc)?,
+        "POLYGON((0 0,4 0,2 4,0 0),EMPTY)",
+    )?;
     gives(&rt, alloc, &hollow(alloc)?, "POLYGON EMPTY")?;
-    gives(&rt, alloc, &Geometry::from(rect), "POLYGON((8 4,8 8,4 8,4 4,8 4))")?;
-    gives(&rt, alloc, &Geometry::from(triangle), "POLYGON((0 0,4 0,2 4,0 0))")?;
+    gives(
+        &rt,
+        alloc,
+        &Geometry::from(rect),
+        "POLYGON((8 4,8 8,4 8,4 4,8 4))",
+    )?;
+    gives(
+        &rt,
+        alloc,
+        &Geometry::from(triangle),
+        "POLYGON((0 0,4 0,2 4,0 0))",
+    )?;
     gives(&rt, alloc, &Geometry::from(hollow(alloc)?), "POLYGON EMPTY")
 }
 
@@ -73,15 +93,40 @@ fn lists_are_written(rt: HostRuntime) -> Result<(), Fail> {
     let alloc = rt.alloc();
     let points = MultiPoint(vec![in alloc; Point::new(8, 4), Point::new(4, 0)]?);
     gives(&rt, alloc, &points, "MULTIPOINT((8 4),(4 0))")?;
-    gives(&rt, alloc, &MultiPoint::<i32>(Vec::new(alloc)), "MULTIPOINT EMPTY")?;
+    gives(
+        &rt,
+        alloc,
+        &MultiPoint::<i32>(Vec::new(alloc)),
+        "MULTIPOINT EMPTY",
+    )?;
     let lines = vec![in alloc; path(alloc, &[at(8, 4), at(-3, 0)])?, path(alloc, &[])?]?;
-    gives(&rt, alloc, &MultiLineString(lines), "MULTILINESTRING((8 4,-3 0),EMPTY)")?;
-    gives(&rt, alloc, &MultiLineString::<i32>(Vec::new(alloc)), "MULTILINESTRING EMPTY")?;
+    gives(
+        &rt,
+        alloc,
+        &MultiLineString(lines),
+        "MULTILINESTRING((8 4,-3 0),EMPTY)",
+    )?;
+    gives(
+        &rt,
+        alloc,
+        &MultiLineString::<i32>(Vec::new(alloc)),
+        "MULTILINESTRING EMPTY",
+    )?;
     let polygons = vec![in alloc; hollow(alloc)?, holed(alloc)?]?;
     let want = "MULTIPOLYGON(EMPTY,((0 0,4 0,2 4,0 0),EMPTY))";
     gives(&rt, alloc, &MultiPolygon(polygons), want)?;
-    gives(&rt, alloc, &MultiPolygon::<i32>(Vec::new(alloc)), "MULTIPOLYGON EMPTY")?;
-    gives(&rt, alloc, &GeometryCollection::<i32>(Vec::new(alloc)), "GEOMETRYCOLLECTION EMPTY")?;
+    gives(
+        &rt,
+        alloc,
+        &MultiPolygon::<i32>(Vec::new(alloc)),
+        "MULTIPOLYGON EMPTY",
+    )?;
+    gives(
+        &rt,
+        alloc,
+        &GeometryCollection::<i32>(Vec::new(alloc)),
+        "GEOMETRYCOLLECTION EMPTY",
+    )?;
     let rect = Geometry::from(Rect::new(at(4, 4), at(8, 8)));
     let line = Geometry::from(Line::new(at(1, 2), at(3, 4)));
     let all = GeometryCollection(vec![in alloc; rect, line]?);
@@ -108,7 +153,10 @@ fn geometries_are_read(rt: HostRuntime) -> Result<(), Fail> {
     for (text, want) in [
         ("POINT Z(1 2 3)", "POINT(1 2)"),
         ("POINT EMPTY", "MULTIPOINT EMPTY"),
-        ("LINEARRING ZM(1.50 2 3 4,5 6 7 8)x", "LINESTRING(1.5 2,5 6)"),
+        (
+            "LINEARRING ZM(1.50 2 3 4,5 6 7 8)x",
+            "LINESTRING(1.5 2,5 6)",
+        ),
         (
             "POLYGON((0 0,4 0,2 4),EMPTY,(1 1,2 2))",
             "POLYGON((0 0,4 0,2 4,0 0),EMPTY,(1 1,2 2,1 1))",
@@ -118,16 +166,28 @@ fn geometries_are_read(rt: HostRuntime) -> Result<(), Fail> {
         ("POLYGON M EMPTY", "POLYGON EMPTY"),
         ("MULTIPOINT M(8 4 1,(4 0 2))", "MULTIPOINT((8 4),(4 0))"),
         ("MULTIPOINT(1 2,EMPTY)", empty),
-        ("MULTILINESTRING Z((8 4 0,-3 0 0),EMPTY)", "MULTILINESTRING((8 4,-3 0),EMPTY)"),
-        ("MULTIPOLYGON(((0 0,4 0,2 4)),EMPTY)", "MULTIPOLYGON(((0 0,4 0,2 4,0 0)),EMPTY)"),
+        (
+            "MULTILINESTRING Z((8 4 0,-3 0 0),EMPTY)",
+            "MULTILINESTRING((8 4,-3 0),EMPTY)",
+        ),
+        (
+            "MULTIPOLYGON(((0 0,4 0,2 4)),EMPTY)",
+            "MULTIPOLYGON(((0 0,4 0,2 4,0 0)),EMPTY)",
+        ),
         (
             "GEOMETRYCOLLECTION ZM(GEOMETRYCOLLECTION M(POINT(1 2)),POINT EMPTY)",
             "GEOMETRYCOLLECTION(GEOMETRYCOLLECTION(POINT(1 2)),MULTIPOINT EMPTY)",
         ),
         ("GEOMETRYCOLLECTION(POINT(1 2),MULTIPOINT(EMPTY))", empty),
         ("", "Invalid WKT: Invalid WKT format"),
-        ("LINEARRINGZ(1 2 3)", "Invalid WKT: Invalid type encountered"),
-        ("POINT EMPTYX", "Invalid WKT: Unexpected word before open paren"),
+        (
+            "LINEARRINGZ(1 2 3)",
+            "Invalid WKT: Invalid type encountered",
+        ),
+        (
+            "POINT EMPTYX",
+            "Invalid WKT: Unexpected word before open paren",
+        ),
     ] {
         assert_eq!(rt; again::<Geometry<Number>>(alloc, text)?.as_str(), want);
     }
@@ -233,8 +293,14 @@ fn refusals_have_texts(rt: HostRuntime) -> Result<(), Fail> {
             },
             "Mismatched geometry (expected \"Point\", found \"MultiPoint\")",
         ),
-        (Error::WrongNumberOfGeometries(3), "Wrong number of Geometries: 3"),
-        (Error::InvalidWKT("End of stream"), "Invalid WKT: End of stream"),
+        (
+            Error::WrongNumberOfGeometries(3),
+            "Wrong number of Geometries: 3",
+        ),
+        (
+            Error::InvalidWKT("End of stream"),
+            "Invalid WKT: End of stream",
+        ),
         (
             Error::Reader(std::io::Error::from(std::io::ErrorKind::Other)),
             "External error: read fault",

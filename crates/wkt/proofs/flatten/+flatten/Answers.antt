@@ -24,7 +24,7 @@ collection-geometry-requires g t c κs within =
 pub geometry-collection-requires : goal.geometry-collection-requires
 geometry-collection-requires g t c κs within =
     let e : depth (tree c.args.w.now) ≡ suc (deepest (members c.geometries.result.now)) =
-      ap (λ w. depth (tree w)) c.in-GeometryCollection.is ∙ (ap depth (tree-collection c.in-GeometryCollection.c) ∙ ap depth c.geometries.ensures) in
+    ap (λ w. depth (tree w)) c.in-GeometryCollection.is ∙ (ap depth (tree-collection c.in-GeometryCollection.c) ∙ ap depth c.geometries.ensures) in
     let h : 2 * deepest (members c.geometries.result.now) + 2 < 2 * depth (tree c.args.w.now) + 1 = omega (arith, e) in
     search (rules, h, c.decreases)
 
