@@ -1,6 +1,8 @@
-use crate::deserialize::{ValueError, wkt_from_value};
-use crate::types::Point;
-use crate::{Decimal, ReadError, Wkt};
+use crate::deserialize::geo_types::{deserialize_geometry, deserialize_point};
+use crate::deserialize::{ValueError, deserialize_wkt, wkt_from_value};
+use crate::geo_types::Point;
+use crate::geo_types_from_wkt::Error as ConvertError;
+use crate::{Decimal, ReadError, ToWkt};
 use serde_json::Value;
 use std::alloc::Global;
 use std::test::Fail;
@@ -79,5 +81,102 @@ fn reads_a_field_of_a_document(rt: HostRuntime) -> Result<(), Fail> {
         document.to_string(alloc)?.as_str(),
         "{\"at\":null,\"rows\":[{\"at\":\"POINT (42 3.14)\",\"id\":7}]}"
     );
+    Ok(())
+}
+
+// What the value is read as by `deserialize_point`: the text of the point, `none`, or that of the
+// error.
+fn read_point(alloc: Global, value: &Value) -> Result<String, Fail> {
+    match deserialize_point::<Decimal<6>>(alloc, value) {
+        Ok(Some(point)) => Ok(point.wkt_string(alloc)?),
+        Ok(None) => Ok(String::from_str(alloc, "none")?),
+        Err(error) => Ok(error.to_string(alloc)?),
+    }
+}
+
+#[test]
+fn reads_points_and_none(rt: HostRuntime) -> Result<(), Fail> {
+    let alloc = rt.alloc();
+    for (json, want) in [
+        ("\"POINT (42 3.14)\"", "POINT(42 3.14)"),
+        ("\"POINT ZM (1 2 3 4)\"", "POINT(1 2)"),
+        ("\"POINT EMPTY\"", "none"),
+        ("\"POINT Z EMPTY\"", "none"),
+        ("\"MULTIPOINT EMPTY\"", "none"),
+        ("3", "a valid WKT format"),
+        ("1.5", "a valid WKT format"),
+        ("null", "a valid WKT format"),
+        ("[]", "a valid WKT format"),
+        ("{}", "a valid WKT format"),
+        (
+            "\"LINESTRING(1 2,3 4)\"",
+            "Mismatched geometry (expected \"Point\", found \"LineString\")",
+        ),
+        (
+            "\"MULTIPOINT (1 2)\"",
+            "Mismatched geometry (expected \"Point\", found \"MultiPoint\")",
+        ),
+        (
+            "\"GEOMETRYCOLLECTION EMPTY\"",
+            "Mismatched geometry (expected \"Point\", found \"GeometryCollection\")",
+        ),
+        (
+            "\"MULTIPOINT (EMPTY)\"",
+            "The WKT Point was empty, but geo_type::Points cannot be empty",
+        ),
+        (
+            "\"POINT (10)\"",
+            "Invalid WKT: Missing closing parenthesis for type",
+        ),
+    ] {
+        let value = Value::from_str(alloc, json)?;
+        assert_eq!(rt; read_point(alloc, &value)?.as_str(), want, "of {json}");
+    }
+    Ok(())
+}
+
+// What the value is read as by `deserialize_geometry`.
+fn read_geometry(alloc: Global, value: &Value) -> Result<String, Fail> {
+    match deserialize_geometry::<Decimal<6>>(alloc, value) {
+        Ok(geometry) => Ok(geometry.wkt_string(alloc)?),
+        Err(error) => Ok(error.to_string(alloc)?),
+    }
+}
+
+// What the value is read as by `deserialize_wkt`, where a point is asked for.
+fn read_as_point(alloc: Global, value: &Value) -> Result<String, Fail> {
+    let read: Result<Point<Decimal<6>>, ValueError<ConvertError>> = deserialize_wkt(alloc, value);
+    match read {
+        Ok(point) => Ok(point.wkt_string(alloc)?),
+        Err(error) => Ok(error.to_string(alloc)?),
+    }
+}
+
+#[test]
+fn reads_geometries_and_what_is_asked_for(rt: HostRuntime) -> Result<(), Fail> {
+    let alloc = rt.alloc();
+    for (json, want, as_point) in [
+        ("\"POINT (42 3.14)\"", "POINT(42 3.14)", "POINT(42 3.14)"),
+        (
+            "\"POINT EMPTY\"",
+            "MULTIPOINT EMPTY",
+            "Mismatched geometry (expected \"Point\", found \"MultiPoint\")",
+        ),
+        (
+            "\"LINESTRING Z(1 2 3,3 4 5)\"",
+            "LINESTRING(1 2,3 4)",
+            "Mismatched geometry (expected \"Point\", found \"LineString\")",
+        ),
+        ("1.5", "a valid WKT format", "a valid WKT format"),
+        (
+            "\"\"",
+            "Invalid WKT: Invalid WKT format",
+            "Invalid WKT: Invalid WKT format",
+        ),
+    ] {
+        let value = Value::from_str(alloc, json)?;
+        assert_eq!(rt; read_geometry(alloc, &value)?.as_str(), want, "of {json}");
+        assert_eq!(rt; read_as_point(alloc, &value)?.as_str(), as_point, "of {json}");
+    }
     Ok(())
 }
