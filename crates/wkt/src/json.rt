@@ -58,11 +58,11 @@ pub fn wkt_from_value<T: WktNum>(
     ensures free { AsText (text_of value.now) result (λ text r. (v end : _) → Front T.read text v end → NeedsNoMemory v → IsOk r) }
 {
     match value.as_str() {
-        None => Err(ValueError::NotAString),
         Some(text) => match Wkt::<T>::from_str(alloc, text) {
             Ok(geometry) => Ok(geometry),
             Err(error) => Err(ValueError::Fault(error)),
         },
+        None => Err(ValueError::NotAString),
     }
 }
 
@@ -78,11 +78,11 @@ pub fn deserialize_wkt<T, G: TryFromWkt<T>>(
     ensures { AsText (text_of value.now) result G.answers }
 {
     match value.as_str() {
-        None => Err(ValueError::NotAString),
         Some(text) => match G::try_from_wkt_str(alloc, text) {
             Ok(geometry) => Ok(geometry),
             Err(error) => Err(ValueError::Fault(error)),
         },
+        None => Err(ValueError::NotAString),
     }
 }
 

@@ -176,7 +176,11 @@ fn reads_geometries_and_what_is_asked_for(rt: HostRuntime) -> Result<(), Fail> {
     ] {
         let value = Value::from_str(alloc, json)?;
         assert_eq!(rt; read_geometry(alloc, &value)?.as_str(), want, "of {json}");
-        assert_eq!(rt; read_as_point(alloc, &value)?.as_str(), as_point, "of {json}");
+        assert_eq!(rt;
+            read_as_point(alloc, &value)?.as_str(),
+            as_point,
+            "of {json}"
+        );
     }
     Ok(())
 }

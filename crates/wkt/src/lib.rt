@@ -30,6 +30,7 @@ pub use from_text::TryFromWkt;
 pub use json::{
     ValueError, deserialize_geometry, deserialize_point, deserialize_wkt, wkt_from_value,
 };
+pub use send::ToWktError;
 pub use to_text::ToWkt;
 pub use wkt_num::{Decimal, WktNum};
 pub use wkt_read::{FromWktStr, InferError, ReadError, infer_type};
