@@ -4,6 +4,7 @@ use Rattle.std.proofs.lemmas.List.{append-nil}
 use Rattle.std.specs.List.{AllByRecursion}
 use Rattle.wkt_flat.specs.Exact.{IsExact}
 use Rattle.wkt_flat.specs.Equal.{coord_eq, coord_exact}
+use Rattle.wkt_flat.specs.Closed.{HasClosedRings, HaveClosedRings}
 use Rattle.wkt_flat.specs.Rings.{Rings, IsClosed, AreClosed, close, last_from}
 use Rattle.wkt_flat.specs.Tree.{Flat, Flats}
 use Rattle.wkt_flat.specs.declared.coord.Coord as flat_coord
@@ -41,31 +42,31 @@ module _ {T : Type 0} {E : T → T → Bool} (e : IsExact E) where
   abbrev made : List (flat_coord.Coord T) → List (List (flat_coord.Coord T)) → Rings (flat_coord.Coord T)
   made r rs = record { exterior = r; interiors = rs }
 
-  polygon_again : (r : List (flat_coord.Coord T)) (rs : List (List (flat_coord.Coord T))) → IsPlainPolygon r rs →
+  polygon_again : (r : List (flat_coord.Coord T)) (rs : List (List (flat_coord.Coord T))) → IsPlainPolygon r rs → AreClosed r rs →
       rings (coord_eq E) (polygon_back (record { exterior = r; interiors = rs })) ≡ record { exterior = r; interiors = rs }
-  polygon_again [] rs h = ap (λ l. made [] l) (sym h)
-  polygon_again (c ∷ cs) rs h =
+  polygon_again [] rs h k = ap (λ l. made [] l) (sym h)
+  polygon_again (c ∷ cs) rs h k =
       ap₂ (λ a b. made (close (coord_eq E) a) (map (close (coord_eq E)) b)) (path_again (c ∷ cs)) (paths_again rs)
-      ∙ ap₂ made (close_same (coord_exact e) (c ∷ cs) h.0) (all_same (coord_exact e) rs h.1)
+      ∙ ap₂ made (close_same (coord_exact e) (c ∷ cs) k.0) (all_same (coord_exact e) rs k.1)
 
-  polygons_again : (ys : List (Rings (flat_coord.Coord T))) → AllByRecursion (λ y. IsPlainPolygon y.exterior y.interiors) ys →
+  polygons_again : (ys : List (Rings (flat_coord.Coord T))) → AllByRecursion (λ y. IsPlainPolygon y.exterior y.interiors) ys → AllByRecursion (λ y. AreClosed y.exterior y.interiors) ys →
       map (rings (coord_eq E)) (map polygon_back ys) ≡ ys
-  polygons_again [] h = refl
-  polygons_again (y ∷ ys) h = ap₂ (λ x xs. x ∷ xs) (polygon_again y.exterior y.interiors h.0) (polygons_again ys h.1)
+  polygons_again [] h k = refl
+  polygons_again (y ∷ ys) h k = ap₂ (λ x xs. x ∷ xs) (polygon_again y.exterior y.interiors h.0 k.0) (polygons_again ys h.1 k.1)
 
   mutual
-    pub again : (t : Flat T) → IsPlain t → flat (coord_eq E) (back t) ≡ value t
-    again (Flat.point p) h = refl
-    again (Flat.line l) h = absurd h
-    again (Flat.line_string cs) h = ap (λ l. value (Flat.line_string l)) (path_again cs)
-    again (Flat.polygon y) h = ap (λ l. value (Flat.polygon l)) (polygon_again y.exterior y.interiors h)
-    again (Flat.multi_point ps) h = ap (outcome_map Flat.multi_point) (points_again ps)
-    again (Flat.multi_line_string ls) h = ap (λ l. value (Flat.multi_line_string l)) (paths_again ls)
-    again (Flat.multi_polygon ys) h = ap (λ l. value (Flat.multi_polygon l)) (polygons_again ys h)
-    again (Flat.collection ts) h = ap (outcome_map Flat.collection) (all_again ts h)
-    again (Flat.rect r) h = absurd h
-    again (Flat.triangle t) h = absurd h
+    pub again : (t : Flat T) → IsPlain t → HasClosedRings t → flat (coord_eq E) (back t) ≡ value t
+    again (Flat.point p) h k = refl
+    again (Flat.line l) h k = absurd h
+    again (Flat.line_string cs) h k = ap (λ l. value (Flat.line_string l)) (path_again cs)
+    again (Flat.polygon y) h k = ap (λ l. value (Flat.polygon l)) (polygon_again y.exterior y.interiors h k)
+    again (Flat.multi_point ps) h k = ap (outcome_map Flat.multi_point) (points_again ps)
+    again (Flat.multi_line_string ls) h k = ap (λ l. value (Flat.multi_line_string l)) (paths_again ls)
+    again (Flat.multi_polygon ys) h k = ap (λ l. value (Flat.multi_polygon l)) (polygons_again ys h k)
+    again (Flat.collection ts) h k = ap (outcome_map Flat.collection) (all_again ts h k)
+    again (Flat.rect r) h k = absurd h
+    again (Flat.triangle t) h k = absurd h
 
-    all_again : (ts : Flats T) → ArePlain ts → flat_all (coord_eq E) (all_back ts) ≡ value ts
-    all_again Flats.no_flats h = refl
-    all_again (Flats.more_flats t ts) h = ap₂ (outcome_both Flats.more_flats) (again t h.0) (all_again ts h.1)
+    all_again : (ts : Flats T) → ArePlain ts → HaveClosedRings ts → flat_all (coord_eq E) (all_back ts) ≡ value ts
+    all_again Flats.no_flats h k = refl
+    all_again (Flats.more_flats t ts) h k = ap₂ (outcome_both Flats.more_flats) (again t h.0 k.0) (all_again ts h.1 k.1)

@@ -1,7 +1,7 @@
 -- What the laws of the definitions say; `laws` proves each.
 use Rattle.std.specs.Prelude.{◌≡◌, ◌↔◌, ℕ, None, Bool, List, [], ◌∷◌, Option}
 use Rattle.std.specs.List.{AllByRecursion}
-use Rattle.wkt_flat.specs.Rings.{Rings, AreClosed}
+use Rattle.wkt_flat.specs.Closed.{HasClosedRings}
 use Rattle.wkt_flat.specs.Equal.{coord_eq}
 use Rattle.wkt.specs.Flatten.{flat}
 use Rattle.wkt_types.specs.Outcome.{Outcome, value}
@@ -19,10 +19,10 @@ use Rattle.wkt.specs.Back.{back}
 abbrev pub FlatAndBack : Type 0 → Type 0
 FlatAndBack T = (t : Flat T) → (canon (flat_shape t) ≡ canon (tree_shape (back t))) × (fault (flat_shape t) ≡ None) × (fault (tree_shape (back t)) ≡ None)
 
--- Each ring is closed, and a polygon with an empty exterior has no interiors.
+-- A polygon with an empty exterior has no interiors.
 abbrev pub IsPlainPolygon : {C : Type 0} → List C → List (List C) → Type 0
 IsPlainPolygon [] interiors = interiors ≡ []
-IsPlainPolygon (c ∷ cs) interiors = AreClosed (c ∷ cs) interiors
+IsPlainPolygon (c ∷ cs) interiors = Unit {0}
 
 -- A flat value that nowhere holds a line, a rectangle or a triangle, and whose polygons are such.
 abbrev mutual
@@ -44,11 +44,19 @@ abbrev mutual
   ArePlain (Flats.more_flats t ts) = IsPlain t × ArePlain ts
 
 -- A plain value comes back from its `Wkt`.
-abbrev pub PlainComesBack : {T : Type 0} → (T → T → Bool) → Type 0
-PlainComesBack {T} E = (t : Flat T) → IsPlain t → flat (coord_eq E) (back t) ≡ value t
+abbrev pub ComesBack : {T : Type 0} → (T → T → Bool) → Flat T → Type 0
+ComesBack E t = IsPlain t → flat (coord_eq E) (back t) ≡ value t
 
--- The text of a plain flat value is answered with that value, and with nothing else.
-abbrev pub PlainReadsBack : {T : Type 0} → (T → Type 0) → (T → List ℕ) → (List ℕ → Option T) → (T → T → Bool) → Type 0
-PlainReadsBack {T} is_value num read E =
-    (t : Flat T) → IsPlain t → IsLawful is_value (flat_shape t) → (o : Outcome (Flat T))
+-- The text of a plain value is answered with that value, and with nothing else.
+abbrev pub ReadsBack : {T : Type 0} → (T → Type 0) → (T → List ℕ) → (List ℕ → Option T) → (T → T → Bool) → Flat T → Type 0
+ReadsBack {T} is_value num read E t =
+    IsPlain t → IsLawful is_value (flat_shape t) → (o : Outcome (Flat T))
     → FrontGives read (flat (coord_eq E)) (shape_text num (flat_shape t)) o ↔ (o ≡ value t)
+
+-- Each tree whose rings are closed comes back from its `Wkt`, if it is plain.
+abbrev pub PlainComesBack : {T : Type 0} → (T → T → Bool) → Type 0
+PlainComesBack {T} E = (t : Flat T) → HasClosedRings t → ComesBack E t
+
+-- Each tree whose rings are closed is read back from its text, if it is plain.
+abbrev pub PlainReadsBack : {T : Type 0} → (T → Type 0) → (T → List ℕ) → (List ℕ → Option T) → (T → T → Bool) → Type 0
+PlainReadsBack {T} is_value num read E = (t : Flat T) → HasClosedRings t → ReadsBack is_value num read E t

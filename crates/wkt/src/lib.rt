@@ -100,11 +100,13 @@ pub mod deserialize {
     }
 }
 
-/// The laws of the definitions that the contracts cite: public functions with empty bodies, whose
+/// The laws of the definitions that the contracts cite: public functions that change nothing, whose
 /// contracts are the laws.
 pub mod laws {
-    pub use crate::flat_laws::{flat_and_back, plain_comes_back, plain_reads_back};
-    pub use wkt_flat::laws::flat_is_writable;
+    pub use crate::flat_laws::{
+        flat_and_back, geometry_comes_back, plain_comes_back, plain_reads_back,
+    };
+    pub use wkt_flat::laws::{flat_is_writable, rings_are_closed};
     pub use wkt_num::laws::{finer_keeps, reading_is_equation, wider_keeps};
     pub use wkt_read::laws::{
         canon_once, dead_for_good, few_lexemes, front_is_writable, front_of_lexemes, header_names,

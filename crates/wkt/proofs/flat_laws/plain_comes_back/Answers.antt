@@ -3,4 +3,4 @@ use Rattle.wkt.proofs.Plain.{again}
 use Rattle.wkt.proofs.flat_laws.plain_comes_back.Goals as goal
 
 pub returns : goal.returns
-returns g c = again (exact_by g.met.T.WktNum.same)
+returns g c t closed plain = again (exact_by g.met.T.WktNum.same) t plain closed

@@ -16,12 +16,12 @@ use Rattle.wkt.proofs.Plain.{again}
 use Rattle.wkt.proofs.flat_laws.plain_reads_back.Goals as goal
 
 pub returns : goal.returns
-returns g c t plain lawful o =
+returns g c t closed plain lawful o =
     let num = g.T.WktNum.num in
     let read = g.T.WktNum.read in
     let whole = shape_text num (flat_shape t) in
     let front = front_of_text g.T.WktNum.is_value num read (record { reads_back = g.met.T.WktNum.reads_back; number_text = g.met.T.WktNum.number_text }) true (canon (flat_shape t)) lawful in
-    let same = again (exact_by g.met.T.WktNum.same) t plain in (
+    let same = again (exact_by g.met.T.WktNum.same) t plain closed in (
       (λ h.
           let (end, (v, f, w)) = h.1 in
           let one = (front_one read true whole v (canon (flat_shape t)) end (length whole) f front).0 in
