@@ -2,11 +2,11 @@
 # Refuses each growth of memory of the two built programs in turn, until a run meets none.
 #
 # wktline answers lines of every kind: each refusal has to end it with its words and status, behind the whole
-# answers to some first lines. wkt_rows reads each text by three calls, copies the geometry, puts the copy together
+# answers to some first lines. wkt_conformance reads each text by three calls, copies the geometry, puts the copy together
 # again from its parts and displays it: each refusal has to end it as want of memory, with no row told as wrong, or
 # to change nothing.
 #
-# Build both first (rt run in crates/wktline and crates/wkt_rows). It needs a C compiler.
+# Build both first (rt run in crates/wktline and crates/wkt_conformance). It needs a C compiler.
 set -u
 cd "$(dirname "$0")/.."
 dir=$(mktemp -d)
@@ -63,4 +63,4 @@ each() {
 
 cut -f 1 tests/growth.tsv > "$dir/lines"
 each wktline "$dir/lines" 1
-each wkt_rows tests/growth.tsv 2
+each wkt_conformance tests/growth.tsv 2

@@ -3,10 +3,6 @@
 
 mod back;
 mod convert;
-#[cfg(test)]
-mod convert_tests;
-#[cfg(test)]
-mod device_tests;
 mod flat_laws;
 mod flat_text;
 mod flat_to_wkt;
@@ -14,16 +10,12 @@ mod flat_written;
 mod flatten;
 mod from_text;
 mod json;
-#[cfg(test)]
-mod json_tests;
 mod kinds;
 #[cfg(test)]
 mod macro_tests;
 mod macros;
 mod send;
 mod string_text;
-#[cfg(test)]
-mod text_tests;
 mod to_text;
 
 pub use from_text::TryFromWkt;

@@ -12,7 +12,5 @@
 
 mod answer;
 mod lines;
-#[cfg(test)]
-mod tests;
 
 pub use lines::{RunError, run};

@@ -1,4 +1,5 @@
 //! A table of texts and what reading each gives.
+use crate::flat_calls::flat_alike;
 use std::alloc::{AllocError, Global};
 use std::io;
 use thiserror::Error;
@@ -77,7 +78,7 @@ pub fn answer<T: WktNum>(alloc: Global, text: &str) -> Result<String, AllocError
     match read_alike::<T>(alloc, text) {
         Ok((geometry, alike)) => {
             let again = rebuilt(alloc, geometry.try_clone(alloc)?)?;
-            if alike && again == geometry {
+            if alike && again == geometry && flat_alike(alloc, text, &geometry)? {
                 format!(in alloc; "{again}")
             } else {
                 format!(in alloc; "{geometry}, but another call gives another, as {again}")

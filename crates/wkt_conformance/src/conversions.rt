@@ -1,17 +1,16 @@
 //! Each conversion once, and all of them at many sizes.
-use crate::geo_types_from_wkt::{
-    ConvertFrom, Error, try_into_geometry, try_into_geometry_collection,
-};
-use crate::{FromWktStr, ToWkt, TryFromWkt, Wkt, types};
 use std::alloc::Global;
 use std::process::Abort;
 use std::test::Fail;
-use wkt_bytes::Counted;
-use wkt_flat::{
+use wkt::geo_types::{
     Geometry, GeometryCollection, Line, LineString, MultiLineString, MultiPoint, MultiPolygon,
     Point, Polygon, Rect, Triangle,
 };
-use wkt_num::Decimal;
+use wkt::geo_types_from_wkt::{
+    ConvertFrom, Error, try_into_geometry, try_into_geometry_collection,
+};
+use wkt::to_wkt::Counted;
+use wkt::{Decimal, FromWktStr, ToWkt, TryFromWkt, Wkt, types};
 
 type Number = Decimal<6>;
 

@@ -1,115 +1,12 @@
-//! The program over devices in memory, which are slow or fail.
-ghost use Rattle.std.specs.Prelude.{◌≡◌, ◌≤◌, ◌<◌};
-
-use crate::lines::{RunError, run};
-use std::io;
+//! What the program does over sinks and sources that are slow or fail.
+use crate::slow_devices::{Slow, source};
 use std::io::ErrorKind;
 use std::test::Fail;
-use wkt::to_wkt::{ByteSink, ByteSource};
-
-/// Takes `step` bytes a call. After the first `calls` it takes none: each call fails, or where `full` says so
-/// answers zero.
-#[derive(Drop)]
-struct Slow {
-    held: [u8; 512],
-    len: usize,
-    step: usize,
-    calls: usize,
-    full: bool,
-    failures: u64,
-    ghost fits: { len ≤ 512 },
-}
-
-impl Slow {
-    fn new(step: usize, calls: usize) -> Slow {
-        Slow {
-            held: [0; 512],
-            len: 0,
-            step,
-            calls,
-            full: false,
-            failures: 0,
-        }
-    }
-
-    fn taken(&self) -> &[u8] {
-        &self.held[..self.len]
-    }
-}
-
-impl ByteSink for Slow {
-    ghost use Rattle.std.specs.Prelude.{Some, take};
-    ghost use Rattle.wkt_bytes.specs.Device.{owned};
-
-    ghost device = { owned (λ s. Some (take s.len s.held)) (λ s. s.failures) };
-
-    fn put(&mut self, buf: &[u8]) -> io::Result<usize> {
-        if self.calls == 0 && !self.full {
-            self.failures = self.failures.wrapping_add(1);
-            return Err(io::Error::from(ErrorKind::BrokenPipe));
-        }
-        if self.calls == 0 {
-            if !buf.is_empty() {
-                self.failures = self.failures.wrapping_add(1);
-            }
-            return Ok(0);
-        }
-        self.calls -= 1;
-        let count = buf.len().min(self.step).min(512 - self.len);
-        self.held[self.len..self.len + count].copy_from_slice(&buf[..count]);
-        self.len += count;
-        if count == 0 && !buf.is_empty() {
-            self.failures = self.failures.wrapping_add(1);
-        }
-        Ok(count)
-    }
-}
-
-/// Gives `step` bytes a call, and fails at each call after the first `calls`.
-#[derive(Drop)]
-struct Pieces<'a> {
-    rest: &'a [u8],
-    step: usize,
-    calls: usize,
-    failures: u64,
-    ghost moves: { 0 < step },
-}
-
-impl ByteSource for Pieces<'_> {
-    ghost use Rattle.std.specs.Prelude.{Some};
-
-    ghost left = { λ s. Some s.rest.now };
-
-    ghost failures = { λ s. s.failures };
-
-    fn take(&mut self, buf: &mut [u8]) -> io::Result<usize> {
-        if self.calls == 0 {
-            self.failures = self.failures.wrapping_add(1);
-            return Err(io::Error::from(ErrorKind::Interrupted));
-        }
-        self.calls -= 1;
-        let count = buf.len().min(self.step).min(self.rest.len());
-        buf[..count].copy_from_slice(&self.rest[..count]);
-        self.rest = &self.rest[count..];
-        Ok(count)
-    }
-}
+use wkt_lines::{RunError, run};
 
 const INPUT: &[u8] = b"point ( 10 -20.50 )\nPOINT ZM EMPTY\nPOINTZ(-117 33 10)\nPOINT (10)\n\n";
 
 const OUTPUT: &[u8] = b"POINT(10 -20.5)\nPOINT ZM EMPTY\nPOINT Z(-117 33 10)\nrefused\nrefused\n";
-
-/// A source of these bytes, at most so many a call.
-fn source(rest: &[u8], step: usize, calls: usize) -> Pieces<'_>
-    requires { 0 < step }
-{
-    Pieces {
-        rest,
-        step,
-        calls,
-        failures: 0,
-    }
-}
 
 // A program that gives up on every input fails here.
 #[test]
@@ -184,8 +81,7 @@ fn faults_of_the_writer(rt: HostRuntime) {
 fn a_full_writer(rt: HostRuntime) {
     for calls in [0, 19] {
         let mut reader = source(INPUT, 1000, 1000);
-        let mut writer = Slow::new(1, calls);
-        writer.full = true;
+        let mut writer = Slow::full(1, calls);
         match run(rt.alloc(), &mut reader, &mut writer) {
             Err(RunError::Write(e)) => assert!(rt; e.kind() == ErrorKind::WriteZero),
             _ => assert!(rt; false),

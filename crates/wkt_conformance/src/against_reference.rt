@@ -1,5 +1,5 @@
 //! The readers against the plain program of the definitions, on all short texts of some words.
-use crate::slow::{Lexeme, front, lexemes, whole};
+use crate::reference::{Lexeme, front, lexemes, whole};
 use std::alloc::{AllocError, Global};
 use std::test::Fail;
 use wkt::tokenizer::{Token, Tokens};

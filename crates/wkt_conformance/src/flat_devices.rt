@@ -1,108 +1,16 @@
 //! Flat values to writers, and from readers, which are slow or fail.
-ghost use Rattle.std.specs.Prelude.{◌≡◌, ◌≤◌, ◌<◌};
 
-use crate::geo_types_from_wkt::Error;
-use crate::to_wkt::{ByteSink, ByteSource, TextSink, ToWktError, WriterWrapper};
-use crate::{ToWkt, TryFromWkt};
+use crate::slow_devices::{Slow, source};
 use std::io;
 use std::io::ErrorKind;
 use std::test::Fail;
-use wkt_access::Error as WriteError;
-use wkt_flat::{Coord, Geometry, GeometryCollection, Line, LineString, Point, Rect};
-use wkt_num::Decimal;
+use wkt::error::Error as WriteError;
+use wkt::geo_types::{Coord, Geometry, GeometryCollection, Line, LineString, Point, Rect};
+use wkt::geo_types_from_wkt::Error;
+use wkt::to_wkt::{TextSink, ToWktError, WriterWrapper};
+use wkt::{Decimal, ToWkt, TryFromWkt};
 
 type Number = Decimal<6>;
-
-/// Takes `step` bytes a call, and fails at each call after the first `calls`.
-#[derive(Drop)]
-struct Slow {
-    held: [u8; 512],
-    len: usize,
-    step: usize,
-    calls: usize,
-    failures: u64,
-    ghost fits: { len ≤ 512 },
-}
-
-impl Slow {
-    fn new(step: usize, calls: usize) -> Slow {
-        Slow {
-            held: [0; 512],
-            len: 0,
-            step,
-            calls,
-            failures: 0,
-        }
-    }
-
-    fn taken(&self) -> &[u8] {
-        &self.held[..self.len]
-    }
-}
-
-impl ByteSink for Slow {
-    ghost use Rattle.std.specs.Prelude.{Some, take};
-    ghost use Rattle.wkt_bytes.specs.Device.{owned};
-
-    ghost device = { owned (λ s. Some (take s.len s.held)) (λ s. s.failures) };
-
-    fn put(&mut self, buf: &[u8]) -> io::Result<usize> {
-        if self.calls == 0 {
-            self.failures = self.failures.wrapping_add(1);
-            return Err(io::Error::from(ErrorKind::BrokenPipe));
-        }
-        self.calls -= 1;
-        let count = buf.len().min(self.step).min(512 - self.len);
-        self.held[self.len..self.len + count].copy_from_slice(&buf[..count]);
-        self.len += count;
-        if count == 0 && !buf.is_empty() {
-            self.failures = self.failures.wrapping_add(1);
-        }
-        Ok(count)
-    }
-}
-
-/// Gives `step` bytes a call, and fails at each call after the first `calls`.
-#[derive(Drop)]
-struct Pieces<'a> {
-    rest: &'a [u8],
-    step: usize,
-    calls: usize,
-    failures: u64,
-    ghost moves: { 0 < step },
-}
-
-impl ByteSource for Pieces<'_> {
-    ghost use Rattle.std.specs.Prelude.{Some};
-
-    ghost left = { λ s. Some s.rest.now };
-
-    ghost failures = { λ s. s.failures };
-
-    fn take(&mut self, buf: &mut [u8]) -> io::Result<usize> {
-        if self.calls == 0 {
-            self.failures = self.failures.wrapping_add(1);
-            return Err(io::Error::from(ErrorKind::Interrupted));
-        }
-        self.calls -= 1;
-        let count = buf.len().min(self.step).min(self.rest.len());
-        buf[..count].copy_from_slice(&self.rest[..count]);
-        self.rest = &self.rest[count..];
-        Ok(count)
-    }
-}
-
-/// A source of these bytes, at most so many a call.
-fn source(rest: &[u8], step: usize, calls: usize) -> Pieces<'_>
-    requires { 0 < step }
-{
-    Pieces {
-        rest,
-        step,
-        calls,
-        failures: 0,
-    }
-}
 
 const TEXT: &[u8] = b"POINT(1.2 3.4)";
 

@@ -1,21 +1,34 @@
 //! Tests that cross crates, and a table of refused texts, which the program checks.
 //!
-//! Each line of standard input is a text, a tab, and what reading the text over decimals of six
+//! Each line of standard input is a text, a tab, and what reading the text over decimals of eighteen
 //! places gives: the text of its geometry, or the message. The table that stands beside the sources
 //! has one text for each kind, dimension, place and cause that can be met there; it was made by a
 //! program written from the rules alone, in another language.
 #![tactic(auto)]
 
 #[cfg(test)]
-mod compared;
+mod against_reference;
+#[cfg(test)]
+mod conversions;
+mod flat_calls;
+#[cfg(test)]
+mod flat_devices;
+#[cfg(test)]
+mod flat_texts;
+#[cfg(test)]
+mod json_values;
 mod odd;
 #[cfg(test)]
-mod rows;
+mod odd_tests;
 #[cfg(test)]
-mod slow;
+mod program_devices;
+#[cfg(test)]
+mod reference;
+#[cfg(test)]
+mod slow_devices;
 mod table;
 #[cfg(test)]
-mod tests;
+mod worked_rows;
 
 use std::process::ExitCode;
 use table::check_input;
@@ -26,7 +39,7 @@ fn main(rt: HostRuntime) -> ExitCode {
         Ok(_) => ExitCode::from(1),
         Err(e) => {
             // Where standard error fails too, the status still tells.
-            let _ = eprintln!(rt; "wkt_rows: {e}");
+            let _ = eprintln!(rt; "wkt_conformance: {e}");
             ExitCode::from(2)
         }
     }

@@ -1,15 +1,14 @@
 //! Flat values to text and back.
-use crate::geo_types_from_wkt::Error;
-use crate::{ToWkt, TryFromWkt};
 use std::alloc::{AllocError, Global};
 use std::process::Abort;
 use std::test::Fail;
-use wkt_bytes::Counted;
-use wkt_flat::{
+use wkt::geo_types::{
     Coord, Geometry, GeometryCollection, Line, LineString, MultiLineString, MultiPoint,
     MultiPolygon, Point, Polygon, Rect, Triangle,
 };
-use wkt_num::Decimal;
+use wkt::geo_types_from_wkt::Error;
+use wkt::to_wkt::Counted;
+use wkt::{Decimal, ToWkt, TryFromWkt};
 
 type Number = Decimal<6>;
 

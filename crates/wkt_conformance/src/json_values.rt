@@ -1,11 +1,11 @@
-use crate::deserialize::geo_types::{deserialize_geometry, deserialize_point};
-use crate::deserialize::{ValueError, deserialize_wkt, wkt_from_value};
-use crate::geo_types::Point;
-use crate::geo_types_from_wkt::Error as ConvertError;
-use crate::{Decimal, ReadError, ToWkt};
 use serde_json::Value;
 use std::alloc::Global;
 use std::test::Fail;
+use wkt::deserialize::geo_types::{deserialize_geometry, deserialize_point};
+use wkt::deserialize::{ValueError, deserialize_wkt, wkt_from_value};
+use wkt::geo_types::Point;
+use wkt::geo_types_from_wkt::Error as ConvertError;
+use wkt::{Decimal, ReadError, ToWkt};
 
 const BAD_NUMBER: &str = "Unable to parse input number as the desired output type";
 
