@@ -1,12 +1,14 @@
 #!/usr/bin/env bash
 # Refuses each growth of memory of the two built programs in turn, until a run meets none.
 #
-# wktline answers lines of every kind: each refusal has to end it with its words and status, behind the whole
-# answers to some first lines. wkt_conformance reads each text by three calls, copies the geometry, puts the copy together
-# again from its parts and displays it: each refusal has to end it as want of memory, with no row told as wrong, or
-# to change nothing.
+# wktline answers lines of every kind: each refusal has to end it with its words and status, after the whole answers to
+# some first lines. wkt_conformance reads each text by three calls, copies the geometry, puts the copy together again from
+# its parts and displays it, converts it to a two-dimensional one and back, reads that from the text, from bytes and
+# from JSON, and writes it in three ways: each refusal has to end it as out of memory, with no row told as wrong, or to
+# change nothing. Then the same of ten thousand nested collections, at growths all over the run.
 #
-# Build both first (rt run in crates/wktline and crates/wkt_conformance). It needs a C compiler.
+# The gate runs it on the programs that it has built; alone, build both first (rt run in crates/wktline and
+# crates/wkt_conformance). It needs a C compiler.
 set -u
 cd "$(dirname "$0")/.."
 dir=$(mktemp -d)
@@ -39,9 +41,9 @@ run() {
     REFUSE=$2 REFUSED="$dir/refused" LD_PRELOAD="$dir/refuse.so" "crates/$1/out/$1" > "$dir/out" 2> "$dir/err"
 }
 
-# each PROGRAM INPUT STATUS: every growth in turn
+# each PROGRAM INPUT STATUS STEP: every growth in turn, or one of so many
 each() {
-    local program=$1 input=$2 want=$3 n=1 ended=0 status
+    local program=$1 input=$2 want=$3 step=$4 n=1 tried=0 ended=0 status
     "crates/$program/out/$program" < "$input" > "$dir/whole" || exit 2
     while true; do
         run "$program" "$n" < "$input"
@@ -55,12 +57,18 @@ each() {
             head -n "$(wc -l < "$dir/out")" "$dir/whole" | cmp -s - "$dir/out" || fail "$program" "$n" "another output"
             ended=$((ended + 1))
         fi
-        n=$((n + 1))
+        n=$((n + step)) tried=$((tried + 1))
     done
-    [ "$n" -gt 1 ] || fail "$program" 1 "nothing was refused"
-    echo "$program: $((n - 1)) growths refused, each in turn; $ended ended it, the others changed nothing"
+    [ "$tried" -gt 0 ] || fail "$program" 1 "nothing was refused"
+    echo "$program: $tried growths refused, each in a run of its own; $ended ended it, the others changed nothing"
 }
 
 cut -f 1 tests/growth.tsv > "$dir/lines"
-each wktline "$dir/lines" 1
-each wkt_conformance tests/growth.tsv 2
+each wktline "$dir/lines" 1 1
+each wkt_conformance tests/growth.tsv 2 1
+
+deep=$(printf 'GEOMETRYCOLLECTION(%.0s' $(seq 10000))POINT\(1\ 2\)$(printf ')%.0s' $(seq 10000))
+echo "$deep" > "$dir/deep"
+printf '%s\t%s\n' "$deep" "$deep" > "$dir/deep.tsv"
+each wktline "$dir/deep" 1 199
+each wkt_conformance "$dir/deep.tsv" 2 1999

@@ -1,8 +1,8 @@
 //! That the calls over two-dimensional values agree, whichever of them is asked.
 use serde_json::Value;
 use std::alloc::{AllocError, Global};
-use wkt::deserialize::ValueError;
 use wkt::deserialize::geo_types::deserialize_geometry;
+use wkt::deserialize::{ValueError, wkt_from_value};
 use wkt::error::Error;
 use wkt::geo_types::Geometry;
 use wkt::geo_types_from_wkt::{Error as ConvertError, try_into_geometry};
@@ -29,8 +29,13 @@ pub fn flat_alike<T: WktNum>(
     if from_text != flat || from_bytes != flat || from_json != flat {
         return Ok(false);
     }
+    match wkt_from_value(alloc, &json) {
+        Ok(again) if again == *geometry => {}
+        Err(ValueError::Fault(ReadError::Memory(e))) => return Err(e),
+        _ => return Ok(false),
+    }
     match flat {
-        Ok(flat) => written_alike(alloc, &flat),
+        Ok(flat) => Ok(flat.try_clone(alloc)? == flat && written_alike(alloc, &flat)?),
         Err(_) => Ok(true),
     }
 }

@@ -16,12 +16,18 @@ mod flat_devices;
 #[cfg(test)]
 mod flat_texts;
 #[cfg(test)]
+mod flat_values;
+#[cfg(test)]
+mod headers;
+#[cfg(test)]
 mod json_values;
 mod odd;
 #[cfg(test)]
 mod odd_tests;
 #[cfg(test)]
 mod program_devices;
+#[cfg(test)]
+mod reading;
 #[cfg(test)]
 mod reference;
 #[cfg(test)]

@@ -253,7 +253,13 @@ fn depth(rt: HostRuntime) -> Result<(), Fail> {
     let alloc = rt.alloc();
     let text = nested(alloc, 300, 300)?;
     assert_eq!(rt; text.len(), 6010);
-    assert!(rt; gives(alloc, &text)?.as_str() == text.as_str());
+    for depth in [1, 300, 10000] {
+        let text = nested(alloc, depth, depth)?;
+        assert!(rt;
+            gives(alloc, &text)?.as_str() == text.as_str(),
+            "{depth} deep"
+        );
+    }
     let open = nested(alloc, 300, 299)?;
     assert_eq!(rt; gives(alloc, &open)?.as_str(), NO_CLOSING);
     for text in [text.as_str(), open.as_str()] {
@@ -318,5 +324,36 @@ fn long_numbers(rt: HostRuntime) -> Result<(), Fail> {
     assert_eq!(rt; gives(alloc, &text)?.as_str(), "POINT(1 0.5)");
     let word = "A".repeat(alloc, 100000)?;
     assert_eq!(rt; gives(alloc, &word)?.as_str(), NO_KIND);
+    Ok(())
+}
+
+#[test]
+fn long_runs_of_each_class(rt: HostRuntime) -> Result<(), Fail> {
+    let alloc = rt.alloc();
+    for (piece, lexemes) in [
+        (" ", 0),
+        ("\n", 0),
+        ("\r", 0),
+        ("\t", 0),
+        ("\0", 0),
+        ("0", 1),
+        ("9", 1),
+        ("-", 1),
+        (".", 1),
+        ("A", 1),
+        ("z", 1),
+        ("¾", 1),
+        ("(", 100000),
+        (")", 100000),
+        (",", 100000),
+    ] {
+        let text = piece.repeat(alloc, 100000)?;
+        let mut tokens = Tokens::<Decimal<6>>::from_str(&text);
+        for _ in 0..lexemes {
+            assert!(rt; tokens.next().is_some(), "of {piece}");
+        }
+        assert!(rt; tokens.next().is_none(), "of {piece}");
+        assert!(rt; tokens.next().is_none(), "of {piece}");
+    }
     Ok(())
 }

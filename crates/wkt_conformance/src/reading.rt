@@ -1,10 +1,9 @@
-use crate::{FromWktStr, PeekableTokens, ReadError, Token, Tokens};
+//! What is read, which error comes, and what of the text was taken.
 use std::alloc::Global;
 use std::test::Fail;
-use wkt_num::Decimal;
-use wkt_types::{
-    Coord, Dimension, GeometryCollection, LineString, MultiPoint, Point, Polygon, Wkt,
-};
+use wkt::tokenizer::{PeekableTokens, Token, Tokens};
+use wkt::types::{Coord, Dimension, GeometryCollection, LineString, MultiPoint, Point, Polygon};
+use wkt::{Decimal, FromWktStr, ReadError, Wkt};
 
 const BAD_NUMBER: &str = "Unable to parse input number as the desired output type";
 

@@ -1,7 +1,7 @@
 //! Headers and what they name, from outside.
-use crate::infer::infer_type;
 use std::alloc::{AllocError, Global};
 use std::test::Fail;
+use wkt::infer_type;
 
 // The kind and the dimension, or the text of the error.
 fn shown(alloc: Global, text: &str) -> Result<String, AllocError> {
