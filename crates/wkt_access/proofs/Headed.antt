@@ -7,13 +7,14 @@ use Rattle.wkt_access.specs.declared.dimensions.Dimension.TheVariants.{XY}
 use Rattle.wkt_access.specs.declared.dimensions.Dimensions.{Dimensions}
 use Rattle.wkt_access.specs.declared.error.Error.{Error}
 use Rattle.wkt_access.specs.Faults.{under}
-use Rattle.wkt_access.specs.Parts.{each, members_of, dimension_of, IsCollectionOf}
+use Rattle.wkt_access.specs.Parts.{each, gathered, collection_of, members_of, dimension_of, IsCollectionOf}
 use Rattle.wkt_access.specs.Pieces.{gap, cut_coordinate, cut_line, cut_member, cut_polygon, corners_text}
 use Rattle.wkt_access.specs.Texts.{shape_text}
 use Rattle.wkt_access.specs.Shapes.{PolygonShape, Shape, Shapes, printed, dimension, cut, canon, canons, rings_of, corners}
 use Rattle.wkt_access.specs.Values.{size}
 use Rattle.wkt_num.specs.Sink.{Sink, Adds, Breaks, Puts}
 use Rattle.wkt_access.specs.Texts.{headed, listed, suffix, space_if_empty, coordinate_text, line_text, polygon_text, text, texts}
+use Rattle.wkt_access.proofs.Members.{each_gathered}
 use Rattle.wkt_access.proofs.Bracketed.{one_listed, corners_listed}
 use Rattle.wkt_num.proofs.Calls.{breaks_first, breaks_then, puts_then}
 
@@ -83,6 +84,9 @@ texts_each num (Shapes.more_shapes g gs) = ap (λ l. shape_text num g ∷ l) (te
 
 pub shapes_text : {N : Type 0} (num : N → List ℕ) (d : Dimensions) (gs : Shapes N) → shape_text num (Shape.collection d gs) ≡ headed (codes "GEOMETRYCOLLECTION") (dimension d) (map (shape_text num) (each gs))
 shapes_text num d gs = ap (headed (codes "GEOMETRYCOLLECTION") (dimension d)) (texts_each num gs)
+
+pub collection_of_text : {N : Type 0} (num : N → List ℕ) (d : Dimensions) (gs : List (Shape N)) → shape_text num (collection_of d gs) ≡ headed (codes "GEOMETRYCOLLECTION") (dimension d) (map (shape_text num) gs)
+collection_of_text num d gs = shapes_text num d (gathered gs) ∙ ap (λ l. headed (codes "GEOMETRYCOLLECTION") (dimension d) (map (shape_text num) l)) (each_gathered gs)
 
 by_header : (o : Option Dimension) (inside : ℕ → Option Error) → under o inside ≡ None → inside (size (unwrap_or o XY)) ≡ None
 by_header None inside h = cc

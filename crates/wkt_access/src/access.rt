@@ -3,8 +3,8 @@
 
 ghost use Rattle.std.specs.Prelude.{◌≡◌, ◌<◌, ◌≤◌, List, length, slice_get, Option, MatchOption};
 ghost use Rattle.wkt_access.specs.declared.dimensions.Dimensions.{Dimensions};
-ghost use Rattle.wkt_access.specs.Parts.{IsPart, IsCollectionOf, dimension_of, members_of, each};
-ghost use Rattle.wkt_access.specs.Shapes.{size_of, PolygonShape, Shape, Shapes};
+ghost use Rattle.wkt_access.specs.Parts.{IsPart, IsCollectionOf, dimension_of, members_of};
+ghost use Rattle.wkt_access.specs.Shapes.{size_of, PolygonShape, Shape};
 
 use crate::dimensions::Dimensions;
 use wkt_num::WktNum;
@@ -332,7 +332,9 @@ pub enum GeometryType<'a, P, L, Y, MP, ML, MY, R, T, N> {
 
 /// A geometry of any kind.
 ///
-/// The members of a collection are of the geometry's own type, so collections nest at one type.
+/// The members of a collection are of the geometry's own type, so collections nest at one type. For
+/// a representation that has members, this crate's `proofs/Collections` has the lemmas by which
+/// `as_type` and `geometry` are proved.
 pub trait GeometryTrait {
     /// The type of its numbers.
     type T: WktNum;
@@ -399,6 +401,9 @@ pub trait GeometryTrait {
             (λ n. IsCollectionOf n (shape self.now)) };
 
     /// The member of a collection at place `i`, which is below the count. Other kinds have no members.
+    ///
+    /// An implementation that is never a collection answers `self` and writes a clause of its own,
+    /// `ensures { result.now ≡ self.now }`: it would else inherit a `requires` that no call meets.
     fn geometry(&self, i: usize) -> &Self
         requires { i < length (members_of (shape self.now)) }
         ensures { slice_get (members_of (shape self.now)) i ≡ Some (shape result.now) };
@@ -415,8 +420,8 @@ pub trait GeometryCollectionTrait {
     /// The dimension of its header.
     ghost dimension: { Self → Dimensions };
 
-    /// The shapes of its members in order.
-    ghost geometries: { Self → Shapes Self.T };
+    /// The shapes of its members in order: `map G.shape` of a list of members of the type `G`.
+    ghost geometries: { Self → List (Shape Self.T) };
 
     /// The dimension that its header is printed with. Each member has a header of its own.
     fn dim(&self) -> Dimensions
@@ -424,10 +429,13 @@ pub trait GeometryCollectionTrait {
 
     /// How many members it has.
     fn num_geometries(&self) -> usize
-        ensures { result ≡ length (each (geometries self.now)) };
+        ensures { result ≡ length (geometries self.now) };
 
     /// The member at place `i`, which is below the count.
+    ///
+    /// An implementation that never has members writes an `ensures` of its own here, for the reason
+    /// told at [`GeometryTrait::geometry`].
     fn geometry(&self, i: usize) -> &Self::GeometryType
-        requires { i < length (each (geometries self.now)) }
-        ensures { slice_get (each (geometries self.now)) i ≡ Some (Self.GeometryType.shape result.now) };
+        requires { i < length (geometries self.now) }
+        ensures { slice_get (geometries self.now) i ≡ Some (Self.GeometryType.shape result.now) };
 }

@@ -4,7 +4,7 @@
 ghost use Rattle.std.specs.Prelude.{◌≡◌, ◌<◌, ◌++◌, None, length, map, codes};
 ghost use Rattle.wkt_access.specs.Faults.{fault, first_fault};
 ghost use Rattle.wkt_access.specs.Shapes.{Shape, dimension};
-ghost use Rattle.wkt_access.specs.Parts.{IsCollectionOf, each};
+ghost use Rattle.wkt_access.specs.Parts.{IsCollectionOf, collection_of};
 ghost use Rattle.wkt_access.specs.Pieces.{gap};
 ghost use Rattle.wkt_access.specs.Texts.{joined, listed, suffix, shape_text};
 ghost use Rattle.wkt_num.specs.Sink.{Puts};
@@ -151,8 +151,8 @@ fn put_members<W: TextSink, G: GeometryTrait>(f: &mut W, g: &G, n: usize) -> fmt
 }
 
 fn put_geometries<W: TextSink, C: GeometryCollectionTrait>(f: &mut W, c: &C) -> fmt::Result
-    requires { first_fault fault (each (C.geometries c.now)) ≡ None }
-    ensures { Puts W.sink f.old (joined (codes ",") (map (shape_text C.T.num) (each (C.geometries c.now)))) f.new result }
+    requires { first_fault fault (C.geometries c.now) ≡ None }
+    ensures { Puts W.sink f.old (joined (codes ",") (map (shape_text C.T.num) (C.geometries c.now))) f.new result }
 {
     for i in 0..c.num_geometries() {
         put_separator(f, ",", i)?;
@@ -162,8 +162,8 @@ fn put_geometries<W: TextSink, C: GeometryCollectionTrait>(f: &mut W, c: &C) -> 
 }
 
 fn put_geometries_in<W: TextSink, C: GeometryCollectionTrait>(f: &mut W, c: &C) -> fmt::Result
-    requires { first_fault fault (each (C.geometries c.now)) ≡ None }
-    ensures { Puts W.sink f.old (listed (map (shape_text C.T.num) (each (C.geometries c.now)))) f.new result }
+    requires { first_fault fault (C.geometries c.now) ≡ None }
+    ensures { Puts W.sink f.old (listed (map (shape_text C.T.num) (C.geometries c.now))) f.new result }
 {
     put_opening(f, c.num_geometries())?;
     put_geometries(f, c)?;
@@ -171,7 +171,7 @@ fn put_geometries_in<W: TextSink, C: GeometryCollectionTrait>(f: &mut W, c: &C) 
 }
 
 fn put_collection_header<W: TextSink, C: GeometryCollectionTrait>(f: &mut W, c: &C) -> fmt::Result
-    ensures { Puts W.sink f.old (codes "GEOMETRYCOLLECTION" ++ (suffix (dimension (C.dimension c.now)) ++ gap (length (each (C.geometries c.now))))) f.new result }
+    ensures { Puts W.sink f.old (codes "GEOMETRYCOLLECTION" ++ (suffix (dimension (C.dimension c.now)) ++ gap (length (C.geometries c.now)))) f.new result }
 {
     put_header(
         f,
@@ -185,8 +185,8 @@ pub(crate) fn put_collection<W: TextSink, C: GeometryCollectionTrait>(
     f: &mut W,
     c: &C,
 ) -> fmt::Result
-    requires { first_fault fault (each (C.geometries c.now)) ≡ None }
-    ensures { Puts W.sink f.old (shape_text C.T.num (Shape.collection (C.dimension c.now) (C.geometries c.now))) f.new result }
+    requires { first_fault fault (C.geometries c.now) ≡ None }
+    ensures { Puts W.sink f.old (shape_text C.T.num (collection_of (C.dimension c.now) (C.geometries c.now))) f.new result }
 {
     put_collection_header(f, c)?;
     put_geometries_in(f, c)

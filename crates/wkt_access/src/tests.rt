@@ -3,14 +3,16 @@ ghost use Rattle.std.specs.Prelude.{◌≡◌, ◌≤◌, map, option_map, vec_l
 ghost use Rattle.wkt_access.specs.declared.dimensions.Dimensions.{Dimensions};
 
 use crate::access::{
-    CoordTrait, GeometryTrait, GeometryType, LineStringTrait, LineTrait, MultiLineStringTrait,
-    MultiPointTrait, MultiPolygonTrait, PointTrait, PolygonTrait, RectTrait, TriangleTrait,
+    CoordTrait, GeometryCollectionTrait, GeometryTrait, GeometryType, LineStringTrait, LineTrait,
+    MultiLineStringTrait, MultiPointTrait, MultiPolygonTrait, PointTrait, PolygonTrait, RectTrait,
+    TriangleTrait,
 };
 use crate::dimensions::Dimensions;
 use crate::error::Error;
 use crate::write::{
-    push_geometry, write_geometry, write_line, write_linestring, write_multi_linestring,
-    write_multi_point, write_multi_polygon, write_point, write_polygon, write_rect, write_triangle,
+    push_geometry, write_geometry, write_geometry_collection, write_line, write_linestring,
+    write_multi_linestring, write_multi_point, write_multi_polygon, write_point, write_polygon,
+    write_rect, write_triangle,
 };
 use std::alloc::{AllocError, Global};
 use std::fmt;
@@ -344,7 +346,7 @@ impl GeometryTrait for Figure {
     type LineType = Corners;
 
     ghost use Rattle.std.specs.Prelude.{ℤ};
-    ghost use Rattle.wkt_access.specs.Parts.{gathered};
+    ghost use Rattle.wkt_access.specs.Parts.{collection_of};
     ghost use Rattle.wkt_access.specs.Shapes.{Shape};
     ghost use Rattle.wkt_access.specs.declared.tests.Figure.TheFolds.{fold-Figure};
     ghost use Rattle.wkt_access.specs.declared.tests.Figure.TheOpen.{Figure-F, Point, Line, Polygon, Points, Lines, Polygons, Sheet, Wedge, Bar, Group};
@@ -359,7 +361,7 @@ impl GeometryTrait for Figure {
       | Sheet r ↦ Shape.rect r.header r.first.numbers.items r.second.numbers.items
       | Wedge t ↦ Shape.triangle t.header t.first.numbers.items t.second.numbers.items t.third.numbers.items
       | Bar l ↦ Shape.line l.header l.first.numbers.items l.second.numbers.items
-      | Group header members ↦ Shape.collection header (gathered members.items)
+      | Group header members ↦ collection_of header members.items
     ]) };
 
     fn dim(&self) -> Dimensions {
@@ -399,6 +401,79 @@ impl GeometryTrait for Figure {
             Figure::Group(_, members) => &members[i],
             _ => unreachable!(),
         }
+    }
+}
+
+impl GeometryTrait for Dot {
+    type T = i32;
+
+    type PointType = Dot;
+
+    type LineStringType = Track;
+
+    type PolygonType = Area;
+
+    type MultiPointType = Dots;
+
+    type MultiLineStringType = Tracks;
+
+    type MultiPolygonType = Areas;
+
+    type RectType = Corners;
+
+    type TriangleType = Corners;
+
+    type LineType = Corners;
+
+    ghost use Rattle.wkt_access.specs.Shapes.{Shape};
+
+    ghost shape = { λ p. Shape.point p.header (option_map (λ s. s.numbers.items) p.spot) };
+
+    fn dim(&self) -> Dimensions {
+        self.header
+    }
+
+    fn as_type(
+        &self,
+    ) -> GeometryType<'_, Dot, Track, Area, Dots, Tracks, Areas, Corners, Corners, Corners> {
+        GeometryType::Point(self)
+    }
+
+    fn geometry(&self, _i: usize) -> &Dot
+        ensures { result.now ≡ self.now }
+    {
+        self
+    }
+}
+
+/// Points as a collection.
+#[derive(Drop)]
+struct Album {
+    header: Dimensions,
+    dots: Vec<Dot>,
+}
+
+impl GeometryCollectionTrait for Album {
+    type T = i32;
+
+    type GeometryType = Dot;
+
+    ghost use Rattle.wkt_access.specs.Shapes.{Shape};
+
+    ghost dimension = { λ a. a.header };
+
+    ghost geometries = { λ a. map (λ p. Shape.point p.header (option_map (λ s. s.numbers.items) p.spot)) a.dots.items };
+
+    fn dim(&self) -> Dimensions {
+        self.header
+    }
+
+    fn num_geometries(&self) -> usize {
+        self.dots.len()
+    }
+
+    fn geometry(&self, i: usize) -> &Dot {
+        &self.dots[i]
     }
 }
 
@@ -559,9 +634,20 @@ fn writes_each_kind(rt: HostRuntime) -> Result<(), Fail> {
     write_rect(&mut f, &corners_of(alloc, Dimensions::Unknown(2), &[])?)?;
     write_triangle(&mut f, &corners_of(alloc, Dimensions::Xy, &[])?)?;
     write_line(&mut f, &corners_of(alloc, Dimensions::Xy, &[])?)?;
+    let mut dots = Vec::new(alloc);
+    dots.push(dot_of(alloc, Dimensions::Xym, &[3])?)?;
+    dots.push(Dot {
+        header: Dimensions::Xy,
+        spot: None,
+    })?;
+    let album = Album {
+        header: Dimensions::Xyz,
+        dots,
+    };
+    write_geometry_collection(&mut f, &album)?;
     assert_eq!(rt;
         f.bytes.as_slice(),
-        "POINT M(1 2 3)LINESTRING(1 -2)POLYGON EMPTYMULTIPOINT((1 2),EMPTY)MULTILINESTRING((1 2,3 4),EMPTY)MULTIPOLYGON(((0 0,1 0,0 1,0 0),EMPTY),EMPTY,EMPTY)POLYGON((3 2,3 4,1 4,1 2,3 2))POLYGON((1 2,3 4,5 6,1 2))LINESTRING(1 2,3 4)".as_bytes()
+        "POINT M(1 2 3)LINESTRING(1 -2)POLYGON EMPTYMULTIPOINT((1 2),EMPTY)MULTILINESTRING((1 2,3 4),EMPTY)MULTIPOLYGON(((0 0,1 0,0 1,0 0),EMPTY),EMPTY,EMPTY)POLYGON((3 2,3 4,1 4,1 2,3 2))POLYGON((1 2,3 4,5 6,1 2))LINESTRING(1 2,3 4)GEOMETRYCOLLECTION Z(POINT M(1 2 3),POINT EMPTY)".as_bytes()
     );
     Ok(())
 }

@@ -3,6 +3,7 @@
 
 ghost use Rattle.std.specs.Prelude.{◌≡◌, ◌++◌, OnOk, Some, string_bytes};
 ghost use Rattle.wkt_access.specs.Faults.{fault};
+ghost use Rattle.wkt_access.specs.Parts.{collection_of};
 ghost use Rattle.wkt_access.specs.Shapes.{Shape};
 ghost use Rattle.wkt_access.specs.Texts.{shape_text};
 ghost use Rattle.wkt_access.specs.Writes.{Writes, IfFault};
@@ -150,7 +151,7 @@ pub fn write_geometry_collection<W: TextSink, C: GeometryCollectionTrait>(
     f: &mut W,
     g: &C,
 ) -> Result<(), Error>
-    ensures { Writes W.sink C.T.is_value C.T.num f.old (Shape.collection (C.dimension g.now) (C.geometries g.now)) f.new result }
+    ensures { Writes W.sink C.T.is_value C.T.num f.old (collection_of (C.dimension g.now) (C.geometries g.now)) f.new result }
 {
     check_collection(g)?;
     put_collection(f, g)?;

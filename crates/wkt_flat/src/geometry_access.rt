@@ -1,6 +1,7 @@
 //! Access to geometries of any kind.
 ghost use Rattle.std.specs.Prelude.{◌≡◌};
 ghost use Rattle.wkt_access.specs.declared.dimensions.Dimensions.TheVariants.{Xy};
+ghost use Rattle.wkt_access.specs.Parts.{each};
 ghost use Rattle.wkt_flat.specs.Shape.{flat_shape, flat_shapes};
 ghost use Rattle.wkt_flat.specs.Tree.{flat_tree, flat_trees, point, line, line_string, polygon, multi_point, multi_line_string, multi_polygon, rect, triangle};
 
@@ -24,7 +25,7 @@ impl<T: WktNum> GeometryCollectionTrait for GeometryCollection<T> {
 
     ghost dimension = { λ _. Xy };
 
-    ghost geometries = { λ c. flat_shapes (flat_trees c) };
+    ghost geometries = { λ c. each (flat_shapes (flat_trees c)) };
 
     fn dim(&self) -> Dimensions {
         Dimensions::Xy

@@ -3,7 +3,7 @@ use Rattle.std.specs.Prelude.{◌≡◌, List, map, Option, Some, None, option_m
 use Rattle.std.specs.List.{AllByRecursion}
 use Rattle.wkt_access.specs.declared.dimensions.Dimension.{Dimension}
 use Rattle.wkt_access.specs.Values.{Value, Values}
-use Rattle.wkt_access.specs.Shapes.{Shape, Shapes, shape_of, shapes_of}
+use Rattle.wkt_access.specs.Shapes.{Shape, shape_of}
 use Rattle.wkt_types.specs.Held.{Held, HeldPoint}
 use Rattle.wkt_types.specs.Coords.{numbers_of, coord_dim}
 use Rattle.wkt_types.specs.Tree.{Tree, Trees, point, line_string, polygon, multi_point, multi_line_string, multi_polygon, collection, no_trees, more_trees}
@@ -37,16 +37,6 @@ abbrev mutual
 -- The shape of a tree, as the access calls give it: that of its value.
 abbrev pub tree_shape : {T : Type 0} → Tree T → Shape T
 tree_shape t = shape_of (value_of t)
-
--- The shapes of the members of a collection; no other tree has any.
-abbrev pub collection_shapes : {T : Type 0} → Tree T → Shapes T
-collection_shapes (collection ts d) = shapes_of (values_of ts)
-collection_shapes (point p) = Shapes.no_shapes
-collection_shapes (line_string l) = Shapes.no_shapes
-collection_shapes (polygon y) = Shapes.no_shapes
-collection_shapes (multi_point m) = Shapes.no_shapes
-collection_shapes (multi_line_string m) = Shapes.no_shapes
-collection_shapes (multi_polygon m) = Shapes.no_shapes
 
 -- A coordinate has this dimension.
 abbrev pub HasDim : {T : Type 0} → Dimension → Coord T → Type 0

@@ -1,10 +1,9 @@
 //! Each type displayed as its text.
 ghost use Rattle.std.specs.Prelude.{◌≡◌, IsErr};
 ghost use Rattle.std.specs.Fmt.{DisplaysOnOk, DisplaysStyledOnOk};
-ghost use Rattle.wkt_access.specs.Shapes.{Shape, header_of};
 ghost use Rattle.wkt_types.specs.Shown.{shown, IsUnwritable};
-ghost use Rattle.wkt_types.specs.Tree.{tree, collection_tree, tree_dim, point, line_string, polygon, multi_point, multi_line_string, multi_polygon};
-ghost use Rattle.wkt_types.specs.Values.{tree_shape, collection_shapes};
+ghost use Rattle.wkt_types.specs.Tree.{tree, collection_tree, point, line_string, polygon, multi_point, multi_line_string, multi_polygon};
+ghost use Rattle.wkt_types.specs.Values.{tree_shape};
 
 use crate::geometry::{GeometryCollection, Wkt};
 use crate::linestring::LineString;
@@ -124,15 +123,15 @@ impl<T: WktNum> fmt::Display for MultiPolygon<T> {
 }
 
 impl<T: WktNum> fmt::Display for GeometryCollection<T> {
-    ghost output = { λ x. shown T.num (Shape.collection (header_of (tree_dim (collection_tree x))) (collection_shapes (collection_tree x))) };
+    ghost output = { λ x. shown T.num (tree_shape (collection_tree x)) };
 
-    ghost styled_output = { λ x _. shown T.num (Shape.collection (header_of (tree_dim (collection_tree x))) (collection_shapes (collection_tree x))) };
+    ghost styled_output = { λ x _. shown T.num (tree_shape (collection_tree x)) };
 
     /// The text, under any width, fill or precision; `fmt::Error` where it can't be written.
     fn fmt<W: fmt::Write>(&self, f: &mut Formatter<W>) -> fmt::Result
-        ensures writes { DisplaysOnOk W.write_str_gives f.old result (shown T.num (Shape.collection (header_of (tree_dim (collection_tree self.now))) (collection_shapes (collection_tree self.now)))) f.new }
-        ensures styled { DisplaysStyledOnOk W.write_str_gives f.old result (shown T.num (Shape.collection (header_of (tree_dim (collection_tree self.now))) (collection_shapes (collection_tree self.now)))) f.new }
-        ensures refused { IsUnwritable (Shape.collection (header_of (tree_dim (collection_tree self.now))) (collection_shapes (collection_tree self.now))) → IsErr result }
+        ensures writes { DisplaysOnOk W.write_str_gives f.old result (shown T.num (tree_shape (collection_tree self.now))) f.new }
+        ensures styled { DisplaysStyledOnOk W.write_str_gives f.old result (shown T.num (tree_shape (collection_tree self.now))) f.new }
+        ensures refused { IsUnwritable (tree_shape (collection_tree self.now)) → IsErr result }
     {
         show_collection(self, f)
     }

@@ -1,8 +1,9 @@
 //! Access to geometries of any kind.
 ghost use Rattle.std.specs.Prelude.{◌≡◌};
+ghost use Rattle.wkt_access.specs.Parts.{members_of};
 ghost use Rattle.wkt_access.specs.Shapes.{header_of};
 ghost use Rattle.wkt_types.specs.Tree.{tree, collection_tree, tree_dim, point, line_string, polygon, multi_point, multi_line_string, multi_polygon};
-ghost use Rattle.wkt_types.specs.Values.{tree_shape, collection_shapes};
+ghost use Rattle.wkt_types.specs.Values.{tree_shape};
 
 use crate::geometry::{GeometryCollection, Wkt};
 use crate::linestring::LineString;
@@ -22,7 +23,7 @@ impl<T: WktNum> GeometryCollectionTrait for GeometryCollection<T> {
 
     ghost dimension = { λ c. header_of (tree_dim (collection_tree c)) };
 
-    ghost geometries = { λ c. collection_shapes (collection_tree c) };
+    ghost geometries = { λ c. members_of (tree_shape (collection_tree c)) };
 
     fn dim(&self) -> Dimensions {
         Dimensions::from(self.dimension())

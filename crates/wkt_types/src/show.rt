@@ -1,7 +1,7 @@
 //! Display of geometries: as text, whatever width, fill or precision is asked for.
 ghost use Rattle.std.specs.Prelude.{◌≡◌, IsErr};
 ghost use Rattle.std.specs.Fmt.{DisplaysOnOk, DisplaysStyledOnOk};
-ghost use Rattle.wkt_access.specs.Shapes.{Shape};
+ghost use Rattle.wkt_access.specs.Parts.{collection_of};
 ghost use Rattle.wkt_types.specs.Shown.{shown, IsUnwritable};
 
 use std::fmt;
@@ -35,9 +35,9 @@ pub(crate) fn show_collection<W: fmt::Write, C: GeometryCollectionTrait>(
     c: &C,
     f: &mut Formatter<W>,
 ) -> fmt::Result
-    ensures writes { DisplaysOnOk W.write_str_gives f.old result (shown C.T.num (Shape.collection (C.dimension c.now) (C.geometries c.now))) f.new }
-    ensures styled { DisplaysStyledOnOk W.write_str_gives f.old result (shown C.T.num (Shape.collection (C.dimension c.now) (C.geometries c.now))) f.new }
-    ensures refused { IsUnwritable (Shape.collection (C.dimension c.now) (C.geometries c.now)) → IsErr result }
+    ensures writes { DisplaysOnOk W.write_str_gives f.old result (shown C.T.num (collection_of (C.dimension c.now) (C.geometries c.now))) f.new }
+    ensures styled { DisplaysStyledOnOk W.write_str_gives f.old result (shown C.T.num (collection_of (C.dimension c.now) (C.geometries c.now))) f.new }
+    ensures refused { IsUnwritable (collection_of (C.dimension c.now) (C.geometries c.now)) → IsErr result }
 {
     let mut sink = FormatterText::new(f);
     let result = write_geometry_collection(&mut sink, c);

@@ -1,6 +1,5 @@
 use Rattle.std.proofs.lemmas.Result.{err_from_is_err_and}
 use Rattle.wkt_access.proofs.Firsts.{clean_more, clean_fault, clean_end}
-use Rattle.wkt_access.proofs.Members.{known_each}
 use Rattle.wkt_access.proofs.check.check_geometries.Goals as goal
 
 pub returns-in_err-check_geometry : goal.returns-in_err-check_geometry
@@ -9,9 +8,7 @@ returns-in_err-check_geometry g c =
     rw (p.1, p.2) (clean_fault c.loop-i.invariant c.geometry.ensures c.in_err-check_geometry.ensures)
 
 pub returns : goal.returns
-returns g c =
-    let e = clean_end c.loop-i.invariant c.loop-i-test.false in
-    record { none = e.none; holds = known_each g.C.T.WktNum.is_value (g.C.GeometryCollectionTrait.geometries c.args.c.now) e.holds }
+returns g c = clean_end c.loop-i.invariant c.loop-i-test.false
 
 pub loop-i-preserved : goal.loop-i-preserved
 loop-i-preserved g c = clean_more c.loop-i.invariant c.geometry.ensures c.in_ok-check_geometry.ensures

@@ -1,5 +1,5 @@
 use Rattle.std.proofs.lemmas.Result.{err_from_is_err_and}
-use Rattle.wkt_access.specs.Shapes.{Shape}
+use Rattle.wkt_access.specs.Parts.{collection_of}
 use Rattle.wkt_access.proofs.Canon.{lawful}
 use Rattle.wkt_access.proofs.Refusals.{refusal}
 use Rattle.wkt_access.proofs.write.write_geometry_collection.Goals as goal
@@ -7,7 +7,7 @@ use Rattle.wkt_access.proofs.write.write_geometry_collection.Goals as goal
 pub returns-in_err-check_collection : goal.returns-in_err-check_collection
 returns-in_err-check_collection g c =
     let p = err_from_is_err_and c.from_residual.result c.from_residual.ensures.1 in
-    rw (p.1, p.2) (refusal _ _ _ (Shape.collection (g.C.GeometryCollectionTrait.dimension c.args.g.now) (g.C.GeometryCollectionTrait.geometries c.args.g.now)) _ c.in_err-check_collection.ensures.collection)
+    rw (p.1, p.2) (refusal _ _ _ (collection_of (g.C.GeometryCollectionTrait.dimension c.args.g.now) (g.C.GeometryCollectionTrait.geometries c.args.g.now)) _ c.in_err-check_collection.ensures.collection)
 
 pub returns-in_err-put_collection : goal.returns-in_err-put_collection
 returns-in_err-put_collection g c =
@@ -15,4 +15,4 @@ returns-in_err-put_collection g c =
     rw (p.1, p.2) (record { sound = c.in_ok-check_collection.ensures.collection.none; broken = c.in_err-put_collection.ensures })
 
 pub returns : goal.returns
-returns g c = record { sound = c.in_ok-check_collection.ensures.collection.none; lawful = lawful _ (Shape.collection (g.C.GeometryCollectionTrait.dimension c.args.g.now) (g.C.GeometryCollectionTrait.geometries c.args.g.now)) c.in_ok-check_collection.ensures.collection; added = c.in_ok-put_collection.ensures }
+returns g c = record { sound = c.in_ok-check_collection.ensures.collection.none; lawful = lawful _ (collection_of (g.C.GeometryCollectionTrait.dimension c.args.g.now) (g.C.GeometryCollectionTrait.geometries c.args.g.now)) c.in_ok-check_collection.ensures.collection; added = c.in_ok-put_collection.ensures }
