@@ -1,11 +1,11 @@
 -- A fraction of 18 places, put as sixteen digits and two.
 use Rattle.std.proofs.Common.{◌≡◌, ℕ, zero, suc, ◌+◌, ◌-◌, ◌*◌, ◌/◌, ◌%◌, ◌^◌, ◌<◌, ◌≤◌, true, false, not, ◌==◌, List, [], ◌∷◌, ◌++◌, length, reverse, get_or, take, set, cond, refl, sym, ap, ◌∙◌, subst, arith, append_assoc, length-append, length-set}
 use Rattle.std.specs.List.{prefix_len}
-use Rattle.std.proofs.lemmas.List.{append-nil, reverse-append, length-take-le, take-take}
+use Rattle.std.proofs.lemmas.List.{reverse-append, length-take-le, take-take}
 use Rattle.std.proofs.Math.Seq.{take-append_seam, take-suc, take-suc-set}
-use Rattle.std.proofs.lemmas.Nat.{pow-add, mod-mul-add, div-add-mod'}
+use Rattle.std.proofs.lemmas.Nat.{pow-add, mod-mul-add}
 use Rattle.std.proofs.Math.Arith.{mod-mul}
-use Rattle.std.proofs.Math.Nat.{pow-suc, mod-lt, mod-eq_of_lt, div-div-eq-div-mul, mul-div-mul_right, mul-mod_left, add-mul-div_left, mul_comm, le-mul_of_pos_right, div-eq_of_lt}
+use Rattle.std.proofs.Math.Nat.{mod-lt, mod-eq_of_lt, div-div-eq-div-mul, mul-div-mul_right, mul-mod_left, add-mul-div_left, mul_comm, le-mul_of_pos_right, div-eq_of_lt}
 use Rattle.std.proofs.lemmas.Slice.{take-put_mid}
 use Rattle.std.proofs.lemmas.Simd.{put_chunk_whole, length-put_chunk}
 use borrow.Rule.Slice.PartMut.{put_mid, mid_of, mid_len, same_len_mid}

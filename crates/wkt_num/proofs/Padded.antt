@@ -1,9 +1,9 @@
 -- The digits of a fraction, padded with zeros.
-use Rattle.std.proofs.Common.{◌≡◌, ℕ, zero, suc, ◌+◌, ◌-◌, ◌*◌, ◌/◌, ◌%◌, ◌^◌, ◌<◌, ◌≤◌, true, false, ◌==◌, List, [], ◌∷◌, ◌++◌, length, if◌then◌else◌, refl, sym, ap, ◌∙◌, arith, append_assoc, get_or, set, take, drop, length-append, length-drop}
+use Rattle.std.proofs.Common.{◌≡◌, ℕ, zero, suc, ◌+◌, ◌-◌, ◌*◌, ◌/◌, ◌%◌, ◌^◌, ◌<◌, ◌≤◌, true, false, ◌==◌, List, [], ◌∷◌, ◌++◌, length, if◌then◌else◌, refl, sym, ap, ◌∙◌, arith, append_assoc, get_or, take, length-append}
 use Rattle.std.specs.Fmt.{decimal}
-use Rattle.std.proofs.lemmas.Fmt.{decimal_step, decimal_digit}
-use Rattle.std.proofs.lemmas.List.{append-nil, length-take-le, take-take, get_or-take, drop-drop, drop-set, take-set-le, take-append-drop}
-use Rattle.std.proofs.Math.Seq.{take-append_seam, get_or-append_seam, take-suc}
+use Rattle.std.proofs.lemmas.Fmt.{decimal_step}
+use Rattle.std.proofs.lemmas.List.{append-nil, length-take-le, take-take, get_or-take}
+use Rattle.std.proofs.Math.Seq.{take-append_seam, get_or-append_seam}
 use Rattle.std.proofs.lemmas.Nat.{div-add-mod'}
 use Rattle.std.proofs.Math.Nat.{pow-suc, mod-lt, div-lt_iff_lt-mul, le-mul_of_pos_right, div-eq_of_lt, mod-eq_of_lt}
 use borrow.Author.Tests.{ne_eqb, eqb-true, eqb-false}

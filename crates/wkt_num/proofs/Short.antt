@@ -1,18 +1,19 @@
 -- The reading of a short body.
-use Rattle.std.proofs.Common.{◌≡◌, ℕ, suc, ◌+◌, ◌-◌, ◌*◌, ◌^◌, ◌%◌, ◌<◌, ◌≤◌, true, List, [], ◌∷◌, ◌++◌, length, take, drop, get_or, if◌then◌else◌, Some, None, Option, IfSome, slice_range, sym, ap, subst, ◌∙◌, arith, length-append, length-drop, take_all}
+use Rattle.std.proofs.Common.{◌≡◌, ℕ, suc, ◌+◌, ◌-◌, ◌*◌, ◌^◌, ◌%◌, ◌<◌, ◌≤◌, true, List, [], ◌∷◌, ◌++◌, length, take, drop, get_or, if◌then◌else◌, Some, None, slice_range, sym, ap, subst, ◌∙◌, arith, length-append, length-drop, take_all}
 use Rattle.std.specs.Char.{is_ascii_digit, digit_value}
 use Rattle.std.specs.Str.Parse.{AllDigits, digits_value, digits_value_after}
 use Rattle.std.proofs.lemmas.Bool.Decides.{nat_tests}
 use Rattle.std.proofs.lemmas.List.{append-nil, get_or-drop, drop_more, take-append-drop}
 use Rattle.std.proofs.lemmas.Nat.{pow-add}
-use Rattle.std.proofs.Math.Nat.{pow-suc, pow-le-pow_right, mul-le-mul}
+use Rattle.std.proofs.Math.Nat.{pow-suc, pow-le-pow_right, mul-le-mul, mul-le-mul_right}
+use Rattle.std.proofs.lemmas.Int.Digits.{digits_value-lt}
 use Rattle.std.proofs.Math.Seq.{take-suc}
 use borrow.Author.Tests.{le-leb}
 use Rattle.wkt_num.specs.Whole.{is_numeral, keep_if}
 use Rattle.wkt_num.specs.WholeLaws.{is_numeral_of}
 use Rattle.wkt_num.specs.Decimal.{before_point, after_point, units_of, read_magnitude}
 use Rattle.wkt_num.specs.DecimalLaws.{before_digits, after_digits, digits_append, value_append}
-use Rattle.wkt_num.specs.Units.{units_is}
+use Rattle.wkt_num.specs.Units.{units_is, after_split, ten_pos}
 
 -- one digit more
 digits-suc : (body : List ℕ) (from at : ℕ) → from ≤ at → at < length body → slice_range body from (at + 1) ≡ slice_range body from at ++ get_or body at 0 ∷ []
@@ -117,22 +118,48 @@ point-body D at whole all end t body inside short point past within some few bef
     (omega (arith, ap (λ x. all * x) scale) ∙ ap (λ x. x * 10 ^ D) (value_all ∙ ap (λ n. digits_value_after 10 n fs) value ∙ sym (value_append 0 ds fs)))
     (product-fits all t (D - k) (fits-short all end small (omega (arith, within, short))) ten (omega (arith, most)))
 
--- digits around a point, as many behind it as there are places
-full-body : (D at whole all : ℕ) (body : List ℕ) → at ≡ length body - D - 1 → D < length body → length body ≤ 19 → (D ≡ 0 → ⊥) → get_or body at 0 ≡ 46
-    → AllDigits 10 (slice_range body 0 (0 + at)) → whole ≡ digits_value_after 10 0 (slice_range body 0 (0 + at))
-    → AllDigits 10 (slice_range body (at + 1) (at + 1 + D)) → all ≡ digits_value_after 10 whole (slice_range body (at + 1) (at + 1 + D)) → all < 10 ^ (at + 1 + D)
-    → read_magnitude (2 ^ 127) D body ≡ Some all
-full-body D at whole all body place inside short some point before value behind value_all small =
-    let none : 0 + at ≡ at = omega arith in
-    let k : length body - at - 1 ≡ D = omega (arith, place, inside) in
-    let one : 1 ≡ 10 ^ (D - (length body - at - 1)) = ap (λ n. 10 ^ n) {x = 0} {y = D - (length body - at - 1)} (omega (arith, k)) in
-    subst (λ n. read_magnitude (2 ^ 127) D body ≡ Some n) {x = all * 1} {y = all} (omega arith)
-    (point-body D at whole all (at + 1 + D) 1 body (omega (arith, place, inside)) short point (omega (arith, place, inside)) (omega (arith, place, inside)) (λ e. some (omega (arith, k, e))) (omega (arith, k))
-    (subst (λ n. AllDigits 10 (slice_range body 0 n)) none before) (value ∙ ap (λ n. digits_value_after 10 0 (slice_range body 0 n)) none) behind value_all small one (omega (arith, inside, short)))
+-- digits around a point, those before it and those behind it each as a number
+near-equation : (w t f s x P T : ℕ) → t ≡ T → s * P ≡ T → x ≡ f * s → (w * t + x) * P ≡ (w * P + f) * T
+near-equation w t f s x P T e g h = omega (arith, ap (λ y. w * y * P) e, ap (λ y. f * y) g, ap (λ y. y * P) h)
 
-pub full : (D at whole : ℕ) (body : List ℕ) (o : Option ℕ) → at ≡ length body - D - 1 → D < length body → length body ≤ 19 → (D ≡ 0 → ⊥) → get_or body at 0 ≡ 46
-    → AllDigits 10 (slice_range body 0 (0 + at)) → whole ≡ digits_value_after 10 0 (slice_range body 0 (0 + at))
-    → IfSome o (λ n. AllDigits 10 (slice_range body (at + 1) (at + 1 + D))) → IfSome o (λ n. n ≡ digits_value_after 10 whole (slice_range body (at + 1) (at + 1 + D))) → IfSome o (λ n. n < 10 ^ (at + 1 + D))
-    → IfSome o (λ units. read_magnitude (2 ^ 127) D body ≡ Some units)
-full D at whole body None place inside short some point before value behind value_all small = tt
-full D at whole body (Some all) place inside short some point before value behind value_all small = full-body D at whole all body place inside short some point before value behind value_all small
+near-scale : (D k s : ℕ) → k ≤ D → s ≡ 10 ^ (D - k) → s * 10 ^ k ≡ 10 ^ D
+near-scale D k s few e = ap (λ x. x * 10 ^ k) e ∙ sym (pow-add 10 (D - k) k) ∙ ap (λ n. 10 ^ n) {x = D - k + k} {y = D} (omega (arith, few))
+
+-- the digits behind the point, as units
+pub near-fraction : (D k f s : ℕ) (fs : List ℕ) → length fs ≡ k → k ≤ D → D ≤ 18 → AllDigits 10 fs → f ≡ digits_value 10 fs → s ≡ 10 ^ (D - k) → f * s < 10 ^ 18
+near-fraction D k f s fs long few most digits value e =
+    let small : f < 10 ^ k = omega (arith, value, digits_value-lt 10 fs digits, ap (λ n. 10 ^ n) long) in
+    let one : (f + 1) * s ≤ 10 ^ k * s = mul-le-mul_right {m = f + 1} {n = 10 ^ k} s (omega (arith, small)) in
+    omega (arith, one, near-scale D k s few e, e, ten_pos (D - k), pow-le-pow_right {n = 10} (omega arith) {i = D} {j = 18} most)
+
+pub near-whole : (w at t D : ℕ) → w < 10 ^ at → at ≤ 19 → t ≡ 10 ^ D → D ≤ 18 → w * t ≤ 10 ^ 37
+near-whole w at t D h short e k =
+    let low : t ≤ 10 ^ 18 = omega (arith, e, pow-le-pow_right {n = 10} (omega arith) {i = D} {j = 18} k) in
+    omega (arith, mul-le-mul {n₁ = w} {m₁ = t} {n₂ = 10 ^ 19} {m₂ = 10 ^ 18} (omega (arith, fits-short w at h short)) low)
+
+pub near-tail : (at : ℕ) (body : List ℕ) → at < length body → drop (length body - (length body - at - 1)) body ≡ drop (at + 1) body
+near-tail at body inside = ap (λ (n : ℕ). drop n body) {x = length body - (length body - at - 1)} {y = at + 1} (omega (arith, inside))
+
+pub near-body : (D at w t f s x : ℕ) (body : List ℕ) → at < length body → 8 ≤ length body → length body ≤ 19 → get_or body at 0 ≡ 46 → length body - at - 1 ≤ D → D ≤ 18
+    → AllDigits 10 (slice_range body 0 at) → w ≡ digits_value_after 10 0 (slice_range body 0 at) → w < 10 ^ at
+    → AllDigits 10 (drop (at + 1) body) → f ≡ digits_value 10 (drop (at + 1) body)
+    → t ≡ 10 ^ D → s ≡ 10 ^ (D - (length body - at - 1)) → x ≡ f * s → read_magnitude (2 ^ 127) D body ≡ Some (w * t + x)
+near-body D at w t f s x body inside many short point few most before value small behind value_behind ten shift product =
+    let ds : List ℕ = slice_range body 0 at in
+    let fs : List ℕ = drop (at + 1) body in
+    let k : ℕ = length body - at - 1 in
+    let long : length fs ≡ k = omega (arith, length-drop (at + 1) body) in
+    let parts : body ≡ ds ++ 46 ∷ fs =
+    sym (take-append-drop at body)
+    ∙ ap (λ (n : ℕ). take n body ++ drop at body) {x = at} {y = at - 0} (omega arith)
+    ∙ ap (λ l. ds ++ l) (drop_more body at 0 inside ∙ ap (λ b. b ∷ fs) point) in
+    let all : digits_value 10 (ds ++ fs) ≡ w * 10 ^ k + f =
+    value_append 0 ds fs ∙ ap (λ n. digits_value_after 10 n fs) (sym value) ∙ after_split w fs
+    ∙ ap (λ n. w * 10 ^ n + digits_value 10 fs) long ∙ ap (λ n. w * 10 ^ k + n) (sym value_behind) in
+    from-parts (2 ^ 127) D body ds fs (w * t + x)
+    (ap before_point parts ∙ before_digits ds (46 ∷ fs) before ∙ append-nil ds)
+    (ap after_point parts ∙ after_digits ds (46 ∷ fs) before)
+    (digits_append ds fs before behind)
+    (omega (arith, length-append ds fs, long, ap length parts, length-append ds (46 ∷ fs), many))
+    (ap (λ n. (w * t + x) * 10 ^ n) long ∙ near-equation w t f s x (10 ^ k) (10 ^ D) ten (near-scale D k s few shift) product ∙ ap (λ n. n * 10 ^ D) (sym all))
+    (omega (arith, product, near-fraction D k f s fs long few most behind value_behind shift, near-whole w at t D small (omega (arith, inside, short)) ten most))

@@ -4,6 +4,7 @@ ghost use Rattle.std.specs.Str.Parse.{AllDigits, digits_value_after, starts_with
 ghost use Rattle.wkt_num.specs.Whole.{keep_if};
 ghost use Rattle.wkt_num.specs.Decimal.{read_magnitude, with_sign};
 
+use crate::lanes::last_digits;
 use crate::powers::{SHORT_PLACES, ten_to};
 
 /// Whether a minus stands first, and what follows a sign.
@@ -24,6 +25,18 @@ pub fn read_body(places: u32, body: &[u8]) -> Option<u128>
     requires { places ≤ 36 }
     ensures { result ≡ read_magnitude (2 ^ 127) places body.now }
 {
+    if let Some(units) = read_near(places, body) {
+        return Some(units);
+    }
+    read_other(places, body)
+}
+
+/// The same for a body of any form.
+#[inline(never)]
+fn read_other(places: u32, body: &[u8]) -> Option<u128>
+    requires { places ≤ 36 }
+    ensures { result ≡ read_magnitude (2 ^ 127) places body.now }
+{
     if let Some(units) = read_short(places, body) {
         return Some(units);
     }
@@ -32,6 +45,30 @@ pub fn read_body(places: u32, body: &[u8]) -> Option<u128>
 
 /// The most bytes whose digits, with a point among them or not, fit 64 bits.
 const SHORT_BYTES: usize = 19;
+
+/// The fewest bytes that a vector is loaded from.
+const VECTOR_BYTES: usize = 8;
+
+/// The same by vectors, for a body of common length around a point. `None` says nothing of the body.
+#[inline(always)]
+fn read_near(places: u32, body: &[u8]) -> Option<u128>
+    ensures { IfSome result (λ units. read_magnitude (2 ^ 127) places body.now ≡ Some units) }
+{
+    if places > SHORT_PLACES || body.len() > SHORT_BYTES || body.len() < VECTOR_BYTES {
+        return None;
+    }
+    let (whole, at) = digits_from(body, 0, 0);
+    if at == body.len() || body[at] != b'.' {
+        return None;
+    }
+    let behind = body.len() - at - 1;
+    if behind > places as usize {
+        return None;
+    }
+    let fraction = last_digits(body, behind)?;
+    let shift = ten_to(places - behind as u32);
+    Some(u128::from(whole) * u128::from(ten_to(places)) + u128::from(fraction * shift))
+}
 
 /// The same by 64 bits, for a short body of digits, or of digits around a point with at most `places`
 /// behind it. `None` says nothing of the body: it is then read in the plain way.

@@ -1,4 +1,4 @@
-use Rattle.std.proofs.Common.{◌∙◌, ◌++◌, ◌/◌, ◌%◌, sym, refl, ap, ap₂, arith, append_assoc}
+use Rattle.std.proofs.Common.{◌∙◌, ◌++◌, ◌/◌, ◌%◌, sym, refl, ap₂, arith, append_assoc}
 use Rattle.wkt_num.specs.Padded.{padded}
 use Rattle.wkt_num.proofs.Eighteen.{padded-two}
 use Rattle.wkt_num.proofs.printing.sixteen.Goals as goal

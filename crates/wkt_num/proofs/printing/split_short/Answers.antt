@@ -1,4 +1,4 @@
-use Rattle.std.proofs.Common.{◌+◌, ◌/◌, ◌^◌, ◌∙◌, ap, arith}
+use Rattle.std.proofs.Common.{◌/◌, ◌^◌, ◌∙◌, ap, arith}
 use Rattle.std.proofs.Math.Nat.{one-le-pow, mod-lt, pow-le-pow_right}
 use Rattle.wkt_num.specs.Units.{ten_pos}
 use Rattle.wkt_num.proofs.Printed.{whole-is, fraction-is}

@@ -1,0 +1,206 @@
+-- Digits in the lanes of a vector.
+use Rattle.std.proofs.Common.{◌≡◌, ℕ, zero, suc, ◌+◌, ◌-◌, ◌*◌, ◌/◌, ◌%◌, ◌^◌, ◌<◌, ◌≤◌, Bool, true, false, cond, List, [], ◌∷◌, ◌++◌, length, take, drop, map, replicate, bit_and, nat_lt, refl, sym, ap, ap₂, subst, ◌∙◌, arith, Fits, w8, get_or, length-append, length-drop}
+use Rattle.std.specs.Char.{digit_value}
+use Rattle.std.specs.Str.Parse.{AllDigits, digits_value, digits_value_after}
+use Rattle.std.proofs.lemmas.Bool.Decides.{nat_tests}
+use Rattle.std.proofs.lemmas.Grind.{and_numeral}
+use Rattle.std.proofs.lemmas.List.{take-replicate, drop-replicate, drop-append-le, drop-drop, take-take, take_all, length-replicate, length-map}
+use Rattle.std.proofs.lemmas.Simd.{chunk-fits, tops_compared, zip2_splat_left, mask_l-mod}
+use Rattle.std.specs.Int.Bits.{and_zero_r}
+use borrow.Author.Tests.{ltb-false}
+use lib.Lanes.{zip2, Each1, chunk, mask_l, number_l, top}
+use mir.Val.{bits, hbits}
+use Rattle.wkt_num.specs.Lanes.{DigitLanes, lanes_after, lanes_value, last_lanes}
+
+-- a byte less 48
+abbrev digit : ℕ → ℕ
+digit b = (b + 208) % 256
+
+abbrev less : ℕ → ℕ → ℕ
+less a b = (a + (256 - b)) % 256
+
+-- the lanes that are kept
+hidden : (xs : List ℕ) (k n : ℕ) → length xs ≡ k + n
+    → zip2 bit_and (zip2 less xs (replicate (length xs) 48)) (replicate k 0 ++ replicate n 255) ≡ replicate k 0 ++ map digit (drop k xs)
+hidden [] zero n e = refl
+hidden [] (suc k) n e = absurd (omega (arith, e))
+hidden (x ∷ xs) zero zero e = absurd (omega (arith, e))
+hidden (x ∷ xs) zero (suc n) e = ap₂ (λ d l. d ∷ l) (and_numeral (digit x) 254 refl ∙ omega arith) (hidden xs zero n (omega (arith, e)))
+hidden (x ∷ xs) (suc k) n e = ap₂ (λ d l. d ∷ l) (and_zero_r (digit x)) (hidden xs k n (omega (arith, e)))
+
+take-two : (a r q : ℕ) → r ≤ q → take {A = ℕ} (a + r) (replicate a 0 ++ replicate q 255) ≡ replicate a 0 ++ replicate r 255
+take-two zero r q h = ap (λ n. take {A = ℕ} n (replicate q 255)) {x = 0 + r} {y = r} (omega arith) ∙ take-replicate r q 255 h
+take-two (suc a) r q h = ap (λ n. take {A = ℕ} n (replicate (suc a) 0 ++ replicate q 255)) {x = suc a + r} {y = suc (a + r)} (omega arith) ∙ ap (λ l. 0 ∷ l) (take-two a r q h)
+
+-- what is loaded of the lanes to hide and to keep
+pub kept : (n count i : ℕ) → count ≤ n → n ≤ 16 → i + n ≡ 16 + count
+    → take {A = ℕ} n (take (32 - i) (drop i (replicate 16 0 ++ replicate 16 255))) ≡ replicate (n - count) 0 ++ replicate count 255
+kept n count i h k e =
+    take-take n (32 - i) _ (omega (arith, h, k, e))
+    ∙ ap (take n) (drop-append-le i (replicate 16 0) (replicate 16 255) (omega (arith, h, e, length-replicate 16 zero)) ∙ ap (λ l. l ++ replicate 16 255) (drop-replicate i 16 0))
+    ∙ ap (λ a. take {A = ℕ} n (replicate a 0 ++ replicate 16 255)) {x = 16 - i} {y = n - count} (omega (arith, h, e))
+    ∙ ap (λ m. take {A = ℕ} m (replicate (n - count) 0 ++ replicate 16 255)) {x = n} {y = n - count + count} (omega (arith, h))
+    ∙ take-two (n - count) count 16 (omega (arith, h, k))
+
+-- the last bytes of a text
+tail-is : (n count : ℕ) (bs : List ℕ) → count ≤ n → n ≤ length bs → drop (n - count) (chunk (length bs - n) n bs) ≡ drop (length bs - count) bs
+tail-is n count bs h k =
+    ap (drop (n - count)) (take_all n (drop (length bs - n) bs) (omega (arith, k, length-drop (length bs - n) bs)))
+    ∙ drop-drop (n - count) (length bs - n) bs
+    ∙ ap (λ (i : ℕ). drop i bs) {x = length bs - n + (n - count)} {y = length bs - count} (omega (arith, h, k))
+
+pub lanes-are : (n count : ℕ) (bs keep : List ℕ) → count ≤ n → n ≤ length bs → keep ≡ replicate (n - count) 0 ++ replicate count 255
+    → zip2 bit_and (zip2 less (chunk (length bs - n) n bs) (replicate n 48)) keep ≡ last_lanes n count bs
+lanes-are n count bs keep h k e =
+    let xs : List ℕ = chunk (length bs - n) n bs in
+    let long : length xs ≡ n = ap length (take_all n (drop (length bs - n) bs) (omega (arith, k, length-drop (length bs - n) bs))) ∙ omega (arith, k, length-drop (length bs - n) bs) in
+    ap (λ l. zip2 bit_and (zip2 less xs (replicate n 48)) l) e
+    ∙ ap (λ m. zip2 bit_and (zip2 less xs (replicate m 48)) (replicate (n - count) 0 ++ replicate count 255)) (sym long)
+    ∙ hidden xs (n - count) count (omega (arith, long, h))
+    ∙ ap (λ l. replicate (n - count) 0 ++ map digit l) (tail-is n count bs h k)
+
+-- lanes of which none is over 9
+pub none-over : (xs : List ℕ) → mask_l (map (λ x. nat_lt 9 x) xs) ≡ 0 → DigitLanes xs
+none-over [] e = tt
+none-over (x ∷ xs) e = go (nat_lt 9 x) refl e (none-over xs)
+  where
+    go : (b : Bool) → nat_lt 9 x ≡ b → cond b 1 0 + 2 * mask_l (map (λ y. nat_lt 9 y) xs) ≡ 0 → (mask_l (map (λ y. nat_lt 9 y) xs) ≡ 0 → DigitLanes xs) → DigitLanes (x ∷ xs)
+    go true f e more = absurd (omega (arith, e))
+    go false f e more = (ltb-false 9 x f, more (omega (arith, e)))
+
+pub over-mask : (n : ℕ) (lanes : List ℕ) → length lanes ≡ n → n ≤ 64
+    → mask_l (map (top (hbits w8)) (zip2 (λ a b. cond (nat_lt a b) (2 ^ bits w8 - 1) 0) (replicate n 9) lanes)) % 2 ^ 64 ≡ mask_l (map (λ x. nat_lt 9 x) lanes)
+over-mask n lanes e h =
+    ap (λ ms. mask_l ms % 2 ^ 64) (tops_compared w8 nat_lt (replicate n 9) lanes ∙ zip2_splat_left nat_lt 9 n lanes e)
+    ∙ mask_l-mod _ 64 (omega (arith, length-map lanes (λ x. nat_lt 9 x), e, h))
+
+behind-zeros : (k : ℕ) (ds : List ℕ) → DigitLanes (replicate k 0 ++ ds) → DigitLanes ds
+behind-zeros zero ds h = h
+behind-zeros (suc k) ds h = behind-zeros k ds h.1
+
+value-behind-zeros : (k : ℕ) (ds : List ℕ) → lanes_value (replicate k 0 ++ ds) ≡ lanes_value ds
+value-behind-zeros zero ds = refl
+value-behind-zeros (suc k) ds = value-behind-zeros k ds
+
+byte-digit : (b : ℕ) → b < 256 → digit b ≤ 9 → (digit_value b ≡ digit b) × (digit_value b < 10)
+byte-digit b h k = let r : (48 ≤ b) × (b ≤ 57) = (omega (arith, h, k), omega (arith, h, k)) in go r.0 r.1
+  where
+    value : 48 ≤ b → b ≤ 57 → digit_value b ≡ b - 48
+    value low high = grind (arith, nat_tests)
+
+    go : 48 ≤ b → b ≤ 57 → (digit_value b ≡ digit b) × (digit_value b < 10)
+    go low high = (omega (arith, value low high, low, high), omega (arith, value low high, low, high))
+
+all-digits : (bs : List ℕ) → Each1 (Fits w8) bs → DigitLanes (map digit bs) → AllDigits 10 bs
+all-digits [] f h = tt
+all-digits (b ∷ bs) f h = let less : b < 256 = f.0.fits in ((byte-digit b less h.0).1, all-digits bs f.1 h.1)
+
+same-value : (n : ℕ) (bs : List ℕ) → Each1 (Fits w8) bs → DigitLanes (map digit bs) → lanes_after n (map digit bs) ≡ digits_value_after 10 n bs
+same-value n [] f h = refl
+same-value n (b ∷ bs) f h =
+    let less : b < 256 = f.0.fits in
+    same-value (n * 10 + digit b) bs f.1 h.1 ∙ ap (λ d. digits_value_after 10 (n * 10 + d) bs) (sym (byte-digit b less h.0).0)
+
+pub length-last : (n count : ℕ) (bs : List ℕ) → count ≤ n → n ≤ length bs → length (last_lanes n count bs) ≡ n
+length-last n count bs h k =
+    length-append (replicate (n - count) 0) _
+    ∙ omega (arith, length-replicate (n - count) zero, length-map (drop (length bs - count) bs) digit, length-drop (length bs - count) bs, h, k)
+
+-- the last bytes of a text are bytes
+last-fits : (i : ℕ) (bs : List ℕ) → ((k : ℕ) → Fits w8 (get_or bs k 0)) → Each1 (Fits w8) (drop i bs)
+last-fits i bs f = subst (Each1 (Fits w8)) (take_all (length bs) (drop i bs) (omega (arith, length-drop i bs))) (chunk-fits w8 i (length bs) bs f)
+
+pub last-digits : (n count : ℕ) (bs lanes : List ℕ) → ((k : ℕ) → Fits w8 (get_or bs k 0)) → lanes ≡ last_lanes n count bs → DigitLanes lanes → AllDigits 10 (drop (length bs - count) bs)
+last-digits n count bs lanes f e h = all-digits _ (last-fits _ bs f) (behind-zeros (n - count) _ (subst DigitLanes e h))
+
+pub last-value : (n count : ℕ) (bs lanes : List ℕ) → ((k : ℕ) → Fits w8 (get_or bs k 0)) → lanes ≡ last_lanes n count bs → DigitLanes lanes → lanes_value lanes ≡ digits_value 10 (drop (length bs - count) bs)
+last-value n count bs lanes f e h =
+    ap lanes_value e ∙ value-behind-zeros (n - count) _ ∙ same-value 0 _ (last-fits _ bs f) (behind-zeros (n - count) _ (subst DigitLanes e h))
+
+-- ---- two digits in 16 bits
+
+abbrev pub pair : ℕ → ℕ
+pair v = v % 65536 * 2561 % 65536 / 256
+
+pair-is : (a b r : ℕ) → a ≤ 9 → b ≤ 9 → pair (a + 256 * (b + 256 * r)) ≡ a * 10 + b
+pair-is a b r h k = ap (λ v. v * 2561 % 65536 / 256) {x = (a + 256 * (b + 256 * r)) % 65536} {y = a + 256 * b} (omega (arith, h, k)) ∙ omega (arith, h, k)
+
+rest-is : (a b r : ℕ) → a ≤ 9 → b ≤ 9 → (a + 256 * (b + 256 * r)) / 65536 ≡ r
+rest-is a b r h k = omega (arith, h, k)
+
+sum-is : (p q r s a b c d : ℕ) → p ≡ a → q ≡ b → r ≡ c → s ≡ d → p * 1000000 + q * 10000 + r * 100 + s ≡ a * 1000000 + b * 10000 + c * 100 + d
+sum-is p q r s a b c d e f g h = omega (arith, e, f, g, h)
+
+two-less : (v a b : ℕ) → pair v ≡ a * 10 + b → a ≤ 9 → b ≤ 9 → pair v < 100
+two-less v a b e h k = subst (λ n. n < 100) (sym e) (omega (arith, h, k))
+
+-- the first eight of so many more lanes
+pub record Pairs (ds : List ℕ) (n : ℕ) (v : ℕ) : Type 0 where
+  pub l : List ℕ
+  pub left : length l ≡ n
+  pub digits : DigitLanes l
+  pub first : pair v < 100
+  pub second : pair (v / 65536) < 100
+  pub third : pair (v / 65536 / 65536) < 100
+  pub fourth : pair (v / 65536 / 65536 / 65536) < 100
+  pub rest : v / 65536 / 65536 / 65536 / 65536 ≡ number_l 256 l
+  pub value : (k : ℕ) → lanes_after k ds ≡ lanes_after (k * 100000000 + (pair v * 1000000 + pair (v / 65536) * 10000 + pair (v / 65536 / 65536) * 100 + pair (v / 65536 / 65536 / 65536))) l
+
+pub pairs-of : (ds : List ℕ) (n : ℕ) → length ds ≡ 8 + n → DigitLanes ds → Pairs ds n (number_l 256 ds)
+pairs-of [] n z s = absurd (omega (arith, z))
+pairs-of (a ∷ []) n z s = absurd (omega (arith, z))
+pairs-of (a ∷ b ∷ []) n z s = absurd (omega (arith, z))
+pairs-of (a ∷ b ∷ c ∷ []) n z s = absurd (omega (arith, z))
+pairs-of (a ∷ b ∷ c ∷ d ∷ []) n z s = absurd (omega (arith, z))
+pairs-of (a ∷ b ∷ c ∷ d ∷ e ∷ []) n z s = absurd (omega (arith, z))
+pairs-of (a ∷ b ∷ c ∷ d ∷ e ∷ f ∷ []) n z s = absurd (omega (arith, z))
+pairs-of (a ∷ b ∷ c ∷ d ∷ e ∷ f ∷ g ∷ []) n z s = absurd (omega (arith, z))
+pairs-of (a ∷ b ∷ c ∷ d ∷ e ∷ f ∷ g ∷ h ∷ l) n z s =
+    let sb = s.1 in
+    let sc = sb.1 in
+    let sd = sc.1 in
+    let se = sd.1 in
+    let sf = se.1 in
+    let sg = sf.1 in
+    let sh = sg.1 in
+    let v : ℕ = number_l 256 (a ∷ b ∷ c ∷ d ∷ e ∷ f ∷ g ∷ h ∷ l) in
+    let u : ℕ = number_l 256 (c ∷ d ∷ e ∷ f ∷ g ∷ h ∷ l) in
+    let t : ℕ = number_l 256 (e ∷ f ∷ g ∷ h ∷ l) in
+    let w : ℕ = number_l 256 (g ∷ h ∷ l) in
+    let one : v / 65536 ≡ u = rest-is a b u s.0 sb.0 in
+    let two : v / 65536 / 65536 ≡ t = ap (λ x. x / 65536) one ∙ rest-is c d t sc.0 sd.0 in
+    let three : v / 65536 / 65536 / 65536 ≡ w = ap (λ x. x / 65536) two ∙ rest-is e f w se.0 sf.0 in
+    let p : pair v ≡ a * 10 + b = pair-is a b u s.0 sb.0 in
+    let q : pair (v / 65536) ≡ c * 10 + d = ap pair one ∙ pair-is c d t sc.0 sd.0 in
+    let r : pair (v / 65536 / 65536) ≡ e * 10 + f = ap pair two ∙ pair-is e f w se.0 sf.0 in
+    let o : pair (v / 65536 / 65536 / 65536) ≡ g * 10 + h = ap pair three ∙ pair-is g h (number_l 256 l) sg.0 sh.0 in
+    let sum = sum-is _ _ _ _ _ _ _ _ p q r o in
+    record {
+      l = l;
+      left = omega (arith, z);
+      digits = sh.1;
+      first = two-less v a b p s.0 sb.0;
+      second = two-less _ c d q sc.0 sd.0;
+      third = two-less _ e f r se.0 sf.0;
+      fourth = two-less _ g h o sg.0 sh.0;
+      rest = ap (λ x. x / 65536) three ∙ rest-is g h (number_l 256 l) sg.0 sh.0;
+      value = λ k. ap (λ x. lanes_after x l) (all-digits-of k a b c d e f g h) ∙ ap (λ x. lanes_after (k * 100000000 + x) l) (sym sum);
+    }
+  where
+    all-digits-of : (k a b c d e f g h : ℕ)
+        → (((((((k * 10 + a) * 10 + b) * 10 + c) * 10 + d) * 10 + e) * 10 + f) * 10 + g) * 10 + h ≡ k * 100000000 + ((a * 10 + b) * 1000000 + (c * 10 + d) * 10000 + (e * 10 + f) * 100 + (g * 10 + h))
+    all-digits-of k a b c d e f g h = omega arith
+
+-- the number of four pairs
+abbrev pub quads : ℕ → ℕ
+quads v = pair v * 1000000 + pair (v / 65536) * 10000 + pair (v / 65536 / 65536) * 100 + pair (v / 65536 / 65536 / 65536)
+
+pub alone : (n : ℕ) → n ≡ 0 * 100000000 + n
+alone n = omega arith
+
+pub joined : (m n x y : ℕ) → m ≡ x → n ≡ y → m * 100000000 + n ≡ (0 * 100000000 + x) * 100000000 + y
+joined m n x y e f = omega (arith, e, f)
+
+pub no-more : (n : ℕ) (l : List ℕ) → length l ≡ 0 → lanes_after n l ≡ n
+no-more n [] e = refl
+no-more n (d ∷ l) e = absurd (omega (arith, e))
