@@ -30,7 +30,7 @@ pub trait ConvertFrom<S>: Sized {
     ///
     /// # Errors
     /// `PointConversionError` for a multipoint with an empty member, `MismatchedGeometry` where the
-    /// source is of another kind than this type, `Memory` where no memory is left.
+    /// source is of another kind than this type, `Memory` when out of memory.
     fn convert_from(alloc: Global, source: S) -> Result<Self, ConvertError>
         ensures { converts source result };
 }

@@ -1,15 +1,13 @@
 //! Flat values as text, written directly: without a `Wkt` between, and to a byte sink without memory.
 ghost use Rattle.std.specs.Prelude.{◌≡◌, IfOk, IfErr, OnOk, None};
-ghost use Rattle.std.specs.Io.KnownBytes.{Appends};
 ghost use Rattle.std.specs.String.{string_bytes};
 ghost use Rattle.wkt_num.specs.Sink.{next_count};
-ghost use Rattle.wkt_bytes.specs.Device.{BeginningOut};
+ghost use Rattle.wkt_bytes.specs.Device.{IsOut, IsPartOut};
 ghost use Rattle.wkt_access.specs.Faults.{fault};
-ghost use Rattle.wkt_access.specs.Texts.{shape_text};
 ghost use Rattle.wkt_types.specs.Values.{tree_shape};
 ghost use Rattle.wkt_flat.specs.Shape.{flat_shape};
 ghost use Rattle.wkt_flat.specs.Tree.{Flat};
-ghost use Rattle.wkt.specs.Back.{back};
+ghost use Rattle.wkt.specs.Back.{back, wkt_text};
 ghost use Rattle.wkt.specs.Sent.{IsMemory, IsRefusal, IfIo, IfShape};
 
 use crate::send::{ToWktError, Written, send};
@@ -29,7 +27,7 @@ pub(crate) trait FlatValue: Written {
 
 /// The text of a flat value. It is refused for memory alone.
 pub(crate) fn flat_string<G: FlatValue>(alloc: Global, g: &G) -> Result<String, Error>
-    ensures text { IfOk result (λ s. string_bytes s ≡ shape_text G.T.num (tree_shape (back (G.value g.now)))) }
+    ensures text { IfOk result (λ s. string_bytes s ≡ wkt_text G.T.num (G.value g.now)) }
     ensures sound { OnOk result (fault (tree_shape (back (G.value g.now))) ≡ None) }
     ensures refused { IfErr result (IsRefusal (tree_shape (back (G.value g.now)))) }
     ensures memory { IfErr result IsMemory }
@@ -39,8 +37,8 @@ pub(crate) fn flat_string<G: FlatValue>(alloc: Global, g: &G) -> Result<String, 
 
 /// Puts the text of a flat value out. It takes no memory, and is refused for the writer alone.
 pub(crate) fn flat_send<G: FlatValue, W: ByteSink>(g: &G, writer: &mut W) -> Result<(), ToWktError>
-    ensures ok { OnOk result (Appends (W.device.bytes writer.old) (W.device.bytes writer.new) (shape_text G.T.num (tree_shape (back (G.value g.now))))) }
-    ensures io { IfIo result (BeginningOut (W.device.bytes writer.old) (W.device.bytes writer.new) (shape_text G.T.num (tree_shape (back (G.value g.now))))) }
+    ensures ok { OnOk result (IsOut W.device writer.old writer.new (wkt_text G.T.num (G.value g.now))) }
+    ensures io { IfIo result (IsPartOut W.device writer.old writer.new (wkt_text G.T.num (G.value g.now))) }
     ensures io_count { IfIo result (W.device.failures writer.new ≡ next_count (W.device.failures writer.old)) }
     ensures shape { IfShape result (λ _. writer.new ≡ writer.old) }
     ensures cause { IfShape result (IsRefusal (tree_shape (back (G.value g.now)))) }

@@ -1,14 +1,12 @@
 //! The flat types as well-known text.
 ghost use Rattle.std.specs.Prelude.{◌≡◌, IfOk, IfErr, OnOk, None};
-ghost use Rattle.std.specs.Io.KnownBytes.{Appends};
 ghost use Rattle.std.specs.String.{string_bytes};
 ghost use Rattle.wkt_num.specs.Sink.{next_count};
-ghost use Rattle.wkt_bytes.specs.Device.{BeginningOut};
+ghost use Rattle.wkt_bytes.specs.Device.{IsOut, IsPartOut};
 ghost use Rattle.wkt_access.specs.Faults.{fault};
-ghost use Rattle.wkt_access.specs.Texts.{shape_text};
 ghost use Rattle.wkt_types.specs.Values.{tree_shape};
 ghost use Rattle.wkt_flat.specs.Tree.{Flat, flat_tree, flat_trees};
-ghost use Rattle.wkt.specs.Back.{back};
+ghost use Rattle.wkt.specs.Back.{back, wkt_text};
 ghost use Rattle.wkt.specs.Sent.{IsMemory, IsRefusal, IfIo, IfShape};
 
 use crate::back::{geometries, geometry, line, point, points, polygon, polygons, push_lines, two};
@@ -33,9 +31,9 @@ impl<T: WktNum> ToWkt<T> for flat::Point<T> {
     /// The text of its `Wkt`, written without one.
     ///
     /// # Errors
-    /// `Memory` where no memory is left for the string, and no other.
+    /// `Memory` when out of memory for the string, and no other.
     fn wkt_string(&self, alloc: Global) -> Result<String, Error>
-        ensures text { IfOk result (λ s. string_bytes s ≡ shape_text T.num (tree_shape (back (Flat.point self.now)))) }
+        ensures text { IfOk result (λ s. string_bytes s ≡ wkt_text T.num (Flat.point self.now)) }
         ensures sound { OnOk result (fault (tree_shape (back (Flat.point self.now))) ≡ None) }
         ensures refused { IfErr result (IsRefusal (tree_shape (back (Flat.point self.now)))) }
         ensures memory { IfErr result IsMemory }
@@ -49,8 +47,8 @@ impl<T: WktNum> ToWkt<T> for flat::Point<T> {
     /// `Io` where the writer failed, or took nothing (`WriteZero`): then a beginning of the text is
     /// out. `Shape` never comes.
     fn write_wkt<W: ByteSink>(&self, _alloc: Global, writer: &mut W) -> Result<(), ToWktError>
-        ensures ok { OnOk result (Appends (W.device.bytes writer.old) (W.device.bytes writer.new) (shape_text T.num (tree_shape (back (Flat.point self.now))))) }
-        ensures io { IfIo result (BeginningOut (W.device.bytes writer.old) (W.device.bytes writer.new) (shape_text T.num (tree_shape (back (Flat.point self.now))))) }
+        ensures ok { OnOk result (IsOut W.device writer.old writer.new (wkt_text T.num (Flat.point self.now))) }
+        ensures io { IfIo result (IsPartOut W.device writer.old writer.new (wkt_text T.num (Flat.point self.now))) }
         ensures io_count { IfIo result (W.device.failures writer.new ≡ next_count (W.device.failures writer.old)) }
         ensures shape { IfShape result (λ _. writer.new ≡ writer.old) }
         ensures cause { IfShape result (IsRefusal (tree_shape (back (Flat.point self.now)))) }
@@ -71,9 +69,9 @@ impl<T: WktNum> ToWkt<T> for flat::Line<T> {
     /// The text of its `Wkt`, written without one.
     ///
     /// # Errors
-    /// `Memory` where no memory is left for the string, and no other.
+    /// `Memory` when out of memory for the string, and no other.
     fn wkt_string(&self, alloc: Global) -> Result<String, Error>
-        ensures text { IfOk result (λ s. string_bytes s ≡ shape_text T.num (tree_shape (back (Flat.line self.now)))) }
+        ensures text { IfOk result (λ s. string_bytes s ≡ wkt_text T.num (Flat.line self.now)) }
         ensures sound { OnOk result (fault (tree_shape (back (Flat.line self.now))) ≡ None) }
         ensures refused { IfErr result (IsRefusal (tree_shape (back (Flat.line self.now)))) }
         ensures memory { IfErr result IsMemory }
@@ -87,8 +85,8 @@ impl<T: WktNum> ToWkt<T> for flat::Line<T> {
     /// `Io` where the writer failed, or took nothing (`WriteZero`): then a beginning of the text is
     /// out. `Shape` never comes.
     fn write_wkt<W: ByteSink>(&self, _alloc: Global, writer: &mut W) -> Result<(), ToWktError>
-        ensures ok { OnOk result (Appends (W.device.bytes writer.old) (W.device.bytes writer.new) (shape_text T.num (tree_shape (back (Flat.line self.now))))) }
-        ensures io { IfIo result (BeginningOut (W.device.bytes writer.old) (W.device.bytes writer.new) (shape_text T.num (tree_shape (back (Flat.line self.now))))) }
+        ensures ok { OnOk result (IsOut W.device writer.old writer.new (wkt_text T.num (Flat.line self.now))) }
+        ensures io { IfIo result (IsPartOut W.device writer.old writer.new (wkt_text T.num (Flat.line self.now))) }
         ensures io_count { IfIo result (W.device.failures writer.new ≡ next_count (W.device.failures writer.old)) }
         ensures shape { IfShape result (λ _. writer.new ≡ writer.old) }
         ensures cause { IfShape result (IsRefusal (tree_shape (back (Flat.line self.now)))) }
@@ -109,9 +107,9 @@ impl<T: WktNum> ToWkt<T> for flat::LineString<T> {
     /// The text of its `Wkt`, written without one.
     ///
     /// # Errors
-    /// `Memory` where no memory is left for the string, and no other.
+    /// `Memory` when out of memory for the string, and no other.
     fn wkt_string(&self, alloc: Global) -> Result<String, Error>
-        ensures text { IfOk result (λ s. string_bytes s ≡ shape_text T.num (tree_shape (back (Flat.line_string self.now)))) }
+        ensures text { IfOk result (λ s. string_bytes s ≡ wkt_text T.num (Flat.line_string self.now)) }
         ensures sound { OnOk result (fault (tree_shape (back (Flat.line_string self.now))) ≡ None) }
         ensures refused { IfErr result (IsRefusal (tree_shape (back (Flat.line_string self.now)))) }
         ensures memory { IfErr result IsMemory }
@@ -125,8 +123,8 @@ impl<T: WktNum> ToWkt<T> for flat::LineString<T> {
     /// `Io` where the writer failed, or took nothing (`WriteZero`): then a beginning of the text is
     /// out. `Shape` never comes.
     fn write_wkt<W: ByteSink>(&self, _alloc: Global, writer: &mut W) -> Result<(), ToWktError>
-        ensures ok { OnOk result (Appends (W.device.bytes writer.old) (W.device.bytes writer.new) (shape_text T.num (tree_shape (back (Flat.line_string self.now))))) }
-        ensures io { IfIo result (BeginningOut (W.device.bytes writer.old) (W.device.bytes writer.new) (shape_text T.num (tree_shape (back (Flat.line_string self.now))))) }
+        ensures ok { OnOk result (IsOut W.device writer.old writer.new (wkt_text T.num (Flat.line_string self.now))) }
+        ensures io { IfIo result (IsPartOut W.device writer.old writer.new (wkt_text T.num (Flat.line_string self.now))) }
         ensures io_count { IfIo result (W.device.failures writer.new ≡ next_count (W.device.failures writer.old)) }
         ensures shape { IfShape result (λ _. writer.new ≡ writer.old) }
         ensures cause { IfShape result (IsRefusal (tree_shape (back (Flat.line_string self.now)))) }
@@ -147,9 +145,9 @@ impl<T: WktNum> ToWkt<T> for flat::Polygon<T> {
     /// The text of its `Wkt`, written without one.
     ///
     /// # Errors
-    /// `Memory` where no memory is left for the string, and no other.
+    /// `Memory` when out of memory for the string, and no other.
     fn wkt_string(&self, alloc: Global) -> Result<String, Error>
-        ensures text { IfOk result (λ s. string_bytes s ≡ shape_text T.num (tree_shape (back (Flat.polygon self.now)))) }
+        ensures text { IfOk result (λ s. string_bytes s ≡ wkt_text T.num (Flat.polygon self.now)) }
         ensures sound { OnOk result (fault (tree_shape (back (Flat.polygon self.now))) ≡ None) }
         ensures refused { IfErr result (IsRefusal (tree_shape (back (Flat.polygon self.now)))) }
         ensures memory { IfErr result IsMemory }
@@ -163,8 +161,8 @@ impl<T: WktNum> ToWkt<T> for flat::Polygon<T> {
     /// `Io` where the writer failed, or took nothing (`WriteZero`): then a beginning of the text is
     /// out. `Shape` never comes.
     fn write_wkt<W: ByteSink>(&self, _alloc: Global, writer: &mut W) -> Result<(), ToWktError>
-        ensures ok { OnOk result (Appends (W.device.bytes writer.old) (W.device.bytes writer.new) (shape_text T.num (tree_shape (back (Flat.polygon self.now))))) }
-        ensures io { IfIo result (BeginningOut (W.device.bytes writer.old) (W.device.bytes writer.new) (shape_text T.num (tree_shape (back (Flat.polygon self.now))))) }
+        ensures ok { OnOk result (IsOut W.device writer.old writer.new (wkt_text T.num (Flat.polygon self.now))) }
+        ensures io { IfIo result (IsPartOut W.device writer.old writer.new (wkt_text T.num (Flat.polygon self.now))) }
         ensures io_count { IfIo result (W.device.failures writer.new ≡ next_count (W.device.failures writer.old)) }
         ensures shape { IfShape result (λ _. writer.new ≡ writer.old) }
         ensures cause { IfShape result (IsRefusal (tree_shape (back (Flat.polygon self.now)))) }
@@ -186,9 +184,9 @@ impl<T: WktNum> ToWkt<T> for flat::MultiPoint<T> {
     /// The text of its `Wkt`, written without one.
     ///
     /// # Errors
-    /// `Memory` where no memory is left for the string, and no other.
+    /// `Memory` when out of memory for the string, and no other.
     fn wkt_string(&self, alloc: Global) -> Result<String, Error>
-        ensures text { IfOk result (λ s. string_bytes s ≡ shape_text T.num (tree_shape (back (Flat.multi_point self.now)))) }
+        ensures text { IfOk result (λ s. string_bytes s ≡ wkt_text T.num (Flat.multi_point self.now)) }
         ensures sound { OnOk result (fault (tree_shape (back (Flat.multi_point self.now))) ≡ None) }
         ensures refused { IfErr result (IsRefusal (tree_shape (back (Flat.multi_point self.now)))) }
         ensures memory { IfErr result IsMemory }
@@ -202,8 +200,8 @@ impl<T: WktNum> ToWkt<T> for flat::MultiPoint<T> {
     /// `Io` where the writer failed, or took nothing (`WriteZero`): then a beginning of the text is
     /// out. `Shape` never comes.
     fn write_wkt<W: ByteSink>(&self, _alloc: Global, writer: &mut W) -> Result<(), ToWktError>
-        ensures ok { OnOk result (Appends (W.device.bytes writer.old) (W.device.bytes writer.new) (shape_text T.num (tree_shape (back (Flat.multi_point self.now))))) }
-        ensures io { IfIo result (BeginningOut (W.device.bytes writer.old) (W.device.bytes writer.new) (shape_text T.num (tree_shape (back (Flat.multi_point self.now))))) }
+        ensures ok { OnOk result (IsOut W.device writer.old writer.new (wkt_text T.num (Flat.multi_point self.now))) }
+        ensures io { IfIo result (IsPartOut W.device writer.old writer.new (wkt_text T.num (Flat.multi_point self.now))) }
         ensures io_count { IfIo result (W.device.failures writer.new ≡ next_count (W.device.failures writer.old)) }
         ensures shape { IfShape result (λ _. writer.new ≡ writer.old) }
         ensures cause { IfShape result (IsRefusal (tree_shape (back (Flat.multi_point self.now)))) }
@@ -225,9 +223,9 @@ impl<T: WktNum> ToWkt<T> for flat::MultiLineString<T> {
     /// The text of its `Wkt`, written without one.
     ///
     /// # Errors
-    /// `Memory` where no memory is left for the string, and no other.
+    /// `Memory` when out of memory for the string, and no other.
     fn wkt_string(&self, alloc: Global) -> Result<String, Error>
-        ensures text { IfOk result (λ s. string_bytes s ≡ shape_text T.num (tree_shape (back (Flat.multi_line_string self.now)))) }
+        ensures text { IfOk result (λ s. string_bytes s ≡ wkt_text T.num (Flat.multi_line_string self.now)) }
         ensures sound { OnOk result (fault (tree_shape (back (Flat.multi_line_string self.now))) ≡ None) }
         ensures refused { IfErr result (IsRefusal (tree_shape (back (Flat.multi_line_string self.now)))) }
         ensures memory { IfErr result IsMemory }
@@ -241,8 +239,8 @@ impl<T: WktNum> ToWkt<T> for flat::MultiLineString<T> {
     /// `Io` where the writer failed, or took nothing (`WriteZero`): then a beginning of the text is
     /// out. `Shape` never comes.
     fn write_wkt<W: ByteSink>(&self, _alloc: Global, writer: &mut W) -> Result<(), ToWktError>
-        ensures ok { OnOk result (Appends (W.device.bytes writer.old) (W.device.bytes writer.new) (shape_text T.num (tree_shape (back (Flat.multi_line_string self.now))))) }
-        ensures io { IfIo result (BeginningOut (W.device.bytes writer.old) (W.device.bytes writer.new) (shape_text T.num (tree_shape (back (Flat.multi_line_string self.now))))) }
+        ensures ok { OnOk result (IsOut W.device writer.old writer.new (wkt_text T.num (Flat.multi_line_string self.now))) }
+        ensures io { IfIo result (IsPartOut W.device writer.old writer.new (wkt_text T.num (Flat.multi_line_string self.now))) }
         ensures io_count { IfIo result (W.device.failures writer.new ≡ next_count (W.device.failures writer.old)) }
         ensures shape { IfShape result (λ _. writer.new ≡ writer.old) }
         ensures cause { IfShape result (IsRefusal (tree_shape (back (Flat.multi_line_string self.now)))) }
@@ -264,9 +262,9 @@ impl<T: WktNum> ToWkt<T> for flat::MultiPolygon<T> {
     /// The text of its `Wkt`, written without one.
     ///
     /// # Errors
-    /// `Memory` where no memory is left for the string, and no other.
+    /// `Memory` when out of memory for the string, and no other.
     fn wkt_string(&self, alloc: Global) -> Result<String, Error>
-        ensures text { IfOk result (λ s. string_bytes s ≡ shape_text T.num (tree_shape (back (Flat.multi_polygon self.now)))) }
+        ensures text { IfOk result (λ s. string_bytes s ≡ wkt_text T.num (Flat.multi_polygon self.now)) }
         ensures sound { OnOk result (fault (tree_shape (back (Flat.multi_polygon self.now))) ≡ None) }
         ensures refused { IfErr result (IsRefusal (tree_shape (back (Flat.multi_polygon self.now)))) }
         ensures memory { IfErr result IsMemory }
@@ -280,8 +278,8 @@ impl<T: WktNum> ToWkt<T> for flat::MultiPolygon<T> {
     /// `Io` where the writer failed, or took nothing (`WriteZero`): then a beginning of the text is
     /// out. `Shape` never comes.
     fn write_wkt<W: ByteSink>(&self, _alloc: Global, writer: &mut W) -> Result<(), ToWktError>
-        ensures ok { OnOk result (Appends (W.device.bytes writer.old) (W.device.bytes writer.new) (shape_text T.num (tree_shape (back (Flat.multi_polygon self.now))))) }
-        ensures io { IfIo result (BeginningOut (W.device.bytes writer.old) (W.device.bytes writer.new) (shape_text T.num (tree_shape (back (Flat.multi_polygon self.now))))) }
+        ensures ok { OnOk result (IsOut W.device writer.old writer.new (wkt_text T.num (Flat.multi_polygon self.now))) }
+        ensures io { IfIo result (IsPartOut W.device writer.old writer.new (wkt_text T.num (Flat.multi_polygon self.now))) }
         ensures io_count { IfIo result (W.device.failures writer.new ≡ next_count (W.device.failures writer.old)) }
         ensures shape { IfShape result (λ _. writer.new ≡ writer.old) }
         ensures cause { IfShape result (IsRefusal (tree_shape (back (Flat.multi_polygon self.now)))) }
@@ -303,9 +301,9 @@ impl<T: WktNum> ToWkt<T> for flat::GeometryCollection<T> {
     /// The text of its `Wkt`, written without one.
     ///
     /// # Errors
-    /// `Memory` where no memory is left for the string, and no other.
+    /// `Memory` when out of memory for the string, and no other.
     fn wkt_string(&self, alloc: Global) -> Result<String, Error>
-        ensures text { IfOk result (λ s. string_bytes s ≡ shape_text T.num (tree_shape (back (Flat.collection (flat_trees self.now))))) }
+        ensures text { IfOk result (λ s. string_bytes s ≡ wkt_text T.num (Flat.collection (flat_trees self.now))) }
         ensures sound { OnOk result (fault (tree_shape (back (Flat.collection (flat_trees self.now)))) ≡ None) }
         ensures refused { IfErr result (IsRefusal (tree_shape (back (Flat.collection (flat_trees self.now))))) }
         ensures memory { IfErr result IsMemory }
@@ -319,8 +317,8 @@ impl<T: WktNum> ToWkt<T> for flat::GeometryCollection<T> {
     /// `Io` where the writer failed, or took nothing (`WriteZero`): then a beginning of the text is
     /// out. `Shape` never comes.
     fn write_wkt<W: ByteSink>(&self, _alloc: Global, writer: &mut W) -> Result<(), ToWktError>
-        ensures ok { OnOk result (Appends (W.device.bytes writer.old) (W.device.bytes writer.new) (shape_text T.num (tree_shape (back (Flat.collection (flat_trees self.now)))))) }
-        ensures io { IfIo result (BeginningOut (W.device.bytes writer.old) (W.device.bytes writer.new) (shape_text T.num (tree_shape (back (Flat.collection (flat_trees self.now)))))) }
+        ensures ok { OnOk result (IsOut W.device writer.old writer.new (wkt_text T.num (Flat.collection (flat_trees self.now)))) }
+        ensures io { IfIo result (IsPartOut W.device writer.old writer.new (wkt_text T.num (Flat.collection (flat_trees self.now)))) }
         ensures io_count { IfIo result (W.device.failures writer.new ≡ next_count (W.device.failures writer.old)) }
         ensures shape { IfShape result (λ _. writer.new ≡ writer.old) }
         ensures cause { IfShape result (IsRefusal (tree_shape (back (Flat.collection (flat_trees self.now))))) }
@@ -341,9 +339,9 @@ impl<T: WktNum> ToWkt<T> for flat::Rect<T> {
     /// The text of its `Wkt`, written without one.
     ///
     /// # Errors
-    /// `Memory` where no memory is left for the string, and no other.
+    /// `Memory` when out of memory for the string, and no other.
     fn wkt_string(&self, alloc: Global) -> Result<String, Error>
-        ensures text { IfOk result (λ s. string_bytes s ≡ shape_text T.num (tree_shape (back (Flat.rect self.now)))) }
+        ensures text { IfOk result (λ s. string_bytes s ≡ wkt_text T.num (Flat.rect self.now)) }
         ensures sound { OnOk result (fault (tree_shape (back (Flat.rect self.now))) ≡ None) }
         ensures refused { IfErr result (IsRefusal (tree_shape (back (Flat.rect self.now)))) }
         ensures memory { IfErr result IsMemory }
@@ -357,8 +355,8 @@ impl<T: WktNum> ToWkt<T> for flat::Rect<T> {
     /// `Io` where the writer failed, or took nothing (`WriteZero`): then a beginning of the text is
     /// out. `Shape` never comes.
     fn write_wkt<W: ByteSink>(&self, _alloc: Global, writer: &mut W) -> Result<(), ToWktError>
-        ensures ok { OnOk result (Appends (W.device.bytes writer.old) (W.device.bytes writer.new) (shape_text T.num (tree_shape (back (Flat.rect self.now))))) }
-        ensures io { IfIo result (BeginningOut (W.device.bytes writer.old) (W.device.bytes writer.new) (shape_text T.num (tree_shape (back (Flat.rect self.now))))) }
+        ensures ok { OnOk result (IsOut W.device writer.old writer.new (wkt_text T.num (Flat.rect self.now))) }
+        ensures io { IfIo result (IsPartOut W.device writer.old writer.new (wkt_text T.num (Flat.rect self.now))) }
         ensures io_count { IfIo result (W.device.failures writer.new ≡ next_count (W.device.failures writer.old)) }
         ensures shape { IfShape result (λ _. writer.new ≡ writer.old) }
         ensures cause { IfShape result (IsRefusal (tree_shape (back (Flat.rect self.now)))) }
@@ -379,9 +377,9 @@ impl<T: WktNum> ToWkt<T> for flat::Triangle<T> {
     /// The text of its `Wkt`, written without one.
     ///
     /// # Errors
-    /// `Memory` where no memory is left for the string, and no other.
+    /// `Memory` when out of memory for the string, and no other.
     fn wkt_string(&self, alloc: Global) -> Result<String, Error>
-        ensures text { IfOk result (λ s. string_bytes s ≡ shape_text T.num (tree_shape (back (Flat.triangle self.now)))) }
+        ensures text { IfOk result (λ s. string_bytes s ≡ wkt_text T.num (Flat.triangle self.now)) }
         ensures sound { OnOk result (fault (tree_shape (back (Flat.triangle self.now))) ≡ None) }
         ensures refused { IfErr result (IsRefusal (tree_shape (back (Flat.triangle self.now)))) }
         ensures memory { IfErr result IsMemory }
@@ -395,8 +393,8 @@ impl<T: WktNum> ToWkt<T> for flat::Triangle<T> {
     /// `Io` where the writer failed, or took nothing (`WriteZero`): then a beginning of the text is
     /// out. `Shape` never comes.
     fn write_wkt<W: ByteSink>(&self, _alloc: Global, writer: &mut W) -> Result<(), ToWktError>
-        ensures ok { OnOk result (Appends (W.device.bytes writer.old) (W.device.bytes writer.new) (shape_text T.num (tree_shape (back (Flat.triangle self.now))))) }
-        ensures io { IfIo result (BeginningOut (W.device.bytes writer.old) (W.device.bytes writer.new) (shape_text T.num (tree_shape (back (Flat.triangle self.now))))) }
+        ensures ok { OnOk result (IsOut W.device writer.old writer.new (wkt_text T.num (Flat.triangle self.now))) }
+        ensures io { IfIo result (IsPartOut W.device writer.old writer.new (wkt_text T.num (Flat.triangle self.now))) }
         ensures io_count { IfIo result (W.device.failures writer.new ≡ next_count (W.device.failures writer.old)) }
         ensures shape { IfShape result (λ _. writer.new ≡ writer.old) }
         ensures cause { IfShape result (IsRefusal (tree_shape (back (Flat.triangle self.now)))) }
@@ -417,9 +415,9 @@ impl<T: WktNum> ToWkt<T> for flat::Geometry<T> {
     /// The text of its `Wkt`, written without one.
     ///
     /// # Errors
-    /// `Memory` where no memory is left for the string, and no other.
+    /// `Memory` when out of memory for the string, and no other.
     fn wkt_string(&self, alloc: Global) -> Result<String, Error>
-        ensures text { IfOk result (λ s. string_bytes s ≡ shape_text T.num (tree_shape (back (flat_tree self.now)))) }
+        ensures text { IfOk result (λ s. string_bytes s ≡ wkt_text T.num (flat_tree self.now)) }
         ensures sound { OnOk result (fault (tree_shape (back (flat_tree self.now))) ≡ None) }
         ensures refused { IfErr result (IsRefusal (tree_shape (back (flat_tree self.now)))) }
         ensures memory { IfErr result IsMemory }
@@ -433,8 +431,8 @@ impl<T: WktNum> ToWkt<T> for flat::Geometry<T> {
     /// `Io` where the writer failed, or took nothing (`WriteZero`): then a beginning of the text is
     /// out. `Shape` never comes.
     fn write_wkt<W: ByteSink>(&self, _alloc: Global, writer: &mut W) -> Result<(), ToWktError>
-        ensures ok { OnOk result (Appends (W.device.bytes writer.old) (W.device.bytes writer.new) (shape_text T.num (tree_shape (back (flat_tree self.now))))) }
-        ensures io { IfIo result (BeginningOut (W.device.bytes writer.old) (W.device.bytes writer.new) (shape_text T.num (tree_shape (back (flat_tree self.now))))) }
+        ensures ok { OnOk result (IsOut W.device writer.old writer.new (wkt_text T.num (flat_tree self.now))) }
+        ensures io { IfIo result (IsPartOut W.device writer.old writer.new (wkt_text T.num (flat_tree self.now))) }
         ensures io_count { IfIo result (W.device.failures writer.new ≡ next_count (W.device.failures writer.old)) }
         ensures shape { IfShape result (λ _. writer.new ≡ writer.old) }
         ensures cause { IfShape result (IsRefusal (tree_shape (back (flat_tree self.now)))) }

@@ -1,8 +1,7 @@
 //! Text out to byte sinks.
 ghost use Rattle.std.specs.Prelude.{◌≡◌, [], OnOk, Some, true};
-ghost use Rattle.std.specs.Io.KnownBytes.{Appends};
 ghost use Rattle.wkt_num.specs.Sink.{next_count};
-ghost use Rattle.wkt_bytes.specs.Device.{BeginningOut};
+ghost use Rattle.wkt_bytes.specs.Device.{IsOut, IsPartOut};
 ghost use Rattle.wkt_bytes.specs.Wrapper.{is_untold, is_well, held_bytes, writer_of};
 ghost use Rattle.wkt_access.specs.Shapes.{Shape};
 ghost use Rattle.wkt_access.specs.Faults.{fault};
@@ -19,7 +18,7 @@ use wkt_num::{TextSink, WktNum};
 /// Why a text didn't go out whole.
 #[derive(Debug, Drop, Error)]
 pub enum ToWktError {
-    /// The geometry has no text, or no memory is left. Nothing went out.
+    /// The geometry has no text, or it is out of memory. Nothing went out.
     #[error("{0}")]
     Shape(WriteError),
     /// The writer failed, or took nothing (`WriteZero`). A beginning of the text went out.
@@ -57,8 +56,8 @@ fn send_through<G: Written, W: ByteSink>(
 ) -> Result<(), ToWktError>
     requires well { is_well wrapper.old ≡ true }
     requires held { held_bytes wrapper.old ≡ [] }
-    ensures ok { OnOk result (Appends (W.device.bytes (writer_of wrapper.old)) (W.device.bytes (writer_of wrapper.new)) (shape_text G.T.num (G.shape g.now))) }
-    ensures io { IfIo result (BeginningOut (W.device.bytes (writer_of wrapper.old)) (W.device.bytes (writer_of wrapper.new)) (shape_text G.T.num (G.shape g.now))) }
+    ensures ok { OnOk result (IsOut W.device (writer_of wrapper.old) (writer_of wrapper.new) (shape_text G.T.num (G.shape g.now))) }
+    ensures io { IfIo result (IsPartOut W.device (writer_of wrapper.old) (writer_of wrapper.new) (shape_text G.T.num (G.shape g.now))) }
     ensures io_count { IfIo result (W.device.failures (writer_of wrapper.new) ≡ next_count (W.device.failures (writer_of wrapper.old))) }
     ensures shape { IfShape result (λ _. writer_of wrapper.new ≡ writer_of wrapper.old) }
     ensures cause { IfShape result (λ e. fault (G.shape g.now) ≡ Some e) }
@@ -77,8 +76,8 @@ fn send_through<G: Written, W: ByteSink>(
 
 /// Puts the text of a geometry out. It takes no memory.
 pub(crate) fn send<G: Written, W: ByteSink>(g: &G, writer: &mut W) -> Result<(), ToWktError>
-    ensures ok { OnOk result (Appends (W.device.bytes writer.old) (W.device.bytes writer.new) (shape_text G.T.num (G.shape g.now))) }
-    ensures io { IfIo result (BeginningOut (W.device.bytes writer.old) (W.device.bytes writer.new) (shape_text G.T.num (G.shape g.now))) }
+    ensures ok { OnOk result (IsOut W.device writer.old writer.new (shape_text G.T.num (G.shape g.now))) }
+    ensures io { IfIo result (IsPartOut W.device writer.old writer.new (shape_text G.T.num (G.shape g.now))) }
     ensures io_count { IfIo result (W.device.failures writer.new ≡ next_count (W.device.failures writer.old)) }
     ensures shape { IfShape result (λ _. writer.new ≡ writer.old) }
     ensures cause { IfShape result (λ e. fault (G.shape g.now) ≡ Some e) }

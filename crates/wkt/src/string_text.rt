@@ -11,7 +11,7 @@ use std::fmt;
 use wkt_access::Error;
 use wkt_num::TextSink;
 
-/// A string as a sink of text. A piece that no memory is left for is no part of it.
+/// A string as a sink of text. A piece that there is no memory for is no part of it.
 #[derive(Drop)]
 struct StringText {
     text: String,

@@ -1,9 +1,8 @@
 //! Types that are written as well-known text.
 ghost use Rattle.std.specs.Prelude.{◌≡◌, IfOk, IfErr, OnOk, None};
-ghost use Rattle.std.specs.Io.KnownBytes.{Appends};
 ghost use Rattle.std.specs.String.{string_bytes};
 ghost use Rattle.wkt_num.specs.Sink.{next_count};
-ghost use Rattle.wkt_bytes.specs.Device.{BeginningOut};
+ghost use Rattle.wkt_bytes.specs.Device.{IsOut, IsPartOut};
 ghost use Rattle.wkt_access.specs.Faults.{fault};
 ghost use Rattle.wkt_access.specs.Texts.{shape_text};
 ghost use Rattle.wkt_types.specs.Tree.{Tree, tree};
@@ -31,15 +30,15 @@ pub trait ToWkt<T: WktNum> {
     /// The `Wkt` of it.
     ///
     /// # Errors
-    /// Where no memory is left.
+    /// Out of memory.
     fn to_wkt(&self, alloc: Global) -> Result<Wkt<T>, AllocError>
         ensures { IfOk result (λ w. tree w ≡ held self.now) };
 
     /// The text of its `Wkt`.
     ///
     /// # Errors
-    /// The fault of the shape, for the first one in the order of the text; `Memory` where no memory
-    /// is left, for the string too. `FmtError` never comes.
+    /// The fault of the shape, for the first one in the order of the text; `Memory` when out of
+    /// memory, for the string too. `FmtError` never comes.
     fn wkt_string(&self, alloc: Global) -> Result<String, Error>
         ensures text { IfOk result (λ s. string_bytes s ≡ shape_text T.num (tree_shape (held self.now))) }
         ensures sound { OnOk result (fault (tree_shape (held self.now)) ≡ None) }
@@ -52,11 +51,11 @@ pub trait ToWkt<T: WktNum> {
     /// Puts the text of its `Wkt` out. Ok means that the whole text is out.
     ///
     /// # Errors
-    /// `Shape` for the fault of the shape, or where no memory is left: then nothing went out. `Io`
+    /// `Shape` for the fault of the shape, or when out of memory: then nothing went out. `Io`
     /// where the writer failed, or took nothing (`WriteZero`): then a beginning of the text is out.
     fn write_wkt<W: ByteSink>(&self, alloc: Global, writer: &mut W) -> Result<(), ToWktError>
-        ensures ok { OnOk result (Appends (W.device.bytes writer.old) (W.device.bytes writer.new) (shape_text T.num (tree_shape (held self.now)))) }
-        ensures io { IfIo result (BeginningOut (W.device.bytes writer.old) (W.device.bytes writer.new) (shape_text T.num (tree_shape (held self.now)))) }
+        ensures ok { OnOk result (IsOut W.device writer.old writer.new (shape_text T.num (tree_shape (held self.now)))) }
+        ensures io { IfIo result (IsPartOut W.device writer.old writer.new (shape_text T.num (tree_shape (held self.now)))) }
         ensures io_count { IfIo result (W.device.failures writer.new ≡ next_count (W.device.failures writer.old)) }
         ensures shape { IfShape result (λ _. writer.new ≡ writer.old) }
         ensures cause { IfShape result (IsRefusal (tree_shape (held self.now))) }

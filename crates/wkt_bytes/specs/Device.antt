@@ -26,7 +26,7 @@ owned bytes failures = record {
   keeps_more = λ _ _ _ _ _. tt;
 }
 
--- A device behind a reference.
+-- A device that is a reference to another.
 abbrev pub lent_device : {D : Type 0} → Device D → Device (MutBor D)
 lent_device device = record {
   bytes = λ d. device.bytes d.now;
@@ -54,3 +54,12 @@ pub record BeginningOut (old new : Option (List ℕ)) (bs : List ℕ) : Type 0 w
   pub lost : List ℕ
   pub went : Appends old new out
   pub whole : bs ≡ out ++ lost
+
+module _ {D : Type 0} (device : Device D) where
+  -- These bytes went out, and nothing else.
+  abbrev pub IsOut : D → D → List ℕ → Type 0
+  IsOut old new bs = Appends (device.bytes old) (device.bytes new) bs
+
+  -- A beginning of these bytes went out, and nothing else.
+  abbrev pub IsPartOut : D → D → List ℕ → Type 0
+  IsPartOut old new bs = BeginningOut (device.bytes old) (device.bytes new) bs

@@ -10,7 +10,7 @@ IfSink (Ok x) P = Unit {0}
 IfSink (Err (answered.Sink e)) P = P
 IfSink (Err (answered.Memory e)) P = Unit {0}
 
--- The fact is claimed where there was no memory.
+-- The fact is claimed where the call was out of memory.
 abbrev pub IfMemory : {A : Type 0} → Result A AnswerError → Type 0 → Type 0
 IfMemory (Ok x) P = Unit {0}
 IfMemory (Err (answered.Sink e)) P = Unit {0}

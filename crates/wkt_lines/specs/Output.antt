@@ -1,6 +1,8 @@
 -- The output of a program that answers line by line. Numbers are read by `read` and printed by `num`.
 use Rattle.std.specs.Prelude.{◌≡◌, ℕ, List, [], ◌∷◌, ◌++◌, ◌⊎◌, Option, codes, IsUtf8, Result, Ok, Err}
 use Rattle.std.specs.Io.KnownBytes.{Appends}
+use Rattle.wkt_num.specs.Sink.{Sink, Adds, Breaks}
+use Rattle.wkt_bytes.specs.Device.{Device, IsOut, IsPartOut}
 use Rattle.wkt_access.specs.Values.{Value}
 use Rattle.wkt_access.specs.Shapes.{shape_of}
 use Rattle.wkt_access.specs.Texts.{shape_text}
@@ -65,6 +67,36 @@ module _ {N : Type 0} (read : List ℕ → Option N) (num : N → List ℕ) wher
     pub whole : answer ++ 10 ∷ [] ≡ part ++ lost
     pub went : Appends old new (out ++ part)
 
+  module _ {D : Type 0} (device : Device D) where
+    -- The output for an input went out whole, by the sink that tells its bytes.
+    abbrev pub IsAllOut : D → D → List ℕ → Type 0
+    IsAllOut old new = AllOut (device.bytes old) (device.bytes new)
+
+    -- The same of the whole answers to some first lines.
+    abbrev pub IsFirstOut : D → D → List ℕ → Type 0
+    IsFirstOut old new = FirstOut (device.bytes old) (device.bytes new)
+
+    -- The same of some first answers, and a beginning of the next.
+    abbrev pub IsSomeOut : D → D → List ℕ → Type 0
+    IsSomeOut old new = PartOut (device.bytes old) (device.bytes new)
+
+    -- The answer to one line went out with its line feed.
+    abbrev pub IsLineOut : D → D → List ℕ → Type 0
+    IsLineOut old new line = (answer : List ℕ) × IsAnswer line answer × IsOut device old new (answer ++ 10 ∷ [])
+
+    -- A beginning of the answer to one line and its line feed went out.
+    abbrev pub IsLinePartOut : D → D → List ℕ → Type 0
+    IsLinePartOut old new line = (answer : List ℕ) × IsAnswer line answer × IsPartOut device old new (answer ++ 10 ∷ [])
+
+  module _ {S : Type 0} (sink : Sink S) where
+    -- The answer to a line was added to a sink of text.
+    abbrev pub AddsAnswer : S → S → List ℕ → Type 0
+    AddsAnswer old new line = (answer : List ℕ) × IsAnswer line answer × Adds sink old answer new
+
+    -- A beginning of the answer to a line was added to a sink of text.
+    abbrev pub BreaksAnswer : S → S → List ℕ → Type 0
+    BreaksAnswer old new line = (answer : List ℕ) × IsAnswer line answer × Breaks sink old answer new
+
 -- The fact is claimed where the reader failed.
 abbrev pub IfRead : {A : Type 0} → Result A RunError → Type 0 → Type 0
 IfRead (Ok x) P = Unit {0}
@@ -79,7 +111,7 @@ IfWrite (Err (run.Read e)) P = Unit {0}
 IfWrite (Err (run.Write e)) P = P
 IfWrite (Err (run.Memory e)) P = Unit {0}
 
--- The fact is claimed where there was no memory.
+-- The fact is claimed where the call was out of memory.
 abbrev pub IfMemory : {A : Type 0} → Result A RunError → Type 0 → Type 0
 IfMemory (Ok x) P = Unit {0}
 IfMemory (Err (run.Read e)) P = Unit {0}

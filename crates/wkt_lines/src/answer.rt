@@ -1,12 +1,11 @@
 //! The answer to one line.
 ghost use Rattle.std.specs.Prelude.{◌≡◌, ℕ, List, None, OnOk, codes, IsUtf8};
-ghost use Rattle.wkt_num.specs.Sink.{Adds, Breaks};
 ghost use Rattle.wkt_access.specs.Faults.{fault};
 ghost use Rattle.wkt_access.specs.Texts.{shape_text};
 ghost use Rattle.wkt_types.specs.Tree.{tree};
 ghost use Rattle.wkt_types.specs.Values.{tree_shape};
 ghost use Rattle.wkt_lines.specs.Answer.{Answers, IfSink, IfMemory};
-ghost use Rattle.wkt_lines.specs.Output.{IsAnswer};
+ghost use Rattle.wkt_lines.specs.Output.{AddsAnswer, BreaksAnswer};
 
 use std::alloc::{AllocError, Global};
 use std::fmt;
@@ -31,8 +30,8 @@ pub(crate) fn write_answer<T: WktNum, W: TextSink>(
     line: &[u8],
     f: &mut W,
 ) -> Result<(), AnswerError>
-    ensures ok { OnOk result ((answer : List ℕ) × IsAnswer T.read T.num line.now answer × Adds W.sink f.old answer f.new) }
-    ensures sink { IfSink result ((answer : List ℕ) × IsAnswer T.read T.num line.now answer × Breaks W.sink f.old answer f.new) }
+    ensures ok { OnOk result (AddsAnswer T.read T.num W.sink f.old f.new line.now) }
+    ensures sink { IfSink result (BreaksAnswer T.read T.num W.sink f.old f.new line.now) }
     ensures memory { IfMemory result (f.new ≡ f.old) }
 {
     // Most lines are ASCII, which one look at eight bytes at a time tells.
@@ -52,8 +51,8 @@ fn write_front<T: WktNum, W: TextSink>(
     f: &mut W,
 ) -> Result<(), AnswerError>
     requires { IsUtf8 text.now }
-    ensures ok { OnOk result ((answer : List ℕ) × IsAnswer T.read T.num text.now answer × Adds W.sink f.old answer f.new) }
-    ensures sink { IfSink result ((answer : List ℕ) × IsAnswer T.read T.num text.now answer × Breaks W.sink f.old answer f.new) }
+    ensures ok { OnOk result (AddsAnswer T.read T.num W.sink f.old f.new text.now) }
+    ensures sink { IfSink result (BreaksAnswer T.read T.num W.sink f.old f.new text.now) }
     ensures memory { IfMemory result (f.new ≡ f.old) }
 {
     match Wkt::<T>::from_str(alloc, text) {

@@ -2,12 +2,11 @@
 ghost use Rattle.std.specs.Prelude.{◌≡◌, ◌≤◌, ℕ, ◌+◌, List, [], ◌∷◌, ◌++◌, IfSome, OnOk, OnErr, true, not, ◌==◌, length, take, drop};
 ghost use Rattle.std.specs.List.{prefix_len};
 ghost use Rattle.std.specs.Simd.Lanes.{chunk};
-ghost use Rattle.std.specs.Io.KnownBytes.{Appends, IsAtEnd};
+ghost use Rattle.std.specs.Io.KnownBytes.{IsAtEnd};
 ghost use Rattle.wkt_num.specs.Sink.{next_count};
-ghost use Rattle.wkt_bytes.specs.Device.{BeginningOut};
 ghost use Rattle.wkt_bytes.specs.Wrapper.{is_well, is_untold, held_bytes, writer_of, Gives, Leaves};
 ghost use Rattle.wkt_lines.specs.Numbers.{read_line, print_line};
-ghost use Rattle.wkt_lines.specs.Output.{IsAnswer, AllOut, FirstOut, PartOut, IfRead, IfWrite, IfMemory};
+ghost use Rattle.wkt_lines.specs.Output.{IsAllOut, IsFirstOut, IsSomeOut, IsLineOut, IsLinePartOut, IfRead, IfWrite, IfMemory};
 ghost use Rattle.wkt_lines.specs.Splitting.{before_feed, after_feed};
 
 use crate::answer::{AnswerError, write_answer};
@@ -27,7 +26,7 @@ pub enum RunError {
     /// The sink failed, or took nothing (`WriteZero`); a beginning of the output is out.
     #[error("{0}")]
     Write(io::Error),
-    /// No memory is left; the whole answers to some first lines are out, and nothing else.
+    /// Out of memory; the whole answers to some first lines are out, and nothing else.
     #[error("out of memory")]
     Memory(AllocError),
 }
@@ -45,13 +44,13 @@ pub fn run<R: ByteSource, W: ByteSink>(
     reader: &mut R,
     writer: &mut W,
 ) -> Result<(), RunError>
-    ensures ok { OnOk result (IfSome (R.left reader.old) (AllOut read_line print_line (W.device.bytes writer.old) (W.device.bytes writer.new))) }
+    ensures ok { OnOk result (IfSome (R.left reader.old) (IsAllOut read_line print_line W.device writer.old writer.new)) }
     ensures end { OnOk result (IsAtEnd (R.left reader.new)) }
     ensures read { IfRead result (writer.new ≡ writer.old) }
     ensures read_count { IfRead result (R.failures reader.new ≡ next_count (R.failures reader.old)) }
-    ensures write { IfWrite result (IfSome (R.left reader.old) (PartOut read_line print_line (W.device.bytes writer.old) (W.device.bytes writer.new))) }
+    ensures write { IfWrite result (IfSome (R.left reader.old) (IsSomeOut read_line print_line W.device writer.old writer.new)) }
     ensures write_count { IfWrite result (W.device.failures writer.new ≡ next_count (W.device.failures writer.old)) }
-    ensures memory { IfMemory result (IfSome (R.left reader.old) (FirstOut read_line print_line (W.device.bytes writer.old) (W.device.bytes writer.new))) }
+    ensures memory { IfMemory result (IfSome (R.left reader.old) (IsFirstOut read_line print_line W.device writer.old writer.new)) }
 {
     match read_all(alloc, reader) {
         Ok(bytes) => answer_all::<Decimal<18>, W>(alloc, &bytes, writer),
@@ -66,10 +65,10 @@ fn answer_all<T: WktNum, W: ByteSink>(
     input: &[u8],
     writer: &mut W,
 ) -> Result<(), RunError>
-    ensures ok { OnOk result (AllOut T.read T.num (W.device.bytes writer.old) (W.device.bytes writer.new) input.now) }
-    ensures write { IfWrite result (PartOut T.read T.num (W.device.bytes writer.old) (W.device.bytes writer.new) input.now) }
+    ensures ok { OnOk result (IsAllOut T.read T.num W.device writer.old writer.new input.now) }
+    ensures write { IfWrite result (IsSomeOut T.read T.num W.device writer.old writer.new input.now) }
     ensures write_count { IfWrite result (W.device.failures writer.new ≡ next_count (W.device.failures writer.old)) }
-    ensures memory { IfMemory result (FirstOut T.read T.num (W.device.bytes writer.old) (W.device.bytes writer.new) input.now) }
+    ensures memory { IfMemory result (IsFirstOut T.read T.num W.device writer.old writer.new input.now) }
     ensures read { IfRead result ⊥ }
 {
     let mut wrapper = WriterWrapper::new(writer);
@@ -86,10 +85,10 @@ fn answer_lines<T: WktNum, W: ByteSink>(
 ) -> Result<(), RunError>
     requires well { is_well wrapper.old ≡ true }
     requires held { held_bytes wrapper.old ≡ [] }
-    ensures ok { OnOk result (AllOut T.read T.num (W.device.bytes (writer_of wrapper.old)) (W.device.bytes (writer_of wrapper.new)) input.now) }
-    ensures write { IfWrite result (PartOut T.read T.num (W.device.bytes (writer_of wrapper.old)) (W.device.bytes (writer_of wrapper.new)) input.now) }
+    ensures ok { OnOk result (IsAllOut T.read T.num W.device (writer_of wrapper.old) (writer_of wrapper.new) input.now) }
+    ensures write { IfWrite result (IsSomeOut T.read T.num W.device (writer_of wrapper.old) (writer_of wrapper.new) input.now) }
     ensures write_count { IfWrite result (W.device.failures (writer_of wrapper.new) ≡ next_count (W.device.failures (writer_of wrapper.old))) }
-    ensures memory { IfMemory result (FirstOut T.read T.num (W.device.bytes (writer_of wrapper.old)) (W.device.bytes (writer_of wrapper.new)) input.now) }
+    ensures memory { IfMemory result (IsFirstOut T.read T.num W.device (writer_of wrapper.old) (writer_of wrapper.new) input.now) }
     ensures read { IfRead result ⊥ }
     ensures keeps { W.device.keeps (writer_of wrapper.old) (writer_of wrapper.new) }
 {
@@ -159,11 +158,11 @@ fn answer_line<T: WktNum, W: ByteSink>(
 ) -> Result<(), RunError>
     requires well { is_well wrapper.old ≡ true }
     requires held { held_bytes wrapper.old ≡ [] }
-    ensures ok { OnOk result ((answer : List ℕ) × IsAnswer T.read T.num line.now answer × Appends (W.device.bytes (writer_of wrapper.old)) (W.device.bytes (writer_of wrapper.new)) (answer ++ 10 ∷ [])) }
+    ensures ok { OnOk result (IsLineOut T.read T.num W.device (writer_of wrapper.old) (writer_of wrapper.new) line.now) }
     ensures well { OnOk result (is_well wrapper.new ≡ true) }
     ensures held { OnOk result (held_bytes wrapper.new ≡ []) }
     ensures count { OnOk result (W.device.failures (writer_of wrapper.new) ≡ W.device.failures (writer_of wrapper.old)) }
-    ensures write { IfWrite result ((answer : List ℕ) × IsAnswer T.read T.num line.now answer × BeginningOut (W.device.bytes (writer_of wrapper.old)) (W.device.bytes (writer_of wrapper.new)) (answer ++ 10 ∷ [])) }
+    ensures write { IfWrite result (IsLinePartOut T.read T.num W.device (writer_of wrapper.old) (writer_of wrapper.new) line.now) }
     ensures write_count { IfWrite result (W.device.failures (writer_of wrapper.new) ≡ next_count (W.device.failures (writer_of wrapper.old))) }
     ensures memory { IfMemory result (wrapper.new ≡ wrapper.old) }
     ensures read { IfRead result ⊥ }

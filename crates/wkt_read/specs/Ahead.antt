@@ -20,7 +20,7 @@ looked_at (Some l) end later = record { lexeme = l; end = end } ∷ later
 -- what was looked at, if anything was, before the later lexemes
 abbrev pub after_look : Option code.Lexeme → ℕ → List Placed → List Placed
 after_look None end later = later
-after_look (Some raw) end later = looked_at (found raw) end later
+after_look (Some lexeme) end later = looked_at (found lexeme) end later
 
 -- the lexemes that `next` has not given yet
 unfoldable pub left : {T : Type 0} → PeekableTokens T → List Placed

@@ -123,5 +123,5 @@ module _ {N : Type 0} (read : List ℕ → Option N) where
   }
 
   -- a reading that is an error stops early
-  pub refused_early : (n : ℕ) (ls left : List Lexeme) → length ls ≤ n → value_at read n ls ≡ Err left → StopsEarly read ls left
-  refused_early n ls left le reads = stops_early ls left (early n ls left le reads)
+  pub error_early : (n : ℕ) (ls left : List Lexeme) → length ls ≤ n → value_at read n ls ≡ Err left → StopsEarly read ls left
+  error_early n ls left le reads = stops_early ls left (early n ls left le reads)

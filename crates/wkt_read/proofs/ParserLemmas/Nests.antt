@@ -178,10 +178,10 @@ module _ {T : Type 0} (read : List ℕ → Option T) where
   refusal-in view (Text m) now left then h = ap (λ t. t >>= then) h
   refusal-in view (Memory m) now left then h = tt
 
-  pub refused-next : {X : Type 0} (view : X → List (Value T)) (os all : List (Nest T)) (o : Nest T) (e : ParseError) (s s2 : Result (Start T) ParseError) (left left2 : List Lexeme) (whole : Reading (Value T))
+  pub error-next : {X : Type 0} (view : X → List (Value T)) (os all : List (Nest T)) (o : Nest T) (e : ParseError) (s s2 : Result (Start T) ParseError) (left left2 : List Lexeme) (whole : Reading (Value T))
       → Inside all s left whole → s ≡ Err e → all ≡ os ++ o ∷ [] → length left2 ≤ length left
       → ((body : Reading (List (Value T))) → ReadsIn view (Err e) body left → Starts read s2 (shut_at o.dim body) left2) → Inside os s2 left2 whole
-  refused-next view os all o e s s2 left left2 whole (now, starts, nested) is last le exact =
+  error-next view os all o e s s2 left left2 whole (now, starts, nested) is last le exact =
       let (n, m, a, b, h) = nested-pop os o (length left) whole now (subst (λ l. Nested read l (length left) whole now) last nested) in (
         put_in read n m o now,
         exact (now >>= (λ p. with_front (map wkt_value o.members.items ++ (p.0 ∷ [])) (tail_at (value_at read n) m p.1))) (refusal-in view e now left _ (subst (λ r. Starts read r now left) is starts)),
@@ -200,6 +200,6 @@ module _ {T : Type 0} (read : List ℕ → Option T) where
   as-read (Text m) whole now left same h = same ∙ h
   as-read (Memory m) whole now left same h = tt
 
-  pub refused : (os : List (Nest T)) (e : ParseError) (s : Result (Start T) ParseError) (left : List Lexeme) (whole : Reading (Value T)) → Inside os s left whole → s ≡ Err e → os ≡ [] → ReadsIn {X = Wkt T} wkt_value (Err e) whole left
-  refused os e s left whole (now, starts, nested) is none =
+  pub error-now : (os : List (Nest T)) (e : ParseError) (s : Result (Start T) ParseError) (left : List Lexeme) (whole : Reading (Value T)) → Inside os s left whole → s ≡ Err e → os ≡ [] → ReadsIn {X = Wkt T} wkt_value (Err e) whole left
+  error-now os e s left whole (now, starts, nested) is none =
       as-read e whole now left (outside os (length left) whole now none nested) (subst (λ r. Starts read r now left) is starts)

@@ -3,7 +3,7 @@ use Rattle.std.proofs.Common.{◌≤◌, ◌≡◌, ℕ, length, arith, List, []
 use Rattle.wkt_num.specs.Bytes.{Lexeme}
 use Rattle.wkt_read.specs.Placed.{Placed, lexemes_of}
 use Rattle.wkt_read.specs.declared.tokenizer.token.Lexeme as code
-use Rattle.wkt_read.specs.declared.tokenizer.token.Lexeme.TheVariants as raw
+use Rattle.wkt_read.specs.declared.tokenizer.token.Lexeme.TheVariants as lexeme
 use Rattle.wkt_read.specs.Tokenizer.Unread.{found}
 use Rattle.wkt_read.specs.Parser.Blames.{BlamesLexeme}
 use Rattle.wkt_read.specs.declared.messages.Message.{Message}
@@ -48,12 +48,12 @@ lexemes_of-append (x ∷ xs) ys = ap (λ l. x.lexeme ∷ l) (lexemes_of-append x
 
 module _ {T : Type 0} (read : List ℕ → Option T) where
   pub blames-lexeme : (s : PeekableTokens T) (r : code.Lexeme) (t : PeekableTokens T) → Moves s (found r) t → BlamesLexeme read s r
-  blames-lexeme s raw.End t h = tt
-  blames-lexeme s raw.Comma t h = tt
-  blames-lexeme s raw.Close t h = tt
-  blames-lexeme s raw.Open t h = tt
-  blames-lexeme s (raw.Word w) t h = tt
-  blames-lexeme s (raw.Number digits) t h = λ bad start b. record {
+  blames-lexeme s lexeme.End t h = tt
+  blames-lexeme s lexeme.Comma t h = tt
+  blames-lexeme s lexeme.Close t h = tt
+  blames-lexeme s lexeme.Open t h = tt
+  blames-lexeme s (lexeme.Word w) t h = tt
+  blames-lexeme s (lexeme.Number digits) t h = λ bad start b. record {
     before = lexemes_of b.given;
     run = digits.now;
     after = lexemes_of (left t);

@@ -33,7 +33,7 @@ pub struct PeekableTokens<'a, T> {
     end: usize,
     // What `peek` returns a reference to: it alone reads the number ahead of its time.
     pub(crate) peeked: Peeked<'a, T>,
-    ghost near: { (raw : _) (l : Lexeme) → ahead ≡ Some raw → found raw ≡ Some l → (tokens.end ≤ tokens.bytes.taken) × (tokens.bytes.taken ≤ tokens.end + 1) },
+    ghost near: { (lexeme : _) (l : Lexeme) → ahead ≡ Some lexeme → found lexeme ≡ Some l → (tokens.end ≤ tokens.bytes.taken) × (tokens.bytes.taken ≤ tokens.end + 1) },
     ghost level: { ahead ≡ None → end ≡ tokens.end },
 }
 
@@ -86,11 +86,11 @@ impl<'a, T: WktNum> PeekableTokens<'a, T> {
         ensures sees { IsFirst (found result) (rest self.old) }
     {
         match self.ahead {
-            Some(raw) => raw,
+            Some(lexeme) => lexeme,
             None => {
-                let raw = self.tokens.next_lexeme();
-                self.ahead = Some(raw);
-                raw
+                let lexeme = self.tokens.next_lexeme();
+                self.ahead = Some(lexeme);
+                lexeme
             }
         }
     }
@@ -112,15 +112,15 @@ impl<'a, T: WktNum> PeekableTokens<'a, T> {
     {
         match self.ahead {
             Some(Lexeme::End) => Lexeme::End,
-            Some(raw) => {
+            Some(lexeme) => {
                 self.ahead = None;
                 self.end = self.tokens.end();
-                raw
+                lexeme
             }
             None => {
-                let raw = self.tokens.next_lexeme();
+                let lexeme = self.tokens.next_lexeme();
                 self.end = self.tokens.end();
-                raw
+                lexeme
             }
         }
     }

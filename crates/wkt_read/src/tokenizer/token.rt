@@ -50,10 +50,10 @@ fn number_in<'a>(run: &'a str) -> Option<&'a str>
 }
 
 /// The item that stands for a lexeme.
-pub(crate) fn item_of<'a, T: WktNum>(raw: Lexeme<'a>) -> Option<Result<Token<'a, T>, &'static str>>
-    ensures { IsItem T.read (found raw.entry) result }
+pub(crate) fn item_of<'a, T: WktNum>(lexeme: Lexeme<'a>) -> Option<Result<Token<'a, T>, &'static str>>
+    ensures { IsItem T.read (found lexeme.entry) result }
 {
-    Some(Ok(match raw {
+    Some(Ok(match lexeme {
         Lexeme::End => return None,
         Lexeme::Comma => Token::Comma,
         Lexeme::Close => Token::ParenClose,

@@ -5,7 +5,7 @@ use Rattle.wkt_types.specs.declared.geometry.Wkt.{Wkt}
 use Rattle.wkt_read.specs.Bad.{HasBad}
 use Rattle.wkt_read.specs.Parser.Reading.{value_at, HasMembers}
 use Rattle.wkt_read.proofs.ParserLemmas.Readings.{sound}
-use Rattle.wkt_read.proofs.ParserLemmas.Early.{refused_early}
+use Rattle.wkt_read.proofs.ParserLemmas.Early.{error_early}
 use Rattle.wkt_read.proofs.ParserLemmas.Free.{none_begins, no_members}
 use Rattle.wkt_read.proofs.ParserLemmas.Answering.{some-taken, advances, bad-text, text-reads, text-bad, memory-in}
 use Rattle.wkt_read.proofs.api.read.Goals as goal
@@ -27,7 +27,7 @@ returns-in-Err-Text-clause-no_geometry g c =
 pub returns-in-Err-Text-clause-early : goal.returns-in-Err-Text-clause-early
 returns-in-Err-Text-clause-early g c =
     let ls = rest c.args.tokens.now in
-    refused_early g.T.WktNum.read (length ls) ls (rest c.value.new.tokens) (omega arith) (text-reads wkt_value c.in-Err-Text.field-0 c.in-Err-Text.message (value_at g.T.WktNum.read (length ls) ls) (rest c.value.new.tokens) c.in-Err-Text.field-0-is (c.in-Err-Text.ensures.exact (length ls) (omega arith)))
+    error_early g.T.WktNum.read (length ls) ls (rest c.value.new.tokens) (omega arith) (text-reads wkt_value c.in-Err-Text.field-0 c.in-Err-Text.message (value_at g.T.WktNum.read (length ls) ls) (rest c.value.new.tokens) c.in-Err-Text.field-0-is (c.in-Err-Text.ensures.exact (length ls) (omega arith)))
 
 pub returns-in-Err-Text-clause-bad : goal.returns-in-Err-Text-clause-bad
 unfolding rest

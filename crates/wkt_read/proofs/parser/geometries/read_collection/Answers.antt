@@ -15,7 +15,7 @@ use Rattle.wkt_read.specs.Parser.Reads.{wkt_value, UniformWkt}
 use Rattle.wkt_read.specs.Parser.Reading.{value_at, body_at, IsOpened}
 use Rattle.wkt_read.specs.Parser.Nests.{Wants, IfWhole, Nested, weight}
 use Rattle.wkt_read.proofs.ParserLemmas.Many.{all-push, goes-then}
-use Rattle.wkt_read.proofs.ParserLemmas.Nests.{IfAny, weight-most, any, any-last, all-pop, wants, bad-as, opened-next, comma-next, shut-next, refused-next, done, refused}
+use Rattle.wkt_read.proofs.ParserLemmas.Nests.{IfAny, weight-most, any, any-last, all-pop, wants, bad-as, opened-next, comma-next, shut-next, error-next, done, error-now}
 use Rattle.wkt_read.proofs.parser.geometries.read_collection.Goals as goal
 
 pub levels-init : goal.levels-init
@@ -34,7 +34,7 @@ pub returns-in-None-clause-exact : goal.returns-in-None-clause-exact
 returns-in-None-clause-exact g c = λ fuel h. done g.T.WktNum.read _ _ _ _ _ _ (c.levels.invariant.exact fuel h) c.in-Ok-Whole.is c.in-Ok-Whole.field-0-is (nil_from_length c.levels.open.items (omega (arith, c.levels.open.ok.0, c.in-None.ensures.cases.0)))
 
 pub returns-in-None-pop-clause-exact : goal.returns-in-None-pop-clause-exact
-returns-in-None-pop-clause-exact g c = λ fuel h. refused g.T.WktNum.read _ _ _ _ _ (c.levels.invariant.exact fuel h) c.in-Err.is (nil_from_length c.levels.open.items (omega (arith, c.levels.open.ok.0, c.in-None-pop.ensures.cases.0)))
+returns-in-None-pop-clause-exact g c = λ fuel h. error-now g.T.WktNum.read _ _ _ _ _ (c.levels.invariant.exact fuel h) c.in-Err.is (nil_from_length c.levels.open.items (omega (arith, c.levels.open.ok.0, c.in-None-pop.ensures.cases.0)))
 
 pub levels-preserved-in_ok-push-in-Ok-Opened : goal.levels-preserved-in_ok-push-in-Ok-Opened
 levels-preserved-in_ok-push-in-Ok-Opened g c =
@@ -108,5 +108,5 @@ levels-preserved g c =
       memory = wants _ _ was;
       near = c.shut-in-Some-pop.ensures.near;
       bad = λ start b. c.shut-in-Some-pop.ensures.bad start (c.levels.invariant.goes_on.keeps start b) (bad-as (Start g.row.T.Denot) (Vec (Wkt g.row.T.Denot) Global) c.in-Err.error (HasBad g.T.WktNum.read (lexemes_of start)) (subst (λ s. OnBadIn s (HasBad g.T.WktNum.read (lexemes_of start))) c.in-Err.is (c.levels.invariant.bad start b)));
-      exact = λ fuel h. refused-next g.T.WktNum.read (λ (v : Vec (Wkt g.row.T.Denot) Global). map wkt_value v.items) _ _ c.in-Some-pop.nest _ _ _ _ _ _ (c.levels.invariant.exact fuel h) c.in-Err.is c.in-Some-pop.ensures.items c.shut-in-Some-pop.ensures.goes_on.fewer c.shut-in-Some-pop.ensures.exact;
+      exact = λ fuel h. error-next g.T.WktNum.read (λ (v : Vec (Wkt g.row.T.Denot) Global). map wkt_value v.items) _ _ c.in-Some-pop.nest _ _ _ _ _ _ (c.levels.invariant.exact fuel h) c.in-Err.is c.in-Some-pop.ensures.items c.shut-in-Some-pop.ensures.goes_on.fewer c.shut-in-Some-pop.ensures.exact;
     }
