@@ -5,6 +5,7 @@ pub mod Stable
 pub mod OldForms
 pub mod Spelled
 pub mod Spelling
+pub mod KindWords
 pub mod Fits
 pub mod GoesOn
 pub mod Begun

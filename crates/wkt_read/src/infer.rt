@@ -38,7 +38,8 @@ impl From<AllocError> for InferError {
 }
 
 // Whether the text begins with the word, which is in capitals, whatever the text's case.
-fn begins(word: &[u8], text: &[u8]) -> bool
+#[inline(always)]
+pub(crate) fn begins(word: &[u8], text: &[u8]) -> bool
     ensures { result ≡ begins word.now (str_to_ascii_uppercase text.now) }
 {
     let mut i = 0;
@@ -97,6 +98,7 @@ fn has_space(text: &[u8]) -> bool
 }
 
 // What follows the word, which is in capitals, at the start of the text, whatever the text's case.
+#[inline(always)]
 fn strip<'a>(word: &[u8], text: &'a [u8]) -> Option<&'a [u8]>
     ensures { Strips result word.now (str_to_ascii_uppercase text.now) }
 {
@@ -109,7 +111,7 @@ fn strip<'a>(word: &[u8], text: &'a [u8]) -> Option<&'a [u8]>
 
 // The kind that the header begins with, and what follows its word.
 #[tactic(auto, unfolding(crate::specs::Grammar::kind_words))]
-fn kind(header: &[u8]) -> Option<(GeometryType, &[u8])>
+pub(crate) fn kind(header: &[u8]) -> Option<(GeometryType, &[u8])>
     ensures named { BeginsKind result (str_to_ascii_uppercase header.now) }
 {
     if let Some(rest) = strip(b"POINT", header) {

@@ -10,6 +10,7 @@ ghost use Rattle.wkt_read.specs.Parser.Reading.{Reads, number_at, coord_at, open
 ghost use Rattle.wkt_read.specs.Parser.Reads.{Closes, Blames, BlamesAs};
 ghost use Rattle.wkt_read.specs.Parser.Errors.{OnBadIn};
 ghost use Rattle.wkt_read.specs.Bad.{HasBad};
+ghost use Rattle.wkt_access.specs.declared.dimensions.Dimension.TheVariants.{XY};
 ghost use Rattle.wkt_read.specs.declared.messages.Message.TheVariants.{BadNumber};
 
 use crate::keywords::is_empty;
@@ -38,8 +39,47 @@ fn number<T: WktNum>(tokens: &mut PeekableTokens<'_, T>, expected: Message) -> R
     }
 }
 
-#[tactic(auto, unfolding(crate::specs::Parser::Reading::coord_at))]
+#[tactic(auto)]
 pub(crate) fn coord<T: WktNum>(
+    tokens: &mut PeekableTokens<'_, T>,
+    dim: Dimension,
+) -> Result<Coord<T>, Message>
+    ensures exact { Reads numbers_of result (coord_at T.read dim (rest tokens.old)) (rest tokens.new) }
+    ensures uniform { IfOk result (HasDim dim) }
+    ensures bad { Blames T.read tokens.old result }
+    ensures goes_on { GoesOn tokens.old tokens.new }
+    ensures taken { OnOk result (length (rest tokens.new) < length (rest tokens.old)) }
+{
+    match dim {
+        Dimension::XY => coord_of_two(tokens),
+        _ => coord_of_any(tokens, dim),
+    }
+}
+
+/// A coordinate of x and y alone, as most are: its reader has nothing of z and m to carry.
+#[inline(always)]
+#[tactic(auto, unfolding(crate::specs::Parser::Reading::coord_at))]
+fn coord_of_two<T: WktNum>(tokens: &mut PeekableTokens<'_, T>) -> Result<Coord<T>, Message>
+    ensures exact { Reads numbers_of result (coord_at T.read XY (rest tokens.old)) (rest tokens.new) }
+    ensures uniform { IfOk result (HasDim XY) }
+    ensures bad { Blames T.read tokens.old result }
+    ensures goes_on { GoesOn tokens.old tokens.new }
+    ensures taken { OnOk result (length (rest tokens.new) < length (rest tokens.old)) }
+{
+    let x = number(tokens, Message::X)?;
+    let y = number(tokens, Message::Y)?;
+    Ok(Coord {
+        x,
+        y,
+        z: None,
+        m: None,
+    })
+}
+
+/// A coordinate of any dimension.
+#[inline(never)]
+#[tactic(auto, unfolding(crate::specs::Parser::Reading::coord_at))]
+fn coord_of_any<T: WktNum>(
     tokens: &mut PeekableTokens<'_, T>,
     dim: Dimension,
 ) -> Result<Coord<T>, Message>
