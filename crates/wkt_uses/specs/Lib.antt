@@ -1,0 +1,3 @@
+pub mod Tidy
+pub mod Compared
+pub mod Ordered

@@ -1,0 +1,50 @@
+//! A key for a table: the one text of a geometry, which reads back as the geometry.
+ghost use Rattle.std.specs.Prelude.{◌≡◌, IfOk, OnOk, Some, None, string_bytes, string_len};
+ghost use Rattle.wkt_access.specs.Shapes.{canon};
+ghost use Rattle.wkt_access.specs.Faults.{fault};
+ghost use Rattle.wkt_access.specs.Texts.{shape_text};
+ghost use Rattle.wkt_access.specs.Writes.{IfFault};
+ghost use Rattle.wkt_read.specs.Front.{Front};
+
+use std::alloc::Global;
+use wkt::error::Error;
+use wkt::geo_traits::GeometryTrait;
+use wkt::laws::reads_back;
+use wkt::to_wkt::{CountedText, write_geometry};
+
+/// The key of a geometry in any representation: its text. Two geometries over one number type have
+/// one key exactly if their canonical values are equal (`wkt::laws::one_text`).
+///
+/// # Errors
+/// The first fault of the geometry, in the order of its text; `FmtError` where no memory is left.
+pub fn key<G: GeometryTrait>(alloc: Global, geometry: &G) -> Result<String, Error>
+    ensures text { IfOk result (λ s. string_bytes s ≡ shape_text G.T.num (G.shape geometry.now)) }
+    ensures reads_back { IfOk result (λ s. Front G.T.read (string_bytes s) (canon (G.shape geometry.now)) (string_len s)) }
+    ensures fault { IfFault result (λ e. fault (G.shape geometry.now) ≡ Some e) }
+{
+    let mut key = String::new(alloc);
+    let mut sink = CountedText::new(&mut key);
+    write_geometry(&mut sink, geometry)?;
+    sink.into_writer();
+    // No effect at run time. The proof reads that a text reads back.
+    reads_back::<G::T>();
+    Ok(key)
+}
+
+#[cfg(test)]
+mod tests {
+    use super::*;
+    use std::test::Fail;
+    use wkt::geo_types::{Coord, Point};
+    use wkt::{Decimal, FromWktStr, Wkt};
+
+    #[test]
+    fn keys(rt: HostRuntime) -> Result<(), Fail> {
+        let alloc = rt.alloc();
+        let read = Wkt::<Decimal<6>>::from_str(alloc, "point( 1.50 -0 )")?;
+        assert_eq!(rt; key(alloc, &read)?.as_str(), "POINT(1.5 0)");
+        let flat = Point(Coord { x: 3u8, y: 4u8 });
+        assert_eq!(rt; key(alloc, &flat)?.as_str(), "POINT(3 4)");
+        Ok(())
+    }
+}
