@@ -1,3 +1,5 @@
 pub mod Tidy
 pub mod Compared
 pub mod Ordered
+pub mod Mine
+pub mod Halves

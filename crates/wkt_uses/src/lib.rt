@@ -5,5 +5,12 @@
 
 pub mod every_geometry;
 pub mod key;
+pub mod my_areas;
+pub mod my_lines;
+pub mod my_map;
+pub mod my_number;
+pub mod my_points;
+#[cfg(test)]
+mod my_tests;
 pub mod read_and_write;
 pub mod same_place;
