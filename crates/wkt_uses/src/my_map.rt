@@ -91,6 +91,7 @@ impl GeometryTrait for Figure {
     }
 }
 
+#[tactic(auto, using(crate::proofs::Gathered::gathered_count, crate::proofs::Gathered::gathered_member))]
 impl GeometryCollectionTrait for Map {
     type T = i32;
 
