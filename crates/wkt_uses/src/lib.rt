@@ -3,9 +3,13 @@
 //! `docs/CALLING.md` has the calls that they make, with the clause that each of them rests on.
 #![tactic(auto)]
 
+pub mod any_collection;
 pub mod every_geometry;
+pub mod flat_from_reader;
+pub mod from_json;
 pub mod key;
 pub mod my_areas;
+pub mod my_devices;
 pub mod my_lines;
 pub mod my_map;
 pub mod my_number;
