@@ -27,7 +27,9 @@ pub fn write_members<W: TextSink, C: GeometryCollectionTrait>(
 {
     for i in 0..collection.num_geometries() {
         write_geometry(f, collection.geometry(i))?;
-        f.write_str("\n").map_err(Error::FmtError)?;
+        if let Err(error) = f.write_str("\n") {
+            return Err(Error::FmtError(error));
+        }
     }
     Ok(())
 }
