@@ -1,6 +1,6 @@
 //! All geometries of a text one after the other, by `read_front`, and those of a stream of lexemes,
 //! by `read_tokens`.
-ghost use Rattle.std.specs.Prelude.{[], IfOk, map};
+ghost use Rattle.std.specs.Prelude.{◌≡◌, [], ◌∷◌, ◌++◌, IfOk, OnOk, map};
 ghost use Rattle.wkt_read.specs.Ahead.{rest};
 ghost use Rattle.wkt_read.specs.Front.{HasNoFront};
 ghost use Rattle.wkt_types.specs.Tree.{tree};
@@ -9,6 +9,16 @@ ghost use Rattle.wkt_uses.specs.Ordered.{BeginsWith, StreamBeginsWith};
 use std::alloc::{AllocError, Global};
 use wkt::tokenizer::PeekableTokens;
 use wkt::{FromWktStr, ReadError, Wkt, WktNum};
+
+// One geometry more.
+fn keep<T>(all: &mut Vec<Wkt<T>>, geometry: Wkt<T>) -> Result<(), AllocError>
+where
+    T: Drop,
+    ensures { OnOk result (map tree all.new.items ≡ map tree all.old.items ++ tree geometry ∷ []) }
+{
+    all.push(geometry)?;
+    Ok(())
+}
 
 /// The geometries that the text begins with, and the rest, which has none at its front.
 ///
@@ -26,7 +36,7 @@ pub fn every_geometry<'a, T: WktNum>(
     'texts: loop {
         match Wkt::<T>::read_front(alloc, rest) {
             Ok((geometry, end)) => {
-                all.push(geometry)?;
+                keep(&mut all, geometry)?;
                 rest = &rest[end..];
             }
             Err(ReadError::Text(_)) => return Ok((all, rest)),
@@ -48,7 +58,7 @@ pub fn every_geometry_of_stream<T: WktNum>(
     let mut all = Vec::new(alloc);
     'tokens: while tokens.peek().is_some() {
         let geometry = Wkt::<T>::read_tokens(alloc, tokens)?;
-        all.push(geometry).map_err(AllocError::from)?;
+        keep(&mut all, geometry)?;
     }
     Ok(all)
 }

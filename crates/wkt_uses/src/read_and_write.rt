@@ -1,7 +1,9 @@
 //! A text is read, and the geometry, changed or not, is written. An error is told apart.
-ghost use Rattle.std.specs.Prelude.{IfOk, MatchOption, string_bytes};
+ghost use Rattle.std.specs.Prelude.{◌≡◌, [], ◌∷◌, IfOk, MatchOption, string_bytes};
 ghost use Rattle.wkt_read.specs.Answered.{OnText};
 ghost use Rattle.wkt_read.specs.Front.{HasNoFront};
+ghost use Rattle.wkt_access.specs.declared.dimensions.Dimension.TheVariants.{XY};
+ghost use Rattle.wkt_types.specs.Tree.{tree, members, collection};
 ghost use Rattle.wkt_uses.specs.Tidy.{IsTidy, IsTidyPair};
 
 use std::alloc::{AllocError, Global};
@@ -23,6 +25,16 @@ pub fn tidy<T: WktNum>(alloc: Global, text: &str) -> Result<String, ReadError>
     Ok(geometry.to_string(alloc)?)
 }
 
+// The collection of two geometries.
+fn pair_of<T: WktNum>(alloc: Global, one: Wkt<T>, other: Wkt<T>) -> Result<Wkt<T>, AllocError>
+    ensures { IfOk result (λ w. tree w ≡ collection (members (one ∷ other ∷ [])) XY) }
+{
+    let mut geometries = Vec::new(alloc);
+    geometries.push(one)?;
+    geometries.push(other)?;
+    Ok(Wkt::from(GeometryCollection::new(geometries, Dimension::XY)))
+}
+
 /// The one text of the collection of two geometries, each at the front of a text.
 ///
 /// # Errors
@@ -32,10 +44,9 @@ pub fn tidy_pair<T: WktNum>(alloc: Global, one: &str, other: &str) -> Result<Str
 {
     let one = Wkt::<T>::from_str(alloc, one)?;
     let other = Wkt::<T>::from_str(alloc, other)?;
-    let members = vec![in alloc; one, other].map_err(AllocError::from)?;
-    let pair = GeometryCollection::new(members, Dimension::XY);
+    let pair = pair_of(alloc, one, other)?;
     read_values_are_writable::<T>();
-    Ok(Wkt::from(pair).to_string(alloc)?)
+    Ok(pair.to_string(alloc)?)
 }
 
 /// The same as `tidy`, where a text without a geometry is no error: its answer is `None`.
