@@ -37,23 +37,30 @@ pub fn write_members<W: TextSink, C: GeometryCollectionTrait>(
 #[cfg(test)]
 mod tests {
     use super::*;
+    use crate::my_map::{Figure, Map};
     use std::test::Fail;
+    use wkt::geo_traits::Dimensions;
     use wkt::to_wkt::CountedText;
-    use wkt::{FromWktStr, Wkt};
 
     #[test]
     fn writes_members(rt: HostRuntime) -> Result<(), Fail> {
         let alloc = rt.alloc();
-        let text = "GEOMETRYCOLLECTION (POINT Z (1 2 3), LINESTRING EMPTY)";
-        let Wkt::GeometryCollection(collection) = Wkt::<i32>::from_str(alloc, text)? else {
-            return Err("a collection")?;
+        let mut figures = Vec::new(alloc);
+        figures.push(Figure::Group(Dimensions::Xyz, Vec::new(alloc)))?;
+        figures.push(Figure::Group(Dimensions::Xy, Vec::new(alloc)))?;
+        let map = Map {
+            header: Dimensions::Xy,
+            figures,
         };
-        assert_eq!(rt; count_members(&collection), 2);
+        assert_eq!(rt; count_members(&map), 2);
         let mut out = String::new(alloc);
         let mut sink = CountedText::new(&mut out);
-        write_members(&mut sink, &collection)?;
+        write_members(&mut sink, &map)?;
         sink.into_writer();
-        assert_eq!(rt; out.as_str(), "POINT Z(1 2 3)\nLINESTRING EMPTY\n");
+        assert_eq!(rt;
+            out.as_str(),
+            "GEOMETRYCOLLECTION Z EMPTY\nGEOMETRYCOLLECTION EMPTY\n"
+        );
         Ok(())
     }
 }

@@ -28,24 +28,21 @@ pub fn geometry_in<T: WktNum>(
 mod tests {
     use super::*;
     use std::test::Fail;
-    use wkt::Decimal;
 
     #[test]
     fn reads_fields(rt: HostRuntime) -> Result<(), Fail> {
         let alloc = rt.alloc();
-        let json = "{\"at\":\"POINT (42 3.14)\",\"id\":7,\"name\":\"x\"}";
+        let json = "{\"at\":\"POINT (4 2)\",\"id\":7,\"name\":\"x\"}";
         let document = Value::from_str(alloc, json)?;
-        match geometry_in::<Decimal<6>>(alloc, &document, "at") {
-            Some(Ok(geometry)) => {
-                assert_eq!(rt; geometry.to_string(alloc)?.as_str(), "POINT(42 3.14)");
-            }
-            _ => assert!(rt; false),
+        for (name, want) in [("at", "POINT(4 2)"), ("id", "?"), ("name", "!"), ("to", "")] {
+            let text = match geometry_in::<i32>(alloc, &document, name) {
+                Some(Ok(geometry)) => geometry.to_string(alloc)?,
+                Some(Err(ValueError::NotAString)) => String::from_str(alloc, "?")?,
+                Some(Err(ValueError::Fault(_))) => String::from_str(alloc, "!")?,
+                None => String::new(alloc),
+            };
+            assert_eq!(rt; text.as_str(), want);
         }
-        let id = geometry_in::<i32>(alloc, &document, "id");
-        assert!(rt; matches!(id, Some(Err(ValueError::NotAString))));
-        let name = geometry_in::<i32>(alloc, &document, "name");
-        assert!(rt; matches!(name, Some(Err(ValueError::Fault(ReadError::Text(_))))));
-        assert!(rt; geometry_in::<i32>(alloc, &document, "where").is_none());
         Ok(())
     }
 }

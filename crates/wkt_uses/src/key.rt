@@ -60,16 +60,15 @@ pub fn key<G: GeometryTrait>(alloc: Global, geometry: &G) -> Result<String, Erro
 mod tests {
     use super::*;
     use std::test::Fail;
-    use wkt::geo_types::{Coord, Point};
-    use wkt::{Decimal, FromWktStr, Wkt};
+    use wkt::geo_types::{Coord, Line};
 
     #[test]
     fn keys(rt: HostRuntime) -> Result<(), Fail> {
-        let alloc = rt.alloc();
-        let read = Wkt::<Decimal<6>>::from_str(alloc, "point( 1.50 -0 )")?;
-        assert_eq!(rt; key(alloc, &read)?.as_str(), "POINT(1.5 0)");
-        let flat = Point(Coord { x: 3u8, y: 4u8 });
-        assert_eq!(rt; key(alloc, &flat)?.as_str(), "POINT(3 4)");
+        let line = Line {
+            start: Coord { x: 3u8, y: 4 },
+            end: Coord { x: 5, y: 6 },
+        };
+        assert_eq!(rt; key(rt.alloc(), &line)?.as_str(), "LINESTRING(3 4,5 6)");
         Ok(())
     }
 }

@@ -74,13 +74,13 @@ mod tests {
         let alloc = rt.alloc();
         let text = tidy::<Decimal<6>>(alloc, "linestring z (1 2 3, 4 5.50 6)")?;
         assert_eq!(rt; text.as_str(), "LINESTRING Z(1 2 3,4 5.5 6)");
-        let pair = tidy_pair::<i32>(alloc, "POINT (1 2)", "LINESTRING EMPTY")?;
+        let pair = tidy_pair::<Decimal<6>>(alloc, "POINT (1 2)", "LINESTRING EMPTY")?;
         assert_eq!(rt;
             pair.as_str(),
             "GEOMETRYCOLLECTION(POINT(1 2),LINESTRING EMPTY)"
         );
-        assert!(rt; tidy_if_any::<i32>(alloc, "POINT (1)")?.is_none());
-        match tidy::<i32>(alloc, "CIRCLE (1 2)") {
+        assert!(rt; tidy_if_any::<Decimal<6>>(alloc, "POINT (1)")?.is_none());
+        match tidy::<Decimal<6>>(alloc, "CIRCLE (1 2)") {
             Err(ReadError::Text(message)) => assert_eq!(rt; message, "Invalid type encountered"),
             _ => assert!(rt; false),
         }
