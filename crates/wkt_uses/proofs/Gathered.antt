@@ -1,5 +1,5 @@
 -- The members of a collection that is gathered from a list.
-use Rattle.std.proofs.Common.{◌≡◌, ℕ, ◌<◌, List, length, map, Option, Some, ap, sym, ◌∙◌, option_map, slice_get, get_or}
+use Rattle.std.proofs.Common.{◌≡◌, ℕ, ◌<◌, List, length, map, Some, ap, sym, ◌∙◌, option_map, slice_get, get_or}
 use Rattle.std.proofs.lemmas.List.{length-map}
 use Rattle.std.proofs.lemmas.Option.{slice_get-map, slice_get-get_or}
 use Rattle.wkt_access.specs.declared.dimensions.Dimensions.{Dimensions}

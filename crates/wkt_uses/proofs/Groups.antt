@@ -1,5 +1,5 @@
 -- The shape of a figure that is a group.
-use Rattle.std.proofs.Common.{◌≡◌, ℤ, map, ap, sym, ◌∙◌}
+use Rattle.std.proofs.Common.{◌≡◌, ℤ, ap, sym, ◌∙◌}
 use Rattle.std.specs.declared.vec.Vec.{Vec}
 use Rattle.std.specs.declared.alloc.Global.{Global}
 use Rattle.wkt_access.specs.declared.dimensions.Dimensions.{Dimensions}

@@ -18,12 +18,12 @@ pub fn same_place<T: WktNum>(alloc: Global, one: &str, other: &str) -> Result<bo
     ensures same { IfOk result (Compares T.read one.now other.now) }
     ensures no_front { OnText result (HasNoFront T.read one.now ⊎ HasNoFront T.read other.now) }
 {
-    let one = tidy::<T>(alloc, one)?;
-    let other = tidy::<T>(alloc, other)?;
+    let first = tidy::<T>(alloc, one)?;
+    let second = tidy::<T>(alloc, other)?;
     // No effect at run time. The proof reads that one text is one value.
     front_is_writable::<T>();
     one_text::<T>();
-    Ok(one == other)
+    Ok(first == second)
 }
 
 #[cfg(test)]

@@ -1,8 +1,6 @@
-use Rattle.std.proofs.Common.{refl, subst, take}
+use Rattle.std.proofs.Common.{refl}
 use Rattle.std.proofs.lemmas.List.{take_all}
 use Rattle.wkt_access.specs.Parts.{each}
-use Rattle.wkt_num.specs.Sink.{Adds}
-use Rattle.wkt_uses.specs.Lined.{lined}
 use Rattle.wkt_uses.proofs.Lining.{line_added}
 use Rattle.wkt_uses.proofs.any_collection.write_members.Goals as goal
 

@@ -4,8 +4,8 @@ use Rattle.wkt_uses.proofs.same_place.same_place.Goals as goal
 
 pub returns-clause-same : goal.returns-clause-same
 returns-clause-same g c =
-    let a = c.in_ok-one.ensures.text in
-    let b = c.in_ok-other.ensures.text in
+    let a = c.in_ok-first.ensures.text in
+    let b = c.in_ok-second.ensures.text in
     let first = c.front_is_writable.ensures _ a.value a.end a.front in
     let second = c.front_is_writable.ensures _ b.value b.end b.front in
     record {
@@ -15,5 +15,5 @@ returns-clause-same g c =
       front = a.front;
       other_end = b.end;
       other_front = b.front;
-      answer = same_text c.in_ok-one.one c.in_ok-other.other _ _ _ c.eq.ensures a.is b.is (c.one_text.ensures (shape_of a.value) (shape_of b.value) first.1 second.1 first.2 second.2);
+      answer = same_text c.in_ok-first.first c.in_ok-second.second _ _ _ c.eq.ensures a.is b.is (c.one_text.ensures (shape_of a.value) (shape_of b.value) first.1 second.1 first.2 second.2);
     }
