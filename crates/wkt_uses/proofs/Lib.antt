@@ -1,0 +1,5 @@
+pub mod Gathered
+pub mod Groups
+pub mod Lining
+pub mod Shows
+pub mod Ordering

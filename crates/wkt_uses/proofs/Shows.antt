@@ -1,0 +1,35 @@
+-- What is displayed of a shape that can be written, and texts that are compared.
+use Rattle.std.proofs.Common.{◌≡◌, ℕ, List, [], ◌++◌, length, Option, None, IfSome, Bool, IsTrue, ◌↔◌, String, string_bytes, ap, sym, ◌∙◌, subst}
+use Rattle.std.specs.String.{string_eq}
+use Rattle.std.proofs.lemmas.Slice.Eq.{bytes_eq-Decides}
+use Rattle.wkt_access.specs.declared.dimensions.Dimension.TheVariants.{XY}
+use Rattle.wkt_access.specs.Values.{Value}
+use Rattle.wkt_access.specs.Shapes.{Shape}
+use Rattle.wkt_access.specs.Texts.{shape_text}
+use Rattle.wkt_access.specs.Faults.{fault}
+use Rattle.wkt_types.specs.Shown.{shown}
+use Rattle.wkt_types.specs.Tree.{Tree, collection, more_trees, no_trees}
+use Rattle.wkt_types.specs.Values.{tree_shape}
+use Rattle.wkt_read.specs.Front.{Front}
+use Rattle.wkt_uses.specs.Tidy.{pair}
+
+module _ {N : Type 0} (num : N → List ℕ) where
+  pub shown_is : (s : Shape N) (bs : List ℕ) → fault s ≡ None → IfSome (shown num s) (λ t. bs ≡ t) → bs ≡ shape_text num s
+  shown_is s bs e h = rw e at h
+
+  -- the same of a collection of two
+  pub pair_shown : (t r u : Tree N) (bs : List ℕ) → u ≡ collection (more_trees t (more_trees r no_trees)) XY → fault (tree_shape t) ≡ None → fault (tree_shape r) ≡ None
+      → IfSome (shown num (tree_shape u)) (λ x. bs ≡ x) → bs ≡ shape_text num (pair (tree_shape t) (tree_shape r))
+  pair_shown t r u bs e f h k = shown_is (pair (tree_shape t) (tree_shape r)) bs (simp (f, h)) (rw e at k)
+
+-- what was added to an empty text is read as what the addition is read as
+pub front_of_text : {N : Type 0} (read : List ℕ → Option N) (old new text : List ℕ) (v : Value N) → old ≡ [] → new ≡ old ++ text → Front read text v (length text) → Front read new v (length new)
+front_of_text read old new text v e h f =
+    let same : new ≡ text = h ∙ ap (λ (l : List ℕ). l ++ text) e in
+    subst (λ (bs : List ℕ). Front read bs v (length bs)) (sym same) f
+
+-- two strings are equal exactly if their texts are
+pub same_text : {A P : Type 0} (s t : String A) (b : Bool) (p q : List ℕ) → b ≡ string_eq s t → string_bytes s ≡ p → string_bytes t ≡ q → (p ≡ q) ↔ P → IsTrue b ↔ P
+same_text s t b p q e h k law =
+    let same = bytes_eq-Decides (string_bytes s) (string_bytes t) in
+    (λ x. law.0 (sym h ∙ same.0 (sym e ∙ x) ∙ k), λ x. e ∙ same.1 (h ∙ law.1 x ∙ sym k))

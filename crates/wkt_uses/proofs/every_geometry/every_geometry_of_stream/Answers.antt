@@ -1,0 +1,17 @@
+use Rattle.std.proofs.Common.{sym, ◌∙◌}
+use Rattle.wkt_uses.proofs.Ordering.{stream_more, peeked_rest, none_left}
+use Rattle.wkt_uses.proofs.every_geometry.every_geometry_of_stream.Goals as goal
+
+pub tokens-smaller : goal.tokens-smaller
+tokens-smaller g c = let same = peeked_rest _ _ c.peek.follows.holds-at-none.0 in rw same at c.in_ok-geometry.ensures.taken
+
+pub tokens-preserved : goal.tokens-preserved
+tokens-preserved g c =
+    let same = peeked_rest _ _ c.peek.follows.holds-at-none.0 in
+    let found = rw same at c.in_ok-geometry.ensures.found in
+    rw c.in_ok-keep.ensures (stream_more g.T.WktNum.read _ _ _ _ _ c.tokens.invariant found)
+
+pub returns : goal.returns
+returns g c =
+    let none = none_left g.T.WktNum.read _ _ _ c.peek.follows.holds-at-none (sym c.is_some.ensures ∙ c.tokens-test.false) in
+    rw none at c.tokens.invariant

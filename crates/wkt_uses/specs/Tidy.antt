@@ -1,0 +1,29 @@
+-- The one text of what another text begins with.
+use Rattle.std.specs.Prelude.{◌≡◌, ℕ, List, Option}
+use Rattle.wkt_access.specs.Values.{Value}
+use Rattle.wkt_access.specs.Shapes.{Shape, Shapes, shape_of}
+use Rattle.wkt_access.specs.Texts.{shape_text}
+use Rattle.wkt_access.specs.declared.dimensions.Dimensions.TheVariants.{Xy}
+use Rattle.wkt_read.specs.Front.{Front}
+
+-- The collection of two shapes.
+abbrev pub pair : {N : Type 0} → Shape N → Shape N → Shape N
+pair r s = Shape.collection Xy (Shapes.more_shapes r (Shapes.more_shapes s Shapes.no_shapes))
+
+module _ {N : Type 0} (read : List ℕ → Option N) (num : N → List ℕ) where
+  -- The text has a geometry at its front, and the other is the geometry's text.
+  pub record IsTidy (text tidy : List ℕ) : Type 0 where
+    pub value : Value N
+    pub end : ℕ
+    pub front : Front read text value end
+    pub is : tidy ≡ shape_text num (shape_of value)
+
+  -- Two texts have each a geometry at its front, and the third is the text of the collection of both.
+  pub record IsTidyPair (one other tidy : List ℕ) : Type 0 where
+    pub first : Value N
+    pub second : Value N
+    pub end : ℕ
+    pub front : Front read one first end
+    pub other_end : ℕ
+    pub other_front : Front read other second other_end
+    pub is : tidy ≡ shape_text num (pair (shape_of first) (shape_of second))

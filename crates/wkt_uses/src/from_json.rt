@@ -1,0 +1,48 @@
+//! A field of a JSON document, read as a geometry.
+ghost use Rattle.serde_json.specs.Find.{get};
+ghost use Rattle.serde_json.specs.View.{view};
+ghost use Rattle.wkt_uses.specs.Fields.{IsField};
+
+use serde_json::Value;
+use std::alloc::Global;
+use wkt::deserialize::{ValueError, wkt_from_value};
+use wkt::{ReadError, Wkt, WktNum};
+
+/// The geometry in a field of a document, or `None` where the document has no such field.
+///
+/// # Errors
+/// `NotAString` where the field holds no string; `Fault` where its string has no geometry at its
+/// front, or no memory is left.
+pub fn geometry_in<T: WktNum>(
+    alloc: Global,
+    document: &Value,
+    name: &str,
+) -> Option<Result<Wkt<T>, ValueError<ReadError>>>
+    ensures { IsField T.read (get name.now (view document.now)) result }
+{
+    let field = document.get(name)?;
+    Some(wkt_from_value(alloc, field))
+}
+
+#[cfg(test)]
+mod tests {
+    use super::*;
+    use std::test::Fail;
+
+    #[test]
+    fn reads_fields(rt: HostRuntime) -> Result<(), Fail> {
+        let alloc = rt.alloc();
+        let json = "{\"at\":\"POINT (4 2)\",\"id\":7,\"name\":\"x\"}";
+        let document = Value::from_str(alloc, json)?;
+        for (name, want) in [("at", "POINT(4 2)"), ("id", "?"), ("name", "!"), ("to", "")] {
+            let text = match geometry_in::<i32>(alloc, &document, name) {
+                Some(Ok(geometry)) => geometry.to_string(alloc)?,
+                Some(Err(ValueError::NotAString)) => String::from_str(alloc, "?")?,
+                Some(Err(ValueError::Fault(_))) => String::from_str(alloc, "!")?,
+                None => String::new(alloc),
+            };
+            assert_eq!(rt; text.as_str(), want);
+        }
+        Ok(())
+    }
+}

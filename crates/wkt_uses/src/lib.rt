@@ -1,0 +1,20 @@
+//! Callers of `wkt`, proved and tested: each in a file of its own, written to be copied from.
+//!
+//! `docs/CALLING.md` has the calls that they make, with the clause that each of them rests on.
+#![tactic(auto)]
+
+pub mod any_collection;
+pub mod every_geometry;
+pub mod flat_from_reader;
+pub mod from_json;
+pub mod key;
+pub mod my_areas;
+pub mod my_devices;
+pub mod my_lines;
+pub mod my_map;
+pub mod my_number;
+pub mod my_points;
+#[cfg(test)]
+mod my_tests;
+pub mod read_and_write;
+pub mod same_place;

@@ -1,0 +1,191 @@
+//! The representation of one's own, written by all eleven writers.
+use crate::my_areas::{Area, Areas, Corners};
+use crate::my_lines::{Segment, Track, Tracks};
+use crate::my_map::{Figure, Map};
+use crate::my_points::{Dot, Dots, Spot};
+use std::alloc::{AllocError, Global};
+use std::test::Fail;
+use wkt::error::Error;
+use wkt::geo_traits::Dimensions;
+use wkt::to_wkt::{
+    CountedText, push_geometry, write_geometry_collection, write_line, write_linestring,
+    write_multi_linestring, write_multi_point, write_multi_polygon, write_point, write_polygon,
+    write_rect, write_triangle,
+};
+
+fn spot(alloc: Global, x: i32, y: i32, others: &[i32]) -> Result<Spot, AllocError> {
+    let mut numbers = [x, y].to_vec(alloc)?;
+    numbers.extend_from_slice(others)?;
+    Ok(Spot { numbers })
+}
+
+fn dot(alloc: Global, header: Dimensions, others: &[i32]) -> Result<Dot, AllocError> {
+    let spot = spot(alloc, 1, 2, others)?;
+    Ok(Dot {
+        header,
+        spot: Some(spot),
+    })
+}
+
+fn track(alloc: Global, header: Dimensions, places: &[(i32, i32)]) -> Result<Track, AllocError> {
+    let mut spots = Vec::new(alloc);
+    for &(x, y) in places {
+        spots.push(spot(alloc, x, y, &[])?)?;
+    }
+    Ok(Track { header, spots })
+}
+
+/// The corners (1 2), (3 4) and (5 6), each with the same further numbers.
+fn corners(alloc: Global, header: Dimensions, others: &[i32]) -> Result<Corners, AllocError> {
+    Ok(Corners {
+        header,
+        one: spot(alloc, 1, 2, others)?,
+        two: spot(alloc, 3, 4, others)?,
+        three: spot(alloc, 5, 6, others)?,
+    })
+}
+
+/// A line of more numbers than its header says.
+fn segment(alloc: Global) -> Result<Segment, AllocError> {
+    Ok(Segment {
+        header: Dimensions::Unknown(4),
+        from: spot(alloc, 1, 2, &[7, 8, 9])?,
+        to: spot(alloc, 3, 4, &[7, 8])?,
+    })
+}
+
+/// A polygon with one empty interior.
+fn area(alloc: Global, exterior: Option<Track>) -> Result<Area, AllocError> {
+    let mut interiors = Vec::new(alloc);
+    interiors.push(track(alloc, Dimensions::Xy, &[])?)?;
+    Ok(Area {
+        header: Dimensions::Xy,
+        exterior,
+        interiors,
+    })
+}
+
+fn ring(alloc: Global) -> Result<Track, AllocError> {
+    track(alloc, Dimensions::Xy, &[(0, 0), (1, 0), (0, 1), (0, 0)])
+}
+
+/// A point, and an empty one. The headers of members aren't looked at.
+fn dots(alloc: Global) -> Result<Dots, AllocError> {
+    let header = Dimensions::Unknown(9);
+    let mut members = Vec::new(alloc);
+    members.push(dot(alloc, header, &[])?)?;
+    members.push(Dot { header, spot: None })?;
+    Ok(Dots {
+        header: Dimensions::Xy,
+        members,
+    })
+}
+
+/// A line string, and an empty one.
+fn tracks(alloc: Global) -> Result<Tracks, AllocError> {
+    let mut members = Vec::new(alloc);
+    members.push(track(alloc, Dimensions::Unknown(9), &[(1, 2), (3, 4)])?)?;
+    members.push(track(alloc, Dimensions::Unknown(9), &[])?)?;
+    Ok(Tracks {
+        header: Dimensions::Xy,
+        members,
+    })
+}
+
+/// A polygon, one without exterior, and one with an empty exterior.
+fn areas(alloc: Global) -> Result<Areas, AllocError> {
+    let mut members = Vec::new(alloc);
+    members.push(area(alloc, Some(ring(alloc)?))?)?;
+    members.push(area(alloc, None)?)?;
+    members.push(area(alloc, Some(track(alloc, Dimensions::Xy, &[])?))?)?;
+    Ok(Areas {
+        header: Dimensions::Xy,
+        members,
+    })
+}
+
+/// A figure of each kind, the last of them a group of an empty group.
+fn figures(alloc: Global) -> Result<Vec<Figure>, AllocError> {
+    let mut inner = Vec::new(alloc);
+    inner.push(Figure::Group(Dimensions::Xyzm, Vec::new(alloc)))?;
+    let mut figures = Vec::new(alloc);
+    figures.push(Figure::Point(dot(alloc, Dimensions::Xyz, &[3, 4])?))?;
+    figures.push(Figure::Line(track(alloc, Dimensions::Xym, &[])?))?;
+    figures.push(Figure::Polygon(area(alloc, Some(ring(alloc)?))?))?;
+    figures.push(Figure::Points(dots(alloc)?))?;
+    figures.push(Figure::Lines(tracks(alloc)?))?;
+    figures.push(Figure::Polygons(areas(alloc)?))?;
+    figures.push(Figure::Rect(corners(alloc, Dimensions::Unknown(2), &[])?))?;
+    figures.push(Figure::Triangle(corners(alloc, Dimensions::Xym, &[7])?))?;
+    figures.push(Figure::Segment(segment(alloc)?))?;
+    figures.push(Figure::Group(Dimensions::Unknown(3), inner))?;
+    Ok(figures)
+}
+
+const ALL: &str =
+    "GEOMETRYCOLLECTION(POINT Z(1 2 3),LINESTRING M EMPTY,POLYGON((0 0,1 0,0 1,0 0),EMPTY),MULTIPOINT((1 2),EMPTY),MULTILINESTRING((1 2,3 4),EMPTY),MULTIPOLYGON(((0 0,1 0,0 1,0 0),EMPTY),EMPTY,EMPTY),POLYGON((3 2,3 4,1 4,1 2,3 2)),POLYGON M((1 2 7,3 4 7,5 6 7,1 2 7)),LINESTRING ZM(1 2 7 8,3 4 7 8),GEOMETRYCOLLECTION Z(GEOMETRYCOLLECTION ZM EMPTY))";
+
+#[test]
+fn writes_each_kind(rt: HostRuntime) -> Result<(), Fail> {
+    let alloc = rt.alloc();
+    let header = Dimensions::Xy;
+    let mut text = String::new(alloc);
+    let mut sink = CountedText::new(&mut text);
+    write_point(&mut sink, &dot(alloc, Dimensions::Xym, &[3])?)?;
+    write_linestring(&mut sink, &track(alloc, header, &[(1, -2)])?)?;
+    write_polygon(&mut sink, &area(alloc, None)?)?;
+    write_multi_point(&mut sink, &dots(alloc)?)?;
+    write_multi_linestring(&mut sink, &tracks(alloc)?)?;
+    write_multi_polygon(&mut sink, &areas(alloc)?)?;
+    write_rect(&mut sink, &corners(alloc, Dimensions::Unknown(2), &[])?)?;
+    write_triangle(&mut sink, &corners(alloc, header, &[])?)?;
+    write_line(&mut sink, &segment(alloc)?)?;
+    sink.into_writer();
+    assert_eq!(rt;
+        text.as_str(),
+        "POINT M(1 2 3)LINESTRING(1 -2)POLYGON EMPTYMULTIPOINT((1 2),EMPTY)MULTILINESTRING((1 2,3 4),EMPTY)MULTIPOLYGON(((0 0,1 0,0 1,0 0),EMPTY),EMPTY,EMPTY)POLYGON((3 2,3 4,1 4,1 2,3 2))POLYGON((1 2,3 4,5 6,1 2))LINESTRING ZM(1 2 7 8,3 4 7 8)"
+    );
+    Ok(())
+}
+
+#[test]
+fn writes_collections(rt: HostRuntime) -> Result<(), Fail> {
+    let alloc = rt.alloc();
+    let header = Dimensions::Xy;
+    let figures = figures(alloc)?;
+    let map = Map { header, figures };
+    let mut text = String::new(alloc);
+    let mut sink = CountedText::new(&mut text);
+    write_geometry_collection(&mut sink, &map)?;
+    sink.into_writer();
+    assert_eq!(rt; text.as_str(), ALL);
+    let group = Figure::Group(header, map.figures);
+    let mut text = String::new(alloc);
+    push_geometry(&mut text, &group)?;
+    assert_eq!(rt; text.as_str(), ALL);
+    Ok(())
+}
+
+#[test]
+fn refuses(rt: HostRuntime) -> Result<(), Fail> {
+    let alloc = rt.alloc();
+    let mut text = String::new(alloc);
+    let short = Figure::Point(dot(alloc, Dimensions::Xyzm, &[3])?);
+    assert!(rt; matches!(push_geometry(&mut text, &short), Err(Error::TooFewNumbers)));
+    let line = Figure::Line(track(alloc, Dimensions::Unknown(5), &[(1, 2)])?);
+    assert!(rt;
+        matches!(
+            push_geometry(&mut text, &line),
+            Err(Error::UnknownDimension)
+        )
+    );
+    let rect = Figure::Rect(corners(alloc, Dimensions::Xyz, &[7])?);
+    assert!(rt;
+        matches!(
+            push_geometry(&mut text, &rect),
+            Err(Error::RectUnsupportedDimension)
+        )
+    );
+    assert_eq!(rt; text.as_str(), "");
+    Ok(())
+}

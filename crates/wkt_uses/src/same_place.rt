@@ -1,0 +1,53 @@
+//! Two texts name the same geometry exactly if their keys are equal.
+ghost use Rattle.std.specs.Prelude.{◌⊎◌, IfOk};
+ghost use Rattle.wkt_read.specs.Answered.{OnText};
+ghost use Rattle.wkt_read.specs.Front.{HasNoFront};
+ghost use Rattle.wkt_uses.specs.Compared.{Compares};
+
+use crate::read_and_write::tidy;
+use std::alloc::Global;
+use wkt::laws::{front_is_writable, one_text};
+use wkt::{ReadError, WktNum};
+
+/// Whether the geometries at the fronts of two texts are the same: of one kind and dimension, with
+/// the same numbers in the same order.
+///
+/// # Errors
+/// `Text` where a text has no geometry at its front; `Memory`.
+pub fn same_place<T: WktNum>(alloc: Global, one: &str, other: &str) -> Result<bool, ReadError>
+    ensures same { IfOk result (Compares T.read one.now other.now) }
+    ensures no_front { OnText result (HasNoFront T.read one.now ⊎ HasNoFront T.read other.now) }
+{
+    let first = tidy::<T>(alloc, one)?;
+    let second = tidy::<T>(alloc, other)?;
+    // No effect at run time. The proof reads that one text is one value.
+    front_is_writable::<T>();
+    one_text::<T>();
+    Ok(first == second)
+}
+
+#[cfg(test)]
+mod tests {
+    use super::*;
+    use std::test::Fail;
+    use wkt::Decimal;
+
+    #[test]
+    fn compares(rt: HostRuntime) -> Result<(), Fail> {
+        let alloc = rt.alloc();
+        for (one, other, same) in [
+            ("POINT (1 2)", "point(1.0 +2.)", true),
+            ("MULTIPOINT (1 2)", "MULTIPOINT ((1 2))", true),
+            ("LINEARRING (1 2)", "LINESTRING (1 2)", true),
+            ("POINT (1 2)", "POINT (2 1)", false),
+            ("POINT Z EMPTY", "POINT EMPTY", false),
+        ] {
+            assert_eq!(rt;
+                same_place::<Decimal<6>>(alloc, one, other)?,
+                same,
+                "of {one} and {other}"
+            );
+        }
+        Ok(())
+    }
+}
