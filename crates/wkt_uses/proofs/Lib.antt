@@ -1,4 +1,3 @@
-pub mod Gathered
 pub mod Groups
 pub mod Lining
 pub mod Shows

@@ -1,7 +1,7 @@
 -- What the types of `my_points`, `my_lines`, `my_areas` and `my_map` stand for.
 use Rattle.std.specs.Prelude.{ℤ, List, map, Option, option_map}
-use Rattle.wkt_access.specs.Shapes.{Shape, Shapes, PolygonShape}
-use Rattle.wkt_access.specs.Parts.{gathered}
+use Rattle.wkt_access.specs.Shapes.{Shape, PolygonShape}
+use Rattle.wkt_access.specs.Parts.{collection_of}
 use Rattle.wkt_uses.specs.declared.my_points.Dot.{Dot}
 use Rattle.wkt_uses.specs.declared.my_lines.Track.{Track}
 use Rattle.wkt_uses.specs.declared.my_areas.Area.{Area}
@@ -32,12 +32,8 @@ figure_step (Polygons m) = Shape.multi_polygon m.header (map polygon_of m.member
 figure_step (Rect r) = Shape.rect r.header r.one.numbers.items r.two.numbers.items
 figure_step (Triangle t) = Shape.triangle t.header t.one.numbers.items t.two.numbers.items t.three.numbers.items
 figure_step (Segment b) = Shape.line b.header b.from.numbers.items b.to.numbers.items
-figure_step (Group header members) = Shape.collection header (gathered members.items)
+figure_step (Group header members) = collection_of header members.items
 
 -- The shape of a figure.
 abbrev pub figure_shape : Figure → Shape ℤ
 figure_shape = fold-Figure (Shape ℤ) figure_step
-
--- The shapes of a list of figures.
-abbrev pub figure_shapes : List Figure → Shapes ℤ
-figure_shapes fs = gathered (map figure_shape fs)

@@ -1,6 +1,5 @@
 //! Functions over any collection, in whatever representation.
 ghost use Rattle.std.specs.Prelude.{◌≡◌, OnOk, length};
-ghost use Rattle.wkt_access.specs.Parts.{each};
 ghost use Rattle.wkt_num.specs.Sink.{Adds};
 ghost use Rattle.wkt_uses.specs.Lined.{lined};
 
@@ -10,7 +9,7 @@ use wkt::to_wkt::{TextSink, write_geometry};
 
 /// How many members a collection has.
 pub fn count_members<C: GeometryCollectionTrait>(collection: &C) -> usize
-    ensures { result ≡ length (each (C.geometries collection.now)) }
+    ensures { result ≡ length (C.geometries collection.now) }
 {
     collection.num_geometries()
 }
@@ -23,7 +22,7 @@ pub fn write_members<W: TextSink, C: GeometryCollectionTrait>(
     f: &mut W,
     collection: &C,
 ) -> Result<(), Error>
-    ensures { OnOk result (Adds W.sink f.old (lined C.T.num (each (C.geometries collection.now))) f.new) }
+    ensures { OnOk result (Adds W.sink f.old (lined C.T.num (C.geometries collection.now)) f.new) }
 {
     for i in 0..collection.num_geometries() {
         write_geometry(f, collection.geometry(i))?;

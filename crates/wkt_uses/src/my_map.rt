@@ -1,5 +1,6 @@
 //! A representation of one's own: a geometry of any kind that may hold geometries, and a collection.
-ghost use Rattle.wkt_uses.specs.Mine.{figure_shape, figure_shapes};
+ghost use Rattle.std.specs.Prelude.{map};
+ghost use Rattle.wkt_uses.specs.Mine.{figure_shape};
 
 use crate::my_areas::{Area, Areas, Corners};
 use crate::my_lines::{Segment, Track, Tracks};
@@ -91,7 +92,6 @@ impl GeometryTrait for Figure {
     }
 }
 
-#[tactic(auto, using(crate::proofs::Gathered::gathered_count, crate::proofs::Gathered::gathered_member))]
 impl GeometryCollectionTrait for Map {
     type T = i32;
 
@@ -99,7 +99,7 @@ impl GeometryCollectionTrait for Map {
 
     ghost dimension = { λ m. m.header };
 
-    ghost geometries = { λ m. figure_shapes m.figures.items };
+    ghost geometries = { λ m. map figure_shape m.figures.items };
 
     fn dim(&self) -> Dimensions {
         self.header

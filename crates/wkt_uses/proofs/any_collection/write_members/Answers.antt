@@ -1,6 +1,5 @@
 use Rattle.std.proofs.Common.{refl}
 use Rattle.std.proofs.lemmas.List.{take_all}
-use Rattle.wkt_access.specs.Parts.{each}
 use Rattle.wkt_uses.proofs.Lining.{line_added}
 use Rattle.wkt_uses.proofs.any_collection.write_members.Goals as goal
 
@@ -11,4 +10,4 @@ pub loop-i-preserved : goal.loop-i-preserved
 loop-i-preserved g c = line_added _ g.W.TextSink.sink _ _ _ _ _ _ _ c.loop-i.invariant c.geometry.ensures (c.in_ok-write_geometry.ensures).added c.in_default.ensures
 
 pub returns : goal.returns
-returns g c = rw (take_all c.loop-i.i (each (g.C.GeometryCollectionTrait.geometries c.args.collection.now)) (rw (c.num_geometries-i-end.ensures) at c.loop-i-test.false)) at c.loop-i.invariant
+returns g c = rw (take_all c.loop-i.i (g.C.GeometryCollectionTrait.geometries c.args.collection.now) (rw (c.num_geometries-i-end.ensures) at c.loop-i-test.false)) at c.loop-i.invariant

@@ -1,11 +1,11 @@
 use Rattle.std.proofs.Common.{arith}
+use Rattle.wkt_access.proofs.Collections.{count_is, member_at}
 use Rattle.wkt_uses.specs.Mine.{figure_shape}
-use Rattle.wkt_uses.proofs.Gathered.{members_count, member_at}
 use Rattle.wkt_uses.proofs.Groups.{group_shape}
 use Rattle.wkt_uses.proofs.my_map.FigureGeometryTrait.geometry.Goals as goal
 
 pub index-requires : goal.index-requires
-index-requires c = omega (arith, members_count figure_shape _ _ _ (group_shape _ _ _ c.in-Group.is), c.in-Group.members.ok.0)
+index-requires c = omega (arith, count_is figure_shape _ _ _ (group_shape _ _ _ c.in-Group.is), c.requires, c.in-Group.members.ok.0)
 
 pub returns : goal.returns
-returns c = member_at figure_shape _ _ _ _ _ (group_shape _ _ _ c.in-Group.is) (omega (arith, members_count figure_shape _ _ _ (group_shape _ _ _ c.in-Group.is))) c.index.ensures
+returns c = member_at figure_shape _ _ _ (group_shape _ _ _ c.in-Group.is) _ _ c.requires c.index.ensures
