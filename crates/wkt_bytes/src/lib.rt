@@ -1,4 +1,4 @@
-//! Devices that take and give bytes, and text to them.
+//! Sinks and sources of bytes, and text to a sink of bytes.
 #![tactic(auto)]
 
 mod device;
