@@ -4,6 +4,8 @@
 mod device;
 mod read;
 mod wrapper;
+#[cfg(test)]
+mod tests;
 
 pub use device::{ByteSink, ByteSource, Counted};
 pub use read::{ReadAllError, read_all};

@@ -140,6 +140,7 @@ impl<W: ByteSink> WriterWrapper<W> {
         ensures ok { OnOk result (Gathers W.device self.old bytes.now self.new) }
         ensures well { OnOk result (is_well self.old ≡ true) }
         ensures err { OnErr result (BreaksOff W.device self.old bytes.now self.new) }
+        ensures gathered { length (held_bytes self.old) + length bytes.now < 256 → self.new.writer ≡ self.old.writer }
         ensures failures { self.new.failures ≡ self.old.failures }
     {
         let State::Well = self.state else {
@@ -220,13 +221,14 @@ impl<W: ByteSink> WriterWrapper<W> {
 }
 
 impl<W: ByteSink> TextSink for WriterWrapper<W> {
-    ghost use Rattle.wkt_bytes.specs.Wrapper.{wrapped_sink, is_well};
+    ghost use Rattle.wkt_bytes.specs.Wrapper.{wrapped_sink, held_bytes, is_well, writer_of};
 
     ghost sink = { wrapped_sink W.device };
 
     fn write_str(&mut self, piece: &str) -> fmt::Result
         ensures puts { Puts (wrapped_sink W.device) self.old piece.now self.new result }
         ensures well { OnOk result (is_well self.old ≡ true) }
+        ensures gathered { length (held_bytes self.old) + length piece.now < 256 → writer_of self.new ≡ writer_of self.old }
     {
         match self.accept(piece.as_bytes()) {
             Ok(()) => Ok(()),
