@@ -3,9 +3,9 @@
 
 mod device;
 mod read;
-mod wrapper;
 #[cfg(test)]
 mod tests;
+mod wrapper;
 
 pub use device::{ByteSink, ByteSource, Counted};
 pub use read::{ReadAllError, read_all};

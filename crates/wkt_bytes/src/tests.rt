@@ -83,6 +83,9 @@ fn hands_a_long_piece_on_in_arrays(rt: HostRuntime) -> Result<(), Fail> {
     wrapper.write_str("(")?;
     wrapper.write_str(piece.as_str())?;
     wrapper.finish()?;
-    assert_eq!(rt; wrapper.into_writer().lengths.as_slice(), [256, 256, 129].as_slice());
+    assert_eq!(rt;
+        wrapper.into_writer().lengths.as_slice(),
+        [256, 256, 129].as_slice()
+    );
     Ok(())
 }
