@@ -6,7 +6,7 @@ use Rattle.wkt_access.specs.declared.dimensions.Dimension.TheVariants.{XY}
 use Rattle.wkt_access.specs.declared.dimensions.Dimensions.TheVariants.{Xy}
 use Rattle.wkt_access.specs.Values.{Value, Values}
 use Rattle.wkt_access.specs.Texts.{text}
-use Rattle.wkt_access.specs.Faults.{fault, faults, first_fault, line_fault, member_fault, polygon_fault}
+use Rattle.wkt_access.specs.Faults.{fault, faults, first_fault, coordinates_fault, point_fault, polygon_fault}
 use Rattle.wkt_types.specs.Values.{tree_shape, values_of, point_numbers, line_numbers, polygon_numbers}
 use Rattle.wkt_flat.specs.Shape as shape
 use Rattle.wkt_flat.specs.Shape.{flat_shape, flat_shapes, path_numbers, rings_shape}
@@ -58,7 +58,7 @@ mutual
   all_same (Flats.more_flats t ts) = ap₂ Values.more_values (same t) (all_same ts)
 
 polygon_clear : {T : Type 0} (y : Rings (flat_coord.Coord T)) → polygon_fault 2 (polygon_of (polygon_numbers (polygon_back y))) ≡ None
-polygon_clear y = ap (first_fault (line_fault 2)) (sym (rings y.exterior y.interiors)) ∙ writable (Flat.polygon y)
+polygon_clear y = ap (first_fault (coordinates_fault 2)) (sym (rings y.exterior y.interiors)) ∙ writable (Flat.polygon y)
 
 polygons_clear : {T : Type 0} (ys : List (Rings (flat_coord.Coord T))) → first_fault (polygon_fault 2) (map polygon_of (map polygon_numbers (map polygon_back ys))) ≡ None
 polygons_clear [] = refl
@@ -68,10 +68,10 @@ mutual
   pub clear : {T : Type 0} (t : Flat T) → fault (tree_shape (back t)) ≡ None
   clear (Flat.point p) = refl
   clear (Flat.line l) = refl
-  clear (Flat.line_string cs) = ap (line_fault 2) (sym (lines cs)) ∙ writable (Flat.line_string cs)
+  clear (Flat.line_string cs) = ap (coordinates_fault 2) (sym (lines cs)) ∙ writable (Flat.line_string cs)
   clear (Flat.polygon y) = polygon_clear y
-  clear (Flat.multi_point ps) = ap (first_fault (member_fault 2)) (sym (points ps)) ∙ writable (Flat.multi_point ps)
-  clear (Flat.multi_line_string ls) = ap (first_fault (line_fault 2)) (sym (all_lines ls)) ∙ writable (Flat.multi_line_string ls)
+  clear (Flat.multi_point ps) = ap (first_fault (point_fault 2)) (sym (points ps)) ∙ writable (Flat.multi_point ps)
+  clear (Flat.multi_line_string ls) = ap (first_fault (coordinates_fault 2)) (sym (all_lines ls)) ∙ writable (Flat.multi_line_string ls)
   clear (Flat.multi_polygon ys) = polygons_clear ys
   clear (Flat.collection ts) = all_clear ts
   clear (Flat.rect r) = refl

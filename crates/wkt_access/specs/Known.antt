@@ -19,39 +19,39 @@ module _ {N : Type 0} (is_value : N → Type 0) where
   abbrev pub KnownCoord : ℕ → List N → Type 0
   KnownCoord k c = AllByRecursion is_value (take k c)
 
-  -- So are those of each coordinate of a line.
-  abbrev pub KnownLine : ℕ → List (List N) → Type 0
-  KnownLine k = AllByRecursion (KnownCoord k)
+  -- So are those of each coordinate of a list.
+  abbrev pub KnownCoords : ℕ → List (List N) → Type 0
+  KnownCoords k = AllByRecursion (KnownCoord k)
 
-  -- So are those of each line of a list.
-  abbrev pub KnownLines : ℕ → List (List (List N)) → Type 0
-  KnownLines k = AllByRecursion (KnownLine k)
+  -- So are those of each line string of a list.
+  abbrev pub KnownLineStrings : ℕ → List (List (List N)) → Type 0
+  KnownLineStrings k = AllByRecursion (KnownCoords k)
 
   -- So are those of the coordinate that a point may have.
   abbrev pub KnownPoint : ℕ → Option (List N) → Type 0
-  KnownPoint k c = KnownLine k (option_to_list c)
+  KnownPoint k c = KnownCoords k (option_to_list c)
 
   -- So are those of a polygon's rings.
   abbrev pub KnownPolygon : ℕ → PolygonShape N → Type 0
-  KnownPolygon k p = KnownLines k (rings_of p)
+  KnownPolygon k p = KnownLineStrings k (rings_of p)
 
   -- A corner of a rectangle has an x and a y, and they are values.
-  abbrev pub KnownCorner : List N → Type 0
-  KnownCorner c = KnownCoord 2 c × (2 ≤ length c)
+  abbrev pub KnownRectCorner : List N → Type 0
+  KnownRectCorner c = KnownCoord 2 c × (2 ≤ length c)
 
   abbrev mutual
     -- The numbers of a shape that its header's dimension counts are values.
     pub Known : Shape N → Type 0
     Known (Shape.point d c) = KnownPoint (size (dimension d)) c
-    Known (Shape.line_string d cs) = KnownLine (size (dimension d)) cs
+    Known (Shape.line_string d cs) = KnownCoords (size (dimension d)) cs
     Known (Shape.polygon d p) = KnownPolygon (size (dimension d)) p
     Known (Shape.multi_point d ps) = AllByRecursion (KnownPoint (size (dimension d))) ps
-    Known (Shape.multi_line_string d ls) = KnownLines (size (dimension d)) ls
+    Known (Shape.multi_line_string d ls) = KnownLineStrings (size (dimension d)) ls
     Known (Shape.multi_polygon d ps) = AllByRecursion (KnownPolygon (size (dimension d))) ps
     Known (Shape.collection d gs) = AllKnown gs
-    Known (Shape.rect d a b) = KnownCorner a × KnownCorner b
-    Known (Shape.triangle d a b c) = KnownLine (size (dimension d)) (a ∷ b ∷ c ∷ [])
-    Known (Shape.line d a b) = KnownLine (size (dimension d)) (a ∷ b ∷ [])
+    Known (Shape.rect d a b) = KnownRectCorner a × KnownRectCorner b
+    Known (Shape.triangle d a b c) = KnownCoords (size (dimension d)) (a ∷ b ∷ c ∷ [])
+    Known (Shape.line d a b) = KnownCoords (size (dimension d)) (a ∷ b ∷ [])
 
     -- So are those of each shape of a list.
     pub AllKnown : Shapes N → Type 0

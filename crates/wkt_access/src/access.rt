@@ -162,7 +162,7 @@ pub trait MultiLineStringTrait {
     ghost dimension: { Self → Dimensions };
 
     /// The coordinates of each line string in order.
-    ghost lines: { Self → List (List (List Self.T)) };
+    ghost line_strings: { Self → List (List (List Self.T)) };
 
     /// The dimension that its header is printed with. That of a member isn't looked at.
     fn dim(&self) -> Dimensions
@@ -170,12 +170,12 @@ pub trait MultiLineStringTrait {
 
     /// How many line strings it has.
     fn num_line_strings(&self) -> usize
-        ensures { result ≡ length (lines self.now) };
+        ensures { result ≡ length (line_strings self.now) };
 
     /// The line string at place `i`, which is below the count.
     fn line_string(&self, i: usize) -> &Self::InnerLineStringType
-        requires { i < length (lines self.now) }
-        ensures { slice_get (lines self.now) i ≡ Some (Self.InnerLineStringType.coordinates result.now) };
+        requires { i < length (line_strings self.now) }
+        ensures { slice_get (line_strings self.now) i ≡ Some (Self.InnerLineStringType.coordinates result.now) };
 }
 
 /// A list of polygons.
@@ -218,10 +218,10 @@ pub trait RectTrait {
     ghost dimension: { Self → Dimensions };
 
     /// The numbers of the corner with the least x and y.
-    ghost least: { Self → List Self.T };
+    ghost least_corner: { Self → List Self.T };
 
     /// The numbers of the corner with the greatest x and y.
-    ghost most: { Self → List Self.T };
+    ghost greatest_corner: { Self → List Self.T };
 
     /// The dimension of its header. One of x and y alone can be written.
     fn dim(&self) -> Dimensions
@@ -229,11 +229,11 @@ pub trait RectTrait {
 
     /// The corner with the least x and y.
     fn min(&self) -> &Self::CoordType
-        ensures { Self.CoordType.numbers result.now ≡ least self.now };
+        ensures { Self.CoordType.numbers result.now ≡ least_corner self.now };
 
     /// The corner with the greatest x and y.
     fn max(&self) -> &Self::CoordType
-        ensures { Self.CoordType.numbers result.now ≡ most self.now };
+        ensures { Self.CoordType.numbers result.now ≡ greatest_corner self.now };
 }
 
 /// A line between two coordinates. It is written as a line string.
@@ -278,13 +278,13 @@ pub trait TriangleTrait {
     ghost dimension: { Self → Dimensions };
 
     /// The numbers of the first corner.
-    ghost a: { Self → List Self.T };
+    ghost first_corner: { Self → List Self.T };
 
     /// The numbers of the second corner.
-    ghost b: { Self → List Self.T };
+    ghost second_corner: { Self → List Self.T };
 
     /// The numbers of the third corner.
-    ghost c: { Self → List Self.T };
+    ghost third_corner: { Self → List Self.T };
 
     /// The dimension that its header is printed with.
     fn dim(&self) -> Dimensions
@@ -292,20 +292,20 @@ pub trait TriangleTrait {
 
     /// The first corner.
     fn first(&self) -> &Self::CoordType
-        ensures { Self.CoordType.numbers result.now ≡ a self.now };
+        ensures { Self.CoordType.numbers result.now ≡ first_corner self.now };
 
     /// The second corner.
     fn second(&self) -> &Self::CoordType
-        ensures { Self.CoordType.numbers result.now ≡ b self.now };
+        ensures { Self.CoordType.numbers result.now ≡ second_corner self.now };
 
     /// The third corner.
     fn third(&self) -> &Self::CoordType
-        ensures { Self.CoordType.numbers result.now ≡ c self.now };
+        ensures { Self.CoordType.numbers result.now ≡ third_corner self.now };
 }
 
 /// The kind of a geometry, and the geometry as one of that kind.
 ///
-/// A collection lends no part here: its members come from [`GeometryTrait::geometry`].
+/// A collection has no part here: its members come from [`GeometryTrait::geometry`].
 #[derive(Clone, Copy)]
 pub enum GeometryType<'a, P, L, Y, MP, ML, MY, R, T, N> {
     /// A point.
@@ -339,37 +339,37 @@ pub trait GeometryTrait {
     /// The type of its numbers.
     type T: WktNum;
 
-    /// What it lends where it is a point.
+    /// What it is accessed as where it is a point.
     type PointType: PointTrait<T = Self::T>;
 
-    /// What it lends where it is a line string.
+    /// What it is accessed as where it is a line string.
     type LineStringType: LineStringTrait<T = Self::T>;
 
-    /// What it lends where it is a polygon.
+    /// What it is accessed as where it is a polygon.
     type PolygonType: PolygonTrait<T = Self::T>;
 
-    /// What it lends where it is a list of points.
+    /// What it is accessed as where it is a list of points.
     type MultiPointType: MultiPointTrait<T = Self::T>;
 
-    /// What it lends where it is a list of line strings.
+    /// What it is accessed as where it is a list of line strings.
     type MultiLineStringType: MultiLineStringTrait<T = Self::T>;
 
-    /// What it lends where it is a list of polygons.
+    /// What it is accessed as where it is a list of polygons.
     type MultiPolygonType: MultiPolygonTrait<T = Self::T>;
 
-    /// What it lends where it is a rectangle.
+    /// What it is accessed as where it is a rectangle.
     type RectType: RectTrait<T = Self::T>;
 
-    /// What it lends where it is a triangle.
+    /// What it is accessed as where it is a triangle.
     type TriangleType: TriangleTrait<T = Self::T>;
 
-    /// What it lends where it is a line between two coordinates.
+    /// What it is accessed as where it is a line between two coordinates.
     type LineType: LineTrait<T = Self::T>;
 
     /// Its kind, its dimension and its parts.
     ghost shape: { Self → Shape Self.T };
 
-    /// The dimension of the part that it lends, and of a collection the dimension of its header.
+    /// The dimension of its header, which the part in [`as_type`](Self::as_type) has as well.
     fn dim(&self) -> Dimensions
         ensures { result ≡ dimension_of (shape self.now) };
 
@@ -393,10 +393,10 @@ pub trait GeometryTrait {
             (λ p. shape self.now ≡ Shape.line_string (Self.LineStringType.dimension p) (Self.LineStringType.coordinates p))
             (λ p. shape self.now ≡ Shape.polygon (Self.PolygonType.dimension p) (Self.PolygonType.polygon p))
             (λ p. shape self.now ≡ Shape.multi_point (Self.MultiPointType.dimension p) (Self.MultiPointType.points p))
-            (λ p. shape self.now ≡ Shape.multi_line_string (Self.MultiLineStringType.dimension p) (Self.MultiLineStringType.lines p))
+            (λ p. shape self.now ≡ Shape.multi_line_string (Self.MultiLineStringType.dimension p) (Self.MultiLineStringType.line_strings p))
             (λ p. shape self.now ≡ Shape.multi_polygon (Self.MultiPolygonType.dimension p) (Self.MultiPolygonType.polygons p))
-            (λ p. shape self.now ≡ Shape.rect (Self.RectType.dimension p) (Self.RectType.least p) (Self.RectType.most p))
-            (λ p. shape self.now ≡ Shape.triangle (Self.TriangleType.dimension p) (Self.TriangleType.a p) (Self.TriangleType.b p) (Self.TriangleType.c p))
+            (λ p. shape self.now ≡ Shape.rect (Self.RectType.dimension p) (Self.RectType.least_corner p) (Self.RectType.greatest_corner p))
+            (λ p. shape self.now ≡ Shape.triangle (Self.TriangleType.dimension p) (Self.TriangleType.first_corner p) (Self.TriangleType.second_corner p) (Self.TriangleType.third_corner p))
             (λ p. shape self.now ≡ Shape.line (Self.LineType.dimension p) (Self.LineType.from p) (Self.LineType.to p))
             (λ n. IsCollectionOf n (shape self.now)) };
 

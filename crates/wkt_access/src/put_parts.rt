@@ -1,11 +1,14 @@
 //! Writes the parts that several kinds share. Each part has no fault.
+//!
+//! A body is what follows a header: the items of a geometry in parentheses, or EMPTY. `k` is how many
+//! numbers of each coordinate are written.
 #![tactic(auto, using(crate::proofs::Firsts::none_at))]
 
 ghost use Rattle.std.specs.Prelude.{◌≡◌, ◌≤◌, ◌<◌, [], ◌∷◌, ◌++◌, length, Some, None, map, codes, option_to_list};
-ghost use Rattle.wkt_access.specs.Faults.{line_fault, member_fault, polygon_fault, first_fault};
+ghost use Rattle.wkt_access.specs.Faults.{coordinates_fault, point_fault, polygon_fault, first_fault};
 ghost use Rattle.wkt_access.specs.Shapes.{rings_of};
-ghost use Rattle.wkt_access.specs.Pieces.{before, opening, closing, gap, cut_coordinate, cut_line, cut_member, cut_polygon, pair_text, quad_text, corner_text, corners_text};
-ghost use Rattle.wkt_access.specs.Texts.{joined, listed, suffix};
+ghost use Rattle.wkt_access.specs.Pieces.{before, each_after, has_none, opening, closing, gap, cut_coordinate, cut_coordinates, cut_point, cut_polygon, two_coordinates_text, triangle_ring_text, rect_corner_text, rect_ring_text};
+ghost use Rattle.wkt_access.specs.Texts.{separated, listed, suffix};
 ghost use Rattle.wkt_num.specs.Sink.{Puts};
 
 use crate::access::{
@@ -16,6 +19,7 @@ use crate::dimensions::Dimension;
 use std::fmt;
 use wkt_num::{TextSink, WktNum};
 
+/// Writes what stands before the item at place `i`: a separator, and nothing before the first.
 pub(crate) fn put_separator<W: TextSink>(f: &mut W, separator: &str, i: usize) -> fmt::Result
     ensures { Puts W.sink f.old (before separator.now i) f.new result }
 {
@@ -25,24 +29,27 @@ pub(crate) fn put_separator<W: TextSink>(f: &mut W, separator: &str, i: usize) -
     f.write_str(separator)
 }
 
-pub(crate) fn put_opening<W: TextSink>(f: &mut W, n: usize) -> fmt::Result
-    ensures { Puts W.sink f.old (opening n) f.new result }
+/// Writes what begins a body: EMPTY, or a parenthesis.
+pub(crate) fn put_opening<W: TextSink>(f: &mut W, is_empty: bool) -> fmt::Result
+    ensures { Puts W.sink f.old (opening is_empty) f.new result }
 {
-    if n == 0 {
+    if is_empty {
         return f.write_str("EMPTY");
     }
     f.write_str("(")
 }
 
-pub(crate) fn put_closing<W: TextSink>(f: &mut W, n: usize) -> fmt::Result
-    ensures { Puts W.sink f.old (closing n) f.new result }
+/// Writes what ends a body: nothing after EMPTY, else a parenthesis.
+pub(crate) fn put_closing<W: TextSink>(f: &mut W, is_empty: bool) -> fmt::Result
+    ensures { Puts W.sink f.old (closing is_empty) f.new result }
 {
-    if n == 0 {
+    if is_empty {
         return Ok(());
     }
     f.write_str(")")
 }
 
+/// Writes the first `k` numbers of a coordinate, with spaces between them.
 fn put_coord<W: TextSink, C: CoordTrait>(f: &mut W, c: &C, k: usize) -> fmt::Result
     requires { k ≤ length (C.numbers c.now) }
     ensures { Puts W.sink f.old (cut_coordinate C.T.num k (C.numbers c.now)) f.new result }
@@ -54,9 +61,10 @@ fn put_coord<W: TextSink, C: CoordTrait>(f: &mut W, c: &C, k: usize) -> fmt::Res
     Ok(())
 }
 
+/// Writes the coordinates of a line string or a ring, with commas between them.
 fn put_coords<W: TextSink, L: LineStringTrait>(f: &mut W, l: &L, k: usize) -> fmt::Result
-    requires { line_fault k (L.coordinates l.now) ≡ None }
-    ensures { Puts W.sink f.old (joined (codes ",") (map (cut_coordinate L.T.num k) (L.coordinates l.now))) f.new result }
+    requires { coordinates_fault k (L.coordinates l.now) ≡ None }
+    ensures { Puts W.sink f.old (separated (codes ",") (map (cut_coordinate L.T.num k) (L.coordinates l.now))) f.new result }
 {
     for i in 0..l.num_coords() {
         put_separator(f, ",", i)?;
@@ -65,92 +73,108 @@ fn put_coords<W: TextSink, L: LineStringTrait>(f: &mut W, l: &L, k: usize) -> fm
     Ok(())
 }
 
-pub(crate) fn put_line<W: TextSink, L: LineStringTrait>(f: &mut W, l: &L, k: usize) -> fmt::Result
-    requires { line_fault k (L.coordinates l.now) ≡ None }
-    ensures { Puts W.sink f.old (cut_line L.T.num k (L.coordinates l.now)) f.new result }
+/// Writes the body of a line string, which is also the text of a ring.
+pub(crate) fn put_linestring_body<W: TextSink, L: LineStringTrait>(
+    f: &mut W,
+    l: &L,
+    k: usize,
+) -> fmt::Result
+    requires { coordinates_fault k (L.coordinates l.now) ≡ None }
+    ensures { Puts W.sink f.old (cut_coordinates L.T.num k (L.coordinates l.now)) f.new result }
 {
-    put_opening(f, l.num_coords())?;
+    let is_empty = l.num_coords() == 0;
+    put_opening(f, is_empty)?;
     put_coords(f, l, k)?;
-    put_closing(f, l.num_coords())
+    put_closing(f, is_empty)
 }
 
+/// Writes the interiors of a polygon, with a comma before each.
 fn put_interiors<W: TextSink, Y: PolygonTrait>(f: &mut W, y: &Y, k: usize) -> fmt::Result
-    requires { first_fault (line_fault k) (Y.polygon y.now).interiors ≡ None }
-    ensures { Puts W.sink f.old (joined (codes ",") (map (cut_line Y.T.num k) (Y.polygon y.now).interiors)) f.new result }
+    requires { first_fault (coordinates_fault k) (Y.polygon y.now).interiors ≡ None }
+    ensures { Puts W.sink f.old (each_after (codes ",") (map (cut_coordinates Y.T.num k) (Y.polygon y.now).interiors)) f.new result }
 {
     for i in 0..y.num_interiors() {
-        put_separator(f, ",", i)?;
-        put_line(f, y.interior(i), k)?;
+        f.write_str(",")?;
+        put_linestring_body(f, y.interior(i), k)?;
     }
     Ok(())
 }
 
-pub(crate) fn put_rings<W: TextSink, Y: PolygonTrait>(f: &mut W, y: &Y, k: usize) -> fmt::Result
+/// Writes the body of a polygon: its exterior and then its interiors, or EMPTY without an exterior.
+pub(crate) fn put_polygon_body<W: TextSink, Y: PolygonTrait>(
+    f: &mut W,
+    y: &Y,
+    k: usize,
+) -> fmt::Result
     requires { polygon_fault k (Y.polygon y.now) ≡ None }
     ensures { Puts W.sink f.old (cut_polygon Y.T.num k (Y.polygon y.now)) f.new result }
 {
     match y.exterior() {
-        None => put_opening(f, 0),
+        None => put_opening(f, true),
         Some(exterior) => {
             if exterior.num_coords() == 0 {
-                return put_opening(f, 0);
+                return put_opening(f, true);
             }
-            put_opening(f, 1)?;
-            put_line(f, exterior, k)?;
-            put_separator(f, ",", y.num_interiors())?;
+            put_opening(f, false)?;
+            put_linestring_body(f, exterior, k)?;
             put_interiors(f, y, k)?;
-            put_closing(f, 1)
+            put_closing(f, false)
         }
     }
 }
 
-pub(crate) fn put_inner_point<W: TextSink, P: PointTrait>(f: &mut W, p: &P, k: usize) -> fmt::Result
-    requires { member_fault k (P.coordinate p.now) ≡ None }
-    ensures { Puts W.sink f.old (cut_member P.T.num k (P.coordinate p.now)) f.new result }
+/// Writes the body of a point, which is also the text of a member of a multipoint.
+pub(crate) fn put_point_body<W: TextSink, P: PointTrait>(f: &mut W, p: &P, k: usize) -> fmt::Result
+    requires { point_fault k (P.coordinate p.now) ≡ None }
+    ensures { Puts W.sink f.old (cut_point P.T.num k (P.coordinate p.now)) f.new result }
 {
     match p.coord() {
-        None => put_opening(f, 0),
+        None => put_opening(f, true),
         Some(c) => {
-            put_opening(f, 1)?;
+            put_opening(f, false)?;
             put_coord(f, c, k)?;
-            put_closing(f, 1)
+            put_closing(f, false)
         }
     }
 }
 
+/// Writes the members of a multipoint, with commas between them.
 fn put_points<W: TextSink, M: MultiPointTrait>(f: &mut W, m: &M, k: usize) -> fmt::Result
-    requires { first_fault (member_fault k) (M.points m.now) ≡ None }
-    ensures { Puts W.sink f.old (joined (codes ",") (map (cut_member M.T.num k) (M.points m.now))) f.new result }
+    requires { first_fault (point_fault k) (M.points m.now) ≡ None }
+    ensures { Puts W.sink f.old (separated (codes ",") (map (cut_point M.T.num k) (M.points m.now))) f.new result }
 {
     for i in 0..m.num_points() {
         put_separator(f, ",", i)?;
-        put_inner_point(f, m.point(i), k)?;
+        put_point_body(f, m.point(i), k)?;
     }
     Ok(())
 }
 
-fn put_lines<W: TextSink, M: MultiLineStringTrait>(f: &mut W, m: &M, k: usize) -> fmt::Result
-    requires { first_fault (line_fault k) (M.lines m.now) ≡ None }
-    ensures { Puts W.sink f.old (joined (codes ",") (map (cut_line M.T.num k) (M.lines m.now))) f.new result }
+/// Writes the members of a multilinestring, with commas between them.
+fn put_linestrings<W: TextSink, M: MultiLineStringTrait>(f: &mut W, m: &M, k: usize) -> fmt::Result
+    requires { first_fault (coordinates_fault k) (M.line_strings m.now) ≡ None }
+    ensures { Puts W.sink f.old (separated (codes ",") (map (cut_coordinates M.T.num k) (M.line_strings m.now))) f.new result }
 {
     for i in 0..m.num_line_strings() {
         put_separator(f, ",", i)?;
-        put_line(f, m.line_string(i), k)?;
+        put_linestring_body(f, m.line_string(i), k)?;
     }
     Ok(())
 }
 
+/// Writes the members of a multipolygon, with commas between them.
 fn put_polygons<W: TextSink, M: MultiPolygonTrait>(f: &mut W, m: &M, k: usize) -> fmt::Result
     requires { first_fault (polygon_fault k) (M.polygons m.now) ≡ None }
-    ensures { Puts W.sink f.old (joined (codes ",") (map (cut_polygon M.T.num k) (M.polygons m.now))) f.new result }
+    ensures { Puts W.sink f.old (separated (codes ",") (map (cut_polygon M.T.num k) (M.polygons m.now))) f.new result }
 {
     for i in 0..m.num_polygons() {
         put_separator(f, ",", i)?;
-        put_rings(f, m.polygon(i), k)?;
+        put_polygon_body(f, m.polygon(i), k)?;
     }
     Ok(())
 }
 
+/// What a header says of its dimension.
 fn suffix_of(d: Dimension) -> &'static str
     ensures { result.now ≡ suffix d }
 {
@@ -162,6 +186,7 @@ fn suffix_of(d: Dimension) -> &'static str
     }
 }
 
+/// Writes what a header says of its dimension, which is nothing for XY.
 fn put_suffix<W: TextSink>(f: &mut W, d: Dimension) -> fmt::Result
     ensures { Puts W.sink f.old (suffix d) f.new result }
 {
@@ -171,74 +196,82 @@ fn put_suffix<W: TextSink>(f: &mut W, d: Dimension) -> fmt::Result
     f.write_str(suffix_of(d))
 }
 
-fn put_gap<W: TextSink>(f: &mut W, n: usize) -> fmt::Result
-    ensures { Puts W.sink f.old (gap n) f.new result }
+/// Writes the space that stands before EMPTY.
+fn put_gap<W: TextSink>(f: &mut W, is_empty: bool) -> fmt::Result
+    ensures { Puts W.sink f.old (gap is_empty) f.new result }
 {
-    if n == 0 {
+    if is_empty {
         return f.write_str(" ");
     }
     Ok(())
 }
 
-pub(crate) fn put_header<W: TextSink>(f: &mut W, word: &str, d: Dimension, n: usize) -> fmt::Result
-    ensures { Puts W.sink f.old (word.now ++ (suffix d ++ gap n)) f.new result }
+/// Writes a header: a kind word and a dimension, and a space where EMPTY follows.
+pub(crate) fn put_header<W: TextSink>(
+    f: &mut W,
+    word: &str,
+    d: Dimension,
+    is_empty: bool,
+) -> fmt::Result
+    ensures { Puts W.sink f.old (word.now ++ (suffix d ++ gap is_empty)) f.new result }
 {
     f.write_str(word)?;
     put_suffix(f, d)?;
-    put_gap(f, n)
+    put_gap(f, is_empty)
 }
 
-pub(crate) fn count_coord<P: PointTrait>(p: &P) -> usize
-    ensures { result ≡ length (option_to_list (P.coordinate p.now)) }
+/// Whether a point is empty.
+pub(crate) fn has_no_coord<P: PointTrait>(p: &P) -> bool
+    ensures { result ≡ has_none (option_to_list (P.coordinate p.now)) }
 {
     match p.coord() {
-        None => 0,
-        Some(_) => 1,
+        None => true,
+        Some(_) => false,
     }
 }
 
-/// 0 where there are no rings, else 1.
-pub(crate) fn some_ring<Y: PolygonTrait>(y: &Y) -> usize
-    ensures { gap result ≡ gap (length (rings_of (Y.polygon y.now))) }
+/// Whether none of a polygon's rings is written: it has no exterior, or an empty one.
+pub(crate) fn has_no_rings<Y: PolygonTrait>(y: &Y) -> bool
+    ensures { result ≡ has_none (rings_of (Y.polygon y.now)) }
 {
     match y.exterior() {
-        None => 0,
-        Some(exterior) => {
-            if exterior.num_coords() == 0 {
-                return 0;
-            }
-            1
-        }
+        None => true,
+        Some(exterior) => exterior.num_coords() == 0,
     }
 }
 
-pub(crate) fn put_points_in<W: TextSink, M: MultiPointTrait>(
+/// Writes the body of a multipoint.
+pub(crate) fn put_multi_point_body<W: TextSink, M: MultiPointTrait>(
     f: &mut W,
     m: &M,
     k: usize,
 ) -> fmt::Result
-    requires { first_fault (member_fault k) (M.points m.now) ≡ None }
-    ensures { Puts W.sink f.old (listed (map (cut_member M.T.num k) (M.points m.now))) f.new result }
+    requires { first_fault (point_fault k) (M.points m.now) ≡ None }
+    ensures { Puts W.sink f.old (listed (map (cut_point M.T.num k) (M.points m.now))) f.new result }
 {
-    put_opening(f, m.num_points())?;
+    let is_empty = m.num_points() == 0;
+    put_opening(f, is_empty)?;
     put_points(f, m, k)?;
-    put_closing(f, m.num_points())
+    put_closing(f, is_empty)
 }
 
-pub(crate) fn put_lines_in<W: TextSink, M: MultiLineStringTrait>(
+/// Writes the body of a multilinestring.
+pub(crate) fn put_multi_linestring_body<W: TextSink, M: MultiLineStringTrait>(
     f: &mut W,
     m: &M,
     k: usize,
 ) -> fmt::Result
-    requires { first_fault (line_fault k) (M.lines m.now) ≡ None }
-    ensures { Puts W.sink f.old (listed (map (cut_line M.T.num k) (M.lines m.now))) f.new result }
+    requires { first_fault (coordinates_fault k) (M.line_strings m.now) ≡ None }
+    ensures { Puts W.sink f.old (listed (map (cut_coordinates M.T.num k) (M.line_strings m.now))) f.new result }
 {
-    put_opening(f, m.num_line_strings())?;
-    put_lines(f, m, k)?;
-    put_closing(f, m.num_line_strings())
+    let is_empty = m.num_line_strings() == 0;
+    put_opening(f, is_empty)?;
+    put_linestrings(f, m, k)?;
+    put_closing(f, is_empty)
 }
 
-pub(crate) fn put_polygons_in<W: TextSink, M: MultiPolygonTrait>(
+/// Writes the body of a multipolygon.
+pub(crate) fn put_multi_polygon_body<W: TextSink, M: MultiPolygonTrait>(
     f: &mut W,
     m: &M,
     k: usize,
@@ -246,34 +279,44 @@ pub(crate) fn put_polygons_in<W: TextSink, M: MultiPolygonTrait>(
     requires { first_fault (polygon_fault k) (M.polygons m.now) ≡ None }
     ensures { Puts W.sink f.old (listed (map (cut_polygon M.T.num k) (M.polygons m.now))) f.new result }
 {
-    put_opening(f, m.num_polygons())?;
+    let is_empty = m.num_polygons() == 0;
+    put_opening(f, is_empty)?;
     put_polygons(f, m, k)?;
-    put_closing(f, m.num_polygons())
+    put_closing(f, is_empty)
 }
 
-fn put_pair<W: TextSink, C: CoordTrait>(f: &mut W, a: &C, b: &C, k: usize) -> fmt::Result
+/// Writes two coordinates with a comma between them.
+fn put_two_coords<W: TextSink, C: CoordTrait>(f: &mut W, a: &C, b: &C, k: usize) -> fmt::Result
     requires a { k ≤ length (C.numbers a.now) }
     requires b { k ≤ length (C.numbers b.now) }
-    ensures { Puts W.sink f.old (pair_text C.T.num k (C.numbers a.now) (C.numbers b.now)) f.new result }
+    ensures { Puts W.sink f.old (two_coordinates_text C.T.num k (C.numbers a.now) (C.numbers b.now)) f.new result }
 {
     put_coord(f, a, k)?;
     f.write_str(",")?;
     put_coord(f, b, k)
 }
 
-fn put_quad<W: TextSink, C: CoordTrait>(f: &mut W, a: &C, b: &C, c: &C, k: usize) -> fmt::Result
+/// Writes three coordinates and the first again, with commas between them.
+fn put_triangle_ring<W: TextSink, C: CoordTrait>(
+    f: &mut W,
+    a: &C,
+    b: &C,
+    c: &C,
+    k: usize,
+) -> fmt::Result
     requires a { k ≤ length (C.numbers a.now) }
     requires b { k ≤ length (C.numbers b.now) }
     requires c { k ≤ length (C.numbers c.now) }
-    ensures { Puts W.sink f.old (quad_text C.T.num k (C.numbers a.now) (C.numbers b.now) (C.numbers c.now)) f.new result }
+    ensures { Puts W.sink f.old (triangle_ring_text C.T.num k (C.numbers a.now) (C.numbers b.now) (C.numbers c.now)) f.new result }
 {
-    put_pair(f, a, b, k)?;
+    put_two_coords(f, a, b, k)?;
     f.write_str(",")?;
-    put_pair(f, c, a, k)
+    put_two_coords(f, c, a, k)
 }
 
-fn put_corner<W: TextSink, C: CoordTrait>(f: &mut W, a: &C, b: &C) -> fmt::Result
-    ensures { Puts W.sink f.old (corner_text C.T.num (C.numbers a.now) (C.numbers b.now)) f.new result }
+/// Writes the x of one coordinate and the y of another.
+fn put_rect_corner<W: TextSink, C: CoordTrait>(f: &mut W, a: &C, b: &C) -> fmt::Result
+    ensures { Puts W.sink f.old (rect_corner_text C.T.num (C.numbers a.now) (C.numbers b.now)) f.new result }
 {
     let x = a.x();
     let y = b.y();
@@ -282,38 +325,41 @@ fn put_corner<W: TextSink, C: CoordTrait>(f: &mut W, a: &C, b: &C) -> fmt::Resul
     y.write_number(f)
 }
 
-pub(crate) fn put_corners<W: TextSink, C: CoordTrait>(f: &mut W, min: &C, max: &C) -> fmt::Result
-    ensures { Puts W.sink f.old (corners_text C.T.num (C.numbers min.now) (C.numbers max.now)) f.new result }
+/// Writes the coordinates of the ring of a rectangle.
+pub(crate) fn put_rect_ring<W: TextSink, C: CoordTrait>(f: &mut W, min: &C, max: &C) -> fmt::Result
+    ensures { Puts W.sink f.old (rect_ring_text C.T.num (C.numbers min.now) (C.numbers max.now)) f.new result }
 {
-    put_corner(f, max, min)?;
+    put_rect_corner(f, max, min)?;
     f.write_str(",")?;
-    put_corner(f, max, max)?;
+    put_rect_corner(f, max, max)?;
     f.write_str(",")?;
-    put_corner(f, min, max)?;
+    put_rect_corner(f, min, max)?;
     f.write_str(",")?;
-    put_corner(f, min, min)?;
+    put_rect_corner(f, min, min)?;
     f.write_str(",")?;
-    put_corner(f, max, min)
+    put_rect_corner(f, max, min)
 }
 
-pub(crate) fn put_line_items<W: TextSink, L: LineTrait>(f: &mut W, l: &L, k: usize) -> fmt::Result
-    requires { line_fault k (L.from l.now ∷ L.to l.now ∷ []) ≡ None }
-    ensures { Puts W.sink f.old (codes "(" ++ (pair_text L.T.num k (L.from l.now) (L.to l.now) ++ codes ")")) f.new result }
+/// Writes the body of a line, which is that of a line string.
+pub(crate) fn put_line_body<W: TextSink, L: LineTrait>(f: &mut W, l: &L, k: usize) -> fmt::Result
+    requires { coordinates_fault k (L.from l.now ∷ L.to l.now ∷ []) ≡ None }
+    ensures { Puts W.sink f.old (codes "(" ++ (two_coordinates_text L.T.num k (L.from l.now) (L.to l.now) ++ codes ")")) f.new result }
 {
     f.write_str("(")?;
-    put_pair(f, l.start(), l.end(), k)?;
+    put_two_coords(f, l.start(), l.end(), k)?;
     f.write_str(")")
 }
 
-pub(crate) fn put_triangle_items<W: TextSink, Y: TriangleTrait>(
+/// Writes the body of a triangle, which is that of a polygon.
+pub(crate) fn put_triangle_body<W: TextSink, Y: TriangleTrait>(
     f: &mut W,
     y: &Y,
     k: usize,
 ) -> fmt::Result
-    requires { line_fault k (Y.a y.now ∷ Y.b y.now ∷ Y.c y.now ∷ []) ≡ None }
-    ensures { Puts W.sink f.old (codes "((" ++ (quad_text Y.T.num k (Y.a y.now) (Y.b y.now) (Y.c y.now) ++ codes "))")) f.new result }
+    requires { coordinates_fault k (Y.first_corner y.now ∷ Y.second_corner y.now ∷ Y.third_corner y.now ∷ []) ≡ None }
+    ensures { Puts W.sink f.old (codes "((" ++ (triangle_ring_text Y.T.num k (Y.first_corner y.now) (Y.second_corner y.now) (Y.third_corner y.now) ++ codes "))")) f.new result }
 {
     f.write_str("((")?;
-    put_quad(f, y.first(), y.second(), y.third(), k)?;
+    put_triangle_ring(f, y.first(), y.second(), y.third(), k)?;
     f.write_str("))")
 }

@@ -180,7 +180,7 @@ impl MultiLineStringTrait for Tracks {
 
     ghost dimension = { λ m. m.header };
 
-    ghost lines = { λ m. map (λ l. map (λ s. s.numbers.items) l.spots.items) m.members.items };
+    ghost line_strings = { λ m. map (λ l. map (λ s. s.numbers.items) l.spots.items) m.members.items };
 
     fn dim(&self) -> Dimensions {
         self.header
@@ -239,9 +239,9 @@ impl RectTrait for Corners {
 
     ghost dimension = { λ r. r.header };
 
-    ghost least = { λ r. r.first.numbers.items };
+    ghost least_corner = { λ r. r.first.numbers.items };
 
-    ghost most = { λ r. r.second.numbers.items };
+    ghost greatest_corner = { λ r. r.second.numbers.items };
 
     fn dim(&self) -> Dimensions {
         self.header
@@ -287,11 +287,11 @@ impl TriangleTrait for Corners {
 
     ghost dimension = { λ t. t.header };
 
-    ghost a = { λ t. t.first.numbers.items };
+    ghost first_corner = { λ t. t.first.numbers.items };
 
-    ghost b = { λ t. t.second.numbers.items };
+    ghost second_corner = { λ t. t.second.numbers.items };
 
-    ghost c = { λ t. t.third.numbers.items };
+    ghost third_corner = { λ t. t.third.numbers.items };
 
     fn dim(&self) -> Dimensions {
         self.header

@@ -1,8 +1,9 @@
 //! The eleven writers. Each checks the whole shape first, so that nothing is written of one that is refused.
 #![tactic(auto)]
 
-ghost use Rattle.std.specs.Prelude.{◌≡◌, ◌++◌, OnOk, Some, string_bytes};
+ghost use Rattle.std.specs.Prelude.{◌≡◌, ◌++◌, OnOk, Some, None, string_bytes};
 ghost use Rattle.wkt_access.specs.Faults.{fault};
+ghost use Rattle.wkt_access.specs.Lawful.{IsLawful};
 ghost use Rattle.wkt_access.specs.Parts.{collection_of};
 ghost use Rattle.wkt_access.specs.Shapes.{Shape};
 ghost use Rattle.wkt_access.specs.Texts.{shape_text};
@@ -13,13 +14,13 @@ use crate::access::{
     MultiPointTrait, MultiPolygonTrait, PointTrait, PolygonTrait, RectTrait, TriangleTrait,
 };
 use crate::check::{
-    check_collection, check_geometry, check_line_of_two, check_linestring, check_multi_linestring,
+    check_collection, check_geometry, check_line, check_linestring, check_multi_linestring,
     check_multi_point, check_multi_polygon, check_point, check_polygon, check_rect, check_triangle,
 };
 use crate::error::Error;
 use crate::put_kinds::{
-    put_collection, put_geometry, put_line_of_two, put_linestring, put_multi_linestring,
-    put_multi_point, put_multi_polygon, put_point, put_polygon, put_rect, put_triangle,
+    put_collection, put_geometry, put_line, put_linestring, put_multi_linestring, put_multi_point,
+    put_multi_polygon, put_point, put_polygon, put_rect, put_triangle,
 };
 use wkt_num::{CountedText, TextSink, WktNum};
 
@@ -83,7 +84,7 @@ pub fn write_multi_linestring<W: TextSink, M: MultiLineStringTrait>(
     f: &mut W,
     g: &M,
 ) -> Result<(), Error>
-    ensures { Writes W.sink M.T.is_value M.T.num f.old (Shape.multi_line_string (M.dimension g.now) (M.lines g.now)) f.new result }
+    ensures { Writes W.sink M.T.is_value M.T.num f.old (Shape.multi_line_string (M.dimension g.now) (M.line_strings g.now)) f.new result }
 {
     check_multi_linestring(g)?;
     put_multi_linestring(f, g)?;
@@ -135,6 +136,8 @@ pub fn write_geometry<W: TextSink, G: GeometryTrait>(f: &mut W, g: &G) -> Result
 /// [`Error::FmtError`] where the string has no memory to grow into.
 pub fn push_geometry<G: GeometryTrait>(out: &mut String, g: &G) -> Result<(), Error>
     ensures added { OnOk result (string_bytes out.new ≡ string_bytes out.old ++ shape_text G.T.num (G.shape g.now)) }
+    ensures sound { OnOk result (fault (G.shape g.now) ≡ None) }
+    ensures lawful { OnOk result (IsLawful G.T.is_value (G.shape g.now)) }
     ensures fault { IfFault result (λ e. fault (G.shape g.now) ≡ Some e) }
     ensures untouched { IfFault result (λ e. string_bytes out.new ≡ string_bytes out.old) }
 {
@@ -165,7 +168,7 @@ pub fn write_geometry_collection<W: TextSink, C: GeometryCollectionTrait>(
 /// Errors: [`Error::RectUnsupportedDimension`] where its dimension is neither `Xy` nor
 /// `Unknown(2)`; nothing is written then. [`Error::FmtError`] as in [`write_point`].
 pub fn write_rect<W: TextSink, R: RectTrait>(f: &mut W, g: &R) -> Result<(), Error>
-    ensures { Writes W.sink R.T.is_value R.T.num f.old (Shape.rect (R.dimension g.now) (R.least g.now) (R.most g.now)) f.new result }
+    ensures { Writes W.sink R.T.is_value R.T.num f.old (Shape.rect (R.dimension g.now) (R.least_corner g.now) (R.greatest_corner g.now)) f.new result }
 {
     check_rect(g)?;
     put_rect(f, g)?;
@@ -176,7 +179,7 @@ pub fn write_rect<W: TextSink, R: RectTrait>(f: &mut W, g: &R) -> Result<(), Err
 ///
 /// Errors: as [`write_point`], with the first corner that is too short.
 pub fn write_triangle<W: TextSink, Y: TriangleTrait>(f: &mut W, g: &Y) -> Result<(), Error>
-    ensures { Writes W.sink Y.T.is_value Y.T.num f.old (Shape.triangle (Y.dimension g.now) (Y.a g.now) (Y.b g.now) (Y.c g.now)) f.new result }
+    ensures { Writes W.sink Y.T.is_value Y.T.num f.old (Shape.triangle (Y.dimension g.now) (Y.first_corner g.now) (Y.second_corner g.now) (Y.third_corner g.now)) f.new result }
 {
     check_triangle(g)?;
     put_triangle(f, g)?;
@@ -189,7 +192,7 @@ pub fn write_triangle<W: TextSink, Y: TriangleTrait>(f: &mut W, g: &Y) -> Result
 pub fn write_line<W: TextSink, L: LineTrait>(f: &mut W, g: &L) -> Result<(), Error>
     ensures { Writes W.sink L.T.is_value L.T.num f.old (Shape.line (L.dimension g.now) (L.from g.now) (L.to g.now)) f.new result }
 {
-    check_line_of_two(g)?;
-    put_line_of_two(f, g)?;
+    check_line(g)?;
+    put_line(f, g)?;
     Ok(())
 }

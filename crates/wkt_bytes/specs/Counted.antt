@@ -1,8 +1,8 @@
--- A device with a count of its failures.
+-- A writer or reader with a count of its failures.
 use Rattle.std.specs.Prelude.{ℕ}
 use Rattle.wkt_bytes.specs.declared.device.Counted.{Counted}
 
--- The device.
+-- The writer or reader.
 abbrev pub device_of : {D : Type 0} → Counted D → D
 device_of c = c.device
 

@@ -1,11 +1,11 @@
--- Devices: how they count failures, and what went out.
+-- Sinks of bytes: what they hold, how they count failures, and what went out.
 use Rattle.std.specs.Prelude.{◌≡◌, ℕ, zero, suc, List, [], ◌∷◌, ◌++◌, Option, Result, Ok, Err, refl}
 use Rattle.std.specs.Borrow.{MutBor}
 use Rattle.std.proofs.Common.{◌∙◌}
 use Rattle.std.specs.Io.KnownBytes.{Appends}
 use Rattle.wkt_num.specs.Sink.{next_count}
 
--- What is known of a device.
+-- What is known of a sink of bytes.
 pub record Device (D : Type 0) : Type 1 where
   -- What it was given and holds, where it can tell. A call that fails leaves it as it is.
   pub bytes : D → Option (List ℕ)
@@ -16,7 +16,7 @@ pub record Device (D : Type 0) : Type 1 where
   pub keeps_none : (d : D) → keeps d d
   pub keeps_more : (d e f : D) → keeps d e → keeps e f → keeps d f
 
--- A device that is no reference.
+-- A sink that is no reference.
 abbrev pub owned : {D : Type 0} → (D → Option (List ℕ)) → (D → ℕ) → Device D
 owned bytes failures = record {
   bytes = bytes;
@@ -26,7 +26,7 @@ owned bytes failures = record {
   keeps_more = λ _ _ _ _ _. tt;
 }
 
--- A device that is a reference to another.
+-- A sink that is reached by a reference.
 abbrev pub lent_device : {D : Type 0} → Device D → Device (MutBor D)
 lent_device device = record {
   bytes = λ d. device.bytes d.now;

@@ -48,7 +48,7 @@ not_well Told h = refl
 
 module _ {W : Type 0} (device : Device W) where
   -- What s held and was handed is what went out followed by what t holds.
-  pub record Gives (s : WriterWrapper W) (handed : List ℕ) (t : WriterWrapper W) : Type 0 where
+  pub record Gathers (s : WriterWrapper W) (handed : List ℕ) (t : WriterWrapper W) : Type 0 where
     pub out : List ℕ
     pub went : Appends (device.bytes s.writer) (device.bytes t.writer) out
     pub whole : held_bytes s ++ handed ≡ out ++ held_bytes t
@@ -59,7 +59,7 @@ module _ {W : Type 0} (device : Device W) where
     pub still : is_well s ≡ false → t.writer ≡ s.writer
 
   -- The writer has failed, and a beginning of what s held and was handed went out.
-  pub record Leaves (s : WriterWrapper W) (handed : List ℕ) (t : WriterWrapper W) : Type 0 where
+  pub record BreaksOff (s : WriterWrapper W) (handed : List ℕ) (t : WriterWrapper W) : Type 0 where
     pub out : List ℕ
     pub lost : List ℕ
     pub went : Appends (device.bytes s.writer) (device.bytes t.writer) out
@@ -88,7 +88,7 @@ pub wholes : (held handed more out held' out' held'' : List ℕ) →
 wholes held handed more out held' out' held'' h k = rw (← append_assoc, h, append_assoc, k, ← append_assoc) refl
 
 module _ {W : Type 0} (device : Device W) where
-  pub gives_none : (s : WriterWrapper W) → Gives device s [] s
+  pub gives_none : (s : WriterWrapper W) → Gathers device s [] s
   gives_none s = record {
     out = [];
     went = appends_none (device.bytes s.writer);
@@ -100,7 +100,7 @@ module _ {W : Type 0} (device : Device W) where
     still = λ _. refl;
   }
 
-  pub gives_more : (s t u : WriterWrapper W) (bs cs : List ℕ) → Gives device s bs t → Gives device t cs u → Gives device s (bs ++ cs) u
+  pub gives_more : (s t u : WriterWrapper W) (bs cs : List ℕ) → Gathers device s bs t → Gathers device t cs u → Gathers device s (bs ++ cs) u
   gives_more s t u bs cs h k = record {
     out = h.out ++ k.out;
     went = appends_more (device.bytes s.writer) (device.bytes t.writer) (device.bytes u.writer) h.out k.out h.went k.went;
@@ -112,7 +112,7 @@ module _ {W : Type 0} (device : Device W) where
     still = λ w. k.still (h.same ∙ w) ∙ h.still w;
   }
 
-  pub leaves_after : (s t u : WriterWrapper W) (bs cs : List ℕ) → Gives device s bs t → Leaves device t cs u → Leaves device s (bs ++ cs) u
+  pub leaves_after : (s t u : WriterWrapper W) (bs cs : List ℕ) → Gathers device s bs t → BreaksOff device t cs u → BreaksOff device s (bs ++ cs) u
   leaves_after s t u bs cs h k = record {
     out = h.out ++ k.out;
     lost = k.lost;
@@ -126,7 +126,7 @@ module _ {W : Type 0} (device : Device W) where
     still = λ w. k.still (h.same ∙ w) ∙ h.still w;
   }
 
-  pub leaves_longer : (s t : WriterWrapper W) (bs cs : List ℕ) → Leaves device s bs t → Leaves device s (bs ++ cs) t
+  pub leaves_longer : (s t : WriterWrapper W) (bs cs : List ℕ) → BreaksOff device s bs t → BreaksOff device s (bs ++ cs) t
   leaves_longer s t bs cs h = record {
     out = h.out;
     lost = h.lost ++ cs;
@@ -141,7 +141,7 @@ module _ {W : Type 0} (device : Device W) where
   }
 
   -- a wrapper whose writer has failed takes nothing
-  pub leaves_as_is : (s : WriterWrapper W) (bs : List ℕ) → is_well s ≡ false → Leaves device s bs s
+  pub leaves_as_is : (s : WriterWrapper W) (bs : List ℕ) → is_well s ≡ false → BreaksOff device s bs s
   leaves_as_is s bs h = record {
     out = [];
     lost = held_bytes s ++ bs;
@@ -156,7 +156,7 @@ module _ {W : Type 0} (device : Device W) where
   }
 
   -- bytes were taken into the array alone
-  pub kept_gives : (s t : WriterWrapper W) (bs : List ℕ) → t.writer ≡ s.writer → t.state ≡ s.state → held_bytes t ≡ held_bytes s ++ bs → Gives device s bs t
+  pub kept_gives : (s t : WriterWrapper W) (bs : List ℕ) → t.writer ≡ s.writer → t.state ≡ s.state → held_bytes t ≡ held_bytes s ++ bs → Gathers device s bs t
   kept_gives s t bs e f h = record {
     out = [];
     went = subst (λ (w : W). Appends (device.bytes s.writer) (device.bytes w) []) (sym e) (appends_none (device.bytes s.writer));
@@ -169,19 +169,19 @@ module _ {W : Type 0} (device : Device W) where
   }
 
   -- from an empty array to an empty array
-  pub all_out : (s u : WriterWrapper W) (bs : List ℕ) → Gives device s bs u → held_bytes s ≡ [] → held_bytes u ≡ [] → Appends (device.bytes s.writer) (device.bytes u.writer) bs
+  pub all_out : (s u : WriterWrapper W) (bs : List ℕ) → Gathers device s bs u → held_bytes s ≡ [] → held_bytes u ≡ [] → Appends (device.bytes s.writer) (device.bytes u.writer) bs
   all_out s u bs j e f =
       let same : j.out ≡ bs = sym (append-nil j.out) ∙ (ap (λ xs. j.out ++ xs) (sym f) ∙ (sym j.whole ∙ ap (λ xs. xs ++ bs) e)) in
       subst (λ xs. Appends (device.bytes s.writer) (device.bytes u.writer) xs) same j.went
 
-  pub all_sent : (s t u : WriterWrapper W) (bs : List ℕ) → Gives device s bs t → Gives device t [] u →
+  pub all_sent : (s t u : WriterWrapper W) (bs : List ℕ) → Gathers device s bs t → Gathers device t [] u →
       held_bytes s ≡ [] → held_bytes u ≡ [] → Appends (device.bytes s.writer) (device.bytes u.writer) bs
   all_sent s t u bs h k e f =
       let j = gives_more s t u bs [] h k in
       let same : j.out ≡ bs = sym (append-nil j.out) ∙ (ap (λ xs. j.out ++ xs) (sym f) ∙ (sym j.whole ∙ rw (e, append-nil) refl)) in
       subst (λ xs. Appends (device.bytes s.writer) (device.bytes u.writer) xs) same j.went
 
-  pub some_sent : (s t : WriterWrapper W) (bs : List ℕ) → Leaves device s bs t → held_bytes s ≡ [] →
+  pub some_sent : (s t : WriterWrapper W) (bs : List ℕ) → BreaksOff device s bs t → held_bytes s ≡ [] →
       BeginningOut (device.bytes s.writer) (device.bytes t.writer) bs
   some_sent s t bs h e = record {
     out = h.out;
@@ -190,15 +190,15 @@ module _ {W : Type 0} (device : Device W) where
     whole = sym (ap (λ xs. xs ++ bs) e) ∙ h.whole;
   }
 
-  pub some_sent_late : (s t u : WriterWrapper W) (bs : List ℕ) → Gives device s bs t → Leaves device t [] u →
+  pub some_sent_late : (s t u : WriterWrapper W) (bs : List ℕ) → Gathers device s bs t → BreaksOff device t [] u →
       held_bytes s ≡ [] → BeginningOut (device.bytes s.writer) (device.bytes u.writer) bs
   some_sent_late s t u bs h k e = some_sent s u bs (rw append-nil at (leaves_after s t u bs [] h k)) e
 
 -- What the calls hand the writer, through the array.
 abbrev pub wrapped_sink : {W : Type 0} → Device W → Sink (WriterWrapper W)
 wrapped_sink device = record {
-  gives = Gives device;
-  leaves = Leaves device;
+  gives = Gathers device;
+  leaves = BreaksOff device;
   failures = failed_calls;
   none = gives_none device;
   more = gives_more device;

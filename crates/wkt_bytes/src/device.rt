@@ -1,4 +1,4 @@
-//! Devices that take and give bytes.
+//! Sinks and sources of bytes.
 ghost use Rattle.std.specs.Prelude.{◌≡◌, ℕ, ◌≤◌, List, [], ◌∷◌, ◌++◌, IfOk, OnOk, OnErr, Option, length};
 ghost use Rattle.std.specs.Io.KnownBytes.{WriteAppends, ReadConsumes};
 ghost use Rattle.wkt_num.specs.Sink.{next_count};
@@ -10,7 +10,7 @@ use std::io::{Read, Write};
 /// Where bytes go: one call of `put` is one call of a writer.
 ///
 /// ```text
-/// impl ByteSink for MyDevice { .. put: hand over some bytes, and answer how many were taken .. }
+/// impl ByteSink for MySink { .. put: hand over some bytes, and answer how many were taken .. }
 /// ```
 pub trait ByteSink {
     /// What it holds, where it can tell, how many calls have failed, and that a reference stays the
@@ -20,7 +20,7 @@ pub trait ByteSink {
     /// Takes some of the bytes from the front, and answers how many.
     ///
     /// # Errors
-    /// The device's fault.
+    /// The sink's fault.
     fn put(&mut self, buf: &[u8]) -> io::Result<usize>
         ensures bound { IfOk result (λ n. n ≤ length buf.now) }
         ensures took { WriteAppends (device.bytes self.old) (device.bytes self.new) result buf.now }
@@ -39,7 +39,7 @@ pub trait ByteSource {
     /// Gives the next bytes at the front of `buf`, and answers how many.
     ///
     /// # Errors
-    /// The device's fault.
+    /// The source's fault.
     fn take(&mut self, buf: &mut [u8]) -> io::Result<usize>
         ensures bound { IfOk result (λ n. n ≤ length buf.new) }
         ensures gave { ReadConsumes (left self.old) (left self.new) result buf.new }
@@ -54,8 +54,8 @@ impl<W: ByteSink> ByteSink for &mut W {
     }
 }
 
-/// A device of `std::io` with a count of its failures: a [`ByteSink`] over any `io::Write`, a
-/// [`ByteSource`] over any `io::Read`.
+/// A writer or a reader of `std::io` with a count of its failures: a [`ByteSink`] over any
+/// `io::Write`, a [`ByteSource`] over any `io::Read`.
 #[derive(Drop)]
 pub struct Counted<D> {
     device: D,
@@ -65,7 +65,7 @@ pub struct Counted<D> {
 impl<D> Counted<D> {
     ghost use Rattle.wkt_bytes.specs.Counted.{device_of, counted};
 
-    /// This device, of which no failure has been counted.
+    /// This writer or reader, of which no failure has been counted.
     pub fn new(device: D) -> Self
         ensures device { device_of result ≡ device }
         ensures count { counted result ≡ 0 }
@@ -73,7 +73,7 @@ impl<D> Counted<D> {
         Counted { device, count: 0 }
     }
 
-    /// Gives the device back.
+    /// Gives the writer or reader back.
     pub fn into_inner(self) -> D
         ensures { result ≡ device_of self }
     {

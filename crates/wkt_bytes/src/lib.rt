@@ -1,8 +1,10 @@
-//! Devices that take and give bytes, and text to them.
+//! Sinks and sources of bytes, and text to a sink of bytes.
 #![tactic(auto)]
 
 mod device;
 mod read;
+#[cfg(test)]
+mod tests;
 mod wrapper;
 
 pub use device::{ByteSink, ByteSource, Counted};

@@ -52,7 +52,7 @@ fn put_all<W: ByteSink>(writer: &mut W, bytes: &[u8]) -> Result<(), io::Error>
 }
 
 impl<W: ByteSink> WriterWrapper<W> {
-    ghost use Rattle.wkt_bytes.specs.Wrapper.{held_bytes, failed_calls, is_well, is_untold, writer_of, Gives, Leaves};
+    ghost use Rattle.wkt_bytes.specs.Wrapper.{held_bytes, failed_calls, is_well, is_untold, writer_of, Gathers, BreaksOff};
 
     /// A wrapper of this writer, which holds nothing yet.
     pub fn new(writer: W) -> WriterWrapper<W>
@@ -116,10 +116,10 @@ impl<W: ByteSink> WriterWrapper<W> {
     // Puts out what the array holds.
     fn empty(&mut self) -> fmt::Result
         requires { is_well self.old ≡ true }
-        ensures ok { OnOk result (Gives W.device self.old [] self.new) }
+        ensures ok { OnOk result (Gathers W.device self.old [] self.new) }
         ensures well { OnOk result (is_well self.new ≡ true) }
         ensures held { OnOk result (self.new.len ≡ 0) }
-        ensures err { OnErr result (Leaves W.device self.old [] self.new) }
+        ensures err { OnErr result (BreaksOff W.device self.old [] self.new) }
         ensures kept { OnErr result (held_bytes self.new ≡ held_bytes self.old) }
         ensures failures { self.new.failures ≡ self.old.failures }
     {
@@ -137,9 +137,10 @@ impl<W: ByteSink> WriterWrapper<W> {
 
     // Takes the bytes, and puts out the array each time that it is full. Most pieces just fit.
     fn accept(&mut self, bytes: &[u8]) -> fmt::Result
-        ensures ok { OnOk result (Gives W.device self.old bytes.now self.new) }
+        ensures ok { OnOk result (Gathers W.device self.old bytes.now self.new) }
         ensures well { OnOk result (is_well self.old ≡ true) }
-        ensures err { OnErr result (Leaves W.device self.old bytes.now self.new) }
+        ensures err { OnErr result (BreaksOff W.device self.old bytes.now self.new) }
+        ensures gathered { length (held_bytes self.old) + length bytes.now < 256 → self.new.writer ≡ self.old.writer }
         ensures failures { self.new.failures ≡ self.old.failures }
     {
         let State::Well = self.state else {
@@ -161,8 +162,8 @@ impl<W: ByteSink> WriterWrapper<W> {
     #[inline(never)]
     fn accept_long(&mut self, bytes: &[u8]) -> fmt::Result
         requires { is_well self.old ≡ true }
-        ensures ok { OnOk result (Gives W.device self.old bytes.now self.new) }
-        ensures err { OnErr result (Leaves W.device self.old bytes.now self.new) }
+        ensures ok { OnOk result (Gathers W.device self.old bytes.now self.new) }
+        ensures err { OnErr result (BreaksOff W.device self.old bytes.now self.new) }
         ensures failures { self.new.failures ≡ self.old.failures }
     {
         let mut at = 0;
@@ -187,10 +188,10 @@ impl<W: ByteSink> WriterWrapper<W> {
     /// # Errors
     /// `fmt::Error` where the writer failed, in this call or before it.
     pub fn finish(&mut self) -> fmt::Result
-        ensures ok { OnOk result (Gives W.device self.old [] self.new) }
+        ensures ok { OnOk result (Gathers W.device self.old [] self.new) }
         ensures well { OnOk result (is_well self.old ≡ true) }
         ensures empty { OnOk result (held_bytes self.new ≡ []) }
-        ensures err { OnErr result (Leaves W.device self.old [] self.new) }
+        ensures err { OnErr result (BreaksOff W.device self.old [] self.new) }
         ensures kept { OnErr result (held_bytes self.new ≡ held_bytes self.old) }
         ensures count { failed_calls self.new ≡ failed_calls self.old }
     {
@@ -220,13 +221,14 @@ impl<W: ByteSink> WriterWrapper<W> {
 }
 
 impl<W: ByteSink> TextSink for WriterWrapper<W> {
-    ghost use Rattle.wkt_bytes.specs.Wrapper.{wrapped_sink, is_well};
+    ghost use Rattle.wkt_bytes.specs.Wrapper.{wrapped_sink, held_bytes, is_well, writer_of};
 
     ghost sink = { wrapped_sink W.device };
 
     fn write_str(&mut self, piece: &str) -> fmt::Result
         ensures puts { Puts (wrapped_sink W.device) self.old piece.now self.new result }
         ensures well { OnOk result (is_well self.old ≡ true) }
+        ensures gathered { length (held_bytes self.old) + length piece.now < 256 → writer_of self.new ≡ writer_of self.old }
     {
         match self.accept(piece.as_bytes()) {
             Ok(()) => Ok(()),

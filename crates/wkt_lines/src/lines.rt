@@ -4,7 +4,7 @@ ghost use Rattle.std.specs.List.{prefix_len};
 ghost use Rattle.std.specs.Simd.Lanes.{chunk};
 ghost use Rattle.std.specs.Io.KnownBytes.{IsAtEnd};
 ghost use Rattle.wkt_num.specs.Sink.{next_count};
-ghost use Rattle.wkt_bytes.specs.Wrapper.{is_well, is_untold, held_bytes, writer_of, Gives, Leaves};
+ghost use Rattle.wkt_bytes.specs.Wrapper.{is_well, is_untold, held_bytes, writer_of, Gathers, BreaksOff};
 ghost use Rattle.wkt_lines.specs.Numbers.{read_line, print_line};
 ghost use Rattle.wkt_lines.specs.Output.{IsAllOut, IsFirstOut, IsSomeOut, IsLineOut, IsLinePartOut, IfRead, IfWrite, IfMemory};
 ghost use Rattle.wkt_lines.specs.Splitting.{before_feed, after_feed};
@@ -180,9 +180,9 @@ fn answer_line<T: WktNum, W: ByteSink>(
 
 /// Ends a line, and puts it out.
 fn end_line<W: ByteSink>(wrapper: &mut WriterWrapper<W>) -> fmt::Result
-    ensures ok { OnOk result (Gives W.device wrapper.old (10 ∷ []) wrapper.new) }
+    ensures ok { OnOk result (Gathers W.device wrapper.old (10 ∷ []) wrapper.new) }
     ensures held { OnOk result (held_bytes wrapper.new ≡ []) }
-    ensures err { OnErr result (Leaves W.device wrapper.old (10 ∷ []) wrapper.new) }
+    ensures err { OnErr result (BreaksOff W.device wrapper.old (10 ∷ []) wrapper.new) }
 {
     match wrapper.write_str("\n") {
         Ok(()) => wrapper.finish(),

@@ -1,13 +1,17 @@
 -- What was displayed, where a shape has no fault.
-use Rattle.std.proofs.Common.{◌≡◌, ℕ, List, Option, Some, None, Ok}
+use Rattle.std.proofs.Common.{◌≡◌, ℕ, List, Option, Some, None, Result, Ok, Err, ap, ◌∙◌}
+use Rattle.std.specs.Borrow.{MutBor}
 use Rattle.std.specs.Prelude.{IfSome}
 use Rattle.std.specs.Fmt.{DisplaysOnOk, DisplaysStyledOnOk, HasWrittenStyled, IsFlush}
 use Rattle.std.specs.declared.fmt.Formatter.{Formatter}
 use Rattle.wkt_access.specs.declared.error.Error.{Error}
+use Rattle.wkt_access.specs.declared.error.Error.TheVariants.{FmtError, RectUnsupportedDimension, UnknownDimension, TooFewNumbers, Memory}
+use Rattle.wkt_access.specs.Writes.{Writes}
+use Rattle.wkt_num.specs.Sink.{Sink}
 use Rattle.wkt_access.specs.Shapes.{Shape}
 use Rattle.wkt_access.specs.Texts.{shape_text}
 use Rattle.wkt_access.specs.Faults.{fault}
-use Rattle.wkt_types.specs.Shown.{shown, text_unless}
+use Rattle.wkt_types.specs.Shown.{shown, text_unless, IsUnwritable}
 use Rattle.wkt_num.proofs.Handed.{displayed_plain}
 
 if_none : (o : Option Error) (bs : List ℕ) (P : List ℕ → Type 0) → o ≡ None → P bs → IfSome (text_unless o bs) P
@@ -20,3 +24,16 @@ module _ {W N : Type 0} (gives : W → List ℕ → W → Type 0) (num : N → L
 
   pub shown_plain : (IsFlush f → HasWrittenStyled gives f (shape_text num s) g) → DisplaysOnOk gives f (Ok tt) (shown num s) g
   shown_plain h = if_none (fault s) (shape_text num s) _ e (λ p q. displayed_plain gives f (shape_text num s) g p (h p.flush))
+
+-- a sink is as it was where the shape can't be written
+pub unwritten : {S T N : Type 0} (sink : Sink S) (is_value : N → Type 0) (num : N → List ℕ) (s t : S) (shape : Shape N) (r : Result T Error) → Writes sink is_value num s shape t r → IsUnwritable shape → t ≡ s
+unwritten sink is_value num s t shape (Ok x) w h = absurd (h w.sound)
+unwritten sink is_value num s t shape (Err (FmtError e)) w h = absurd (h w.sound)
+unwritten sink is_value num s t shape (Err RectUnsupportedDimension) w h = w.same
+unwritten sink is_value num s t shape (Err UnknownDimension) w h = w.same
+unwritten sink is_value num s t shape (Err TooFewNumbers) w h = w.same
+unwritten sink is_value num s t shape (Err (Memory e)) w h = w.same
+
+-- what a reference reaches is as it was where a sink over it is
+pub untouched : {W : Type 0} (s t b e : MutBor W) (v : W) → s ≡ b → e ≡ t → (e.ghost_name ≡ b.ghost_name → v ≡ e.now) → t ≡ s → v ≡ b.now
+untouched s t b e v at to back same = back (ap (λ x. x.ghost_name) (to ∙ (same ∙ at))) ∙ ap (λ x. x.now) (to ∙ (same ∙ at))

@@ -2,7 +2,7 @@
 use Rattle.std.specs.Prelude.{Bool, ◌&&◌, Option}
 use Rattle.std.proofs.Common.{ap, ◌∙◌}
 use Rattle.wkt_types.specs.Held.{Held, HeldPoint}
-use Rattle.wkt_flat.specs.Exact.{IsExact, both, joined}
+use Rattle.wkt_flat.specs.Exact.{IsExact, both, both_true}
 use Rattle.wkt_types.specs.Exact.{option_eq, option_exact, held_eq, held_exact, held_point_eq, held_point_exact}
 use Rattle.wkt_types.specs.declared.coord.Coord.{Coord}
 
@@ -22,7 +22,7 @@ coord_exact {T} {E} e = record {
       let m = (option_exact e).only a.m b.m r.1 in
       let make : T → T → Option T → Option T → Coord T = λ x y z m. record { x = x; y = y; z = z; m = m } in
       ap (λ w. make w a.y a.z a.m) x ∙ (ap (λ w. make b.x w a.z a.m) y ∙ (ap (λ w. make b.x b.y w a.m) z ∙ ap (λ w. make b.x b.y b.z w) m));
-  each = λ a. joined (e.each a.x) (joined (e.each a.y) (joined ((option_exact e).each a.z) ((option_exact e).each a.m)));
+  each = λ a. both_true (e.each a.x) (both_true (e.each a.y) (both_true ((option_exact e).each a.z) ((option_exact e).each a.m)));
 }
 
 -- Two points, lines or polygons are the same by a test of their numbers.

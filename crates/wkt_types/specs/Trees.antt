@@ -1,7 +1,7 @@
 -- When two trees are the same.
 use Rattle.std.specs.Prelude.{◌≡◌, refl, Bool, true, false, ◌&&◌}
 use Rattle.std.proofs.Common.{ap}
-use Rattle.wkt_flat.specs.Exact.{IsExact, both, joined}
+use Rattle.wkt_flat.specs.Exact.{IsExact, both, both_true}
 use Rattle.wkt_types.specs.Exact.{dim_eq, dim_exact, held_eq, held_exact}
 use Rattle.wkt_types.specs.Equal.{point_eq, point_exact, line_eq, line_exact, polygon_eq, polygon_exact}
 use Rattle.wkt_types.specs.Tree.{Tree, Trees, point, line_string, polygon, multi_point, multi_line_string, multi_polygon, collection, no_trees, more_trees}
@@ -56,11 +56,11 @@ module _ {T : Type 0} {E : T → T → Bool} (e : IsExact E) where
     tree_each (multi_point a) = (held_exact (point_exact e)).each a
     tree_each (multi_line_string a) = (held_exact (line_exact e)).each a
     tree_each (multi_polygon a) = (held_exact (polygon_exact e)).each a
-    tree_each (collection a d) = joined (trees_each a) (dim_exact.each d)
+    tree_each (collection a d) = both_true (trees_each a) (dim_exact.each d)
 
     trees_each : (x : Trees T) → trees_eq E x x ≡ true
     trees_each no_trees = refl
-    trees_each (more_trees a as') = joined (tree_each a) (trees_each as')
+    trees_each (more_trees a as') = both_true (tree_each a) (trees_each as')
 
   pub tree_exact : IsExact (tree_eq E)
   tree_exact = record { only = tree_only; each = tree_each }

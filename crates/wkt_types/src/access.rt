@@ -149,7 +149,7 @@ impl<T: WktNum> MultiLineStringTrait for MultiLineString<T> {
 
     ghost dimension = { λ m. header_of m.dim };
 
-    ghost lines = { λ m. map line_numbers m.parts };
+    ghost line_strings = { λ m. map line_numbers m.parts };
 
     fn dim(&self) -> Dimensions {
         Dimensions::from(self.dimension())

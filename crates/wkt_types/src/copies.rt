@@ -1,4 +1,4 @@
-//! Copies that may fail for want of memory.
+//! Copies of lists, which can run out of memory.
 ghost use Rattle.std.specs.Prelude.{◌≡◌, IfOk};
 
 use std::alloc::{AllocError, Global};

@@ -22,11 +22,13 @@ impl<T: WktNum> fmt::Display for Wkt<T> {
 
     ghost styled_output = { λ x _. shown T.num (tree_shape (tree x)) };
 
-    /// The text, under any width, fill or precision; `fmt::Error` where it can't be written.
+    /// The text, under any width, fill or precision. Where it can't be written: `fmt::Error`, and
+    /// nothing is written.
     fn fmt<W: fmt::Write>(&self, f: &mut Formatter<W>) -> fmt::Result
         ensures writes { DisplaysOnOk W.write_str_gives f.old result (shown T.num (tree_shape (tree self.now))) f.new }
         ensures styled { DisplaysStyledOnOk W.write_str_gives f.old result (shown T.num (tree_shape (tree self.now))) f.new }
         ensures refused { IsUnwritable (tree_shape (tree self.now)) → IsErr result }
+        ensures untouched { IsUnwritable (tree_shape (tree self.now)) → f.new ≡ f.old }
     {
         show_geometry(self, f)
     }
@@ -37,11 +39,13 @@ impl<T: WktNum> fmt::Display for Point<T> {
 
     ghost styled_output = { λ x _. shown T.num (tree_shape (point x)) };
 
-    /// The text, under any width, fill or precision; `fmt::Error` where it can't be written.
+    /// The text, under any width, fill or precision. Where it can't be written: `fmt::Error`, and
+    /// nothing is written.
     fn fmt<W: fmt::Write>(&self, f: &mut Formatter<W>) -> fmt::Result
         ensures writes { DisplaysOnOk W.write_str_gives f.old result (shown T.num (tree_shape (point self.now))) f.new }
         ensures styled { DisplaysStyledOnOk W.write_str_gives f.old result (shown T.num (tree_shape (point self.now))) f.new }
         ensures refused { IsUnwritable (tree_shape (point self.now)) → IsErr result }
+        ensures untouched { IsUnwritable (tree_shape (point self.now)) → f.new ≡ f.old }
     {
         show_geometry(self, f)
     }
@@ -52,11 +56,13 @@ impl<T: WktNum> fmt::Display for LineString<T> {
 
     ghost styled_output = { λ x _. shown T.num (tree_shape (line_string x)) };
 
-    /// The text, under any width, fill or precision; `fmt::Error` where it can't be written.
+    /// The text, under any width, fill or precision. Where it can't be written: `fmt::Error`, and
+    /// nothing is written.
     fn fmt<W: fmt::Write>(&self, f: &mut Formatter<W>) -> fmt::Result
         ensures writes { DisplaysOnOk W.write_str_gives f.old result (shown T.num (tree_shape (line_string self.now))) f.new }
         ensures styled { DisplaysStyledOnOk W.write_str_gives f.old result (shown T.num (tree_shape (line_string self.now))) f.new }
         ensures refused { IsUnwritable (tree_shape (line_string self.now)) → IsErr result }
+        ensures untouched { IsUnwritable (tree_shape (line_string self.now)) → f.new ≡ f.old }
     {
         show_geometry(self, f)
     }
@@ -67,11 +73,13 @@ impl<T: WktNum> fmt::Display for Polygon<T> {
 
     ghost styled_output = { λ x _. shown T.num (tree_shape (polygon x)) };
 
-    /// The text, under any width, fill or precision; `fmt::Error` where it can't be written.
+    /// The text, under any width, fill or precision. Where it can't be written: `fmt::Error`, and
+    /// nothing is written.
     fn fmt<W: fmt::Write>(&self, f: &mut Formatter<W>) -> fmt::Result
         ensures writes { DisplaysOnOk W.write_str_gives f.old result (shown T.num (tree_shape (polygon self.now))) f.new }
         ensures styled { DisplaysStyledOnOk W.write_str_gives f.old result (shown T.num (tree_shape (polygon self.now))) f.new }
         ensures refused { IsUnwritable (tree_shape (polygon self.now)) → IsErr result }
+        ensures untouched { IsUnwritable (tree_shape (polygon self.now)) → f.new ≡ f.old }
     {
         show_geometry(self, f)
     }
@@ -82,11 +90,13 @@ impl<T: WktNum> fmt::Display for MultiPoint<T> {
 
     ghost styled_output = { λ x _. shown T.num (tree_shape (multi_point x)) };
 
-    /// The text, under any width, fill or precision; `fmt::Error` where it can't be written.
+    /// The text, under any width, fill or precision. Where it can't be written: `fmt::Error`, and
+    /// nothing is written.
     fn fmt<W: fmt::Write>(&self, f: &mut Formatter<W>) -> fmt::Result
         ensures writes { DisplaysOnOk W.write_str_gives f.old result (shown T.num (tree_shape (multi_point self.now))) f.new }
         ensures styled { DisplaysStyledOnOk W.write_str_gives f.old result (shown T.num (tree_shape (multi_point self.now))) f.new }
         ensures refused { IsUnwritable (tree_shape (multi_point self.now)) → IsErr result }
+        ensures untouched { IsUnwritable (tree_shape (multi_point self.now)) → f.new ≡ f.old }
     {
         show_geometry(self, f)
     }
@@ -97,11 +107,13 @@ impl<T: WktNum> fmt::Display for MultiLineString<T> {
 
     ghost styled_output = { λ x _. shown T.num (tree_shape (multi_line_string x)) };
 
-    /// The text, under any width, fill or precision; `fmt::Error` where it can't be written.
+    /// The text, under any width, fill or precision. Where it can't be written: `fmt::Error`, and
+    /// nothing is written.
     fn fmt<W: fmt::Write>(&self, f: &mut Formatter<W>) -> fmt::Result
         ensures writes { DisplaysOnOk W.write_str_gives f.old result (shown T.num (tree_shape (multi_line_string self.now))) f.new }
         ensures styled { DisplaysStyledOnOk W.write_str_gives f.old result (shown T.num (tree_shape (multi_line_string self.now))) f.new }
         ensures refused { IsUnwritable (tree_shape (multi_line_string self.now)) → IsErr result }
+        ensures untouched { IsUnwritable (tree_shape (multi_line_string self.now)) → f.new ≡ f.old }
     {
         show_geometry(self, f)
     }
@@ -112,11 +124,13 @@ impl<T: WktNum> fmt::Display for MultiPolygon<T> {
 
     ghost styled_output = { λ x _. shown T.num (tree_shape (multi_polygon x)) };
 
-    /// The text, under any width, fill or precision; `fmt::Error` where it can't be written.
+    /// The text, under any width, fill or precision. Where it can't be written: `fmt::Error`, and
+    /// nothing is written.
     fn fmt<W: fmt::Write>(&self, f: &mut Formatter<W>) -> fmt::Result
         ensures writes { DisplaysOnOk W.write_str_gives f.old result (shown T.num (tree_shape (multi_polygon self.now))) f.new }
         ensures styled { DisplaysStyledOnOk W.write_str_gives f.old result (shown T.num (tree_shape (multi_polygon self.now))) f.new }
         ensures refused { IsUnwritable (tree_shape (multi_polygon self.now)) → IsErr result }
+        ensures untouched { IsUnwritable (tree_shape (multi_polygon self.now)) → f.new ≡ f.old }
     {
         show_geometry(self, f)
     }
@@ -127,11 +141,13 @@ impl<T: WktNum> fmt::Display for GeometryCollection<T> {
 
     ghost styled_output = { λ x _. shown T.num (tree_shape (collection_tree x)) };
 
-    /// The text, under any width, fill or precision; `fmt::Error` where it can't be written.
+    /// The text, under any width, fill or precision. Where it can't be written: `fmt::Error`, and
+    /// nothing is written.
     fn fmt<W: fmt::Write>(&self, f: &mut Formatter<W>) -> fmt::Result
         ensures writes { DisplaysOnOk W.write_str_gives f.old result (shown T.num (tree_shape (collection_tree self.now))) f.new }
         ensures styled { DisplaysStyledOnOk W.write_str_gives f.old result (shown T.num (tree_shape (collection_tree self.now))) f.new }
         ensures refused { IsUnwritable (tree_shape (collection_tree self.now)) → IsErr result }
+        ensures untouched { IsUnwritable (tree_shape (collection_tree self.now)) → f.new ≡ f.old }
     {
         show_collection(self, f)
     }

@@ -75,7 +75,7 @@ impl<T> GeometryCollection<T> {
     /// None where it gives none.
     ///
     /// # Errors
-    /// Want of memory.
+    /// Out of memory.
     pub fn from_geometries<I: Iterator<Item = Wkt<T>> + Drop>(
         alloc: Global,
         geometries: I,
@@ -223,7 +223,7 @@ fn push_collection<T: Copy + Drop>(
     Ok(())
 }
 
-// A copy, behind others.
+// A copy, after others.
 #[cycle(copy)]
 fn push_copy<T: Copy + Drop>(
     w: &Wkt<T>,
@@ -293,7 +293,7 @@ impl<T: Copy + Drop> Wkt<T> {
     /// An equal geometry.
     ///
     /// # Errors
-    /// Want of memory.
+    /// Out of memory.
     pub fn try_clone(&self, alloc: Global) -> Result<Self, AllocError>
         ensures { IfOk result (λ w. tree w ≡ tree self.now) }
     {
@@ -305,7 +305,7 @@ impl<T: Copy + Drop> GeometryCollection<T> {
     /// An equal collection.
     ///
     /// # Errors
-    /// Want of memory.
+    /// Out of memory.
     pub fn try_clone(&self, alloc: Global) -> Result<Self, AllocError>
         ensures { IfOk result (λ c. collection_tree c ≡ collection_tree self.now) }
     {

@@ -54,7 +54,7 @@ impl<T> LineString<T> {
     /// where it gives none.
     ///
     /// # Errors
-    /// Want of memory.
+    /// Out of memory.
     pub fn from_coords<I: Iterator<Item = Coord<T>> + Drop>(
         alloc: Global,
         coords: I,
@@ -103,7 +103,7 @@ impl<T: Copy + Drop> LineString<T> {
     /// An equal line.
     ///
     /// # Errors
-    /// Want of memory.
+    /// Out of memory.
     pub fn try_clone(&self, alloc: Global) -> Result<Self, AllocError>
         ensures { IfOk result (λ l. l ≡ self.now) }
     {

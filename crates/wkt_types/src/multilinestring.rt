@@ -53,7 +53,7 @@ impl<T> MultiLineString<T> {
     /// where it gives none.
     ///
     /// # Errors
-    /// Want of memory.
+    /// Out of memory.
     pub fn from_line_strings<I: Iterator<Item = LineString<T>> + Drop>(
         alloc: Global,
         line_strings: I,
@@ -102,7 +102,7 @@ impl<T: Copy + Drop> MultiLineString<T> {
     /// An equal multiline.
     ///
     /// # Errors
-    /// Want of memory.
+    /// Out of memory.
     pub fn try_clone(&self, alloc: Global) -> Result<Self, AllocError>
         ensures { IfOk result (λ x. x ≡ self.now) }
     {

@@ -53,7 +53,7 @@ impl<T> MultiPoint<T> {
     /// where it gives none.
     ///
     /// # Errors
-    /// Want of memory.
+    /// Out of memory.
     pub fn from_points<I: Iterator<Item = Point<T>> + Drop>(
         alloc: Global,
         points: I,
@@ -102,7 +102,7 @@ impl<T: Copy + Drop> MultiPoint<T> {
     /// An equal multipoint.
     ///
     /// # Errors
-    /// Want of memory.
+    /// Out of memory.
     pub fn try_clone(&self, alloc: Global) -> Result<Self, AllocError>
         ensures { IfOk result (λ x. x ≡ self.now) }
     {

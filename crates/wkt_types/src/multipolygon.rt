@@ -53,7 +53,7 @@ impl<T> MultiPolygon<T> {
     /// where it gives none.
     ///
     /// # Errors
-    /// Want of memory.
+    /// Out of memory.
     pub fn from_polygons<I: Iterator<Item = Polygon<T>> + Drop>(
         alloc: Global,
         polygons: I,
@@ -102,7 +102,7 @@ impl<T: Copy + Drop> MultiPolygon<T> {
     /// An equal multipolygon.
     ///
     /// # Errors
-    /// Want of memory.
+    /// Out of memory.
     pub fn try_clone(&self, alloc: Global) -> Result<Self, AllocError>
         ensures { IfOk result (λ x. x ≡ self.now) }
     {

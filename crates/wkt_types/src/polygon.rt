@@ -53,7 +53,7 @@ impl<T> Polygon<T> {
     /// where it gives none.
     ///
     /// # Errors
-    /// Want of memory.
+    /// Out of memory.
     pub fn from_rings<I: Iterator<Item = LineString<T>> + Drop>(
         alloc: Global,
         rings: I,
@@ -102,7 +102,7 @@ impl<T: Copy + Drop> Polygon<T> {
     /// An equal polygon.
     ///
     /// # Errors
-    /// Want of memory.
+    /// Out of memory.
     pub fn try_clone(&self, alloc: Global) -> Result<Self, AllocError>
         ensures { IfOk result (λ x. x ≡ self.now) }
     {

@@ -19,6 +19,7 @@ pub(crate) fn show_geometry<W: fmt::Write, G: GeometryTrait>(
     ensures writes { DisplaysOnOk W.write_str_gives f.old result (shown G.T.num (G.shape g.now)) f.new }
     ensures styled { DisplaysStyledOnOk W.write_str_gives f.old result (shown G.T.num (G.shape g.now)) f.new }
     ensures refused { IsUnwritable (G.shape g.now) → IsErr result }
+    ensures untouched { IsUnwritable (G.shape g.now) → f.new ≡ f.old }
 {
     let mut sink = FormatterText::new(f);
     let result = write_geometry(&mut sink, g);
@@ -38,6 +39,7 @@ pub(crate) fn show_collection<W: fmt::Write, C: GeometryCollectionTrait>(
     ensures writes { DisplaysOnOk W.write_str_gives f.old result (shown C.T.num (collection_of (C.dimension c.now) (C.geometries c.now))) f.new }
     ensures styled { DisplaysStyledOnOk W.write_str_gives f.old result (shown C.T.num (collection_of (C.dimension c.now) (C.geometries c.now))) f.new }
     ensures refused { IsUnwritable (collection_of (C.dimension c.now) (C.geometries c.now)) → IsErr result }
+    ensures untouched { IsUnwritable (collection_of (C.dimension c.now) (C.geometries c.now)) → f.new ≡ f.old }
 {
     let mut sink = FormatterText::new(f);
     let result = write_geometry_collection(&mut sink, c);

@@ -36,6 +36,11 @@ fn shows(rt: &impl Abort, alloc: Global, wkt: &Wkt<i32>, want: &str) {
 }
 
 #[test]
+fn without_a_dimension_named(rt: HostRuntime) {
+    assert_eq!(rt; Dimension::default(), Dimension::XY);
+}
+
+#[test]
 fn lines_and_points(rt: HostRuntime) -> Result<(), Fail> {
     let alloc = rt.alloc();
     let all = Coord {

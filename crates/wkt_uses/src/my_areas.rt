@@ -85,9 +85,9 @@ impl RectTrait for Corners {
 
     ghost dimension = { λ r. r.header };
 
-    ghost least = { λ r. r.one.numbers.items };
+    ghost least_corner = { λ r. r.one.numbers.items };
 
-    ghost most = { λ r. r.two.numbers.items };
+    ghost greatest_corner = { λ r. r.two.numbers.items };
 
     fn dim(&self) -> Dimensions {
         self.header
@@ -109,11 +109,11 @@ impl TriangleTrait for Corners {
 
     ghost dimension = { λ t. t.header };
 
-    ghost a = { λ t. t.one.numbers.items };
+    ghost first_corner = { λ t. t.one.numbers.items };
 
-    ghost b = { λ t. t.two.numbers.items };
+    ghost second_corner = { λ t. t.two.numbers.items };
 
-    ghost c = { λ t. t.three.numbers.items };
+    ghost third_corner = { λ t. t.three.numbers.items };
 
     fn dim(&self) -> Dimensions {
         self.header

@@ -56,7 +56,7 @@ impl MultiLineStringTrait for Tracks {
 
     ghost dimension = { λ m. m.header };
 
-    ghost lines = { λ m. map line_of m.members.items };
+    ghost line_strings = { λ m. map line_of m.members.items };
 
     fn dim(&self) -> Dimensions {
         self.header

@@ -52,7 +52,7 @@ pub fn tidy_pair<T: WktNum>(alloc: Global, one: &str, other: &str) -> Result<Str
 /// The same as `tidy`, where a text without a geometry is no error: its answer is `None`.
 ///
 /// # Errors
-/// Want of memory.
+/// Out of memory.
 pub fn tidy_if_any<T: WktNum>(alloc: Global, text: &str) -> Result<Option<String>, AllocError>
     ensures { IfOk result (λ o. MatchOption o (HasNoFront T.read text.now) (λ s. IsTidy T.read T.num text.now (string_bytes s))) }
 {

@@ -13,8 +13,8 @@ use Rattle.wkt_read.specs.Front.{FrontBy}
 use Rattle.wkt_read.proofs.LawLemmas.Fronts.{front_one}
 use Rattle.std.specs.Prelude.{map, flat_map, option_to_list}
 use Rattle.wkt_num.specs.Number.{IsNumberText, begins_number}
-use Rattle.wkt_access.specs.WellFormed.{CoordFits, LineFits, PolygonFits, MemberFits, PointFits, IsWellFormed, AreWellFormed}
-use Rattle.wkt_access.specs.Texts.{joined, listed, headed, suffix, space_if_empty, coordinate_text, line_text, polygon_text, text, texts}
+use Rattle.wkt_access.specs.WellFormed.{CoordFits, LineStringFits, PolygonFits, MemberFits, PointFits, IsWellFormed, AreWellFormed}
+use Rattle.wkt_access.specs.Texts.{separated, listed, headed, suffix, space_if_empty, coordinate_text, coordinates_text, polygon_text, text, texts}
 
 -- the laws of a number type that the text of a value needs
 pub record NumberLaws {N : Type 0} (is_value : N → Type 0) (num : N → List ℕ) (read : List ℕ → Option N) : Type 0 where
@@ -150,8 +150,8 @@ more_spelled P f Good one (x ∷ xs) g =
     let k = lexes_append (f x) t a b ka (comma_boundary (map f xs)) kb in
     (Comma ∷ (a ++ b), lexes_mark 44 Comma (f x ++ t) (a ++ b) class_comma k, (a, b, refl, pa, pb))
 
-pub many_spelled : {A : Type 0} (P : List Lexeme → A → Type 0) (f : A → List ℕ) (Good : A → Type 0) → ((x : A) → Good x → Spelled (λ ls. P ls x) (f x)) → (x : A) (xs : List A) → Good x → AllByRecursion Good xs → Spelled (λ ls. Many P ls (x ∷ xs)) (joined (codes ",") (map f (x ∷ xs)))
-unfolding joined
+pub many_spelled : {A : Type 0} (P : List Lexeme → A → Type 0) (f : A → List ℕ) (Good : A → Type 0) → ((x : A) → Good x → Spelled (λ ls. P ls x) (f x)) → (x : A) (xs : List A) → Good x → AllByRecursion Good xs → Spelled (λ ls. Many P ls (x ∷ xs)) (separated (codes ",") (map f (x ∷ xs)))
+unfolding separated
 many_spelled P f Good one x xs gx g =
     let (a, ka, pa) = one x gx in
     let (b, kb, pb) = more_spelled P f Good one xs g in
@@ -179,7 +179,7 @@ spaced_empty = (Word empty_text ∷ [], lexes_space 32 empty_text (Word empty_te
 pub listed_spelled : {A : Type 0} (P : List Lexeme → A → Type 0) (f : A → List ℕ) (Good : A → Type 0) → ((x : A) → Good x → Spelled (λ ls. P ls x) (f x)) → (xs : List A) → AllByRecursion Good xs → Spelled (λ ls. Listed P ls xs) (listed (map f xs))
 unfolding listed
 listed_spelled P f Good one [] g = empty_spelled
-listed_spelled P f Good one (x ∷ xs) g = within_spelled (λ b. Many P b (x ∷ xs)) (joined (codes ",") (map f (x ∷ xs))) (many_spelled P f Good one x xs g.0 g.1)
+listed_spelled P f Good one (x ∷ xs) g = within_spelled (λ b. Many P b (x ∷ xs)) (separated (codes ",") (map f (x ∷ xs))) (many_spelled P f Good one x xs g.0 g.1)
 
 pub body_spelled : {A : Type 0} (P : List Lexeme → A → Type 0) (f : A → List ℕ) (Good : A → Type 0) → ((x : A) → Good x → Spelled (λ ls. P ls x) (f x)) → (xs : List A) → AllByRecursion Good xs → Spelled (λ ls. Listed P ls xs) (body_text (map f xs))
 unfolding listed
@@ -193,7 +193,7 @@ body_boundary (t ∷ ts) = mark_ends 40 Open class_open
 
 -- one item in parentheses
 pub alone_spelled : (P : List Lexeme → Type 0) (t : List ℕ) → Spelled P t → Spelled (Within P) (listed (t ∷ []))
-unfolding joined listed
+unfolding separated listed
 alone_spelled P t h = within_spelled P (t ++ []) (subst (λ u. Spelled P u) (sym (append-nil t)) h)
 
 -- headers
@@ -280,19 +280,19 @@ module _ {N : Type 0} (is_value : N → Type 0) (num : N → List ℕ) (read : L
       (Num (num x) ∷ more, lexes_space 32 (num x ++ later (codes " ") (map num xs)) (Num (num x)) more class_space (first_number x xs more g.0 k), (num x, more, refl, law.reads_back x g.0, p))
 
   pub coord_spelled : (d : Dimension) (xs : List N) → CoordFits is_value d xs → Spelled (λ ls. Coord read d ls xs) (coordinate_text num xs)
-  unfolding joined
+  unfolding separated
   coord_spelled d [] g = ([], lexes_nothing, (refl, g.1))
   coord_spelled d (x ∷ xs) g =
       let (more, k, p) = later_numbers xs g.0.1 in
       (Num (num x) ∷ more, first_number x xs more g.0.0 k, ((num x, more, refl, law.reads_back x g.0.0, p), g.1))
 
-  pub ring_spelled : (d : Dimension) (r : List (List N)) → LineFits is_value d r → Spelled (λ ls. Ring read d ls r) (line_text num r)
+  pub ring_spelled : (d : Dimension) (r : List (List N)) → LineStringFits is_value d r → Spelled (λ ls. Ring read d ls r) (coordinates_text num r)
   ring_spelled d r g = listed_spelled (Coord read d) (coordinate_text num) (CoordFits is_value d) (coord_spelled d) r g
 
   pub poly_spelled : (d : Dimension) (rs : List (List (List N))) → PolygonFits is_value d rs → Spelled (λ ls. Poly read d ls rs) (polygon_text num rs)
-  poly_spelled d rs g = listed_spelled (Ring read d) (line_text num) (LineFits is_value d) (ring_spelled d) rs g
+  poly_spelled d rs g = listed_spelled (Ring read d) (coordinates_text num) (LineStringFits is_value d) (ring_spelled d) rs g
 
-  pub member_spelled : (empties : Bool) (d : Dimension) (m : Option (List N)) → MemberFits is_value empties d m → Spelled (λ ls. Member read empties d ls m) (line_text num (option_to_list m))
+  pub member_spelled : (empties : Bool) (d : Dimension) (m : Option (List N)) → MemberFits is_value empties d m → Spelled (λ ls. Member read empties d ls m) (coordinates_text num (option_to_list m))
   unfolding listed
   member_spelled empties d None g = let (ls, k, p) = empty_spelled in (ls, k, (g, p))
   member_spelled empties d (Some c) g =
@@ -304,14 +304,14 @@ module _ {N : Type 0} (is_value : N → Type 0) (num : N → List ℕ) (read : L
   point_spelled d (Some c) g = alone_spelled (λ b. Coord read d b c) (coordinate_text num c) (coord_spelled d c g)
 
   mutual
-    unfolding joined listed
+    unfolding separated listed
 
     pub value_spelled : (v : Value N) (empties : Bool) → IsWellFormed is_value empties v → Spelled (λ ls. Geometry read empties ls v) (text num v)
     value_spelled (Value.point d c) empties g = with_header_spelled kind.Point d _ _ (point_spelled d c g)
     value_spelled (Value.line_string d cs) empties g = with_header_spelled kind.LineString d _ _ (body_spelled (Coord read d) (coordinate_text num) (CoordFits is_value d) (coord_spelled d) cs g)
-    value_spelled (Value.polygon d rs) empties g = with_header_spelled kind.Polygon d _ _ (body_spelled (Ring read d) (line_text num) (LineFits is_value d) (ring_spelled d) rs g)
-    value_spelled (Value.multi_point d ms) empties g = with_header_spelled kind.MultiPoint d _ _ (body_spelled (Member read empties d) (λ c. line_text num (option_to_list c)) (MemberFits is_value empties d) (member_spelled empties d) ms g)
-    value_spelled (Value.multi_line_string d ls) empties g = with_header_spelled kind.MultiLineString d _ _ (body_spelled (Ring read d) (line_text num) (LineFits is_value d) (ring_spelled d) ls g)
+    value_spelled (Value.polygon d rs) empties g = with_header_spelled kind.Polygon d _ _ (body_spelled (Ring read d) (coordinates_text num) (LineStringFits is_value d) (ring_spelled d) rs g)
+    value_spelled (Value.multi_point d ms) empties g = with_header_spelled kind.MultiPoint d _ _ (body_spelled (Member read empties d) (λ c. coordinates_text num (option_to_list c)) (MemberFits is_value empties d) (member_spelled empties d) ms g)
+    value_spelled (Value.multi_line_string d ls) empties g = with_header_spelled kind.MultiLineString d _ _ (body_spelled (Ring read d) (coordinates_text num) (LineStringFits is_value d) (ring_spelled d) ls g)
     value_spelled (Value.multi_polygon d ps) empties g = with_header_spelled kind.MultiPolygon d _ _ (body_spelled (Poly read d) (polygon_text num) (PolygonFits is_value d) (poly_spelled d) ps g)
     value_spelled (Value.collection d vs) empties g = with_header_spelled kind.GeometryCollection d _ _ (values_spelled vs empties g)
 

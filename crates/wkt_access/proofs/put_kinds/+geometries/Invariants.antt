@@ -13,4 +13,4 @@ abbrev pub decreases-put_members : goal.decreases-put_members
 decreases-put_members g l = 2 * depth (g.G.GeometryTrait.shape l.g.now)
 
 abbrev pub invariant-put_members-loop-i : goal.invariant-put_members-loop-i
-invariant-put_members-loop-i g l = Listing g.W.TextSink.sink (codes ",") (shape_text g.G.T.WktNum.num) (members_of (g.G.GeometryTrait.shape l.g)) l.i l.n l.initial.f l.f
+invariant-put_members-loop-i g l = Listing g.W.TextSink.sink (codes ",") (shape_text g.G.T.WktNum.num) (members_of (g.G.GeometryTrait.shape l.g)) l.i l.count l.initial.f l.f

@@ -7,12 +7,12 @@ returns-in_err-write_str g c =
     let e = rect_text g.R.T.WktNum.num (g.R.RectTrait.dimension c.args.r.now) _ _ _ _ c.min-min.ensures c.max-max.ensures in
     puts_err _ _ c.from_residual.ensures.1 (rw e (breaks_first _ c.in_err-write_str.ensures))
 
-pub returns-in_err-put_corners : goal.returns-in_err-put_corners
-returns-in_err-put_corners g c =
+pub returns-in_err-put_rect_ring : goal.returns-in_err-put_rect_ring
+returns-in_err-put_rect_ring g c =
     let e = rect_text g.R.T.WktNum.num (g.R.RectTrait.dimension c.args.r.now) _ _ _ _ c.min-min.ensures c.max-max.ensures in
-    puts_err _ _ c.from_residual-in_err-put_corners.ensures.1 (rw e (breaks_then c.in_ok-write_str.ensures (breaks_first _ c.in_err-put_corners.ensures)))
+    puts_err _ _ c.from_residual-in_err-put_rect_ring.ensures.1 (rw e (breaks_then c.in_ok-write_str.ensures (breaks_first _ c.in_err-put_rect_ring.ensures)))
 
 pub returns : goal.returns
 returns g c =
     let e = rect_text g.R.T.WktNum.num (g.R.RectTrait.dimension c.args.r.now) _ _ _ _ c.min-min.ensures c.max-max.ensures in
-    rw e (puts_then _ _ _ c.in_ok-write_str.ensures (puts_then _ _ _ c.in_ok-put_corners.ensures (c.write_str-2.ensures)))
+    rw e (puts_then _ _ _ c.in_ok-write_str.ensures (puts_then _ _ _ c.in_ok-put_rect_ring.ensures (c.write_str-2.ensures)))

@@ -10,10 +10,10 @@ returns-in_err-put_separator g c =
     puts_err _ _ c.from_residual.ensures.1
     (listing_broken_before c.loop-i.invariant c.loop-i-test.true c.in_err-put_separator.ensures)
 
-pub returns-in_err-put_inner_point : goal.returns-in_err-put_inner_point
-returns-in_err-put_inner_point g c =
-    puts_err _ _ c.from_residual-in_err-put_inner_point.ensures.1
-    (listing_broken c.loop-i.invariant c.point.ensures c.in_ok-put_separator.ensures c.in_err-put_inner_point.ensures)
+pub returns-in_err-put_point_body : goal.returns-in_err-put_point_body
+returns-in_err-put_point_body g c =
+    puts_err _ _ c.from_residual-in_err-put_point_body.ensures.1
+    (listing_broken c.loop-i.invariant c.point.ensures c.in_ok-put_separator.ensures c.in_err-put_point_body.ensures)
 
 pub loop-i-preserved : goal.loop-i-preserved
-loop-i-preserved g c = listing_more c.loop-i.invariant c.point.ensures c.in_ok-put_separator.ensures c.in_ok-put_inner_point.ensures
+loop-i-preserved g c = listing_more c.loop-i.invariant c.point.ensures c.in_ok-put_separator.ensures c.in_ok-put_point_body.ensures

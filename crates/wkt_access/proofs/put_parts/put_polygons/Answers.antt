@@ -10,10 +10,10 @@ returns-in_err-put_separator g c =
     puts_err _ _ c.from_residual.ensures.1
     (listing_broken_before c.loop-i.invariant c.loop-i-test.true c.in_err-put_separator.ensures)
 
-pub returns-in_err-put_rings : goal.returns-in_err-put_rings
-returns-in_err-put_rings g c =
-    puts_err _ _ c.from_residual-in_err-put_rings.ensures.1
-    (listing_broken c.loop-i.invariant c.polygon.ensures c.in_ok-put_separator.ensures c.in_err-put_rings.ensures)
+pub returns-in_err-put_polygon_body : goal.returns-in_err-put_polygon_body
+returns-in_err-put_polygon_body g c =
+    puts_err _ _ c.from_residual-in_err-put_polygon_body.ensures.1
+    (listing_broken c.loop-i.invariant c.polygon.ensures c.in_ok-put_separator.ensures c.in_err-put_polygon_body.ensures)
 
 pub loop-i-preserved : goal.loop-i-preserved
-loop-i-preserved g c = listing_more c.loop-i.invariant c.polygon.ensures c.in_ok-put_separator.ensures c.in_ok-put_rings.ensures
+loop-i-preserved g c = listing_more c.loop-i.invariant c.polygon.ensures c.in_ok-put_separator.ensures c.in_ok-put_polygon_body.ensures

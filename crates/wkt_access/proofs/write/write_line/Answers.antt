@@ -4,15 +4,15 @@ use Rattle.wkt_access.proofs.Canon.{lawful}
 use Rattle.wkt_access.proofs.Refusals.{refusal}
 use Rattle.wkt_access.proofs.write.write_line.Goals as goal
 
-pub returns-in_err-check_line_of_two : goal.returns-in_err-check_line_of_two
-returns-in_err-check_line_of_two g c =
+pub returns-in_err-check_line : goal.returns-in_err-check_line
+returns-in_err-check_line g c =
     let p = err_from_is_err_and c.from_residual.result c.from_residual.ensures.1 in
-    rw (p.1, p.2) (refusal _ _ _ (Shape.line (g.L.LineTrait.dimension c.args.g.now) (g.L.LineTrait.from c.args.g.now) (g.L.LineTrait.to c.args.g.now)) _ c.in_err-check_line_of_two.ensures)
+    rw (p.1, p.2) (refusal _ _ _ (Shape.line (g.L.LineTrait.dimension c.args.g.now) (g.L.LineTrait.from c.args.g.now) (g.L.LineTrait.to c.args.g.now)) _ c.in_err-check_line.ensures)
 
-pub returns-in_err-put_line_of_two : goal.returns-in_err-put_line_of_two
-returns-in_err-put_line_of_two g c =
-    let p = err_from_is_err_and c.from_residual-in_err-put_line_of_two.result c.from_residual-in_err-put_line_of_two.ensures.1 in
-    rw (p.1, p.2) (record { sound = c.in_ok-check_line_of_two.ensures.none; broken = c.in_err-put_line_of_two.ensures })
+pub returns-in_err-put_line : goal.returns-in_err-put_line
+returns-in_err-put_line g c =
+    let p = err_from_is_err_and c.from_residual-in_err-put_line.result c.from_residual-in_err-put_line.ensures.1 in
+    rw (p.1, p.2) (record { sound = c.in_ok-check_line.ensures.none; broken = c.in_err-put_line.ensures })
 
 pub returns : goal.returns
-returns g c = record { sound = c.in_ok-check_line_of_two.ensures.none; lawful = lawful _ (Shape.line (g.L.LineTrait.dimension c.args.g.now) (g.L.LineTrait.from c.args.g.now) (g.L.LineTrait.to c.args.g.now)) c.in_ok-check_line_of_two.ensures; added = c.in_ok-put_line_of_two.ensures }
+returns g c = record { sound = c.in_ok-check_line.ensures.none; lawful = lawful _ (Shape.line (g.L.LineTrait.dimension c.args.g.now) (g.L.LineTrait.from c.args.g.now) (g.L.LineTrait.to c.args.g.now)) c.in_ok-check_line.ensures; added = c.in_ok-put_line.ensures }

@@ -6,5 +6,5 @@ use Rattle.wkt_uses.proofs.key.key.Goals as goal
 pub returns-clause-reads_back : goal.returns-clause-reads_back
 returns-clause-reads_back g c =
     let shape = g.G.GeometryTrait.shape c.args.geometry.now in
-    let written = c.in_ok-write_geometry.ensures in
-    front_of_text g.G.T.WktNum.read (string_bytes c.new.result) (string_bytes c.write_geometry.new.f.text) _ (canon shape) c.new.ensures.bytes written.added.given (c.reads_back.ensures shape written.sound written.lawful)
+    let pushed = c.in_ok-push_geometry.ensures in
+    front_of_text g.G.T.WktNum.read (string_bytes c.new.result) (string_bytes c.push_geometry.new.out) _ (canon shape) c.new.ensures.bytes pushed.added (c.reads_back.ensures shape pushed.sound pushed.lawful)

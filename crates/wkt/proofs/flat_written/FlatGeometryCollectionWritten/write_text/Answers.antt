@@ -1,7 +1,4 @@
-use Rattle.std.proofs.Common.{ap}
 use Rattle.wkt_access.proofs.Members.{gathered_each}
-use Rattle.wkt_access.specs.declared.dimensions.Dimensions.TheVariants.{Xy}
-use Rattle.wkt_access.specs.Shapes.{Shape}
 use Rattle.wkt_flat.specs.Shape.{flat_shapes}
 use Rattle.wkt_flat.specs.Tree.{flat_trees}
 use Rattle.wkt.proofs.flat_written.FlatGeometryCollectionWritten.write_text.Goals as goal

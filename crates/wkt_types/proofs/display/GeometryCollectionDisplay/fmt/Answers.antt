@@ -1,4 +1,4 @@
-use Rattle.std.proofs.Common.{subst}
+use Rattle.std.proofs.Common.{◌≡◌, subst}
 use Rattle.std.specs.Fmt.{DisplaysOnOk, DisplaysStyledOnOk}
 use Rattle.std.specs.Prelude.{IsErr}
 use Rattle.wkt_types.specs.Shown.{shown, IsUnwritable}
@@ -13,3 +13,6 @@ returns-clause-styled g c = subst (λ s. DisplaysStyledOnOk g.W.Write.write_str_
 
 pub returns-clause-refused : goal.returns-clause-refused
 returns-clause-refused g c = subst (λ s. IsUnwritable s → IsErr c.show_collection.result) (told_whole c.args.self.now) c.show_collection.ensures.refused
+
+pub returns-clause-untouched : goal.returns-clause-untouched
+returns-clause-untouched g c = subst (λ s. IsUnwritable s → c.show_collection.new.f ≡ c.args.f.now) (told_whole c.args.self.now) c.show_collection.ensures.untouched
