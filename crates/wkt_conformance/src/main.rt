@@ -10,6 +10,8 @@
 mod against_reference;
 #[cfg(test)]
 mod conversions;
+#[cfg(test)]
+mod errors;
 mod flat_calls;
 #[cfg(test)]
 mod flat_devices;
@@ -33,6 +35,8 @@ mod reference;
 #[cfg(test)]
 mod slow_devices;
 mod table;
+#[cfg(test)]
+mod types_by_hand;
 #[cfg(test)]
 mod worked_rows;
 

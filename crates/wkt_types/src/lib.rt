@@ -17,8 +17,6 @@ mod multipolygon;
 mod point;
 mod polygon;
 mod show;
-#[cfg(test)]
-mod tests;
 
 pub use convert::ConvertError;
 pub use coord::Coord;

@@ -13,6 +13,7 @@ pub mod my_devices;
 pub mod my_lines;
 pub mod my_map;
 pub mod my_number;
+pub mod my_paper;
 pub mod my_points;
 #[cfg(test)]
 mod my_tests;

@@ -2,15 +2,16 @@
 use crate::my_areas::{Area, Areas, Corners};
 use crate::my_lines::{Segment, Track, Tracks};
 use crate::my_map::{Figure, Map};
+use crate::my_paper::Paper;
 use crate::my_points::{Dot, Dots, Spot};
 use std::alloc::{AllocError, Global};
 use std::test::Fail;
 use wkt::error::Error;
 use wkt::geo_traits::Dimensions;
 use wkt::to_wkt::{
-    CountedText, push_geometry, write_geometry_collection, write_line, write_linestring,
-    write_multi_linestring, write_multi_point, write_multi_polygon, write_point, write_polygon,
-    write_rect, write_triangle,
+    CountedText, push_geometry, write_geometry, write_geometry_collection, write_line,
+    write_linestring, write_multi_linestring, write_multi_point, write_multi_polygon, write_point,
+    write_polygon, write_rect, write_triangle,
 };
 
 fn spot(alloc: Global, x: i32, y: i32, others: &[i32]) -> Result<Spot, AllocError> {
@@ -187,5 +188,34 @@ fn refuses(rt: HostRuntime) -> Result<(), Fail> {
         )
     );
     assert_eq!(rt; text.as_str(), "");
+    Ok(())
+}
+
+#[test]
+fn drops_spare_numbers(rt: HostRuntime) -> Result<(), Fail> {
+    let alloc = rt.alloc();
+    let mut spots = Vec::new(alloc);
+    spots.push(spot(alloc, 1, 2, &[3, 4, 5])?)?;
+    let header = Dimensions::Unknown(3);
+    let mut text = String::from_str(alloc, "at: ")?;
+    push_geometry(&mut text, &Figure::Line(Track { header, spots }))?;
+    assert_eq!(rt; text.as_str(), "at: LINESTRING Z(1 2 3)");
+    Ok(())
+}
+
+#[test]
+fn fails_with_the_sink(rt: HostRuntime) -> Result<(), Fail> {
+    let alloc = rt.alloc();
+    let group = Figure::Group(Dimensions::Xy, figures(alloc)?);
+    let mut whole = Paper::new(alloc, 1000);
+    write_geometry(&mut whole, &group)?;
+    assert_eq!(rt; whole.bytes.as_slice(), ALL.as_bytes());
+    for left in 0..1000usize.saturating_sub(whole.left) {
+        let mut paper = Paper::new(alloc, left);
+        assert!(rt; matches!(write_geometry(&mut paper, &group), Err(Error::FmtError(_))));
+        assert!(rt; ALL.as_bytes().starts_with(paper.bytes.as_slice()));
+        assert!(rt; paper.bytes.len() < ALL.len());
+        assert_eq!(rt; paper.failures, 1);
+    }
     Ok(())
 }

@@ -1,6 +1,6 @@
 use Rattle.std.proofs.Common.{refl}
 use Rattle.wkt_num.specs.Sink.{none_grew}
-use Rattle.wkt_access.proofs.tests.PaperTextSink.write_str.Goals as goal
+use Rattle.wkt_uses.proofs.my_paper.PaperTextSink.write_str.Goals as goal
 
 pub returns-then-self-eq0 : goal.returns-then-self-eq0
 returns-then-self-eq0 c = record { left = none_grew _ _ _ refl; failed = refl }

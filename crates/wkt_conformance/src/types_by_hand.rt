@@ -1,12 +1,12 @@
 //! Values that are made by hand, displayed, copied and compared.
-use crate::{
-    Coord, Dimension, GeometryCollection, LineString, MultiLineString, MultiPoint, MultiPolygon,
-    Point, Polygon, Wkt,
-};
 use std::alloc::{AllocError, Global};
 use std::process::Abort;
 use std::test::Fail;
-use wkt_num::Decimal;
+use wkt::types::{
+    Coord, Dimension, GeometryCollection, LineString, MultiLineString, MultiPoint, MultiPolygon,
+    Point, Polygon,
+};
+use wkt::{Decimal, Wkt};
 
 /// A coordinate of two whole numbers.
 fn xy(x: i32, y: i32) -> Coord<i32> {
@@ -18,7 +18,7 @@ fn xy(x: i32, y: i32) -> Coord<i32> {
     }
 }
 
-/// A line of coordinates that are one number twice.
+/// A line string of coordinates that are one number twice.
 fn line(alloc: Global, numbers: &[i32]) -> Result<LineString<i32>, AllocError> {
     let mut coords = Vec::new(alloc);
     for n in numbers {
