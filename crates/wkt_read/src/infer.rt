@@ -1,10 +1,11 @@
 //! The kind and the dimension that the header of a text names.
 ghost use Rattle.std.specs.Prelude.{◌≡◌};
 ghost use Rattle.std.specs.Str.{str_to_ascii_uppercase};
-ghost use Rattle.wkt_read.specs.Header.{begins, holds, has_space, dim_said, header_rule};
-ghost use Rattle.wkt_read.specs.HeaderSteps.{EndsHeader, Strips, BeginsKind, header_answer};
+ghost use Rattle.wkt_read.specs.Header.{holds, has_space, dim_said, header_rule};
+ghost use Rattle.wkt_read.specs.HeaderSteps.{EndsHeader, header_answer};
 ghost use Rattle.wkt_read.specs.Infer.{Infers};
 
+use crate::keywords::{begins, kind};
 use std::alloc::{AllocError, Global};
 use wkt_types::{Dimension, GeometryType};
 
@@ -35,24 +36,6 @@ impl From<AllocError> for InferError {
     fn from(error: AllocError) -> Self {
         InferError::Memory(error)
     }
-}
-
-// Whether the text begins with the word, which is in capitals, whatever the text's case.
-#[inline(always)]
-pub(crate) fn begins(word: &[u8], text: &[u8]) -> bool
-    ensures { result ≡ begins word.now (str_to_ascii_uppercase text.now) }
-{
-    let mut i = 0;
-    'byte: while i < word.len() {
-        if i == text.len() {
-            return false;
-        }
-        if text[i].to_ascii_uppercase() != word[i] {
-            return false;
-        }
-        i += 1;
-    }
-    true
 }
 
 // Whether the word, which is in capitals, stands in the text.
@@ -95,44 +78,6 @@ fn has_space(text: &[u8]) -> bool
         }
     }
     false
-}
-
-// What follows the word, which is in capitals, at the start of the text, whatever the text's case.
-#[inline(always)]
-fn strip<'a>(word: &[u8], text: &'a [u8]) -> Option<&'a [u8]>
-    ensures { Strips result word.now (str_to_ascii_uppercase text.now) }
-{
-    if begins(word, text) {
-        Some(&text[word.len()..])
-    } else {
-        None
-    }
-}
-
-// The kind that the header begins with, and what follows its word.
-#[tactic(auto, unfolding(crate::specs::Grammar::kind_words))]
-pub(crate) fn kind(header: &[u8]) -> Option<(GeometryType, &[u8])>
-    ensures named { BeginsKind result (str_to_ascii_uppercase header.now) }
-{
-    if let Some(rest) = strip(b"POINT", header) {
-        Some((GeometryType::Point, rest))
-    } else if let Some(rest) = strip(b"LINESTRING", header) {
-        Some((GeometryType::LineString, rest))
-    } else if let Some(rest) = strip(b"LINEARRING", header) {
-        Some((GeometryType::LineString, rest))
-    } else if let Some(rest) = strip(b"POLYGON", header) {
-        Some((GeometryType::Polygon, rest))
-    } else if let Some(rest) = strip(b"MULTIPOINT", header) {
-        Some((GeometryType::MultiPoint, rest))
-    } else if let Some(rest) = strip(b"MULTILINESTRING", header) {
-        Some((GeometryType::MultiLineString, rest))
-    } else if let Some(rest) = strip(b"MULTIPOLYGON", header) {
-        Some((GeometryType::MultiPolygon, rest))
-    } else if let Some(rest) = strip(b"GEOMETRYCOLLECTION", header) {
-        Some((GeometryType::GeometryCollection, rest))
-    } else {
-        None
-    }
 }
 
 fn dimension(rest: &[u8]) -> Dimension

@@ -50,7 +50,9 @@ fn number_in<'a>(run: &'a str) -> Option<&'a str>
 }
 
 /// The item that stands for a lexeme.
-pub(crate) fn item_of<'a, T: WktNum>(lexeme: Lexeme<'a>) -> Option<Result<Token<'a, T>, &'static str>>
+pub(crate) fn item_of<'a, T: WktNum>(
+    lexeme: Lexeme<'a>,
+) -> Option<Result<Token<'a, T>, &'static str>>
     ensures { IsItem T.read (found lexeme.entry) result }
 {
     Some(Ok(match lexeme {

@@ -1,6 +1,6 @@
 use Rattle.std.proofs.Common.{◌∙◌, sym, length}
 use Rattle.wkt_read.proofs.LawLemmas.HeaderPlaces.{upper_long, upper_rest}
-use Rattle.wkt_read.proofs.infer.strip.Goals as goal
+use Rattle.wkt_read.proofs.keywords.strip.Goals as goal
 
 pub slice_bounds-result-count : goal.slice_bounds-result-count
 slice_bounds-result-count c = upper_long _ _ (sym c.begins.ensures ∙ c.if-begins.true)
