@@ -1,5 +1,5 @@
 //! A function over a geometry in any representation, which asks for a member.
-ghost use Rattle.std.specs.Prelude.{◌≡◌, MatchOption, length, slice_get, Some};
+ghost use Rattle.std.specs.Prelude.{◌≡◌, IfNone, IfSome, length, slice_get, Some};
 ghost use Rattle.wkt_access.specs.Parts.{members_of};
 
 use wkt::geo_traits::{GeometryTrait, GeometryType};
@@ -8,7 +8,8 @@ use wkt::geo_traits::{GeometryTrait, GeometryType};
 /// any, or another kind.
 #[tactic(auto, using(wkt_access::proofs::Members::members_counted))]
 pub fn first_member<G: GeometryTrait>(geometry: &G) -> Option<&G>
-    ensures { MatchOption result (length (members_of (G.shape geometry.now)) ≡ 0) (λ g. slice_get (members_of (G.shape geometry.now)) 0 ≡ Some (G.shape g.now)) }
+    ensures none { IfNone result (length (members_of (G.shape geometry.now)) ≡ 0) }
+    ensures first { IfSome result (λ g. slice_get (members_of (G.shape geometry.now)) 0 ≡ Some (G.shape g.now)) }
 {
     match geometry.as_type() {
         GeometryType::GeometryCollection(count) => {
