@@ -4,6 +4,7 @@
 #![tactic(auto)]
 
 pub mod any_collection;
+pub mod any_geometry;
 pub mod every_geometry;
 pub mod flat_from_reader;
 pub mod from_json;
