@@ -7,4 +7,4 @@ pub returns-clause-reads_back : goal.returns-clause-reads_back
 returns-clause-reads_back g c =
     let shape = g.G.GeometryTrait.shape c.args.geometry.now in
     let pushed = c.in_ok-push_geometry.ensures in
-    front_of_text g.G.T.WktNum.read (string_bytes c.new.result) (string_bytes c.push_geometry.new.out) _ (canon shape) c.new.ensures.bytes pushed.added (c.reads_back.ensures shape pushed.sound pushed.lawful)
+    front_of_text g.G.T.WktNum.read (string_bytes c.new-text.result) (string_bytes c.push_geometry.new.out) _ (canon shape) c.new-text.ensures.bytes pushed.added (c.reads_back.ensures shape pushed.sound pushed.lawful)
