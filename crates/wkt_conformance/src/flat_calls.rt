@@ -9,6 +9,9 @@ use wkt::geo_types_from_wkt::{Error as ConvertError, try_into_geometry};
 use wkt::to_wkt::{Counted, ToWktError};
 use wkt::{FromWktStr, ReadError, ToWkt, TryFromWkt, Wkt, WktNum};
 
+/// The flat value, or the words of the error in its place.
+type Told<T> = Result<Geometry<T>, String>;
+
 /// Whether the flat value of a text's geometry, or the error in its place, is one by every call that
 /// gives it, and whether its text is one by every call that writes it.
 pub fn flat_alike<T: WktNum>(
@@ -17,34 +20,63 @@ pub fn flat_alike<T: WktNum>(
     geometry: &Wkt<T>,
 ) -> Result<bool, AllocError> {
     let flat = told(alloc, try_into_geometry(alloc, geometry))?;
-    let from_text = told(alloc, Geometry::try_from_wkt_str(alloc, text))?;
-    let mut bytes = Counted::new(text.as_bytes());
-    let from_bytes = told(alloc, Geometry::try_from_wkt_reader(alloc, &mut bytes))?;
-    let json = Value::String(String::from_str(alloc, text)?);
-    let from_json = match deserialize_geometry(alloc, &json) {
-        Ok(geometry) => Ok(geometry),
-        Err(ValueError::Fault(error)) => told(alloc, Err(error))?,
-        Err(ValueError::NotAString) => return Ok(false),
-    };
-    if from_text != flat || from_bytes != flat || from_json != flat {
-        return Ok(false);
+    let read_alike = same(&by_text(alloc, text)?, &flat) && same(&by_bytes(alloc, text)?, &flat);
+    Ok(read_alike && json_alike(alloc, text, geometry, &flat)? && told_alike(alloc, &flat)?)
+}
+
+/// Whether two calls answered alike.
+fn same<T: WktNum>(one: &Told<T>, other: &Told<T>) -> bool {
+    match (one, other) {
+        (Ok(one), Ok(other)) => one == other,
+        (Err(one), Err(other)) => one == other,
+        _ => false,
     }
-    match wkt_from_value(alloc, &json) {
-        Ok(again) if again == *geometry => {}
-        Err(ValueError::Fault(ReadError::Memory(e))) => return Err(e),
-        _ => return Ok(false),
-    }
-    match flat {
-        Ok(flat) => Ok(flat.try_clone(alloc)? == flat && written_alike(alloc, &flat)?),
+}
+
+/// Whether a flat value, if there is one, is copied and written by each call alike.
+fn told_alike<T: WktNum>(alloc: Global, told: &Told<T>) -> Result<bool, AllocError> {
+    match told {
+        Ok(flat) => Ok(flat.try_clone(alloc)? == *flat && written_alike(alloc, flat)?),
         Err(_) => Ok(true),
     }
 }
 
-/// The flat value, or the words of the error; out of memory comes first.
+/// The flat value of a text.
+fn by_text<T: WktNum>(alloc: Global, text: &str) -> Result<Told<T>, AllocError> {
+    told(alloc, Geometry::try_from_wkt_str(alloc, text))
+}
+
+/// The flat value of the bytes of a text.
+fn by_bytes<T: WktNum>(alloc: Global, text: &str) -> Result<Told<T>, AllocError> {
+    let mut bytes = Counted::new(text.as_bytes());
+    told(alloc, Geometry::try_from_wkt_reader(alloc, &mut bytes))
+}
+
+/// Whether a text as a JSON string gives that geometry, and that flat value or error.
+fn json_alike<T: WktNum>(
+    alloc: Global,
+    text: &str,
+    geometry: &Wkt<T>,
+    flat: &Told<T>,
+) -> Result<bool, AllocError> {
+    let json = Value::String(String::from_str(alloc, text)?);
+    let again = match deserialize_geometry(alloc, &json) {
+        Ok(geometry) => Ok(geometry),
+        Err(ValueError::Fault(error)) => told(alloc, Err(error))?,
+        Err(ValueError::NotAString) => return Ok(false),
+    };
+    match wkt_from_value(alloc, &json) {
+        Ok(wkt) => Ok(wkt == *geometry && same(&again, flat)),
+        Err(ValueError::Fault(ReadError::Memory(e))) => Err(e),
+        Err(_) => Ok(false),
+    }
+}
+
+/// What a call answered; out of memory comes first.
 fn told<T: WktNum>(
     alloc: Global,
     answer: Result<Geometry<T>, ConvertError>,
-) -> Result<Result<Geometry<T>, String>, AllocError> {
+) -> Result<Told<T>, AllocError> {
     match answer {
         Ok(geometry) => Ok(Ok(geometry)),
         Err(ConvertError::Memory(e)) => Err(e),
