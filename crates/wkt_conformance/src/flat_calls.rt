@@ -95,7 +95,7 @@ fn written_alike<T: WktNum>(alloc: Global, flat: &Geometry<T>) -> Result<bool, A
     let mut out = Vec::new(alloc);
     let alike = match flat.write_wkt(alloc, &mut Counted::new(&mut out)) {
         Ok(()) => string == displayed && out.as_slice() == string.as_bytes(),
-        // A list takes no bytes only where no memory is left for them.
+        // A list takes no bytes only when out of memory.
         Err(ToWktError::Io(_)) => return Err(AllocError),
         Err(ToWktError::Shape(_)) => false,
     };

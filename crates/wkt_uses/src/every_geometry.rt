@@ -23,7 +23,7 @@ where
 /// The geometries that the text begins with, and the rest, which has none at its front.
 ///
 /// # Errors
-/// Want of memory.
+/// Out of memory.
 pub fn every_geometry<'a, T: WktNum>(
     alloc: Global,
     text: &'a str,

@@ -12,7 +12,7 @@ use wkt::{ReadError, Wkt, WktNum};
 ///
 /// # Errors
 /// `NotAString` where the field holds no string; `Fault` where its string has no geometry at its
-/// front, or no memory is left.
+/// front, or out of memory.
 pub fn geometry_in<T: WktNum>(
     alloc: Global,
     document: &Value,
