@@ -77,28 +77,31 @@ def kind_of(word):
     return None
 
 
-def geometry(lexemes):
+def first_word(lexemes, no_word):
+    """The word in the place of a kind word; no_word is the message where none stands there."""
     first = lexemes.take()
     if is_bad(first):
         raise Refused(13)
     if not is_word(first):
-        raise Refused(1)
-    if not first.isascii():
-        raise Refused(2)
-    if not kind_of(first):
+        raise Refused(no_word)
+    return first
+
+
+def kind_at(lexemes, word):
+    if not kind_of(word):
         raise Refused(3)
-    return after_kind_word(lexemes, *kind_of(first))
+    return after_kind_word(lexemes, *kind_of(word))
+
+
+def geometry(lexemes):
+    word = first_word(lexemes, 1)
+    if not word.isascii():
+        raise Refused(2)
+    return kind_at(lexemes, word)
 
 
 def member(lexemes):
-    first = lexemes.take()
-    if is_bad(first):
-        raise Refused(13)
-    if not is_word(first):
-        raise Refused(12)
-    if not kind_of(first):
-        raise Refused(3)
-    return after_kind_word(lexemes, *kind_of(first))
+    return kind_at(lexemes, first_word(lexemes, 12))
 
 
 def after_kind_word(lexemes, kind, dim):

@@ -1,4 +1,6 @@
 //! A sink of text of one's own, which tells its text and fails after so many pieces.
+ghost use Rattle.std.specs.Prelude.{◌≡◌, []};
+
 use std::alloc::Global;
 use std::fmt;
 use wkt::to_wkt::TextSink;
@@ -13,7 +15,11 @@ pub struct Paper {
 
 impl Paper {
     /// An empty paper with room for so many pieces.
-    pub fn new(alloc: Global, left: usize) -> Paper {
+    pub fn new(alloc: Global, left: usize) -> Paper
+        ensures bytes { result.bytes.items ≡ [] }
+        ensures left { result.left ≡ left }
+        ensures failures { result.failures ≡ 0 }
+    {
         Paper {
             bytes: Vec::new(alloc),
             left,
