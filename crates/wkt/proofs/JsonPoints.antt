@@ -2,7 +2,7 @@
 use Rattle.std.proofs.Common.{◌≡◌, ◌↔◌, Bool, true, false, IsTrue, List, [], ◌∷◌, Option, Some, None, refl, sym, arith}
 use Rattle.std.proofs.lemmas.Option.{none-some}
 use Rattle.wkt_flat.specs.Tree.{Flat}
-use Rattle.wkt.specs.Kinds.{point_in}
+use Rattle.wkt_convert.specs.Kinds.{point_in}
 use Rattle.wkt.specs.Json.{point_if_any}
 
 -- What is neither a point nor a multipoint without members gives no point.

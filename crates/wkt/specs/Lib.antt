@@ -1,8 +1,3 @@
-pub mod Outcomes
-pub mod Flatten
-pub mod Kinds
-pub mod Back
-pub mod Sent
 pub mod FromText
 pub mod Laws
 pub mod Json

@@ -1,21 +1,12 @@
-//! Laws of flat values and their `Wkt`: each function changes nothing, and its contract is the law.
-ghost use Rattle.wkt.specs.Laws.{FlatAndBack, ComesBack, ReadsBack, PlainComesBack, PlainReadsBack};
+//! Laws of flat values and their texts: each function changes nothing, and its contract is the law.
+ghost use Rattle.wkt_convert.specs.Laws.{ComesBack};
+ghost use Rattle.wkt.specs.Laws.{ReadsBack, PlainReadsBack};
 ghost use Rattle.wkt_flat.specs.Tree.{flat_tree};
 
+use wkt_convert::laws::plain_comes_back;
 use wkt_flat::Geometry;
 use wkt_flat::laws::rings_are_closed;
 use wkt_num::WktNum;
-
-/// A flat value and its `Wkt` have one value, so one text, and both can be written.
-pub fn flat_and_back<T: WktNum>()
-    ensures { FlatAndBack T }
-{}
-
-/// What a flat value holds comes back from its `Wkt`, if its rings are closed, it nowhere holds a line,
-/// a rectangle or a triangle, and its polygons with an empty exterior have no interiors.
-pub fn plain_comes_back<T: WktNum>()
-    ensures { PlainComesBack T.eq }
-{}
 
 /// The text of what a flat value holds is answered with that, and with nothing else, if it is as
 /// `plain_comes_back` asks and its numbers are values of the number type.
@@ -23,7 +14,7 @@ pub fn plain_reads_back<T: WktNum>()
     ensures { PlainReadsBack T.is_value T.num T.read T.eq }
 {}
 
-/// The two laws above for a geometry, whose rings are always closed: if it nowhere holds a line, a
+/// `plain_comes_back` and `plain_reads_back` for a geometry, whose rings are always closed: if it nowhere holds a line, a
 /// rectangle or a triangle, and its polygons with an empty exterior have no interiors, it comes back
 /// from its `Wkt`, and its own text is answered with it and with nothing else.
 ///

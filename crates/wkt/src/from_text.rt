@@ -7,13 +7,13 @@ ghost use Rattle.wkt_types.specs.Tree.{tree};
 ghost use Rattle.wkt_flat.specs.Tree.{flat_tree, flat_trees};
 ghost use Rattle.wkt_flat.specs.Equal.{coord_eq};
 ghost use Rattle.wkt_read.specs.Answered.{IsFront};
-ghost use Rattle.wkt.specs.Flatten.{flat, flat_collection};
+ghost use Rattle.wkt_convert.specs.Flatten.{flat, flat_collection};
 ghost use Rattle.wkt.specs.FromText.{TextAnswers, BytesAnswer, IfAllRead, IfReader, IsUnread, IsUntold};
-ghost use Rattle.wkt.specs.Kinds.{only, point_in, line_in, path_in, rings_in, points_in, paths_in, polygons_in, corners_in, triangle_in};
+ghost use Rattle.wkt_convert.specs.Kinds.{only, point_in, line_in, path_in, rings_in, points_in, paths_in, polygons_in, corners_in, triangle_in};
 
-use crate::convert::ConvertFrom;
 use std::alloc::Global;
 use wkt_bytes::{ByteSource, ReadAllError, read_all};
+use wkt_convert::ConvertFrom;
 use wkt_flat as flat;
 use wkt_num::WktNum;
 use wkt_read::{FromWktStr, ReadError};

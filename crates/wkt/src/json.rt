@@ -8,17 +8,17 @@ ghost use Rattle.wkt_read.specs.Answered.{IsFront, HasBadNumber, OnText, OnMessa
 ghost use Rattle.wkt_types.specs.Outcome.{Answers, value};
 ghost use Rattle.wkt_flat.specs.Tree.{Flat, flat_tree};
 ghost use Rattle.wkt_flat.specs.Equal.{coord_eq};
-ghost use Rattle.wkt.specs.Flatten.{flat};
+ghost use Rattle.wkt_convert.specs.Flatten.{flat};
 ghost use Rattle.wkt.specs.FromText.{TextAnswers};
-ghost use Rattle.wkt.specs.Kinds.{only};
+ghost use Rattle.wkt_convert.specs.Kinds.{only};
 ghost use Rattle.wkt.specs.Json.{text_of, AsText, point_if_any};
 
 use crate::from_text::TryFromWkt;
-use crate::kinds::mismatch;
 use serde_json::Value;
 use std::alloc::Global;
 use std::fmt::Display;
 use thiserror::Error;
+use wkt_convert::mismatch;
 use wkt_flat::{Geometry, Point};
 use wkt_num::WktNum;
 use wkt_read::{FromWktStr, ReadError};

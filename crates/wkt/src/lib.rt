@@ -1,29 +1,18 @@
 //! Well-known text read and written, proved: every name of the crates below, in one place.
 #![tactic(auto)]
 
-mod back;
-mod convert;
 mod flat_laws;
-mod flat_text;
-mod flat_to_wkt;
-mod flat_written;
-mod flatten;
 mod from_text;
 mod json;
-mod kinds;
 #[cfg(test)]
 mod macro_tests;
 mod macros;
-mod send;
-mod string_text;
-mod to_text;
 
 pub use from_text::TryFromWkt;
 pub use json::{
     ValueError, deserialize_geometry, deserialize_point, deserialize_wkt, wkt_from_value,
 };
-pub use send::ToWktError;
-pub use to_text::ToWkt;
+pub use wkt_convert::{ToWkt, ToWktError};
 pub use wkt_num::{Decimal, WktNum};
 pub use wkt_read::{FromWktStr, InferError, ReadError, infer_type};
 pub use wkt_types::Wkt;
@@ -55,20 +44,19 @@ pub mod types {
 
 /// Writing, and where text and bytes go.
 pub mod to_wkt {
-    pub use crate::send::ToWktError;
-    pub use crate::to_text::ToWkt;
-    pub use wkt_access::{
+    pub use wkt_bytes::{ByteSink, ByteSource, Counted, ReadAllError, WriterWrapper, read_all};
+    pub use wkt_convert::{ToWkt, ToWktError};
+    pub use wkt_num::{CountedText, FormatterText, TextSink};
+    pub use wkt_write::{
         push_geometry, write_geometry, write_geometry_collection, write_line, write_linestring,
         write_multi_linestring, write_multi_point, write_multi_polygon, write_point, write_polygon,
         write_rect, write_triangle,
     };
-    pub use wkt_bytes::{ByteSink, ByteSource, Counted, ReadAllError, WriterWrapper, read_all};
-    pub use wkt_num::{CountedText, FormatterText, TextSink};
 }
 
 /// Conversions of the types of well-known text into two-dimensional ones.
 pub mod geo_types_from_wkt {
-    pub use crate::convert::{ConvertFrom, try_into_geometry, try_into_geometry_collection};
+    pub use wkt_convert::{ConvertFrom, try_into_geometry, try_into_geometry_collection};
     pub use wkt_types::ConvertError as Error;
 }
 
@@ -95,9 +83,8 @@ pub mod deserialize {
 /// The laws of the definitions that the contracts cite: public functions that change nothing, whose
 /// contracts are the laws.
 pub mod laws {
-    pub use crate::flat_laws::{
-        flat_and_back, geometry_comes_back, plain_comes_back, plain_reads_back,
-    };
+    pub use crate::flat_laws::{geometry_comes_back, plain_reads_back};
+    pub use wkt_convert::laws::{flat_and_back, plain_comes_back};
     pub use wkt_flat::laws::{flat_is_writable, rings_are_closed};
     pub use wkt_num::laws::{finer_keeps, reading_is_equation, wider_keeps};
     pub use wkt_read::laws::{

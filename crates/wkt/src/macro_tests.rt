@@ -20,11 +20,8 @@ fn shows<G: Display + Drop>(
 }
 
 // Whether that was made, and is equal to the other.
-fn gives<G: PartialEq + Drop>(made: Result<G, AllocError>, want: G) -> bool {
-    match made {
-        Ok(made) => made == want,
-        Err(_) => false,
-    }
+fn gives<G: PartialEq + Drop>(made: Result<G, AllocError>, want: G) -> Result<bool, AllocError> {
+    Ok(made? == want)
 }
 
 #[test]
@@ -35,78 +32,85 @@ fn dimensions(rt: HostRuntime) {
 }
 
 #[test]
-fn empty_points(rt: HostRuntime) {
+fn empty_points(rt: HostRuntime) -> Result<(), Fail> {
     let alloc = rt.alloc();
     let of = |dim| Point::<i32>::empty(dim);
-    assert!(rt; gives(wkt!(alloc; POINT EMPTY), of(Dimension::XY)));
-    assert!(rt; gives(wkt!(alloc; POINT Z EMPTY), of(Dimension::XYZ)));
-    assert!(rt; gives(wkt!(alloc; POINT M EMPTY), of(Dimension::XYM)));
-    assert!(rt; gives(wkt!(alloc; POINT ZM EMPTY), of(Dimension::XYZM)));
+    assert!(rt; gives(wkt!(alloc; POINT EMPTY), of(Dimension::XY))?);
+    assert!(rt; gives(wkt!(alloc; POINT Z EMPTY), of(Dimension::XYZ))?);
+    assert!(rt; gives(wkt!(alloc; POINT M EMPTY), of(Dimension::XYM))?);
+    assert!(rt; gives(wkt!(alloc; POINT ZM EMPTY), of(Dimension::XYZM))?);
+    Ok(())
 }
 
 #[test]
-fn empty_line_strings(rt: HostRuntime) {
+fn empty_line_strings(rt: HostRuntime) -> Result<(), Fail> {
     let alloc = rt.alloc();
     let of = |dim| LineString::<i32>::empty(alloc, dim);
-    assert!(rt; gives(wkt!(alloc; LINESTRING EMPTY), of(Dimension::XY)));
-    assert!(rt; gives(wkt!(alloc; LINESTRING Z EMPTY), of(Dimension::XYZ)));
-    assert!(rt; gives(wkt!(alloc; LINESTRING M EMPTY), of(Dimension::XYM)));
-    assert!(rt; gives(wkt!(alloc; LINESTRING ZM EMPTY), of(Dimension::XYZM)));
+    assert!(rt; gives(wkt!(alloc; LINESTRING EMPTY), of(Dimension::XY))?);
+    assert!(rt; gives(wkt!(alloc; LINESTRING Z EMPTY), of(Dimension::XYZ))?);
+    assert!(rt; gives(wkt!(alloc; LINESTRING M EMPTY), of(Dimension::XYM))?);
+    assert!(rt; gives(wkt!(alloc; LINESTRING ZM EMPTY), of(Dimension::XYZM))?);
+    Ok(())
 }
 
 #[test]
-fn empty_polygons(rt: HostRuntime) {
+fn empty_polygons(rt: HostRuntime) -> Result<(), Fail> {
     let alloc = rt.alloc();
     let of = |dim| Polygon::<i32>::empty(alloc, dim);
-    assert!(rt; gives(wkt!(alloc; POLYGON EMPTY), of(Dimension::XY)));
-    assert!(rt; gives(wkt!(alloc; POLYGON Z EMPTY), of(Dimension::XYZ)));
-    assert!(rt; gives(wkt!(alloc; POLYGON M EMPTY), of(Dimension::XYM)));
-    assert!(rt; gives(wkt!(alloc; POLYGON ZM EMPTY), of(Dimension::XYZM)));
+    assert!(rt; gives(wkt!(alloc; POLYGON EMPTY), of(Dimension::XY))?);
+    assert!(rt; gives(wkt!(alloc; POLYGON Z EMPTY), of(Dimension::XYZ))?);
+    assert!(rt; gives(wkt!(alloc; POLYGON M EMPTY), of(Dimension::XYM))?);
+    assert!(rt; gives(wkt!(alloc; POLYGON ZM EMPTY), of(Dimension::XYZM))?);
+    Ok(())
 }
 
 #[test]
-fn empty_multi_points(rt: HostRuntime) {
+fn empty_multi_points(rt: HostRuntime) -> Result<(), Fail> {
     let alloc = rt.alloc();
     let of = |dim| MultiPoint::<i32>::empty(alloc, dim);
-    assert!(rt; gives(wkt!(alloc; MULTIPOINT EMPTY), of(Dimension::XY)));
-    assert!(rt; gives(wkt!(alloc; MULTIPOINT Z EMPTY), of(Dimension::XYZ)));
-    assert!(rt; gives(wkt!(alloc; MULTIPOINT M EMPTY), of(Dimension::XYM)));
-    assert!(rt; gives(wkt!(alloc; MULTIPOINT ZM EMPTY), of(Dimension::XYZM)));
+    assert!(rt; gives(wkt!(alloc; MULTIPOINT EMPTY), of(Dimension::XY))?);
+    assert!(rt; gives(wkt!(alloc; MULTIPOINT Z EMPTY), of(Dimension::XYZ))?);
+    assert!(rt; gives(wkt!(alloc; MULTIPOINT M EMPTY), of(Dimension::XYM))?);
+    assert!(rt; gives(wkt!(alloc; MULTIPOINT ZM EMPTY), of(Dimension::XYZM))?);
+    Ok(())
 }
 
 #[test]
-fn empty_multi_line_strings(rt: HostRuntime) {
+fn empty_multi_line_strings(rt: HostRuntime) -> Result<(), Fail> {
     let alloc = rt.alloc();
     let of = |dim| MultiLineString::<i32>::empty(alloc, dim);
-    assert!(rt; gives(wkt!(alloc; MULTILINESTRING EMPTY), of(Dimension::XY)));
-    assert!(rt; gives(wkt!(alloc; MULTILINESTRING Z EMPTY), of(Dimension::XYZ)));
-    assert!(rt; gives(wkt!(alloc; MULTILINESTRING M EMPTY), of(Dimension::XYM)));
-    assert!(rt; gives(wkt!(alloc; MULTILINESTRING ZM EMPTY), of(Dimension::XYZM)));
+    assert!(rt; gives(wkt!(alloc; MULTILINESTRING EMPTY), of(Dimension::XY))?);
+    assert!(rt; gives(wkt!(alloc; MULTILINESTRING Z EMPTY), of(Dimension::XYZ))?);
+    assert!(rt; gives(wkt!(alloc; MULTILINESTRING M EMPTY), of(Dimension::XYM))?);
+    assert!(rt; gives(wkt!(alloc; MULTILINESTRING ZM EMPTY), of(Dimension::XYZM))?);
+    Ok(())
 }
 
 #[test]
-fn empty_multi_polygons(rt: HostRuntime) {
+fn empty_multi_polygons(rt: HostRuntime) -> Result<(), Fail> {
     let alloc = rt.alloc();
     let of = |dim| MultiPolygon::<i32>::empty(alloc, dim);
-    assert!(rt; gives(wkt!(alloc; MULTIPOLYGON EMPTY), of(Dimension::XY)));
-    assert!(rt; gives(wkt!(alloc; MULTIPOLYGON Z EMPTY), of(Dimension::XYZ)));
-    assert!(rt; gives(wkt!(alloc; MULTIPOLYGON M EMPTY), of(Dimension::XYM)));
-    assert!(rt; gives(wkt!(alloc; MULTIPOLYGON ZM EMPTY), of(Dimension::XYZM)));
+    assert!(rt; gives(wkt!(alloc; MULTIPOLYGON EMPTY), of(Dimension::XY))?);
+    assert!(rt; gives(wkt!(alloc; MULTIPOLYGON Z EMPTY), of(Dimension::XYZ))?);
+    assert!(rt; gives(wkt!(alloc; MULTIPOLYGON M EMPTY), of(Dimension::XYM))?);
+    assert!(rt; gives(wkt!(alloc; MULTIPOLYGON ZM EMPTY), of(Dimension::XYZM))?);
+    Ok(())
 }
 
 #[test]
-fn empty_collections(rt: HostRuntime) {
+fn empty_collections(rt: HostRuntime) -> Result<(), Fail> {
     let alloc = rt.alloc();
     let of = |dim| GeometryCollection::<i32>::empty(alloc, dim);
-    assert!(rt; gives(wkt!(alloc; GEOMETRYCOLLECTION EMPTY), of(Dimension::XY)));
-    assert!(rt; gives(wkt!(alloc; GEOMETRYCOLLECTION Z EMPTY), of(Dimension::XYZ)));
-    assert!(rt; gives(wkt!(alloc; GEOMETRYCOLLECTION M EMPTY), of(Dimension::XYM)));
+    assert!(rt; gives(wkt!(alloc; GEOMETRYCOLLECTION EMPTY), of(Dimension::XY))?);
+    assert!(rt; gives(wkt!(alloc; GEOMETRYCOLLECTION Z EMPTY), of(Dimension::XYZ))?);
+    assert!(rt; gives(wkt!(alloc; GEOMETRYCOLLECTION M EMPTY), of(Dimension::XYM))?);
     assert!(rt;
         gives(
             wkt!(alloc; GEOMETRYCOLLECTION ZM EMPTY),
             of(Dimension::XYZM)
-        )
+        )?
     );
+    Ok(())
 }
 
 fn numbers(coord: Coord<i32>) -> (i32, i32, Option<i32>, Option<i32>) {

@@ -6,7 +6,7 @@ use Rattle.std.specs.Fmt.{DisplaysOnOk, DisplaysStyledOnOk, HasWrittenStyled, Is
 use Rattle.std.specs.declared.fmt.Formatter.{Formatter}
 use Rattle.wkt_access.specs.declared.error.Error.{Error}
 use Rattle.wkt_access.specs.declared.error.Error.TheVariants.{FmtError, RectUnsupportedDimension, UnknownDimension, TooFewNumbers, Memory}
-use Rattle.wkt_access.specs.Writes.{Writes}
+use Rattle.wkt_write.specs.Writes.{Writes}
 use Rattle.wkt_num.specs.Sink.{Sink}
 use Rattle.wkt_access.specs.Shapes.{Shape}
 use Rattle.wkt_access.specs.Texts.{shape_text}

@@ -6,10 +6,9 @@ ghost use Rattle.wkt_types.specs.Shown.{shown, IsUnwritable};
 
 use std::fmt;
 use std::fmt::Formatter;
-use wkt_access::{
-    Error, GeometryCollectionTrait, GeometryTrait, write_geometry, write_geometry_collection,
-};
+use wkt_access::{Error, GeometryCollectionTrait, GeometryTrait};
 use wkt_num::{FormatterText, WktNum};
+use wkt_write::{write_geometry, write_geometry_collection};
 
 /// Displays a geometry as the text that `write_geometry` writes.
 pub(crate) fn show_geometry<W: fmt::Write, G: GeometryTrait>(

@@ -8,10 +8,10 @@ use Rattle.wkt_flat.specs.Tree.{Flat}
 use Rattle.wkt_flat.specs.declared.coord.Coord.{Coord}
 use Rattle.wkt_types.specs.Outcome.{value}
 use Rattle.wkt_types.specs.Values.{tree_shape}
-use Rattle.wkt.specs.Back.{back}
-use Rattle.wkt.specs.Flatten.{flat}
+use Rattle.wkt_convert.specs.Back.{back}
+use Rattle.wkt_convert.specs.Flatten.{flat}
 use Rattle.wkt.specs.FromText.{FrontGives}
-use Rattle.wkt.specs.Kinds.{only, rings_in}
+use Rattle.wkt_convert.specs.Kinds.{only, rings_in}
 
 -- The bytes are a text that has a polygon at its front, and the text of its flat value went out.
 pub record IsCopied {T : Type 0} (read : List ℕ → Option T) (num : T → List ℕ) (E : T → T → Bool) (old new : Option (List ℕ)) (bytes : List ℕ) : Type 0 where

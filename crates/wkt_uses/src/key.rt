@@ -3,7 +3,7 @@ ghost use Rattle.std.specs.Prelude.{◌≡◌, IfOk, OnOk, Some, None, length, s
 ghost use Rattle.wkt_access.specs.Shapes.{canon};
 ghost use Rattle.wkt_access.specs.Faults.{fault};
 ghost use Rattle.wkt_access.specs.Texts.{shape_text};
-ghost use Rattle.wkt_access.specs.Writes.{IfFault};
+ghost use Rattle.wkt_write.specs.Writes.{IfFault};
 ghost use Rattle.wkt_read.specs.Front.{Front};
 
 use std::alloc::Global;

@@ -1,7 +1,7 @@
 use Rattle.std.proofs.Common.{string_bytes, rules}
 use Rattle.wkt_flat.specs.Equal.{coord_eq}
 use Rattle.wkt_flat.specs.Tree.{flat_trees}
-use Rattle.wkt.specs.Flatten.{flat_collection}
+use Rattle.wkt_convert.specs.Flatten.{flat_collection}
 use Rattle.wkt.proofs.Texts.{source_answers}
 use Rattle.wkt.proofs.from_text.FlatGeometryCollectionTryFromWkt.try_from_wkt_reader.Goals as goal
 

@@ -1,7 +1,7 @@
 use Rattle.std.proofs.Common.{codes, string_bytes, rules}
 use Rattle.wkt_flat.specs.Equal.{coord_eq}
-use Rattle.wkt.specs.Flatten.{flat}
-use Rattle.wkt.specs.Kinds.{only, points_in}
+use Rattle.wkt_convert.specs.Flatten.{flat}
+use Rattle.wkt_convert.specs.Kinds.{only, points_in}
 use Rattle.wkt.proofs.Texts.{source_answers}
 use Rattle.wkt.proofs.from_text.FlatMultiPointTryFromWkt.try_from_wkt_reader.Goals as goal
 

@@ -1,8 +1,0 @@
-use Rattle.std.proofs.Common.{◌≡◌, ap, rules, codes}
-use Rattle.wkt.proofs.FlatKinds.{no_line}
-use Rattle.wkt.proofs.kinds.FlatLineConvertFromWkt.convert_from.Goals as goal
-
-pub returns : goal.returns
-returns g c =
-    let none = no_line c.in_ok-other.other c.in_default.not-Line in
-    rw (c.in_ok-other.ensures, none) c.mismatch.ensures

@@ -1,8 +1,0 @@
-use Rattle.std.proofs.Common.{◌≡◌, ap, rules, codes}
-use Rattle.wkt.proofs.FlatKinds.{no_triangle}
-use Rattle.wkt.proofs.kinds.FlatTriangleConvertFromWkt.convert_from.Goals as goal
-
-pub returns : goal.returns
-returns g c =
-    let none = no_triangle c.in_ok-other.other c.in_default.not-Triangle in
-    rw (c.in_ok-other.ensures, none) c.mismatch.ensures

@@ -1,0 +1,48 @@
+-- The members of a collection, one after the other; and multipoints.
+use Rattle.std.proofs.Common.{◌≡◌, refl, ap, sym, ◌∙◌, List, [], ◌∷◌, Bool, map}
+use Rattle.wkt_types.specs.Held.{Held, HeldPoint}
+use Rattle.wkt_types.specs.Tree.{Tree, Trees, tree, trees_of, members, wkt_step, collection_step}
+use Rattle.wkt_types.specs.declared.coord.Coord.{Coord}
+use Rattle.wkt_types.specs.declared.geometry.Wkt.{Wkt}
+use Rattle.wkt_types.specs.declared.geometry.Wkt.TheVariants as variants
+use Rattle.wkt_types.specs.declared.geometry.Wkt.TheFolds as folds
+use Rattle.wkt_types.specs.declared.geometry.Wkt.TheOpen as opened
+use Rattle.wkt_flat.specs.Tree as steps
+use Rattle.wkt_flat.specs.Tree.{Flat, Flats, flats_of, flat_tree, flat_members}
+use Rattle.wkt_flat.specs.declared.geometry.Geometry.TheVariants as flat_variants
+use Rattle.wkt_flat.specs.declared.geometry.Geometry.TheFolds as flat_folds
+use Rattle.wkt_flat.specs.declared.geometry.Geometry.TheOpen as flat_opened
+use Rattle.wkt_flat.specs.declared.coord.Coord as flat_coord
+use Rattle.wkt_flat.specs.declared.point.Point as flat_point
+use Rattle.wkt_flat.specs.declared.line.Line as flat_line
+use Rattle.wkt_flat.specs.declared.geometry.Geometry.{Geometry}
+use Rattle.wkt_convert.specs.Back.{back, all_back}
+use Rattle.wkt_convert.specs.Flatten.{flat, flat_all}
+use Rattle.wkt_types.specs.Outcome.{Outcome, value, refused}
+use Rattle.wkt_convert.specs.Outcomes.{outcome_map, outcome_both, outcomes}
+
+gather : {T : Type 0} (a : Outcome (Flat T)) (b : Outcome (List (Flat T))) →
+    outcome_both Flats.more_flats a (outcome_map flats_of b) ≡ outcome_map flats_of (outcome_both (λ y ys. y ∷ ys) a b)
+gather (value x) (value y) = refl
+gather (value x) (refused k) = refl
+gather (refused k) b = refl
+
+pub flatten_members : {T : Type 0} (E : flat_coord.Coord T → flat_coord.Coord T → Bool) (ws : List (Wkt T)) →
+    flat_all E (members ws) ≡ outcome_map flats_of (outcomes (λ w. flat E (tree w)) ws)
+flatten_members E [] = refl
+flatten_members E (w ∷ ws) =
+    ap (outcome_both Flats.more_flats (flat E (tree w))) (flatten_members E ws) ∙ gather (flat E (tree w)) (outcomes (λ w. flat E (tree w)) ws)
+
+pub tree-multi_point : {T : Type 0} (m : Held (HeldPoint (Coord T))) → tree (variants.MultiPoint m) ≡ Tree.multi_point m
+tree-multi_point {T} m =
+    ap tree (sym (variants.rolls-MultiPoint m))
+    ∙ folds.fold-roll-Wkt T (Tree T) (Tree T) wkt_step collection_step (opened.Wkt-F.MultiPoint m)
+
+pub tree-line_string : {T : Type 0} (l : Held (Coord T)) → tree (variants.LineString l) ≡ Tree.line_string l
+tree-line_string {T} l =
+    ap tree (sym (variants.rolls-LineString l))
+    ∙ folds.fold-roll-Wkt T (Tree T) (Tree T) wkt_step collection_step (opened.Wkt-F.LineString l)
+
+pub all_back_members : {T : Type 0} (gs : List (Geometry T)) → all_back (flat_members gs) ≡ trees_of (map (λ g. back (flat_tree g)) gs)
+all_back_members [] = refl
+all_back_members (g ∷ gs) = ap (λ ts. Trees.more_trees (back (flat_tree g)) ts) (all_back_members gs)

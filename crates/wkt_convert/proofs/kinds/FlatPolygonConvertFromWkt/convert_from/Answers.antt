@@ -1,0 +1,8 @@
+use Rattle.std.proofs.Common.{◌≡◌, ap, rules, codes}
+use Rattle.wkt_convert.proofs.FlatKinds.{no_rings}
+use Rattle.wkt_convert.proofs.kinds.FlatPolygonConvertFromWkt.convert_from.Goals as goal
+
+pub returns : goal.returns
+returns g c =
+    let none = no_rings c.in_ok-other.other c.in_default.not-Polygon in
+    rw (c.in_ok-other.ensures, none) c.mismatch.ensures

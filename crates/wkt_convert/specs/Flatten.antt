@@ -1,0 +1,70 @@
+-- The flat value of what a `Wkt` holds, or the named fault: z, m and dimensions are dropped, the order is kept, and rings are closed.
+use Rattle.std.specs.Prelude.{List, [], ◌∷◌, map, Bool, Option, Some, None, ℕ, codes}
+use Rattle.wkt_types.specs.Held.{Held, HeldPoint}
+use Rattle.wkt_types.specs.Tree.{Tree, Trees}
+use Rattle.wkt_types.specs.declared.coord.Coord.{Coord}
+use Rattle.wkt_types.specs.Outcome.{Outcome, value, refused, mismatched}
+use Rattle.wkt_types.specs.Flattened.{xy, at, point_at}
+use Rattle.wkt_flat.specs.declared.coord.Coord as flat_coord
+use Rattle.wkt_flat.specs.declared.point.Point as flat_point
+use Rattle.wkt_flat.specs.Rings.{Rings, closed_rings, one_ring}
+use Rattle.wkt_flat.specs.Tree.{Flat, Flats}
+use Rattle.wkt_convert.specs.Outcomes.{outcome_map, outcome_both, outcomes}
+
+-- The path of a line string.
+abbrev pub path : {T : Type 0} → Held (Coord T) → List (flat_coord.Coord T)
+path l = map xy l.parts
+
+-- The first ring is the exterior, and the rest are interiors; of no rings the exterior is empty.
+abbrev pub first_outside : {C : Type 0} → (C → C → Bool) → List (List C) → Rings C
+first_outside E [] = one_ring []
+first_outside E (r ∷ rs) = closed_rings E r rs
+
+-- The closed rings of a polygon.
+abbrev pub rings : {T : Type 0} → (flat_coord.Coord T → flat_coord.Coord T → Bool) → Held (Held (Coord T)) → Rings (flat_coord.Coord T)
+rings E y = first_outside E (map path y.parts)
+
+-- The points of a multipoint, or the fault of its first empty member.
+abbrev pub points : {T : Type 0} → List (HeldPoint (Coord T)) → Outcome (List (flat_point.Point T))
+points ps = outcomes (λ p. point_at p.coord) ps
+
+-- A point; an empty one is an empty multipoint.
+abbrev pub point_or_none : {T : Type 0} → Option (Coord T) → Flat T
+point_or_none None = Flat.multi_point []
+point_or_none (Some c) = Flat.point (at c)
+
+-- The flat value of each kind.
+abbrev mutual
+  pub flat : {T : Type 0} → (flat_coord.Coord T → flat_coord.Coord T → Bool) → Tree T → Outcome (Flat T)
+  flat E (Tree.point p) = value (point_or_none p.coord)
+  flat E (Tree.line_string l) = value (Flat.line_string (path l))
+  flat E (Tree.polygon y) = value (Flat.polygon (rings E y))
+  flat E (Tree.multi_point m) = outcome_map Flat.multi_point (points m.parts)
+  flat E (Tree.multi_line_string m) = value (Flat.multi_line_string (map path m.parts))
+  flat E (Tree.multi_polygon m) = value (Flat.multi_polygon (map (rings E) m.parts))
+  flat E (Tree.collection ts d) = outcome_map Flat.collection (flat_all E ts)
+
+  -- The members of a collection, or the first fault.
+  pub flat_all : {T : Type 0} → (flat_coord.Coord T → flat_coord.Coord T → Bool) → Trees T → Outcome (Flats T)
+  flat_all E Trees.no_trees = value Flats.no_flats
+  flat_all E (Trees.more_trees t ts) = outcome_both Flats.more_flats (flat E t) (flat_all E ts)
+
+-- The members of a tree that is a collection.
+abbrev pub trees_in : {T : Type 0} → Tree T → Trees T
+trees_in (Tree.collection ts d) = ts
+trees_in _ = Trees.no_trees
+
+-- The plain name of a kind of `Wkt`.
+abbrev pub tree_name : {T : Type 0} → Tree T → List ℕ
+tree_name (Tree.point p) = codes "Point"
+tree_name (Tree.line_string l) = codes "LineString"
+tree_name (Tree.polygon y) = codes "Polygon"
+tree_name (Tree.multi_point m) = codes "MultiPoint"
+tree_name (Tree.multi_line_string m) = codes "MultiLineString"
+tree_name (Tree.multi_polygon m) = codes "MultiPolygon"
+tree_name (Tree.collection ts d) = codes "GeometryCollection"
+
+-- The flat collection of a tree that is one; of any other the mismatch of names, at once.
+abbrev pub flat_collection : {T : Type 0} → (flat_coord.Coord T → flat_coord.Coord T → Bool) → Tree T → Outcome (Flats T)
+flat_collection E (Tree.collection ts d) = flat_all E ts
+flat_collection E t = refused (mismatched (codes "GeometryCollection") (tree_name t))

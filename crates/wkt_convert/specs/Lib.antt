@@ -1,0 +1,6 @@
+pub mod Outcomes
+pub mod Flatten
+pub mod Kinds
+pub mod Back
+pub mod Sent
+pub mod Laws

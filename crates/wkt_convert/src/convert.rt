@@ -1,0 +1,180 @@
+//! Conversions that may take memory: the types of well-known text into flat ones.
+ghost use Rattle.std.specs.Prelude.{◌≡◌, Result, codes};
+ghost use Rattle.wkt_types.specs.Tree.{tree, collection_tree};
+ghost use Rattle.wkt_types.specs.declared.convert.ConvertError.{ConvertError};
+ghost use Rattle.wkt_types.specs.Outcome.{Answers, value};
+ghost use Rattle.wkt_flat.specs.Tree.{Flat, flat_tree, flat_trees};
+ghost use Rattle.wkt_flat.specs.Equal.{coord_eq};
+ghost use Rattle.wkt_convert.specs.Outcomes.{outcome_map};
+ghost use Rattle.wkt_convert.specs.Flatten.{path, rings, points, flat, flat_all, trees_in};
+
+use crate::flatten::{
+    all_points, collection, geometry, line_string, line_strings, polygon, polygons,
+};
+use std::alloc::Global;
+use wkt_flat as flat;
+use wkt_flat::Geometry;
+use wkt_num::WktNum;
+use wkt_types as types;
+use wkt_types::{ConvertError, Wkt};
+
+/// A conversion that may take memory.
+///
+/// From a type of well-known text to a flat one z, m and dimensions are dropped, the order is kept,
+/// and the rings of polygons are closed.
+pub trait ConvertFrom<S>: Sized {
+    /// Which answers a source may have.
+    ghost converts: { S → Result Self ConvertError → Type 0 };
+
+    /// The value that the source is converted to. A source that is refused is dropped.
+    ///
+    /// # Errors
+    /// `PointConversionError` for a multipoint with an empty member, `MismatchedGeometry` where the
+    /// source is of another kind than this type, `Memory` when out of memory.
+    fn convert_from(alloc: Global, source: S) -> Result<Self, ConvertError>
+        ensures { converts source result };
+}
+
+/// The geometry of any kind. An empty point becomes an empty multipoint.
+///
+/// # Errors
+/// `PointConversionError` where it holds a multipoint with an empty member, for the first one;
+/// `Memory`.
+pub fn try_into_geometry<T: WktNum>(
+    alloc: Global,
+    geometry: &Wkt<T>,
+) -> Result<Geometry<T>, ConvertError>
+    ensures { Answers flat_tree (flat (coord_eq T.eq) (tree geometry.now)) result }
+{
+    crate::flatten::geometry(alloc, geometry)
+}
+
+/// The members of the collection as a `Geometry::GeometryCollection`.
+///
+/// # Errors
+/// `PointConversionError` where a member holds a multipoint with an empty member, for the first one;
+/// `Memory`.
+pub fn try_into_geometry_collection<T: WktNum>(
+    alloc: Global,
+    geometry_collection: &types::GeometryCollection<T>,
+) -> Result<Geometry<T>, ConvertError>
+    ensures { Answers flat_tree (outcome_map Flat.collection (flat_all (coord_eq T.eq) (trees_in (collection_tree geometry_collection.now)))) result }
+{
+    Ok(Geometry::GeometryCollection(collection(alloc, geometry_collection.geometries())?))
+}
+
+impl<T: WktNum> ConvertFrom<types::LineString<T>> for flat::LineString<T> {
+    ghost converts = { λ l r. Answers (λ x. x) (value (path l)) r };
+
+    fn convert_from(alloc: Global, source: types::LineString<T>) -> Result<Self, ConvertError> {
+        Ok(line_string(alloc, &source)?)
+    }
+}
+
+impl<T: WktNum> ConvertFrom<types::Polygon<T>> for flat::Polygon<T> {
+    ghost converts = { λ y r. Answers (λ x. x) (value (rings (coord_eq T.eq) y)) r };
+
+    fn convert_from(alloc: Global, source: types::Polygon<T>) -> Result<Self, ConvertError> {
+        Ok(polygon(alloc, &source)?)
+    }
+}
+
+impl<T: WktNum> ConvertFrom<types::MultiPoint<T>> for flat::MultiPoint<T> {
+    ghost converts = { λ m r. Answers (λ x. x) (points m.parts) r };
+
+    fn convert_from(alloc: Global, source: types::MultiPoint<T>) -> Result<Self, ConvertError> {
+        all_points(alloc, source.points())
+    }
+}
+
+impl<T: WktNum> ConvertFrom<types::MultiLineString<T>> for flat::MultiLineString<T> {
+    ghost use Rattle.std.specs.Prelude.{map};
+
+    ghost converts = { λ m r. Answers (λ x. x) (value (map path m.parts)) r };
+
+    fn convert_from(
+        alloc: Global,
+        source: types::MultiLineString<T>,
+    ) -> Result<Self, ConvertError> {
+        Ok(flat::MultiLineString(line_strings(alloc, source.line_strings())?))
+    }
+}
+
+impl<T: WktNum> ConvertFrom<types::MultiPolygon<T>> for flat::MultiPolygon<T> {
+    ghost use Rattle.std.specs.Prelude.{map};
+
+    ghost converts = { λ m r. Answers (λ x. x) (value (map (rings (coord_eq T.eq)) m.parts)) r };
+
+    fn convert_from(alloc: Global, source: types::MultiPolygon<T>) -> Result<Self, ConvertError> {
+        Ok(flat::MultiPolygon(polygons(alloc, source.polygons())?))
+    }
+}
+
+impl<T: WktNum> ConvertFrom<types::GeometryCollection<T>> for flat::GeometryCollection<T> {
+    ghost converts = { λ c r. Answers flat_trees (flat_all (coord_eq T.eq) (trees_in (collection_tree c))) r };
+
+    fn convert_from(
+        alloc: Global,
+        source: types::GeometryCollection<T>,
+    ) -> Result<Self, ConvertError> {
+        collection(alloc, source.geometries())
+    }
+}
+
+impl<T: WktNum> ConvertFrom<&types::LineString<T>> for Geometry<T> {
+    ghost converts = { λ l r. Answers flat_tree (value (Flat.line_string (path l.now))) r };
+
+    fn convert_from(alloc: Global, source: &types::LineString<T>) -> Result<Self, ConvertError> {
+        Ok(Geometry::LineString(line_string(alloc, source)?))
+    }
+}
+
+impl<T: WktNum> ConvertFrom<&types::Polygon<T>> for Geometry<T> {
+    ghost converts = { λ y r. Answers flat_tree (value (Flat.polygon (rings (coord_eq T.eq) y.now))) r };
+
+    fn convert_from(alloc: Global, source: &types::Polygon<T>) -> Result<Self, ConvertError> {
+        Ok(Geometry::Polygon(polygon(alloc, source)?))
+    }
+}
+
+impl<T: WktNum> ConvertFrom<&types::MultiPoint<T>> for Geometry<T> {
+    ghost converts = { λ m r. Answers flat_tree (outcome_map Flat.multi_point (points m.now.parts)) r };
+
+    fn convert_from(alloc: Global, source: &types::MultiPoint<T>) -> Result<Self, ConvertError> {
+        Ok(Geometry::MultiPoint(all_points(alloc, source.points())?))
+    }
+}
+
+impl<T: WktNum> ConvertFrom<&types::MultiLineString<T>> for Geometry<T> {
+    ghost use Rattle.std.specs.Prelude.{map};
+
+    ghost converts = { λ m r. Answers flat_tree (value (Flat.multi_line_string (map path m.now.parts))) r };
+
+    fn convert_from(
+        alloc: Global,
+        source: &types::MultiLineString<T>,
+    ) -> Result<Self, ConvertError> {
+        Ok(Geometry::MultiLineString(flat::MultiLineString(line_strings(
+            alloc,
+            source.line_strings(),
+        )?)))
+    }
+}
+
+impl<T: WktNum> ConvertFrom<&types::MultiPolygon<T>> for Geometry<T> {
+    ghost use Rattle.std.specs.Prelude.{map};
+
+    ghost converts = { λ m r. Answers flat_tree (value (Flat.multi_polygon (map (rings (coord_eq T.eq)) m.now.parts))) r };
+
+    fn convert_from(alloc: Global, source: &types::MultiPolygon<T>) -> Result<Self, ConvertError> {
+        Ok(Geometry::MultiPolygon(flat::MultiPolygon(polygons(alloc, source.polygons())?)))
+    }
+}
+
+impl<T: WktNum> ConvertFrom<Wkt<T>> for Geometry<T> {
+    ghost converts = { λ w r. Answers flat_tree (flat (coord_eq T.eq) (tree w)) r };
+
+    fn convert_from(alloc: Global, source: Wkt<T>) -> Result<Self, ConvertError> {
+        geometry(alloc, &source)
+    }
+}

@@ -1,0 +1,12 @@
+pub mod Lists
+pub mod Firsts
+pub mod Depth
+pub mod Members
+pub mod Pieces
+pub mod Listing
+pub mod Bracketed
+pub mod Headed
+pub mod Refusals
+pub mod Canon
+pub mod Writable
+pub mod Strings

@@ -1,0 +1,12 @@
+use Rattle.wkt_write.proofs.Firsts.{Clean}
+use Rattle.wkt_write.proofs.Depth.{depth}
+use Rattle.wkt_access.specs.Faults.{fault}
+use Rattle.wkt_write.specs.Known.{Known}
+use Rattle.wkt_access.specs.Parts.{members_of}
+use Rattle.wkt_write.proofs.check.+check_geometry.Given as goal
+
+abbrev pub decreases-check_geometry : goal.decreases-check_geometry
+decreases-check_geometry g l = depth (g.G.GeometryTrait.shape l.g.now)
+
+abbrev pub invariant-loop-i : goal.invariant-loop-i
+invariant-loop-i g l = Clean fault (Known g.G.T.WktNum.is_value) (members_of (g.G.GeometryTrait.shape l.g)) l.i l.n

@@ -1,0 +1,14 @@
+use Rattle.std.proofs.lemmas.Result.{err_from_is_err_and}
+use Rattle.wkt_write.proofs.Firsts.{clean_more, clean_fault, clean_end}
+use Rattle.wkt_write.proofs.check.check_members.Goals as goal
+
+pub returns-in_err-check_geometry : goal.returns-in_err-check_geometry
+returns-in_err-check_geometry g c =
+    let p = err_from_is_err_and c.from_residual.result c.from_residual.ensures.1 in
+    rw (p.1, p.2) (clean_fault c.loop-i.invariant c.geometry.ensures c.in_err-check_geometry.ensures)
+
+pub returns : goal.returns
+returns g c = clean_end c.loop-i.invariant c.loop-i-test.false
+
+pub loop-i-preserved : goal.loop-i-preserved
+loop-i-preserved g c = clean_more c.loop-i.invariant c.geometry.ensures c.in_ok-check_geometry.ensures

@@ -1,0 +1,19 @@
+use Rattle.wkt_num.proofs.Calls.{puts_err}
+use Rattle.wkt_write.proofs.Listing.{listing_start, listing_more, listing_broken_before, listing_broken}
+use Rattle.wkt_write.proofs.put_parts.put_linestrings.Goals as goal
+
+pub loop-i-init : goal.loop-i-init
+loop-i-init g c = listing_start _ _ _ _ _ c.num_line_strings-i-end.ensures
+
+pub returns-in_err-put_separator : goal.returns-in_err-put_separator
+returns-in_err-put_separator g c =
+    puts_err _ _ c.from_residual.ensures.1
+    (listing_broken_before c.loop-i.invariant c.loop-i-test.true c.in_err-put_separator.ensures)
+
+pub returns-in_err-put_linestring_body : goal.returns-in_err-put_linestring_body
+returns-in_err-put_linestring_body g c =
+    puts_err _ _ c.from_residual-in_err-put_linestring_body.ensures.1
+    (listing_broken c.loop-i.invariant c.line_string.ensures c.in_ok-put_separator.ensures c.in_err-put_linestring_body.ensures)
+
+pub loop-i-preserved : goal.loop-i-preserved
+loop-i-preserved g c = listing_more c.loop-i.invariant c.line_string.ensures c.in_ok-put_separator.ensures c.in_ok-put_linestring_body.ensures

@@ -1,0 +1,3 @@
+pub mod Writes
+pub mod Pieces
+pub mod Known

@@ -1,0 +1,291 @@
+//! Looks for the first refusal in the order of the text.
+#![tactic(auto, using(crate::proofs::Firsts::clean_start, crate::proofs::Firsts::clean_more, crate::proofs::Firsts::clean_fault, crate::proofs::Firsts::clean_end))]
+
+ghost use Rattle.std.specs.Prelude.{◌≡◌, ℕ, ◌≤◌, List, length, Some, None, Option, IfOk, IfErr};
+ghost use Rattle.wkt_access.specs.Faults.{coordinate_fault, coordinates_fault, point_fault, polygon_fault, first_fault, fault, under};
+ghost use Rattle.std.specs.List.{AllByRecursion};
+ghost use Rattle.wkt_write.specs.Known.{Checks, KnownCoord, KnownCoords, KnownLineStrings, KnownPoint, KnownPolygon, KnownRectCorner, Known};
+ghost use Rattle.wkt_access.specs.Parts.{collection_of};
+ghost use Rattle.wkt_access.specs.Shapes.{Shape, printed, dimension};
+ghost use Rattle.wkt_access.specs.Values.{size};
+
+use wkt_access::{
+    CoordTrait, Dimension, Dimensions, Error, GeometryCollectionTrait, GeometryTrait, GeometryType,
+    LineStringTrait, LineTrait, MultiLineStringTrait, MultiPointTrait, MultiPolygonTrait,
+    PointTrait, PolygonTrait, RectTrait, TriangleTrait,
+};
+use wkt_num::WktNum;
+
+/// The dimension that a header is printed with.
+pub(crate) fn printed_dimension(d: Dimensions) -> Option<Dimension>
+    ensures { result ≡ printed d }
+{
+    match d {
+        Dimensions::Xy => Some(Dimension::XY),
+        Dimensions::Xyz => Some(Dimension::XYZ),
+        Dimensions::Xym => Some(Dimension::XYM),
+        Dimensions::Xyzm => Some(Dimension::XYZM),
+        Dimensions::Unknown(n) => {
+            if n == 2 {
+                Some(Dimension::XY)
+            } else if n == 3 {
+                Some(Dimension::XYZ)
+            } else if n == 4 {
+                Some(Dimension::XYZM)
+            } else {
+                None
+            }
+        }
+    }
+}
+
+/// The dimension that a header is printed with; XY where there is none.
+pub(crate) fn dimension_in(d: Dimensions) -> Dimension
+    ensures { result ≡ dimension d }
+{
+    match printed_dimension(d) {
+        None => Dimension::XY,
+        Some(printed) => printed,
+    }
+}
+
+/// How many numbers a coordinate has in that dimension.
+pub(crate) fn size_in(d: Dimension) -> usize
+    ensures { result ≡ size d }
+{
+    match d {
+        Dimension::XY => 2,
+        Dimension::XYZ => 3,
+        Dimension::XYM => 3,
+        Dimension::XYZM => 4,
+    }
+}
+
+/// Whether a coordinate has `k` numbers or more.
+fn check_coord<C: CoordTrait>(c: &C, k: usize) -> Result<(), Error>
+    ensures { Checks result (coordinate_fault k (C.numbers c.now)) (KnownCoord C.T.is_value k (C.numbers c.now)) }
+{
+    if c.dim().size() < k {
+        return Err(Error::TooFewNumbers);
+    }
+    for n in 0..k {
+        c.nth(n).known();
+    }
+    Ok(())
+}
+
+/// The first fault of the coordinates of a line string or a ring, under a header of `k` numbers.
+fn check_coords<L: LineStringTrait>(l: &L, k: usize) -> Result<(), Error>
+    ensures { Checks result (coordinates_fault k (L.coordinates l.now)) (KnownCoords L.T.is_value k (L.coordinates l.now)) }
+{
+    for i in 0..l.num_coords() {
+        check_coord(l.coord(i), k)?;
+    }
+    Ok(())
+}
+
+/// The first fault of a polygon's interiors.
+fn check_interiors<Y: PolygonTrait>(y: &Y, k: usize) -> Result<(), Error>
+    ensures { Checks result (first_fault (coordinates_fault k) (Y.polygon y.now).interiors) (KnownLineStrings Y.T.is_value k (Y.polygon y.now).interiors) }
+{
+    for i in 0..y.num_interiors() {
+        check_coords(y.interior(i), k)?;
+    }
+    Ok(())
+}
+
+/// The first fault of the rings of a polygon that are written.
+fn check_rings<Y: PolygonTrait>(y: &Y, k: usize) -> Result<(), Error>
+    ensures { Checks result (polygon_fault k (Y.polygon y.now)) (KnownPolygon Y.T.is_value k (Y.polygon y.now)) }
+{
+    match y.exterior() {
+        None => Ok(()),
+        Some(exterior) => {
+            if exterior.num_coords() == 0 {
+                return Ok(());
+            }
+            check_coords(exterior, k)?;
+            check_interiors(y, k)
+        }
+    }
+}
+
+/// The fault of a point's coordinate, if there is one.
+fn check_point_coord<P: PointTrait>(p: &P, k: usize) -> Result<(), Error>
+    ensures { Checks result (point_fault k (P.coordinate p.now)) (KnownPoint P.T.is_value k (P.coordinate p.now)) }
+{
+    match p.coord() {
+        None => Ok(()),
+        Some(c) => check_coord(c, k),
+    }
+}
+
+/// The first fault of the members of a multipoint.
+fn check_points<M: MultiPointTrait>(m: &M, k: usize) -> Result<(), Error>
+    ensures { Checks result (first_fault (point_fault k) (M.points m.now)) (AllByRecursion (KnownPoint M.T.is_value k) (M.points m.now)) }
+{
+    for i in 0..m.num_points() {
+        check_point_coord(m.point(i), k)?;
+    }
+    Ok(())
+}
+
+/// The first fault of the members of a multilinestring.
+fn check_linestrings<M: MultiLineStringTrait>(m: &M, k: usize) -> Result<(), Error>
+    ensures { Checks result (first_fault (coordinates_fault k) (M.line_strings m.now)) (KnownLineStrings M.T.is_value k (M.line_strings m.now)) }
+{
+    for i in 0..m.num_line_strings() {
+        check_coords(m.line_string(i), k)?;
+    }
+    Ok(())
+}
+
+/// The first fault of the members of a multipolygon.
+fn check_polygons<M: MultiPolygonTrait>(m: &M, k: usize) -> Result<(), Error>
+    ensures { Checks result (first_fault (polygon_fault k) (M.polygons m.now)) (AllByRecursion (KnownPolygon M.T.is_value k) (M.polygons m.now)) }
+{
+    for i in 0..m.num_polygons() {
+        check_rings(m.polygon(i), k)?;
+    }
+    Ok(())
+}
+
+/// How many numbers a coordinate has under a header.
+fn check_header(d: Dimensions) -> Result<usize, Error>
+    ensures size { IfOk result (λ k. k ≡ size (dimension d)) }
+    ensures ok { IfOk result (λ k. (inside : ℕ → Option Error) → under (printed d) inside ≡ inside k) }
+    ensures err { IfErr result (λ e. (inside : ℕ → Option Error) → under (printed d) inside ≡ Some e) }
+{
+    match printed_dimension(d) {
+        None => Err(Error::UnknownDimension),
+        Some(printed) => Ok(size_in(printed)),
+    }
+}
+
+pub(crate) fn check_point<P: PointTrait>(p: &P) -> Result<(), Error>
+    ensures { Checks result (fault (Shape.point (P.dimension p.now) (P.coordinate p.now))) (Known P.T.is_value (Shape.point (P.dimension p.now) (P.coordinate p.now))) }
+{
+    let k = check_header(p.dim())?;
+    check_point_coord(p, k)
+}
+
+#[inline(never)]
+pub(crate) fn check_linestring<L: LineStringTrait>(l: &L) -> Result<(), Error>
+    ensures { Checks result (fault (Shape.line_string (L.dimension l.now) (L.coordinates l.now))) (Known L.T.is_value (Shape.line_string (L.dimension l.now) (L.coordinates l.now))) }
+{
+    let k = check_header(l.dim())?;
+    check_coords(l, k)
+}
+
+#[inline(never)]
+pub(crate) fn check_polygon<Y: PolygonTrait>(y: &Y) -> Result<(), Error>
+    ensures { Checks result (fault (Shape.polygon (Y.dimension y.now) (Y.polygon y.now))) (Known Y.T.is_value (Shape.polygon (Y.dimension y.now) (Y.polygon y.now))) }
+{
+    let k = check_header(y.dim())?;
+    check_rings(y, k)
+}
+
+#[inline(never)]
+pub(crate) fn check_multi_point<M: MultiPointTrait>(m: &M) -> Result<(), Error>
+    ensures { Checks result (fault (Shape.multi_point (M.dimension m.now) (M.points m.now))) (Known M.T.is_value (Shape.multi_point (M.dimension m.now) (M.points m.now))) }
+{
+    let k = check_header(m.dim())?;
+    check_points(m, k)
+}
+
+#[inline(never)]
+pub(crate) fn check_multi_linestring<M: MultiLineStringTrait>(m: &M) -> Result<(), Error>
+    ensures { Checks result (fault (Shape.multi_line_string (M.dimension m.now) (M.line_strings m.now))) (Known M.T.is_value (Shape.multi_line_string (M.dimension m.now) (M.line_strings m.now))) }
+{
+    let k = check_header(m.dim())?;
+    check_linestrings(m, k)
+}
+
+#[inline(never)]
+pub(crate) fn check_multi_polygon<M: MultiPolygonTrait>(m: &M) -> Result<(), Error>
+    ensures { Checks result (fault (Shape.multi_polygon (M.dimension m.now) (M.polygons m.now))) (Known M.T.is_value (Shape.multi_polygon (M.dimension m.now) (M.polygons m.now))) }
+{
+    let k = check_header(m.dim())?;
+    check_polygons(m, k)
+}
+
+/// Does nothing, and tells that a corner's x and y are values.
+fn know_rect_corner<C: CoordTrait>(c: &C)
+    ensures { KnownRectCorner C.T.is_value (C.numbers c.now) }
+{
+    c.dim();
+    c.x().known();
+    c.y().known();
+}
+
+#[inline(never)]
+pub(crate) fn check_rect<R: RectTrait>(r: &R) -> Result<(), Error>
+    ensures { Checks result (fault (Shape.rect (R.dimension r.now) (R.least_corner r.now) (R.greatest_corner r.now))) (Known R.T.is_value (Shape.rect (R.dimension r.now) (R.least_corner r.now) (R.greatest_corner r.now))) }
+{
+    know_rect_corner(r.min());
+    know_rect_corner(r.max());
+    match printed_dimension(r.dim()) {
+        Some(Dimension::XY) => Ok(()),
+        _ => Err(Error::RectUnsupportedDimension),
+    }
+}
+
+#[inline(never)]
+pub(crate) fn check_line<L: LineTrait>(l: &L) -> Result<(), Error>
+    ensures { Checks result (fault (Shape.line (L.dimension l.now) (L.from l.now) (L.to l.now))) (Known L.T.is_value (Shape.line (L.dimension l.now) (L.from l.now) (L.to l.now))) }
+{
+    let k = check_header(l.dim())?;
+    check_coord(l.start(), k)?;
+    check_coord(l.end(), k)
+}
+
+#[inline(never)]
+pub(crate) fn check_triangle<Y: TriangleTrait>(y: &Y) -> Result<(), Error>
+    ensures { Checks result (fault (Shape.triangle (Y.dimension y.now) (Y.first_corner y.now) (Y.second_corner y.now) (Y.third_corner y.now))) (Known Y.T.is_value (Shape.triangle (Y.dimension y.now) (Y.first_corner y.now) (Y.second_corner y.now) (Y.third_corner y.now))) }
+{
+    let k = check_header(y.dim())?;
+    check_coord(y.first(), k)?;
+    check_coord(y.second(), k)?;
+    check_coord(y.third(), k)
+}
+
+pub(crate) fn check_geometry<G: GeometryTrait>(g: &G) -> Result<(), Error>
+    ensures { Checks result (fault (G.shape g.now)) (Known G.T.is_value (G.shape g.now)) }
+{
+    match g.as_type() {
+        GeometryType::Point(p) => check_point(p),
+        GeometryType::LineString(l) => check_linestring(l),
+        GeometryType::Polygon(y) => check_polygon(y),
+        GeometryType::MultiPoint(m) => check_multi_point(m),
+        GeometryType::MultiLineString(m) => check_multi_linestring(m),
+        GeometryType::MultiPolygon(m) => check_multi_polygon(m),
+        GeometryType::GeometryCollection(n) => {
+            check_header(g.dim())?;
+            for i in 0..n {
+                check_geometry(g.geometry(i))?;
+            }
+            Ok(())
+        }
+        GeometryType::Rect(r) => check_rect(r),
+        GeometryType::Triangle(y) => check_triangle(y),
+        GeometryType::Line(l) => check_line(l),
+    }
+}
+
+/// The first fault of the members of a collection.
+fn check_members<C: GeometryCollectionTrait>(c: &C) -> Result<(), Error>
+    ensures { Checks result (first_fault fault (C.geometries c.now)) (AllByRecursion (Known C.T.is_value) (C.geometries c.now)) }
+{
+    for i in 0..c.num_geometries() {
+        check_geometry(c.geometry(i))?;
+    }
+    Ok(())
+}
+
+pub(crate) fn check_collection<C: GeometryCollectionTrait>(c: &C) -> Result<(), Error>
+    ensures members { IfOk result (λ _. first_fault fault (C.geometries c.now) ≡ None) }
+    ensures collection { Checks result (fault (collection_of (C.dimension c.now) (C.geometries c.now))) (Known C.T.is_value (collection_of (C.dimension c.now) (C.geometries c.now))) }
+{
+    check_header(c.dim())?;
+    check_members(c)
+}

@@ -1,0 +1,13 @@
+//! The writers of well-known text, over the access traits.
+#![tactic(auto)]
+
+mod check;
+mod put_kinds;
+mod put_parts;
+mod write;
+
+pub use write::{
+    push_geometry, write_geometry, write_geometry_collection, write_line, write_linestring,
+    write_multi_linestring, write_multi_point, write_multi_polygon, write_point, write_polygon,
+    write_rect, write_triangle,
+};

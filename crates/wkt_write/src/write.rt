@@ -1,0 +1,198 @@
+//! The eleven writers. Each checks the whole shape first, so that nothing is written of one that is refused.
+#![tactic(auto)]
+
+ghost use Rattle.std.specs.Prelude.{◌≡◌, ◌++◌, OnOk, Some, None, string_bytes};
+ghost use Rattle.wkt_access.specs.Faults.{fault};
+ghost use Rattle.wkt_access.specs.Lawful.{IsLawful};
+ghost use Rattle.wkt_access.specs.Parts.{collection_of};
+ghost use Rattle.wkt_access.specs.Shapes.{Shape};
+ghost use Rattle.wkt_access.specs.Texts.{shape_text};
+ghost use Rattle.wkt_write.specs.Writes.{Writes, IfFault};
+
+use crate::check::{
+    check_collection, check_geometry, check_line, check_linestring, check_multi_linestring,
+    check_multi_point, check_multi_polygon, check_point, check_polygon, check_rect, check_triangle,
+};
+use crate::put_kinds::{
+    put_collection, put_geometry, put_line, put_linestring, put_multi_linestring, put_multi_point,
+    put_multi_polygon, put_point, put_polygon, put_rect, put_triangle,
+};
+use wkt_access::{
+    Error, GeometryCollectionTrait, GeometryTrait, LineStringTrait, LineTrait,
+    MultiLineStringTrait, MultiPointTrait, MultiPolygonTrait, PointTrait, PolygonTrait, RectTrait,
+    TriangleTrait,
+};
+use wkt_num::{CountedText, TextSink, WktNum};
+
+/// Writes a point, as `POINT Z(1 2 3)` or `POINT EMPTY`.
+///
+/// Errors: [`Error::UnknownDimension`] where its dimension is `Unknown(n)` for another n than 2, 3
+/// and 4; then [`Error::TooFewNumbers`] where its coordinate has fewer numbers than its dimension;
+/// nothing is written then. [`Error::FmtError`] where the sink fails: a beginning is written then.
+pub fn write_point<W: TextSink, P: PointTrait>(f: &mut W, g: &P) -> Result<(), Error>
+    ensures { Writes W.sink P.T.is_value P.T.num f.old (Shape.point (P.dimension g.now) (P.coordinate g.now)) f.new result }
+{
+    check_point(g)?;
+    put_point(f, g)?;
+    Ok(())
+}
+
+/// Writes a line string, as `LINESTRING(1 2,3 4)` or `LINESTRING M EMPTY`.
+///
+/// Errors: as [`write_point`], with the first coordinate that is too short.
+pub fn write_linestring<W: TextSink, L: LineStringTrait>(f: &mut W, g: &L) -> Result<(), Error>
+    ensures { Writes W.sink L.T.is_value L.T.num f.old (Shape.line_string (L.dimension g.now) (L.coordinates g.now)) f.new result }
+{
+    check_linestring(g)?;
+    put_linestring(f, g)?;
+    Ok(())
+}
+
+/// Writes a polygon, as `POLYGON((0 0,1 0,0 1,0 0))` with its exterior first.
+///
+/// A polygon without exterior, or with an empty one, is written `POLYGON EMPTY`, and nothing of
+/// its interiors is looked at. An empty interior is written `EMPTY`.
+///
+/// Errors: as [`write_point`], with the first coordinate that is too short.
+pub fn write_polygon<W: TextSink, Y: PolygonTrait>(f: &mut W, g: &Y) -> Result<(), Error>
+    ensures { Writes W.sink Y.T.is_value Y.T.num f.old (Shape.polygon (Y.dimension g.now) (Y.polygon g.now)) f.new result }
+{
+    check_polygon(g)?;
+    put_polygon(f, g)?;
+    Ok(())
+}
+
+/// Writes a list of points, as `MULTIPOINT((1 2),EMPTY)`: each in parentheses, an empty one `EMPTY`.
+///
+/// The dimensions of its members aren't looked at.
+///
+/// Errors: as [`write_point`], with the first coordinate that is too short.
+pub fn write_multi_point<W: TextSink, M: MultiPointTrait>(f: &mut W, g: &M) -> Result<(), Error>
+    ensures { Writes W.sink M.T.is_value M.T.num f.old (Shape.multi_point (M.dimension g.now) (M.points g.now)) f.new result }
+{
+    check_multi_point(g)?;
+    put_multi_point(f, g)?;
+    Ok(())
+}
+
+/// Writes a list of line strings, as `MULTILINESTRING((1 2,3 4),EMPTY)`.
+///
+/// The dimensions of its members aren't looked at.
+///
+/// Errors: as [`write_point`], with the first coordinate that is too short.
+pub fn write_multi_linestring<W: TextSink, M: MultiLineStringTrait>(
+    f: &mut W,
+    g: &M,
+) -> Result<(), Error>
+    ensures { Writes W.sink M.T.is_value M.T.num f.old (Shape.multi_line_string (M.dimension g.now) (M.line_strings g.now)) f.new result }
+{
+    check_multi_linestring(g)?;
+    put_multi_linestring(f, g)?;
+    Ok(())
+}
+
+/// Writes a list of polygons, as `MULTIPOLYGON(((0 0,1 0,0 1,0 0)),EMPTY)`.
+///
+/// The dimensions of its members aren't looked at.
+///
+/// Errors: as [`write_point`], with the first coordinate that is too short.
+pub fn write_multi_polygon<W: TextSink, M: MultiPolygonTrait>(f: &mut W, g: &M) -> Result<(), Error>
+    ensures { Writes W.sink M.T.is_value M.T.num f.old (Shape.multi_polygon (M.dimension g.now) (M.polygons g.now)) f.new result }
+{
+    check_multi_polygon(g)?;
+    put_multi_polygon(f, g)?;
+    Ok(())
+}
+
+/// Writes a geometry of any kind.
+///
+/// The text is that of OGC Simple Features as the crate `wkt` writes it: the kind word in capitals,
+/// ` Z`, ` M`, ` ZM` or nothing, and ` EMPTY` or the items in parentheses. Numbers have one space
+/// between them, and items a comma. The header's dimension says how many numbers of each coordinate
+/// are printed: `Unknown(2)`, `Unknown(3)` and `Unknown(4)` count as XY, XYZ and XYZM. No writer
+/// takes memory or copies a part.
+///
+/// Members of a collection have headers of their own: `GEOMETRYCOLLECTION(POINT Z(1 2 3),LINESTRING EMPTY)`.
+///
+/// Errors: those of the writer of its kind; for a collection, the first in the order of its text,
+/// where its own header comes before its members.
+pub fn write_geometry<W: TextSink, G: GeometryTrait>(f: &mut W, g: &G) -> Result<(), Error>
+    ensures { Writes W.sink G.T.is_value G.T.num f.old (G.shape g.now) f.new result }
+{
+    check_geometry(g)?;
+    put_geometry(f, g)?;
+    Ok(())
+}
+
+/// Adds the text of a geometry of any kind to a string.
+///
+/// ```text
+/// let mut out = String::new(alloc);
+/// push_geometry(&mut out, &geometry)?;
+/// ```
+///
+/// # Errors
+/// As [`write_geometry`]: the geometry's first error in the order of its text, and then the string is as it was;
+/// [`Error::FmtError`] where the string has no memory to grow into.
+pub fn push_geometry<G: GeometryTrait>(out: &mut String, g: &G) -> Result<(), Error>
+    ensures added { OnOk result (string_bytes out.new ≡ string_bytes out.old ++ shape_text G.T.num (G.shape g.now)) }
+    ensures sound { OnOk result (fault (G.shape g.now) ≡ None) }
+    ensures lawful { OnOk result (IsLawful G.T.is_value (G.shape g.now)) }
+    ensures fault { IfFault result (λ e. fault (G.shape g.now) ≡ Some e) }
+    ensures untouched { IfFault result (λ e. string_bytes out.new ≡ string_bytes out.old) }
+{
+    let mut sink = CountedText::new(out);
+    let result = write_geometry(&mut sink, g);
+    sink.into_writer();
+    result
+}
+
+/// Writes a collection, as `GEOMETRYCOLLECTION(POINT(1 2))` or `GEOMETRYCOLLECTION EMPTY`.
+///
+/// Errors: as [`write_geometry`].
+pub fn write_geometry_collection<W: TextSink, C: GeometryCollectionTrait>(
+    f: &mut W,
+    g: &C,
+) -> Result<(), Error>
+    ensures { Writes W.sink C.T.is_value C.T.num f.old (collection_of (C.dimension g.now) (C.geometries g.now)) f.new result }
+{
+    check_collection(g)?;
+    put_collection(f, g)?;
+    Ok(())
+}
+
+/// Writes a rectangle as a polygon of five coordinates.
+///
+/// `POLYGON((max.x min.y,max.x max.y,min.x max.y,min.x min.y,max.x min.y))` is their order.
+///
+/// Errors: [`Error::RectUnsupportedDimension`] where its dimension is neither `Xy` nor
+/// `Unknown(2)`; nothing is written then. [`Error::FmtError`] as in [`write_point`].
+pub fn write_rect<W: TextSink, R: RectTrait>(f: &mut W, g: &R) -> Result<(), Error>
+    ensures { Writes W.sink R.T.is_value R.T.num f.old (Shape.rect (R.dimension g.now) (R.least_corner g.now) (R.greatest_corner g.now)) f.new result }
+{
+    check_rect(g)?;
+    put_rect(f, g)?;
+    Ok(())
+}
+
+/// Writes a triangle as a polygon of its three corners and the first again.
+///
+/// Errors: as [`write_point`], with the first corner that is too short.
+pub fn write_triangle<W: TextSink, Y: TriangleTrait>(f: &mut W, g: &Y) -> Result<(), Error>
+    ensures { Writes W.sink Y.T.is_value Y.T.num f.old (Shape.triangle (Y.dimension g.now) (Y.first_corner g.now) (Y.second_corner g.now) (Y.third_corner g.now)) f.new result }
+{
+    check_triangle(g)?;
+    put_triangle(f, g)?;
+    Ok(())
+}
+
+/// Writes a line as a line string of its two ends.
+///
+/// Errors: as [`write_point`], with the first end that is too short.
+pub fn write_line<W: TextSink, L: LineTrait>(f: &mut W, g: &L) -> Result<(), Error>
+    ensures { Writes W.sink L.T.is_value L.T.num f.old (Shape.line (L.dimension g.now) (L.from g.now) (L.to g.now)) f.new result }
+{
+    check_line(g)?;
+    put_line(f, g)?;
+    Ok(())
+}
