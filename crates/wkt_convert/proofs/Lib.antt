@@ -1,4 +1,5 @@
 pub mod Outcomes
+pub mod Adding
 pub mod Members
 pub mod Depth
 pub mod FlatDepth

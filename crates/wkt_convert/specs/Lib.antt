@@ -4,3 +4,4 @@ pub mod Kinds
 pub mod Back
 pub mod Sent
 pub mod Laws
+pub mod Adds

@@ -1,9 +1,11 @@
 //! Flat values of what a `Wkt` holds.
-ghost use Rattle.std.specs.Prelude.{◌≡◌, IfOk, map};
+ghost use Rattle.std.specs.Prelude.{◌≡◌, IfOk, MatchResult, Err, map};
 ghost use Rattle.wkt_types.specs.Tree.{tree, members};
-ghost use Rattle.wkt_flat.specs.Tree.{flat_tree, flat_trees};
+ghost use Rattle.wkt_flat.specs.Tree.{Flat, flat_tree, flat_trees, flat_members};
 ghost use Rattle.wkt_flat.specs.Equal.{coord_eq};
-ghost use Rattle.wkt_types.specs.Outcome.{Answers};
+ghost use Rattle.wkt_types.specs.Outcome.{Answers, value};
+ghost use Rattle.wkt_convert.specs.Adds.{Adds, AddsAll};
+ghost use Rattle.wkt_convert.specs.Outcomes.{outcome_map, outcomes};
 ghost use Rattle.wkt_convert.specs.Flatten.{path, rings, points, point_or_none, flat, flat_all};
 
 use std::alloc::{AllocError, Global};
@@ -105,8 +107,143 @@ pub(crate) fn point<T: WktNum>(alloc: Global, p: &Point<T>) -> Geometry<T>
     }
 }
 
-/// The flat geometry.
+/// Adds a flat geometry to others.
+fn push<T: Drop>(g: Geometry<T>, all: &mut Vec<Geometry<T>>) -> Result<(), ConvertError>
+    ensures { Adds result all.old.items all.new.items (value (flat_tree g)) }
+{
+    match all.push(g) {
+        Ok(()) => Ok(()),
+        Err(e) => Err(ConvertError::Memory(AllocError::from(e))),
+    }
+}
+
+#[inline(never)]
+fn push_point<T: WktNum>(
+    alloc: Global,
+    p: &Point<T>,
+    all: &mut Vec<Geometry<T>>,
+) -> Result<(), ConvertError>
+    ensures { Adds result all.old.items all.new.items (value (point_or_none p.now.coord)) }
+{
+    push(point(alloc, p), all)
+}
+
+#[inline(never)]
+fn push_line_string<T: WktNum>(
+    alloc: Global,
+    l: &LineString<T>,
+    all: &mut Vec<Geometry<T>>,
+) -> Result<(), ConvertError>
+    ensures { Adds result all.old.items all.new.items (value (Flat.line_string (path l.now))) }
+{
+    push(Geometry::LineString(line_string(alloc, l)?), all)
+}
+
+#[inline(never)]
+fn push_polygon<T: WktNum>(
+    alloc: Global,
+    y: &Polygon<T>,
+    all: &mut Vec<Geometry<T>>,
+) -> Result<(), ConvertError>
+    ensures { Adds result all.old.items all.new.items (value (Flat.polygon (rings (coord_eq T.eq) y.now))) }
+{
+    push(Geometry::Polygon(polygon(alloc, y)?), all)
+}
+
+#[inline(never)]
+fn push_multi_point<T: WktNum>(
+    alloc: Global,
+    m: &MultiPoint<T>,
+    all: &mut Vec<Geometry<T>>,
+) -> Result<(), ConvertError>
+    ensures { Adds result all.old.items all.new.items (outcome_map Flat.multi_point (points m.now.parts)) }
+{
+    push(Geometry::MultiPoint(all_points(alloc, m.points())?), all)
+}
+
+#[inline(never)]
+fn push_multi_line_string<T: WktNum>(
+    alloc: Global,
+    m: &MultiLineString<T>,
+    all: &mut Vec<Geometry<T>>,
+) -> Result<(), ConvertError>
+    ensures { Adds result all.old.items all.new.items (value (Flat.multi_line_string (map path m.now.parts))) }
+{
+    let lines = line_strings(alloc, m.line_strings())?;
+    push(Geometry::MultiLineString(flat::MultiLineString(lines)), all)
+}
+
+#[inline(never)]
+fn push_multi_polygon<T: WktNum>(
+    alloc: Global,
+    m: &MultiPolygon<T>,
+    all: &mut Vec<Geometry<T>>,
+) -> Result<(), ConvertError>
+    ensures { Adds result all.old.items all.new.items (value (Flat.multi_polygon (map (rings (coord_eq T.eq)) m.now.parts))) }
+{
+    let polygons = polygons(alloc, m.polygons())?;
+    push(Geometry::MultiPolygon(flat::MultiPolygon(polygons)), all)
+}
+
+// The collection of those members, if they are filled. It alone lets them go where they aren't,
+// since that takes stack.
+#[inline(never)]
+fn push_collection<T: Drop>(
+    filled: Result<(), ConvertError>,
+    members: Vec<Geometry<T>>,
+    all: &mut Vec<Geometry<T>>,
+) -> Result<(), ConvertError>
+    ensures { MatchResult filled (λ _. Adds result all.old.items all.new.items (value (Flat.collection (flat_members members.items)))) (λ e. result ≡ Err e) }
+{
+    match filled {
+        Ok(()) => {
+            let collection = flat::GeometryCollection::new_from(members);
+            push(Geometry::GeometryCollection(collection), all)
+        }
+        Err(e) => Err(e),
+    }
+}
+
+// Adds the flat geometry to others. It takes little stack, since it goes as deep as collections do.
 #[cycle(flatten)]
+fn push_geometry<T: WktNum>(
+    alloc: Global,
+    w: &Wkt<T>,
+    all: &mut Vec<Geometry<T>>,
+) -> Result<(), ConvertError>
+    ensures { Adds result all.old.items all.new.items (flat (coord_eq T.eq) (tree w.now)) }
+{
+    match w {
+        Wkt::Point(p) => push_point(alloc, p, all),
+        Wkt::LineString(l) => push_line_string(alloc, l, all),
+        Wkt::Polygon(y) => push_polygon(alloc, y, all),
+        Wkt::MultiPoint(m) => push_multi_point(alloc, m, all),
+        Wkt::MultiLineString(m) => push_multi_line_string(alloc, m, all),
+        Wkt::MultiPolygon(m) => push_multi_polygon(alloc, m, all),
+        Wkt::GeometryCollection(c) => {
+            let ws = c.geometries();
+            let mut members = Vec::with_capacity(alloc, ws.len())?;
+            let filled = push_geometries(alloc, ws, &mut members);
+            push_collection(filled, members, all)
+        }
+    }
+}
+
+#[cycle(flatten)]
+fn push_geometries<T: WktNum>(
+    alloc: Global,
+    ws: &[Wkt<T>],
+    all: &mut Vec<Geometry<T>>,
+) -> Result<(), ConvertError>
+    ensures { AddsAll result all.old.items all.new.items (outcomes (λ w. flat (coord_eq T.eq) (tree w)) ws.now) }
+{
+    for w in ws {
+        push_geometry(alloc, w, all)?;
+    }
+    Ok(())
+}
+
+/// The flat geometry.
 pub(crate) fn geometry<T: WktNum>(alloc: Global, w: &Wkt<T>) -> Result<Geometry<T>, ConvertError>
     ensures { Answers flat_tree (flat (coord_eq T.eq) (tree w.now)) result }
 {
@@ -131,7 +268,6 @@ pub(crate) fn geometry<T: WktNum>(alloc: Global, w: &Wkt<T>) -> Result<Geometry<
 }
 
 /// The flat collection of those members.
-#[cycle(flatten)]
 pub(crate) fn collection<T: WktNum>(
     alloc: Global,
     ws: &[Wkt<T>],
@@ -139,10 +275,6 @@ pub(crate) fn collection<T: WktNum>(
     ensures { Answers flat_trees (flat_all (coord_eq T.eq) (members ws.now)) result }
 {
     let mut all = Vec::with_capacity(alloc, ws.len())?;
-    for w in ws {
-        if let Err(e) = all.push(geometry(alloc, w)?) {
-            return Err(ConvertError::Memory(AllocError::from(e)));
-        }
-    }
+    push_geometries(alloc, ws, &mut all)?;
     Ok(flat::GeometryCollection::new_from(all))
 }

@@ -1,67 +1,35 @@
-use Rattle.std.proofs.Common.{rules, ◌≡◌, ap, sym, ◌∙◌, ◌<◌, ◌+◌, ◌*◌, suc, arith, map, [], ◌∷◌}
-use Rattle.std.proofs.lemmas.List.{map_more, map-append, take_all}
-use Rattle.wkt_access.specs.declared.dimensions.Dimension.TheVariants.{XY}
-use Rattle.wkt_types.specs.Held.{held}
-use Rattle.wkt_types.specs.Tree as trees
-use Rattle.wkt_types.proofs.TreeLemmas.{tree-collection}
-use Rattle.wkt_flat.specs.Tree.{flat_tree, flat_members}
+use Rattle.std.proofs.Common.{rules, ◌≡◌, ap, sym, ◌∙◌, ◌<◌, ◌+◌, ◌*◌, arith, map, take, [], ◌∷◌, ◌++◌, append_assoc}
+use Rattle.std.proofs.lemmas.List.{map_more, take_all}
+use Rattle.wkt_types.specs.Tree.{tree}
+use Rattle.wkt_flat.specs.Tree.{Flat, flat_tree, flat_members}
 use Rattle.wkt_flat.proofs.TreeLemmas.{flat-collection}
-use Rattle.wkt_convert.specs.Back.{back, all_back, line_back, point_back}
+use Rattle.wkt_convert.specs.Back.{back}
+use Rattle.wkt_convert.proofs.Adding.{collected_back}
 use Rattle.wkt_convert.proofs.FlatDepth.{depth, deepest, below_deepest}
-use Rattle.wkt_convert.proofs.FlatKinds.{flat-line, flat-line_string, flat-multi_point}
-use Rattle.wkt_convert.proofs.Members.{tree-line_string, tree-multi_point, all_back_members}
 use Rattle.wkt_convert.proofs.back.+back.Goals as goal
 
-pub geometries-geometry-requires : goal.geometries-geometry-requires
-geometries-geometry-requires g t c κs within =
+pub push_geometries-push_geometry-requires : goal.push_geometries-push_geometry-requires
+push_geometries-push_geometry-requires g t c κs within =
     let b = below_deepest c.args.gs.now c.loop-g.g-index c.g-item.result c.loop-g-test.true c.g-item.is in
     let h : 2 * depth (flat_tree c.g-item.result) + 1 < 2 * deepest (flat_members c.args.gs.now) + 2 = omega (arith, b) in
     search (rules, h, c.decreases)
 
-pub geometries-loop-g-preserved : goal.geometries-loop-g-preserved
-geometries-loop-g-preserved g t c =
-    let pushed = c.in_ok-push.ensures.items in
-    let item = c.g-item.is in
-    let same = c.in_ok-geometry.ensures in
-    let done = c.loop-g.invariant in
+pub push_geometries-loop-g-preserved : goal.push_geometries-loop-g-preserved
+push_geometries-loop-g-preserved g t c =
     let more = map_more (λ g. back (flat_tree g)) c.args.gs.now c.loop-g.g-index c.g-item.result c.loop-g-test.true in
-    let grown = map-append trees.tree c.loop-g.all.items (c.in_ok-geometry.field-0 ∷ []) in
-    cc
+    c.in_ok-push_geometry.ensures
+    ∙ (ap (λ l. l ++ back (flat_tree c.g-item.result) ∷ []) c.loop-g.invariant
+    ∙ (append_assoc (map tree c.args.all.now.items) _ _
+    ∙ ap (λ l. map tree c.args.all.now.items ++ l)
+      (ap (λ x. map (λ g. back (flat_tree g)) (take c.loop-g.g-index c.args.gs.now) ++ back (flat_tree x) ∷ []) c.g-item.is ∙ sym more)))
 
-pub geometries-returns : goal.geometries-returns
-geometries-returns g t c =
+pub push_geometries-returns : goal.push_geometries-returns
+push_geometries-returns g t c =
     let gs = c.args.gs.now in
-    ap trees.trees_of (c.loop-g.invariant ∙ ap (map (λ g. back (flat_tree g))) (take_all c.loop-g.g-index gs c.loop-g-test.false))
-    ∙ sym (all_back_members gs)
+    c.loop-g.invariant ∙ ap (λ gs. map tree c.args.all.now.items ++ map (λ g. back (flat_tree g)) gs) (take_all c.loop-g.g-index gs c.loop-g-test.false)
 
-pub geometry-returns-in_ok-line-in-LineString : goal.geometry-returns-in_ok-line-in-LineString
-geometry-returns-in_ok-line-in-LineString g t c =
-    let k = c.in_ok-line-in-LineString in
-    let lent : c.as_slice.result.now ≡ c.in-LineString.l = search rules in
-    tree-line_string k.field-0
-    ∙ (ap (λ l. trees.line_string l) (k.ensures ∙ ap line_back lent)
-    ∙ sym (ap (λ g. back (flat_tree g)) c.in-LineString.is ∙ ap back (flat-line_string c.in-LineString.l)))
-
-pub geometry-returns-in_ok-points-in-MultiPoint : goal.geometry-returns-in_ok-points-in-MultiPoint
-geometry-returns-in_ok-points-in-MultiPoint g t c =
-    let k = c.in_ok-points-in-MultiPoint in
-    let made : c.new.result ≡ held (map point_back c.in-MultiPoint.m) XY = search rules in
-    tree-multi_point c.new.result
-    ∙ (ap (λ l. trees.multi_point l) made
-    ∙ sym (ap (λ g. back (flat_tree g)) c.in-MultiPoint.is ∙ ap back (flat-multi_point c.in-MultiPoint.m)))
-
-pub geometry-returns-in_ok-members-in-GeometryCollection :
-    goal.geometry-returns-in_ok-members-in-GeometryCollection
-geometry-returns-in_ok-members-in-GeometryCollection g t c =
-    let k = c.in_ok-members-in-GeometryCollection in
-    tree-collection c.new-in-GeometryCollection.result
-    ∙ (c.new-in-GeometryCollection.ensures
-    ∙ (ap (λ ms. trees.collection ms XY) (k.ensures ∙ ap all_back (sym c.geometries.ensures))
-    ∙ sym (ap (λ g. back (flat_tree g)) c.in-GeometryCollection.is ∙ ap back (flat-collection c.in-GeometryCollection.c))))
-
-pub geometry-returns-in_ok-two-in-Line : goal.geometry-returns-in_ok-two-in-Line
-geometry-returns-in_ok-two-in-Line g t c =
-    let k = c.in_ok-two-in-Line in
-    tree-line_string k.field-0
-    ∙ (ap (λ l. trees.line_string l) k.ensures
-    ∙ sym (ap (λ g. back (flat_tree g)) c.in-Line.is ∙ ap back (flat-line c.in-Line.l)))
+pub push_geometry-returns-in_ok-members-in-GeometryCollection : goal.push_geometry-returns-in_ok-members-in-GeometryCollection
+push_geometry-returns-in_ok-members-in-GeometryCollection g t c =
+    collected_back c.geometries-gs.result.now (flat_tree c.args.g.now)
+    (ap flat_tree c.in-GeometryCollection.is ∙ (flat-collection c.in-GeometryCollection.c ∙ ap Flat.collection c.geometries-gs.ensures))
+    c.push_geometries-filled.result c.push_collection.result _ _ _ _ c.in_ok-members-in-GeometryCollection.ensures.items c.push_geometries-filled.ensures c.push_collection.ensures.filled c.push_collection.ensures.pushed
