@@ -1,14 +1,15 @@
 #!/usr/bin/env bash
-# Refuses each growth of memory of the two built programs in turn, until a run meets none.
+# Refuses each growth of memory of the two built programs in turn, and of the macros' built tests, until a run meets none.
 #
 # wktline answers lines of every kind: each refusal has to end it with its words and status, after the whole answers to
 # some first lines. wkt_conformance reads each text by three calls, copies the geometry, puts the copy together again from
 # its parts and displays it, converts it to a two-dimensional one and back, reads that from the text, from bytes and
 # from JSON, and writes it in three ways: each refusal has to end it as out of memory, with no row told as wrong, or to
-# change nothing. Then the same of thousands of nested collections, at growths all over the run.
+# change nothing. Then the same of ten thousand nested collections, at growths all over the run. A test of the macros
+# has to end as out of memory, which no wrong value does, or to pass.
 #
-# The gate runs it on the programs that it has built; alone, build both first (rt run in crates/wktline and
-# crates/wkt_conformance). It needs a C compiler.
+# The gate runs it on what it has built; alone, build all three first (rt run in crates/wktline and
+# crates/wkt_conformance, rt test in crates/wkt). It needs a C compiler.
 set -u
 cd "$(dirname "$0")/.."
 dir=$(mktemp -d)
@@ -35,10 +36,12 @@ cc -shared -fPIC -fno-builtin -o "$dir/refuse.so" "$dir/refuse.c" || exit 2
 
 fail() { echo "$1, growth $2: $3"; exit 1; }
 
-# run PROGRAM N < INPUT: leaves out, err, the status, and the file refused if a growth was refused
+# run N PROGRAM ARGUMENT.. < INPUT: leaves out, err, the status, and the file refused if a growth was refused
 run() {
+    local n=$1
+    shift
     rm -f "$dir/refused"
-    REFUSE=$2 REFUSED="$dir/refused" LD_PRELOAD="$dir/refuse.so" "crates/$1/out/$1" > "$dir/out" 2> "$dir/err"
+    REFUSE=$n REFUSED="$dir/refused" LD_PRELOAD="$dir/refuse.so" "$@" > "$dir/out" 2> "$dir/err"
 }
 
 # each PROGRAM INPUT STATUS STEP: every growth in turn, or one of so many
@@ -46,7 +49,7 @@ each() {
     local program=$1 input=$2 want=$3 step=$4 n=1 tried=0 ended=0 status
     "crates/$program/out/$program" < "$input" > "$dir/whole" || exit 2
     while true; do
-        run "$program" "$n" < "$input"
+        run "$n" "crates/$program/out/$program" < "$input"
         status=$?
         if [ "$status" = 0 ]; then
             cmp -s "$dir/out" "$dir/whole" || fail "$program" "$n" "another output"
@@ -63,15 +66,36 @@ each() {
     echo "$program: $tried growths refused, each in a run of its own; $ended ended it, the others changed nothing"
 }
 
+# each_test CRATE: every growth in turn of each of its tests
+each_test() {
+    local tests=crates/$1/out/$1_tests name n tried=0 ended=0 status
+    for name in $("$tests" --list | sed -n 's/: test$//p'); do
+        n=1
+        while true; do
+            run "$n" "$tests" "$name"
+            status=$?
+            if [ "$status" != 0 ]; then
+                grep -qx "error: AllocError" "$dir/err" || fail "$1" "$n" "$name fails otherwise"
+                ended=$((ended + 1))
+            fi
+            [ -e "$dir/refused" ] || break
+            n=$((n + 1)) tried=$((tried + 1))
+        done
+        [ "$status" = 0 ] || fail "$1" "$n" "$name fails with ample memory"
+    done
+    [ "$tried" -gt 0 ] || fail "$1" 1 "nothing was refused"
+    echo "$1: $tried growths refused in its tests, each in a run of its own; $ended ended it, the others changed nothing"
+}
+
 cut -f 1 tests/growth.tsv > "$dir/lines"
 each wktline "$dir/lines" 1 1
 each wkt_conformance tests/growth.tsv 2 1
+each_test wkt
 
 # nested N: a point in so many collections
 nested() { printf 'GEOMETRYCOLLECTION(%.0s' $(seq "$1"); printf 'POINT(1 2)'; printf ')%.0s' $(seq "$1"); }
 
 nested 10000 > "$dir/deep"
 each wktline "$dir/deep" 1 199
-# conversions take more stack for a level
-printf '%s\t%s\n' "$(nested 3000)" "$(nested 3000)" > "$dir/deep.tsv"
+printf '%s\t%s\n' "$(nested 10000)" "$(nested 10000)" > "$dir/deep.tsv"
 each wkt_conformance "$dir/deep.tsv" 2 997

@@ -60,7 +60,7 @@ lines_value : {T : Type 0} (ls : List (List (flat_coord.Coord T))) → map line_
 lines_value [] = refl
 lines_value (l ∷ ls) = ap₂ (λ x xs. x ∷ xs) (line_value l) (lines_value ls)
 
-points_value : {T : Type 0} (ps : List (flat_point.Point T)) → map point_numbers (map point_back ps) ≡ map (option_map (cut Xy)) (map (λ p. Some (shape.point_numbers p)) ps)
+points_value : {T : Type 0} (ps : List (flat_point.Point T)) → map point_numbers (map point_back ps) ≡ map (option_map (cut Xy)) (map (λ p. Some (shape.flat_point_numbers p)) ps)
 points_value [] = refl
 points_value (p ∷ ps) = ap (λ xs. Some (p.0.x ∷ p.0.y ∷ []) ∷ xs) (points_value ps)
 

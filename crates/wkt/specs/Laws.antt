@@ -12,11 +12,11 @@ use Rattle.wkt_convert.specs.Laws.{IsPlain}
 use Rattle.wkt.specs.FromText.{FrontGives}
 
 -- The text of a plain value is answered with that value, and with nothing else.
-abbrev pub ReadsBack : {T : Type 0} → (T → Type 0) → (T → List ℕ) → (List ℕ → Option T) → (T → T → Bool) → Flat T → Type 0
-ReadsBack {T} is_value num read E t =
+abbrev pub FlatReadsBack : {T : Type 0} → (T → Type 0) → (T → List ℕ) → (List ℕ → Option T) → (T → T → Bool) → Flat T → Type 0
+FlatReadsBack {T} is_value num read E t =
     IsPlain t → IsLawful is_value (flat_shape t) → (o : Outcome (Flat T))
     → FrontGives read (flat (coord_eq E)) (shape_text num (flat_shape t)) o ↔ (o ≡ value t)
 
 -- Each tree whose rings are closed is read back from its text, if it is plain.
 abbrev pub PlainReadsBack : {T : Type 0} → (T → Type 0) → (T → List ℕ) → (List ℕ → Option T) → (T → T → Bool) → Type 0
-PlainReadsBack {T} is_value num read E = (t : Flat T) → HasClosedRings t → ReadsBack is_value num read E t
+PlainReadsBack {T} is_value num read E = (t : Flat T) → HasClosedRings t → FlatReadsBack is_value num read E t

@@ -1,6 +1,6 @@
 //! Laws of flat values and their texts: each function changes nothing, and its contract is the law.
 ghost use Rattle.wkt_convert.specs.Laws.{ComesBack};
-ghost use Rattle.wkt.specs.Laws.{ReadsBack, PlainReadsBack};
+ghost use Rattle.wkt.specs.Laws.{FlatReadsBack, PlainReadsBack};
 ghost use Rattle.wkt_flat.specs.Tree.{flat_tree};
 
 use wkt_convert::laws::plain_comes_back;
@@ -21,7 +21,7 @@ pub fn plain_reads_back<T: WktNum>()
 /// It walks over the geometry, and changes nothing.
 pub fn geometry_comes_back<T: WktNum>(geometry: &Geometry<T>)
     ensures comes_back { ComesBack T.eq (flat_tree geometry.now) }
-    ensures reads_back { ReadsBack T.is_value T.num T.read T.eq (flat_tree geometry.now) }
+    ensures reads_back { FlatReadsBack T.is_value T.num T.read T.eq (flat_tree geometry.now) }
 {
     rings_are_closed(geometry);
     plain_comes_back::<T>();

@@ -9,7 +9,7 @@ ghost use Rattle.wkt_flat.specs.Equal.{coord_eq};
 ghost use Rattle.wkt_read.specs.Answered.{IsFront};
 ghost use Rattle.wkt_convert.specs.Flatten.{flat, flat_collection};
 ghost use Rattle.wkt.specs.FromText.{TextAnswers, BytesAnswer, IfAllRead, IfReader, IsUnread, IsUntold};
-ghost use Rattle.wkt_convert.specs.Kinds.{only, point_in, line_in, path_in, rings_in, points_in, paths_in, polygons_in, corners_in, triangle_in};
+ghost use Rattle.wkt_convert.specs.Kinds.{only_flat, point_in, line_in, path_in, rings_in, points_in, paths_in, polygons_in, corners_in, triangle_in};
 
 use std::alloc::Global;
 use wkt_bytes::{ByteSource, ReadAllError, read_all};
@@ -93,9 +93,9 @@ fn text_from<R: ByteSource>(alloc: Global, reader: &mut R) -> Result<String, Con
 impl<T: WktNum> TryFromWkt<T> for flat::Point<T> {
     type Error = ConvertError;
 
-    ghost answers = { λ text r. TextAnswers T.read (λ x. x) (λ t. only (codes "Point") point_in (flat (coord_eq T.eq) t)) text r };
+    ghost answers = { λ text r. TextAnswers T.read (λ x. x) (only_flat (codes "Point") point_in T.eq) text r };
 
-    ghost bytes_answers = { λ bytes r. BytesAnswer T.read (λ x. x) (λ t. only (codes "Point") point_in (flat (coord_eq T.eq) t)) bytes r };
+    ghost bytes_answers = { λ bytes r. BytesAnswer T.read (λ x. x) (only_flat (codes "Point") point_in T.eq) bytes r };
 
     ghost if_all_read = { IfAllRead };
 
@@ -122,9 +122,9 @@ impl<T: WktNum> TryFromWkt<T> for flat::Point<T> {
 impl<T: WktNum> TryFromWkt<T> for flat::Line<T> {
     type Error = ConvertError;
 
-    ghost answers = { λ text r. TextAnswers T.read (λ x. x) (λ t. only (codes "Line") line_in (flat (coord_eq T.eq) t)) text r };
+    ghost answers = { λ text r. TextAnswers T.read (λ x. x) (only_flat (codes "Line") line_in T.eq) text r };
 
-    ghost bytes_answers = { λ bytes r. BytesAnswer T.read (λ x. x) (λ t. only (codes "Line") line_in (flat (coord_eq T.eq) t)) bytes r };
+    ghost bytes_answers = { λ bytes r. BytesAnswer T.read (λ x. x) (only_flat (codes "Line") line_in T.eq) bytes r };
 
     ghost if_all_read = { IfAllRead };
 
@@ -151,9 +151,9 @@ impl<T: WktNum> TryFromWkt<T> for flat::Line<T> {
 impl<T: WktNum> TryFromWkt<T> for flat::LineString<T> {
     type Error = ConvertError;
 
-    ghost answers = { λ text r. TextAnswers T.read (λ x. x) (λ t. only (codes "LineString") path_in (flat (coord_eq T.eq) t)) text r };
+    ghost answers = { λ text r. TextAnswers T.read (λ x. x) (only_flat (codes "LineString") path_in T.eq) text r };
 
-    ghost bytes_answers = { λ bytes r. BytesAnswer T.read (λ x. x) (λ t. only (codes "LineString") path_in (flat (coord_eq T.eq) t)) bytes r };
+    ghost bytes_answers = { λ bytes r. BytesAnswer T.read (λ x. x) (only_flat (codes "LineString") path_in T.eq) bytes r };
 
     ghost if_all_read = { IfAllRead };
 
@@ -180,9 +180,9 @@ impl<T: WktNum> TryFromWkt<T> for flat::LineString<T> {
 impl<T: WktNum> TryFromWkt<T> for flat::Polygon<T> {
     type Error = ConvertError;
 
-    ghost answers = { λ text r. TextAnswers T.read (λ x. x) (λ t. only (codes "Polygon") rings_in (flat (coord_eq T.eq) t)) text r };
+    ghost answers = { λ text r. TextAnswers T.read (λ x. x) (only_flat (codes "Polygon") rings_in T.eq) text r };
 
-    ghost bytes_answers = { λ bytes r. BytesAnswer T.read (λ x. x) (λ t. only (codes "Polygon") rings_in (flat (coord_eq T.eq) t)) bytes r };
+    ghost bytes_answers = { λ bytes r. BytesAnswer T.read (λ x. x) (only_flat (codes "Polygon") rings_in T.eq) bytes r };
 
     ghost if_all_read = { IfAllRead };
 
@@ -209,9 +209,9 @@ impl<T: WktNum> TryFromWkt<T> for flat::Polygon<T> {
 impl<T: WktNum> TryFromWkt<T> for flat::MultiPoint<T> {
     type Error = ConvertError;
 
-    ghost answers = { λ text r. TextAnswers T.read (λ x. x) (λ t. only (codes "MultiPoint") points_in (flat (coord_eq T.eq) t)) text r };
+    ghost answers = { λ text r. TextAnswers T.read (λ x. x) (only_flat (codes "MultiPoint") points_in T.eq) text r };
 
-    ghost bytes_answers = { λ bytes r. BytesAnswer T.read (λ x. x) (λ t. only (codes "MultiPoint") points_in (flat (coord_eq T.eq) t)) bytes r };
+    ghost bytes_answers = { λ bytes r. BytesAnswer T.read (λ x. x) (only_flat (codes "MultiPoint") points_in T.eq) bytes r };
 
     ghost if_all_read = { IfAllRead };
 
@@ -238,9 +238,9 @@ impl<T: WktNum> TryFromWkt<T> for flat::MultiPoint<T> {
 impl<T: WktNum> TryFromWkt<T> for flat::MultiLineString<T> {
     type Error = ConvertError;
 
-    ghost answers = { λ text r. TextAnswers T.read (λ x. x) (λ t. only (codes "MultiLineString") paths_in (flat (coord_eq T.eq) t)) text r };
+    ghost answers = { λ text r. TextAnswers T.read (λ x. x) (only_flat (codes "MultiLineString") paths_in T.eq) text r };
 
-    ghost bytes_answers = { λ bytes r. BytesAnswer T.read (λ x. x) (λ t. only (codes "MultiLineString") paths_in (flat (coord_eq T.eq) t)) bytes r };
+    ghost bytes_answers = { λ bytes r. BytesAnswer T.read (λ x. x) (only_flat (codes "MultiLineString") paths_in T.eq) bytes r };
 
     ghost if_all_read = { IfAllRead };
 
@@ -267,9 +267,9 @@ impl<T: WktNum> TryFromWkt<T> for flat::MultiLineString<T> {
 impl<T: WktNum> TryFromWkt<T> for flat::MultiPolygon<T> {
     type Error = ConvertError;
 
-    ghost answers = { λ text r. TextAnswers T.read (λ x. x) (λ t. only (codes "MultiPolygon") polygons_in (flat (coord_eq T.eq) t)) text r };
+    ghost answers = { λ text r. TextAnswers T.read (λ x. x) (only_flat (codes "MultiPolygon") polygons_in T.eq) text r };
 
-    ghost bytes_answers = { λ bytes r. BytesAnswer T.read (λ x. x) (λ t. only (codes "MultiPolygon") polygons_in (flat (coord_eq T.eq) t)) bytes r };
+    ghost bytes_answers = { λ bytes r. BytesAnswer T.read (λ x. x) (only_flat (codes "MultiPolygon") polygons_in T.eq) bytes r };
 
     ghost if_all_read = { IfAllRead };
 
@@ -296,9 +296,9 @@ impl<T: WktNum> TryFromWkt<T> for flat::MultiPolygon<T> {
 impl<T: WktNum> TryFromWkt<T> for flat::Rect<T> {
     type Error = ConvertError;
 
-    ghost answers = { λ text r. TextAnswers T.read (λ x. x) (λ t. only (codes "Rect") corners_in (flat (coord_eq T.eq) t)) text r };
+    ghost answers = { λ text r. TextAnswers T.read (λ x. x) (only_flat (codes "Rect") corners_in T.eq) text r };
 
-    ghost bytes_answers = { λ bytes r. BytesAnswer T.read (λ x. x) (λ t. only (codes "Rect") corners_in (flat (coord_eq T.eq) t)) bytes r };
+    ghost bytes_answers = { λ bytes r. BytesAnswer T.read (λ x. x) (only_flat (codes "Rect") corners_in T.eq) bytes r };
 
     ghost if_all_read = { IfAllRead };
 
@@ -325,9 +325,9 @@ impl<T: WktNum> TryFromWkt<T> for flat::Rect<T> {
 impl<T: WktNum> TryFromWkt<T> for flat::Triangle<T> {
     type Error = ConvertError;
 
-    ghost answers = { λ text r. TextAnswers T.read (λ x. x) (λ t. only (codes "Triangle") triangle_in (flat (coord_eq T.eq) t)) text r };
+    ghost answers = { λ text r. TextAnswers T.read (λ x. x) (only_flat (codes "Triangle") triangle_in T.eq) text r };
 
-    ghost bytes_answers = { λ bytes r. BytesAnswer T.read (λ x. x) (λ t. only (codes "Triangle") triangle_in (flat (coord_eq T.eq) t)) bytes r };
+    ghost bytes_answers = { λ bytes r. BytesAnswer T.read (λ x. x) (only_flat (codes "Triangle") triangle_in T.eq) bytes r };
 
     ghost if_all_read = { IfAllRead };
 

@@ -1,5 +1,5 @@
 //! Geometries out of JSON: a string is read as its text is, and nothing else is a geometry.
-ghost use Rattle.std.specs.Prelude.{◌≡◌, true, IfOk, IsNone, ◌↔◌, IsErrOf, IsTrue, codes, []};
+ghost use Rattle.std.specs.Prelude.{◌≡◌, IfOk, IsNone, ◌↔◌, IsErrOf, IsTrue, codes, []};
 ghost use Rattle.std.specs.Result.{IsOk};
 ghost use Rattle.wkt_types.specs.Tree.{tree};
 ghost use Rattle.wkt_read.specs.Items.{bad_number};
@@ -10,7 +10,7 @@ ghost use Rattle.wkt_flat.specs.Tree.{Flat, flat_tree};
 ghost use Rattle.wkt_flat.specs.Equal.{coord_eq};
 ghost use Rattle.wkt_convert.specs.Flatten.{flat};
 ghost use Rattle.wkt.specs.FromText.{TextAnswers};
-ghost use Rattle.wkt_convert.specs.Kinds.{only};
+ghost use Rattle.wkt_convert.specs.Kinds.{only, only_flat};
 ghost use Rattle.wkt.specs.Json.{text_of, AsText, point_if_any};
 
 use crate::from_text::TryFromWkt;
@@ -137,7 +137,7 @@ pub fn deserialize_point<T: WktNum>(
     alloc: Global,
     value: &Value,
 ) -> Result<Option<Point<T>>, ValueError<ConvertError>>
-    ensures { AsText (text_of value.now) result (TextAnswers T.read (λ p. p) (λ t. only (codes "Point") point_if_any (flat (coord_eq T.eq) t))) }
+    ensures { AsText (text_of value.now) result (TextAnswers T.read (λ p. p) (only_flat (codes "Point") point_if_any T.eq)) }
 {
     match deserialize_geometry(alloc, value) {
         Ok(geometry) => match point_or_none(geometry) {

@@ -22,8 +22,8 @@ state_untold (Faulty e) = true
 state_untold Told = false
 
 -- The writer.
-abbrev pub writer_of : {W : Type 0} → WriterWrapper W → W
-writer_of w = w.writer
+abbrev pub wrapped_writer : {W : Type 0} → WriterWrapper W → W
+wrapped_writer w = w.writer
 
 -- What the wrapper holds still.
 abbrev pub held_bytes : {W : Type 0} → WriterWrapper W → List ℕ

@@ -1,5 +1,5 @@
 //! Text to a byte sink, gathered in an array.
-ghost use Rattle.std.specs.Prelude.{◌≡◌, ℕ, ◌≤◌, ◌<◌, ◌+◌, List, [], ◌∷◌, ◌++◌, OnOk, OnErr, Ok, IsSome, ◌↔◌, length, take, true, false};
+ghost use Rattle.std.specs.Prelude.{◌≡◌, ℕ, ◌≤◌, ◌<◌, ◌+◌, [], ◌++◌, OnOk, OnErr, Ok, IsSome, ◌↔◌, length, take, true, false};
 ghost use Rattle.std.specs.Io.KnownBytes.{Appends};
 ghost use Rattle.wkt_num.specs.Sink.{next_count, Puts};
 
@@ -52,11 +52,11 @@ fn put_all<W: ByteSink>(writer: &mut W, bytes: &[u8]) -> Result<(), io::Error>
 }
 
 impl<W: ByteSink> WriterWrapper<W> {
-    ghost use Rattle.wkt_bytes.specs.Wrapper.{held_bytes, failed_calls, is_well, is_untold, writer_of, Gathers, BreaksOff};
+    ghost use Rattle.wkt_bytes.specs.Wrapper.{held_bytes, failed_calls, is_well, is_untold, wrapped_writer, Gathers, BreaksOff};
 
     /// A wrapper of this writer, which holds nothing yet.
     pub fn new(writer: W) -> WriterWrapper<W>
-        ensures writer { writer_of result ≡ writer }
+        ensures writer { wrapped_writer result ≡ writer }
         ensures held { held_bytes result ≡ [] }
         ensures well { is_well result ≡ true }
         ensures count { failed_calls result ≡ 0 }
@@ -72,7 +72,7 @@ impl<W: ByteSink> WriterWrapper<W> {
 
     /// Gives the writer back. What is held still is lost.
     pub fn into_writer(self) -> W
-        ensures { result ≡ writer_of self }
+        ensures { result ≡ wrapped_writer self }
     {
         let WriterWrapper {
             writer,
@@ -206,7 +206,7 @@ impl<W: ByteSink> WriterWrapper<W> {
         ensures there { IsSome result ↔ (is_untold self.old ≡ true) }
         ensures told { is_untold self.new ≡ false }
         ensures well { is_well self.new ≡ is_well self.old }
-        ensures writer { writer_of self.new ≡ writer_of self.old }
+        ensures writer { wrapped_writer self.new ≡ wrapped_writer self.old }
         ensures held { held_bytes self.new ≡ held_bytes self.old }
         ensures count { failed_calls self.new ≡ failed_calls self.old }
     {
@@ -221,14 +221,14 @@ impl<W: ByteSink> WriterWrapper<W> {
 }
 
 impl<W: ByteSink> TextSink for WriterWrapper<W> {
-    ghost use Rattle.wkt_bytes.specs.Wrapper.{wrapped_sink, held_bytes, is_well, writer_of};
+    ghost use Rattle.wkt_bytes.specs.Wrapper.{wrapped_sink, held_bytes, is_well, wrapped_writer};
 
     ghost sink = { wrapped_sink W.device };
 
     fn write_str(&mut self, piece: &str) -> fmt::Result
         ensures puts { Puts (wrapped_sink W.device) self.old piece.now self.new result }
         ensures well { OnOk result (is_well self.old ≡ true) }
-        ensures gathered { length (held_bytes self.old) + length piece.now < 256 → writer_of self.new ≡ writer_of self.old }
+        ensures gathered { length (held_bytes self.old) + length piece.now < 256 → wrapped_writer self.new ≡ wrapped_writer self.old }
     {
         match self.accept(piece.as_bytes()) {
             Ok(()) => Ok(()),

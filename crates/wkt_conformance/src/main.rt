@@ -23,7 +23,6 @@ mod flat_values;
 mod headers;
 #[cfg(test)]
 mod json_values;
-mod odd;
 #[cfg(test)]
 mod odd_tests;
 #[cfg(test)]

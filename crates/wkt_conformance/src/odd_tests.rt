@@ -1,7 +1,7 @@
 //! Rows of texts for the odd number types.
-use crate::odd::{Dash, Letter};
 use std::test::Fail;
 use wkt_num::{CountedText, WktNum};
+use wkt_odd::{Dash, Letter};
 
 // The text of a number.
 fn printed<T: WktNum>(text: &mut String, number: T) -> bool {

@@ -1,10 +1,10 @@
 //! Texts and what reading and writing gives, from outside.
-use crate::odd::{Dash, Letter};
 use crate::table::answer;
 use std::alloc::{AllocError, Global};
 use std::test::Fail;
 use wkt::tokenizer::{PeekableTokens, Token, Tokens};
 use wkt::{Decimal, FromWktStr, ReadError, Wkt, WktNum, infer_type};
+use wkt_odd::{Dash, Letter};
 
 const NOT_WKT: &str = "Invalid WKT format";
 

@@ -11,7 +11,7 @@ use Rattle.wkt_access.specs.declared.dimensions.Dimension.TheVariants.{XY}
 use Rattle.wkt_flat.specs.Tree.{Flat, flats_of, flat_tree, flat_members}
 use Rattle.wkt_flat.specs.declared.coord.Coord as flat_coord
 use Rattle.wkt_flat.specs.declared.geometry.Geometry.{Geometry}
-use Rattle.wkt_convert.specs.Adds.{Adds, AddsAll, AddsTree, AddsTrees}
+use Rattle.wkt_convert.specs.Adds.{AddsFlat, AddsFlats, AddsTree, AddsTrees}
 use Rattle.wkt_convert.specs.Back.{back}
 use Rattle.wkt_convert.specs.Flatten.{flat}
 use Rattle.wkt_convert.specs.Outcomes.{outcome_map, outcomes}
@@ -53,17 +53,17 @@ module _ {T : Type 0} (E : flat_coord.Coord T → flat_coord.Coord T → Bool) (
 
   -- a collection is added where its members were filled in
   pub collected : (filled r : Result (Unit {0}) ConvertError) (start all olds news : List (Geometry T)) → start ≡ [] →
-      AddsAll filled start all (outcomes (λ w. flat E (tree w)) ws) →
-      MatchResult filled (λ _. Adds r olds news (value (Flat.collection (flat_members all)))) (λ e. r ≡ Err e) → Adds r olds news (flat E t)
+      AddsFlats filled start all (outcomes (λ w. flat E (tree w)) ws) →
+      MatchResult filled (λ _. AddsFlat r olds news (value (Flat.collection (flat_members all)))) (λ e. r ≡ Err e) → AddsFlat r olds news (flat E t)
   collected (Ok u) r start all olds news e h g =
       let o = all_added (outcomes (λ w. flat E (tree w)) ws) (map flat_tree start) (map flat_tree all) (ap (map flat_tree) e) h in
       let p : flat E t ≡ value (Flat.collection (flat_members all)) = gathered ∙ ap (λ o. outcome_map Flat.collection (outcome_map flats_of o)) o in
-      subst (λ (o : Outcome (Flat T)). Adds r olds news o) (sym p) g
+      subst (λ (o : Outcome (Flat T)). AddsFlat r olds news o) (sym p) g
   collected (Err x) r start all olds news e h g =
       let add : Flat T → List (Flat T) = λ t. map flat_tree olds ++ t ∷ [] in
       let p = passes (λ (u : Unit {0}). map flat_tree all) (λ (u : Unit {0}). map flat_tree news) _ (outcome_map add (flat E t))
-        (λ k q. ap (outcome_map add) (gathered ∙ ap (λ o. outcome_map Flat.collection (outcome_map flats_of o)) (map_refuses (λ ts. map flat_tree start ++ ts) (outcomes (λ w. flat E (tree w)) ws) k q))) x h in
-      subst (λ (z : Result (Unit {0}) ConvertError). Adds z olds news (flat E t)) (sym g) p
+      (λ k q. ap (outcome_map add) (gathered ∙ ap (λ o. outcome_map Flat.collection (outcome_map flats_of o)) (map_refuses (λ ts. map flat_tree start ++ ts) (outcomes (λ w. flat E (tree w)) ws) k q))) x h in
+      subst (λ (z : Result (Unit {0}) ConvertError). AddsFlat z olds news (flat E t)) (sym g) p
 
 -- the same of a collection of those of well-known text
 pub collected_back : {T X : Type 0} (gs : List (Geometry T)) (t : Flat T) → t ≡ Flat.collection (flat_members gs) →

@@ -26,7 +26,7 @@ all_lines : {T : Type 0} (ls : List (List (flat_coord.Coord T))) → map path_nu
 all_lines [] = refl
 all_lines (l ∷ ls) = ap₂ (λ x xs. x ∷ xs) (lines l) (all_lines ls)
 
-points : {T : Type 0} (ps : List (flat_point.Point T)) → map (λ p. Some (shape.point_numbers p)) ps ≡ map point_numbers (map point_back ps)
+points : {T : Type 0} (ps : List (flat_point.Point T)) → map (λ p. Some (shape.flat_point_numbers p)) ps ≡ map point_numbers (map point_back ps)
 points [] = refl
 points (p ∷ ps) = ap (λ xs. Some (p.0.x ∷ p.0.y ∷ []) ∷ xs) (points ps)
 

@@ -9,12 +9,12 @@ use Rattle.wkt_types.specs.declared.convert.ConvertError.{ConvertError}
 use Rattle.wkt_convert.specs.Outcomes.{outcome_map}
 
 -- The value is added at the end, or its fault is answered.
-abbrev pub Adds : {T R : Type 0} → Result R ConvertError → List (Geometry T) → List (Geometry T) → Outcome (Flat T) → Type 0
-Adds r old new o = Answers (λ _. map flat_tree new) (outcome_map (λ t. map flat_tree old ++ t ∷ []) o) r
+abbrev pub AddsFlat : {T R : Type 0} → Result R ConvertError → List (Geometry T) → List (Geometry T) → Outcome (Flat T) → Type 0
+AddsFlat r old new o = Answers (λ _. map flat_tree new) (outcome_map (λ t. map flat_tree old ++ t ∷ []) o) r
 
 -- The values are added in their order, or their first fault is answered.
-abbrev pub AddsAll : {T R : Type 0} → Result R ConvertError → List (Geometry T) → List (Geometry T) → Outcome (List (Flat T)) → Type 0
-AddsAll r old new o = Answers (λ _. map flat_tree new) (outcome_map (λ ts. map flat_tree old ++ ts) o) r
+abbrev pub AddsFlats : {T R : Type 0} → Result R ConvertError → List (Geometry T) → List (Geometry T) → Outcome (List (Flat T)) → Type 0
+AddsFlats r old new o = Answers (λ _. map flat_tree new) (outcome_map (λ ts. map flat_tree old ++ ts) o) r
 
 -- The tree is added at the end, unless memory ran out.
 abbrev pub AddsTree : {T R E : Type 0} → Result R E → List (Wkt T) → List (Wkt T) → Tree T → Type 0

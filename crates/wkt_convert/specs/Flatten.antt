@@ -4,7 +4,7 @@ use Rattle.wkt_types.specs.Held.{Held, HeldPoint}
 use Rattle.wkt_types.specs.Tree.{Tree, Trees}
 use Rattle.wkt_types.specs.declared.coord.Coord.{Coord}
 use Rattle.wkt_types.specs.Outcome.{Outcome, value, refused, mismatched}
-use Rattle.wkt_types.specs.Flattened.{xy, at, point_at}
+use Rattle.wkt_types.specs.Flattened.{xy, xy_point, point_or_fault}
 use Rattle.wkt_flat.specs.declared.coord.Coord as flat_coord
 use Rattle.wkt_flat.specs.declared.point.Point as flat_point
 use Rattle.wkt_flat.specs.Rings.{Rings, closed_rings, one_ring}
@@ -26,12 +26,12 @@ rings E y = first_outside E (map path y.parts)
 
 -- The points of a multipoint, or the fault of its first empty member.
 abbrev pub points : {T : Type 0} → List (HeldPoint (Coord T)) → Outcome (List (flat_point.Point T))
-points ps = outcomes (λ p. point_at p.coord) ps
+points ps = outcomes (λ p. point_or_fault p.coord) ps
 
 -- A point; an empty one is an empty multipoint.
 abbrev pub point_or_none : {T : Type 0} → Option (Coord T) → Flat T
 point_or_none None = Flat.multi_point []
-point_or_none (Some c) = Flat.point (at c)
+point_or_none (Some c) = Flat.point (xy_point c)
 
 -- The flat value of each kind.
 abbrev mutual
@@ -64,7 +64,7 @@ tree_name (Tree.multi_line_string m) = codes "MultiLineString"
 tree_name (Tree.multi_polygon m) = codes "MultiPolygon"
 tree_name (Tree.collection ts d) = codes "GeometryCollection"
 
--- The flat collection of a tree that is one; of any other the mismatch of names, at once.
+-- The flat collection of a tree that is one; of any other the mismatch of names, xy_point once.
 abbrev pub flat_collection : {T : Type 0} → (flat_coord.Coord T → flat_coord.Coord T → Bool) → Tree T → Outcome (Flats T)
 flat_collection E (Tree.collection ts d) = flat_all E ts
 flat_collection E t = refused (mismatched (codes "GeometryCollection") (tree_name t))

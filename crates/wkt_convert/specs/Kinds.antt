@@ -1,5 +1,8 @@
 -- A flat value of one kind asked of a geometry of any.
-use Rattle.std.specs.Prelude.{List, Option, Some, None, ℕ, codes}
+use Rattle.std.specs.Prelude.{List, Option, Some, None, ℕ, Bool, codes}
+use Rattle.wkt_types.specs.Tree.{Tree}
+use Rattle.wkt_flat.specs.Equal.{coord_eq}
+use Rattle.wkt_convert.specs.Flatten.{flat}
 use Rattle.wkt_types.specs.Outcome.{Outcome, value, refused, mismatched}
 use Rattle.wkt_flat.specs.Corners.{Corners}
 use Rattle.wkt_flat.specs.Rings.{Rings}
@@ -31,6 +34,10 @@ asked expected found None = refused (mismatched expected found)
 abbrev pub only : {T X : Type 0} → List ℕ → (Flat T → Option X) → Outcome (Flat T) → Outcome X
 only expected pick (value t) = asked expected (flat_name t) (pick t)
 only expected pick (refused k) = refused k
+
+-- The content of the flat value of a tree, if it is of the kind asked for.
+abbrev pub only_flat : {T X : Type 0} → List ℕ → (Flat T → Option X) → (T → T → Bool) → Tree T → Outcome X
+only_flat expected pick E t = only expected pick (flat (coord_eq E) t)
 
 -- The content of each kind, if the value is of that kind.
 abbrev pub point_in : {T : Type 0} → Flat T → Option (Point T)

@@ -3,7 +3,6 @@ ghost use Rattle.std.specs.Prelude.{◌≡◌, ◌++◌, ◌∷◌, [], IfOk, On
 ghost use Rattle.std.specs.Result.{IsOk};
 ghost use Rattle.wkt_access.specs.declared.dimensions.Dimension.TheVariants.{XY};
 ghost use Rattle.wkt_types.specs.Tree as trees;
-ghost use Rattle.wkt_types.specs.Held.{held};
 ghost use Rattle.wkt_flat.specs.Tree.{Flat, flat_tree, flat_members};
 ghost use Rattle.wkt_flat.specs.Rings.{one_ring, corner_ring, triangle_ring};
 ghost use Rattle.wkt_convert.specs.Adds.{AddsTree, AddsTrees};
@@ -147,10 +146,7 @@ fn multi_polygon<T: Copy + Drop>(
 // Each of these adds the `Wkt` of one geometry to others, and is never a part of its caller: the
 // recursion below takes less stack so.
 #[inline(never)]
-fn push_point<T: Copy + Drop>(
-    p: &flat::Point<T>,
-    all: &mut Vec<Wkt<T>>,
-) -> Result<(), AllocError>
+fn push_point<T: Copy + Drop>(p: &flat::Point<T>, all: &mut Vec<Wkt<T>>) -> Result<(), AllocError>
     ensures { AddsTree result all.old.items all.new.items (back (Flat.point p.now)) }
 {
     all.push(Wkt::Point(point(*p)))?;

@@ -1,5 +1,5 @@
 //! Conversions that may take memory: the types of well-known text into flat ones.
-ghost use Rattle.std.specs.Prelude.{◌≡◌, Result, codes};
+ghost use Rattle.std.specs.Prelude.{Result};
 ghost use Rattle.wkt_types.specs.Tree.{tree, collection_tree};
 ghost use Rattle.wkt_types.specs.declared.convert.ConvertError.{ConvertError};
 ghost use Rattle.wkt_types.specs.Outcome.{Answers, value};

@@ -4,7 +4,7 @@ ghost use Rattle.wkt_types.specs.Tree.{tree, members};
 ghost use Rattle.wkt_flat.specs.Tree.{Flat, flat_tree, flat_trees, flat_members};
 ghost use Rattle.wkt_flat.specs.Equal.{coord_eq};
 ghost use Rattle.wkt_types.specs.Outcome.{Answers, value};
-ghost use Rattle.wkt_convert.specs.Adds.{Adds, AddsAll};
+ghost use Rattle.wkt_convert.specs.Adds.{AddsFlat, AddsFlats};
 ghost use Rattle.wkt_convert.specs.Outcomes.{outcome_map, outcomes};
 ghost use Rattle.wkt_convert.specs.Flatten.{path, rings, points, point_or_none, flat, flat_all};
 
@@ -107,9 +107,9 @@ pub(crate) fn point<T: WktNum>(alloc: Global, p: &Point<T>) -> Geometry<T>
     }
 }
 
-/// Adds a flat geometry to others.
+/// AddsFlat a flat geometry to others.
 fn push<T: Drop>(g: Geometry<T>, all: &mut Vec<Geometry<T>>) -> Result<(), ConvertError>
-    ensures { Adds result all.old.items all.new.items (value (flat_tree g)) }
+    ensures { AddsFlat result all.old.items all.new.items (value (flat_tree g)) }
 {
     match all.push(g) {
         Ok(()) => Ok(()),
@@ -123,7 +123,7 @@ fn push_point<T: WktNum>(
     p: &Point<T>,
     all: &mut Vec<Geometry<T>>,
 ) -> Result<(), ConvertError>
-    ensures { Adds result all.old.items all.new.items (value (point_or_none p.now.coord)) }
+    ensures { AddsFlat result all.old.items all.new.items (value (point_or_none p.now.coord)) }
 {
     push(point(alloc, p), all)
 }
@@ -134,7 +134,7 @@ fn push_line_string<T: WktNum>(
     l: &LineString<T>,
     all: &mut Vec<Geometry<T>>,
 ) -> Result<(), ConvertError>
-    ensures { Adds result all.old.items all.new.items (value (Flat.line_string (path l.now))) }
+    ensures { AddsFlat result all.old.items all.new.items (value (Flat.line_string (path l.now))) }
 {
     push(Geometry::LineString(line_string(alloc, l)?), all)
 }
@@ -145,7 +145,7 @@ fn push_polygon<T: WktNum>(
     y: &Polygon<T>,
     all: &mut Vec<Geometry<T>>,
 ) -> Result<(), ConvertError>
-    ensures { Adds result all.old.items all.new.items (value (Flat.polygon (rings (coord_eq T.eq) y.now))) }
+    ensures { AddsFlat result all.old.items all.new.items (value (Flat.polygon (rings (coord_eq T.eq) y.now))) }
 {
     push(Geometry::Polygon(polygon(alloc, y)?), all)
 }
@@ -156,7 +156,7 @@ fn push_multi_point<T: WktNum>(
     m: &MultiPoint<T>,
     all: &mut Vec<Geometry<T>>,
 ) -> Result<(), ConvertError>
-    ensures { Adds result all.old.items all.new.items (outcome_map Flat.multi_point (points m.now.parts)) }
+    ensures { AddsFlat result all.old.items all.new.items (outcome_map Flat.multi_point (points m.now.parts)) }
 {
     push(Geometry::MultiPoint(all_points(alloc, m.points())?), all)
 }
@@ -167,7 +167,7 @@ fn push_multi_line_string<T: WktNum>(
     m: &MultiLineString<T>,
     all: &mut Vec<Geometry<T>>,
 ) -> Result<(), ConvertError>
-    ensures { Adds result all.old.items all.new.items (value (Flat.multi_line_string (map path m.now.parts))) }
+    ensures { AddsFlat result all.old.items all.new.items (value (Flat.multi_line_string (map path m.now.parts))) }
 {
     let lines = line_strings(alloc, m.line_strings())?;
     push(Geometry::MultiLineString(flat::MultiLineString(lines)), all)
@@ -179,7 +179,7 @@ fn push_multi_polygon<T: WktNum>(
     m: &MultiPolygon<T>,
     all: &mut Vec<Geometry<T>>,
 ) -> Result<(), ConvertError>
-    ensures { Adds result all.old.items all.new.items (value (Flat.multi_polygon (map (rings (coord_eq T.eq)) m.now.parts))) }
+    ensures { AddsFlat result all.old.items all.new.items (value (Flat.multi_polygon (map (rings (coord_eq T.eq)) m.now.parts))) }
 {
     let polygons = polygons(alloc, m.polygons())?;
     push(Geometry::MultiPolygon(flat::MultiPolygon(polygons)), all)
@@ -193,7 +193,7 @@ fn push_collection<T: Drop>(
     members: Vec<Geometry<T>>,
     all: &mut Vec<Geometry<T>>,
 ) -> Result<(), ConvertError>
-    ensures { MatchResult filled (λ _. Adds result all.old.items all.new.items (value (Flat.collection (flat_members members.items)))) (λ e. result ≡ Err e) }
+    ensures { MatchResult filled (λ _. AddsFlat result all.old.items all.new.items (value (Flat.collection (flat_members members.items)))) (λ e. result ≡ Err e) }
 {
     match filled {
         Ok(()) => {
@@ -204,14 +204,14 @@ fn push_collection<T: Drop>(
     }
 }
 
-// Adds the flat geometry to others. It takes little stack, since it goes as deep as collections do.
+// AddsFlat the flat geometry to others. It takes little stack, since it goes as deep as collections do.
 #[cycle(flatten)]
 fn push_geometry<T: WktNum>(
     alloc: Global,
     w: &Wkt<T>,
     all: &mut Vec<Geometry<T>>,
 ) -> Result<(), ConvertError>
-    ensures { Adds result all.old.items all.new.items (flat (coord_eq T.eq) (tree w.now)) }
+    ensures { AddsFlat result all.old.items all.new.items (flat (coord_eq T.eq) (tree w.now)) }
 {
     match w {
         Wkt::Point(p) => push_point(alloc, p, all),
@@ -235,7 +235,7 @@ fn push_geometries<T: WktNum>(
     ws: &[Wkt<T>],
     all: &mut Vec<Geometry<T>>,
 ) -> Result<(), ConvertError>
-    ensures { AddsAll result all.old.items all.new.items (outcomes (λ w. flat (coord_eq T.eq) (tree w)) ws.now) }
+    ensures { AddsFlats result all.old.items all.new.items (outcomes (λ w. flat (coord_eq T.eq) (tree w)) ws.now) }
 {
     for w in ws {
         push_geometry(alloc, w, all)?;

@@ -1,11 +1,11 @@
 //! Conversions of a `Wkt` of any kind into a flat value of one kind.
-ghost use Rattle.std.specs.Prelude.{◌≡◌, codes};
+ghost use Rattle.std.specs.Prelude.{codes};
 ghost use Rattle.wkt_types.specs.Tree.{tree};
 ghost use Rattle.wkt_types.specs.Outcome.{Answers, refused, mismatched};
 ghost use Rattle.wkt_flat.specs.Tree.{flat_tree, flat_trees};
 ghost use Rattle.wkt_flat.specs.Equal.{coord_eq};
 ghost use Rattle.wkt_convert.specs.Flatten.{flat, flat_collection};
-ghost use Rattle.wkt_convert.specs.Kinds.{only, flat_name, point_in, line_in, path_in, rings_in, points_in, paths_in, polygons_in, corners_in, triangle_in};
+ghost use Rattle.wkt_convert.specs.Kinds.{only_flat, flat_name, point_in, line_in, path_in, rings_in, points_in, paths_in, polygons_in, corners_in, triangle_in};
 
 use crate::convert::ConvertFrom;
 use crate::flatten::{collection, geometry};
@@ -39,7 +39,7 @@ pub fn mismatch<T, X>(expected: &'static str, found: &Geometry<T>) -> Result<X, 
 
 /// The point; an empty one is a `MultiPoint` as a geometry, and so is refused as `MismatchedGeometry`.
 impl<T: WktNum> ConvertFrom<Wkt<T>> for flat::Point<T> {
-    ghost converts = { λ w r. Answers (λ x. x) (only (codes "Point") point_in (flat (coord_eq T.eq) (tree w))) r };
+    ghost converts = { λ w r. Answers (λ x. x) (only_flat (codes "Point") point_in T.eq (tree w)) r };
 
     fn convert_from(alloc: Global, source: Wkt<T>) -> Result<Self, ConvertError> {
         match geometry(alloc, &source)? {
@@ -51,7 +51,7 @@ impl<T: WktNum> ConvertFrom<Wkt<T>> for flat::Point<T> {
 
 /// No `Wkt` becomes a Line: where the geometry can be converted, the answer is `MismatchedGeometry`.
 impl<T: WktNum> ConvertFrom<Wkt<T>> for flat::Line<T> {
-    ghost converts = { λ w r. Answers (λ x. x) (only (codes "Line") line_in (flat (coord_eq T.eq) (tree w))) r };
+    ghost converts = { λ w r. Answers (λ x. x) (only_flat (codes "Line") line_in T.eq (tree w)) r };
 
     fn convert_from(alloc: Global, source: Wkt<T>) -> Result<Self, ConvertError> {
         match geometry(alloc, &source)? {
@@ -62,7 +62,7 @@ impl<T: WktNum> ConvertFrom<Wkt<T>> for flat::Line<T> {
 }
 
 impl<T: WktNum> ConvertFrom<Wkt<T>> for flat::LineString<T> {
-    ghost converts = { λ w r. Answers (λ x. x) (only (codes "LineString") path_in (flat (coord_eq T.eq) (tree w))) r };
+    ghost converts = { λ w r. Answers (λ x. x) (only_flat (codes "LineString") path_in T.eq (tree w)) r };
 
     fn convert_from(alloc: Global, source: Wkt<T>) -> Result<Self, ConvertError> {
         match geometry(alloc, &source)? {
@@ -73,7 +73,7 @@ impl<T: WktNum> ConvertFrom<Wkt<T>> for flat::LineString<T> {
 }
 
 impl<T: WktNum> ConvertFrom<Wkt<T>> for flat::Polygon<T> {
-    ghost converts = { λ w r. Answers (λ x. x) (only (codes "Polygon") rings_in (flat (coord_eq T.eq) (tree w))) r };
+    ghost converts = { λ w r. Answers (λ x. x) (only_flat (codes "Polygon") rings_in T.eq (tree w)) r };
 
     fn convert_from(alloc: Global, source: Wkt<T>) -> Result<Self, ConvertError> {
         match geometry(alloc, &source)? {
@@ -84,7 +84,7 @@ impl<T: WktNum> ConvertFrom<Wkt<T>> for flat::Polygon<T> {
 }
 
 impl<T: WktNum> ConvertFrom<Wkt<T>> for flat::MultiPoint<T> {
-    ghost converts = { λ w r. Answers (λ x. x) (only (codes "MultiPoint") points_in (flat (coord_eq T.eq) (tree w))) r };
+    ghost converts = { λ w r. Answers (λ x. x) (only_flat (codes "MultiPoint") points_in T.eq (tree w)) r };
 
     fn convert_from(alloc: Global, source: Wkt<T>) -> Result<Self, ConvertError> {
         match geometry(alloc, &source)? {
@@ -95,7 +95,7 @@ impl<T: WktNum> ConvertFrom<Wkt<T>> for flat::MultiPoint<T> {
 }
 
 impl<T: WktNum> ConvertFrom<Wkt<T>> for flat::MultiLineString<T> {
-    ghost converts = { λ w r. Answers (λ x. x) (only (codes "MultiLineString") paths_in (flat (coord_eq T.eq) (tree w))) r };
+    ghost converts = { λ w r. Answers (λ x. x) (only_flat (codes "MultiLineString") paths_in T.eq (tree w)) r };
 
     fn convert_from(alloc: Global, source: Wkt<T>) -> Result<Self, ConvertError> {
         match geometry(alloc, &source)? {
@@ -106,7 +106,7 @@ impl<T: WktNum> ConvertFrom<Wkt<T>> for flat::MultiLineString<T> {
 }
 
 impl<T: WktNum> ConvertFrom<Wkt<T>> for flat::MultiPolygon<T> {
-    ghost converts = { λ w r. Answers (λ x. x) (only (codes "MultiPolygon") polygons_in (flat (coord_eq T.eq) (tree w))) r };
+    ghost converts = { λ w r. Answers (λ x. x) (only_flat (codes "MultiPolygon") polygons_in T.eq (tree w)) r };
 
     fn convert_from(alloc: Global, source: Wkt<T>) -> Result<Self, ConvertError> {
         match geometry(alloc, &source)? {
@@ -118,7 +118,7 @@ impl<T: WktNum> ConvertFrom<Wkt<T>> for flat::MultiPolygon<T> {
 
 /// No `Wkt` becomes a Rect: where the geometry can be converted, the answer is `MismatchedGeometry`.
 impl<T: WktNum> ConvertFrom<Wkt<T>> for flat::Rect<T> {
-    ghost converts = { λ w r. Answers (λ x. x) (only (codes "Rect") corners_in (flat (coord_eq T.eq) (tree w))) r };
+    ghost converts = { λ w r. Answers (λ x. x) (only_flat (codes "Rect") corners_in T.eq (tree w)) r };
 
     fn convert_from(alloc: Global, source: Wkt<T>) -> Result<Self, ConvertError> {
         match geometry(alloc, &source)? {
@@ -130,7 +130,7 @@ impl<T: WktNum> ConvertFrom<Wkt<T>> for flat::Rect<T> {
 
 /// No `Wkt` becomes a Triangle: where the geometry can be converted, the answer is `MismatchedGeometry`.
 impl<T: WktNum> ConvertFrom<Wkt<T>> for flat::Triangle<T> {
-    ghost converts = { λ w r. Answers (λ x. x) (only (codes "Triangle") triangle_in (flat (coord_eq T.eq) (tree w))) r };
+    ghost converts = { λ w r. Answers (λ x. x) (only_flat (codes "Triangle") triangle_in T.eq (tree w)) r };
 
     fn convert_from(alloc: Global, source: Wkt<T>) -> Result<Self, ConvertError> {
         match geometry(alloc, &source)? {

@@ -2,7 +2,7 @@
 ghost use Rattle.std.specs.Prelude.{◌≡◌, [], OnOk, Some, true};
 ghost use Rattle.wkt_num.specs.Sink.{next_count};
 ghost use Rattle.wkt_bytes.specs.Device.{IsOut, IsPartOut};
-ghost use Rattle.wkt_bytes.specs.Wrapper.{is_untold, is_well, held_bytes, writer_of};
+ghost use Rattle.wkt_bytes.specs.Wrapper.{is_untold, is_well, held_bytes, wrapped_writer};
 ghost use Rattle.wkt_access.specs.Shapes.{Shape};
 ghost use Rattle.wkt_access.specs.Faults.{fault};
 ghost use Rattle.wkt_access.specs.Texts.{shape_text};
@@ -41,7 +41,7 @@ pub(crate) trait Written {
 /// The fault that a wrapper met.
 fn fault_of<W: ByteSink>(wrapper: &mut WriterWrapper<W>) -> io::Error
     requires { is_untold wrapper.old ≡ true }
-    ensures { writer_of wrapper.new ≡ writer_of wrapper.old }
+    ensures { wrapped_writer wrapper.new ≡ wrapped_writer wrapper.old }
 {
     match wrapper.take_fault() {
         Some(e) => e,
@@ -56,13 +56,13 @@ fn send_through<G: Written, W: ByteSink>(
 ) -> Result<(), ToWktError>
     requires well { is_well wrapper.old ≡ true }
     requires held { held_bytes wrapper.old ≡ [] }
-    ensures ok { OnOk result (IsOut W.device (writer_of wrapper.old) (writer_of wrapper.new) (shape_text G.T.num (G.shape g.now))) }
-    ensures io { IfIo result (IsPartOut W.device (writer_of wrapper.old) (writer_of wrapper.new) (shape_text G.T.num (G.shape g.now))) }
-    ensures io_count { IfIo result (W.device.failures (writer_of wrapper.new) ≡ next_count (W.device.failures (writer_of wrapper.old))) }
-    ensures shape { IfShape result (λ _. writer_of wrapper.new ≡ writer_of wrapper.old) }
+    ensures ok { OnOk result (IsOut W.device (wrapped_writer wrapper.old) (wrapped_writer wrapper.new) (shape_text G.T.num (G.shape g.now))) }
+    ensures io { IfIo result (IsPartOut W.device (wrapped_writer wrapper.old) (wrapped_writer wrapper.new) (shape_text G.T.num (G.shape g.now))) }
+    ensures io_count { IfIo result (W.device.failures (wrapped_writer wrapper.new) ≡ next_count (W.device.failures (wrapped_writer wrapper.old))) }
+    ensures shape { IfShape result (λ _. wrapped_writer wrapper.new ≡ wrapped_writer wrapper.old) }
     ensures cause { IfShape result (λ e. fault (G.shape g.now) ≡ Some e) }
     ensures refused { IfShape result (IsRefusal (G.shape g.now)) }
-    ensures keeps { W.device.keeps (writer_of wrapper.old) (writer_of wrapper.new) }
+    ensures keeps { W.device.keeps (wrapped_writer wrapper.old) (wrapped_writer wrapper.new) }
 {
     match g.write_text(wrapper) {
         Ok(()) => match wrapper.finish() {

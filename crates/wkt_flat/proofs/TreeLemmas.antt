@@ -6,7 +6,7 @@ use Rattle.std.proofs.lemmas.Bool.Decides.{nat_tests}
 use Rattle.std.proofs.Math.Seq.{drop-cons}
 use Rattle.std.proofs.lemmas.List.{drop_all}
 use Rattle.wkt_flat.specs.Trees.{flat_eq, flats_eq}
-use Rattle.wkt_flat.specs.Tree.{flats_of, collection, Flat, Flats, flat_tree, flat_trees, flat_members, no_flats, geometry_step, collection_step}
+use Rattle.wkt_flat.specs.Tree.{flats_of, collection, Flat, Flats, flat_tree, flat_trees, flat_members, no_flats, geometry_step, flats_step}
 use Rattle.wkt_flat.specs.declared.geometry.GeometryCollection.{GeometryCollection}
 use Rattle.wkt_flat.specs.declared.geometry.Geometry.{Geometry}
 use Rattle.wkt_flat.specs.declared.geometry.Geometry.TheViews as views
@@ -17,7 +17,7 @@ use Rattle.wkt_flat.specs.declared.geometry.Geometry.TheOpen as opened
 pub flat-collection : {T : Type 0} (c : GeometryCollection T) → flat_tree (views.GeometryCollection c) ≡ collection (flat_trees c)
 flat-collection {T} c =
     ap flat_tree (sym (variants.rolls-GeometryCollection c))
-    ∙ folds.fold-roll-Geometry T (Flat T) (Flats T) geometry_step collection_step (opened.Geometry-F.GeometryCollection c)
+    ∙ folds.fold-roll-Geometry T (Flat T) (Flats T) geometry_step flats_step (opened.Geometry-F.GeometryCollection c)
 
 pub members_step : {T : Type 0} (E : T → T → Bool) (as' bs : List (Geometry T)) (i : ℕ) (x y : Geometry T) →
     i < length as' → x ≡ get_or as' i x → i < length bs → y ≡ get_or bs i y →
@@ -45,7 +45,7 @@ members_ends E as' bs i h k l =
     (ends E (length as') (length bs) (drop i bs) (length-drop i bs ∙ ap (λ n. length bs - n) (omega arith)) (omega arith))
 
 pub flat-members : {T : Type 0} (c : GeometryCollection T) → flat_trees c ≡ flat_members c.0.items
-flat-members {T} c = folds.fold-roll-GeometryCollection T (Flat T) (Flats T) geometry_step collection_step (record { 0 = c.0 })
+flat-members {T} c = folds.fold-roll-GeometryCollection T (Flat T) (Flats T) geometry_step flats_step (record { 0 = c.0 })
 
 pub copied-in : {T E : Type 0} (r filled : Result (Unit {0}) E) (olds news copies all : List (Geometry T)) (t : Flat T) →
     OnOk r (IsOk filled) → OnOk filled (map flat_tree copies ≡ map flat_tree all) → t ≡ collection (flat_members all) →

@@ -47,16 +47,16 @@ geometry_step (Geometry-F.Rect r) = rect r
 geometry_step (Geometry-F.Triangle t) = triangle t
 
 -- The same of a collection.
-abbrev pub collection_step : {T : Type 0} → GeometryCollection-F T (Flat T) (Flats T) → Flats T
-collection_step c = flats_of c.0.items
+abbrev pub flats_step : {T : Type 0} → GeometryCollection-F T (Flat T) (Flats T) → Flats T
+flats_step c = flats_of c.0.items
 
 -- What a geometry holds.
 abbrev pub flat_tree : {T : Type 0} → Geometry T → Flat T
-flat_tree {T} = fold-Geometry T (Flat T) (Flats T) geometry_step collection_step
+flat_tree {T} = fold-Geometry T (Flat T) (Flats T) geometry_step flats_step
 
 -- What a collection holds.
 abbrev pub flat_trees : {T : Type 0} → GeometryCollection T → Flats T
-flat_trees {T} = fold-GeometryCollection T (Flat T) (Flats T) geometry_step collection_step
+flat_trees {T} = fold-GeometryCollection T (Flat T) (Flats T) geometry_step flats_step
 
 -- What the members of a list hold.
 abbrev pub flat_members : {T : Type 0} → List (Geometry T) → Flats T

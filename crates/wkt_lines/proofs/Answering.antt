@@ -4,14 +4,14 @@ use Rattle.std.specs.Io.KnownBytes.{Appends}
 use Rattle.std.proofs.lemmas.List.{append-nil}
 use Rattle.wkt_bytes.specs.Device.{BeginningOut}
 use Rattle.wkt_lines.specs.Lines.{input_lines}
-use Rattle.wkt_lines.specs.Output.{IsAnswer, AreAnswers, PartOut, IfWrite}
+use Rattle.wkt_lines.specs.Output.{IsAnswer, AreAnswers, PartOut, IfRunWrite}
 use Rattle.wkt_lines.specs.declared.lines.RunError.{RunError}
 use Rattle.wkt_lines.specs.declared.lines.RunError.TheVariants as run
 use Rattle.wkt_bytes.specs.Wrapper.{appends_more}
 use Rattle.wkt_num.specs.Sink.{Sink, Adds, Breaks}
 use Rattle.wkt_lines.specs.declared.answer.AnswerError.{AnswerError}
 use Rattle.wkt_lines.specs.declared.answer.AnswerError.TheVariants as answered
-use Rattle.wkt_lines.specs.Answer.{Answers, IfSink, IfMemory}
+use Rattle.wkt_lines.specs.Answer.{AnswersLine, IfSink, IfAnswerMemory}
 use Rattle.wkt_lines.specs.Splitting.{lines_step, before_feed, after_feed}
 
 lines_on : (xs : List ℕ) → (xs ≢ []) → input_lines xs ≡ before_feed xs ∷ input_lines (after_feed xs)
@@ -44,7 +44,7 @@ pub err_map : {T E : Type 0} {P Q : Type 0} (r : Result T E) → (P → Q) → O
 err_map (Ok x) f p = tt
 err_map (Err e) f p = f p
 
-pub write_map : {A P Q : Type 0} (r : Result A RunError) → (P → Q) → IfWrite r P → IfWrite r Q
+pub write_map : {A P Q : Type 0} (r : Result A RunError) → (P → Q) → IfRunWrite r P → IfRunWrite r Q
 write_map (Ok x) f h = tt
 write_map (Err (run.Read e)) f h = tt
 write_map (Err (run.Write e)) f h = f h
@@ -70,16 +70,16 @@ begun first out rest bs line a b c h n e k w (answer, is, beg) = record {
 
 -- what was written is an answer
 module _ {S A : Type 0} (sink : Sink S) where
-  pub answer_ok : {N : Type 0} (read : List ℕ → Option N) (num : N → List ℕ) (s t : S) (line answer : List ℕ) (r : Result A AnswerError) → IsAnswer read num line answer → Answers sink s answer t r → OnOk r ((a : List ℕ) × IsAnswer read num line a × Adds sink s a t)
+  pub answer_ok : {N : Type 0} (read : List ℕ → Option N) (num : N → List ℕ) (s t : S) (line answer : List ℕ) (r : Result A AnswerError) → IsAnswer read num line answer → AnswersLine sink s answer t r → OnOk r ((a : List ℕ) × IsAnswer read num line a × Adds sink s a t)
   answer_ok read num s t line answer (Ok x) is h = (answer, is, h)
   answer_ok read num s t line answer (Err e) is h = tt
 
-  pub answer_sink : {N : Type 0} (read : List ℕ → Option N) (num : N → List ℕ) (s t : S) (line answer : List ℕ) (r : Result A AnswerError) → IsAnswer read num line answer → Answers sink s answer t r → IfSink r ((a : List ℕ) × IsAnswer read num line a × Breaks sink s a t)
+  pub answer_sink : {N : Type 0} (read : List ℕ → Option N) (num : N → List ℕ) (s t : S) (line answer : List ℕ) (r : Result A AnswerError) → IsAnswer read num line answer → AnswersLine sink s answer t r → IfSink r ((a : List ℕ) × IsAnswer read num line a × Breaks sink s a t)
   answer_sink read num s t line answer (Ok x) is h = tt
   answer_sink read num s t line answer (Err (answered.Sink e)) is h = (answer, is, h)
   answer_sink read num s t line answer (Err (answered.Memory e)) is h = tt
 
-  pub answer_memory : (P : Type 0) (s t : S) (answer : List ℕ) (r : Result A AnswerError) → Answers sink s answer t r → IfMemory r P
+  pub answer_memory : (P : Type 0) (s t : S) (answer : List ℕ) (r : Result A AnswerError) → AnswersLine sink s answer t r → IfAnswerMemory r P
   answer_memory P s t answer (Ok x) h = tt
   answer_memory P s t answer (Err (answered.Sink e)) h = tt
   answer_memory P s t answer (Err (answered.Memory e)) h = absurd h

@@ -11,13 +11,13 @@ IfSink (Err (answered.Sink e)) P = P
 IfSink (Err (answered.Memory e)) P = Unit {0}
 
 -- The fact is claimed where the call was out of memory.
-abbrev pub IfMemory : {A : Type 0} → Result A AnswerError → Type 0 → Type 0
-IfMemory (Ok x) P = Unit {0}
-IfMemory (Err (answered.Sink e)) P = Unit {0}
-IfMemory (Err (answered.Memory e)) P = P
+abbrev pub IfAnswerMemory : {A : Type 0} → Result A AnswerError → Type 0 → Type 0
+IfAnswerMemory (Ok x) P = Unit {0}
+IfAnswerMemory (Err (answered.Sink e)) P = Unit {0}
+IfAnswerMemory (Err (answered.Memory e)) P = P
 
 -- The text was added, or the sink broke off when a beginning of it was.
-abbrev pub Answers : {S A : Type 0} → Sink S → S → List ℕ → S → Result A AnswerError → Type 0
-Answers sink s bs t (Ok x) = Adds sink s bs t
-Answers sink s bs t (Err (answered.Sink e)) = Breaks sink s bs t
-Answers sink s bs t (Err (answered.Memory e)) = ⊥
+abbrev pub AnswersLine : {S A : Type 0} → Sink S → S → List ℕ → S → Result A AnswerError → Type 0
+AnswersLine sink s bs t (Ok x) = Adds sink s bs t
+AnswersLine sink s bs t (Err (answered.Sink e)) = Breaks sink s bs t
+AnswersLine sink s bs t (Err (answered.Memory e)) = ⊥

@@ -21,13 +21,13 @@ module _ {N : Type 0} (read : List ℕ → Option N) (num : N → List ℕ) wher
     pub text : answer ≡ shape_text num (shape_of value)
 
   -- The line isn't UTF-8 or has no front, and the answer is `refused`.
-  pub record IsRefusal (line answer : List ℕ) : Type 0 where
+  pub record IsRefusedLine (line answer : List ℕ) : Type 0 where
     pub cause : (IsUtf8 line → ⊥) ⊎ HasNoFront read line
     pub refused : answer ≡ codes "refused"
 
   -- What a line is answered with.
   abbrev pub IsAnswer : List ℕ → List ℕ → Type 0
-  IsAnswer line answer = IsText line answer ⊎ IsRefusal line answer
+  IsAnswer line answer = IsText line answer ⊎ IsRefusedLine line answer
 
   -- Each line's answer, followed by a line feed.
   abbrev pub AreAnswers : List (List ℕ) → List ℕ → Type 0
@@ -98,22 +98,22 @@ module _ {N : Type 0} (read : List ℕ → Option N) (num : N → List ℕ) wher
     BreaksAnswer old new line = (answer : List ℕ) × IsAnswer line answer × Breaks sink old answer new
 
 -- The fact is claimed where the reader failed.
-abbrev pub IfRead : {A : Type 0} → Result A RunError → Type 0 → Type 0
-IfRead (Ok x) P = Unit {0}
-IfRead (Err (run.Read e)) P = P
-IfRead (Err (run.Write e)) P = Unit {0}
-IfRead (Err (run.Memory e)) P = Unit {0}
+abbrev pub IfRunRead : {A : Type 0} → Result A RunError → Type 0 → Type 0
+IfRunRead (Ok x) P = Unit {0}
+IfRunRead (Err (run.Read e)) P = P
+IfRunRead (Err (run.Write e)) P = Unit {0}
+IfRunRead (Err (run.Memory e)) P = Unit {0}
 
 -- The fact is claimed where the writer failed.
-abbrev pub IfWrite : {A : Type 0} → Result A RunError → Type 0 → Type 0
-IfWrite (Ok x) P = Unit {0}
-IfWrite (Err (run.Read e)) P = Unit {0}
-IfWrite (Err (run.Write e)) P = P
-IfWrite (Err (run.Memory e)) P = Unit {0}
+abbrev pub IfRunWrite : {A : Type 0} → Result A RunError → Type 0 → Type 0
+IfRunWrite (Ok x) P = Unit {0}
+IfRunWrite (Err (run.Read e)) P = Unit {0}
+IfRunWrite (Err (run.Write e)) P = P
+IfRunWrite (Err (run.Memory e)) P = Unit {0}
 
 -- The fact is claimed where the call was out of memory.
-abbrev pub IfMemory : {A : Type 0} → Result A RunError → Type 0 → Type 0
-IfMemory (Ok x) P = Unit {0}
-IfMemory (Err (run.Read e)) P = Unit {0}
-IfMemory (Err (run.Write e)) P = Unit {0}
-IfMemory (Err (run.Memory e)) P = P
+abbrev pub IfRunMemory : {A : Type 0} → Result A RunError → Type 0 → Type 0
+IfRunMemory (Ok x) P = Unit {0}
+IfRunMemory (Err (run.Read e)) P = Unit {0}
+IfRunMemory (Err (run.Write e)) P = Unit {0}
+IfRunMemory (Err (run.Memory e)) P = P

@@ -1,10 +1,10 @@
 //! The answer to one line.
-ghost use Rattle.std.specs.Prelude.{◌≡◌, ℕ, List, None, OnOk, codes, IsUtf8};
+ghost use Rattle.std.specs.Prelude.{◌≡◌, None, OnOk, codes, IsUtf8};
 ghost use Rattle.wkt_access.specs.Faults.{fault};
 ghost use Rattle.wkt_access.specs.Texts.{shape_text};
 ghost use Rattle.wkt_types.specs.Tree.{tree};
 ghost use Rattle.wkt_types.specs.Values.{tree_shape};
-ghost use Rattle.wkt_lines.specs.Answer.{Answers, IfSink, IfMemory};
+ghost use Rattle.wkt_lines.specs.Answer.{AnswersLine, IfSink, IfAnswerMemory};
 ghost use Rattle.wkt_lines.specs.Output.{AddsAnswer, BreaksAnswer};
 
 use std::alloc::{AllocError, Global};
@@ -32,7 +32,7 @@ pub(crate) fn write_answer<T: WktNum, W: TextSink>(
 ) -> Result<(), AnswerError>
     ensures ok { OnOk result (AddsAnswer T.read T.num W.sink f.old f.new line.now) }
     ensures sink { IfSink result (BreaksAnswer T.read T.num W.sink f.old f.new line.now) }
-    ensures memory { IfMemory result (f.new ≡ f.old) }
+    ensures memory { IfAnswerMemory result (f.new ≡ f.old) }
 {
     // Most lines are ASCII, which one look at eight bytes at a time tells.
     if line.is_ascii() {
@@ -53,7 +53,7 @@ fn write_front<T: WktNum, W: TextSink>(
     requires { IsUtf8 text.now }
     ensures ok { OnOk result (AddsAnswer T.read T.num W.sink f.old f.new text.now) }
     ensures sink { IfSink result (BreaksAnswer T.read T.num W.sink f.old f.new text.now) }
-    ensures memory { IfMemory result (f.new ≡ f.old) }
+    ensures memory { IfAnswerMemory result (f.new ≡ f.old) }
 {
     match Wkt::<T>::from_str(alloc, text) {
         Ok(wkt) => {
@@ -69,7 +69,7 @@ fn write_front<T: WktNum, W: TextSink>(
 /// Writes the text of a geometry that can be written.
 fn write_value<T: WktNum, W: TextSink>(wkt: &Wkt<T>, f: &mut W) -> Result<(), AnswerError>
     requires { fault (tree_shape (tree wkt.now)) ≡ None }
-    ensures { Answers W.sink f.old (shape_text T.num (tree_shape (tree wkt.now))) f.new result }
+    ensures { AnswersLine W.sink f.old (shape_text T.num (tree_shape (tree wkt.now))) f.new result }
 {
     match write_geometry(f, wkt) {
         Ok(()) => Ok(()),
@@ -80,7 +80,7 @@ fn write_value<T: WktNum, W: TextSink>(wkt: &Wkt<T>, f: &mut W) -> Result<(), An
 
 /// Writes that a line is refused.
 fn refuse<W: TextSink>(f: &mut W) -> Result<(), AnswerError>
-    ensures { Answers W.sink f.old (codes "refused") f.new result }
+    ensures { AnswersLine W.sink f.old (codes "refused") f.new result }
 {
     match f.write_str("refused") {
         Ok(()) => Ok(()),

@@ -1,12 +1,12 @@
 //! Answers each line of a whole input.
-ghost use Rattle.std.specs.Prelude.{◌≡◌, ◌≤◌, ℕ, ◌+◌, List, [], ◌∷◌, ◌++◌, IfSome, OnOk, OnErr, true, not, ◌==◌, length, take, drop};
+ghost use Rattle.std.specs.Prelude.{◌≡◌, ◌≤◌, ◌+◌, [], ◌∷◌, IfSome, OnOk, OnErr, true, not, ◌==◌, length, take, drop};
 ghost use Rattle.std.specs.List.{prefix_len};
 ghost use Rattle.std.specs.Simd.Lanes.{chunk};
 ghost use Rattle.std.specs.Io.KnownBytes.{IsAtEnd};
 ghost use Rattle.wkt_num.specs.Sink.{next_count};
-ghost use Rattle.wkt_bytes.specs.Wrapper.{is_well, is_untold, held_bytes, writer_of, Gathers, BreaksOff};
+ghost use Rattle.wkt_bytes.specs.Wrapper.{is_well, is_untold, held_bytes, wrapped_writer, Gathers, BreaksOff};
 ghost use Rattle.wkt_lines.specs.Numbers.{read_line, print_line};
-ghost use Rattle.wkt_lines.specs.Output.{IsAllOut, IsFirstOut, IsSomeOut, IsLineOut, IsLinePartOut, IfRead, IfWrite, IfMemory};
+ghost use Rattle.wkt_lines.specs.Output.{IsAllOut, IsFirstOut, IsSomeOut, IsLineOut, IsLinePartOut, IfRunRead, IfRunWrite, IfRunMemory};
 ghost use Rattle.wkt_lines.specs.Splitting.{before_feed, after_feed};
 
 use crate::answer::{AnswerError, write_answer};
@@ -46,11 +46,11 @@ pub fn run<R: ByteSource, W: ByteSink>(
 ) -> Result<(), RunError>
     ensures ok { OnOk result (IfSome (R.left reader.old) (IsAllOut read_line print_line W.device writer.old writer.new)) }
     ensures end { OnOk result (IsAtEnd (R.left reader.new)) }
-    ensures read { IfRead result (writer.new ≡ writer.old) }
-    ensures read_count { IfRead result (R.failures reader.new ≡ next_count (R.failures reader.old)) }
-    ensures write { IfWrite result (IfSome (R.left reader.old) (IsSomeOut read_line print_line W.device writer.old writer.new)) }
-    ensures write_count { IfWrite result (W.device.failures writer.new ≡ next_count (W.device.failures writer.old)) }
-    ensures memory { IfMemory result (IfSome (R.left reader.old) (IsFirstOut read_line print_line W.device writer.old writer.new)) }
+    ensures read { IfRunRead result (writer.new ≡ writer.old) }
+    ensures read_count { IfRunRead result (R.failures reader.new ≡ next_count (R.failures reader.old)) }
+    ensures write { IfRunWrite result (IfSome (R.left reader.old) (IsSomeOut read_line print_line W.device writer.old writer.new)) }
+    ensures write_count { IfRunWrite result (W.device.failures writer.new ≡ next_count (W.device.failures writer.old)) }
+    ensures memory { IfRunMemory result (IfSome (R.left reader.old) (IsFirstOut read_line print_line W.device writer.old writer.new)) }
 {
     match read_all(alloc, reader) {
         Ok(bytes) => answer_all::<Decimal<18>, W>(alloc, &bytes, writer),
@@ -66,10 +66,10 @@ fn answer_all<T: WktNum, W: ByteSink>(
     writer: &mut W,
 ) -> Result<(), RunError>
     ensures ok { OnOk result (IsAllOut T.read T.num W.device writer.old writer.new input.now) }
-    ensures write { IfWrite result (IsSomeOut T.read T.num W.device writer.old writer.new input.now) }
-    ensures write_count { IfWrite result (W.device.failures writer.new ≡ next_count (W.device.failures writer.old)) }
-    ensures memory { IfMemory result (IsFirstOut T.read T.num W.device writer.old writer.new input.now) }
-    ensures read { IfRead result ⊥ }
+    ensures write { IfRunWrite result (IsSomeOut T.read T.num W.device writer.old writer.new input.now) }
+    ensures write_count { IfRunWrite result (W.device.failures writer.new ≡ next_count (W.device.failures writer.old)) }
+    ensures memory { IfRunMemory result (IsFirstOut T.read T.num W.device writer.old writer.new input.now) }
+    ensures read { IfRunRead result ⊥ }
 {
     let mut wrapper = WriterWrapper::new(writer);
     let answer = answer_lines::<T, &mut W>(alloc, input, &mut wrapper);
@@ -85,12 +85,12 @@ fn answer_lines<T: WktNum, W: ByteSink>(
 ) -> Result<(), RunError>
     requires well { is_well wrapper.old ≡ true }
     requires held { held_bytes wrapper.old ≡ [] }
-    ensures ok { OnOk result (IsAllOut T.read T.num W.device (writer_of wrapper.old) (writer_of wrapper.new) input.now) }
-    ensures write { IfWrite result (IsSomeOut T.read T.num W.device (writer_of wrapper.old) (writer_of wrapper.new) input.now) }
-    ensures write_count { IfWrite result (W.device.failures (writer_of wrapper.new) ≡ next_count (W.device.failures (writer_of wrapper.old))) }
-    ensures memory { IfMemory result (IsFirstOut T.read T.num W.device (writer_of wrapper.old) (writer_of wrapper.new) input.now) }
-    ensures read { IfRead result ⊥ }
-    ensures keeps { W.device.keeps (writer_of wrapper.old) (writer_of wrapper.new) }
+    ensures ok { OnOk result (IsAllOut T.read T.num W.device (wrapped_writer wrapper.old) (wrapped_writer wrapper.new) input.now) }
+    ensures write { IfRunWrite result (IsSomeOut T.read T.num W.device (wrapped_writer wrapper.old) (wrapped_writer wrapper.new) input.now) }
+    ensures write_count { IfRunWrite result (W.device.failures (wrapped_writer wrapper.new) ≡ next_count (W.device.failures (wrapped_writer wrapper.old))) }
+    ensures memory { IfRunMemory result (IsFirstOut T.read T.num W.device (wrapped_writer wrapper.old) (wrapped_writer wrapper.new) input.now) }
+    ensures read { IfRunRead result ⊥ }
+    ensures keeps { W.device.keeps (wrapped_writer wrapper.old) (wrapped_writer wrapper.new) }
 {
     let mut rest = input;
     'lines: while !rest.is_empty() {
@@ -158,15 +158,15 @@ fn answer_line<T: WktNum, W: ByteSink>(
 ) -> Result<(), RunError>
     requires well { is_well wrapper.old ≡ true }
     requires held { held_bytes wrapper.old ≡ [] }
-    ensures ok { OnOk result (IsLineOut T.read T.num W.device (writer_of wrapper.old) (writer_of wrapper.new) line.now) }
+    ensures ok { OnOk result (IsLineOut T.read T.num W.device (wrapped_writer wrapper.old) (wrapped_writer wrapper.new) line.now) }
     ensures well { OnOk result (is_well wrapper.new ≡ true) }
     ensures held { OnOk result (held_bytes wrapper.new ≡ []) }
-    ensures count { OnOk result (W.device.failures (writer_of wrapper.new) ≡ W.device.failures (writer_of wrapper.old)) }
-    ensures write { IfWrite result (IsLinePartOut T.read T.num W.device (writer_of wrapper.old) (writer_of wrapper.new) line.now) }
-    ensures write_count { IfWrite result (W.device.failures (writer_of wrapper.new) ≡ next_count (W.device.failures (writer_of wrapper.old))) }
-    ensures memory { IfMemory result (wrapper.new ≡ wrapper.old) }
-    ensures read { IfRead result ⊥ }
-    ensures keeps { W.device.keeps (writer_of wrapper.old) (writer_of wrapper.new) }
+    ensures count { OnOk result (W.device.failures (wrapped_writer wrapper.new) ≡ W.device.failures (wrapped_writer wrapper.old)) }
+    ensures write { IfRunWrite result (IsLinePartOut T.read T.num W.device (wrapped_writer wrapper.old) (wrapped_writer wrapper.new) line.now) }
+    ensures write_count { IfRunWrite result (W.device.failures (wrapped_writer wrapper.new) ≡ next_count (W.device.failures (wrapped_writer wrapper.old))) }
+    ensures memory { IfRunMemory result (wrapper.new ≡ wrapper.old) }
+    ensures read { IfRunRead result ⊥ }
+    ensures keeps { W.device.keeps (wrapped_writer wrapper.old) (wrapped_writer wrapper.new) }
 {
     match write_answer::<T, WriterWrapper<W>>(alloc, line, wrapper) {
         Err(AnswerError::Memory(e)) => Err(RunError::Memory(e)),
@@ -193,7 +193,7 @@ fn end_line<W: ByteSink>(wrapper: &mut WriterWrapper<W>) -> fmt::Result
 /// The fault that a wrapper met.
 fn fault_of<W: ByteSink>(wrapper: &mut WriterWrapper<W>) -> io::Error
     requires { is_untold wrapper.old ≡ true }
-    ensures { writer_of wrapper.new ≡ writer_of wrapper.old }
+    ensures { wrapped_writer wrapper.new ≡ wrapped_writer wrapper.old }
 {
     match wrapper.take_fault() {
         Some(e) => e,

@@ -46,12 +46,12 @@ Moves s (Some l) t =
     × (end_of t ≤ taken_of t) × (taken_of t ≤ end_of t + 1) × (taken_of s ≤ taken_of t)
 
 -- One call of `next`: one step, and the item says which lexeme it took.
-abbrev pub Gives : {T : Type 0} → (List ℕ → Option T) → PeekableTokens T → Option (Result (Token T) (Bor (List ℕ))) → PeekableTokens T → Type 0
-Gives read s r t = (l : Option Lexeme) × Moves s l t × IsItem read l r
+abbrev pub GivesAhead : {T : Type 0} → (List ℕ → Option T) → PeekableTokens T → Option (Result (Token T) (Bor (List ℕ))) → PeekableTokens T → Type 0
+GivesAhead read s r t = (l : Option Lexeme) × Moves s l t × IsItem read l r
 
 -- each item takes one lexeme
-abbrev pub count : {T : Type 0} → PeekableTokens T → Count
-count s = at_most (length (left s))
+abbrev pub count_ahead : {T : Type 0} → PeekableTokens T → Count
+count_ahead s = at_most (length (left s))
 
 -- the first of these lexemes, if there is one
 abbrev pub first_of : List Placed → Option Lexeme

@@ -35,12 +35,12 @@ with_byte b None = None
 with_byte b (Some c) = Some (record { header = b ∷ c.header; by_empty = c.by_empty })
 
 -- The header of a text, if it has a `(` or EMPTY, in whatever case.
-unfoldable pub header_of : List ℕ → Option Cut
-header_of [] = None
-header_of (b ∷ t) =
+unfoldable pub header_cut : List ℕ → Option Cut
+header_cut [] = None
+header_cut (b ∷ t) =
     cond (b == 40) (Some (record { header = []; by_empty = false }))
     (cond (begins (codes "EMPTY") (str_to_ascii_uppercase (b ∷ t))) (Some (record { header = []; by_empty = true }))
-    (with_byte b (header_of t)))
+    (with_byte b (header_cut t)))
 
 -- Whether a space, LF, CR or TAB is there.
 abbrev pub has_space : List ℕ → Bool
@@ -70,4 +70,4 @@ cut_answer (Some c) =
 
 -- The header rule: white space of Unicode at the start is dropped, and the header of the rest gives the answer.
 unfoldable pub header_rule : List ℕ → HeaderAnswer
-header_rule text = cut_answer (header_of (trim_start text))
+header_rule text = cut_answer (header_cut (trim_start text))

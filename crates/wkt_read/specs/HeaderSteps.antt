@@ -4,12 +4,12 @@ use Rattle.std.specs.Borrow.{Bor}
 use Rattle.std.specs.Str.{str_to_ascii_uppercase}
 use Rattle.wkt_types.specs.declared.geometry_type.GeometryType.{GeometryType}
 use Rattle.wkt_read.specs.Grammar.{kind_words}
-use Rattle.wkt_read.specs.Header.{HeaderAnswer, begins, header_of, cut_answer, named_in}
+use Rattle.wkt_read.specs.Header.{HeaderAnswer, begins, header_cut, cut_answer, named_in}
 
 -- The header has this length, and EMPTY is after it or not; an ASCII byte is after it.
 abbrev pub EndsHeader : Option (ℕ × Bool) → List ℕ → Type 0
-EndsHeader None text = header_of text ≡ None
-EndsHeader (Some e) text = (header_of text ≡ Some (record { header = take e.0 text; by_empty = e.1 })) × (e.0 < length text) × (get_or text e.0 0 < 128)
+EndsHeader None text = header_cut text ≡ None
+EndsHeader (Some e) text = (header_cut text ≡ Some (record { header = take e.0 text; by_empty = e.1 })) × (e.0 < length text) × (get_or text e.0 0 < 128)
 
 -- The text begins with the word, and this follows it, or it doesn't.
 abbrev pub Strips : Option (Bor (List ℕ)) → List ℕ → List ℕ → Type 0

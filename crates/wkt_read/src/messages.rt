@@ -1,6 +1,6 @@
 //! The thirteen messages, and the errors of the readers of parts.
 ghost use Rattle.std.specs.Prelude.{◌≡◌};
-ghost use Rattle.wkt_read.specs.Messages.{text_of};
+ghost use Rattle.wkt_read.specs.Messages.{message_text};
 
 use std::alloc::{AllocError, AllocFailed};
 
@@ -23,7 +23,7 @@ pub(crate) enum Message {
 }
 
 pub(crate) fn text(message: Message) -> &'static str
-    ensures { result.now ≡ text_of message }
+    ensures { result.now ≡ message_text message }
 {
     match message {
         Message::BadNumber => "Unable to parse input number as the desired output type",
@@ -60,9 +60,9 @@ impl From<Message> for ParseError {
 }
 
 impl<V: Drop> From<AllocFailed<V>> for ParseError {
-    ghost use Rattle.wkt_read.specs.Parser.Errors.{IsMemory};
+    ghost use Rattle.wkt_read.specs.Parser.Errors.{IsParseMemory};
 
-    ghost from_gives = { λ _ e. IsMemory e };
+    ghost from_gives = { λ _ e. IsParseMemory e };
 
     fn from(failed: AllocFailed<V>) -> Self {
         ParseError::Memory(AllocError::from(failed))

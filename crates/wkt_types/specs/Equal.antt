@@ -2,16 +2,16 @@
 use Rattle.std.specs.Prelude.{Bool, ◌&&◌, Option}
 use Rattle.std.proofs.Common.{ap, ◌∙◌}
 use Rattle.wkt_types.specs.Held.{Held, HeldPoint}
-use Rattle.wkt_flat.specs.Exact.{IsExact, both, both_true}
+use Rattle.wkt_flat.specs.Exact.{IsExact, both, and_true}
 use Rattle.wkt_types.specs.Exact.{option_eq, option_exact, held_eq, held_exact, held_point_eq, held_point_exact}
 use Rattle.wkt_types.specs.declared.coord.Coord.{Coord}
 
 -- Two coordinates are the same by a test of their numbers.
-abbrev pub coord_eq : {T : Type 0} → (T → T → Bool) → Coord T → Coord T → Bool
-coord_eq E a b = E a.x b.x && (E a.y b.y && (option_eq E a.z b.z && option_eq E a.m b.m))
+abbrev pub wkt_coord_eq : {T : Type 0} → (T → T → Bool) → Coord T → Coord T → Bool
+wkt_coord_eq E a b = E a.x b.x && (E a.y b.y && (option_eq E a.z b.z && option_eq E a.m b.m))
 
-pub coord_exact : {T : Type 0} {E : T → T → Bool} → IsExact E → IsExact (coord_eq E)
-coord_exact {T} {E} e = record {
+pub wkt_coord_exact : {T : Type 0} {E : T → T → Bool} → IsExact E → IsExact (wkt_coord_eq E)
+wkt_coord_exact {T} {E} e = record {
   only = λ a b h.
       let p = both _ _ h in
       let q = both _ _ p.1 in
@@ -22,24 +22,24 @@ coord_exact {T} {E} e = record {
       let m = (option_exact e).only a.m b.m r.1 in
       let make : T → T → Option T → Option T → Coord T = λ x y z m. record { x = x; y = y; z = z; m = m } in
       ap (λ w. make w a.y a.z a.m) x ∙ (ap (λ w. make b.x w a.z a.m) y ∙ (ap (λ w. make b.x b.y w a.m) z ∙ ap (λ w. make b.x b.y b.z w) m));
-  each = λ a. both_true (e.each a.x) (both_true (e.each a.y) (both_true ((option_exact e).each a.z) ((option_exact e).each a.m)));
+  each = λ a. and_true (e.each a.x) (and_true (e.each a.y) (and_true ((option_exact e).each a.z) ((option_exact e).each a.m)));
 }
 
 -- Two points, lines or polygons are the same by a test of their numbers.
-abbrev pub point_eq : {T : Type 0} → (T → T → Bool) → HeldPoint (Coord T) → HeldPoint (Coord T) → Bool
-point_eq E = held_point_eq (coord_eq E)
+abbrev pub wkt_point_eq : {T : Type 0} → (T → T → Bool) → HeldPoint (Coord T) → HeldPoint (Coord T) → Bool
+wkt_point_eq E = held_point_eq (wkt_coord_eq E)
 
-abbrev pub line_eq : {T : Type 0} → (T → T → Bool) → Held (Coord T) → Held (Coord T) → Bool
-line_eq E = held_eq (coord_eq E)
+abbrev pub wkt_line_eq : {T : Type 0} → (T → T → Bool) → Held (Coord T) → Held (Coord T) → Bool
+wkt_line_eq E = held_eq (wkt_coord_eq E)
 
 abbrev pub polygon_eq : {T : Type 0} → (T → T → Bool) → Held (Held (Coord T)) → Held (Held (Coord T)) → Bool
-polygon_eq E = held_eq (line_eq E)
+polygon_eq E = held_eq (wkt_line_eq E)
 
-pub point_exact : {T : Type 0} {E : T → T → Bool} → IsExact E → IsExact (point_eq E)
-point_exact e = held_point_exact (coord_exact e)
+pub wkt_point_exact : {T : Type 0} {E : T → T → Bool} → IsExact E → IsExact (wkt_point_eq E)
+wkt_point_exact e = held_point_exact (wkt_coord_exact e)
 
-pub line_exact : {T : Type 0} {E : T → T → Bool} → IsExact E → IsExact (line_eq E)
-line_exact e = held_exact (coord_exact e)
+pub wkt_line_exact : {T : Type 0} {E : T → T → Bool} → IsExact E → IsExact (wkt_line_eq E)
+wkt_line_exact e = held_exact (wkt_coord_exact e)
 
 pub polygon_exact : {T : Type 0} {E : T → T → Bool} → IsExact E → IsExact (polygon_eq E)
-polygon_exact e = held_exact (line_exact e)
+polygon_exact e = held_exact (wkt_line_exact e)

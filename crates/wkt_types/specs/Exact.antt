@@ -4,7 +4,7 @@ use Rattle.std.specs.Cmp.Lexicographic.{pointwise}
 use Rattle.std.proofs.Common.{ap, ◌∙◌}
 use Rattle.wkt_access.specs.declared.dimensions.Dimension.{Dimension}
 use Rattle.wkt_access.specs.declared.dimensions.Dimension.TheVariants.{XY, XYZ, XYM, XYZM}
-use Rattle.wkt_flat.specs.Exact.{IsExact, both, both_true, pointwise_exact}
+use Rattle.wkt_flat.specs.Exact.{IsExact, both, and_true, pointwise_exact}
 use Rattle.wkt_types.specs.Held.{Held, HeldPoint}
 
 -- Two options hold the same, or nothing both.
@@ -63,7 +63,7 @@ held_exact {X} {E} e = record {
       let d = dim_exact.only a.dim b.dim p.1 in
       let make : List X → Dimension → Held X = λ c d. record { parts = c; dim = d } in
       ap (λ c. make c a.dim) x ∙ ap (λ d. make b.parts d) d;
-  each = λ a. both_true ((pointwise_exact e).each a.parts) (dim_exact.each a.dim);
+  each = λ a. and_true ((pointwise_exact e).each a.parts) (dim_exact.each a.dim);
 }
 
 -- The same of points.
@@ -78,5 +78,5 @@ held_point_exact {C} {E} e = record {
       let d = dim_exact.only a.dim b.dim p.1 in
       let make : Option C → Dimension → HeldPoint C = λ c d. record { coord = c; dim = d } in
       ap (λ c. make c a.dim) x ∙ ap (λ d. make b.coord d) d;
-  each = λ a. both_true ((option_exact e).each a.coord) (dim_exact.each a.dim);
+  each = λ a. and_true ((option_exact e).each a.coord) (dim_exact.each a.dim);
 }

@@ -9,11 +9,11 @@ use Rattle.wkt_types.specs.Outcome.{Outcome, value, refused, empty_point}
 abbrev pub xy : {T : Type 0} → Coord T → flat_coord.Coord T
 xy c = record { x = c.x; y = c.y }
 
--- The point at a coordinate's x and y.
-abbrev pub at : {T : Type 0} → Coord T → flat_point.Point T
-at c = record { 0 = xy c }
+-- The point xy_point a coordinate's x and y.
+abbrev pub xy_point : {T : Type 0} → Coord T → flat_point.Point T
+xy_point c = record { 0 = xy c }
 
 -- A flat point has a coordinate, so an empty point is a fault.
-abbrev pub point_at : {T : Type 0} → Option (Coord T) → Outcome (flat_point.Point T)
-point_at None = refused empty_point
-point_at (Some c) = value (at c)
+abbrev pub point_or_fault : {T : Type 0} → Option (Coord T) → Outcome (flat_point.Point T)
+point_or_fault None = refused empty_point
+point_or_fault (Some c) = value (xy_point c)

@@ -1,5 +1,5 @@
 -- What a geometry holds.
-use Rattle.std.specs.Prelude.{List, [], ◌∷◌, Option, Some, None}
+use Rattle.std.specs.Prelude.{◌≡◌, List, [], ◌∷◌, Option, Some, None, MatchOption}
 use Rattle.wkt_access.specs.declared.dimensions.Dimension.{Dimension}
 
 -- Parts in order, and the dimension of the header.
@@ -20,3 +20,7 @@ pub record HeldPoint (C : Type 0) : Type 0 where
 abbrev pub first_dim : {X : Type 0} → (X → Dimension) → List X → Option Dimension
 first_dim f [] = None
 first_dim f (x ∷ xs) = Some (f x)
+
+-- What is made of a list of parts: nothing of an empty one, and else those parts, with the first one's dimension.
+abbrev pub IsMadeOf : {X : Type 0} → (X → Dimension) → List X → Option (Held X) → Type 0
+IsMadeOf f xs o = MatchOption o (xs ≡ []) (λ h. (h.parts ≡ xs) × (Some h.dim ≡ first_dim f xs))

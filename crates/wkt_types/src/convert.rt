@@ -1,7 +1,7 @@
 //! Conversions of coordinates and points to flat ones, and why a conversion is refused.
 ghost use Rattle.std.specs.Prelude.{◌≡◌};
 ghost use Rattle.wkt_types.specs.Outcome.{Answers};
-ghost use Rattle.wkt_types.specs.Flattened.{xy, point_at};
+ghost use Rattle.wkt_types.specs.Flattened.{xy, point_or_fault};
 
 use crate::coord::Coord;
 use crate::point::Point;
@@ -68,7 +68,7 @@ impl<T: Drop> From<Coord<T>> for flat::Coord<T> {
 impl<T: Drop> TryFrom<Point<T>> for flat::Point<T> {
     type Error = ConvertError;
 
-    ghost try_from_gives = { λ p r. Answers (λ q. q) (point_at p.coord) r };
+    ghost try_from_gives = { λ p r. Answers (λ q. q) (point_or_fault p.coord) r };
 
     fn try_from(point: Point<T>) -> Result<Self, ConvertError> {
         match point.into_inner() {

@@ -33,15 +33,15 @@ impl<T> Coord<T> {
 
 impl<T: WktNum> PartialEq for Coord<T> {
     ghost use Rattle.wkt_flat.specs.Exact.{exact_by, exact_per};
-    ghost use Rattle.wkt_types.specs.Equal.{coord_eq, coord_exact};
+    ghost use Rattle.wkt_types.specs.Equal.{wkt_coord_eq, wkt_coord_exact};
 
-    ghost eq = { coord_eq T.eq };
+    ghost eq = { wkt_coord_eq T.eq };
 
-    ghost laws = { exact_per (coord_exact (exact_by T.same)) };
+    ghost laws = { exact_per (wkt_coord_exact (exact_by T.same)) };
 
     /// True exactly if the numbers are equal and the same ones are there.
     fn eq(&self, other: &Self) -> bool
-        ensures eq { result ≡ coord_eq T.eq self.now other.now }
+        ensures eq { result ≡ wkt_coord_eq T.eq self.now other.now }
         ensures exact { IsTrue result ↔ (self.now ≡ other.now) }
     {
         self.x == other.x && self.y == other.y && self.z == other.z && self.m == other.m

@@ -1,5 +1,5 @@
 //! Lines.
-ghost use Rattle.std.specs.Prelude.{◌≡◌, [], IsTrue, ◌↔◌, IfOk, MatchOption, Some};
+ghost use Rattle.std.specs.Prelude.{◌≡◌, [], IsTrue, ◌↔◌, IfOk, Some};
 ghost use Rattle.std.specs.Iterator.{IsFinite};
 ghost use Rattle.std.specs.Iterator.Runs.{WholeRun};
 
@@ -29,7 +29,7 @@ impl<T> Model for LineString<T> {
 
 impl<T> LineString<T> {
     ghost use Rattle.wkt_types.specs.Coords.{coord_dim};
-    ghost use Rattle.wkt_types.specs.Held.{first_dim};
+    ghost use Rattle.wkt_types.specs.Held.{IsMadeOf};
 
     /// A line of those coordinates. Their dimensions aren't compared with the line's.
     pub fn new(coords: Vec<Coord<T>>, dim: Dimension) -> Self
@@ -63,7 +63,7 @@ impl<T> LineString<T> {
         T: Drop,
         requires can { I.can_next coords }
         requires ends { IsFinite (I.remaining coords) }
-        ensures { IfOk result (λ r. WholeRun I.next_gives coords (λ run. MatchOption r (run.items ≡ []) (λ l. (l.parts ≡ run.items) × (Some l.dim ≡ first_dim coord_dim run.items)))) }
+        ensures { IfOk result (λ r. WholeRun I.next_gives coords (λ run. IsMadeOf coord_dim run.items r)) }
     {
         let coords: Vec<Coord<T>> = coords.collect(alloc)?;
         match coords.first() {
@@ -123,16 +123,16 @@ impl<T: Copy + Drop> Part for LineString<T> {
 impl<T: WktNum> PartialEq for LineString<T> {
     ghost use Rattle.wkt_flat.specs.Exact.{exact_by, exact_per};
     ghost use Rattle.wkt_types.specs.Exact.{held_eq, held_exact};
-    ghost use Rattle.wkt_types.specs.Equal.{coord_eq, coord_exact};
+    ghost use Rattle.wkt_types.specs.Equal.{wkt_coord_eq, wkt_coord_exact};
 
-    ghost eq = { held_eq (coord_eq T.eq) };
+    ghost eq = { held_eq (wkt_coord_eq T.eq) };
 
-    ghost laws = { exact_per (held_exact (coord_exact (exact_by T.same))) };
+    ghost laws = { exact_per (held_exact (wkt_coord_exact (exact_by T.same))) };
 
     /// True exactly if coordinates and dimension are equal.
     #[inline(never)]
     fn eq(&self, other: &Self) -> bool
-        ensures eq { result ≡ held_eq (coord_eq T.eq) self.now other.now }
+        ensures eq { result ≡ held_eq (wkt_coord_eq T.eq) self.now other.now }
         ensures exact { IsTrue result ↔ (self.now ≡ other.now) }
     {
         let parts = self.coords.as_slice() == other.coords.as_slice();

@@ -1,5 +1,5 @@
 //! Multipoints.
-ghost use Rattle.std.specs.Prelude.{◌≡◌, [], IsTrue, ◌↔◌, IfOk, MatchOption, Some};
+ghost use Rattle.std.specs.Prelude.{◌≡◌, [], IsTrue, ◌↔◌, IfOk, Some};
 ghost use Rattle.std.specs.Iterator.{IsFinite};
 ghost use Rattle.std.specs.Iterator.Runs.{WholeRun};
 
@@ -28,7 +28,7 @@ impl<T> Model for MultiPoint<T> {
 }
 
 impl<T> MultiPoint<T> {
-    ghost use Rattle.wkt_types.specs.Held.{first_dim};
+    ghost use Rattle.wkt_types.specs.Held.{IsMadeOf};
 
     /// A multipoint of those points. Their dimensions aren't compared with its own.
     pub fn new(points: Vec<Point<T>>, dim: Dimension) -> Self
@@ -62,7 +62,7 @@ impl<T> MultiPoint<T> {
         T: Drop,
         requires can { I.can_next points }
         requires ends { IsFinite (I.remaining points) }
-        ensures { IfOk result (λ r. WholeRun I.next_gives points (λ run. MatchOption r (run.items ≡ []) (λ x. (x.parts ≡ run.items) × (Some x.dim ≡ first_dim (λ x. x.dim) run.items)))) }
+        ensures { IfOk result (λ r. WholeRun I.next_gives points (λ run. IsMadeOf (λ x. x.dim) run.items r)) }
     {
         let points: Vec<Point<T>> = points.collect(alloc)?;
         match points.first() {
@@ -122,16 +122,16 @@ impl<T: Copy + Drop> Part for MultiPoint<T> {
 impl<T: WktNum> PartialEq for MultiPoint<T> {
     ghost use Rattle.wkt_flat.specs.Exact.{exact_by, exact_per};
     ghost use Rattle.wkt_types.specs.Exact.{held_eq, held_exact};
-    ghost use Rattle.wkt_types.specs.Equal.{point_eq, point_exact};
+    ghost use Rattle.wkt_types.specs.Equal.{wkt_point_eq, wkt_point_exact};
 
-    ghost eq = { held_eq (point_eq T.eq) };
+    ghost eq = { held_eq (wkt_point_eq T.eq) };
 
-    ghost laws = { exact_per (held_exact (point_exact (exact_by T.same))) };
+    ghost laws = { exact_per (held_exact (wkt_point_exact (exact_by T.same))) };
 
     /// True exactly if points and dimension are equal.
     #[inline(never)]
     fn eq(&self, other: &Self) -> bool
-        ensures eq { result ≡ held_eq (point_eq T.eq) self.now other.now }
+        ensures eq { result ≡ held_eq (wkt_point_eq T.eq) self.now other.now }
         ensures exact { IsTrue result ↔ (self.now ≡ other.now) }
     {
         let parts = self.points.as_slice() == other.points.as_slice();

@@ -1,5 +1,5 @@
 //! Multipolygons.
-ghost use Rattle.std.specs.Prelude.{◌≡◌, [], IsTrue, ◌↔◌, IfOk, MatchOption, Some};
+ghost use Rattle.std.specs.Prelude.{◌≡◌, [], IsTrue, ◌↔◌, IfOk, Some};
 ghost use Rattle.std.specs.Iterator.{IsFinite};
 ghost use Rattle.std.specs.Iterator.Runs.{WholeRun};
 
@@ -28,7 +28,7 @@ impl<T> Model for MultiPolygon<T> {
 }
 
 impl<T> MultiPolygon<T> {
-    ghost use Rattle.wkt_types.specs.Held.{first_dim};
+    ghost use Rattle.wkt_types.specs.Held.{IsMadeOf};
 
     /// A multipolygon of those polygons. Their dimensions aren't compared with its own.
     pub fn new(polygons: Vec<Polygon<T>>, dim: Dimension) -> Self
@@ -62,7 +62,7 @@ impl<T> MultiPolygon<T> {
         T: Drop,
         requires can { I.can_next polygons }
         requires ends { IsFinite (I.remaining polygons) }
-        ensures { IfOk result (λ r. WholeRun I.next_gives polygons (λ run. MatchOption r (run.items ≡ []) (λ x. (x.parts ≡ run.items) × (Some x.dim ≡ first_dim (λ x. x.dim) run.items)))) }
+        ensures { IfOk result (λ r. WholeRun I.next_gives polygons (λ run. IsMadeOf (λ x. x.dim) run.items r)) }
     {
         let polygons: Vec<Polygon<T>> = polygons.collect(alloc)?;
         match polygons.first() {

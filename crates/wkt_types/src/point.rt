@@ -96,16 +96,16 @@ impl<T: Default> Default for Point<T> {
 impl<T: WktNum> PartialEq for Point<T> {
     ghost use Rattle.wkt_flat.specs.Exact.{exact_by, exact_per};
     ghost use Rattle.wkt_types.specs.Exact.{held_point_eq, held_point_exact};
-    ghost use Rattle.wkt_types.specs.Equal.{coord_eq, coord_exact};
+    ghost use Rattle.wkt_types.specs.Equal.{wkt_coord_eq, wkt_coord_exact};
 
-    ghost eq = { held_point_eq (coord_eq T.eq) };
+    ghost eq = { held_point_eq (wkt_coord_eq T.eq) };
 
-    ghost laws = { exact_per (held_point_exact (coord_exact (exact_by T.same))) };
+    ghost laws = { exact_per (held_point_exact (wkt_coord_exact (exact_by T.same))) };
 
     /// True exactly if coordinate and dimension are equal.
     #[inline(never)]
     fn eq(&self, other: &Self) -> bool
-        ensures eq { result ≡ held_point_eq (coord_eq T.eq) self.now other.now }
+        ensures eq { result ≡ held_point_eq (wkt_coord_eq T.eq) self.now other.now }
         ensures exact { IsTrue result ↔ (self.now ≡ other.now) }
     {
         and_same(self.coord == other.coord, self.dim, other.dim)

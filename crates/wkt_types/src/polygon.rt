@@ -1,5 +1,5 @@
 //! Polygons.
-ghost use Rattle.std.specs.Prelude.{◌≡◌, [], IsTrue, ◌↔◌, IfOk, MatchOption, Some};
+ghost use Rattle.std.specs.Prelude.{◌≡◌, [], IsTrue, ◌↔◌, IfOk, Some};
 ghost use Rattle.std.specs.Iterator.{IsFinite};
 ghost use Rattle.std.specs.Iterator.Runs.{WholeRun};
 
@@ -28,7 +28,7 @@ impl<T> Model for Polygon<T> {
 }
 
 impl<T> Polygon<T> {
-    ghost use Rattle.wkt_types.specs.Held.{first_dim};
+    ghost use Rattle.wkt_types.specs.Held.{IsMadeOf};
 
     /// A polygon of those rings. Their dimensions aren't compared with its own.
     pub fn new(rings: Vec<LineString<T>>, dim: Dimension) -> Self
@@ -62,7 +62,7 @@ impl<T> Polygon<T> {
         T: Drop,
         requires can { I.can_next rings }
         requires ends { IsFinite (I.remaining rings) }
-        ensures { IfOk result (λ r. WholeRun I.next_gives rings (λ run. MatchOption r (run.items ≡ []) (λ x. (x.parts ≡ run.items) × (Some x.dim ≡ first_dim (λ x. x.dim) run.items)))) }
+        ensures { IfOk result (λ r. WholeRun I.next_gives rings (λ run. IsMadeOf (λ x. x.dim) run.items r)) }
     {
         let rings: Vec<LineString<T>> = rings.collect(alloc)?;
         match rings.first() {
@@ -122,16 +122,16 @@ impl<T: Copy + Drop> Part for Polygon<T> {
 impl<T: WktNum> PartialEq for Polygon<T> {
     ghost use Rattle.wkt_flat.specs.Exact.{exact_by, exact_per};
     ghost use Rattle.wkt_types.specs.Exact.{held_eq, held_exact};
-    ghost use Rattle.wkt_types.specs.Equal.{line_eq, line_exact};
+    ghost use Rattle.wkt_types.specs.Equal.{wkt_line_eq, wkt_line_exact};
 
-    ghost eq = { held_eq (line_eq T.eq) };
+    ghost eq = { held_eq (wkt_line_eq T.eq) };
 
-    ghost laws = { exact_per (held_exact (line_exact (exact_by T.same))) };
+    ghost laws = { exact_per (held_exact (wkt_line_exact (exact_by T.same))) };
 
     /// True exactly if rings and dimension are equal.
     #[inline(never)]
     fn eq(&self, other: &Self) -> bool
-        ensures eq { result ≡ held_eq (line_eq T.eq) self.now other.now }
+        ensures eq { result ≡ held_eq (wkt_line_eq T.eq) self.now other.now }
         ensures exact { IsTrue result ↔ (self.now ≡ other.now) }
     {
         let parts = self.rings.as_slice() == other.rings.as_slice();

@@ -1,5 +1,5 @@
 //! A key for a table: the one text of a geometry, which reads back as the geometry.
-ghost use Rattle.std.specs.Prelude.{◌≡◌, IfOk, OnOk, Some, None, length, string_bytes};
+ghost use Rattle.std.specs.Prelude.{◌≡◌, IfOk, Some, length, string_bytes};
 ghost use Rattle.wkt_access.specs.Shapes.{canon};
 ghost use Rattle.wkt_access.specs.Faults.{fault};
 ghost use Rattle.wkt_access.specs.Texts.{shape_text};

@@ -4,6 +4,7 @@ use Rattle.std.specs.List.{AllByRecursion}
 use Rattle.wkt_access.specs.declared.error.Error.{Error}
 use Rattle.wkt_access.specs.Shapes.{Shape, Shapes, PolygonShape, dimension, rings_of}
 use Rattle.wkt_access.specs.Values.{size}
+use Rattle.wkt_access.specs.Faults.{fault}
 
 -- Nothing was found, and what else is known then.
 pub record Clear (found : Option Error) (P : Type 0) : Type 0 where
@@ -57,3 +58,7 @@ module _ {N : Type 0} (is_value : N → Type 0) where
     pub AllKnown : Shapes N → Type 0
     AllKnown Shapes.no_shapes = Unit {0}
     AllKnown (Shapes.more_shapes g gs) = Known g × AllKnown gs
+
+-- What a call answers that looks for the fault of a shape: where there is none, its numbers are known.
+abbrev pub ChecksShape : {T N : Type 0} → (N → Type 0) → Result T Error → Shape N → Type 0
+ChecksShape is_value r s = Checks r (fault s) (Known is_value s)

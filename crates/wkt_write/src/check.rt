@@ -1,10 +1,10 @@
 //! Looks for the first refusal in the order of the text.
 #![tactic(auto, using(crate::proofs::Firsts::clean_start, crate::proofs::Firsts::clean_more, crate::proofs::Firsts::clean_fault, crate::proofs::Firsts::clean_end))]
 
-ghost use Rattle.std.specs.Prelude.{◌≡◌, ℕ, ◌≤◌, List, length, Some, None, Option, IfOk, IfErr};
+ghost use Rattle.std.specs.Prelude.{◌≡◌, ℕ, Some, None, Option, IfOk, IfErr};
 ghost use Rattle.wkt_access.specs.Faults.{coordinate_fault, coordinates_fault, point_fault, polygon_fault, first_fault, fault, under};
 ghost use Rattle.std.specs.List.{AllByRecursion};
-ghost use Rattle.wkt_write.specs.Known.{Checks, KnownCoord, KnownCoords, KnownLineStrings, KnownPoint, KnownPolygon, KnownRectCorner, Known};
+ghost use Rattle.wkt_write.specs.Known.{Checks, ChecksShape, KnownCoord, KnownCoords, KnownLineStrings, KnownPoint, KnownPolygon, KnownRectCorner, Known};
 ghost use Rattle.wkt_access.specs.Parts.{collection_of};
 ghost use Rattle.wkt_access.specs.Shapes.{Shape, printed, dimension};
 ghost use Rattle.wkt_access.specs.Values.{size};
@@ -163,7 +163,7 @@ fn check_header(d: Dimensions) -> Result<usize, Error>
 }
 
 pub(crate) fn check_point<P: PointTrait>(p: &P) -> Result<(), Error>
-    ensures { Checks result (fault (Shape.point (P.dimension p.now) (P.coordinate p.now))) (Known P.T.is_value (Shape.point (P.dimension p.now) (P.coordinate p.now))) }
+    ensures { ChecksShape P.T.is_value result (Shape.point (P.dimension p.now) (P.coordinate p.now)) }
 {
     let k = check_header(p.dim())?;
     check_point_coord(p, k)
@@ -171,7 +171,7 @@ pub(crate) fn check_point<P: PointTrait>(p: &P) -> Result<(), Error>
 
 #[inline(never)]
 pub(crate) fn check_linestring<L: LineStringTrait>(l: &L) -> Result<(), Error>
-    ensures { Checks result (fault (Shape.line_string (L.dimension l.now) (L.coordinates l.now))) (Known L.T.is_value (Shape.line_string (L.dimension l.now) (L.coordinates l.now))) }
+    ensures { ChecksShape L.T.is_value result (Shape.line_string (L.dimension l.now) (L.coordinates l.now)) }
 {
     let k = check_header(l.dim())?;
     check_coords(l, k)
@@ -179,7 +179,7 @@ pub(crate) fn check_linestring<L: LineStringTrait>(l: &L) -> Result<(), Error>
 
 #[inline(never)]
 pub(crate) fn check_polygon<Y: PolygonTrait>(y: &Y) -> Result<(), Error>
-    ensures { Checks result (fault (Shape.polygon (Y.dimension y.now) (Y.polygon y.now))) (Known Y.T.is_value (Shape.polygon (Y.dimension y.now) (Y.polygon y.now))) }
+    ensures { ChecksShape Y.T.is_value result (Shape.polygon (Y.dimension y.now) (Y.polygon y.now)) }
 {
     let k = check_header(y.dim())?;
     check_rings(y, k)
@@ -187,7 +187,7 @@ pub(crate) fn check_polygon<Y: PolygonTrait>(y: &Y) -> Result<(), Error>
 
 #[inline(never)]
 pub(crate) fn check_multi_point<M: MultiPointTrait>(m: &M) -> Result<(), Error>
-    ensures { Checks result (fault (Shape.multi_point (M.dimension m.now) (M.points m.now))) (Known M.T.is_value (Shape.multi_point (M.dimension m.now) (M.points m.now))) }
+    ensures { ChecksShape M.T.is_value result (Shape.multi_point (M.dimension m.now) (M.points m.now)) }
 {
     let k = check_header(m.dim())?;
     check_points(m, k)
@@ -195,7 +195,7 @@ pub(crate) fn check_multi_point<M: MultiPointTrait>(m: &M) -> Result<(), Error>
 
 #[inline(never)]
 pub(crate) fn check_multi_linestring<M: MultiLineStringTrait>(m: &M) -> Result<(), Error>
-    ensures { Checks result (fault (Shape.multi_line_string (M.dimension m.now) (M.line_strings m.now))) (Known M.T.is_value (Shape.multi_line_string (M.dimension m.now) (M.line_strings m.now))) }
+    ensures { ChecksShape M.T.is_value result (Shape.multi_line_string (M.dimension m.now) (M.line_strings m.now)) }
 {
     let k = check_header(m.dim())?;
     check_linestrings(m, k)
@@ -203,7 +203,7 @@ pub(crate) fn check_multi_linestring<M: MultiLineStringTrait>(m: &M) -> Result<(
 
 #[inline(never)]
 pub(crate) fn check_multi_polygon<M: MultiPolygonTrait>(m: &M) -> Result<(), Error>
-    ensures { Checks result (fault (Shape.multi_polygon (M.dimension m.now) (M.polygons m.now))) (Known M.T.is_value (Shape.multi_polygon (M.dimension m.now) (M.polygons m.now))) }
+    ensures { ChecksShape M.T.is_value result (Shape.multi_polygon (M.dimension m.now) (M.polygons m.now)) }
 {
     let k = check_header(m.dim())?;
     check_polygons(m, k)
@@ -220,7 +220,7 @@ fn know_rect_corner<C: CoordTrait>(c: &C)
 
 #[inline(never)]
 pub(crate) fn check_rect<R: RectTrait>(r: &R) -> Result<(), Error>
-    ensures { Checks result (fault (Shape.rect (R.dimension r.now) (R.least_corner r.now) (R.greatest_corner r.now))) (Known R.T.is_value (Shape.rect (R.dimension r.now) (R.least_corner r.now) (R.greatest_corner r.now))) }
+    ensures { ChecksShape R.T.is_value result (Shape.rect (R.dimension r.now) (R.least_corner r.now) (R.greatest_corner r.now)) }
 {
     know_rect_corner(r.min());
     know_rect_corner(r.max());
@@ -232,7 +232,7 @@ pub(crate) fn check_rect<R: RectTrait>(r: &R) -> Result<(), Error>
 
 #[inline(never)]
 pub(crate) fn check_line<L: LineTrait>(l: &L) -> Result<(), Error>
-    ensures { Checks result (fault (Shape.line (L.dimension l.now) (L.from l.now) (L.to l.now))) (Known L.T.is_value (Shape.line (L.dimension l.now) (L.from l.now) (L.to l.now))) }
+    ensures { ChecksShape L.T.is_value result (Shape.line (L.dimension l.now) (L.from l.now) (L.to l.now)) }
 {
     let k = check_header(l.dim())?;
     check_coord(l.start(), k)?;
@@ -241,7 +241,7 @@ pub(crate) fn check_line<L: LineTrait>(l: &L) -> Result<(), Error>
 
 #[inline(never)]
 pub(crate) fn check_triangle<Y: TriangleTrait>(y: &Y) -> Result<(), Error>
-    ensures { Checks result (fault (Shape.triangle (Y.dimension y.now) (Y.first_corner y.now) (Y.second_corner y.now) (Y.third_corner y.now))) (Known Y.T.is_value (Shape.triangle (Y.dimension y.now) (Y.first_corner y.now) (Y.second_corner y.now) (Y.third_corner y.now))) }
+    ensures { ChecksShape Y.T.is_value result (Shape.triangle (Y.dimension y.now) (Y.first_corner y.now) (Y.second_corner y.now) (Y.third_corner y.now)) }
 {
     let k = check_header(y.dim())?;
     check_coord(y.first(), k)?;
@@ -250,7 +250,7 @@ pub(crate) fn check_triangle<Y: TriangleTrait>(y: &Y) -> Result<(), Error>
 }
 
 pub(crate) fn check_geometry<G: GeometryTrait>(g: &G) -> Result<(), Error>
-    ensures { Checks result (fault (G.shape g.now)) (Known G.T.is_value (G.shape g.now)) }
+    ensures { ChecksShape G.T.is_value result (G.shape g.now) }
 {
     match g.as_type() {
         GeometryType::Point(p) => check_point(p),
@@ -284,7 +284,7 @@ fn check_members<C: GeometryCollectionTrait>(c: &C) -> Result<(), Error>
 
 pub(crate) fn check_collection<C: GeometryCollectionTrait>(c: &C) -> Result<(), Error>
     ensures members { IfOk result (λ _. first_fault fault (C.geometries c.now) ≡ None) }
-    ensures collection { Checks result (fault (collection_of (C.dimension c.now) (C.geometries c.now))) (Known C.T.is_value (collection_of (C.dimension c.now) (C.geometries c.now))) }
+    ensures collection { ChecksShape C.T.is_value result (collection_of (C.dimension c.now) (C.geometries c.now)) }
 {
     check_header(c.dim())?;
     check_members(c)

@@ -3,7 +3,7 @@ use Rattle.std.proofs.Common.{◌≡◌, ◌≢◌, ℕ, ◌<◌, List, [], ◌�
 use Rattle.std.proofs.Math.Seq.{take-append_seam, drop-append_seam, get_or-append_seam}
 use Rattle.std.proofs.lemmas.Str.{IsUtf8-past_char, IsUtf8-take, IsUtf8-drop, encode_ascii, IsUtf8-nil, IsUtf8-encode}
 use Rattle.wkt_num.specs.Bytes.{Lexeme, Open, Close, Comma, Nul, White, Mark, Run, class_of, AllWhite}
-use Rattle.wkt_read.specs.Lexemes.{IsBoundary, Spells, Takes, AreCharacters}
+use Rattle.wkt_read.specs.Lexemes.{IsBoundary, SpellsLexeme, Takes, AreCharacters}
 use Rattle.wkt_read.proofs.LawLemmas.Headers.{one_of_four}
 
 -- a byte past ASCII is a byte of a run
@@ -42,7 +42,7 @@ seam a (x ∷ b) bd u =
     let cut : IsCharBoundary (a ++ (x ∷ b)) (length a) = (omega (arith, length-append a (x ∷ b)), λ p q. absurd (omega arith)) in
     (rw (take-append_seam a (x ∷ b)) at (IsUtf8-take (a ++ (x ∷ b)) (length a) u cut), rw (drop-append_seam a (x ∷ b)) at (IsUtf8-drop (a ++ (x ∷ b)) (length a) u cut))
 
-pub body_characters : (body after : List ℕ) (l : Lexeme) → Spells body after l → IsUtf8 (body ++ after) → IsUtf8 body × IsUtf8 after
+pub body_characters : (body after : List ℕ) (l : Lexeme) → SpellsLexeme body after l → IsUtf8 (body ++ after) → IsUtf8 body × IsUtf8 after
 body_characters body after l (inl (b, e, h)) u =
     let lt : b < 128 = run_or_ascii b (λ z. let q : Mark l ≡ Run = sym h ∙ z in cc) in
     let u2 : IsUtf8 (b ∷ after) = subst (λ x. IsUtf8 (x ++ after)) e u in

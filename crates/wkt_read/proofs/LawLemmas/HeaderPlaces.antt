@@ -6,7 +6,7 @@ use Rattle.std.proofs.Math.Seq.{drop-cons, drop-length, take-suc}
 use Rattle.std.specs.Prelude.{slice_range}
 use Rattle.std.specs.Str.{str_to_ascii_uppercase}
 use Rattle.std.specs.Char.{to_ascii_uppercase}
-use Rattle.wkt_read.specs.Header.{begins, holds, has_space, with_byte, header_of}
+use Rattle.wkt_read.specs.Header.{begins, holds, has_space, with_byte, header_cut}
 use Rattle.wkt_read.proofs.LawLemmas.Headers.{with_bytes, with_bytes_is, with_bytes_append}
 
 pub upper_at : (text : List ℕ) (i : ℕ) → i < length text → str_to_ascii_uppercase (drop i text) ≡ to_ascii_uppercase (get_or text i 0) ∷ str_to_ascii_uppercase (drop (i + 1) text)
@@ -40,28 +40,28 @@ pub with_bytes_none : (a : List ℕ) → with_bytes a None ≡ None
 with_bytes_none [] = refl
 with_bytes_none (b ∷ a) = ap (with_byte b) (with_bytes_none a)
 
-pub header_at : (text : List ℕ) (i : ℕ) → i < length text → header_of (drop i text) ≡ cond (get_or text i 0 == 40) (Some (record { header = []; by_empty = false })) (cond (begins (codes "EMPTY") (str_to_ascii_uppercase (drop i text))) (Some (record { header = []; by_empty = true })) (with_byte (get_or text i 0) (header_of (drop (i + 1) text))))
-unfolding header_of
+pub header_at : (text : List ℕ) (i : ℕ) → i < length text → header_cut (drop i text) ≡ cond (get_or text i 0 == 40) (Some (record { header = []; by_empty = false })) (cond (begins (codes "EMPTY") (str_to_ascii_uppercase (drop i text))) (Some (record { header = []; by_empty = true })) (with_byte (get_or text i 0) (header_cut (drop (i + 1) text))))
+unfolding header_cut
 header_at text i h =
-    ap header_of (drop-cons text i 0 h)
-    ∙ ap (λ j. cond (get_or text i 0 == 40) (Some (record { header = []; by_empty = false })) (cond (begins (codes "EMPTY") (str_to_ascii_uppercase (get_or text i 0 ∷ drop (suc i) text))) (Some (record { header = []; by_empty = true })) (with_byte (get_or text i 0) (header_of (drop j text))))) (sym (add-one i))
-    ∙ ap (λ l. cond (get_or text i 0 == 40) (Some (record { header = []; by_empty = false })) (cond (begins (codes "EMPTY") (str_to_ascii_uppercase l)) (Some (record { header = []; by_empty = true })) (with_byte (get_or text i 0) (header_of (drop (i + 1) text))))) (sym (drop-cons text i 0 h))
+    ap header_cut (drop-cons text i 0 h)
+    ∙ ap (λ j. cond (get_or text i 0 == 40) (Some (record { header = []; by_empty = false })) (cond (begins (codes "EMPTY") (str_to_ascii_uppercase (get_or text i 0 ∷ drop (suc i) text))) (Some (record { header = []; by_empty = true })) (with_byte (get_or text i 0) (header_cut (drop j text))))) (sym (add-one i))
+    ∙ ap (λ l. cond (get_or text i 0 == 40) (Some (record { header = []; by_empty = false })) (cond (begins (codes "EMPTY") (str_to_ascii_uppercase l)) (Some (record { header = []; by_empty = true })) (with_byte (get_or text i 0) (header_cut (drop (i + 1) text))))) (sym (drop-cons text i 0 h))
 
-pub header_step : (text : List ℕ) (i : ℕ) → i < length text → (get_or text i 0 == 40) ≡ false → begins (codes "EMPTY") (str_to_ascii_uppercase (drop i text)) ≡ false → with_bytes (take i text) (header_of (drop i text)) ≡ with_bytes (take (i + 1) text) (header_of (drop (i + 1) text))
+pub header_step : (text : List ℕ) (i : ℕ) → i < length text → (get_or text i 0 == 40) ≡ false → begins (codes "EMPTY") (str_to_ascii_uppercase (drop i text)) ≡ false → with_bytes (take i text) (header_cut (drop i text)) ≡ with_bytes (take (i + 1) text) (header_cut (drop (i + 1) text))
 header_step text i h shut word =
-    ap (with_bytes (take i text)) (header_at text i h ∙ ap (λ b. cond b (Some (record { header = []; by_empty = false })) (cond (begins (codes "EMPTY") (str_to_ascii_uppercase (drop i text))) (Some (record { header = []; by_empty = true })) (with_byte (get_or text i 0) (header_of (drop (i + 1) text))))) shut ∙ ap (λ b. cond b (Some (record { header = []; by_empty = true })) (with_byte (get_or text i 0) (header_of (drop (i + 1) text)))) word)
-    ∙ sym (with_bytes_append (take i text) (get_or text i 0 ∷ []) (header_of (drop (i + 1) text)))
-    ∙ ap (λ l. with_bytes l (header_of (drop (i + 1) text))) (sym (take-suc text i 0 h) ∙ ap (λ j. take j text) (sym (add-one i)))
+    ap (with_bytes (take i text)) (header_at text i h ∙ ap (λ b. cond b (Some (record { header = []; by_empty = false })) (cond (begins (codes "EMPTY") (str_to_ascii_uppercase (drop i text))) (Some (record { header = []; by_empty = true })) (with_byte (get_or text i 0) (header_cut (drop (i + 1) text))))) shut ∙ ap (λ b. cond b (Some (record { header = []; by_empty = true })) (with_byte (get_or text i 0) (header_cut (drop (i + 1) text)))) word)
+    ∙ sym (with_bytes_append (take i text) (get_or text i 0 ∷ []) (header_cut (drop (i + 1) text)))
+    ∙ ap (λ l. with_bytes l (header_cut (drop (i + 1) text))) (sym (take-suc text i 0 h) ∙ ap (λ j. take j text) (sym (add-one i)))
 
-pub header_paren : (text : List ℕ) (i : ℕ) → i < length text → (get_or text i 0 == 40) ≡ true → with_bytes (take i text) (header_of (drop i text)) ≡ Some (record { header = take i text; by_empty = false })
-header_paren text i h paren = ap (with_bytes (take i text)) (header_at text i h ∙ ap (λ b. cond b (Some (record { header = []; by_empty = false })) (cond (begins (codes "EMPTY") (str_to_ascii_uppercase (drop i text))) (Some (record { header = []; by_empty = true })) (with_byte (get_or text i 0) (header_of (drop (i + 1) text))))) paren) ∙ with_bytes_is (take i text) false
+pub header_paren : (text : List ℕ) (i : ℕ) → i < length text → (get_or text i 0 == 40) ≡ true → with_bytes (take i text) (header_cut (drop i text)) ≡ Some (record { header = take i text; by_empty = false })
+header_paren text i h paren = ap (with_bytes (take i text)) (header_at text i h ∙ ap (λ b. cond b (Some (record { header = []; by_empty = false })) (cond (begins (codes "EMPTY") (str_to_ascii_uppercase (drop i text))) (Some (record { header = []; by_empty = true })) (with_byte (get_or text i 0) (header_cut (drop (i + 1) text))))) paren) ∙ with_bytes_is (take i text) false
 
-pub header_empty : (text : List ℕ) (i : ℕ) → i < length text → (get_or text i 0 == 40) ≡ false → begins (codes "EMPTY") (str_to_ascii_uppercase (drop i text)) ≡ true → with_bytes (take i text) (header_of (drop i text)) ≡ Some (record { header = take i text; by_empty = true })
-header_empty text i h shut word = ap (with_bytes (take i text)) (header_at text i h ∙ ap (λ b. cond b (Some (record { header = []; by_empty = false })) (cond (begins (codes "EMPTY") (str_to_ascii_uppercase (drop i text))) (Some (record { header = []; by_empty = true })) (with_byte (get_or text i 0) (header_of (drop (i + 1) text))))) shut ∙ ap (λ b. cond b (Some (record { header = []; by_empty = true })) (with_byte (get_or text i 0) (header_of (drop (i + 1) text)))) word) ∙ with_bytes_is (take i text) true
+pub header_empty : (text : List ℕ) (i : ℕ) → i < length text → (get_or text i 0 == 40) ≡ false → begins (codes "EMPTY") (str_to_ascii_uppercase (drop i text)) ≡ true → with_bytes (take i text) (header_cut (drop i text)) ≡ Some (record { header = take i text; by_empty = true })
+header_empty text i h shut word = ap (with_bytes (take i text)) (header_at text i h ∙ ap (λ b. cond b (Some (record { header = []; by_empty = false })) (cond (begins (codes "EMPTY") (str_to_ascii_uppercase (drop i text))) (Some (record { header = []; by_empty = true })) (with_byte (get_or text i 0) (header_cut (drop (i + 1) text))))) shut ∙ ap (λ b. cond b (Some (record { header = []; by_empty = true })) (with_byte (get_or text i 0) (header_cut (drop (i + 1) text)))) word) ∙ with_bytes_is (take i text) true
 
-pub header_none : (text : List ℕ) (i : ℕ) → i ≡ length text → with_bytes (take i text) (header_of (drop i text)) ≡ None
-unfolding header_of
-header_none text i e = ap (λ l. with_bytes (take i text) (header_of l)) (ap (λ j. drop j text) e ∙ drop-length text) ∙ with_bytes_none (take i text)
+pub header_none : (text : List ℕ) (i : ℕ) → i ≡ length text → with_bytes (take i text) (header_cut (drop i text)) ≡ None
+unfolding header_cut
+header_none text i e = ap (λ l. with_bytes (take i text) (header_cut l)) (ap (λ j. drop j text) e ∙ drop-length text) ∙ with_bytes_none (take i text)
 
 -- the letter E is ASCII
 upper_ascii : (b : ℕ) → to_ascii_uppercase b ≡ 69 → b < 128

@@ -4,14 +4,14 @@ use Rattle.std.specs.List.{AllByRecursion}
 use Rattle.std.specs.Str.{str_to_ascii_uppercase, trim_start}
 use Rattle.std.specs.Char.{to_ascii_uppercase, is_whitespace}
 use Rattle.wkt_num.specs.Bytes.{Lexeme, Open, Close, Comma, Word, Num, Nul, White, Mark, Run, class_of, AllWhite, IsRun}
-use Rattle.wkt_read.specs.Lexemes.{IsBoundary, starts_number, without_plus, lexeme_of, Spells, Takes}
+use Rattle.wkt_read.specs.Lexemes.{IsBoundary, starts_number, without_plus, lexeme_of, SpellsLexeme, Takes}
 use Rattle.wkt_access.specs.declared.dimensions.Dimension.{Dimension}
 use Rattle.wkt_access.specs.declared.dimensions.Dimension.TheVariants.{XY, XYZ, XYM, XYZM}
 use Rattle.wkt_access.specs.Values.{Value}
 use Rattle.wkt_types.specs.declared.geometry_type.GeometryType.{GeometryType}
 use Rattle.wkt_read.specs.Kinds.{kind_of, dim_of}
 use Rattle.wkt_read.specs.Grammar.{KindWord, entry_in, kind_words, kind_word, dim_word, DimPart, Header}
-use Rattle.wkt_read.specs.Header.{Named, begins, holds, Cut, with_byte, header_of, has_space, named_in, dim_said, cut_answer, header_rule}
+use Rattle.wkt_read.specs.Header.{Named, begins, holds, Cut, with_byte, header_cut, has_space, named_in, dim_said, cut_answer, header_rule}
 use Rattle.std.proofs.lemmas.Slice.Eq.{bytes_eq-Decides}
 use Rattle.std.specs.Str.{chars, encode_utf8_all, skip_leading_whitespace}
 use Rattle.std.specs.Char.{encode_utf8}
@@ -196,11 +196,11 @@ pub with_bytes_append : (a b : List ℕ) (o : Option Cut) → with_bytes (a ++ b
 with_bytes_append [] b o = refl
 with_bytes_append (x ∷ a) b o = ap (with_byte x) (with_bytes_append a b o)
 
-pub header_white : (t : List ℕ) (b : ℕ) → class_of b ≡ White → header_of (b ∷ t) ≡ with_byte b (header_of t)
-unfolding header_of
-header_white t = white_elim (λ b. header_of (b ∷ t) ≡ with_byte b (header_of t)) refl refl refl refl
+pub header_white : (t : List ℕ) (b : ℕ) → class_of b ≡ White → header_cut (b ∷ t) ≡ with_byte b (header_cut t)
+unfolding header_cut
+header_white t = white_elim (λ b. header_cut (b ∷ t) ≡ with_byte b (header_cut t)) refl refl refl refl
 
-pub header_gap : (gap t : List ℕ) → AllWhite gap → header_of (gap ++ t) ≡ with_bytes gap (header_of t)
+pub header_gap : (gap t : List ℕ) → AllWhite gap → header_cut (gap ++ t) ≡ with_bytes gap (header_cut t)
 header_gap [] t w = refl
 header_gap (b ∷ gap) t w = header_white (gap ++ t) b w.0 ∙ ap (with_byte b) (header_gap gap t w.1)
 
@@ -226,11 +226,11 @@ both_true true true h = (refl, refl)
 both_true true false h = cc
 both_true false b h = cc
 
-pub header_step : (b : ℕ) (t : List ℕ) → (b == 40) ≡ false → begins (codes "EMPTY") (str_to_ascii_uppercase (b ∷ t)) ≡ false → header_of (b ∷ t) ≡ with_byte b (header_of t)
-unfolding header_of
+pub header_step : (b : ℕ) (t : List ℕ) → (b == 40) ≡ false → begins (codes "EMPTY") (str_to_ascii_uppercase (b ∷ t)) ≡ false → header_cut (b ∷ t) ≡ with_byte b (header_cut t)
+unfolding header_cut
 header_step b t p e = rw (p, e) refl
 
-pub header_run : (run x : List ℕ) → AllByRecursion (λ b. class_of b ≡ Run) run → plain (str_to_ascii_uppercase run) ≡ true → header_of (run ++ x) ≡ with_bytes run (header_of x)
+pub header_run : (run x : List ℕ) → AllByRecursion (λ b. class_of b ≡ Run) run → plain (str_to_ascii_uppercase run) ≡ true → header_cut (run ++ x) ≡ with_bytes run (header_cut x)
 header_run [] x r p = refl
 header_run (a ∷ []) x r p = header_step a x (run_not_paren a r.0) (not_first (nat_eq 69 (to_ascii_uppercase a)) _ p)
 header_run (a ∷ b ∷ t) x r p =
@@ -238,12 +238,12 @@ header_run (a ∷ b ∷ t) x r p =
     header_step a ((b ∷ t) ++ x) (run_not_paren a r.0) (not_and (nat_eq 69 (to_ascii_uppercase a)) (nat_eq 77 (to_ascii_uppercase b)) _ q.0)
     ∙ ap (with_byte a) (header_run (b ∷ t) x r.1 q.1)
 
-pub header_paren : (t : List ℕ) → header_of (40 ∷ t) ≡ Some (record { header = []; by_empty = false })
-unfolding header_of
+pub header_paren : (t : List ℕ) → header_cut (40 ∷ t) ≡ Some (record { header = []; by_empty = false })
+unfolding header_cut
 header_paren t = refl
 
-pub header_empty : (run x : List ℕ) → IsRun run → str_to_ascii_uppercase run ≡ codes "EMPTY" → header_of (run ++ x) ≡ Some (record { header = []; by_empty = true })
-unfolding header_of
+pub header_empty : (run x : List ℕ) → IsRun run → str_to_ascii_uppercase run ≡ codes "EMPTY" → header_cut (run ++ x) ≡ Some (record { header = []; by_empty = true })
+unfolding header_cut
 header_empty [] x r u = absurd (r.0 refl)
 header_empty (b ∷ bs) x r u =
     let e : str_to_ascii_uppercase (b ∷ (bs ++ x)) ≡ codes "EMPTY" ++ str_to_ascii_uppercase x = upper_append (b ∷ bs) x ∙ ap (λ w. w ++ str_to_ascii_uppercase x) u in
@@ -365,14 +365,14 @@ pub record Stop (mid : List ℕ) : Type 0 where
   pub gap : List ℕ
   pub white : AllWhite gap
   pub by_empty : Bool
-  pub header : header_of mid ≡ with_bytes gap (Some (record { header = []; by_empty = by_empty }))
+  pub header : header_cut mid ≡ with_bytes gap (Some (record { header = []; by_empty = by_empty }))
   pub spaced : (by_empty ≡ false) ⊎ (has_space gap ≡ true)
 
-pub stop_paren : (mid gap bs after : List ℕ) → mid ≡ gap ++ (bs ++ after) → AllWhite gap → Spells bs after Open → Stop mid
+pub stop_paren : (mid gap bs after : List ℕ) → mid ≡ gap ++ (bs ++ after) → AllWhite gap → SpellsLexeme bs after Open → Stop mid
 stop_paren mid gap bs after e w (inl (b, eb, h)) =
     let eo : bs ≡ 40 ∷ [] = eb ∙ ap (λ x. x ∷ []) (open_byte b h) in
     let em : mid ≡ gap ++ (40 ∷ after) = e ∙ ap (λ x. gap ++ (x ++ after)) eo in
-    record { gap = gap; white = w; by_empty = false; header = ap header_of em ∙ header_gap gap (40 ∷ after) w ∙ ap (with_bytes gap) (header_paren after); spaced = inl refl }
+    record { gap = gap; white = w; by_empty = false; header = ap header_cut em ∙ header_gap gap (40 ∷ after) w ∙ ap (with_bytes gap) (header_paren after); spaced = inl refl }
 stop_paren mid gap bs after e w (inr (r, bd, el)) = absurd (run_not_open bs el)
 
 pub stop_at : (mid rest : List ℕ) (b : List Lexeme) → BeginsBody b → IsBoundary mid → Takes mid b rest → Stop mid
@@ -386,7 +386,7 @@ stop_at mid rest b (inr (run, more, e, u)) bd t =
       gap = f.gap;
       white = f.white;
       by_empty = true;
-      header = ap header_of f.is ∙ header_gap f.gap (run ++ f.mid) f.white ∙ ap (with_bytes f.gap) (header_empty run f.mid f.a_run u);
+      header = ap header_cut f.is ∙ header_gap f.gap (run ++ f.mid) f.white ∙ ap (with_bytes f.gap) (header_empty run f.mid f.a_run u);
       spaced = inr (rw (append-nil f.gap) at sp);
     }
 
@@ -394,7 +394,7 @@ stop_at mid rest b (inr (run, more, e, u)) bd t =
 pub record AfterKind (mid : List ℕ) (j : Option Dimension) (d : Dimension) : Type 0 where
   pub bytes : List ℕ
   pub by_empty : Bool
-  pub header : header_of mid ≡ with_bytes bytes (Some (record { header = []; by_empty = by_empty }))
+  pub header : header_cut mid ≡ with_bytes bytes (Some (record { header = []; by_empty = by_empty }))
   pub spaced : (by_empty ≡ false) ⊎ (has_space bytes ≡ true)
   pub said : dim_said (suffix j ++ str_to_ascii_uppercase bytes) ≡ d
 
@@ -433,8 +433,8 @@ after_word mid d run ls rest h bd f s =
     let letters = dim_letters run d h in
     let pl : plain (str_to_ascii_uppercase run) ≡ true = ap plain letters ∙ plain_suffix d in
     let o : Option Cut = Some (record { header = []; by_empty = s.by_empty }) in
-    let e : header_of mid ≡ with_bytes f.gap (with_bytes run (with_bytes s.gap o)) =
-    ap header_of f.is ∙ header_gap f.gap (run ++ f.mid) f.white ∙ ap (with_bytes f.gap) (header_run run f.mid f.a_run.1 pl ∙ ap (with_bytes run) s.header) in
+    let e : header_cut mid ≡ with_bytes f.gap (with_bytes run (with_bytes s.gap o)) =
+    ap header_cut f.is ∙ header_gap f.gap (run ++ f.mid) f.white ∙ ap (with_bytes f.gap) (header_run run f.mid f.a_run.1 pl ∙ ap (with_bytes run) s.header) in
     let up : str_to_ascii_uppercase (f.gap ++ (run ++ s.gap)) ≡ str_to_ascii_uppercase f.gap ++ (suffix (Some d) ++ str_to_ascii_uppercase s.gap) =
     upper_append f.gap (run ++ s.gap) ∙ ap (λ w. str_to_ascii_uppercase f.gap ++ w) (upper_append run s.gap ∙ ap (λ w. w ++ str_to_ascii_uppercase s.gap) letters) in
     record {
@@ -523,8 +523,8 @@ header_agrees text rest k d h b u (run, e, more, eh, ew, ek, dp) bb t =
     let pl : plain (str_to_ascii_uppercase run) ≡ true = ap plain found.1 ∙ is.plain_word in
     let tr : trim_start text ≡ run ++ f.mid = ap trim_start f.is ∙ trim_run f.gap run f.mid f.white cap (subst IsUtf8 f.is u) in
     let o : Option Cut = Some (record { header = []; by_empty = bh.by_empty }) in
-    let hd : header_of (trim_start text) ≡ Some (record { header = run ++ bh.bytes; by_empty = bh.by_empty }) =
-    ap header_of tr ∙ header_run run f.mid f.a_run.1 pl ∙ ap (with_bytes run) bh.header ∙ sym (with_bytes_append run bh.bytes o) ∙ with_bytes_is (run ++ bh.bytes) bh.by_empty in
+    let hd : header_cut (trim_start text) ≡ Some (record { header = run ++ bh.bytes; by_empty = bh.by_empty }) =
+    ap header_cut tr ∙ header_run run f.mid f.a_run.1 pl ∙ ap (with_bytes run) bh.header ∙ sym (with_bytes_append run bh.bytes o) ∙ with_bytes_is (run ++ bh.bytes) bh.by_empty in
     ap cut_answer hd ∙ answer_is e run bh.bytes bh.by_empty d is found.1 bh.spaced bh.said ∙ ap (λ x. Named x d) ek
 
 pub front_header : {N : Type 0} (read : List ℕ → Option N) (empties : Bool) (text : List ℕ) (v : Value N) (end : ℕ) → IsUtf8 text → FrontBy read empties text v end → header_rule text ≡ Named (kind_of v) (dim_of v)

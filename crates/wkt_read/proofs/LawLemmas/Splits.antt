@@ -2,7 +2,7 @@
 use Rattle.std.proofs.Common.{◌≡◌, ◌≢◌, ℕ, List, [], ◌∷◌, ◌++◌, inl, inr, refl, sym, ap, ◌∙◌, subst}
 use Rattle.std.specs.List.{AllByRecursion}
 use Rattle.wkt_num.specs.Bytes.{Lexeme, Class, Nul, White, Mark, Run, class_of, AllWhite}
-use Rattle.wkt_read.specs.Lexemes.{StartsOther, IsBoundary, lexeme_of, Spells, Takes, IsEnd, IsOver, IsSplit}
+use Rattle.wkt_read.specs.Lexemes.{StartsOther, IsBoundary, lexeme_of, SpellsLexeme, Takes, IsEnd, IsOver, IsSplit}
 
 abbrev pub AllOf : Class → List ℕ → Type 0
 AllOf k = AllByRecursion (λ b. class_of b ≡ k)
@@ -30,7 +30,7 @@ pub record First (bs : List ℕ) : Type 0 where
   pub is : bs ≡ byte ∷ more
   pub class : FirstClass (class_of byte)
 
-pub spells_first : (body after : List ℕ) (l : Lexeme) → Spells body after l → First body
+pub spells_first : (body after : List ℕ) (l : Lexeme) → SpellsLexeme body after l → First body
 spells_first body after l (inl (b, e, m)) = record { byte = b; more = []; is = e; class = subst FirstClass (sym m) tt }
 spells_first [] after l (inr (r, bd, e)) = absurd (r.0 refl)
 spells_first (b ∷ bs) after l (inr (r, bd, e)) = record { byte = b; more = bs; is = refl; class = subst FirstClass (sym r.1.0) tt }
@@ -60,7 +60,7 @@ pub record SameBody (body body' after after' : List ℕ) (l l' : Lexeme) : Type 
   pub after_same : after ≡ after'
   pub lexeme_same : l ≡ l'
 
-pub body_one : (body body' after after' : List ℕ) (l l' : Lexeme) → Spells body after l → Spells body' after' l' → body ++ after ≡ body' ++ after' → SameBody body body' after after' l l'
+pub body_one : (body body' after after' : List ℕ) (l l' : Lexeme) → SpellsLexeme body after l → SpellsLexeme body' after' l' → body ++ after ≡ body' ++ after' → SameBody body body' after after' l l'
 body_one body body' after after' l l' (inl (b, e, m)) (inl (b', e', m')) eq =
     let q : b ∷ after ≡ b' ∷ after' = rw e at (rw e' at eq) in
     let same : b ≡ b' = cc in
@@ -81,7 +81,7 @@ body_one body body' after after' l l' (inr (r, bd, el)) (inr (r', bd', el')) eq 
     let s0 : body ≡ body' = s.0 in
     record { body_same = s.0; after_same = s.1; lexeme_same = el ∙ ap lexeme_of s0 ∙ sym el' }
 
-pub step_one : (gap gap' body body' after after' : List ℕ) (l l' : Lexeme) → AllWhite gap → AllWhite gap' → Spells body after l → Spells body' after' l' → gap ++ (body ++ after) ≡ gap' ++ (body' ++ after') → (after ≡ after') × (l ≡ l')
+pub step_one : (gap gap' body body' after after' : List ℕ) (l l' : Lexeme) → AllWhite gap → AllWhite gap' → SpellsLexeme body after l → SpellsLexeme body' after' l' → gap ++ (body ++ after) ≡ gap' ++ (body' ++ after') → (after ≡ after') × (l ≡ l')
 step_one gap gap' body body' after after' l l' w w' s s' eq =
     let f = first_other White (λ h. h) (body ++ after) (first_append body after (spells_first body after l s)) in
     let f' = first_other White (λ h. h) (body' ++ after') (first_append body' after' (spells_first body' after' l' s')) in
@@ -89,7 +89,7 @@ step_one gap gap' body body' after after' l l' w w' s s' eq =
     let t = body_one body body' after after' l l' s s' p.1 in
     (t.after_same, t.lexeme_same)
 
-pub not_over : (text gap body after : List ℕ) (l : Lexeme) → text ≡ gap ++ (body ++ after) → AllWhite gap → Spells body after l → IsOver text → ⊥
+pub not_over : (text gap body after : List ℕ) (l : Lexeme) → text ≡ gap ++ (body ++ after) → AllWhite gap → SpellsLexeme body after l → IsOver text → ⊥
 not_over text gap body after l e w s (gap', after', e', w', end) =
     let fr = first_append body after (spells_first body after l s) in
     let f = first_other White (λ h. h) (body ++ after) fr in

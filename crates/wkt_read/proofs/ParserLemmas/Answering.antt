@@ -10,7 +10,7 @@ use Rattle.wkt_read.specs.Front.{FrontBy, HasNoFront}
 use Rattle.wkt_read.specs.Placed.{Placed, lexemes_of, end_after, AreEnds, placed}
 use Rattle.wkt_read.specs.Ahead.{left, rest, end_of, taken_of, IfLast, Advances}
 use Rattle.wkt_read.specs.Parser.Walks.{GoesOn}
-use Rattle.wkt_read.specs.Messages.{text_of}
+use Rattle.wkt_read.specs.Messages.{message_text}
 use Rattle.wkt_read.specs.Parser.Reading.{Reading}
 use Rattle.wkt_read.specs.Parser.Reads.{ReadsIn}
 use Rattle.wkt_read.specs.Parser.Errors.{OnBad, OnBadIn, OnMemory}
@@ -105,7 +105,7 @@ message-map X Y (error.Text t) m P Q f h = λ e. f (h e)
 message-map X Y (error.Memory t) m P Q f h = tt
 
 -- no other message is that of a bad number
-pub bad-text : (X : Type 0) (m : Message) (P : Type 0) → text_of m ≡ text_of message.BadNumber → OnBad {X = X} (Err m) P → P
+pub bad-text : (X : Type 0) (m : Message) (P : Type 0) → message_text m ≡ message_text message.BadNumber → OnBad {X = X} (Err m) P → P
 bad-text X message.BadNumber P e h = h
 bad-text X message.Format P e h = absurd (omega (arith, ap length e))
 bad-text X message.NonAscii P e h = absurd (omega (arith, ap length e))

@@ -11,7 +11,7 @@ use Rattle.wkt_types.specs.declared.geometry_type.GeometryType.TheVariants as ki
 use Rattle.wkt_read.specs.Kinds.{kind_of, dim_of}
 use Rattle.wkt_read.specs.Grammar.{KindWord, kind_word, dim_word, dim_in, DimPart, Header, More, Listed, Perhaps, WithHeader, Coord, Ring, Poly, Member, Geometry, Geometries, Further}
 use Rattle.wkt_read.specs.Begun.{BegunNext, BegunEmpty, BegunWithin, BegunListed, BegunPerhaps, BegunCoord, BegunRing, BegunPoly, BegunMember, BegunBody, BegunAt, BegunGeometry}
-use Rattle.wkt_read.specs.Parser.Reading.{is_empty_word, members_of, worded, numbered, dimension_at, point_at, line_string_at, line_strings_at, polygons_at, member_at, points_at, members_at, body_at, value_at}
+use Rattle.wkt_read.specs.Parser.Reading.{is_empty_word, members_read, worded, numbered, dimension_at, point_at, line_string_at, line_strings_at, polygons_at, member_at, points_at, members_at, body_at, value_at}
 use Rattle.wkt_read.proofs.LawLemmas.OneForm.{BeginsBody, BodyOf, geometry_body, body_begins}
 use Rattle.wkt_read.proofs.LawLemmas.Begun.{CutIn, Later, Earlier, cut_in, cuts_geometry, cuts_header, body_nothing, begun_listed_at}
 use Rattle.wkt_read.proofs.ParserLemmas.Tells.{plain, told, tell, andthen, mapped, framed_f, many_f, inside_f, line_f, lines_f, polygons_f, member_f, points_f, joined_or_f, kinded_f, header_f, body_f, value_f, plain_then, plain_header, ok_told}
@@ -33,19 +33,19 @@ pub header_long : (k : GeometryType) (d : Dimension) (h : List Lexeme) → Heade
 header_long k d h (run, e, more, eh, is, ek, dp) = omega (arith, ap length eh)
 
 -- members of a collection, as a list
-geometries_to : {N : Type 0} (read : List ℕ → Option N) (xs : List (Value N)) (f : List Lexeme) → Listed (Geometry read true) f xs → Geometries read true f (members_of xs)
+geometries_to : {N : Type 0} (read : List ℕ → Option N) (xs : List (Value N)) (f : List Lexeme) → Listed (Geometry read true) f xs → Geometries read true f (members_read xs)
 geometries_to read [] f w = w
 geometries_to {N} read (x ∷ xs) f (body, e, (a, b, e2, g, m)) = (a, b, e ∙ ap (λ l. Open ∷ (l ++ Close ∷ [])) e2, g, further xs b m)
   where
-    further : (xs : List (Value N)) (f : List Lexeme) → More (Geometry read true) f xs → Further read true f (members_of xs)
+    further : (xs : List (Value N)) (f : List Lexeme) → More (Geometry read true) f xs → Further read true f (members_read xs)
     further [] f w = w
     further (x ∷ xs) f (a, b, e, g, m) = (a, b, e, g, further xs b m)
 
-further_from : {N : Type 0} (read : List ℕ → Option N) (vs : Values N) (f : List Lexeme) → Further read true f vs → (xs : List (Value N)) × (vs ≡ members_of xs) × More (Geometry read true) f xs
+further_from : {N : Type 0} (read : List ℕ → Option N) (vs : Values N) (f : List Lexeme) → Further read true f vs → (xs : List (Value N)) × (vs ≡ members_read xs) × More (Geometry read true) f xs
 further_from read Values.no_values f w = ([], refl, w)
 further_from read (Values.more_values v vs) f (a, b, e, g, m) = let (xs, e2, n) = further_from read vs b m in (v ∷ xs, ap (λ l. Values.more_values v l) e2, (a, b, e, g, n))
 
-geometries_from : {N : Type 0} (read : List ℕ → Option N) (vs : Values N) (f : List Lexeme) → Geometries read true f vs → (xs : List (Value N)) × (vs ≡ members_of xs) × Listed (Geometry read true) f xs
+geometries_from : {N : Type 0} (read : List ℕ → Option N) (vs : Values N) (f : List Lexeme) → Geometries read true f vs → (xs : List (Value N)) × (vs ≡ members_read xs) × Listed (Geometry read true) f xs
 geometries_from read Values.no_values f w = ([], refl, w)
 geometries_from read (Values.more_values v vs) f (a, b, e, g, m) = let (xs, e2, n) = further_from read vs b m in (v ∷ xs, ap (λ l. Values.more_values v l) e2, (a ++ b, e, (a, b, refl, g, n)))
 
@@ -172,7 +172,7 @@ module _ {N : Type 0} (read : List ℕ → Option N) where
   from_polygons d f (Value.multi_polygon e c) (w, k, ed) = (c, ap (λ d. Value.multi_polygon d c) ed, subst (λ d. Listed (Poly read d) f c) ed w)
   from_polygons d f v (w, k, ed) = let no : ⊥ = cc in absurd no
 
-  from_members : (d : Dimension) → From kind.GeometryCollection d (Listed (Geometry read true)) (λ vs. Value.collection d (members_of vs))
+  from_members : (d : Dimension) → From kind.GeometryCollection d (Listed (Geometry read true)) (λ vs. Value.collection d (members_read vs))
   from_members d f (Value.collection e vs) (w, k, ed) = let (xs, e2, m) = geometries_from read vs f w in (xs, ap (λ d. Value.collection d vs) ed ∙ ap (λ vs. Value.collection d vs) e2, m)
   from_members d f v (w, k, ed) = let no : ⊥ = cc in absurd no
 
@@ -201,7 +201,7 @@ module _ {N : Type 0} (read : List ℕ → Option N) where
         (listed_part (Poly read d) (BegunPoly read true d) (line_strings_at read d n) (lines_f read d n) n (lines_part read d n))
     body_part kind.GeometryCollection d =
         map_part (Listed (Geometry read true)) (BegunListed (Geometry read true) Begun) Anything (members_at read (value_at read n) n) (framed_f [] (many_f (value_f read n) n)) n
-        (BodyPart kind.GeometryCollection d) (λ vs. Value.collection d (members_of vs)) (λ f xs w. (geometries_to read xs f w, refl, refl)) (from_members d)
+        (BodyPart kind.GeometryCollection d) (λ vs. Value.collection d (members_read vs)) (λ f xs w. (geometries_to read xs f w, refl, refl)) (from_members d)
         (listed_part (Geometry read true) Begun (value_at read n) (value_f read n) n value)
 
   geometry_of : (v : Value N) (f : List Lexeme) → WithHeader (kind_of v) (dim_of v) (λ b. BodyOf read true b v) f → Geometry read true f v

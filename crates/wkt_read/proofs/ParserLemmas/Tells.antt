@@ -7,7 +7,7 @@ use Rattle.wkt_access.specs.Values.{size, Value}
 use Rattle.wkt_types.specs.declared.geometry_type.GeometryType.{GeometryType}
 use Rattle.wkt_types.specs.declared.geometry_type.GeometryType.TheVariants as kind
 use Rattle.wkt_read.specs.Grammar.{KindWord, kind_word}
-use Rattle.wkt_read.specs.Parser.Reading.{Reading, ◌>>=◌, with_front, left_by, is_empty_word, members_of, opening_at, closing_at, closed, framed, tail_at, many_at, number_at, coord_at, dimension_at, joined_or_at, kinded, header_at, inside_at, member_at}
+use Rattle.wkt_read.specs.Parser.Reading.{Reading, ◌>>=◌, with_front, left_by, is_empty_word, members_read, opening_at, closing_at, closed, framed, tail_at, many_at, number_at, coord_at, dimension_at, joined_or_at, kinded, header_at, inside_at, member_at}
 
 abbrev pub Telling : Type 0 → Type 0
 Telling A = Result (A × List Lexeme) (List Lexeme × List Lexeme)
@@ -109,7 +109,7 @@ module _ {N : Type 0} (read : List ℕ → Option N) where
   body_f value n kind.MultiPoint d ls = mapped (λ c. Value.multi_point d c) (points_f d n ls)
   body_f value n kind.MultiLineString d ls = mapped (λ c. Value.multi_line_string d c) (lines_f d n ls)
   body_f value n kind.MultiPolygon d ls = mapped (λ c. Value.multi_polygon d c) (polygons_f d n ls)
-  body_f value n kind.GeometryCollection d ls = mapped (λ vs. Value.collection d (members_of vs)) (framed_f [] (many_f value n) ls)
+  body_f value n kind.GeometryCollection d ls = mapped (λ vs. Value.collection d (members_read vs)) (framed_f [] (many_f value n) ls)
 
   unfoldable pub value_f : ℕ → List Lexeme → Telling (Value N)
   value_f zero ls = Err ([], ls)

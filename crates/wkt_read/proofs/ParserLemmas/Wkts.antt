@@ -10,12 +10,12 @@ use Rattle.wkt_types.specs.declared.geometry.Wkt.{Wkt}
 use Rattle.wkt_types.specs.Tree.{tree, trees_of}
 use Rattle.wkt_types.specs.Values.{values_of, AreUniform}
 use Rattle.wkt_read.specs.declared.messages.ParseError.{ParseError}
-use Rattle.wkt_read.specs.Parser.Reading.{◌>>=◌, header_at, body_at, value_at, members_of}
+use Rattle.wkt_read.specs.Parser.Reading.{◌>>=◌, header_at, body_at, value_at, members_read}
 use Rattle.wkt_read.specs.Parser.Reads.{ReadsIn, wkt_value, UniformWkt}
 use Rattle.wkt_read.specs.declared.parser.geometries.Start.{Start}
 use Rattle.wkt_read.specs.Parser.Nests.{Starts}
 
-pub members-value : {T : Type 0} (ws : List (Wkt T)) → values_of (trees_of (map tree ws)) ≡ members_of (map wkt_value ws)
+pub members-value : {T : Type 0} (ws : List (Wkt T)) → values_of (trees_of (map tree ws)) ≡ members_read (map wkt_value ws)
 members-value [] = refl
 members-value (w ∷ ws) = ap (λ vs. Values.more_values (wkt_value w) vs) (members-value ws)
 

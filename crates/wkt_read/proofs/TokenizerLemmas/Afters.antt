@@ -11,7 +11,7 @@ use Rattle.wkt_read.specs.declared.messages.Message.TheVariants as message
 use Rattle.wkt_read.specs.Parser.Errors.{OnBad}
 use Rattle.wkt_read.specs.declared.tokenizer.peekable.PeekableTokens.{PeekableTokens}
 use Rattle.wkt_read.specs.Ahead.{left, end_of, taken_of, rest, Moves}
-use Rattle.wkt_read.specs.Parser.Walks.{GoesOn, Takes}
+use Rattle.wkt_read.specs.Parser.Walks.{GoesOn, TakesNext}
 use Rattle.wkt_read.specs.Ahead.{IfLast, IsAfter}
 
 last-push : (given : List Placed) (x : Placed) → IfLast (given ++ x ∷ []) x.end
@@ -19,7 +19,7 @@ last-push [] x = refl
 last-push (y ∷ []) x = refl
 last-push (y ∷ z ∷ given) x = last-push (z ∷ given) x
 
-takes-fewer : (o : Option Lexeme) (old new : List Lexeme) → Takes o old new → length new ≤ length old
+takes-fewer : (o : Option Lexeme) (old new : List Lexeme) → TakesNext o old new → length new ≤ length old
 takes-fewer None old new h = omega (arith, ap length h.0, ap length h.1)
 takes-fewer (Some l) old new h = omega (arith, ap length h)
 
@@ -34,7 +34,7 @@ module _ {T : Type 0} where
   grows-moves s None t h = h.3
   grows-moves s (Some l) t h = h.3
 
-  pub takes-moves : (s : PeekableTokens T) (o : Option Lexeme) (t : PeekableTokens T) → Moves s o t → Takes o (rest s) (rest t)
+  pub takes-moves : (s : PeekableTokens T) (o : Option Lexeme) (t : PeekableTokens T) → Moves s o t → TakesNext o (rest s) (rest t)
   unfolding rest
   takes-moves s None t h = (ap lexemes_of h.0, ap lexemes_of h.1)
   takes-moves s (Some l) t h = ap lexemes_of h.0

@@ -1,7 +1,7 @@
 -- The placed lexemes of a text are its split, and each beginning of them ends where it says.
 use Rattle.std.proofs.Common.{◌≡◌, ◌≢◌, ℕ, suc, ◌+◌, List, [], ◌∷◌, ◌++◌, length, inl, inr, refl, sym, ap, ◌∙◌, subst, arith, length-append}
 use Rattle.wkt_num.specs.Bytes.{Class, Nul, White, Mark, Run, class_of, AllWhite, AllRun}
-use Rattle.wkt_read.specs.Lexemes.{IsBoundary, Spells, Takes, IsOver, IsSplit}
+use Rattle.wkt_read.specs.Lexemes.{IsBoundary, SpellsLexeme, Takes, IsOver, IsSplit}
 use Rattle.wkt_read.specs.Placed.{Placed, lexemes_of, end_after, AreEnds, marks, front, after_run, joined, placed_from, placed}
 
 -- The bytes are these lexemes, where `at` bytes stand before them.
@@ -9,7 +9,7 @@ abbrev pub Stands : ℕ → List ℕ → List Placed → Type 0
 Stands at text [] = IsOver text
 Stands at text (p ∷ ps) =
     (gap : List ℕ) × (body : List ℕ) × (after : List ℕ)
-    × (text ≡ gap ++ (body ++ after)) × AllWhite gap × Spells body after p.lexeme × (p.end ≡ at + (length gap + length body)) × Stands p.end after ps
+    × (text ≡ gap ++ (body ++ after)) × AllWhite gap × SpellsLexeme body after p.lexeme × (p.end ≡ at + (length gap + length body)) × Stands p.end after ps
 
 -- The bytes are a run and then these lexemes.
 abbrev pub Begins : ℕ → List ℕ → List ℕ → List Placed → Type 0

@@ -6,9 +6,9 @@ use Rattle.wkt_read.specs.declared.messages.Message.{Message}
 use Rattle.wkt_read.specs.declared.messages.Message.TheVariants as message
 
 -- memory ran out
-abbrev pub IsMemory : ParseError → Type 0
-IsMemory (Text message) = ⊥
-IsMemory (Memory e) = Unit {0}
+abbrev pub IsParseMemory : ParseError → Type 0
+IsParseMemory (Text message) = ⊥
+IsParseMemory (Memory e) = Unit {0}
 
 -- this holds where memory runs out
 abbrev pub OnMemory : {X : Type 0} → Result X ParseError → Type 0 → Type 0

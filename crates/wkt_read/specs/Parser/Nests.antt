@@ -11,7 +11,7 @@ use Rattle.wkt_read.specs.declared.messages.ParseError.TheVariants.{Text, Memory
 use Rattle.wkt_read.specs.declared.parser.geometries.Nest.{Nest}
 use Rattle.wkt_read.specs.declared.parser.geometries.Start.{Start}
 use Rattle.wkt_read.specs.declared.parser.geometries.Start.TheVariants.{Whole, Opened}
-use Rattle.wkt_read.specs.Parser.Reading.{Reading, ◌>>=◌, with_front, closed, many_at, tail_at, body_at, value_at, members_of}
+use Rattle.wkt_read.specs.Parser.Reading.{Reading, ◌>>=◌, with_front, closed, many_at, tail_at, body_at, value_at, members_read}
 use Rattle.wkt_read.specs.Parser.Reads.{ReadsIn, wkt_value}
 use Rattle.wkt_read.specs.Ahead.{rest}
 use Rattle.wkt_read.specs.declared.tokenizer.peekable.PeekableTokens.{PeekableTokens}
@@ -48,7 +48,7 @@ Wants (Err (Memory e)) P = P
 
 -- The members of a collection, as they are read, with what is after them and the closing place: the collection.
 abbrev pub shut_at : {N : Type 0} → Dimension → Reading (List (Value N)) → Reading (Value N)
-shut_at d body = closed body >>= λ p. Ok (Value.collection d (members_of p.0), p.1)
+shut_at d body = closed body >>= λ p. Ok (Value.collection d (members_read p.0), p.1)
 
 -- What was read where a geometry begins, by what there is to read, unless memory runs out.
 abbrev pub Starts : {T : Type 0} → (List ℕ → Option T) → Result (Start T) ParseError → Reading (Value T) → List Lexeme → Type 0

@@ -43,9 +43,9 @@ unfoldable pub is_empty_word : List ℕ → Bool
 is_empty_word run = bytes_eq (str_to_ascii_uppercase run) (codes "EMPTY")
 
 -- The values of a list, as the members of a collection.
-abbrev pub members_of : {N : Type 0} → List (Value N) → Values N
-members_of [] = Values.no_values
-members_of (v ∷ vs) = Values.more_values v (members_of vs)
+abbrev pub members_read : {N : Type 0} → List (Value N) → Values N
+members_read [] = Values.no_values
+members_read (v ∷ vs) = Values.more_values v (members_read vs)
 
 -- The opening place takes one lexeme: true for `(`, false for the word EMPTY.
 unfoldable pub opening_at : List Lexeme → Reading Bool
@@ -220,7 +220,7 @@ module _ {N : Type 0} (read : List ℕ → Option N) where
   body_at value fuel kind.MultiPoint d lexemes = points_at d fuel lexemes >>= λ p. Ok (Value.multi_point d p.0, p.1)
   body_at value fuel kind.MultiLineString d lexemes = line_strings_at d fuel lexemes >>= λ p. Ok (Value.multi_line_string d p.0, p.1)
   body_at value fuel kind.MultiPolygon d lexemes = polygons_at d fuel lexemes >>= λ p. Ok (Value.multi_polygon d p.0, p.1)
-  body_at value fuel kind.GeometryCollection d lexemes = members_at value fuel lexemes >>= λ p. Ok (Value.collection d (members_of p.0), p.1)
+  body_at value fuel kind.GeometryCollection d lexemes = members_at value fuel lexemes >>= λ p. Ok (Value.collection d (members_read p.0), p.1)
 
   -- A geometry; `fuel` is at least the count of lexemes.
   unfoldable pub value_at : ℕ → List Lexeme → Reading (Value N)

@@ -6,9 +6,9 @@ use Rattle.wkt_read.specs.Ahead.{rest, taken_of, IsAfter}
 use Rattle.wkt_read.specs.declared.tokenizer.peekable.PeekableTokens.{PeekableTokens}
 
 -- one lexeme is taken, if there is one
-abbrev pub Takes : Option Lexeme → List Lexeme → List Lexeme → Type 0
-Takes None old new = (old ≡ []) × (new ≡ [])
-Takes (Some l) old new = old ≡ l ∷ new
+abbrev pub TakesNext : Option Lexeme → List Lexeme → List Lexeme → Type 0
+TakesNext None old new = (old ≡ []) × (new ≡ [])
+TakesNext (Some l) old new = old ≡ l ∷ new
 
 -- the first of these lexemes is this one, or there is none
 abbrev pub IsFirst : Option Lexeme → List Lexeme → Type 0

@@ -1,17 +1,15 @@
 //! Readers of geometries with their headers.
-ghost use Rattle.std.specs.Prelude.{◌≡◌, ℕ, ◌≤◌, ◌<◌, length, map, option_map, OnOk, IfOk};
+ghost use Rattle.std.specs.Prelude.{◌≡◌, ◌≤◌, ◌<◌, length, map, option_map, OnOk, IfOk};
 ghost use Rattle.std.specs.List.{AllByRecursion};
 ghost use Rattle.wkt_access.specs.Values.{Value};
 ghost use Rattle.wkt_types.specs.Coords.{numbers_of};
 ghost use Rattle.wkt_types.specs.Values.{HasDim, HasDimIfAny, IsPointIn, IsLineIn, IsPolygonIn, point_numbers, line_numbers, polygon_numbers};
-ghost use Rattle.wkt_read.specs.Ahead.{rest, taken_of};
+ghost use Rattle.wkt_read.specs.Ahead.{rest};
 ghost use Rattle.wkt_read.specs.Parser.Walks.{GoesOn};
-ghost use Rattle.wkt_read.specs.Ahead.{IsNear, IsAfter};
-ghost use Rattle.wkt_read.specs.Parser.Reading.{Reads, dimension_at, header_at, value_at, members_of, IsOpened, HasMembers};
+ghost use Rattle.wkt_read.specs.Ahead.{IsNear};
+ghost use Rattle.wkt_read.specs.Parser.Reading.{Reads, dimension_at, header_at, value_at, members_read, IsOpened, HasMembers};
 ghost use Rattle.wkt_read.specs.Parser.Reads.{ReadsAll, ReadsBody, Blames, BlamesIn, BlamesAs, wkt_value, UniformWkt};
-ghost use Rattle.wkt_read.specs.Parser.Errors.{OnMemory, OnBadIn};
-ghost use Rattle.wkt_read.specs.Placed.{lexemes_of};
-ghost use Rattle.wkt_read.specs.Bad.{HasBad};
+ghost use Rattle.wkt_read.specs.Parser.Errors.{OnMemory};
 ghost use Rattle.wkt_read.specs.Parser.Nests.{StartsAll, StartsBody, Shuts, IfWhole, OnWhole, Wants, weight, most_after};
 
 use crate::keywords::{dimension_of, is_empty, kind_of};
@@ -134,7 +132,7 @@ fn polygons_of<T>(polygons: Vec<Polygon<T>>, dim: Dimension) -> Wkt<T>
 }
 
 fn collection_of<T>(geometries: Vec<Wkt<T>>, dim: Dimension) -> Wkt<T>
-    ensures value { wkt_value result ≡ Value.collection dim (members_of (map wkt_value geometries.items)) }
+    ensures value { wkt_value result ≡ Value.collection dim (members_read (map wkt_value geometries.items)) }
     ensures uniform { AllByRecursion UniformWkt geometries.items → UniformWkt result }
 {
     Wkt::from(GeometryCollection::new(geometries, dim))

@@ -43,7 +43,7 @@ impl<'a, T: WktNum> PeekableTokens<'a, T> {
     ghost use Rattle.wkt_read.specs.Items.{IsItem};
     ghost use Rattle.wkt_read.specs.Ahead.{left, taken_of, end_of, rest, first_of, Moves};
     ghost use Rattle.wkt_read.specs.Parser.Blames.{BlamesLexeme};
-    ghost use Rattle.wkt_read.specs.Parser.Walks.{Takes, IsFirst, BeginsWithoutComma, GoesOn};
+    ghost use Rattle.wkt_read.specs.Parser.Walks.{TakesNext, IsFirst, BeginsWithoutComma, GoesOn};
     ghost use Rattle.wkt_read.specs.Ahead.{IsNear};
 
     /// The lexemes that the stream has still to give; none is looked at yet.
@@ -100,7 +100,7 @@ impl<'a, T: WktNum> PeekableTokens<'a, T> {
     pub(crate) fn take(&mut self) -> Lexeme<'a>
         ensures goes_on { GoesOn self.old self.new }
         ensures near { OnSome (found result) (IsNear self.new) }
-        ensures takes { Takes (found result) (rest self.old) (rest self.new) }
+        ensures takes { TakesNext (found result) (rest self.old) (rest self.new) }
         ensures bad { BlamesLexeme T.read self.old result }
     {
         self.step()
@@ -125,7 +125,7 @@ impl<'a, T: WktNum> PeekableTokens<'a, T> {
         }
     }
 
-    // Takes the next lexeme if it is a comma.
+    // TakesNext the next lexeme if it is a comma.
     pub(crate) fn take_comma(&mut self) -> bool
         ensures goes_on { GoesOn self.old self.new }
         ensures takes { MatchBool result (rest self.old ≡ Comma ∷ rest self.new) (rest self.new ≡ rest self.old) }
@@ -154,13 +154,13 @@ impl<'a, T: WktNum> PeekableTokens<'a, T> {
 
 #[tactic(auto, unfolding(crate::specs::Ahead::left, crate::specs::Ahead::taken_of, crate::specs::Ahead::end_of))]
 impl<'a, T: WktNum> Iterator for PeekableTokens<'a, T> {
-    ghost use Rattle.wkt_read.specs.Ahead.{Gives, count};
+    ghost use Rattle.wkt_read.specs.Ahead.{GivesAhead, count_ahead};
 
     type Item = Result<Token<'a, T>, &'static str>;
 
-    ghost next_gives = { Gives T.read };
+    ghost next_gives = { GivesAhead T.read };
 
-    ghost remaining = { count };
+    ghost remaining = { count_ahead };
 
     fn next(&mut self) -> Option<Result<Token<'a, T>, &'static str>> {
         item_of(self.step())

@@ -21,7 +21,7 @@ push_geometries-loop-g-preserved g t c =
     ∙ (ap (λ l. l ++ back (flat_tree c.g-item.result) ∷ []) c.loop-g.invariant
     ∙ (append_assoc (map tree c.args.all.now.items) _ _
     ∙ ap (λ l. map tree c.args.all.now.items ++ l)
-      (ap (λ x. map (λ g. back (flat_tree g)) (take c.loop-g.g-index c.args.gs.now) ++ back (flat_tree x) ∷ []) c.g-item.is ∙ sym more)))
+    (ap (λ x. map (λ g. back (flat_tree g)) (take c.loop-g.g-index c.args.gs.now) ++ back (flat_tree x) ∷ []) c.g-item.is ∙ sym more)))
 
 pub push_geometries-returns : goal.push_geometries-returns
 push_geometries-returns g t c =

@@ -19,8 +19,8 @@ returns-in_err-all_points-in-MultiPoint g c =
     let p = err_from_is_err_and c.from_residual-in_err-all_points-in-MultiPoint.result c.from_residual-in_err-all_points-in-MultiPoint.ensures.1 in
     rw (p.1, p.2)
     (passes (λ m. m) flat_tree _ _ (λ k r.
-        ap (λ w. flat E (tree w)) c.in-MultiPoint.is
-        ∙ (ap (flat E) (tree-multi_point c.in-MultiPoint.m) ∙ map_refused Flat.multi_point _ k (ap points (sym c.points.ensures) ∙ r))) _ c.in_err-all_points-in-MultiPoint.ensures)
+    ap (λ w. flat E (tree w)) c.in-MultiPoint.is
+    ∙ (ap (flat E) (tree-multi_point c.in-MultiPoint.m) ∙ map_refused Flat.multi_point _ k (ap points (sym c.points.ensures) ∙ r))) _ c.in_err-all_points-in-MultiPoint.ensures)
 
 pub returns-in_err-collection-in-GeometryCollection : goal.returns-in_err-collection-in-GeometryCollection
 returns-in_err-collection-in-GeometryCollection g c =
@@ -28,8 +28,8 @@ returns-in_err-collection-in-GeometryCollection g c =
     let p = err_from_is_err_and c.from_residual-in_err-collection-in-GeometryCollection.result c.from_residual-in_err-collection-in-GeometryCollection.ensures.1 in
     rw (p.1, p.2)
     (passes flat_trees flat_tree _ _ (λ k r.
-        ap (λ w. flat E (tree w)) c.in-GeometryCollection.is
-        ∙ (ap (flat E) (tree-collection c.in-GeometryCollection.c ∙ c.geometries.ensures) ∙ map_refused Flat.collection _ k r)) _ c.in_err-collection-in-GeometryCollection.ensures)
+    ap (λ w. flat E (tree w)) c.in-GeometryCollection.is
+    ∙ (ap (flat E) (tree-collection c.in-GeometryCollection.c ∙ c.geometries.ensures) ∙ map_refused Flat.collection _ k r)) _ c.in_err-collection-in-GeometryCollection.ensures)
 
 pub returns-in_ok-all_points-in-MultiPoint : goal.returns-in_ok-all_points-in-MultiPoint
 returns-in_ok-all_points-in-MultiPoint g c =

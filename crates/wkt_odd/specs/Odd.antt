@@ -1,8 +1,8 @@
 -- Number types with two values and with one.
 use Rattle.std.specs.Prelude.{ℕ, ◌==◌, if◌then◌else◌, List, [], ◌∷◌, Option, Some, None}
-use Rattle.wkt_conformance.specs.declared.odd.Letter.{Letter}
-use Rattle.wkt_conformance.specs.declared.odd.Letter.TheVariants.{A, B}
-use Rattle.wkt_conformance.specs.declared.odd.Dash as dashes
+use Rattle.wkt_odd.specs.declared.odd.Letter.{Letter}
+use Rattle.wkt_odd.specs.declared.odd.Letter.TheVariants.{A, B}
+use Rattle.wkt_odd.specs.declared.odd.Dash as dashes
 
 -- Each letter is a value.
 abbrev pub AnyLetter : Letter → Type 0

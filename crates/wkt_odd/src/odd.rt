@@ -1,4 +1,4 @@
-//! Odd number types that meet the laws of numbers, for tests.
+//! A number type of two values, and one of a single value.
 use std::fmt;
 use wkt_num::{TextSink, WktNum};
 
@@ -11,9 +11,9 @@ pub enum Letter {
 
 impl WktNum for Letter {
     ghost use Rattle.std.proofs.Common.{rules};
-    ghost use Rattle.wkt_conformance.specs.Odd.{AnyLetter, letter_text, read_letter};
-    ghost use Rattle.wkt_conformance.specs.OddLaws.{letter_reads_back, any_letter, letter_number_text};
-    ghost use Rattle.wkt_conformance.specs.Wrong.{plus_text, read_plus, plus_reads_back, comma_text, read_comma, comma_reads_back};
+    ghost use Rattle.wkt_odd.specs.Odd.{AnyLetter, letter_text, read_letter};
+    ghost use Rattle.wkt_odd.specs.OddLaws.{letter_reads_back, any_letter, letter_number_text};
+    ghost use Rattle.wkt_odd.specs.Wrong.{plus_text, read_plus, plus_reads_back, comma_text, read_comma, comma_reads_back};
 
     ghost is_value = { AnyLetter };
 
@@ -55,8 +55,8 @@ pub enum Dash {
 
 impl WktNum for Dash {
     ghost use Rattle.std.proofs.Common.{rules};
-    ghost use Rattle.wkt_conformance.specs.Odd.{AnyDash, dash_text, read_dash};
-    ghost use Rattle.wkt_conformance.specs.OddLaws.{dash_reads_back, any_dash, dash_number_text};
+    ghost use Rattle.wkt_odd.specs.Odd.{AnyDash, dash_text, read_dash};
+    ghost use Rattle.wkt_odd.specs.OddLaws.{dash_reads_back, any_dash, dash_number_text};
 
     ghost is_value = { AnyDash };
 
