@@ -2,8 +2,9 @@
 use crate::table::answer;
 use std::alloc::{AllocError, Global};
 use std::test::Fail;
+use wkt::geo_types::Geometry;
 use wkt::tokenizer::{PeekableTokens, Token, Tokens};
-use wkt::{Decimal, FromWktStr, ReadError, Wkt, WktNum, infer_type};
+use wkt::{Decimal, FromWktStr, ReadError, ToWkt, TryFromWkt, Wkt, WktNum, infer_type};
 use wkt_odd::{Dash, Letter};
 
 const NOT_WKT: &str = "Invalid WKT format";
@@ -277,11 +278,23 @@ fn copied(alloc: Global, text: &str) -> Result<String, Fail> {
     }
 }
 
+// The text of the two-dimensional geometry of the text, if its `Wkt` has the same.
+fn converted(alloc: Global, text: &str) -> Result<String, Fail> {
+    let geometry = Geometry::<Decimal<6>>::try_from_wkt_str(alloc, text)?;
+    let back = geometry.to_wkt(alloc)?.to_string(alloc)?;
+    if geometry.wkt_string(alloc)?.as_str() == back.as_str() {
+        Ok(back)
+    } else {
+        Err(Fail::from("a text that is the same"))
+    }
+}
+
 #[test]
 fn great_depth(rt: HostRuntime) -> Result<(), Fail> {
     let alloc = rt.alloc();
     let text = nested(alloc, 10000, 10000)?;
     assert!(rt; copied(alloc, &text)?.as_str() == text.as_str());
+    assert!(rt; converted(alloc, &text)?.as_str() == text.as_str());
     let open = nested(alloc, 10000, 9999)?;
     assert!(rt; Wkt::<Decimal<6>>::from_str(alloc, &open).is_err());
     Ok(())
