@@ -9,30 +9,32 @@
 # has to end as out of memory, which no wrong value does, or to pass.
 #
 # The gate runs it on what it has built; alone, build all three first (rt run in crates/wktline and
-# crates/wkt_conformance, rt test in crates/wkt). It needs a C compiler.
+# crates/wkt_conformance, rt test in crates/wkt).
 set -u
 cd "$(dirname "$0")/.."
 dir=$(mktemp -d)
 trap 'rm -rf "$dir"' EXIT
 
+# The toolchain's own compiler makes it, with no header of the C library.
 cat > "$dir/refuse.c" <<'C'
-#include <fcntl.h>
-#include <stdlib.h>
-#include <unistd.h>
-extern void *__libc_malloc(size_t);
-extern void *__libc_realloc(void *, size_t);
+extern void *__libc_malloc(unsigned long);
+extern void *__libc_realloc(void *, unsigned long);
+extern char *getenv(const char *);
+extern long atol(const char *);
+extern int open(const char *, int, ...);
+extern int close(int);
 static long calls;
 static int refused(void) {
     const char *which = getenv("REFUSE");
     if (!which || ++calls != atol(which))
         return 0;
-    close(open(getenv("REFUSED"), O_CREAT | O_WRONLY, 0600));
+    close(open(getenv("REFUSED"), 0101 /* made, and written to */, 0600));
     return 1;
 }
-void *malloc(size_t size) { return refused() ? NULL : __libc_malloc(size); }
-void *realloc(void *block, size_t size) { return refused() ? NULL : __libc_realloc(block, size); }
+void *malloc(unsigned long size) { return refused() ? 0 : __libc_malloc(size); }
+void *realloc(void *block, unsigned long size) { return refused() ? 0 : __libc_realloc(block, size); }
 C
-cc -shared -fPIC -fno-builtin -o "$dir/refuse.so" "$dir/refuse.c" || exit 2
+"$(dirname "$(rt doc)")/toolchain/bin/clang" -shared -fPIC -fno-builtin -nostdlib -o "$dir/refuse.so" "$dir/refuse.c" || exit 2
 
 fail() { echo "$1, growth $2: $3"; exit 1; }
 
