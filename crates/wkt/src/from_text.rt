@@ -153,7 +153,8 @@ impl<T: WktNum> TryFromWkt<T> for flat::LineString<T> {
 
     ghost answers = { λ text r. TextAnswers T.read (λ x. x) (only_flat (codes "LineString") path_in T.eq) text r };
 
-    ghost bytes_answers = { λ bytes r. BytesAnswer T.read (λ x. x) (only_flat (codes "LineString") path_in T.eq) bytes r };
+    ghost bytes_answers = { λ bytes r. BytesAnswer T.read (λ x. x) (only_flat (codes "LineString") path_in T.eq)
+        bytes r };
 
     ghost if_all_read = { IfAllRead };
 
@@ -182,7 +183,8 @@ impl<T: WktNum> TryFromWkt<T> for flat::Polygon<T> {
 
     ghost answers = { λ text r. TextAnswers T.read (λ x. x) (only_flat (codes "Polygon") rings_in T.eq) text r };
 
-    ghost bytes_answers = { λ bytes r. BytesAnswer T.read (λ x. x) (only_flat (codes "Polygon") rings_in T.eq) bytes r };
+    ghost bytes_answers = { λ bytes r. BytesAnswer T.read (λ x. x) (only_flat (codes "Polygon") rings_in T.eq)
+        bytes r };
 
     ghost if_all_read = { IfAllRead };
 
@@ -211,7 +213,8 @@ impl<T: WktNum> TryFromWkt<T> for flat::MultiPoint<T> {
 
     ghost answers = { λ text r. TextAnswers T.read (λ x. x) (only_flat (codes "MultiPoint") points_in T.eq) text r };
 
-    ghost bytes_answers = { λ bytes r. BytesAnswer T.read (λ x. x) (only_flat (codes "MultiPoint") points_in T.eq) bytes r };
+    ghost bytes_answers = { λ bytes r. BytesAnswer T.read (λ x. x) (only_flat (codes "MultiPoint") points_in T.eq)
+        bytes r };
 
     ghost if_all_read = { IfAllRead };
 
@@ -238,9 +241,11 @@ impl<T: WktNum> TryFromWkt<T> for flat::MultiPoint<T> {
 impl<T: WktNum> TryFromWkt<T> for flat::MultiLineString<T> {
     type Error = ConvertError;
 
-    ghost answers = { λ text r. TextAnswers T.read (λ x. x) (only_flat (codes "MultiLineString") paths_in T.eq) text r };
+    ghost answers = { λ text r. TextAnswers T.read (λ x. x) (only_flat (codes "MultiLineString") paths_in T.eq)
+        text r };
 
-    ghost bytes_answers = { λ bytes r. BytesAnswer T.read (λ x. x) (only_flat (codes "MultiLineString") paths_in T.eq) bytes r };
+    ghost bytes_answers = { λ bytes r. BytesAnswer T.read (λ x. x)
+        (only_flat (codes "MultiLineString") paths_in T.eq) bytes r };
 
     ghost if_all_read = { IfAllRead };
 
@@ -267,9 +272,11 @@ impl<T: WktNum> TryFromWkt<T> for flat::MultiLineString<T> {
 impl<T: WktNum> TryFromWkt<T> for flat::MultiPolygon<T> {
     type Error = ConvertError;
 
-    ghost answers = { λ text r. TextAnswers T.read (λ x. x) (only_flat (codes "MultiPolygon") polygons_in T.eq) text r };
+    ghost answers = { λ text r. TextAnswers T.read (λ x. x) (only_flat (codes "MultiPolygon") polygons_in T.eq)
+        text r };
 
-    ghost bytes_answers = { λ bytes r. BytesAnswer T.read (λ x. x) (only_flat (codes "MultiPolygon") polygons_in T.eq) bytes r };
+    ghost bytes_answers = { λ bytes r. BytesAnswer T.read (λ x. x)
+        (only_flat (codes "MultiPolygon") polygons_in T.eq) bytes r };
 
     ghost if_all_read = { IfAllRead };
 
@@ -327,7 +334,8 @@ impl<T: WktNum> TryFromWkt<T> for flat::Triangle<T> {
 
     ghost answers = { λ text r. TextAnswers T.read (λ x. x) (only_flat (codes "Triangle") triangle_in T.eq) text r };
 
-    ghost bytes_answers = { λ bytes r. BytesAnswer T.read (λ x. x) (only_flat (codes "Triangle") triangle_in T.eq) bytes r };
+    ghost bytes_answers = { λ bytes r. BytesAnswer T.read (λ x. x) (only_flat (codes "Triangle") triangle_in T.eq)
+        bytes r };
 
     ghost if_all_read = { IfAllRead };
 

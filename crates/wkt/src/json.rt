@@ -55,7 +55,8 @@ pub fn wkt_from_value<T: WktNum>(
     ensures found { AsText (text_of value.now) result (λ text r. IfOk r (λ w. IsFront T.read text (tree w))) }
     ensures refused { AsText (text_of value.now) result (λ text r. OnText r (HasNoFront T.read text)) }
     ensures bad { AsText (text_of value.now) result (λ text r. OnMessage r bad_number (HasBadNumber T.read text)) }
-    ensures free { AsText (text_of value.now) result (λ text r. (v end : _) → Front T.read text v end → NeedsNoMemory v → IsOk r) }
+    ensures free { AsText (text_of value.now) result
+        (λ text r. (v end : _) → Front T.read text v end → NeedsNoMemory v → IsOk r) }
 {
     match value.as_str() {
         Some(text) => match Wkt::<T>::from_str(alloc, text) {
@@ -137,7 +138,8 @@ pub fn deserialize_point<T: WktNum>(
     alloc: Global,
     value: &Value,
 ) -> Result<Option<Point<T>>, ValueError<ConvertError>>
-    ensures { AsText (text_of value.now) result (TextAnswers T.read (λ p. p) (only_flat (codes "Point") point_if_any T.eq)) }
+    ensures { AsText (text_of value.now) result
+        (TextAnswers T.read (λ p. p) (only_flat (codes "Point") point_if_any T.eq)) }
 {
     match deserialize_geometry(alloc, value) {
         Ok(geometry) => match point_or_none(geometry) {

@@ -16,7 +16,8 @@ pub(crate) fn with<P: Drop>(
     list: Result<Vec<P>, AllocError>,
     member: Result<P, AllocError>,
 ) -> Result<Vec<P>, AllocError>
-    ensures { IfOk result (λ v. (old : _) × (new : P) × (list ≡ Ok old) × (member ≡ Ok new) × (v.items ≡ old.items ++ new ∷ [])) }
+    ensures { IfOk result
+        (λ v. (old : _) × (new : P) × (list ≡ Ok old) × (member ≡ Ok new) × (v.items ≡ old.items ++ new ∷ [])) }
 {
     let mut list = list?;
     list.push(member?)?;

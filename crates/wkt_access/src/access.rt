@@ -59,7 +59,8 @@ pub trait PointTrait {
 
     /// Its coordinate, or `None` where it is empty.
     fn coord(&self) -> Option<&Self::CoordType>
-        ensures { MatchOption result (coordinate self.now ≡ None) (λ c. coordinate self.now ≡ Some (Self.CoordType.numbers c.now)) };
+        ensures { MatchOption result (coordinate self.now ≡ None)
+            (λ c. coordinate self.now ≡ Some (Self.CoordType.numbers c.now)) };
 }
 
 /// A line string: a path through coordinates, or a ring of a polygon.
@@ -110,7 +111,8 @@ pub trait PolygonTrait {
 
     /// The ring around it, or `None`.
     fn exterior(&self) -> Option<&Self::RingType>
-        ensures { MatchOption result ((polygon self.now).exterior ≡ None) (λ r. (polygon self.now).exterior ≡ Some (Self.RingType.coordinates r.now)) };
+        ensures { MatchOption result ((polygon self.now).exterior ≡ None)
+            (λ r. (polygon self.now).exterior ≡ Some (Self.RingType.coordinates r.now)) };
 
     /// How many rings around holes it has.
     fn num_interiors(&self) -> usize
@@ -390,13 +392,18 @@ pub trait GeometryTrait {
     >
         ensures { IsPart result
             (λ p. shape self.now ≡ Shape.point (Self.PointType.dimension p) (Self.PointType.coordinate p))
-            (λ p. shape self.now ≡ Shape.line_string (Self.LineStringType.dimension p) (Self.LineStringType.coordinates p))
+            (λ p. shape self.now ≡ Shape.line_string (Self.LineStringType.dimension p)
+            (Self.LineStringType.coordinates p))
             (λ p. shape self.now ≡ Shape.polygon (Self.PolygonType.dimension p) (Self.PolygonType.polygon p))
             (λ p. shape self.now ≡ Shape.multi_point (Self.MultiPointType.dimension p) (Self.MultiPointType.points p))
-            (λ p. shape self.now ≡ Shape.multi_line_string (Self.MultiLineStringType.dimension p) (Self.MultiLineStringType.line_strings p))
-            (λ p. shape self.now ≡ Shape.multi_polygon (Self.MultiPolygonType.dimension p) (Self.MultiPolygonType.polygons p))
-            (λ p. shape self.now ≡ Shape.rect (Self.RectType.dimension p) (Self.RectType.least_corner p) (Self.RectType.greatest_corner p))
-            (λ p. shape self.now ≡ Shape.triangle (Self.TriangleType.dimension p) (Self.TriangleType.first_corner p) (Self.TriangleType.second_corner p) (Self.TriangleType.third_corner p))
+            (λ p. shape self.now ≡ Shape.multi_line_string (Self.MultiLineStringType.dimension p)
+            (Self.MultiLineStringType.line_strings p))
+            (λ p. shape self.now ≡ Shape.multi_polygon (Self.MultiPolygonType.dimension p)
+            (Self.MultiPolygonType.polygons p))
+            (λ p. shape self.now ≡ Shape.rect (Self.RectType.dimension p) (Self.RectType.least_corner p)
+            (Self.RectType.greatest_corner p))
+            (λ p. shape self.now ≡ Shape.triangle (Self.TriangleType.dimension p) (Self.TriangleType.first_corner p)
+            (Self.TriangleType.second_corner p) (Self.TriangleType.third_corner p))
             (λ p. shape self.now ≡ Shape.line (Self.LineType.dimension p) (Self.LineType.from p) (Self.LineType.to p))
             (λ n. IsCollectionOf n (shape self.now)) };
 

@@ -36,7 +36,8 @@ pub struct WriterWrapper<W> {
 fn put_all<W: ByteSink>(writer: &mut W, bytes: &[u8]) -> Result<(), io::Error>
     ensures ok { OnOk result (Appends (W.device.bytes writer.old) (W.device.bytes writer.new) bytes.now) }
     ensures kept { OnOk result (W.device.failures writer.new ≡ W.device.failures writer.old) }
-    ensures err { OnErr result ((k : ℕ) × Appends (W.device.bytes writer.old) (W.device.bytes writer.new) (take k bytes.now)) }
+    ensures err { OnErr result
+        ((k : ℕ) × Appends (W.device.bytes writer.old) (W.device.bytes writer.new) (take k bytes.now)) }
     ensures failed { OnErr result (W.device.failures writer.new ≡ next_count (W.device.failures writer.old)) }
     ensures keeps { W.device.keeps writer.old writer.new }
 {
@@ -228,7 +229,8 @@ impl<W: ByteSink> TextSink for WriterWrapper<W> {
     fn write_str(&mut self, piece: &str) -> fmt::Result
         ensures puts { Puts (wrapped_sink W.device) self.old piece.now self.new result }
         ensures well { OnOk result (is_well self.old ≡ true) }
-        ensures gathered { length (held_bytes self.old) + length piece.now < 256 → wrapped_writer self.new ≡ wrapped_writer self.old }
+        ensures gathered { length (held_bytes self.old) + length piece.now < 256
+            → wrapped_writer self.new ≡ wrapped_writer self.old }
     {
         match self.accept(piece.as_bytes()) {
             Ok(()) => Ok(()),

@@ -232,7 +232,8 @@ fn push_rect<T: WktNum>(
     r: &flat::Rect<T>,
     all: &mut Vec<Wkt<T>>,
 ) -> Result<(), AllocError>
-    ensures { AddsTree result all.old.items all.new.items (trees.polygon (polygon_back (one_ring (corner_ring r.now)))) }
+    ensures { AddsTree result all.old.items all.new.items
+        (trees.polygon (polygon_back (one_ring (corner_ring r.now)))) }
 {
     push_polygon(alloc, &r.to_polygon(alloc)?, all)
 }
@@ -243,7 +244,8 @@ fn push_triangle<T: WktNum>(
     t: &flat::Triangle<T>,
     all: &mut Vec<Wkt<T>>,
 ) -> Result<(), AllocError>
-    ensures { AddsTree result all.old.items all.new.items (trees.polygon (polygon_back (one_ring (triangle_ring t.now)))) }
+    ensures { AddsTree result all.old.items all.new.items
+        (trees.polygon (polygon_back (one_ring (triangle_ring t.now)))) }
 {
     push_polygon(alloc, &t.to_polygon(alloc)?, all)
 }

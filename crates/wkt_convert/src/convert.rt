@@ -58,7 +58,9 @@ pub fn try_into_geometry_collection<T: WktNum>(
     alloc: Global,
     geometry_collection: &types::GeometryCollection<T>,
 ) -> Result<Geometry<T>, ConvertError>
-    ensures { Answers flat_tree (outcome_map Flat.collection (flat_all (coord_eq T.eq) (trees_in (collection_tree geometry_collection.now)))) result }
+    ensures { Answers flat_tree
+        (outcome_map Flat.collection (flat_all (coord_eq T.eq) (trees_in (collection_tree geometry_collection.now))))
+        result }
 {
     Ok(Geometry::GeometryCollection(collection(alloc, geometry_collection.geometries())?))
 }
@@ -164,7 +166,8 @@ impl<T: WktNum> ConvertFrom<&types::MultiLineString<T>> for Geometry<T> {
 impl<T: WktNum> ConvertFrom<&types::MultiPolygon<T>> for Geometry<T> {
     ghost use Rattle.std.specs.Prelude.{map};
 
-    ghost converts = { λ m r. Answers flat_tree (value (Flat.multi_polygon (map (rings (coord_eq T.eq)) m.now.parts))) r };
+    ghost converts = { λ m r. Answers flat_tree
+        (value (Flat.multi_polygon (map (rings (coord_eq T.eq)) m.now.parts))) r };
 
     fn convert_from(alloc: Global, source: &types::MultiPolygon<T>) -> Result<Self, ConvertError> {
         Ok(Geometry::MultiPolygon(flat::MultiPolygon(polygons(alloc, source.polygons())?)))

@@ -124,7 +124,8 @@ impl<T: WktNum> ToWkt<T> for flat::LineString<T> {
     /// out. `Shape` never comes.
     fn write_wkt<W: ByteSink>(&self, _alloc: Global, writer: &mut W) -> Result<(), ToWktError>
         ensures ok { OnOk result (IsOut W.device writer.old writer.new (wkt_text T.num (Flat.line_string self.now))) }
-        ensures io { IfIo result (IsPartOut W.device writer.old writer.new (wkt_text T.num (Flat.line_string self.now))) }
+        ensures io { IfIo result
+            (IsPartOut W.device writer.old writer.new (wkt_text T.num (Flat.line_string self.now))) }
         ensures io_count { IfIo result (W.device.failures writer.new ≡ next_count (W.device.failures writer.old)) }
         ensures shape { IfShape result (λ _. writer.new ≡ writer.old) }
         ensures cause { IfShape result (IsRefusal (tree_shape (back (Flat.line_string self.now)))) }
@@ -201,7 +202,8 @@ impl<T: WktNum> ToWkt<T> for flat::MultiPoint<T> {
     /// out. `Shape` never comes.
     fn write_wkt<W: ByteSink>(&self, _alloc: Global, writer: &mut W) -> Result<(), ToWktError>
         ensures ok { OnOk result (IsOut W.device writer.old writer.new (wkt_text T.num (Flat.multi_point self.now))) }
-        ensures io { IfIo result (IsPartOut W.device writer.old writer.new (wkt_text T.num (Flat.multi_point self.now))) }
+        ensures io { IfIo result
+            (IsPartOut W.device writer.old writer.new (wkt_text T.num (Flat.multi_point self.now))) }
         ensures io_count { IfIo result (W.device.failures writer.new ≡ next_count (W.device.failures writer.old)) }
         ensures shape { IfShape result (λ _. writer.new ≡ writer.old) }
         ensures cause { IfShape result (IsRefusal (tree_shape (back (Flat.multi_point self.now)))) }
@@ -239,8 +241,10 @@ impl<T: WktNum> ToWkt<T> for flat::MultiLineString<T> {
     /// `Io` where the writer failed, or took nothing (`WriteZero`): then a beginning of the text is
     /// out. `Shape` never comes.
     fn write_wkt<W: ByteSink>(&self, _alloc: Global, writer: &mut W) -> Result<(), ToWktError>
-        ensures ok { OnOk result (IsOut W.device writer.old writer.new (wkt_text T.num (Flat.multi_line_string self.now))) }
-        ensures io { IfIo result (IsPartOut W.device writer.old writer.new (wkt_text T.num (Flat.multi_line_string self.now))) }
+        ensures ok { OnOk result
+            (IsOut W.device writer.old writer.new (wkt_text T.num (Flat.multi_line_string self.now))) }
+        ensures io { IfIo result
+            (IsPartOut W.device writer.old writer.new (wkt_text T.num (Flat.multi_line_string self.now))) }
         ensures io_count { IfIo result (W.device.failures writer.new ≡ next_count (W.device.failures writer.old)) }
         ensures shape { IfShape result (λ _. writer.new ≡ writer.old) }
         ensures cause { IfShape result (IsRefusal (tree_shape (back (Flat.multi_line_string self.now)))) }
@@ -279,7 +283,8 @@ impl<T: WktNum> ToWkt<T> for flat::MultiPolygon<T> {
     /// out. `Shape` never comes.
     fn write_wkt<W: ByteSink>(&self, _alloc: Global, writer: &mut W) -> Result<(), ToWktError>
         ensures ok { OnOk result (IsOut W.device writer.old writer.new (wkt_text T.num (Flat.multi_polygon self.now))) }
-        ensures io { IfIo result (IsPartOut W.device writer.old writer.new (wkt_text T.num (Flat.multi_polygon self.now))) }
+        ensures io { IfIo result
+            (IsPartOut W.device writer.old writer.new (wkt_text T.num (Flat.multi_polygon self.now))) }
         ensures io_count { IfIo result (W.device.failures writer.new ≡ next_count (W.device.failures writer.old)) }
         ensures shape { IfShape result (λ _. writer.new ≡ writer.old) }
         ensures cause { IfShape result (IsRefusal (tree_shape (back (Flat.multi_polygon self.now)))) }
@@ -317,8 +322,10 @@ impl<T: WktNum> ToWkt<T> for flat::GeometryCollection<T> {
     /// `Io` where the writer failed, or took nothing (`WriteZero`): then a beginning of the text is
     /// out. `Shape` never comes.
     fn write_wkt<W: ByteSink>(&self, _alloc: Global, writer: &mut W) -> Result<(), ToWktError>
-        ensures ok { OnOk result (IsOut W.device writer.old writer.new (wkt_text T.num (Flat.collection (flat_trees self.now)))) }
-        ensures io { IfIo result (IsPartOut W.device writer.old writer.new (wkt_text T.num (Flat.collection (flat_trees self.now)))) }
+        ensures ok { OnOk result
+            (IsOut W.device writer.old writer.new (wkt_text T.num (Flat.collection (flat_trees self.now)))) }
+        ensures io { IfIo result
+            (IsPartOut W.device writer.old writer.new (wkt_text T.num (Flat.collection (flat_trees self.now)))) }
         ensures io_count { IfIo result (W.device.failures writer.new ≡ next_count (W.device.failures writer.old)) }
         ensures shape { IfShape result (λ _. writer.new ≡ writer.old) }
         ensures cause { IfShape result (IsRefusal (tree_shape (back (Flat.collection (flat_trees self.now))))) }

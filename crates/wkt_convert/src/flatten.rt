@@ -179,7 +179,8 @@ fn push_multi_polygon<T: WktNum>(
     m: &MultiPolygon<T>,
     all: &mut Vec<Geometry<T>>,
 ) -> Result<(), ConvertError>
-    ensures { AddsFlat result all.old.items all.new.items (value (Flat.multi_polygon (map (rings (coord_eq T.eq)) m.now.parts))) }
+    ensures { AddsFlat result all.old.items all.new.items
+        (value (Flat.multi_polygon (map (rings (coord_eq T.eq)) m.now.parts))) }
 {
     let polygons = polygons(alloc, m.polygons())?;
     push(Geometry::MultiPolygon(flat::MultiPolygon(polygons)), all)
@@ -193,7 +194,9 @@ fn push_collection<T: Drop>(
     members: Vec<Geometry<T>>,
     all: &mut Vec<Geometry<T>>,
 ) -> Result<(), ConvertError>
-    ensures { MatchResult filled (λ _. AddsFlat result all.old.items all.new.items (value (Flat.collection (flat_members members.items)))) (λ e. result ≡ Err e) }
+    ensures { MatchResult filled
+        (λ _. AddsFlat result all.old.items all.new.items (value (Flat.collection (flat_members members.items))))
+        (λ e. result ≡ Err e) }
 {
     match filled {
         Ok(()) => {

@@ -56,9 +56,14 @@ fn send_through<G: Written, W: ByteSink>(
 ) -> Result<(), ToWktError>
     requires well { is_well wrapper.old ≡ true }
     requires held { held_bytes wrapper.old ≡ [] }
-    ensures ok { OnOk result (IsOut W.device (wrapped_writer wrapper.old) (wrapped_writer wrapper.new) (shape_text G.T.num (G.shape g.now))) }
-    ensures io { IfIo result (IsPartOut W.device (wrapped_writer wrapper.old) (wrapped_writer wrapper.new) (shape_text G.T.num (G.shape g.now))) }
-    ensures io_count { IfIo result (W.device.failures (wrapped_writer wrapper.new) ≡ next_count (W.device.failures (wrapped_writer wrapper.old))) }
+    ensures ok { OnOk result
+        (IsOut W.device (wrapped_writer wrapper.old) (wrapped_writer wrapper.new)
+        (shape_text G.T.num (G.shape g.now))) }
+    ensures io { IfIo result
+        (IsPartOut W.device (wrapped_writer wrapper.old) (wrapped_writer wrapper.new)
+        (shape_text G.T.num (G.shape g.now))) }
+    ensures io_count { IfIo result
+        (W.device.failures (wrapped_writer wrapper.new) ≡ next_count (W.device.failures (wrapped_writer wrapper.old))) }
     ensures shape { IfShape result (λ _. wrapped_writer wrapper.new ≡ wrapped_writer wrapper.old) }
     ensures cause { IfShape result (λ e. fault (G.shape g.now) ≡ Some e) }
     ensures refused { IfShape result (IsRefusal (G.shape g.now)) }

@@ -55,8 +55,10 @@ pub trait ToWkt<T: WktNum> {
     /// `Shape` for the fault of the shape, or when out of memory: then nothing went out. `Io`
     /// where the writer failed, or took nothing (`WriteZero`): then a beginning of the text is out.
     fn write_wkt<W: ByteSink>(&self, alloc: Global, writer: &mut W) -> Result<(), ToWktError>
-        ensures ok { OnOk result (IsOut W.device writer.old writer.new (shape_text T.num (tree_shape (held self.now)))) }
-        ensures io { IfIo result (IsPartOut W.device writer.old writer.new (shape_text T.num (tree_shape (held self.now)))) }
+        ensures ok { OnOk result
+            (IsOut W.device writer.old writer.new (shape_text T.num (tree_shape (held self.now)))) }
+        ensures io { IfIo result
+            (IsPartOut W.device writer.old writer.new (shape_text T.num (tree_shape (held self.now)))) }
         ensures io_count { IfIo result (W.device.failures writer.new ≡ next_count (W.device.failures writer.old)) }
         ensures shape { IfShape result (λ _. writer.new ≡ writer.old) }
         ensures cause { IfShape result (IsRefusal (tree_shape (held self.now))) }

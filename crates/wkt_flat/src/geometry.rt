@@ -114,7 +114,8 @@ fn push_line_string<T: Copy + Drop>(
     alloc: Global,
     copies: &mut Vec<Geometry<T>>,
 ) -> Result<(), AllocError>
-    ensures { OnOk result (map flat_tree copies.new.items ≡ map flat_tree copies.old.items ++ line_string part.now ∷ []) }
+    ensures { OnOk result
+        (map flat_tree copies.new.items ≡ map flat_tree copies.old.items ++ line_string part.now ∷ []) }
 {
     copies.push(Geometry::LineString(part.try_clone(alloc)?))?;
     Ok(())
@@ -138,7 +139,8 @@ fn push_points<T: Copy + Drop>(
     alloc: Global,
     copies: &mut Vec<Geometry<T>>,
 ) -> Result<(), AllocError>
-    ensures { OnOk result (map flat_tree copies.new.items ≡ map flat_tree copies.old.items ++ multi_point part.now ∷ []) }
+    ensures { OnOk result
+        (map flat_tree copies.new.items ≡ map flat_tree copies.old.items ++ multi_point part.now ∷ []) }
 {
     copies.push(Geometry::MultiPoint(part.try_clone(alloc)?))?;
     Ok(())
@@ -150,7 +152,8 @@ fn push_line_strings<T: Copy + Drop>(
     alloc: Global,
     copies: &mut Vec<Geometry<T>>,
 ) -> Result<(), AllocError>
-    ensures { OnOk result (map flat_tree copies.new.items ≡ map flat_tree copies.old.items ++ multi_line_string part.now ∷ []) }
+    ensures { OnOk result
+        (map flat_tree copies.new.items ≡ map flat_tree copies.old.items ++ multi_line_string part.now ∷ []) }
 {
     copies.push(Geometry::MultiLineString(part.try_clone(alloc)?))?;
     Ok(())
@@ -162,7 +165,8 @@ fn push_polygons<T: Copy + Drop>(
     alloc: Global,
     copies: &mut Vec<Geometry<T>>,
 ) -> Result<(), AllocError>
-    ensures { OnOk result (map flat_tree copies.new.items ≡ map flat_tree copies.old.items ++ multi_polygon part.now ∷ []) }
+    ensures { OnOk result
+        (map flat_tree copies.new.items ≡ map flat_tree copies.old.items ++ multi_polygon part.now ∷ []) }
 {
     copies.push(Geometry::MultiPolygon(part.try_clone(alloc)?))?;
     Ok(())
@@ -199,7 +203,9 @@ fn push_collection<T: Copy + Drop>(
     copies: &mut Vec<Geometry<T>>,
 ) -> Result<(), AllocError>
     ensures filled { OnOk result (IsOk filled) }
-    ensures pushed { OnOk result (map flat_tree copies.new.items ≡ map flat_tree copies.old.items ++ collection (flat_members geometries.items) ∷ []) }
+    ensures pushed { OnOk result
+        (map flat_tree copies.new.items
+        ≡ map flat_tree copies.old.items ++ collection (flat_members geometries.items) ∷ []) }
 {
     filled?;
     let collection = GeometryCollection::new_from(geometries);
@@ -240,7 +246,8 @@ fn push_copies<T: Copy + Drop>(
     alloc: Global,
     copies: &mut Vec<Geometry<T>>,
 ) -> Result<(), AllocError>
-    ensures { OnOk result (map flat_tree copies.new.items ≡ map flat_tree copies.old.items ++ map flat_tree all.now.items) }
+    ensures { OnOk result
+        (map flat_tree copies.new.items ≡ map flat_tree copies.old.items ++ map flat_tree all.now.items) }
 {
     for g in all {
         push_copy(g, alloc, copies)?;

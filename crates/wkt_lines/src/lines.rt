@@ -44,13 +44,16 @@ pub fn run<R: ByteSource, W: ByteSink>(
     reader: &mut R,
     writer: &mut W,
 ) -> Result<(), RunError>
-    ensures ok { OnOk result (IfSome (R.left reader.old) (IsAllOut read_line print_line W.device writer.old writer.new)) }
+    ensures ok { OnOk result
+        (IfSome (R.left reader.old) (IsAllOut read_line print_line W.device writer.old writer.new)) }
     ensures end { OnOk result (IsAtEnd (R.left reader.new)) }
     ensures read { IfRunRead result (writer.new ≡ writer.old) }
     ensures read_count { IfRunRead result (R.failures reader.new ≡ next_count (R.failures reader.old)) }
-    ensures write { IfRunWrite result (IfSome (R.left reader.old) (IsSomeOut read_line print_line W.device writer.old writer.new)) }
+    ensures write { IfRunWrite result
+        (IfSome (R.left reader.old) (IsSomeOut read_line print_line W.device writer.old writer.new)) }
     ensures write_count { IfRunWrite result (W.device.failures writer.new ≡ next_count (W.device.failures writer.old)) }
-    ensures memory { IfRunMemory result (IfSome (R.left reader.old) (IsFirstOut read_line print_line W.device writer.old writer.new)) }
+    ensures memory { IfRunMemory result
+        (IfSome (R.left reader.old) (IsFirstOut read_line print_line W.device writer.old writer.new)) }
 {
     match read_all(alloc, reader) {
         Ok(bytes) => answer_all::<Decimal<18>, W>(alloc, &bytes, writer),
@@ -85,10 +88,14 @@ fn answer_lines<T: WktNum, W: ByteSink>(
 ) -> Result<(), RunError>
     requires well { is_well wrapper.old ≡ true }
     requires held { held_bytes wrapper.old ≡ [] }
-    ensures ok { OnOk result (IsAllOut T.read T.num W.device (wrapped_writer wrapper.old) (wrapped_writer wrapper.new) input.now) }
-    ensures write { IfRunWrite result (IsSomeOut T.read T.num W.device (wrapped_writer wrapper.old) (wrapped_writer wrapper.new) input.now) }
-    ensures write_count { IfRunWrite result (W.device.failures (wrapped_writer wrapper.new) ≡ next_count (W.device.failures (wrapped_writer wrapper.old))) }
-    ensures memory { IfRunMemory result (IsFirstOut T.read T.num W.device (wrapped_writer wrapper.old) (wrapped_writer wrapper.new) input.now) }
+    ensures ok { OnOk result
+        (IsAllOut T.read T.num W.device (wrapped_writer wrapper.old) (wrapped_writer wrapper.new) input.now) }
+    ensures write { IfRunWrite result
+        (IsSomeOut T.read T.num W.device (wrapped_writer wrapper.old) (wrapped_writer wrapper.new) input.now) }
+    ensures write_count { IfRunWrite result
+        (W.device.failures (wrapped_writer wrapper.new) ≡ next_count (W.device.failures (wrapped_writer wrapper.old))) }
+    ensures memory { IfRunMemory result
+        (IsFirstOut T.read T.num W.device (wrapped_writer wrapper.old) (wrapped_writer wrapper.new) input.now) }
     ensures read { IfRunRead result ⊥ }
     ensures keeps { W.device.keeps (wrapped_writer wrapper.old) (wrapped_writer wrapper.new) }
 {
@@ -158,12 +165,16 @@ fn answer_line<T: WktNum, W: ByteSink>(
 ) -> Result<(), RunError>
     requires well { is_well wrapper.old ≡ true }
     requires held { held_bytes wrapper.old ≡ [] }
-    ensures ok { OnOk result (IsLineOut T.read T.num W.device (wrapped_writer wrapper.old) (wrapped_writer wrapper.new) line.now) }
+    ensures ok { OnOk result
+        (IsLineOut T.read T.num W.device (wrapped_writer wrapper.old) (wrapped_writer wrapper.new) line.now) }
     ensures well { OnOk result (is_well wrapper.new ≡ true) }
     ensures held { OnOk result (held_bytes wrapper.new ≡ []) }
-    ensures count { OnOk result (W.device.failures (wrapped_writer wrapper.new) ≡ W.device.failures (wrapped_writer wrapper.old)) }
-    ensures write { IfRunWrite result (IsLinePartOut T.read T.num W.device (wrapped_writer wrapper.old) (wrapped_writer wrapper.new) line.now) }
-    ensures write_count { IfRunWrite result (W.device.failures (wrapped_writer wrapper.new) ≡ next_count (W.device.failures (wrapped_writer wrapper.old))) }
+    ensures count { OnOk result
+        (W.device.failures (wrapped_writer wrapper.new) ≡ W.device.failures (wrapped_writer wrapper.old)) }
+    ensures write { IfRunWrite result
+        (IsLinePartOut T.read T.num W.device (wrapped_writer wrapper.old) (wrapped_writer wrapper.new) line.now) }
+    ensures write_count { IfRunWrite result
+        (W.device.failures (wrapped_writer wrapper.new) ≡ next_count (W.device.failures (wrapped_writer wrapper.old))) }
     ensures memory { IfRunMemory result (wrapper.new ≡ wrapper.old) }
     ensures read { IfRunRead result ⊥ }
     ensures keeps { W.device.keeps (wrapped_writer wrapper.old) (wrapped_writer wrapper.new) }

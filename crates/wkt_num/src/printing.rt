@@ -220,7 +220,8 @@ fn without_zeros(out: &[u8; 80], end: usize) -> usize
     requires { 41 ≤ end × end ≤ 80 }
     ensures start { 41 ≤ result }
     ensures bound { result ≤ end }
-    ensures value { (kept : List ℕ) (m : ℕ) → EndsInDigit kept → 41 < length kept → take end out.now ≡ kept ++ zeros m → take result out.now ≡ kept }
+    ensures value { (kept : List ℕ) (m : ℕ) → EndsInDigit kept → 41 < length kept
+        → take end out.now ≡ kept ++ zeros m → take result out.now ≡ kept }
 {
     let mut at = end;
     while at > 41 && out[at - 1] == b'0' {

@@ -26,7 +26,8 @@ impl<T: WktNum> fmt::Display for Wkt<T> {
     /// nothing is written.
     fn fmt<W: fmt::Write>(&self, f: &mut Formatter<W>) -> fmt::Result
         ensures writes { DisplaysOnOk W.write_str_gives f.old result (shown T.num (tree_shape (tree self.now))) f.new }
-        ensures styled { DisplaysStyledOnOk W.write_str_gives f.old result (shown T.num (tree_shape (tree self.now))) f.new }
+        ensures styled { DisplaysStyledOnOk W.write_str_gives f.old result
+            (shown T.num (tree_shape (tree self.now))) f.new }
         ensures refused { IsUnwritable (tree_shape (tree self.now)) → IsErr result }
         ensures untouched { IsUnwritable (tree_shape (tree self.now)) → f.new ≡ f.old }
     {
@@ -43,7 +44,8 @@ impl<T: WktNum> fmt::Display for Point<T> {
     /// nothing is written.
     fn fmt<W: fmt::Write>(&self, f: &mut Formatter<W>) -> fmt::Result
         ensures writes { DisplaysOnOk W.write_str_gives f.old result (shown T.num (tree_shape (point self.now))) f.new }
-        ensures styled { DisplaysStyledOnOk W.write_str_gives f.old result (shown T.num (tree_shape (point self.now))) f.new }
+        ensures styled { DisplaysStyledOnOk W.write_str_gives f.old result
+            (shown T.num (tree_shape (point self.now))) f.new }
         ensures refused { IsUnwritable (tree_shape (point self.now)) → IsErr result }
         ensures untouched { IsUnwritable (tree_shape (point self.now)) → f.new ≡ f.old }
     {
@@ -59,8 +61,10 @@ impl<T: WktNum> fmt::Display for LineString<T> {
     /// The text, under any width, fill or precision. Where it can't be written: `fmt::Error`, and
     /// nothing is written.
     fn fmt<W: fmt::Write>(&self, f: &mut Formatter<W>) -> fmt::Result
-        ensures writes { DisplaysOnOk W.write_str_gives f.old result (shown T.num (tree_shape (line_string self.now))) f.new }
-        ensures styled { DisplaysStyledOnOk W.write_str_gives f.old result (shown T.num (tree_shape (line_string self.now))) f.new }
+        ensures writes { DisplaysOnOk W.write_str_gives f.old result
+            (shown T.num (tree_shape (line_string self.now))) f.new }
+        ensures styled { DisplaysStyledOnOk W.write_str_gives f.old result
+            (shown T.num (tree_shape (line_string self.now))) f.new }
         ensures refused { IsUnwritable (tree_shape (line_string self.now)) → IsErr result }
         ensures untouched { IsUnwritable (tree_shape (line_string self.now)) → f.new ≡ f.old }
     {
@@ -76,8 +80,10 @@ impl<T: WktNum> fmt::Display for Polygon<T> {
     /// The text, under any width, fill or precision. Where it can't be written: `fmt::Error`, and
     /// nothing is written.
     fn fmt<W: fmt::Write>(&self, f: &mut Formatter<W>) -> fmt::Result
-        ensures writes { DisplaysOnOk W.write_str_gives f.old result (shown T.num (tree_shape (polygon self.now))) f.new }
-        ensures styled { DisplaysStyledOnOk W.write_str_gives f.old result (shown T.num (tree_shape (polygon self.now))) f.new }
+        ensures writes { DisplaysOnOk W.write_str_gives f.old result (shown T.num (tree_shape (polygon self.now)))
+            f.new }
+        ensures styled { DisplaysStyledOnOk W.write_str_gives f.old result
+            (shown T.num (tree_shape (polygon self.now))) f.new }
         ensures refused { IsUnwritable (tree_shape (polygon self.now)) → IsErr result }
         ensures untouched { IsUnwritable (tree_shape (polygon self.now)) → f.new ≡ f.old }
     {
@@ -93,8 +99,10 @@ impl<T: WktNum> fmt::Display for MultiPoint<T> {
     /// The text, under any width, fill or precision. Where it can't be written: `fmt::Error`, and
     /// nothing is written.
     fn fmt<W: fmt::Write>(&self, f: &mut Formatter<W>) -> fmt::Result
-        ensures writes { DisplaysOnOk W.write_str_gives f.old result (shown T.num (tree_shape (multi_point self.now))) f.new }
-        ensures styled { DisplaysStyledOnOk W.write_str_gives f.old result (shown T.num (tree_shape (multi_point self.now))) f.new }
+        ensures writes { DisplaysOnOk W.write_str_gives f.old result
+            (shown T.num (tree_shape (multi_point self.now))) f.new }
+        ensures styled { DisplaysStyledOnOk W.write_str_gives f.old result
+            (shown T.num (tree_shape (multi_point self.now))) f.new }
         ensures refused { IsUnwritable (tree_shape (multi_point self.now)) → IsErr result }
         ensures untouched { IsUnwritable (tree_shape (multi_point self.now)) → f.new ≡ f.old }
     {
@@ -110,8 +118,10 @@ impl<T: WktNum> fmt::Display for MultiLineString<T> {
     /// The text, under any width, fill or precision. Where it can't be written: `fmt::Error`, and
     /// nothing is written.
     fn fmt<W: fmt::Write>(&self, f: &mut Formatter<W>) -> fmt::Result
-        ensures writes { DisplaysOnOk W.write_str_gives f.old result (shown T.num (tree_shape (multi_line_string self.now))) f.new }
-        ensures styled { DisplaysStyledOnOk W.write_str_gives f.old result (shown T.num (tree_shape (multi_line_string self.now))) f.new }
+        ensures writes { DisplaysOnOk W.write_str_gives f.old result
+            (shown T.num (tree_shape (multi_line_string self.now))) f.new }
+        ensures styled { DisplaysStyledOnOk W.write_str_gives f.old result
+            (shown T.num (tree_shape (multi_line_string self.now))) f.new }
         ensures refused { IsUnwritable (tree_shape (multi_line_string self.now)) → IsErr result }
         ensures untouched { IsUnwritable (tree_shape (multi_line_string self.now)) → f.new ≡ f.old }
     {
@@ -127,8 +137,10 @@ impl<T: WktNum> fmt::Display for MultiPolygon<T> {
     /// The text, under any width, fill or precision. Where it can't be written: `fmt::Error`, and
     /// nothing is written.
     fn fmt<W: fmt::Write>(&self, f: &mut Formatter<W>) -> fmt::Result
-        ensures writes { DisplaysOnOk W.write_str_gives f.old result (shown T.num (tree_shape (multi_polygon self.now))) f.new }
-        ensures styled { DisplaysStyledOnOk W.write_str_gives f.old result (shown T.num (tree_shape (multi_polygon self.now))) f.new }
+        ensures writes { DisplaysOnOk W.write_str_gives f.old result
+            (shown T.num (tree_shape (multi_polygon self.now))) f.new }
+        ensures styled { DisplaysStyledOnOk W.write_str_gives f.old result
+            (shown T.num (tree_shape (multi_polygon self.now))) f.new }
         ensures refused { IsUnwritable (tree_shape (multi_polygon self.now)) → IsErr result }
         ensures untouched { IsUnwritable (tree_shape (multi_polygon self.now)) → f.new ≡ f.old }
     {
@@ -144,8 +156,10 @@ impl<T: WktNum> fmt::Display for GeometryCollection<T> {
     /// The text, under any width, fill or precision. Where it can't be written: `fmt::Error`, and
     /// nothing is written.
     fn fmt<W: fmt::Write>(&self, f: &mut Formatter<W>) -> fmt::Result
-        ensures writes { DisplaysOnOk W.write_str_gives f.old result (shown T.num (tree_shape (collection_tree self.now))) f.new }
-        ensures styled { DisplaysStyledOnOk W.write_str_gives f.old result (shown T.num (tree_shape (collection_tree self.now))) f.new }
+        ensures writes { DisplaysOnOk W.write_str_gives f.old result
+            (shown T.num (tree_shape (collection_tree self.now))) f.new }
+        ensures styled { DisplaysStyledOnOk W.write_str_gives f.old result
+            (shown T.num (tree_shape (collection_tree self.now))) f.new }
         ensures refused { IsUnwritable (tree_shape (collection_tree self.now)) → IsErr result }
         ensures untouched { IsUnwritable (tree_shape (collection_tree self.now)) → f.new ≡ f.old }
     {

@@ -84,7 +84,8 @@ impl<T> GeometryCollection<T> {
         T: Drop,
         requires can { I.can_next geometries }
         requires ends { IsFinite (I.remaining geometries) }
-        ensures { IfOk result (λ r. WholeRun I.next_gives geometries (λ run. option_map collection_tree r ≡ collected (map tree run.items))) }
+        ensures { IfOk result (λ r. WholeRun I.next_gives geometries
+            (λ run. option_map collection_tree r ≡ collected (map tree run.items))) }
     {
         let geometries: Vec<Wkt<T>> = geometries.collect(alloc)?;
         match geometries.first() {
@@ -215,7 +216,8 @@ fn push_collection<T: Copy + Drop>(
     copies: &mut Vec<Wkt<T>>,
 ) -> Result<(), AllocError>
     ensures filled { OnOk result (IsOk filled) }
-    ensures pushed { OnOk result (map tree copies.new.items ≡ map tree copies.old.items ++ collection (members geometries.items) dim ∷ []) }
+    ensures pushed { OnOk result
+        (map tree copies.new.items ≡ map tree copies.old.items ++ collection (members geometries.items) dim ∷ []) }
 {
     filled?;
     let collection = GeometryCollection::new(geometries, dim);

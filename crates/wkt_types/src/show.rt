@@ -35,8 +35,10 @@ pub(crate) fn show_collection<W: fmt::Write, C: GeometryCollectionTrait>(
     c: &C,
     f: &mut Formatter<W>,
 ) -> fmt::Result
-    ensures writes { DisplaysOnOk W.write_str_gives f.old result (shown C.T.num (collection_of (C.dimension c.now) (C.geometries c.now))) f.new }
-    ensures styled { DisplaysStyledOnOk W.write_str_gives f.old result (shown C.T.num (collection_of (C.dimension c.now) (C.geometries c.now))) f.new }
+    ensures writes { DisplaysOnOk W.write_str_gives f.old result
+        (shown C.T.num (collection_of (C.dimension c.now) (C.geometries c.now))) f.new }
+    ensures styled { DisplaysStyledOnOk W.write_str_gives f.old result
+        (shown C.T.num (collection_of (C.dimension c.now) (C.geometries c.now))) f.new }
     ensures refused { IsUnwritable (collection_of (C.dimension c.now) (C.geometries c.now)) → IsErr result }
     ensures untouched { IsUnwritable (collection_of (C.dimension c.now) (C.geometries c.now)) → f.new ≡ f.old }
 {

@@ -31,7 +31,8 @@ pub fn copy_polygon<T: WktNum, R: ByteSource, W: ByteSink>(
     reader: &mut R,
     writer: &mut W,
 ) -> Result<(), CopyError>
-    ensures { OnOk result (IfSome (R.left reader.old) (IsCopied T.read T.num T.eq (W.device.bytes writer.old) (W.device.bytes writer.new))) }
+    ensures { OnOk result (IfSome (R.left reader.old)
+        (IsCopied T.read T.num T.eq (W.device.bytes writer.old) (W.device.bytes writer.new))) }
 {
     let polygon = match Polygon::<T>::try_from_wkt_reader(alloc, reader) {
         Ok(polygon) => polygon,

@@ -19,7 +19,8 @@ use wkt::to_wkt::push_geometry;
 /// The first fault of the geometry, in the order of its text; `FmtError` when out of memory.
 pub fn key<G: GeometryTrait>(alloc: Global, geometry: &G) -> Result<String, Error>
     ensures text { IfOk result (λ s. string_bytes s ≡ shape_text G.T.num (G.shape geometry.now)) }
-    ensures reads_back { IfOk result (λ s. Front G.T.read (string_bytes s) (canon (G.shape geometry.now)) (length (string_bytes s))) }
+    ensures reads_back { IfOk result
+        (λ s. Front G.T.read (string_bytes s) (canon (G.shape geometry.now)) (length (string_bytes s))) }
     ensures fault { IfFault result (λ e. fault (G.shape geometry.now) ≡ Some e) }
 {
     let mut text = String::new(alloc);

@@ -54,7 +54,8 @@ pub fn tidy_pair<T: WktNum>(alloc: Global, one: &str, other: &str) -> Result<Str
 /// # Errors
 /// Out of memory.
 pub fn tidy_if_any<T: WktNum>(alloc: Global, text: &str) -> Result<Option<String>, AllocError>
-    ensures { IfOk result (λ o. MatchOption o (HasNoFront T.read text.now) (λ s. IsTidy T.read T.num text.now (string_bytes s))) }
+    ensures { IfOk result
+        (λ o. MatchOption o (HasNoFront T.read text.now) (λ s. IsTidy T.read T.num text.now (string_bytes s))) }
 {
     match tidy::<T>(alloc, text) {
         Ok(tidy) => Ok(Some(tidy)),

@@ -76,7 +76,8 @@ fn check_coord<C: CoordTrait>(c: &C, k: usize) -> Result<(), Error>
 
 /// The first fault of the coordinates of a line string or a ring, under a header of `k` numbers.
 fn check_coords<L: LineStringTrait>(l: &L, k: usize) -> Result<(), Error>
-    ensures { Checks result (coordinates_fault k (L.coordinates l.now)) (KnownCoords L.T.is_value k (L.coordinates l.now)) }
+    ensures { Checks result (coordinates_fault k (L.coordinates l.now))
+        (KnownCoords L.T.is_value k (L.coordinates l.now)) }
 {
     for i in 0..l.num_coords() {
         check_coord(l.coord(i), k)?;
@@ -86,7 +87,8 @@ fn check_coords<L: LineStringTrait>(l: &L, k: usize) -> Result<(), Error>
 
 /// The first fault of a polygon's interiors.
 fn check_interiors<Y: PolygonTrait>(y: &Y, k: usize) -> Result<(), Error>
-    ensures { Checks result (first_fault (coordinates_fault k) (Y.polygon y.now).interiors) (KnownLineStrings Y.T.is_value k (Y.polygon y.now).interiors) }
+    ensures { Checks result (first_fault (coordinates_fault k) (Y.polygon y.now).interiors)
+        (KnownLineStrings Y.T.is_value k (Y.polygon y.now).interiors) }
 {
     for i in 0..y.num_interiors() {
         check_coords(y.interior(i), k)?;
@@ -122,7 +124,8 @@ fn check_point_coord<P: PointTrait>(p: &P, k: usize) -> Result<(), Error>
 
 /// The first fault of the members of a multipoint.
 fn check_points<M: MultiPointTrait>(m: &M, k: usize) -> Result<(), Error>
-    ensures { Checks result (first_fault (point_fault k) (M.points m.now)) (AllByRecursion (KnownPoint M.T.is_value k) (M.points m.now)) }
+    ensures { Checks result (first_fault (point_fault k) (M.points m.now))
+        (AllByRecursion (KnownPoint M.T.is_value k) (M.points m.now)) }
 {
     for i in 0..m.num_points() {
         check_point_coord(m.point(i), k)?;
@@ -132,7 +135,8 @@ fn check_points<M: MultiPointTrait>(m: &M, k: usize) -> Result<(), Error>
 
 /// The first fault of the members of a multilinestring.
 fn check_linestrings<M: MultiLineStringTrait>(m: &M, k: usize) -> Result<(), Error>
-    ensures { Checks result (first_fault (coordinates_fault k) (M.line_strings m.now)) (KnownLineStrings M.T.is_value k (M.line_strings m.now)) }
+    ensures { Checks result (first_fault (coordinates_fault k) (M.line_strings m.now))
+        (KnownLineStrings M.T.is_value k (M.line_strings m.now)) }
 {
     for i in 0..m.num_line_strings() {
         check_coords(m.line_string(i), k)?;
@@ -142,7 +146,8 @@ fn check_linestrings<M: MultiLineStringTrait>(m: &M, k: usize) -> Result<(), Err
 
 /// The first fault of the members of a multipolygon.
 fn check_polygons<M: MultiPolygonTrait>(m: &M, k: usize) -> Result<(), Error>
-    ensures { Checks result (first_fault (polygon_fault k) (M.polygons m.now)) (AllByRecursion (KnownPolygon M.T.is_value k) (M.polygons m.now)) }
+    ensures { Checks result (first_fault (polygon_fault k) (M.polygons m.now))
+        (AllByRecursion (KnownPolygon M.T.is_value k) (M.polygons m.now)) }
 {
     for i in 0..m.num_polygons() {
         check_rings(m.polygon(i), k)?;
@@ -220,7 +225,8 @@ fn know_rect_corner<C: CoordTrait>(c: &C)
 
 #[inline(never)]
 pub(crate) fn check_rect<R: RectTrait>(r: &R) -> Result<(), Error>
-    ensures { ChecksShape R.T.is_value result (Shape.rect (R.dimension r.now) (R.least_corner r.now) (R.greatest_corner r.now)) }
+    ensures { ChecksShape R.T.is_value result
+        (Shape.rect (R.dimension r.now) (R.least_corner r.now) (R.greatest_corner r.now)) }
 {
     know_rect_corner(r.min());
     know_rect_corner(r.max());
@@ -241,7 +247,8 @@ pub(crate) fn check_line<L: LineTrait>(l: &L) -> Result<(), Error>
 
 #[inline(never)]
 pub(crate) fn check_triangle<Y: TriangleTrait>(y: &Y) -> Result<(), Error>
-    ensures { ChecksShape Y.T.is_value result (Shape.triangle (Y.dimension y.now) (Y.first_corner y.now) (Y.second_corner y.now) (Y.third_corner y.now)) }
+    ensures { ChecksShape Y.T.is_value result
+        (Shape.triangle (Y.dimension y.now) (Y.first_corner y.now) (Y.second_corner y.now) (Y.third_corner y.now)) }
 {
     let k = check_header(y.dim())?;
     check_coord(y.first(), k)?;
@@ -274,7 +281,8 @@ pub(crate) fn check_geometry<G: GeometryTrait>(g: &G) -> Result<(), Error>
 
 /// The first fault of the members of a collection.
 fn check_members<C: GeometryCollectionTrait>(c: &C) -> Result<(), Error>
-    ensures { Checks result (first_fault fault (C.geometries c.now)) (AllByRecursion (Known C.T.is_value) (C.geometries c.now)) }
+    ensures { Checks result (first_fault fault (C.geometries c.now))
+        (AllByRecursion (Known C.T.is_value) (C.geometries c.now)) }
 {
     for i in 0..c.num_geometries() {
         check_geometry(c.geometry(i))?;

@@ -25,7 +25,8 @@ use wkt_num::TextSink;
 
 pub(crate) fn put_point<W: TextSink, P: PointTrait>(f: &mut W, p: &P) -> fmt::Result
     requires { fault (Shape.point (P.dimension p.now) (P.coordinate p.now)) ≡ None }
-    ensures { Puts W.sink f.old (shape_text P.T.num (Shape.point (P.dimension p.now) (P.coordinate p.now))) f.new result }
+    ensures { Puts W.sink f.old (shape_text P.T.num (Shape.point (P.dimension p.now) (P.coordinate p.now)))
+        f.new result }
 {
     let d = dimension_in(p.dim());
     put_header(f, "POINT", d, has_no_coord(p))?;
@@ -35,7 +36,8 @@ pub(crate) fn put_point<W: TextSink, P: PointTrait>(f: &mut W, p: &P) -> fmt::Re
 #[inline(never)]
 pub(crate) fn put_linestring<W: TextSink, L: LineStringTrait>(f: &mut W, l: &L) -> fmt::Result
     requires { fault (Shape.line_string (L.dimension l.now) (L.coordinates l.now)) ≡ None }
-    ensures { Puts W.sink f.old (shape_text L.T.num (Shape.line_string (L.dimension l.now) (L.coordinates l.now))) f.new result }
+    ensures { Puts W.sink f.old (shape_text L.T.num (Shape.line_string (L.dimension l.now) (L.coordinates l.now)))
+        f.new result }
 {
     let d = dimension_in(l.dim());
     put_header(f, "LINESTRING", d, l.num_coords() == 0)?;
@@ -45,7 +47,8 @@ pub(crate) fn put_linestring<W: TextSink, L: LineStringTrait>(f: &mut W, l: &L) 
 #[inline(never)]
 pub(crate) fn put_polygon<W: TextSink, Y: PolygonTrait>(f: &mut W, y: &Y) -> fmt::Result
     requires { fault (Shape.polygon (Y.dimension y.now) (Y.polygon y.now)) ≡ None }
-    ensures { Puts W.sink f.old (shape_text Y.T.num (Shape.polygon (Y.dimension y.now) (Y.polygon y.now))) f.new result }
+    ensures { Puts W.sink f.old (shape_text Y.T.num (Shape.polygon (Y.dimension y.now) (Y.polygon y.now)))
+        f.new result }
 {
     let d = dimension_in(y.dim());
     put_header(f, "POLYGON", d, has_no_rings(y))?;
@@ -55,7 +58,8 @@ pub(crate) fn put_polygon<W: TextSink, Y: PolygonTrait>(f: &mut W, y: &Y) -> fmt
 #[inline(never)]
 pub(crate) fn put_multi_point<W: TextSink, M: MultiPointTrait>(f: &mut W, m: &M) -> fmt::Result
     requires { fault (Shape.multi_point (M.dimension m.now) (M.points m.now)) ≡ None }
-    ensures { Puts W.sink f.old (shape_text M.T.num (Shape.multi_point (M.dimension m.now) (M.points m.now))) f.new result }
+    ensures { Puts W.sink f.old (shape_text M.T.num (Shape.multi_point (M.dimension m.now) (M.points m.now)))
+        f.new result }
 {
     let d = dimension_in(m.dim());
     put_header(f, "MULTIPOINT", d, m.num_points() == 0)?;
@@ -68,7 +72,8 @@ pub(crate) fn put_multi_linestring<W: TextSink, M: MultiLineStringTrait>(
     m: &M,
 ) -> fmt::Result
     requires { fault (Shape.multi_line_string (M.dimension m.now) (M.line_strings m.now)) ≡ None }
-    ensures { Puts W.sink f.old (shape_text M.T.num (Shape.multi_line_string (M.dimension m.now) (M.line_strings m.now))) f.new result }
+    ensures { Puts W.sink f.old
+        (shape_text M.T.num (Shape.multi_line_string (M.dimension m.now) (M.line_strings m.now))) f.new result }
 {
     let d = dimension_in(m.dim());
     put_header(f, "MULTILINESTRING", d, m.num_line_strings() == 0)?;
@@ -78,7 +83,8 @@ pub(crate) fn put_multi_linestring<W: TextSink, M: MultiLineStringTrait>(
 #[inline(never)]
 pub(crate) fn put_multi_polygon<W: TextSink, M: MultiPolygonTrait>(f: &mut W, m: &M) -> fmt::Result
     requires { fault (Shape.multi_polygon (M.dimension m.now) (M.polygons m.now)) ≡ None }
-    ensures { Puts W.sink f.old (shape_text M.T.num (Shape.multi_polygon (M.dimension m.now) (M.polygons m.now))) f.new result }
+    ensures { Puts W.sink f.old (shape_text M.T.num (Shape.multi_polygon (M.dimension m.now) (M.polygons m.now)))
+        f.new result }
 {
     let d = dimension_in(m.dim());
     put_header(f, "MULTIPOLYGON", d, m.num_polygons() == 0)?;
@@ -87,7 +93,9 @@ pub(crate) fn put_multi_polygon<W: TextSink, M: MultiPolygonTrait>(f: &mut W, m:
 
 #[inline(never)]
 pub(crate) fn put_rect<W: TextSink, R: RectTrait>(f: &mut W, r: &R) -> fmt::Result
-    ensures { Puts W.sink f.old (shape_text R.T.num (Shape.rect (R.dimension r.now) (R.least_corner r.now) (R.greatest_corner r.now))) f.new result }
+    ensures { Puts W.sink f.old
+        (shape_text R.T.num (Shape.rect (R.dimension r.now) (R.least_corner r.now) (R.greatest_corner r.now)))
+        f.new result }
 {
     let min = r.min();
     let max = r.max();
@@ -98,8 +106,13 @@ pub(crate) fn put_rect<W: TextSink, R: RectTrait>(f: &mut W, r: &R) -> fmt::Resu
 
 #[inline(never)]
 pub(crate) fn put_triangle<W: TextSink, Y: TriangleTrait>(f: &mut W, y: &Y) -> fmt::Result
-    requires { fault (Shape.triangle (Y.dimension y.now) (Y.first_corner y.now) (Y.second_corner y.now) (Y.third_corner y.now)) ≡ None }
-    ensures { Puts W.sink f.old (shape_text Y.T.num (Shape.triangle (Y.dimension y.now) (Y.first_corner y.now) (Y.second_corner y.now) (Y.third_corner y.now))) f.new result }
+    requires { fault (Shape.triangle (Y.dimension y.now)
+        (Y.first_corner y.now) (Y.second_corner y.now) (Y.third_corner y.now))
+        ≡ None }
+    ensures { Puts W.sink f.old
+        (shape_text Y.T.num (Shape.triangle (Y.dimension y.now)
+        (Y.first_corner y.now) (Y.second_corner y.now) (Y.third_corner y.now)))
+        f.new result }
 {
     let d = dimension_in(y.dim());
     put_header(f, "POLYGON", d, false)?;
@@ -109,7 +122,8 @@ pub(crate) fn put_triangle<W: TextSink, Y: TriangleTrait>(f: &mut W, y: &Y) -> f
 #[inline(never)]
 pub(crate) fn put_line<W: TextSink, L: LineTrait>(f: &mut W, l: &L) -> fmt::Result
     requires { fault (Shape.line (L.dimension l.now) (L.from l.now) (L.to l.now)) ≡ None }
-    ensures { Puts W.sink f.old (shape_text L.T.num (Shape.line (L.dimension l.now) (L.from l.now) (L.to l.now))) f.new result }
+    ensures { Puts W.sink f.old (shape_text L.T.num (Shape.line (L.dimension l.now) (L.from l.now) (L.to l.now)))
+        f.new result }
 {
     let d = dimension_in(l.dim());
     put_header(f, "LINESTRING", d, false)?;
@@ -175,7 +189,8 @@ pub(crate) fn put_collection<W: TextSink, C: GeometryCollectionTrait>(
     c: &C,
 ) -> fmt::Result
     requires { first_fault fault (C.geometries c.now) ≡ None }
-    ensures { Puts W.sink f.old (shape_text C.T.num (collection_of (C.dimension c.now) (C.geometries c.now))) f.new result }
+    ensures { Puts W.sink f.old (shape_text C.T.num (collection_of (C.dimension c.now) (C.geometries c.now)))
+        f.new result }
 {
     let is_empty = c.num_geometries() == 0;
     put_collection_header(f, c.dim(), is_empty)?;

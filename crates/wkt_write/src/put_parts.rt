@@ -63,7 +63,8 @@ fn put_coord<W: TextSink, C: CoordTrait>(f: &mut W, c: &C, k: usize) -> fmt::Res
 /// Writes the coordinates of a line string or a ring, with commas between them.
 fn put_coords<W: TextSink, L: LineStringTrait>(f: &mut W, l: &L, k: usize) -> fmt::Result
     requires { coordinates_fault k (L.coordinates l.now) ≡ None }
-    ensures { Puts W.sink f.old (separated (codes ",") (map (cut_coordinate L.T.num k) (L.coordinates l.now))) f.new result }
+    ensures { Puts W.sink f.old (separated (codes ",") (map (cut_coordinate L.T.num k) (L.coordinates l.now)))
+        f.new result }
 {
     for i in 0..l.num_coords() {
         put_separator(f, ",", i)?;
@@ -90,7 +91,8 @@ pub(crate) fn put_linestring_body<W: TextSink, L: LineStringTrait>(
 /// Writes the interiors of a polygon, with a comma before each.
 fn put_interiors<W: TextSink, Y: PolygonTrait>(f: &mut W, y: &Y, k: usize) -> fmt::Result
     requires { first_fault (coordinates_fault k) (Y.polygon y.now).interiors ≡ None }
-    ensures { Puts W.sink f.old (each_after (codes ",") (map (cut_coordinates Y.T.num k) (Y.polygon y.now).interiors)) f.new result }
+    ensures { Puts W.sink f.old
+        (each_after (codes ",") (map (cut_coordinates Y.T.num k) (Y.polygon y.now).interiors)) f.new result }
 {
     for i in 0..y.num_interiors() {
         f.write_str(",")?;
@@ -152,7 +154,8 @@ fn put_points<W: TextSink, M: MultiPointTrait>(f: &mut W, m: &M, k: usize) -> fm
 /// Writes the members of a multilinestring, with commas between them.
 fn put_linestrings<W: TextSink, M: MultiLineStringTrait>(f: &mut W, m: &M, k: usize) -> fmt::Result
     requires { first_fault (coordinates_fault k) (M.line_strings m.now) ≡ None }
-    ensures { Puts W.sink f.old (separated (codes ",") (map (cut_coordinates M.T.num k) (M.line_strings m.now))) f.new result }
+    ensures { Puts W.sink f.old (separated (codes ",") (map (cut_coordinates M.T.num k) (M.line_strings m.now)))
+        f.new result }
 {
     for i in 0..m.num_line_strings() {
         put_separator(f, ",", i)?;
@@ -306,7 +309,8 @@ fn put_triangle_ring<W: TextSink, C: CoordTrait>(
     requires a { k ≤ length (C.numbers a.now) }
     requires b { k ≤ length (C.numbers b.now) }
     requires c { k ≤ length (C.numbers c.now) }
-    ensures { Puts W.sink f.old (triangle_ring_text C.T.num k (C.numbers a.now) (C.numbers b.now) (C.numbers c.now)) f.new result }
+    ensures { Puts W.sink f.old (triangle_ring_text C.T.num k (C.numbers a.now) (C.numbers b.now) (C.numbers c.now))
+        f.new result }
 {
     put_two_coords(f, a, b, k)?;
     f.write_str(",")?;
@@ -342,7 +346,8 @@ pub(crate) fn put_rect_ring<W: TextSink, C: CoordTrait>(f: &mut W, min: &C, max:
 /// Writes the body of a line, which is that of a line string.
 pub(crate) fn put_line_body<W: TextSink, L: LineTrait>(f: &mut W, l: &L, k: usize) -> fmt::Result
     requires { coordinates_fault k (L.from l.now ∷ L.to l.now ∷ []) ≡ None }
-    ensures { Puts W.sink f.old (codes "(" ++ (two_coordinates_text L.T.num k (L.from l.now) (L.to l.now) ++ codes ")")) f.new result }
+    ensures { Puts W.sink f.old
+        (codes "(" ++ (two_coordinates_text L.T.num k (L.from l.now) (L.to l.now) ++ codes ")")) f.new result }
 {
     f.write_str("(")?;
     put_two_coords(f, l.start(), l.end(), k)?;
@@ -356,7 +361,10 @@ pub(crate) fn put_triangle_body<W: TextSink, Y: TriangleTrait>(
     k: usize,
 ) -> fmt::Result
     requires { coordinates_fault k (Y.first_corner y.now ∷ Y.second_corner y.now ∷ Y.third_corner y.now ∷ []) ≡ None }
-    ensures { Puts W.sink f.old (codes "((" ++ (triangle_ring_text Y.T.num k (Y.first_corner y.now) (Y.second_corner y.now) (Y.third_corner y.now) ++ codes "))")) f.new result }
+    ensures { Puts W.sink f.old
+        (codes "((" ++ (triangle_ring_text Y.T.num k
+        (Y.first_corner y.now) (Y.second_corner y.now) (Y.third_corner y.now) ++ codes "))"))
+        f.new result }
 {
     f.write_str("((")?;
     put_triangle_ring(f, y.first(), y.second(), y.third(), k)?;

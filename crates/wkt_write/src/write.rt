@@ -30,7 +30,8 @@ use wkt_num::{CountedText, TextSink, WktNum};
 /// and 4; then [`Error::TooFewNumbers`] where its coordinate has fewer numbers than its dimension;
 /// nothing is written then. [`Error::FmtError`] where the sink fails: a beginning is written then.
 pub fn write_point<W: TextSink, P: PointTrait>(f: &mut W, g: &P) -> Result<(), Error>
-    ensures { Writes W.sink P.T.is_value P.T.num f.old (Shape.point (P.dimension g.now) (P.coordinate g.now)) f.new result }
+    ensures { Writes W.sink P.T.is_value P.T.num f.old (Shape.point (P.dimension g.now) (P.coordinate g.now))
+        f.new result }
 {
     check_point(g)?;
     put_point(f, g)?;
@@ -41,7 +42,8 @@ pub fn write_point<W: TextSink, P: PointTrait>(f: &mut W, g: &P) -> Result<(), E
 ///
 /// Errors: as [`write_point`], with the first coordinate that is too short.
 pub fn write_linestring<W: TextSink, L: LineStringTrait>(f: &mut W, g: &L) -> Result<(), Error>
-    ensures { Writes W.sink L.T.is_value L.T.num f.old (Shape.line_string (L.dimension g.now) (L.coordinates g.now)) f.new result }
+    ensures { Writes W.sink L.T.is_value L.T.num f.old (Shape.line_string (L.dimension g.now) (L.coordinates g.now))
+        f.new result }
 {
     check_linestring(g)?;
     put_linestring(f, g)?;
@@ -55,7 +57,8 @@ pub fn write_linestring<W: TextSink, L: LineStringTrait>(f: &mut W, g: &L) -> Re
 ///
 /// Errors: as [`write_point`], with the first coordinate that is too short.
 pub fn write_polygon<W: TextSink, Y: PolygonTrait>(f: &mut W, g: &Y) -> Result<(), Error>
-    ensures { Writes W.sink Y.T.is_value Y.T.num f.old (Shape.polygon (Y.dimension g.now) (Y.polygon g.now)) f.new result }
+    ensures { Writes W.sink Y.T.is_value Y.T.num f.old (Shape.polygon (Y.dimension g.now) (Y.polygon g.now))
+        f.new result }
 {
     check_polygon(g)?;
     put_polygon(f, g)?;
@@ -68,7 +71,8 @@ pub fn write_polygon<W: TextSink, Y: PolygonTrait>(f: &mut W, g: &Y) -> Result<(
 ///
 /// Errors: as [`write_point`], with the first coordinate that is too short.
 pub fn write_multi_point<W: TextSink, M: MultiPointTrait>(f: &mut W, g: &M) -> Result<(), Error>
-    ensures { Writes W.sink M.T.is_value M.T.num f.old (Shape.multi_point (M.dimension g.now) (M.points g.now)) f.new result }
+    ensures { Writes W.sink M.T.is_value M.T.num f.old (Shape.multi_point (M.dimension g.now) (M.points g.now))
+        f.new result }
 {
     check_multi_point(g)?;
     put_multi_point(f, g)?;
@@ -84,7 +88,8 @@ pub fn write_multi_linestring<W: TextSink, M: MultiLineStringTrait>(
     f: &mut W,
     g: &M,
 ) -> Result<(), Error>
-    ensures { Writes W.sink M.T.is_value M.T.num f.old (Shape.multi_line_string (M.dimension g.now) (M.line_strings g.now)) f.new result }
+    ensures { Writes W.sink M.T.is_value M.T.num f.old
+        (Shape.multi_line_string (M.dimension g.now) (M.line_strings g.now)) f.new result }
 {
     check_multi_linestring(g)?;
     put_multi_linestring(f, g)?;
@@ -97,7 +102,8 @@ pub fn write_multi_linestring<W: TextSink, M: MultiLineStringTrait>(
 ///
 /// Errors: as [`write_point`], with the first coordinate that is too short.
 pub fn write_multi_polygon<W: TextSink, M: MultiPolygonTrait>(f: &mut W, g: &M) -> Result<(), Error>
-    ensures { Writes W.sink M.T.is_value M.T.num f.old (Shape.multi_polygon (M.dimension g.now) (M.polygons g.now)) f.new result }
+    ensures { Writes W.sink M.T.is_value M.T.num f.old (Shape.multi_polygon (M.dimension g.now) (M.polygons g.now))
+        f.new result }
 {
     check_multi_polygon(g)?;
     put_multi_polygon(f, g)?;
@@ -154,7 +160,8 @@ pub fn write_geometry_collection<W: TextSink, C: GeometryCollectionTrait>(
     f: &mut W,
     g: &C,
 ) -> Result<(), Error>
-    ensures { Writes W.sink C.T.is_value C.T.num f.old (collection_of (C.dimension g.now) (C.geometries g.now)) f.new result }
+    ensures { Writes W.sink C.T.is_value C.T.num f.old (collection_of (C.dimension g.now) (C.geometries g.now))
+        f.new result }
 {
     check_collection(g)?;
     put_collection(f, g)?;
@@ -168,7 +175,8 @@ pub fn write_geometry_collection<W: TextSink, C: GeometryCollectionTrait>(
 /// Errors: [`Error::RectUnsupportedDimension`] where its dimension is neither `Xy` nor
 /// `Unknown(2)`; nothing is written then. [`Error::FmtError`] as in [`write_point`].
 pub fn write_rect<W: TextSink, R: RectTrait>(f: &mut W, g: &R) -> Result<(), Error>
-    ensures { Writes W.sink R.T.is_value R.T.num f.old (Shape.rect (R.dimension g.now) (R.least_corner g.now) (R.greatest_corner g.now)) f.new result }
+    ensures { Writes W.sink R.T.is_value R.T.num f.old
+        (Shape.rect (R.dimension g.now) (R.least_corner g.now) (R.greatest_corner g.now)) f.new result }
 {
     check_rect(g)?;
     put_rect(f, g)?;
@@ -179,7 +187,9 @@ pub fn write_rect<W: TextSink, R: RectTrait>(f: &mut W, g: &R) -> Result<(), Err
 ///
 /// Errors: as [`write_point`], with the first corner that is too short.
 pub fn write_triangle<W: TextSink, Y: TriangleTrait>(f: &mut W, g: &Y) -> Result<(), Error>
-    ensures { Writes W.sink Y.T.is_value Y.T.num f.old (Shape.triangle (Y.dimension g.now) (Y.first_corner g.now) (Y.second_corner g.now) (Y.third_corner g.now)) f.new result }
+    ensures { Writes W.sink Y.T.is_value Y.T.num f.old
+        (Shape.triangle (Y.dimension g.now) (Y.first_corner g.now) (Y.second_corner g.now) (Y.third_corner g.now))
+        f.new result }
 {
     check_triangle(g)?;
     put_triangle(f, g)?;
@@ -190,7 +200,8 @@ pub fn write_triangle<W: TextSink, Y: TriangleTrait>(f: &mut W, g: &Y) -> Result
 ///
 /// Errors: as [`write_point`], with the first end that is too short.
 pub fn write_line<W: TextSink, L: LineTrait>(f: &mut W, g: &L) -> Result<(), Error>
-    ensures { Writes W.sink L.T.is_value L.T.num f.old (Shape.line (L.dimension g.now) (L.from g.now) (L.to g.now)) f.new result }
+    ensures { Writes W.sink L.T.is_value L.T.num f.old (Shape.line (L.dimension g.now) (L.from g.now) (L.to g.now))
+        f.new result }
 {
     check_line(g)?;
     put_line(f, g)?;

@@ -31,7 +31,8 @@ impl<'a> Cursor<'a> {
         ensures utf8 { IsUtf8 self.old.text.now }
         ensures cases { MatchOption result
             ((self.new.taken ≡ self.old.taken) × (self.old.taken ≡ length self.old.text.now))
-            (λ b. (self.new.taken ≡ self.old.taken + 1) × (self.old.taken < length self.old.text.now) × (b ≡ slice_index self.old.text.now self.old.taken)) }
+            (λ b. (self.new.taken ≡ self.old.taken + 1) × (self.old.taken < length self.old.text.now)
+            × (b ≡ slice_index self.old.text.now self.old.taken)) }
     {
         let bytes = self.text.as_bytes();
         if self.taken < bytes.len() {

@@ -14,7 +14,10 @@ use wkt_num::WktNum;
 impl<'a, T: WktNum> PeekableTokens<'a, T> {
     /// The item that `next` gives next.
     pub fn peek(&mut self) -> Option<&Result<Token<'a, T>, &'static str>>
-        ensures* { sem 𝓛 (follows_so (the_row (record { mir = named 0; lft = [] }) T.row) (the_row (record { mir = named 0; lft = [] }) T.row) self.entry.ghost_name none (λ _ _. ⊤) (λ v. Peeks T.read self.old v result)) }
+        ensures* { sem 𝓛 (follows_so
+            (the_row (record { mir = named 0; lft = [] }) T.row)
+            (the_row (record { mir = named 0; lft = [] }) T.row)
+            self.entry.ghost_name none (λ _ _. ⊤) (λ v. Peeks T.read self.old v result)) }
     {
         self.fill();
         self.peeked.item.as_ref()

@@ -33,7 +33,8 @@ pub struct PeekableTokens<'a, T> {
     end: usize,
     // What `peek` returns a reference to: it alone reads the number ahead of its time.
     pub(crate) peeked: Peeked<'a, T>,
-    ghost near: { (lexeme : _) (l : Lexeme) → ahead ≡ Some lexeme → found lexeme ≡ Some l → (tokens.end ≤ tokens.bytes.taken) × (tokens.bytes.taken ≤ tokens.end + 1) },
+    ghost near: { (lexeme : _) (l : Lexeme) → ahead ≡ Some lexeme → found lexeme ≡ Some l
+        → (tokens.end ≤ tokens.bytes.taken) × (tokens.bytes.taken ≤ tokens.end + 1) },
     ghost level: { ahead ≡ None → end ≡ tokens.end },
 }
 

@@ -14,7 +14,8 @@ pub(crate) fn first_class(bytes: &mut Cursor<'_>, ahead: Class) -> Class
     requires start { ahead ≢ Class.Run }
     ensures text { bytes.new.text ≡ bytes.old.text }
     ensures grows { bytes.old.taken ≤ bytes.new.taken }
-    ensures found { Found (coming_at bytes.old.text.now (meant ahead) bytes.old.taken) bytes.new.text.now result bytes.new.taken }
+    ensures found { Found (coming_at bytes.old.text.now (meant ahead) bytes.old.taken) bytes.new.text.now result
+        bytes.new.taken }
     ensures stops { result ≢ Class.White }
 {
     let mut class = ahead;
