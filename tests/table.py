@@ -3,7 +3,7 @@
 
 Each row is a text, a tab, and what reading it over decimals gives: one of the thirteen messages, or the canonical
 text. Refused texts are made one for each kind, dimension, place of the grammar and cause that can be met there, alone
-and as a collection's first member, once broken off behind the cause and once with each parenthesis closed. Accepted
+and as a collection's first member, once broken off after the cause and once with each parenthesis closed. Accepted
 texts are made one for each kind, dimension, spelling and body.
 
 The reader below is written from docs/GRAMMAR.md alone, and shares nothing with the library.
@@ -275,7 +275,7 @@ def places(kind, dim):
 
 
 def broken(before, causes):
-    """Texts that break off behind each cause, and those with each parenthesis closed again."""
+    """Texts that break off after each cause, and those with each parenthesis closed again."""
     for cause in causes:
         gap = "" if not before or before[-1] in "(," or cause == "none" else " "
         text = before + gap + CAUSES[cause]

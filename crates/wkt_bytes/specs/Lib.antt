@@ -1,4 +1,4 @@
-pub mod Device
+pub mod Sinks
 pub mod Counted
 pub mod Wrapper
 pub mod ReadAll

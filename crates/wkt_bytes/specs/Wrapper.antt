@@ -4,7 +4,7 @@ use Rattle.std.specs.Io.KnownBytes.{Appends}
 use Rattle.std.proofs.Common.{sym, ◌∙◌, ap, subst, append_assoc}
 use Rattle.std.proofs.lemmas.List.{append-nil}
 use Rattle.wkt_num.specs.Sink.{next_count, Sink}
-use Rattle.wkt_bytes.specs.Device.{Device, BeginningOut}
+use Rattle.wkt_bytes.specs.Sinks.{SinkOfBytes, BeginningOut}
 use Rattle.wkt_bytes.specs.declared.wrapper.State.{State}
 use Rattle.wkt_bytes.specs.declared.wrapper.State.TheVariants.{Well, Faulty, Told}
 use Rattle.wkt_bytes.specs.declared.wrapper.WriterWrapper.{WriterWrapper}
@@ -46,29 +46,29 @@ not_well Well h = absurd (h refl)
 not_well (Faulty e) h = refl
 not_well Told h = refl
 
-module _ {W : Type 0} (device : Device W) where
+module _ {W : Type 0} (sink : SinkOfBytes W) where
   -- What s held and was handed is what went out followed by what t holds.
   pub record Gathers (s : WriterWrapper W) (handed : List ℕ) (t : WriterWrapper W) : Type 0 where
     pub out : List ℕ
-    pub went : Appends (device.bytes s.writer) (device.bytes t.writer) out
+    pub went : Appends (sink.bytes s.writer) (sink.bytes t.writer) out
     pub whole : held_bytes s ++ handed ≡ out ++ held_bytes t
     pub same : is_well t ≡ is_well s
     pub told : is_untold t ≡ is_untold s
-    pub count : device.failures t.writer ≡ device.failures s.writer
-    pub tied : device.keeps s.writer t.writer
+    pub count : sink.failures t.writer ≡ sink.failures s.writer
+    pub tied : sink.keeps s.writer t.writer
     pub still : is_well s ≡ false → t.writer ≡ s.writer
 
   -- The writer has failed, and a beginning of what s held and was handed went out.
   pub record BreaksOff (s : WriterWrapper W) (handed : List ℕ) (t : WriterWrapper W) : Type 0 where
     pub out : List ℕ
     pub lost : List ℕ
-    pub went : Appends (device.bytes s.writer) (device.bytes t.writer) out
+    pub went : Appends (sink.bytes s.writer) (sink.bytes t.writer) out
     pub whole : held_bytes s ++ handed ≡ out ++ lost
     pub failed : is_well t ≡ false
-    pub count : is_well s ≡ true → device.failures t.writer ≡ next_count (device.failures s.writer)
+    pub count : is_well s ≡ true → sink.failures t.writer ≡ next_count (sink.failures s.writer)
     pub untold : is_well s ≡ true → is_untold t ≡ true
     pub kept : is_well s ≡ false → is_untold t ≡ is_untold s
-    pub tied : device.keeps s.writer t.writer
+    pub tied : sink.keeps s.writer t.writer
     pub still : is_well s ≡ false → t.writer ≡ s.writer
 
 pub appends_none : (a : Option (List ℕ)) → Appends a a []
@@ -87,46 +87,46 @@ pub wholes : (held handed more out held' out' held'' : List ℕ) →
     held ++ (handed ++ more) ≡ (out ++ out') ++ held''
 wholes held handed more out held' out' held'' h k = rw (← append_assoc, h, append_assoc, k, ← append_assoc) refl
 
-module _ {W : Type 0} (device : Device W) where
-  pub gives_none : (s : WriterWrapper W) → Gathers device s [] s
+module _ {W : Type 0} (sink : SinkOfBytes W) where
+  pub gives_none : (s : WriterWrapper W) → Gathers sink s [] s
   gives_none s = record {
     out = [];
-    went = appends_none (device.bytes s.writer);
+    went = appends_none (sink.bytes s.writer);
     whole = append-nil (held_bytes s);
     same = refl;
     told = refl;
     count = refl;
-    tied = device.keeps_none s.writer;
+    tied = sink.keeps_none s.writer;
     still = λ _. refl;
   }
 
-  pub gives_more : (s t u : WriterWrapper W) (bs cs : List ℕ) → Gathers device s bs t → Gathers device t cs u → Gathers device s (bs ++ cs) u
+  pub gives_more : (s t u : WriterWrapper W) (bs cs : List ℕ) → Gathers sink s bs t → Gathers sink t cs u → Gathers sink s (bs ++ cs) u
   gives_more s t u bs cs h k = record {
     out = h.out ++ k.out;
-    went = appends_more (device.bytes s.writer) (device.bytes t.writer) (device.bytes u.writer) h.out k.out h.went k.went;
+    went = appends_more (sink.bytes s.writer) (sink.bytes t.writer) (sink.bytes u.writer) h.out k.out h.went k.went;
     whole = wholes (held_bytes s) bs cs h.out (held_bytes t) k.out (held_bytes u) h.whole k.whole;
     same = k.same ∙ h.same;
     told = k.told ∙ h.told;
     count = k.count ∙ h.count;
-    tied = device.keeps_more s.writer t.writer u.writer h.tied k.tied;
+    tied = sink.keeps_more s.writer t.writer u.writer h.tied k.tied;
     still = λ w. k.still (h.same ∙ w) ∙ h.still w;
   }
 
-  pub leaves_after : (s t u : WriterWrapper W) (bs cs : List ℕ) → Gathers device s bs t → BreaksOff device t cs u → BreaksOff device s (bs ++ cs) u
+  pub leaves_after : (s t u : WriterWrapper W) (bs cs : List ℕ) → Gathers sink s bs t → BreaksOff sink t cs u → BreaksOff sink s (bs ++ cs) u
   leaves_after s t u bs cs h k = record {
     out = h.out ++ k.out;
     lost = k.lost;
-    went = appends_more (device.bytes s.writer) (device.bytes t.writer) (device.bytes u.writer) h.out k.out h.went k.went;
+    went = appends_more (sink.bytes s.writer) (sink.bytes t.writer) (sink.bytes u.writer) h.out k.out h.went k.went;
     whole = wholes (held_bytes s) bs cs h.out (held_bytes t) k.out k.lost h.whole k.whole;
     failed = k.failed;
     count = λ w. k.count (h.same ∙ w) ∙ ap next_count h.count;
     untold = λ w. k.untold (h.same ∙ w);
     kept = λ w. k.kept (h.same ∙ w) ∙ h.told;
-    tied = device.keeps_more s.writer t.writer u.writer h.tied k.tied;
+    tied = sink.keeps_more s.writer t.writer u.writer h.tied k.tied;
     still = λ w. k.still (h.same ∙ w) ∙ h.still w;
   }
 
-  pub leaves_longer : (s t : WriterWrapper W) (bs cs : List ℕ) → BreaksOff device s bs t → BreaksOff device s (bs ++ cs) t
+  pub leaves_longer : (s t : WriterWrapper W) (bs cs : List ℕ) → BreaksOff sink s bs t → BreaksOff sink s (bs ++ cs) t
   leaves_longer s t bs cs h = record {
     out = h.out;
     lost = h.lost ++ cs;
@@ -141,48 +141,48 @@ module _ {W : Type 0} (device : Device W) where
   }
 
   -- a wrapper whose writer has failed takes nothing
-  pub leaves_as_is : (s : WriterWrapper W) (bs : List ℕ) → is_well s ≡ false → BreaksOff device s bs s
+  pub leaves_as_is : (s : WriterWrapper W) (bs : List ℕ) → is_well s ≡ false → BreaksOff sink s bs s
   leaves_as_is s bs h = record {
     out = [];
     lost = held_bytes s ++ bs;
-    went = appends_none (device.bytes s.writer);
+    went = appends_none (sink.bytes s.writer);
     whole = refl;
     failed = h;
     count = λ w. cc;
     untold = λ w. cc;
     kept = λ _. refl;
-    tied = device.keeps_none s.writer;
+    tied = sink.keeps_none s.writer;
     still = λ _. refl;
   }
 
   -- bytes were taken into the array alone
-  pub kept_gives : (s t : WriterWrapper W) (bs : List ℕ) → t.writer ≡ s.writer → t.state ≡ s.state → held_bytes t ≡ held_bytes s ++ bs → Gathers device s bs t
+  pub kept_gives : (s t : WriterWrapper W) (bs : List ℕ) → t.writer ≡ s.writer → t.state ≡ s.state → held_bytes t ≡ held_bytes s ++ bs → Gathers sink s bs t
   kept_gives s t bs e f h = record {
     out = [];
-    went = subst (λ (w : W). Appends (device.bytes s.writer) (device.bytes w) []) (sym e) (appends_none (device.bytes s.writer));
+    went = subst (λ (w : W). Appends (sink.bytes s.writer) (sink.bytes w) []) (sym e) (appends_none (sink.bytes s.writer));
     whole = sym h;
     same = ap (λ x. state_well x) f;
     told = ap (λ x. state_untold x) f;
-    count = ap (λ w. device.failures w) e;
-    tied = subst (λ (w : W). device.keeps s.writer w) (sym e) (device.keeps_none s.writer);
+    count = ap (λ w. sink.failures w) e;
+    tied = subst (λ (w : W). sink.keeps s.writer w) (sym e) (sink.keeps_none s.writer);
     still = λ _. e;
   }
 
   -- from an empty array to an empty array
-  pub all_out : (s u : WriterWrapper W) (bs : List ℕ) → Gathers device s bs u → held_bytes s ≡ [] → held_bytes u ≡ [] → Appends (device.bytes s.writer) (device.bytes u.writer) bs
+  pub all_out : (s u : WriterWrapper W) (bs : List ℕ) → Gathers sink s bs u → held_bytes s ≡ [] → held_bytes u ≡ [] → Appends (sink.bytes s.writer) (sink.bytes u.writer) bs
   all_out s u bs j e f =
       let same : j.out ≡ bs = sym (append-nil j.out) ∙ (ap (λ xs. j.out ++ xs) (sym f) ∙ (sym j.whole ∙ ap (λ xs. xs ++ bs) e)) in
-      subst (λ xs. Appends (device.bytes s.writer) (device.bytes u.writer) xs) same j.went
+      subst (λ xs. Appends (sink.bytes s.writer) (sink.bytes u.writer) xs) same j.went
 
-  pub all_sent : (s t u : WriterWrapper W) (bs : List ℕ) → Gathers device s bs t → Gathers device t [] u →
-      held_bytes s ≡ [] → held_bytes u ≡ [] → Appends (device.bytes s.writer) (device.bytes u.writer) bs
+  pub all_sent : (s t u : WriterWrapper W) (bs : List ℕ) → Gathers sink s bs t → Gathers sink t [] u →
+      held_bytes s ≡ [] → held_bytes u ≡ [] → Appends (sink.bytes s.writer) (sink.bytes u.writer) bs
   all_sent s t u bs h k e f =
       let j = gives_more s t u bs [] h k in
       let same : j.out ≡ bs = sym (append-nil j.out) ∙ (ap (λ xs. j.out ++ xs) (sym f) ∙ (sym j.whole ∙ rw (e, append-nil) refl)) in
-      subst (λ xs. Appends (device.bytes s.writer) (device.bytes u.writer) xs) same j.went
+      subst (λ xs. Appends (sink.bytes s.writer) (sink.bytes u.writer) xs) same j.went
 
-  pub some_sent : (s t : WriterWrapper W) (bs : List ℕ) → BreaksOff device s bs t → held_bytes s ≡ [] →
-      BeginningOut (device.bytes s.writer) (device.bytes t.writer) bs
+  pub some_sent : (s t : WriterWrapper W) (bs : List ℕ) → BreaksOff sink s bs t → held_bytes s ≡ [] →
+      BeginningOut (sink.bytes s.writer) (sink.bytes t.writer) bs
   some_sent s t bs h e = record {
     out = h.out;
     lost = h.lost;
@@ -190,18 +190,18 @@ module _ {W : Type 0} (device : Device W) where
     whole = sym (ap (λ xs. xs ++ bs) e) ∙ h.whole;
   }
 
-  pub some_sent_late : (s t u : WriterWrapper W) (bs : List ℕ) → Gathers device s bs t → BreaksOff device t [] u →
-      held_bytes s ≡ [] → BeginningOut (device.bytes s.writer) (device.bytes u.writer) bs
+  pub some_sent_late : (s t u : WriterWrapper W) (bs : List ℕ) → Gathers sink s bs t → BreaksOff sink t [] u →
+      held_bytes s ≡ [] → BeginningOut (sink.bytes s.writer) (sink.bytes u.writer) bs
   some_sent_late s t u bs h k e = some_sent s u bs (rw append-nil at (leaves_after s t u bs [] h k)) e
 
 -- What the calls hand the writer, through the array.
-abbrev pub wrapped_sink : {W : Type 0} → Device W → Sink (WriterWrapper W)
-wrapped_sink device = record {
-  gives = Gathers device;
-  leaves = BreaksOff device;
+abbrev pub wrapped_sink : {W : Type 0} → SinkOfBytes W → Sink (WriterWrapper W)
+wrapped_sink sink = record {
+  gives = Gathers sink;
+  leaves = BreaksOff sink;
   failures = failed_calls;
-  none = gives_none device;
-  more = gives_more device;
-  after = leaves_after device;
-  longer = leaves_longer device;
+  none = gives_none sink;
+  more = gives_more sink;
+  after = leaves_after sink;
+  longer = leaves_longer sink;
 }

@@ -1,12 +1,12 @@
 //! Sinks and sources of bytes, and text to a sink of bytes.
 #![tactic(auto)]
 
-mod device;
 mod read;
+mod sinks;
 #[cfg(test)]
 mod tests;
 mod wrapper;
 
-pub use device::{ByteSink, ByteSource, Counted};
 pub use read::{ReadAllError, read_all};
+pub use sinks::{ByteSink, ByteSource, Counted};
 pub use wrapper::WriterWrapper;

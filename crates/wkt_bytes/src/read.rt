@@ -4,7 +4,7 @@ ghost use Rattle.std.specs.Io.KnownBytes.{Consumes, IsAtEnd};
 ghost use Rattle.wkt_num.specs.Sink.{next_count};
 ghost use Rattle.wkt_bytes.specs.ReadAll.{IfRead};
 
-use crate::device::ByteSource;
+use crate::sinks::ByteSource;
 use std::alloc::{AllocError, Global};
 use std::io;
 use thiserror::Error;
@@ -15,7 +15,7 @@ pub enum ReadAllError {
     /// The source failed. No fault is tried again, `Interrupted` neither.
     #[error("{0}")]
     Read(io::Error),
-    /// No memory is left.
+    /// Memory ran out.
     #[error("out of memory")]
     Memory(AllocError),
 }

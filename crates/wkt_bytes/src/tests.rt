@@ -16,9 +16,9 @@ struct Calls {
 
 impl ByteSink for Calls {
     ghost use Rattle.std.specs.Prelude.{None};
-    ghost use Rattle.wkt_bytes.specs.Device.{owned};
+    ghost use Rattle.wkt_bytes.specs.Sinks.{owned};
 
-    ghost device = { owned (λ _. None) (λ c. c.failures) };
+    ghost sink = { owned (λ _. None) (λ c. c.failures) };
 
     fn put(&mut self, buf: &[u8]) -> io::Result<usize> {
         if self.lengths.push(buf.len()).is_err() {

@@ -3,7 +3,7 @@ ghost use Rattle.std.specs.Prelude.{◌≡◌, ℕ, ◌≤◌, ◌<◌, ◌+◌,
 ghost use Rattle.std.specs.Io.KnownBytes.{Appends};
 ghost use Rattle.wkt_num.specs.Sink.{next_count, Puts};
 
-use crate::device::ByteSink;
+use crate::sinks::ByteSink;
 use std::io::ErrorKind;
 use std::{fmt, io};
 use wkt_num::TextSink;
@@ -34,12 +34,12 @@ pub struct WriterWrapper<W> {
 
 /// Puts all the bytes out, or stops at the first fault.
 fn put_all<W: ByteSink>(writer: &mut W, bytes: &[u8]) -> Result<(), io::Error>
-    ensures ok { OnOk result (Appends (W.device.bytes writer.old) (W.device.bytes writer.new) bytes.now) }
-    ensures kept { OnOk result (W.device.failures writer.new ≡ W.device.failures writer.old) }
+    ensures ok { OnOk result (Appends (W.sink.bytes writer.old) (W.sink.bytes writer.new) bytes.now) }
+    ensures kept { OnOk result (W.sink.failures writer.new ≡ W.sink.failures writer.old) }
     ensures err { OnErr result
-        ((k : ℕ) × Appends (W.device.bytes writer.old) (W.device.bytes writer.new) (take k bytes.now)) }
-    ensures failed { OnErr result (W.device.failures writer.new ≡ next_count (W.device.failures writer.old)) }
-    ensures keeps { W.device.keeps writer.old writer.new }
+        ((k : ℕ) × Appends (W.sink.bytes writer.old) (W.sink.bytes writer.new) (take k bytes.now)) }
+    ensures failed { OnErr result (W.sink.failures writer.new ≡ next_count (W.sink.failures writer.old)) }
+    ensures keeps { W.sink.keeps writer.old writer.new }
 {
     let mut at = 0;
     while at < bytes.len() {
@@ -117,10 +117,10 @@ impl<W: ByteSink> WriterWrapper<W> {
     // Puts out what the array holds.
     fn empty(&mut self) -> fmt::Result
         requires { is_well self.old ≡ true }
-        ensures ok { OnOk result (Gathers W.device self.old [] self.new) }
+        ensures ok { OnOk result (Gathers W.sink self.old [] self.new) }
         ensures well { OnOk result (is_well self.new ≡ true) }
         ensures held { OnOk result (self.new.len ≡ 0) }
-        ensures err { OnErr result (BreaksOff W.device self.old [] self.new) }
+        ensures err { OnErr result (BreaksOff W.sink self.old [] self.new) }
         ensures kept { OnErr result (held_bytes self.new ≡ held_bytes self.old) }
         ensures failures { self.new.failures ≡ self.old.failures }
     {
@@ -138,9 +138,9 @@ impl<W: ByteSink> WriterWrapper<W> {
 
     // Takes the bytes, and puts out the array each time that it is full. Most pieces just fit.
     fn accept(&mut self, bytes: &[u8]) -> fmt::Result
-        ensures ok { OnOk result (Gathers W.device self.old bytes.now self.new) }
+        ensures ok { OnOk result (Gathers W.sink self.old bytes.now self.new) }
         ensures well { OnOk result (is_well self.old ≡ true) }
-        ensures err { OnErr result (BreaksOff W.device self.old bytes.now self.new) }
+        ensures err { OnErr result (BreaksOff W.sink self.old bytes.now self.new) }
         ensures gathered { length (held_bytes self.old) + length bytes.now < 256 → self.new.writer ≡ self.old.writer }
         ensures failures { self.new.failures ≡ self.old.failures }
     {
@@ -163,8 +163,8 @@ impl<W: ByteSink> WriterWrapper<W> {
     #[inline(never)]
     fn accept_long(&mut self, bytes: &[u8]) -> fmt::Result
         requires { is_well self.old ≡ true }
-        ensures ok { OnOk result (Gathers W.device self.old bytes.now self.new) }
-        ensures err { OnErr result (BreaksOff W.device self.old bytes.now self.new) }
+        ensures ok { OnOk result (Gathers W.sink self.old bytes.now self.new) }
+        ensures err { OnErr result (BreaksOff W.sink self.old bytes.now self.new) }
         ensures failures { self.new.failures ≡ self.old.failures }
     {
         let mut at = 0;
@@ -189,10 +189,10 @@ impl<W: ByteSink> WriterWrapper<W> {
     /// # Errors
     /// `fmt::Error` where the writer failed, in this call or before it.
     pub fn finish(&mut self) -> fmt::Result
-        ensures ok { OnOk result (Gathers W.device self.old [] self.new) }
+        ensures ok { OnOk result (Gathers W.sink self.old [] self.new) }
         ensures well { OnOk result (is_well self.old ≡ true) }
         ensures empty { OnOk result (held_bytes self.new ≡ []) }
-        ensures err { OnErr result (BreaksOff W.device self.old [] self.new) }
+        ensures err { OnErr result (BreaksOff W.sink self.old [] self.new) }
         ensures kept { OnErr result (held_bytes self.new ≡ held_bytes self.old) }
         ensures count { failed_calls self.new ≡ failed_calls self.old }
     {
@@ -224,10 +224,10 @@ impl<W: ByteSink> WriterWrapper<W> {
 impl<W: ByteSink> TextSink for WriterWrapper<W> {
     ghost use Rattle.wkt_bytes.specs.Wrapper.{wrapped_sink, held_bytes, is_well, wrapped_writer};
 
-    ghost sink = { wrapped_sink W.device };
+    ghost sink = { wrapped_sink W.sink };
 
     fn write_str(&mut self, piece: &str) -> fmt::Result
-        ensures puts { Puts (wrapped_sink W.device) self.old piece.now self.new result }
+        ensures puts { Puts (wrapped_sink W.sink) self.old piece.now self.new result }
         ensures well { OnOk result (is_well self.old ≡ true) }
         ensures gathered { length (held_bytes self.old) + length piece.now < 256
             → wrapped_writer self.new ≡ wrapped_writer self.old }

@@ -42,7 +42,7 @@ fn same_front(alloc: Global, text: &str) -> Result<bool, AllocError> {
     }
 }
 
-const HEADS: [(&str, &str); 8] = [
+const HEADERS: [(&str, &str); 8] = [
     ("POINT", "Point"),
     ("LINESTRING", "LineString"),
     ("LINEARRING", "LineString"),
@@ -54,11 +54,11 @@ const HEADS: [(&str, &str); 8] = [
 ];
 
 // What a text in capitals has before its first `(` or EMPTY, and whether EMPTY came first.
-fn head(text: &str) -> Option<(&str, bool)> {
+fn header(text: &str) -> Option<(&str, bool)> {
     match (text.split_once("("), text.split_once("EMPTY")) {
         (None, None) => None,
-        (Some((head, _)), None) => Some((head, false)),
-        (None, Some((head, _))) => Some((head, true)),
+        (Some((header, _)), None) => Some((header, false)),
+        (None, Some((header, _))) => Some((header, true)),
         (Some((a, _)), Some((b, _))) => {
             if a.len() < b.len() {
                 Some((a, false))
@@ -81,33 +81,33 @@ fn dimension(rest: &str) -> &'static str {
     }
 }
 
-fn has_space(head: &str) -> bool {
-    head.contains(" ") || head.contains("\n") || head.contains("\r") || head.contains("\t")
+fn has_space(header: &str) -> bool {
+    header.contains(" ") || header.contains("\n") || header.contains("\r") || header.contains("\t")
 }
 
-// What the head of a text says, by the four rules.
-fn head_answer(alloc: Global, text: &str) -> Result<String, AllocError> {
+// What the header of a text says, by the four rules.
+fn header_answer(alloc: Global, text: &str) -> Result<String, AllocError> {
     let capitals = text.to_ascii_uppercase(alloc)?;
-    let Some((head, by_empty)) = head(capitals.trim_start()) else {
+    let Some((header, by_empty)) = header(capitals.trim_start()) else {
         return String::from_str(alloc, "Invalid WKT; no '(' character and not EMPTY");
     };
-    if by_empty && !has_space(head) {
+    if by_empty && !has_space(header) {
         return String::from_str(
             alloc,
             "Invalid WKT; no whitespace between geometry type and EMPTY.",
         );
     }
-    for (word, name) in HEADS {
-        if let Some(rest) = head.strip_prefix(word) {
+    for (word, name) in HEADERS {
+        if let Some(rest) = header.strip_prefix(word) {
             let dimension = dimension(rest);
             return format!(in alloc; "{name} {dimension}");
         }
     }
-    format!(in alloc; "Unsupported WKT prefix {head}")
+    format!(in alloc; "Unsupported WKT prefix {header}")
 }
 
-fn same_head(alloc: Global, text: &str) -> Result<bool, AllocError> {
-    let wanted = head_answer(alloc, text)?;
+fn same_header(alloc: Global, text: &str) -> Result<bool, AllocError> {
+    let wanted = header_answer(alloc, text)?;
     let given = match infer_type(alloc, text) {
         Ok((kind, dimension)) => format!(in alloc; "{kind:?} {dimension:?}")?,
         Err(error) => format!(in alloc; "{error}")?,
@@ -169,8 +169,8 @@ fn differences(
         if !same_front(alloc, &text)? {
             wrong.push_str(&format!(in alloc; "front of {text}\n")?)?;
         }
-        if !same_head(alloc, &text)? {
-            wrong.push_str(&format!(in alloc; "head of {text}\n")?)?;
+        if !same_header(alloc, &text)? {
+            wrong.push_str(&format!(in alloc; "header of {text}\n")?)?;
         }
     }
     Ok(wrong)
@@ -194,10 +194,11 @@ fn plain_program(rt: HostRuntime) -> Result<(), Fail> {
         ("LINEARRINGZ(1 2 3)", "none"),
         ("MULTIPOINT((EMPTY))", "none"),
     ] {
-        match front(alloc, text)? {
-            Some(given) => assert_eq!(rt; given.as_str(), wanted, "at {text}"),
-            None => assert_eq!(rt; "none", wanted, "at {text}"),
-        }
+        let given = match front(alloc, text)? {
+            Some(given) => given,
+            None => String::from_str(alloc, "none")?,
+        };
+        assert_eq!(rt; given.as_str(), wanted, "at {text}");
     }
     Ok(())
 }

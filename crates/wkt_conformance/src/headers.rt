@@ -44,7 +44,8 @@ fn headers(rt: HostRuntime) -> Result<(), Fail> {
         ("POINT", NO_PAREN),
         ("", NO_PAREN),
     ] {
-        assert_eq!(rt; shown(alloc, text)?.as_str(), wanted, "of {text}");
+        let given = shown(alloc, text)?;
+        assert_eq!(rt; given.as_str(), wanted, "of {text}");
     }
     Ok(())
 }

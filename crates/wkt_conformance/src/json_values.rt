@@ -1,5 +1,6 @@
 use serde_json::Value;
 use std::alloc::Global;
+use std::process::Abort;
 use std::test::Fail;
 use wkt::deserialize::geo_types::{deserialize_geometry, deserialize_point};
 use wkt::deserialize::{ValueError, deserialize_wkt, wkt_from_value};
@@ -38,8 +39,8 @@ fn reads_strings_and_nothing_else(rt: HostRuntime) -> Result<(), Fail> {
         ("[\"POINT (1 2)\"]", "a valid WKT format"),
         ("{\"POINT\":\"POINT (1 2)\"}", "a valid WKT format"),
     ] {
-        let value = Value::from_str(alloc, json)?;
-        assert_eq!(rt; read(alloc, &value)?.as_str(), want, "of {json}");
+        let given = read(alloc, &Value::from_str(alloc, json)?)?;
+        assert_eq!(rt; given.as_str(), want, "of {json}");
     }
     Ok(())
 }
@@ -71,14 +72,13 @@ fn reads_a_field_of_a_document(rt: HostRuntime) -> Result<(), Fail> {
         alloc,
         "{\"rows\":[{\"id\":7,\"at\":\"POINT (42 3.14)\"}],\"at\":null}",
     )?;
-    let field = document.pointer("/rows/0/at").ok_or("a field")?;
-    assert_eq!(rt; read(alloc, field)?.as_str(), "POINT(42 3.14)");
+    let field = read(alloc, document.pointer("/rows/0/at").ok_or("a field")?)?;
+    assert_eq!(rt; field.as_str(), "POINT(42 3.14)");
+    let none = read(alloc, document.get("at").ok_or("a field")?)?;
+    assert_eq!(rt; none.as_str(), "a valid WKT format");
+    let again = document.to_string(alloc)?;
     assert_eq!(rt;
-        read(alloc, document.get("at").ok_or("a field")?)?.as_str(),
-        "a valid WKT format"
-    );
-    assert_eq!(rt;
-        document.to_string(alloc)?.as_str(),
+        again.as_str(),
         "{\"at\":null,\"rows\":[{\"at\":\"POINT (42 3.14)\",\"id\":7}]}"
     );
     Ok(())
@@ -129,8 +129,8 @@ fn reads_points_and_none(rt: HostRuntime) -> Result<(), Fail> {
             "Invalid WKT: Missing closing parenthesis for type",
         ),
     ] {
-        let value = Value::from_str(alloc, json)?;
-        assert_eq!(rt; read_point(alloc, &value)?.as_str(), want, "of {json}");
+        let given = read_point(alloc, &Value::from_str(alloc, json)?)?;
+        assert_eq!(rt; given.as_str(), want, "of {json}");
     }
     Ok(())
 }
@@ -150,6 +150,22 @@ fn read_as_point(alloc: Global, value: &Value) -> Result<String, Fail> {
         Ok(point) => Ok(point.wkt_string(alloc)?),
         Err(error) => Ok(error.to_string(alloc)?),
     }
+}
+
+// The value is read as a geometry and as a point so.
+fn reads_as(
+    rt: &impl Abort,
+    alloc: Global,
+    json: &str,
+    want: &str,
+    as_point: &str,
+) -> Result<(), Fail> {
+    let value = Value::from_str(alloc, json)?;
+    let geometry = read_geometry(alloc, &value)?;
+    assert_eq!(rt; geometry.as_str(), want, "of {json}");
+    let point = read_as_point(alloc, &value)?;
+    assert_eq!(rt; point.as_str(), as_point, "of {json}");
+    Ok(())
 }
 
 #[test]
@@ -174,13 +190,7 @@ fn reads_geometries_and_what_is_asked_for(rt: HostRuntime) -> Result<(), Fail> {
             "Invalid WKT: Invalid WKT format",
         ),
     ] {
-        let value = Value::from_str(alloc, json)?;
-        assert_eq!(rt; read_geometry(alloc, &value)?.as_str(), want, "of {json}");
-        assert_eq!(rt;
-            read_as_point(alloc, &value)?.as_str(),
-            as_point,
-            "of {json}"
-        );
+        reads_as(&rt, alloc, json, want, as_point)?;
     }
     Ok(())
 }

@@ -9,16 +9,10 @@
 #[cfg(test)]
 mod against_reference;
 #[cfg(test)]
-mod conversions;
-#[cfg(test)]
 mod errors;
 mod flat_calls;
 #[cfg(test)]
-mod flat_devices;
-#[cfg(test)]
-mod flat_texts;
-#[cfg(test)]
-mod flat_values;
+mod flat_sinks;
 #[cfg(test)]
 mod headers;
 #[cfg(test)]
@@ -26,13 +20,13 @@ mod json_values;
 #[cfg(test)]
 mod odd_tests;
 #[cfg(test)]
-mod program_devices;
+mod program_sinks;
 #[cfg(test)]
 mod reading;
 #[cfg(test)]
 mod reference;
 #[cfg(test)]
-mod slow_devices;
+mod slow_sinks;
 mod table;
 #[cfg(test)]
 mod types_by_hand;

@@ -62,7 +62,7 @@ fn first_lexeme(text: &[u8]) -> Option<(Lexeme<'_>, &[u8])> {
     }
 }
 
-// The lexeme behind white space, and what follows it.
+// The lexeme after white space, and what follows it.
 fn next_lexeme(text: &[u8]) -> Option<(Lexeme<'_>, &[u8])> {
     for n in 0..text.len() {
         if !is_white(text[n]) {
@@ -90,25 +90,7 @@ pub fn lexemes<'a>(alloc: Global, text: &'a [u8]) -> Result<Vec<Lexeme<'a>>, All
 
 /// A whole number of few digits: an optional sign and at least one digit.
 pub fn whole(run: &[u8]) -> Option<i32> {
-    let (sign, digits) = match run {
-        [b'-', digits @ ..] => (-1i32, digits),
-        [b'+', digits @ ..] => (1, digits),
-        digits => (1, digits),
-    };
-    if digits.is_empty() {
-        return None;
-    }
-    let mut number = 0i32;
-    for &byte in digits {
-        if byte < b'0' || byte > b'9' {
-            return None;
-        }
-        number = number
-            .wrapping_mul(10)
-            .wrapping_add(i32::from(byte))
-            .wrapping_sub(48);
-    }
-    Some(number.wrapping_mul(sign))
+    str::from_utf8(run).ok()?.parse().ok()
 }
 
 const KINDS: [(&str, &str); 8] = [
@@ -154,8 +136,8 @@ fn joined(run: &[u8]) -> Option<(&'static str, &'static str)> {
     None
 }
 
-// The kind and the dimension of a whole head.
-fn head(lexemes: &[Lexeme<'_>]) -> Option<(&'static str, &'static str)> {
+// The kind and the dimension of a whole header.
+fn header(lexemes: &[Lexeme<'_>]) -> Option<(&'static str, &'static str)> {
     match lexemes {
         [Lexeme::Word(run)] => match kind(run) {
             Some(name) => Some((name, "")),
@@ -313,7 +295,7 @@ fn many(
     one(alloc, depth - 1, item, size, lexemes)
 }
 
-// What a geometry holds, behind its head.
+// What a geometry holds, after its header.
 #[cycle(grammar)]
 fn body(
     alloc: Global,
@@ -336,7 +318,7 @@ fn body(
     }
 }
 
-// A head and a body, by every cut.
+// A header and a body, by every cut.
 #[cycle(grammar)]
 fn geometry(
     alloc: Global,
@@ -347,7 +329,7 @@ fn geometry(
         return Ok(None);
     }
     for n in 0..lexemes.len() {
-        if let Some((name, dimension)) = head(&lexemes[..n])
+        if let Some((name, dimension)) = header(&lexemes[..n])
             && let Some(text) = body(alloc, depth - 1, name, size(dimension), &lexemes[n..])?
         {
             let space = if text.as_str() == "EMPTY" { " " } else { "" };

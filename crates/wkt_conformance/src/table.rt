@@ -104,41 +104,58 @@ fn read_alike<T: WktNum>(alloc: Global, text: &str) -> Result<(Wkt<T>, bool), Re
 
 /// An equal geometry, put together again from its parts.
 fn rebuilt<T: WktNum>(alloc: Global, geometry: Wkt<T>) -> Result<Wkt<T>, AllocError> {
-    let dim = geometry.dimension();
-    Ok(match geometry {
-        Wkt::Point(point) => Wkt::from(point),
-        Wkt::LineString(line) => {
-            let (coords, _) = line.into_inner();
-            let line = LineString::from_coords(alloc, coords.into_iter())?;
-            Wkt::from(line.unwrap_or_else(|| LineString::empty(alloc, dim)))
-        }
-        Wkt::Polygon(polygon) => {
-            let (rings, _) = polygon.into_inner();
-            let polygon = Polygon::from_rings(alloc, rings.into_iter())?;
-            Wkt::from(polygon.unwrap_or_else(|| Polygon::empty(alloc, dim)))
-        }
-        Wkt::MultiPoint(points) => {
-            let (points, _) = points.into_inner();
-            let points = MultiPoint::from_points(alloc, points.into_iter())?;
-            Wkt::from(points.unwrap_or_else(|| MultiPoint::empty(alloc, dim)))
-        }
-        Wkt::MultiLineString(lines) => {
-            let (lines, _) = lines.into_inner();
-            let lines = MultiLineString::from_line_strings(alloc, lines.into_iter())?;
-            Wkt::from(lines.unwrap_or_else(|| MultiLineString::empty(alloc, dim)))
-        }
-        Wkt::MultiPolygon(polygons) => {
-            let (polygons, _) = polygons.into_inner();
-            let polygons = MultiPolygon::from_polygons(alloc, polygons.into_iter())?;
-            Wkt::from(polygons.unwrap_or_else(|| MultiPolygon::empty(alloc, dim)))
-        }
-        // The dimension of a collection need not be that of its first member.
-        Wkt::GeometryCollection(all) => {
-            let (members, _) = all.into_inner();
-            let all = GeometryCollection::from_geometries(alloc, members.into_iter())?;
-            let all = all.unwrap_or_else(|| GeometryCollection::empty(alloc, dim));
-            let (members, _) = all.into_inner();
-            Wkt::from(GeometryCollection::new(members, dim))
-        }
-    })
+    match geometry {
+        Wkt::Point(point) => Ok(Wkt::from(point)),
+        Wkt::LineString(line) => line_again(alloc, line),
+        Wkt::Polygon(polygon) => polygon_again(alloc, polygon),
+        Wkt::MultiPoint(points) => points_again(alloc, points),
+        Wkt::MultiLineString(lines) => lines_again(alloc, lines),
+        Wkt::MultiPolygon(polygons) => polygons_again(alloc, polygons),
+        Wkt::GeometryCollection(all) => collection_again(alloc, all),
+    }
+}
+
+fn line_again<T: WktNum>(alloc: Global, line: LineString<T>) -> Result<Wkt<T>, AllocError> {
+    let (coords, dim) = line.into_inner();
+    let line = LineString::from_coords(alloc, coords.into_iter())?;
+    Ok(Wkt::from(line.unwrap_or_else(|| LineString::empty(alloc, dim))))
+}
+
+fn polygon_again<T: WktNum>(alloc: Global, polygon: Polygon<T>) -> Result<Wkt<T>, AllocError> {
+    let (rings, dim) = polygon.into_inner();
+    let polygon = Polygon::from_rings(alloc, rings.into_iter())?;
+    Ok(Wkt::from(polygon.unwrap_or_else(|| Polygon::empty(alloc, dim))))
+}
+
+fn points_again<T: WktNum>(alloc: Global, points: MultiPoint<T>) -> Result<Wkt<T>, AllocError> {
+    let (points, dim) = points.into_inner();
+    let points = MultiPoint::from_points(alloc, points.into_iter())?;
+    Ok(Wkt::from(points.unwrap_or_else(|| MultiPoint::empty(alloc, dim))))
+}
+
+fn lines_again<T: WktNum>(alloc: Global, lines: MultiLineString<T>) -> Result<Wkt<T>, AllocError> {
+    let (lines, dim) = lines.into_inner();
+    let lines = MultiLineString::from_line_strings(alloc, lines.into_iter())?;
+    Ok(Wkt::from(lines.unwrap_or_else(|| MultiLineString::empty(alloc, dim))))
+}
+
+fn polygons_again<T: WktNum>(
+    alloc: Global,
+    polygons: MultiPolygon<T>,
+) -> Result<Wkt<T>, AllocError> {
+    let (polygons, dim) = polygons.into_inner();
+    let polygons = MultiPolygon::from_polygons(alloc, polygons.into_iter())?;
+    Ok(Wkt::from(polygons.unwrap_or_else(|| MultiPolygon::empty(alloc, dim))))
+}
+
+/// The dimension of a collection need not be that of its first member.
+fn collection_again<T: WktNum>(
+    alloc: Global,
+    all: GeometryCollection<T>,
+) -> Result<Wkt<T>, AllocError> {
+    let (members, dim) = all.into_inner();
+    let all = GeometryCollection::from_geometries(alloc, members.into_iter())?;
+    let all = all.unwrap_or_else(|| GeometryCollection::empty(alloc, dim));
+    let (members, _) = all.into_inner();
+    Ok(Wkt::from(GeometryCollection::new(members, dim)))
 }

@@ -1,6 +1,7 @@
 //! Texts and what reading and writing gives, from outside.
 use crate::table::answer;
 use std::alloc::{AllocError, Global};
+use std::process::Abort;
 use std::test::Fail;
 use wkt::geo_types::Geometry;
 use wkt::tokenizer::{PeekableTokens, Token, Tokens};
@@ -26,136 +27,145 @@ fn gives(alloc: Global, text: &str) -> Result<String, AllocError> {
     answer::<Decimal<6>>(alloc, text)
 }
 
-#[test]
-fn points(rt: HostRuntime) -> Result<(), Fail> {
-    let alloc = rt.alloc();
-    for (text, want) in [
-        (
-            " \n\t\rPOINT \n\t\r( \n\r\t10 \n\t\r-20 \n\t\r) \n\t\r",
-            "POINT(10 -20)",
-        ),
-        ("point ( 10 -20.50 )", "POINT(10 -20.5)"),
-        ("POINT ZM EMPTY", "POINT ZM EMPTY"),
-        ("POINTZ(-117 33 10)", "POINT Z(-117 33 10)"),
-        ("pointm(1 2 3)", "POINT M(1 2 3)"),
-        ("POINT (1 2) 1x", "POINT(1 2)"),
-        ("POINT (1 2)\0)", "POINT(1 2)"),
-        ("POINT EMPTY\0X", "POINT EMPTY"),
-        ("POINT (+-2 .5)", "POINT(-2 0.5)"),
-        ("POINT (-0 0.0000010)", "POINT(0 0.000001)"),
-        (
-            "POINT(9223372036854.775807 -9223372036854.775808)",
-            "POINT(9223372036854.775807 -9223372036854.775808)",
-        ),
-    ] {
-        assert_eq!(rt; gives(alloc, text)?.as_str(), want, "at {text}");
+// Each text gives what stands beside it, over numbers of that type.
+fn each<T: WktNum>(rt: &impl Abort, alloc: Global, rows: &[(&str, &str)]) -> Result<(), Fail> {
+    for (text, want) in rows {
+        let given = answer::<T>(alloc, text)?;
+        assert_eq!(rt; given.as_str(), *want, "at {text}");
     }
     Ok(())
+}
+
+#[test]
+fn points(rt: HostRuntime) -> Result<(), Fail> {
+    each::<Decimal<6>>(
+        &rt,
+        rt.alloc(),
+        &[
+            (
+                " \n\t\rPOINT \n\t\r( \n\r\t10 \n\t\r-20 \n\t\r) \n\t\r",
+                "POINT(10 -20)",
+            ),
+            ("point ( 10 -20.50 )", "POINT(10 -20.5)"),
+            ("POINT ZM EMPTY", "POINT ZM EMPTY"),
+            ("POINTZ(-117 33 10)", "POINT Z(-117 33 10)"),
+            ("pointm(1 2 3)", "POINT M(1 2 3)"),
+            ("POINT (1 2) 1x", "POINT(1 2)"),
+            ("POINT (1 2)\0)", "POINT(1 2)"),
+            ("POINT EMPTY\0X", "POINT EMPTY"),
+            ("POINT (+-2 .5)", "POINT(-2 0.5)"),
+            ("POINT (-0 0.0000010)", "POINT(0 0.000001)"),
+            (
+                "POINT(9223372036854.775807 -9223372036854.775808)",
+                "POINT(9223372036854.775807 -9223372036854.775808)",
+            ),
+        ],
+    )
 }
 
 #[test]
 fn lists(rt: HostRuntime) -> Result<(), Fail> {
-    let alloc = rt.alloc();
-    for (text, want) in [
-        ("LINESTRING (10 -20, -0 -0.5)", "LINESTRING(10 -20,0 -0.5)"),
-        ("LINEARRING Z(1 2 3)", "LINESTRING Z(1 2 3)"),
-        (
-            "linestringzm(1 2 3 4,5 6 7 8)",
-            "LINESTRING ZM(1 2 3 4,5 6 7 8)",
-        ),
-        ("linestring z empty", "LINESTRING Z EMPTY"),
-        ("POLYGON(EMPTY)", "POLYGON EMPTY"),
-        ("POLYGON(EMPTY,(1 2))", "POLYGON EMPTY"),
-        ("MULTIPOINT (8 4, (4 0))", "MULTIPOINT((8 4),(4 0))"),
-        ("MULTIPOINT (EMPTY)", "MULTIPOINT(EMPTY)"),
-        (
-            "multipoint z(1 2 3,empty,(4 5 6))",
-            "MULTIPOINT Z((1 2 3),EMPTY,(4 5 6))",
-        ),
-        (
-            "MULTIPOLYGON ((EMPTY,(1 2)),((3 4),EMPTY))",
-            "MULTIPOLYGON(EMPTY,((3 4),EMPTY))",
-        ),
-        (
-            "MULTIPOLYGON (((8 4)), ((4 0)))",
-            "MULTIPOLYGON(((8 4)),((4 0)))",
-        ),
-        (
-            "GEOMETRYCOLLECTION (POINT (8 4),LINESTRING(4 6,7 10)))",
-            "GEOMETRYCOLLECTION(POINT(8 4),LINESTRING(4 6,7 10))",
-        ),
-        (
-            "GEOMETRYCOLLECTION Z (POINT (1 2), POINT M(1 2 3))",
-            "GEOMETRYCOLLECTION Z(POINT(1 2),POINT M(1 2 3))",
-        ),
-    ] {
-        assert_eq!(rt; gives(alloc, text)?.as_str(), want, "at {text}");
-    }
-    Ok(())
+    each::<Decimal<6>>(
+        &rt,
+        rt.alloc(),
+        &[
+            ("LINESTRING (10 -20, -0 -0.5)", "LINESTRING(10 -20,0 -0.5)"),
+            ("LINEARRING Z(1 2 3)", "LINESTRING Z(1 2 3)"),
+            (
+                "linestringzm(1 2 3 4,5 6 7 8)",
+                "LINESTRING ZM(1 2 3 4,5 6 7 8)",
+            ),
+            ("linestring z empty", "LINESTRING Z EMPTY"),
+            ("POLYGON(EMPTY)", "POLYGON EMPTY"),
+            ("POLYGON(EMPTY,(1 2))", "POLYGON EMPTY"),
+            ("MULTIPOINT (8 4, (4 0))", "MULTIPOINT((8 4),(4 0))"),
+            ("MULTIPOINT (EMPTY)", "MULTIPOINT(EMPTY)"),
+            (
+                "multipoint z(1 2 3,empty,(4 5 6))",
+                "MULTIPOINT Z((1 2 3),EMPTY,(4 5 6))",
+            ),
+            (
+                "MULTIPOLYGON ((EMPTY,(1 2)),((3 4),EMPTY))",
+                "MULTIPOLYGON(EMPTY,((3 4),EMPTY))",
+            ),
+            (
+                "MULTIPOLYGON (((8 4)), ((4 0)))",
+                "MULTIPOLYGON(((8 4)),((4 0)))",
+            ),
+            (
+                "GEOMETRYCOLLECTION (POINT (8 4),LINESTRING(4 6,7 10)))",
+                "GEOMETRYCOLLECTION(POINT(8 4),LINESTRING(4 6,7 10))",
+            ),
+            (
+                "GEOMETRYCOLLECTION Z (POINT (1 2), POINT M(1 2 3))",
+                "GEOMETRYCOLLECTION Z(POINT(1 2),POINT M(1 2 3))",
+            ),
+        ],
+    )
 }
 
 #[test]
 fn refusals(rt: HostRuntime) -> Result<(), Fail> {
-    let alloc = rt.alloc();
-    for (text, want) in [
-        ("", NOT_WKT),
-        ("POINTZ Z (1 2 3)", NO_OPENING),
-        ("POINTZ", NO_OPENING),
-        ("POINT (10)", NO_CLOSING),
-        ("POINT ZM(1 2 3)", NO_CLOSING),
-        ("POINT (42 PI3.14)", NO_Y),
-        ("POINT (10 20.1A)", BAD_NUMBER),
-        ("POINT Z 1x", BAD_NUMBER),
-        ("POINT 1x", "End of stream"),
-        ("POINT (1 1e-7)", BAD_NUMBER),
-        ("POINT (1e-7 2)", NO_CLOSING),
-        ("POINT (1 \0)", NO_CLOSING),
-        ("POINT (1 0.0000001)", BAD_NUMBER),
-        ("POINT EMPTYX", "Unexpected word before open paren"),
-        ("LINEARRINGZ(1 2 3)", NO_KIND),
-        ("LINESTRING ()", NO_CLOSING),
-        ("LINESTRING (1 2,)", NO_CLOSING),
-        ("LINESTRING (1 2 3 4)", NO_CLOSING),
-        ("MULTIPOINT ((EMPTY))", NO_X),
-        ("MULTIPOINT (EMPTYX)", NO_X),
-        ("GEOMETRYCOLLECTION ()", NO_CLOSING),
-        (
-            "GEOMETRYCOLLECTION (1)",
-            "Expected a word in GEOMETRYCOLLECTION",
-        ),
-        ("GEOMETRYCOLLECTION(¾)", NO_KIND),
-        ("GEOMETRYCOLLECTION(¾(1 2))", NO_CLOSING),
-        ("\0POINT (1 2)", NOT_WKT),
-        ("PO\0INT(1 2)", NO_KIND),
-        ("POINT\0(1 2)", "End of stream"),
-        ("POINTZ\0", NO_OPENING),
-    ] {
-        assert_eq!(rt; gives(alloc, text)?.as_str(), want, "at {text}");
-    }
-    Ok(())
+    each::<Decimal<6>>(
+        &rt,
+        rt.alloc(),
+        &[
+            ("", NOT_WKT),
+            ("POINTZ Z (1 2 3)", NO_OPENING),
+            ("POINTZ", NO_OPENING),
+            ("POINT (10)", NO_CLOSING),
+            ("POINT ZM(1 2 3)", NO_CLOSING),
+            ("POINT (42 PI3.14)", NO_Y),
+            ("POINT (10 20.1A)", BAD_NUMBER),
+            ("POINT Z 1x", BAD_NUMBER),
+            ("POINT 1x", "End of stream"),
+            ("POINT (1 1e-7)", BAD_NUMBER),
+            ("POINT (1e-7 2)", NO_CLOSING),
+            ("POINT (1 \0)", NO_CLOSING),
+            ("POINT (1 0.0000001)", BAD_NUMBER),
+            ("POINT EMPTYX", "Unexpected word before open paren"),
+            ("LINEARRINGZ(1 2 3)", NO_KIND),
+            ("LINESTRING ()", NO_CLOSING),
+            ("LINESTRING (1 2,)", NO_CLOSING),
+            ("LINESTRING (1 2 3 4)", NO_CLOSING),
+            ("MULTIPOINT ((EMPTY))", NO_X),
+            ("MULTIPOINT (EMPTYX)", NO_X),
+            ("GEOMETRYCOLLECTION ()", NO_CLOSING),
+            (
+                "GEOMETRYCOLLECTION (1)",
+                "Expected a word in GEOMETRYCOLLECTION",
+            ),
+            ("GEOMETRYCOLLECTION(¾)", NO_KIND),
+            ("GEOMETRYCOLLECTION(¾(1 2))", NO_CLOSING),
+            ("\0POINT (1 2)", NOT_WKT),
+            ("PO\0INT(1 2)", NO_KIND),
+            ("POINT\0(1 2)", "End of stream"),
+            ("POINTZ\0", NO_OPENING),
+        ],
+    )
 }
 
 #[test]
 fn number_types(rt: HostRuntime) -> Result<(), Fail> {
     let alloc = rt.alloc();
-    for (text, want) in [
-        ("POINT (255 256)", BAD_NUMBER),
-        ("POINT (1 -0)", BAD_NUMBER),
-        ("POINT (255 ++2)", "POINT(255 2)"),
-    ] {
-        assert_eq!(rt; answer::<u8>(alloc, text)?.as_str(), want, "at {text}");
-    }
-    for (text, want) in [
-        ("POINT (.a .b)", "POINT(.a .b)"),
-        ("POINT (.a .c)", BAD_NUMBER),
-    ] {
-        assert_eq!(rt; answer::<Letter>(alloc, text)?.as_str(), want, "at {text}");
-    }
-    assert_eq!(rt;
-        answer::<Dash>(alloc, "POINT (+ -)")?.as_str(),
-        "POINT(- -)"
-    );
-    Ok(())
+    each::<u8>(
+        &rt,
+        alloc,
+        &[
+            ("POINT (255 256)", BAD_NUMBER),
+            ("POINT (1 -0)", BAD_NUMBER),
+            ("POINT (255 ++2)", "POINT(255 2)"),
+        ],
+    )?;
+    each::<Letter>(
+        &rt,
+        alloc,
+        &[
+            ("POINT (.a .b)", "POINT(.a .b)"),
+            ("POINT (.a .c)", BAD_NUMBER),
+        ],
+    )?;
+    each::<Dash>(&rt, alloc, &[("POINT (+ -)", "POINT(- -)")])
 }
 
 // What a front gives, and where it ends.
@@ -172,12 +182,13 @@ fn fronts(rt: HostRuntime) -> Result<(), Fail> {
         (" POINT Z EMPTY,", "POINT Z EMPTY 14"),
         ("POINT (1 2)\0POINT (3 4)", "POINT(1 2) 11"),
     ] {
-        assert_eq!(rt; front(alloc, text)?.as_str(), want, "at {text}");
+        let given = front(alloc, text)?;
+        assert_eq!(rt; given.as_str(), want, "at {text}");
     }
     Ok(())
 }
 
-// The next lexeme, where it ends, and whether no more than one byte behind it is taken.
+// The next lexeme, where it ends, and whether no more than one byte after it is taken.
 fn next_lexeme(alloc: Global, tokens: &mut Tokens<'_, Decimal<6>>) -> Result<String, AllocError> {
     let lexeme = tokens.next();
     let end = tokens.end();
@@ -236,7 +247,7 @@ fn streams(rt: HostRuntime) -> Result<(), Fail> {
     Ok(())
 }
 
-// A point in so many collections, with so many closing parentheses behind it.
+// A point in so many collections, with so many closing parentheses after it.
 fn nested(alloc: Global, opened: usize, closed: usize) -> Result<String, AllocError> {
     let mut text = String::new(alloc);
     for _ in 0..opened {
@@ -323,25 +334,23 @@ const LISTS: [(&str, &str); 6] = [
     ("GEOMETRYCOLLECTION", "POINT(1 2)"),
 ];
 
+// Lists of so many members give themselves.
+fn lists_of(rt: &impl Abort, alloc: Global, n: usize) -> Result<(), Fail> {
+    for (word, member) in LISTS {
+        let text = members(alloc, word, member, n)?;
+        let given = gives(alloc, &text)?;
+        assert!(rt; given == text, "{n} of {word}");
+    }
+    Ok(())
+}
+
 // A reader, a copy or a constructor that gives up above a size fails here.
 #[test]
 fn ample_memory(rt: HostRuntime) -> Result<(), Fail> {
-    let alloc = rt.alloc();
-    for (word, member) in LISTS {
-        for n in 1..=300 {
-            let text = members(alloc, word, member, n)?;
-            assert!(rt;
-                gives(alloc, &text)?.as_str() == text.as_str(),
-                "{n} of {word}"
-            );
-        }
-        let text = members(alloc, word, member, 100000)?;
-        assert!(rt;
-            gives(alloc, &text)?.as_str() == text.as_str(),
-            "100000 of {word}"
-        );
+    for n in 1..=300 {
+        lists_of(&rt, rt.alloc(), n)?;
     }
-    Ok(())
+    lists_of(&rt, rt.alloc(), 100000)
 }
 
 #[test]
@@ -353,6 +362,17 @@ fn long_numbers(rt: HostRuntime) -> Result<(), Fail> {
     let word = "A".repeat(alloc, 100000)?;
     assert_eq!(rt; gives(alloc, &word)?.as_str(), NO_KIND);
     Ok(())
+}
+
+// Whether a text has just so many lexemes.
+fn has_lexemes(text: &str, count: usize) -> bool {
+    let mut tokens = Tokens::<Decimal<6>>::from_str(text);
+    for _ in 0..count {
+        if tokens.next().is_none() {
+            return false;
+        }
+    }
+    tokens.next().is_none() && tokens.next().is_none()
 }
 
 #[test]
@@ -376,12 +396,7 @@ fn long_runs_of_each_class(rt: HostRuntime) -> Result<(), Fail> {
         (",", 100000),
     ] {
         let text = piece.repeat(alloc, 100000)?;
-        let mut tokens = Tokens::<Decimal<6>>::from_str(&text);
-        for _ in 0..lexemes {
-            assert!(rt; tokens.next().is_some(), "of {piece}");
-        }
-        assert!(rt; tokens.next().is_none(), "of {piece}");
-        assert!(rt; tokens.next().is_none(), "of {piece}");
+        assert!(rt; has_lexemes(&text, lexemes), "of {piece}");
     }
     Ok(())
 }

@@ -2,7 +2,7 @@
 ghost use Rattle.std.specs.Prelude.{◌≡◌, IfOk, IfErr, OnOk, None};
 ghost use Rattle.std.specs.String.{string_bytes};
 ghost use Rattle.wkt_num.specs.Sink.{next_count};
-ghost use Rattle.wkt_bytes.specs.Device.{IsOut, IsPartOut};
+ghost use Rattle.wkt_bytes.specs.Sinks.{IsOut, IsPartOut};
 ghost use Rattle.wkt_access.specs.Faults.{fault};
 ghost use Rattle.wkt_types.specs.Values.{tree_shape};
 ghost use Rattle.wkt_flat.specs.Shape.{flat_shape};
@@ -37,9 +37,9 @@ pub(crate) fn flat_string<G: FlatValue>(alloc: Global, g: &G) -> Result<String, 
 
 /// Puts the text of a flat value out. It takes no memory, and is refused for the writer alone.
 pub(crate) fn flat_send<G: FlatValue, W: ByteSink>(g: &G, writer: &mut W) -> Result<(), ToWktError>
-    ensures ok { OnOk result (IsOut W.device writer.old writer.new (wkt_text G.T.num (G.value g.now))) }
-    ensures io { IfIo result (IsPartOut W.device writer.old writer.new (wkt_text G.T.num (G.value g.now))) }
-    ensures io_count { IfIo result (W.device.failures writer.new ≡ next_count (W.device.failures writer.old)) }
+    ensures ok { OnOk result (IsOut W.sink writer.old writer.new (wkt_text G.T.num (G.value g.now))) }
+    ensures io { IfIo result (IsPartOut W.sink writer.old writer.new (wkt_text G.T.num (G.value g.now))) }
+    ensures io_count { IfIo result (W.sink.failures writer.new ≡ next_count (W.sink.failures writer.old)) }
     ensures shape { IfShape result (λ _. writer.new ≡ writer.old) }
     ensures cause { IfShape result (IsRefusal (tree_shape (back (G.value g.now)))) }
     ensures never { IfShape result (λ _. ⊥) }

@@ -2,7 +2,7 @@
 ghost use Rattle.std.specs.Prelude.{◌≡◌, IfOk, IfErr, OnOk, None};
 ghost use Rattle.std.specs.String.{string_bytes};
 ghost use Rattle.wkt_num.specs.Sink.{next_count};
-ghost use Rattle.wkt_bytes.specs.Device.{IsOut, IsPartOut};
+ghost use Rattle.wkt_bytes.specs.Sinks.{IsOut, IsPartOut};
 ghost use Rattle.wkt_access.specs.Faults.{fault};
 ghost use Rattle.wkt_types.specs.Values.{tree_shape};
 ghost use Rattle.wkt_flat.specs.Tree.{Flat, flat_tree, flat_trees};
@@ -47,9 +47,9 @@ impl<T: WktNum> ToWkt<T> for flat::Point<T> {
     /// `Io` where the writer failed, or took nothing (`WriteZero`): then a beginning of the text is
     /// out. `Shape` never comes.
     fn write_wkt<W: ByteSink>(&self, _alloc: Global, writer: &mut W) -> Result<(), ToWktError>
-        ensures ok { OnOk result (IsOut W.device writer.old writer.new (wkt_text T.num (Flat.point self.now))) }
-        ensures io { IfIo result (IsPartOut W.device writer.old writer.new (wkt_text T.num (Flat.point self.now))) }
-        ensures io_count { IfIo result (W.device.failures writer.new ≡ next_count (W.device.failures writer.old)) }
+        ensures ok { OnOk result (IsOut W.sink writer.old writer.new (wkt_text T.num (Flat.point self.now))) }
+        ensures io { IfIo result (IsPartOut W.sink writer.old writer.new (wkt_text T.num (Flat.point self.now))) }
+        ensures io_count { IfIo result (W.sink.failures writer.new ≡ next_count (W.sink.failures writer.old)) }
         ensures shape { IfShape result (λ _. writer.new ≡ writer.old) }
         ensures cause { IfShape result (IsRefusal (tree_shape (back (Flat.point self.now)))) }
         ensures never { IfShape result (λ _. ⊥) }
@@ -85,9 +85,9 @@ impl<T: WktNum> ToWkt<T> for flat::Line<T> {
     /// `Io` where the writer failed, or took nothing (`WriteZero`): then a beginning of the text is
     /// out. `Shape` never comes.
     fn write_wkt<W: ByteSink>(&self, _alloc: Global, writer: &mut W) -> Result<(), ToWktError>
-        ensures ok { OnOk result (IsOut W.device writer.old writer.new (wkt_text T.num (Flat.line self.now))) }
-        ensures io { IfIo result (IsPartOut W.device writer.old writer.new (wkt_text T.num (Flat.line self.now))) }
-        ensures io_count { IfIo result (W.device.failures writer.new ≡ next_count (W.device.failures writer.old)) }
+        ensures ok { OnOk result (IsOut W.sink writer.old writer.new (wkt_text T.num (Flat.line self.now))) }
+        ensures io { IfIo result (IsPartOut W.sink writer.old writer.new (wkt_text T.num (Flat.line self.now))) }
+        ensures io_count { IfIo result (W.sink.failures writer.new ≡ next_count (W.sink.failures writer.old)) }
         ensures shape { IfShape result (λ _. writer.new ≡ writer.old) }
         ensures cause { IfShape result (IsRefusal (tree_shape (back (Flat.line self.now)))) }
         ensures never { IfShape result (λ _. ⊥) }
@@ -123,10 +123,10 @@ impl<T: WktNum> ToWkt<T> for flat::LineString<T> {
     /// `Io` where the writer failed, or took nothing (`WriteZero`): then a beginning of the text is
     /// out. `Shape` never comes.
     fn write_wkt<W: ByteSink>(&self, _alloc: Global, writer: &mut W) -> Result<(), ToWktError>
-        ensures ok { OnOk result (IsOut W.device writer.old writer.new (wkt_text T.num (Flat.line_string self.now))) }
+        ensures ok { OnOk result (IsOut W.sink writer.old writer.new (wkt_text T.num (Flat.line_string self.now))) }
         ensures io { IfIo result
-            (IsPartOut W.device writer.old writer.new (wkt_text T.num (Flat.line_string self.now))) }
-        ensures io_count { IfIo result (W.device.failures writer.new ≡ next_count (W.device.failures writer.old)) }
+            (IsPartOut W.sink writer.old writer.new (wkt_text T.num (Flat.line_string self.now))) }
+        ensures io_count { IfIo result (W.sink.failures writer.new ≡ next_count (W.sink.failures writer.old)) }
         ensures shape { IfShape result (λ _. writer.new ≡ writer.old) }
         ensures cause { IfShape result (IsRefusal (tree_shape (back (Flat.line_string self.now)))) }
         ensures never { IfShape result (λ _. ⊥) }
@@ -162,9 +162,9 @@ impl<T: WktNum> ToWkt<T> for flat::Polygon<T> {
     /// `Io` where the writer failed, or took nothing (`WriteZero`): then a beginning of the text is
     /// out. `Shape` never comes.
     fn write_wkt<W: ByteSink>(&self, _alloc: Global, writer: &mut W) -> Result<(), ToWktError>
-        ensures ok { OnOk result (IsOut W.device writer.old writer.new (wkt_text T.num (Flat.polygon self.now))) }
-        ensures io { IfIo result (IsPartOut W.device writer.old writer.new (wkt_text T.num (Flat.polygon self.now))) }
-        ensures io_count { IfIo result (W.device.failures writer.new ≡ next_count (W.device.failures writer.old)) }
+        ensures ok { OnOk result (IsOut W.sink writer.old writer.new (wkt_text T.num (Flat.polygon self.now))) }
+        ensures io { IfIo result (IsPartOut W.sink writer.old writer.new (wkt_text T.num (Flat.polygon self.now))) }
+        ensures io_count { IfIo result (W.sink.failures writer.new ≡ next_count (W.sink.failures writer.old)) }
         ensures shape { IfShape result (λ _. writer.new ≡ writer.old) }
         ensures cause { IfShape result (IsRefusal (tree_shape (back (Flat.polygon self.now)))) }
         ensures never { IfShape result (λ _. ⊥) }
@@ -201,10 +201,10 @@ impl<T: WktNum> ToWkt<T> for flat::MultiPoint<T> {
     /// `Io` where the writer failed, or took nothing (`WriteZero`): then a beginning of the text is
     /// out. `Shape` never comes.
     fn write_wkt<W: ByteSink>(&self, _alloc: Global, writer: &mut W) -> Result<(), ToWktError>
-        ensures ok { OnOk result (IsOut W.device writer.old writer.new (wkt_text T.num (Flat.multi_point self.now))) }
+        ensures ok { OnOk result (IsOut W.sink writer.old writer.new (wkt_text T.num (Flat.multi_point self.now))) }
         ensures io { IfIo result
-            (IsPartOut W.device writer.old writer.new (wkt_text T.num (Flat.multi_point self.now))) }
-        ensures io_count { IfIo result (W.device.failures writer.new ≡ next_count (W.device.failures writer.old)) }
+            (IsPartOut W.sink writer.old writer.new (wkt_text T.num (Flat.multi_point self.now))) }
+        ensures io_count { IfIo result (W.sink.failures writer.new ≡ next_count (W.sink.failures writer.old)) }
         ensures shape { IfShape result (λ _. writer.new ≡ writer.old) }
         ensures cause { IfShape result (IsRefusal (tree_shape (back (Flat.multi_point self.now)))) }
         ensures never { IfShape result (λ _. ⊥) }
@@ -242,10 +242,10 @@ impl<T: WktNum> ToWkt<T> for flat::MultiLineString<T> {
     /// out. `Shape` never comes.
     fn write_wkt<W: ByteSink>(&self, _alloc: Global, writer: &mut W) -> Result<(), ToWktError>
         ensures ok { OnOk result
-            (IsOut W.device writer.old writer.new (wkt_text T.num (Flat.multi_line_string self.now))) }
+            (IsOut W.sink writer.old writer.new (wkt_text T.num (Flat.multi_line_string self.now))) }
         ensures io { IfIo result
-            (IsPartOut W.device writer.old writer.new (wkt_text T.num (Flat.multi_line_string self.now))) }
-        ensures io_count { IfIo result (W.device.failures writer.new ≡ next_count (W.device.failures writer.old)) }
+            (IsPartOut W.sink writer.old writer.new (wkt_text T.num (Flat.multi_line_string self.now))) }
+        ensures io_count { IfIo result (W.sink.failures writer.new ≡ next_count (W.sink.failures writer.old)) }
         ensures shape { IfShape result (λ _. writer.new ≡ writer.old) }
         ensures cause { IfShape result (IsRefusal (tree_shape (back (Flat.multi_line_string self.now)))) }
         ensures never { IfShape result (λ _. ⊥) }
@@ -282,10 +282,10 @@ impl<T: WktNum> ToWkt<T> for flat::MultiPolygon<T> {
     /// `Io` where the writer failed, or took nothing (`WriteZero`): then a beginning of the text is
     /// out. `Shape` never comes.
     fn write_wkt<W: ByteSink>(&self, _alloc: Global, writer: &mut W) -> Result<(), ToWktError>
-        ensures ok { OnOk result (IsOut W.device writer.old writer.new (wkt_text T.num (Flat.multi_polygon self.now))) }
+        ensures ok { OnOk result (IsOut W.sink writer.old writer.new (wkt_text T.num (Flat.multi_polygon self.now))) }
         ensures io { IfIo result
-            (IsPartOut W.device writer.old writer.new (wkt_text T.num (Flat.multi_polygon self.now))) }
-        ensures io_count { IfIo result (W.device.failures writer.new ≡ next_count (W.device.failures writer.old)) }
+            (IsPartOut W.sink writer.old writer.new (wkt_text T.num (Flat.multi_polygon self.now))) }
+        ensures io_count { IfIo result (W.sink.failures writer.new ≡ next_count (W.sink.failures writer.old)) }
         ensures shape { IfShape result (λ _. writer.new ≡ writer.old) }
         ensures cause { IfShape result (IsRefusal (tree_shape (back (Flat.multi_polygon self.now)))) }
         ensures never { IfShape result (λ _. ⊥) }
@@ -323,10 +323,10 @@ impl<T: WktNum> ToWkt<T> for flat::GeometryCollection<T> {
     /// out. `Shape` never comes.
     fn write_wkt<W: ByteSink>(&self, _alloc: Global, writer: &mut W) -> Result<(), ToWktError>
         ensures ok { OnOk result
-            (IsOut W.device writer.old writer.new (wkt_text T.num (Flat.collection (flat_trees self.now)))) }
+            (IsOut W.sink writer.old writer.new (wkt_text T.num (Flat.collection (flat_trees self.now)))) }
         ensures io { IfIo result
-            (IsPartOut W.device writer.old writer.new (wkt_text T.num (Flat.collection (flat_trees self.now)))) }
-        ensures io_count { IfIo result (W.device.failures writer.new ≡ next_count (W.device.failures writer.old)) }
+            (IsPartOut W.sink writer.old writer.new (wkt_text T.num (Flat.collection (flat_trees self.now)))) }
+        ensures io_count { IfIo result (W.sink.failures writer.new ≡ next_count (W.sink.failures writer.old)) }
         ensures shape { IfShape result (λ _. writer.new ≡ writer.old) }
         ensures cause { IfShape result (IsRefusal (tree_shape (back (Flat.collection (flat_trees self.now))))) }
         ensures never { IfShape result (λ _. ⊥) }
@@ -362,9 +362,9 @@ impl<T: WktNum> ToWkt<T> for flat::Rect<T> {
     /// `Io` where the writer failed, or took nothing (`WriteZero`): then a beginning of the text is
     /// out. `Shape` never comes.
     fn write_wkt<W: ByteSink>(&self, _alloc: Global, writer: &mut W) -> Result<(), ToWktError>
-        ensures ok { OnOk result (IsOut W.device writer.old writer.new (wkt_text T.num (Flat.rect self.now))) }
-        ensures io { IfIo result (IsPartOut W.device writer.old writer.new (wkt_text T.num (Flat.rect self.now))) }
-        ensures io_count { IfIo result (W.device.failures writer.new ≡ next_count (W.device.failures writer.old)) }
+        ensures ok { OnOk result (IsOut W.sink writer.old writer.new (wkt_text T.num (Flat.rect self.now))) }
+        ensures io { IfIo result (IsPartOut W.sink writer.old writer.new (wkt_text T.num (Flat.rect self.now))) }
+        ensures io_count { IfIo result (W.sink.failures writer.new ≡ next_count (W.sink.failures writer.old)) }
         ensures shape { IfShape result (λ _. writer.new ≡ writer.old) }
         ensures cause { IfShape result (IsRefusal (tree_shape (back (Flat.rect self.now)))) }
         ensures never { IfShape result (λ _. ⊥) }
@@ -400,9 +400,9 @@ impl<T: WktNum> ToWkt<T> for flat::Triangle<T> {
     /// `Io` where the writer failed, or took nothing (`WriteZero`): then a beginning of the text is
     /// out. `Shape` never comes.
     fn write_wkt<W: ByteSink>(&self, _alloc: Global, writer: &mut W) -> Result<(), ToWktError>
-        ensures ok { OnOk result (IsOut W.device writer.old writer.new (wkt_text T.num (Flat.triangle self.now))) }
-        ensures io { IfIo result (IsPartOut W.device writer.old writer.new (wkt_text T.num (Flat.triangle self.now))) }
-        ensures io_count { IfIo result (W.device.failures writer.new ≡ next_count (W.device.failures writer.old)) }
+        ensures ok { OnOk result (IsOut W.sink writer.old writer.new (wkt_text T.num (Flat.triangle self.now))) }
+        ensures io { IfIo result (IsPartOut W.sink writer.old writer.new (wkt_text T.num (Flat.triangle self.now))) }
+        ensures io_count { IfIo result (W.sink.failures writer.new ≡ next_count (W.sink.failures writer.old)) }
         ensures shape { IfShape result (λ _. writer.new ≡ writer.old) }
         ensures cause { IfShape result (IsRefusal (tree_shape (back (Flat.triangle self.now)))) }
         ensures never { IfShape result (λ _. ⊥) }
@@ -438,9 +438,9 @@ impl<T: WktNum> ToWkt<T> for flat::Geometry<T> {
     /// `Io` where the writer failed, or took nothing (`WriteZero`): then a beginning of the text is
     /// out. `Shape` never comes.
     fn write_wkt<W: ByteSink>(&self, _alloc: Global, writer: &mut W) -> Result<(), ToWktError>
-        ensures ok { OnOk result (IsOut W.device writer.old writer.new (wkt_text T.num (flat_tree self.now))) }
-        ensures io { IfIo result (IsPartOut W.device writer.old writer.new (wkt_text T.num (flat_tree self.now))) }
-        ensures io_count { IfIo result (W.device.failures writer.new ≡ next_count (W.device.failures writer.old)) }
+        ensures ok { OnOk result (IsOut W.sink writer.old writer.new (wkt_text T.num (flat_tree self.now))) }
+        ensures io { IfIo result (IsPartOut W.sink writer.old writer.new (wkt_text T.num (flat_tree self.now))) }
+        ensures io_count { IfIo result (W.sink.failures writer.new ≡ next_count (W.sink.failures writer.old)) }
         ensures shape { IfShape result (λ _. writer.new ≡ writer.old) }
         ensures cause { IfShape result (IsRefusal (tree_shape (back (flat_tree self.now)))) }
         ensures never { IfShape result (λ _. ⊥) }

@@ -1,7 +1,7 @@
 //! Text out to byte sinks.
 ghost use Rattle.std.specs.Prelude.{◌≡◌, [], OnOk, Some, true};
 ghost use Rattle.wkt_num.specs.Sink.{next_count};
-ghost use Rattle.wkt_bytes.specs.Device.{IsOut, IsPartOut};
+ghost use Rattle.wkt_bytes.specs.Sinks.{IsOut, IsPartOut};
 ghost use Rattle.wkt_bytes.specs.Wrapper.{is_untold, is_well, held_bytes, wrapped_writer};
 ghost use Rattle.wkt_access.specs.Shapes.{Shape};
 ghost use Rattle.wkt_access.specs.Faults.{fault};
@@ -57,17 +57,17 @@ fn send_through<G: Written, W: ByteSink>(
     requires well { is_well wrapper.old ≡ true }
     requires held { held_bytes wrapper.old ≡ [] }
     ensures ok { OnOk result
-        (IsOut W.device (wrapped_writer wrapper.old) (wrapped_writer wrapper.new)
+        (IsOut W.sink (wrapped_writer wrapper.old) (wrapped_writer wrapper.new)
         (shape_text G.T.num (G.shape g.now))) }
     ensures io { IfIo result
-        (IsPartOut W.device (wrapped_writer wrapper.old) (wrapped_writer wrapper.new)
+        (IsPartOut W.sink (wrapped_writer wrapper.old) (wrapped_writer wrapper.new)
         (shape_text G.T.num (G.shape g.now))) }
     ensures io_count { IfIo result
-        (W.device.failures (wrapped_writer wrapper.new) ≡ next_count (W.device.failures (wrapped_writer wrapper.old))) }
+        (W.sink.failures (wrapped_writer wrapper.new) ≡ next_count (W.sink.failures (wrapped_writer wrapper.old))) }
     ensures shape { IfShape result (λ _. wrapped_writer wrapper.new ≡ wrapped_writer wrapper.old) }
     ensures cause { IfShape result (λ e. fault (G.shape g.now) ≡ Some e) }
     ensures refused { IfShape result (IsRefusal (G.shape g.now)) }
-    ensures keeps { W.device.keeps (wrapped_writer wrapper.old) (wrapped_writer wrapper.new) }
+    ensures keeps { W.sink.keeps (wrapped_writer wrapper.old) (wrapped_writer wrapper.new) }
 {
     match g.write_text(wrapper) {
         Ok(()) => match wrapper.finish() {
@@ -81,9 +81,9 @@ fn send_through<G: Written, W: ByteSink>(
 
 /// Puts the text of a geometry out. It takes no memory.
 pub(crate) fn send<G: Written, W: ByteSink>(g: &G, writer: &mut W) -> Result<(), ToWktError>
-    ensures ok { OnOk result (IsOut W.device writer.old writer.new (shape_text G.T.num (G.shape g.now))) }
-    ensures io { IfIo result (IsPartOut W.device writer.old writer.new (shape_text G.T.num (G.shape g.now))) }
-    ensures io_count { IfIo result (W.device.failures writer.new ≡ next_count (W.device.failures writer.old)) }
+    ensures ok { OnOk result (IsOut W.sink writer.old writer.new (shape_text G.T.num (G.shape g.now))) }
+    ensures io { IfIo result (IsPartOut W.sink writer.old writer.new (shape_text G.T.num (G.shape g.now))) }
+    ensures io_count { IfIo result (W.sink.failures writer.new ≡ next_count (W.sink.failures writer.old)) }
     ensures shape { IfShape result (λ _. writer.new ≡ writer.old) }
     ensures cause { IfShape result (λ e. fault (G.shape g.now) ≡ Some e) }
     ensures refused { IfShape result (IsRefusal (G.shape g.now)) }

@@ -2,7 +2,7 @@
 ghost use Rattle.std.specs.Prelude.{◌≡◌, IfOk, IfErr, OnOk, None};
 ghost use Rattle.std.specs.String.{string_bytes};
 ghost use Rattle.wkt_num.specs.Sink.{next_count};
-ghost use Rattle.wkt_bytes.specs.Device.{IsOut, IsPartOut};
+ghost use Rattle.wkt_bytes.specs.Sinks.{IsOut, IsPartOut};
 ghost use Rattle.wkt_access.specs.Faults.{fault};
 ghost use Rattle.wkt_access.specs.Texts.{shape_text};
 ghost use Rattle.wkt_types.specs.Tree.{Tree, tree};
@@ -56,10 +56,10 @@ pub trait ToWkt<T: WktNum> {
     /// where the writer failed, or took nothing (`WriteZero`): then a beginning of the text is out.
     fn write_wkt<W: ByteSink>(&self, alloc: Global, writer: &mut W) -> Result<(), ToWktError>
         ensures ok { OnOk result
-            (IsOut W.device writer.old writer.new (shape_text T.num (tree_shape (held self.now)))) }
+            (IsOut W.sink writer.old writer.new (shape_text T.num (tree_shape (held self.now)))) }
         ensures io { IfIo result
-            (IsPartOut W.device writer.old writer.new (shape_text T.num (tree_shape (held self.now)))) }
-        ensures io_count { IfIo result (W.device.failures writer.new ≡ next_count (W.device.failures writer.old)) }
+            (IsPartOut W.sink writer.old writer.new (shape_text T.num (tree_shape (held self.now)))) }
+        ensures io_count { IfIo result (W.sink.failures writer.new ≡ next_count (W.sink.failures writer.old)) }
         ensures shape { IfShape result (λ _. writer.new ≡ writer.old) }
         ensures cause { IfShape result (IsRefusal (tree_shape (held self.now))) }
     {

@@ -2,7 +2,7 @@
 use Rattle.std.proofs.Common.{◌≡◌, ◌≢◌, ℕ, List, [], ◌∷◌, ◌++◌, sym, ◌∙◌, ap, refl, append_assoc, Option, Result, Ok, Err, OnOk, OnErr}
 use Rattle.std.specs.Io.KnownBytes.{Appends}
 use Rattle.std.proofs.lemmas.List.{append-nil}
-use Rattle.wkt_bytes.specs.Device.{BeginningOut}
+use Rattle.wkt_bytes.specs.Sinks.{BeginningOut}
 use Rattle.wkt_lines.specs.Lines.{input_lines}
 use Rattle.wkt_lines.specs.Output.{IsAnswer, AreAnswers, PartOut, IfRunWrite}
 use Rattle.wkt_lines.specs.declared.lines.RunError.{RunError}
@@ -50,7 +50,7 @@ write_map (Err (run.Read e)) f h = tt
 write_map (Err (run.Write e)) f h = f h
 write_map (Err (run.Memory e)) f h = tt
 
--- a beginning of the next answer, behind those of the first lines
+-- a beginning of the next answer, after those of the first lines
 pub begun : {N : Type 0} {read : List ℕ → Option N} {num : N → List ℕ} (first : List (List ℕ)) (out rest bs line : List ℕ) (a b c : Option (List ℕ)) → first ++ input_lines rest ≡ input_lines bs → rest ≢ [] → line ≡ before_feed rest →
     AreAnswers read num first out → Appends a b out → (answer : List ℕ) × IsAnswer read num line answer × BeginningOut b c (answer ++ 10 ∷ []) → PartOut read num a c bs
 begun first out rest bs line a b c h n e k w (answer, is, beg) = record {

@@ -2,7 +2,7 @@
 use Rattle.std.specs.Prelude.{◌≡◌, ℕ, List, [], ◌∷◌, ◌++◌, ◌⊎◌, Option, codes, IsUtf8, Result, Ok, Err}
 use Rattle.std.specs.Io.KnownBytes.{Appends}
 use Rattle.wkt_num.specs.Sink.{Sink, Adds, Breaks}
-use Rattle.wkt_bytes.specs.Device.{Device, IsOut, IsPartOut}
+use Rattle.wkt_bytes.specs.Sinks.{SinkOfBytes, IsOut, IsPartOut}
 use Rattle.wkt_access.specs.Values.{Value}
 use Rattle.wkt_access.specs.Shapes.{shape_of}
 use Rattle.wkt_access.specs.Texts.{shape_text}
@@ -67,26 +67,26 @@ module _ {N : Type 0} (read : List ℕ → Option N) (num : N → List ℕ) wher
     pub whole : answer ++ 10 ∷ [] ≡ part ++ lost
     pub went : Appends old new (out ++ part)
 
-  module _ {D : Type 0} (device : Device D) where
+  module _ {D : Type 0} (sink : SinkOfBytes D) where
     -- The output for an input went out whole, by the sink that tells its bytes.
     abbrev pub IsAllOut : D → D → List ℕ → Type 0
-    IsAllOut old new = AllOut (device.bytes old) (device.bytes new)
+    IsAllOut old new = AllOut (sink.bytes old) (sink.bytes new)
 
     -- The same of the whole answers to some first lines.
     abbrev pub IsFirstOut : D → D → List ℕ → Type 0
-    IsFirstOut old new = FirstOut (device.bytes old) (device.bytes new)
+    IsFirstOut old new = FirstOut (sink.bytes old) (sink.bytes new)
 
     -- The same of some first answers, and a beginning of the next.
     abbrev pub IsSomeOut : D → D → List ℕ → Type 0
-    IsSomeOut old new = PartOut (device.bytes old) (device.bytes new)
+    IsSomeOut old new = PartOut (sink.bytes old) (sink.bytes new)
 
     -- The answer to one line went out with its line feed.
     abbrev pub IsLineOut : D → D → List ℕ → Type 0
-    IsLineOut old new line = (answer : List ℕ) × IsAnswer line answer × IsOut device old new (answer ++ 10 ∷ [])
+    IsLineOut old new line = (answer : List ℕ) × IsAnswer line answer × IsOut sink old new (answer ++ 10 ∷ [])
 
     -- A beginning of the answer to one line and its line feed went out.
     abbrev pub IsLinePartOut : D → D → List ℕ → Type 0
-    IsLinePartOut old new line = (answer : List ℕ) × IsAnswer line answer × IsPartOut device old new (answer ++ 10 ∷ [])
+    IsLinePartOut old new line = (answer : List ℕ) × IsAnswer line answer × IsPartOut sink old new (answer ++ 10 ∷ [])
 
   module _ {S : Type 0} (sink : Sink S) where
     -- The answer to a line was added to a sink of text.

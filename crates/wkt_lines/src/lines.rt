@@ -45,15 +45,15 @@ pub fn run<R: ByteSource, W: ByteSink>(
     writer: &mut W,
 ) -> Result<(), RunError>
     ensures ok { OnOk result
-        (IfSome (R.left reader.old) (IsAllOut read_line print_line W.device writer.old writer.new)) }
+        (IfSome (R.left reader.old) (IsAllOut read_line print_line W.sink writer.old writer.new)) }
     ensures end { OnOk result (IsAtEnd (R.left reader.new)) }
     ensures read { IfRunRead result (writer.new ≡ writer.old) }
     ensures read_count { IfRunRead result (R.failures reader.new ≡ next_count (R.failures reader.old)) }
     ensures write { IfRunWrite result
-        (IfSome (R.left reader.old) (IsSomeOut read_line print_line W.device writer.old writer.new)) }
-    ensures write_count { IfRunWrite result (W.device.failures writer.new ≡ next_count (W.device.failures writer.old)) }
+        (IfSome (R.left reader.old) (IsSomeOut read_line print_line W.sink writer.old writer.new)) }
+    ensures write_count { IfRunWrite result (W.sink.failures writer.new ≡ next_count (W.sink.failures writer.old)) }
     ensures memory { IfRunMemory result
-        (IfSome (R.left reader.old) (IsFirstOut read_line print_line W.device writer.old writer.new)) }
+        (IfSome (R.left reader.old) (IsFirstOut read_line print_line W.sink writer.old writer.new)) }
 {
     match read_all(alloc, reader) {
         Ok(bytes) => answer_all::<Decimal<18>, W>(alloc, &bytes, writer),
@@ -68,10 +68,10 @@ fn answer_all<T: WktNum, W: ByteSink>(
     input: &[u8],
     writer: &mut W,
 ) -> Result<(), RunError>
-    ensures ok { OnOk result (IsAllOut T.read T.num W.device writer.old writer.new input.now) }
-    ensures write { IfRunWrite result (IsSomeOut T.read T.num W.device writer.old writer.new input.now) }
-    ensures write_count { IfRunWrite result (W.device.failures writer.new ≡ next_count (W.device.failures writer.old)) }
-    ensures memory { IfRunMemory result (IsFirstOut T.read T.num W.device writer.old writer.new input.now) }
+    ensures ok { OnOk result (IsAllOut T.read T.num W.sink writer.old writer.new input.now) }
+    ensures write { IfRunWrite result (IsSomeOut T.read T.num W.sink writer.old writer.new input.now) }
+    ensures write_count { IfRunWrite result (W.sink.failures writer.new ≡ next_count (W.sink.failures writer.old)) }
+    ensures memory { IfRunMemory result (IsFirstOut T.read T.num W.sink writer.old writer.new input.now) }
     ensures read { IfRunRead result ⊥ }
 {
     let mut wrapper = WriterWrapper::new(writer);
@@ -89,15 +89,15 @@ fn answer_lines<T: WktNum, W: ByteSink>(
     requires well { is_well wrapper.old ≡ true }
     requires held { held_bytes wrapper.old ≡ [] }
     ensures ok { OnOk result
-        (IsAllOut T.read T.num W.device (wrapped_writer wrapper.old) (wrapped_writer wrapper.new) input.now) }
+        (IsAllOut T.read T.num W.sink (wrapped_writer wrapper.old) (wrapped_writer wrapper.new) input.now) }
     ensures write { IfRunWrite result
-        (IsSomeOut T.read T.num W.device (wrapped_writer wrapper.old) (wrapped_writer wrapper.new) input.now) }
+        (IsSomeOut T.read T.num W.sink (wrapped_writer wrapper.old) (wrapped_writer wrapper.new) input.now) }
     ensures write_count { IfRunWrite result
-        (W.device.failures (wrapped_writer wrapper.new) ≡ next_count (W.device.failures (wrapped_writer wrapper.old))) }
+        (W.sink.failures (wrapped_writer wrapper.new) ≡ next_count (W.sink.failures (wrapped_writer wrapper.old))) }
     ensures memory { IfRunMemory result
-        (IsFirstOut T.read T.num W.device (wrapped_writer wrapper.old) (wrapped_writer wrapper.new) input.now) }
+        (IsFirstOut T.read T.num W.sink (wrapped_writer wrapper.old) (wrapped_writer wrapper.new) input.now) }
     ensures read { IfRunRead result ⊥ }
-    ensures keeps { W.device.keeps (wrapped_writer wrapper.old) (wrapped_writer wrapper.new) }
+    ensures keeps { W.sink.keeps (wrapped_writer wrapper.old) (wrapped_writer wrapper.new) }
 {
     let mut rest = input;
     'lines: while !rest.is_empty() {
@@ -166,18 +166,18 @@ fn answer_line<T: WktNum, W: ByteSink>(
     requires well { is_well wrapper.old ≡ true }
     requires held { held_bytes wrapper.old ≡ [] }
     ensures ok { OnOk result
-        (IsLineOut T.read T.num W.device (wrapped_writer wrapper.old) (wrapped_writer wrapper.new) line.now) }
+        (IsLineOut T.read T.num W.sink (wrapped_writer wrapper.old) (wrapped_writer wrapper.new) line.now) }
     ensures well { OnOk result (is_well wrapper.new ≡ true) }
     ensures held { OnOk result (held_bytes wrapper.new ≡ []) }
     ensures count { OnOk result
-        (W.device.failures (wrapped_writer wrapper.new) ≡ W.device.failures (wrapped_writer wrapper.old)) }
+        (W.sink.failures (wrapped_writer wrapper.new) ≡ W.sink.failures (wrapped_writer wrapper.old)) }
     ensures write { IfRunWrite result
-        (IsLinePartOut T.read T.num W.device (wrapped_writer wrapper.old) (wrapped_writer wrapper.new) line.now) }
+        (IsLinePartOut T.read T.num W.sink (wrapped_writer wrapper.old) (wrapped_writer wrapper.new) line.now) }
     ensures write_count { IfRunWrite result
-        (W.device.failures (wrapped_writer wrapper.new) ≡ next_count (W.device.failures (wrapped_writer wrapper.old))) }
+        (W.sink.failures (wrapped_writer wrapper.new) ≡ next_count (W.sink.failures (wrapped_writer wrapper.old))) }
     ensures memory { IfRunMemory result (wrapper.new ≡ wrapper.old) }
     ensures read { IfRunRead result ⊥ }
-    ensures keeps { W.device.keeps (wrapped_writer wrapper.old) (wrapped_writer wrapper.new) }
+    ensures keeps { W.sink.keeps (wrapped_writer wrapper.old) (wrapped_writer wrapper.new) }
 {
     match write_answer::<T, WriterWrapper<W>>(alloc, line, wrapper) {
         Err(AnswerError::Memory(e)) => Err(RunError::Memory(e)),
@@ -191,9 +191,9 @@ fn answer_line<T: WktNum, W: ByteSink>(
 
 /// Ends a line, and puts it out.
 fn end_line<W: ByteSink>(wrapper: &mut WriterWrapper<W>) -> fmt::Result
-    ensures ok { OnOk result (Gathers W.device wrapper.old (10 ∷ []) wrapper.new) }
+    ensures ok { OnOk result (Gathers W.sink wrapper.old (10 ∷ []) wrapper.new) }
     ensures held { OnOk result (held_bytes wrapper.new ≡ []) }
-    ensures err { OnErr result (BreaksOff W.device wrapper.old (10 ∷ []) wrapper.new) }
+    ensures err { OnErr result (BreaksOff W.sink wrapper.old (10 ∷ []) wrapper.new) }
 {
     match wrapper.write_str("\n") {
         Ok(()) => wrapper.finish(),

@@ -105,7 +105,7 @@ module _ (D F T : ℕ) (few : D ≤ 18) (less : F < 10 ^ D) (some : F ≡ 0 → 
   pub scaled : fraction_digits 18 (F * T) ≡ fraction_digits D F
   scaled = ap (fraction_digits 18) same ∙ digits-scaled D (18 - D) 18 F (omega (arith, few)) less
 
-  -- sixteen digits are put, of which r are zeros behind the others
+  -- sixteen digits are put, of which r are zeros after the others
   module _ (out old lanes : List ℕ) (long : length old ≡ 80) (within : 59 ≤ length out) (there : take 57 out ≡ take 41 old ++ lanes) (digits : lanes ≡ padded 16 (F * T / 100)) where
     before : length (take 41 old) ≡ 41
     before = length-take-le 41 old (omega (arith, long))

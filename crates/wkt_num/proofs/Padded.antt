@@ -19,7 +19,7 @@ length-padded (suc j) f = ap suc (length-padded j (f % 10 ^ j))
 digit-less : (j f : ℕ) → f < 10 ^ suc j → f / 10 ^ j < 10
 digit-less j f h = (div-lt_iff_lt-mul (ten_pos j)).1 (omega (arith, h, pow-suc 10 j))
 
--- a digit more behind q
+-- a digit more after q
 decimal-one : (q d : ℕ) → 0 < q → d < 10 → q * 10 + d < 2 ^ 64 → decimal (q * 10 + d) ≡ decimal q ++ (48 + d) ∷ []
 decimal-one q d some less fits =
     let a : (q * 10 + d) / 10 ≡ q = omega (arith, less) in

@@ -7,7 +7,7 @@ use Rattle.std.proofs.lemmas.Str.{IsAscii-append}
 use Rattle.std.proofs.lemmas.List.{drop-take, take_at}
 use Rattle.std.proofs.Math.Seq.{take-append-add}
 
--- what stands from the start to the end: what was put before place 40, and then what stood behind it
+-- what stands from the start to the end: what was put before place 40, and then what stood after it
 pub piece : (out before text : List ℕ) (start end : ℕ) → drop start out ≡ text ++ drop 40 before → length out ≡ 80 → length before ≡ 80 → start ≤ 40 → 40 ≤ end
     → take (end - start) (drop start out) ≡ text ++ drop 40 (take end before)
 piece out before text start end e l k low high =

@@ -37,7 +37,7 @@ pub no-fraction : (D f : ℕ) (out : List ℕ) → f ≡ 0 → length out ≡ 80
 no-fraction D f out e l =
     drop_of_length-le (take 40 out) {i = 40} (omega (arith, length-take-le 40 out (omega (arith, l)))) ∙ sym (ap (λ b. if b then [] else 46 ∷ fraction_digits D f) (eq-eqb f 0 e))
 
--- the point and the digits behind it
+-- the point and the digits after it
 pub some-fraction : (D f end : ℕ) (out old : List ℕ) → (f ≡ 0 → ⊥) → length old ≡ 80 → get_or old 40 0 ≡ 46 → take end out ≡ take 41 old ++ fraction_digits D f → drop 40 (take end out) ≡ fraction_text D f
 some-fraction D f end out old some l point e =
     let ds : List ℕ = fraction_digits D f in
@@ -53,9 +53,9 @@ fraction-less D u f e = omega (arith, e, mod-lt u (ten_pos D))
 -- both parts
 pub units-piece : (D u : ℕ) (negative : Bool) (out before : List ℕ) (start end : ℕ) {w f : ℕ} → w ≡ u / 10 ^ D → f ≡ u % 10 ^ D → drop start out ≡ sign_text negative ++ decimal w ++ drop 40 before → length out ≡ 80 → length before ≡ 80
     → start ≤ 40 → 40 ≤ end → drop 40 (take end before) ≡ fraction_text D f → take (end - start) (drop start out) ≡ magnitude_text D negative u
-units-piece D u negative out before start end {w} {f} e g put l k low high behind =
+units-piece D u negative out before start end {w} {f} e g put l k low high after =
     piece out before (sign_text negative ++ decimal w) start end put l k low high
-    ∙ ap (λ t. sign_text negative ++ decimal w ++ t) behind
+    ∙ ap (λ t. sign_text negative ++ decimal w ++ t) after
     ∙ ap (λ x. sign_text negative ++ decimal x ++ fraction_text D f) e
     ∙ ap (λ x. sign_text negative ++ decimal (u / 10 ^ D) ++ fraction_text D x) g
 

@@ -13,7 +13,7 @@ use Rattle.wkt_num.specs.Fraction.{fraction-none}
 step : (j f : ℕ) → (f ≡ 0 → ⊥) → fraction_digits (suc j) f ≡ (48 + f / 10 ^ j) ∷ fraction_digits j (f % 10 ^ j)
 step j f e = ap (λ b. if b then [] else (48 + f / 10 ^ j) ∷ fraction_digits j (f % 10 ^ j)) (ne_eqb f 0 e)
 
--- what the loop keeps: `rest` is f with k zeros behind it, and the next j digits of f are to be put
+-- what the loop keeps: `rest` is f with k zeros after it, and the next j digits of f are to be put
 pub record Keeps (D : ℕ) (out whole : List ℕ) (at rest : ℕ) : Type 0 where
   pub f : ℕ
   pub j : ℕ

@@ -98,7 +98,7 @@ pub point-body : (D at whole all end t : ℕ) (body : List ℕ) → at < length 
     → AllDigits 10 (slice_range body 0 at) → whole ≡ digits_value_after 10 0 (slice_range body 0 at)
     → AllDigits 10 (slice_range body (at + 1) end) → all ≡ digits_value_after 10 whole (slice_range body (at + 1) end) → all < 10 ^ end
     → t ≡ 10 ^ (D - (length body - at - 1)) → D ≤ 18 → read_magnitude (2 ^ 127) D body ≡ Some (all * t)
-point-body D at whole all end t body inside short point past within some few before value behind value_all small ten most =
+point-body D at whole all end t body inside short point past within some few before value after value_all small ten most =
     let ds : List ℕ = slice_range body 0 at in
     let fs : List ℕ = slice_range body (at + 1) end in
     let k : ℕ = length body - at - 1 in
@@ -113,19 +113,19 @@ point-body D at whole all end t body inside short point past within some few bef
     from-parts (2 ^ 127) D body ds fs (all * t)
     (ap before_point parts ∙ before_digits ds (46 ∷ fs) before ∙ append-nil ds)
     (ap after_point parts ∙ after_digits ds (46 ∷ fs) before)
-    (digits_append ds fs before behind)
+    (digits_append ds fs before after)
     (omega (arith, length-append ds fs, long, some))
     (omega (arith, ap (λ x. all * x) scale) ∙ ap (λ x. x * 10 ^ D) (value_all ∙ ap (λ n. digits_value_after 10 n fs) value ∙ sym (value_append 0 ds fs)))
     (product-fits all t (D - k) (fits-short all end small (omega (arith, within, short))) ten (omega (arith, most)))
 
--- digits around a point, those before it and those behind it each as a number
+-- digits around a point, those before it and those after it each as a number
 near-equation : (w t f s x P T : ℕ) → t ≡ T → s * P ≡ T → x ≡ f * s → (w * t + x) * P ≡ (w * P + f) * T
 near-equation w t f s x P T e g h = omega (arith, ap (λ y. w * y * P) e, ap (λ y. f * y) g, ap (λ y. y * P) h)
 
 near-scale : (D k s : ℕ) → k ≤ D → s ≡ 10 ^ (D - k) → s * 10 ^ k ≡ 10 ^ D
 near-scale D k s few e = ap (λ x. x * 10 ^ k) e ∙ sym (pow-add 10 (D - k) k) ∙ ap (λ n. 10 ^ n) {x = D - k + k} {y = D} (omega (arith, few))
 
--- the digits behind the point, as units
+-- the digits after the point, as units
 pub near-fraction : (D k f s : ℕ) (fs : List ℕ) → length fs ≡ k → k ≤ D → D ≤ 18 → AllDigits 10 fs → f ≡ digits_value 10 fs → s ≡ 10 ^ (D - k) → f * s < 10 ^ 18
 near-fraction D k f s fs long few most digits value e =
     let small : f < 10 ^ k = omega (arith, value, digits_value-lt 10 fs digits, ap (λ n. 10 ^ n) long) in
@@ -144,7 +144,7 @@ pub near-body : (D at w t f s x : ℕ) (body : List ℕ) → at < length body �
     → AllDigits 10 (slice_range body 0 at) → w ≡ digits_value_after 10 0 (slice_range body 0 at) → w < 10 ^ at
     → AllDigits 10 (drop (at + 1) body) → f ≡ digits_value 10 (drop (at + 1) body)
     → t ≡ 10 ^ D → s ≡ 10 ^ (D - (length body - at - 1)) → x ≡ f * s → read_magnitude (2 ^ 127) D body ≡ Some (w * t + x)
-near-body D at w t f s x body inside many short point few most before value small behind value_behind ten shift product =
+near-body D at w t f s x body inside many short point few most before value small after value_after ten shift product =
     let ds : List ℕ = slice_range body 0 at in
     let fs : List ℕ = drop (at + 1) body in
     let k : ℕ = length body - at - 1 in
@@ -155,11 +155,11 @@ near-body D at w t f s x body inside many short point few most before value smal
     ∙ ap (λ l. ds ++ l) (drop_more body at 0 inside ∙ ap (λ b. b ∷ fs) point) in
     let all : digits_value 10 (ds ++ fs) ≡ w * 10 ^ k + f =
     value_append 0 ds fs ∙ ap (λ n. digits_value_after 10 n fs) (sym value) ∙ after_split w fs
-    ∙ ap (λ n. w * 10 ^ n + digits_value 10 fs) long ∙ ap (λ n. w * 10 ^ k + n) (sym value_behind) in
+    ∙ ap (λ n. w * 10 ^ n + digits_value 10 fs) long ∙ ap (λ n. w * 10 ^ k + n) (sym value_after) in
     from-parts (2 ^ 127) D body ds fs (w * t + x)
     (ap before_point parts ∙ before_digits ds (46 ∷ fs) before ∙ append-nil ds)
     (ap after_point parts ∙ after_digits ds (46 ∷ fs) before)
-    (digits_append ds fs before behind)
+    (digits_append ds fs before after)
     (omega (arith, length-append ds fs, long, ap length parts, length-append ds (46 ∷ fs), many))
     (ap (λ n. (w * t + x) * 10 ^ n) long ∙ near-equation w t f s x (10 ^ k) (10 ^ D) ten (near-scale D k s few shift) product ∙ ap (λ n. n * 10 ^ D) (sym all))
-    (omega (arith, product, near-fraction D k f s fs long few most behind value_behind shift, near-whole w at t D small (omega (arith, inside, short)) ten most))
+    (omega (arith, product, near-fraction D k f s fs long few most after value_after shift, near-whole w at t D small (omega (arith, inside, short)) ten most))

@@ -74,13 +74,13 @@ over-mask n lanes e h =
     ap (λ ms. mask_l ms % 2 ^ 64) (tops_compared w8 nat_lt (replicate n 9) lanes ∙ zip2_splat_left nat_lt 9 n lanes e)
     ∙ mask_l-mod _ 64 (omega (arith, length-map lanes (λ x. nat_lt 9 x), e, h))
 
-behind-zeros : (k : ℕ) (ds : List ℕ) → DigitLanes (replicate k 0 ++ ds) → DigitLanes ds
-behind-zeros zero ds h = h
-behind-zeros (suc k) ds h = behind-zeros k ds h.1
+after-zeros : (k : ℕ) (ds : List ℕ) → DigitLanes (replicate k 0 ++ ds) → DigitLanes ds
+after-zeros zero ds h = h
+after-zeros (suc k) ds h = after-zeros k ds h.1
 
-value-behind-zeros : (k : ℕ) (ds : List ℕ) → lanes_value (replicate k 0 ++ ds) ≡ lanes_value ds
-value-behind-zeros zero ds = refl
-value-behind-zeros (suc k) ds = value-behind-zeros k ds
+value-after-zeros : (k : ℕ) (ds : List ℕ) → lanes_value (replicate k 0 ++ ds) ≡ lanes_value ds
+value-after-zeros zero ds = refl
+value-after-zeros (suc k) ds = value-after-zeros k ds
 
 byte-digit : (b : ℕ) → b < 256 → digit b ≤ 9 → (digit_value b ≡ digit b) × (digit_value b < 10)
 byte-digit b h k = let r : (48 ≤ b) × (b ≤ 57) = (omega (arith, h, k), omega (arith, h, k)) in go r.0 r.1
@@ -111,11 +111,11 @@ last-fits : (i : ℕ) (bs : List ℕ) → ((k : ℕ) → Fits w8 (get_or bs k 0)
 last-fits i bs f = subst (Each1 (Fits w8)) (take_all (length bs) (drop i bs) (omega (arith, length-drop i bs))) (chunk-fits w8 i (length bs) bs f)
 
 pub last-digits : (n count : ℕ) (bs lanes : List ℕ) → ((k : ℕ) → Fits w8 (get_or bs k 0)) → lanes ≡ last_lanes n count bs → DigitLanes lanes → AllDigits 10 (drop (length bs - count) bs)
-last-digits n count bs lanes f e h = all-digits _ (last-fits _ bs f) (behind-zeros (n - count) _ (subst DigitLanes e h))
+last-digits n count bs lanes f e h = all-digits _ (last-fits _ bs f) (after-zeros (n - count) _ (subst DigitLanes e h))
 
 pub last-value : (n count : ℕ) (bs lanes : List ℕ) → ((k : ℕ) → Fits w8 (get_or bs k 0)) → lanes ≡ last_lanes n count bs → DigitLanes lanes → lanes_value lanes ≡ digits_value 10 (drop (length bs - count) bs)
 last-value n count bs lanes f e h =
-    ap lanes_value e ∙ value-behind-zeros (n - count) _ ∙ same-value 0 _ (last-fits _ bs f) (behind-zeros (n - count) _ (subst DigitLanes e h))
+    ap lanes_value e ∙ value-after-zeros (n - count) _ ∙ same-value 0 _ (last-fits _ bs f) (after-zeros (n - count) _ (subst DigitLanes e h))
 
 -- ---- two digits in 16 bits
 

@@ -6,7 +6,7 @@ abbrev pub DigitLanes : List ℕ → Type 0
 DigitLanes [] = Unit {0}
 DigitLanes (d ∷ ds) = (d ≤ 9) × DigitLanes ds
 
--- The number of the digits behind n.
+-- The number of the digits after n.
 abbrev pub lanes_after : ℕ → List ℕ → ℕ
 lanes_after n [] = n
 lanes_after n (d ∷ ds) = lanes_after (n * 10 + d) ds
@@ -15,6 +15,6 @@ lanes_after n (d ∷ ds) = lanes_after (n * 10 + d) ds
 abbrev pub lanes_value : List ℕ → ℕ
 lanes_value ds = lanes_after 0 ds
 
--- The last bytes of a text less 48, as bytes wrap, behind so many zeros that there are n lanes.
+-- The last bytes of a text less 48, as bytes wrap, after so many zeros that there are n lanes.
 abbrev pub last_lanes : ℕ → ℕ → List ℕ → List ℕ
 last_lanes n count bs = replicate (n - count) 0 ++ map (λ b. (b + 208) % 256) (drop (length bs - count) bs)

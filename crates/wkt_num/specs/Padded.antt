@@ -1,4 +1,4 @@
--- Digits of a fraction with the zeros behind them. Only private contracts cite this file.
+-- Digits of a fraction with the zeros after them. Only private contracts cite this file.
 use Rattle.std.specs.Prelude.{◌≡◌, ℕ, zero, suc, ◌+◌, ◌/◌, ◌%◌, ◌^◌, ◌<◌, List, [], ◌∷◌, ◌++◌}
 
 -- so many zeros

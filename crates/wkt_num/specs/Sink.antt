@@ -39,7 +39,7 @@ abbrev pub Puts : {S T E : Type 0} → Sink S → S → List ℕ → S → Resul
 Puts sink s bs t (Ok x) = Adds sink s bs t
 Puts sink s bs t (Err e) = Breaks sink s bs t
 
--- A beginning of bs stands behind the text that was there.
+-- A beginning of bs stands after the text that was there.
 pub record GrewBy (old bs new : List ℕ) : Type 0 where
   pub part : List ℕ
   pub rest : List ℕ

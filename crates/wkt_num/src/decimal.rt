@@ -19,7 +19,7 @@ pub const MOST_PLACES: u32 = 36;
 /// `D` is at most [`MOST_PLACES`]; with more, [`from_units`](Decimal::from_units) can't be called and
 /// no text is read. Nothing is ever rounded: a text is read if its value is a whole number of units
 /// that fits, and is refused otherwise. A text is a sign or none, and digits with at most one point.
-/// It is printed with no trailing zeros behind the point, and with no point where nothing is behind it.
+/// It is printed with no trailing zeros after the point, and with no point where nothing follows it.
 ///
 /// ```
 /// let d = Decimal::<6>::read_number("+5.40")?; // 5400000 units, printed as `5.4`

@@ -55,7 +55,7 @@ static KEEP: [u8; 32] = [
     255, 255, 255, 255, 255, 255, 255,
 ];
 
-/// The last `count` bytes less 48, behind lanes of 0.
+/// The last `count` bytes less 48, after lanes of 0.
 #[inline(always)]
 fn lanes_8(body: &[u8], count: usize) -> u8x8
     requires { (8 ≤ length body.now) × (count ≤ 8) }

@@ -54,7 +54,7 @@ fn put_small(places: u32, negative: bool, units: u128, out: &mut [u8; 80]) -> (u
     (start, end)
 }
 
-/// Puts the digits behind the point, and answers where the fraction ends: before the point if it is 0.
+/// Puts the digits after the point, and answers where the fraction ends: before the point if it is 0.
 #[inline(always)]
 fn put_small_fraction(places: u32, fraction: u64, out: &mut [u8; 80]) -> usize
     requires few { places ≤ 18 }
@@ -121,7 +121,7 @@ fn split_short(places: u32, units: u128) -> (u64, u64)
     (whole, fraction as u64)
 }
 
-/// Puts the digits behind the point, and answers where the fraction ends: before the point if it is 0.
+/// Puts the digits after the point, and answers where the fraction ends: before the point if it is 0.
 #[inline(always)]
 fn put_fraction(places: u32, fraction: u128, out: &mut [u8; 80]) -> usize
     requires few { places ≤ 36 }
@@ -141,7 +141,7 @@ fn put_fraction(places: u32, fraction: u128, out: &mut [u8; 80]) -> usize
     }
 }
 
-/// Puts the digits behind the point, and answers where they end.
+/// Puts the digits after the point, and answers where they end.
 ///
 /// The fraction is first made one of 18 places, of which sixteen are put at once.
 #[inline(always)]
@@ -159,7 +159,7 @@ fn put_short(places: u32, fraction: u64, out: &mut [u8; 80]) -> usize
     let digits = sixteen(front);
     digits.copy_to_slice(&mut out[41..57]);
     if last == 0 {
-        return 57 - zeros_behind(digits);
+        return 57 - zeros_after(digits);
     }
     out[57] = b'0' + (last / 10) as u8;
     out[58] = b'0' + (last % 10) as u8;
@@ -203,7 +203,7 @@ fn four_fours(a: u32, b: u32, c: u32, d: u32) -> u8x16
 
 /// How many zeros stand last.
 #[inline(always)]
-fn zeros_behind(digits: u8x16) -> usize
+fn zeros_after(digits: u8x16) -> usize
     ensures { result ≡ prefix_len (λ b. not (not (b == 48))) (reverse digits) }
 {
     let others = digits.reverse().simd_ne(u8x16::splat(b'0')).to_bitmask();

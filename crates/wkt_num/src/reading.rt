@@ -61,17 +61,17 @@ fn read_near(places: u32, body: &[u8]) -> Option<u128>
     if at == body.len() || body[at] != b'.' {
         return None;
     }
-    let behind = body.len() - at - 1;
-    if behind > places as usize {
+    let after = body.len() - at - 1;
+    if after > places as usize {
         return None;
     }
-    let fraction = last_digits(body, behind)?;
-    let shift = ten_to(places - behind as u32);
+    let fraction = last_digits(body, after)?;
+    let shift = ten_to(places - after as u32);
     Some(u128::from(whole) * u128::from(ten_to(places)) + u128::from(fraction * shift))
 }
 
 /// The same by 64 bits, for a short body of digits, or of digits around a point with at most `places`
-/// behind it. `None` says nothing of the body: it is then read in the plain way.
+/// after it. `None` says nothing of the body: it is then read in the plain way.
 #[inline(always)]
 fn read_short(places: u32, body: &[u8]) -> Option<u128>
     ensures { IfSome result (λ units. read_magnitude (2 ^ 127) places body.now ≡ Some units) }
@@ -89,15 +89,15 @@ fn read_short(places: u32, body: &[u8]) -> Option<u128>
     if body[at] != b'.' {
         return None;
     }
-    let behind = (body.len() - at - 1) as u32;
-    if behind == 0 || behind > places {
+    let after = (body.len() - at - 1) as u32;
+    if after == 0 || after > places {
         return None;
     }
     let (all, end) = digits_from(body, at + 1, whole);
     if end < body.len() {
         return None;
     }
-    Some(u128::from(all) * u128::from(ten_to(places - behind)))
+    Some(u128::from(all) * u128::from(ten_to(places - after)))
 }
 
 /// The number followed by the digits from `from` on, and where they end.

@@ -1,3 +1,4 @@
 pub mod Placings
 pub mod Steps
 pub mod Afters
+pub mod Peeked

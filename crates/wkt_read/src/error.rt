@@ -1,7 +1,7 @@
 //! Why a text is not read.
 ghost use Rattle.std.specs.Prelude.{◌≡◌};
 
-use std::alloc::AllocError;
+use std::alloc::{AllocError, AllocFailed};
 
 /// Why a text is not read.
 #[derive(Debug, Drop, thiserror::Error)]
@@ -22,5 +22,16 @@ impl From<AllocError> for ReadError {
 
     fn from(error: AllocError) -> Self {
         ReadError::Memory(error)
+    }
+}
+
+/// The same of a list that couldn't grow: what it was to take is let go.
+impl<V: Drop> From<AllocFailed<V>> for ReadError {
+    ghost use Rattle.wkt_read.specs.declared.error.ReadError.TheVariants.{Memory};
+
+    ghost from_gives = { λ _ result. (error : _) × (result ≡ Memory error) };
+
+    fn from(failed: AllocFailed<V>) -> Self {
+        ReadError::Memory(AllocError::from(failed))
     }
 }

@@ -25,6 +25,10 @@ module _ {W N : Type 0} (gives : W → List ℕ → W → Type 0) (num : N → L
   pub shown_plain : (IsFlush f → HasWrittenStyled gives f (shape_text num s) g) → DisplaysOnOk gives f (Ok tt) (shown num s) g
   shown_plain h = if_none (fault s) (shape_text num s) _ e (λ p q. displayed_plain gives f (shape_text num s) g p (h p.flush))
 
+-- the text that is displayed of a shape without a fault
+pub shown_is : {N : Type 0} (num : N → List ℕ) (s : Shape N) (bs : List ℕ) → fault s ≡ None → IfSome (shown num s) (λ t. bs ≡ t) → bs ≡ shape_text num s
+shown_is num s bs e h = rw e at h
+
 -- a sink is as it was where the shape can't be written
 pub unwritten : {S T N : Type 0} (sink : Sink S) (is_value : N → Type 0) (num : N → List ℕ) (s t : S) (shape : Shape N) (r : Result T Error) → Writes sink is_value num s shape t r → IsUnwritable shape → t ≡ s
 unwritten sink is_value num s t shape (Ok x) w h = absurd (h w.sound)

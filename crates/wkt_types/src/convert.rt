@@ -34,7 +34,7 @@ pub enum ConvertError {
     /// The bytes aren't UTF-8.
     #[error("External error: not UTF-8")]
     Utf8,
-    /// No memory is left.
+    /// Memory ran out.
     #[error("out of memory")]
     Memory(AllocError),
 }

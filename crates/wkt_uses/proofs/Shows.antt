@@ -8,19 +8,17 @@ use Rattle.wkt_access.specs.Shapes.{Shape}
 use Rattle.wkt_access.specs.Texts.{shape_text}
 use Rattle.wkt_access.specs.Faults.{fault}
 use Rattle.wkt_types.specs.Shown.{shown}
+use Rattle.wkt_types.proofs.Displays.{shown_is}
 use Rattle.wkt_types.specs.Tree.{Tree, collection, more_trees, no_trees}
 use Rattle.wkt_types.specs.Values.{tree_shape}
 use Rattle.wkt_read.specs.Front.{Front}
 use Rattle.wkt_uses.specs.Tidy.{pair}
 
 module _ {N : Type 0} (num : N → List ℕ) where
-  pub shown_is : (s : Shape N) (bs : List ℕ) → fault s ≡ None → IfSome (shown num s) (λ t. bs ≡ t) → bs ≡ shape_text num s
-  shown_is s bs e h = rw e at h
-
-  -- the same of a collection of two
+  -- the text that is displayed of a collection of two
   pub pair_shown : (t r u : Tree N) (bs : List ℕ) → u ≡ collection (more_trees t (more_trees r no_trees)) XY → fault (tree_shape t) ≡ None → fault (tree_shape r) ≡ None
       → IfSome (shown num (tree_shape u)) (λ x. bs ≡ x) → bs ≡ shape_text num (pair (tree_shape t) (tree_shape r))
-  pair_shown t r u bs e f h k = shown_is (pair (tree_shape t) (tree_shape r)) bs (simp (f, h)) (rw e at k)
+  pair_shown t r u bs e f h k = shown_is num (pair (tree_shape t) (tree_shape r)) bs (simp (f, h)) (rw e at k)
 
 -- what was added to an empty text is read as what the addition is read as
 pub front_of_text : {N : Type 0} (read : List ℕ → Option N) (old new text : List ℕ) (v : Value N) → old ≡ [] → new ≡ old ++ text → Front read text v (length text) → Front read new v (length new)

@@ -58,7 +58,7 @@ pub fn every_geometry_of_stream<T: WktNum>(
     let mut all = Vec::new(alloc);
     'tokens: while tokens.peek().is_some() {
         let geometry = Wkt::<T>::read_tokens(alloc, tokens)?;
-        keep(&mut all, geometry)?;
+        all.push(geometry)?;
     }
     Ok(all)
 }

@@ -32,7 +32,7 @@ pub fn copy_polygon<T: WktNum, R: ByteSource, W: ByteSink>(
     writer: &mut W,
 ) -> Result<(), CopyError>
     ensures { OnOk result (IfSome (R.left reader.old)
-        (IsCopied T.read T.num T.eq (W.device.bytes writer.old) (W.device.bytes writer.new))) }
+        (IsCopied T.read T.num T.eq (W.sink.bytes writer.old) (W.sink.bytes writer.new))) }
 {
     let polygon = match Polygon::<T>::try_from_wkt_reader(alloc, reader) {
         Ok(polygon) => polygon,
@@ -47,7 +47,7 @@ pub fn copy_polygon<T: WktNum, R: ByteSource, W: ByteSink>(
 #[cfg(test)]
 mod tests {
     use super::*;
-    use crate::my_devices::{Page, Piecewise};
+    use crate::my_sinks::{Page, Piecewise};
     use std::test::Fail;
 
     // What goes out of this text.

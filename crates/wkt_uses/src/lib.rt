@@ -10,12 +10,12 @@ pub mod flat_from_reader;
 pub mod from_json;
 pub mod key;
 pub mod my_areas;
-pub mod my_devices;
 pub mod my_lines;
 pub mod my_map;
 pub mod my_number;
 pub mod my_paper;
 pub mod my_points;
+pub mod my_sinks;
 #[cfg(test)]
 mod my_tests;
 pub mod read_and_write;

@@ -1,4 +1,4 @@
--- A kind word is one that stands alone and the letters of a dimension or none behind it.
+-- A kind word is one that stands alone and the letters of a dimension or none after it.
 use Rattle.std.proofs.Common.{◌≡◌, ℕ, List, [], ◌∷◌, ◌++◌, length, drop, refl, sym, ap, ◌∙◌, subst, Bool, true, false, cond, ◌&&◌, ◌==◌, nat_eq, Option, Some, None, codes, eqb-true, eq-eqb, arith, inl, inr}
 use Rattle.std.specs.Prelude.{◌⊎◌}
 use Rattle.std.specs.Str.{bytes_eq, str_to_ascii_uppercase}
@@ -10,7 +10,7 @@ use Rattle.wkt_read.specs.Grammar.{KindWord, kind_words, entry_in, dim_in}
 use Rattle.wkt_read.specs.Header.{begins, named_in}
 use Rattle.wkt_read.specs.Keywords.{Names}
 
--- what a kind and the letters behind its word say
+-- what a kind and the letters after its word say
 abbrev pub joined : GeometryType → Option Dimension → Option (GeometryType × Option Dimension)
 joined k None = None
 joined k (Some d) = Some (k, Some d)
@@ -70,7 +70,7 @@ one : (b : Bool) (k : GeometryType) (e : KindWord) → e.kind ≡ k → e.joined
 one true k e p q = (e, refl, p, q)
 one false k e p q = refl
 
--- a word of the table, and what is behind it
+-- a word of the table, and what is after it
 abbrev Says : GeometryType → List ℕ → List ℕ → Type 0
 Says k r u = Names (said (begins (codes "LINEARRING") u) k r) (entry_in kind_words u)
 
@@ -109,7 +109,7 @@ geometrycollection r = four (bytes_eq r []) (bytes_eq r (codes "Z")) (bytes_eq r
 here : (w u : List ℕ) (j k : GeometryType) (r : List ℕ) → (u ≡ w ++ r) × (j ≡ k) → Says j r (w ++ r) → Says k r u
 here w u j k r p n = subst (Says k r) (sym p.0) (subst (λ x. Says x r (w ++ r)) p.1 n)
 
--- the header's word and the letters behind it are what the table says of the whole word
+-- the header's word and the letters after it are what the table says of the whole word
 pub some-named : (u : List ℕ) (k : GeometryType) (r : List ℕ) → named_in kind_words u ≡ Some (k, r) → Says k r u
 unfolding kind_words
 some-named u k r e =
@@ -194,9 +194,9 @@ none-named u e =
 pub alone : (u : List ℕ) (k : GeometryType) (r : List ℕ) → named_in kind_words u ≡ Some (k, r) → r ≡ [] → Names (Some (k, None)) (entry_in kind_words u)
 alone u k r e none = subst (λ s. Names s (entry_in kind_words u)) (ap (λ l. said (begins (codes "LINEARRING") u) k l) none) (some-named u k r e)
 
-pub behind : (ring : Bool) (u : List ℕ) (k : GeometryType) (r : List ℕ) → named_in kind_words u ≡ Some (k, r) → (r ≡ [] → ⊥) → begins (codes "LINEARRING") u ≡ ring → Names (cond ring None (joined k (dim_in r))) (entry_in kind_words u)
-behind ring u k [] e more is = absurd (more refl)
-behind ring u k (c ∷ r) e more is = subst (λ b. Names (said b k (c ∷ r)) (entry_in kind_words u)) is (some-named u k (c ∷ r) e)
+pub after : (ring : Bool) (u : List ℕ) (k : GeometryType) (r : List ℕ) → named_in kind_words u ≡ Some (k, r) → (r ≡ [] → ⊥) → begins (codes "LINEARRING") u ≡ ring → Names (cond ring None (joined k (dim_in r))) (entry_in kind_words u)
+after ring u k [] e more is = absurd (more refl)
+after ring u k (c ∷ r) e more is = subst (λ b. Names (said b k (c ∷ r)) (entry_in kind_words u)) is (some-named u k (c ∷ r) e)
 
 pub no-letters : (l : List ℕ) → (length l == 0) ≡ true → str_to_ascii_uppercase l ≡ []
 no-letters [] e = refl

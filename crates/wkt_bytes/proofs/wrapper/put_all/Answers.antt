@@ -2,7 +2,7 @@ use Rattle.std.proofs.Common.{◌∙◌, arith}
 use Rattle.std.proofs.lemmas.List.{length-drop}
 use Rattle.std.specs.declared.io.Error.{Error}
 use Rattle.wkt_bytes.specs.Wrapper.{appends_more}
-use Rattle.wkt_bytes.proofs.DeviceLemmas.{rest_whole, put_step, count_kept}
+use Rattle.wkt_bytes.proofs.SinkLemmas.{rest_whole, put_step, count_kept}
 use Rattle.wkt_bytes.proofs.wrapper.put_all.Goals as goal
 
 pub loop-at-preserved : goal.loop-at-preserved
@@ -17,6 +17,6 @@ loop-at-preserved g c =
     record {
       within = omega (arith, length-drop at bs, bound);
       out = rw step (appends_more _ _ _ _ _ i.out h.took);
-      tied = g.W.ByteSink.device.keeps_more _ _ _ i.tied h.keeps;
+      tied = g.W.ByteSink.sink.keeps_more _ _ _ i.tied h.keeps;
       kept = h.count ∙ (count_kept Error _ _ _ test.1 ∙ i.kept);
     }

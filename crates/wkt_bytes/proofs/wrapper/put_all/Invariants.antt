@@ -5,9 +5,9 @@ use Rattle.wkt_bytes.proofs.wrapper.put_all.Given as goal
 abbrev pub invariant-loop-at : goal.invariant-loop-at
 invariant-loop-at g l = record {
   within : l.at ≤ length l.bytes;
-  out : Appends (g.W.ByteSink.device.bytes l.initial.writer) (g.W.ByteSink.device.bytes l.writer) (take l.at l.bytes);
-  tied : g.W.ByteSink.device.keeps l.initial.writer l.writer;
-  kept : g.W.ByteSink.device.failures l.writer ≡ g.W.ByteSink.device.failures l.initial.writer;
+  out : Appends (g.W.ByteSink.sink.bytes l.initial.writer) (g.W.ByteSink.sink.bytes l.writer) (take l.at l.bytes);
+  tied : g.W.ByteSink.sink.keeps l.initial.writer l.writer;
+  kept : g.W.ByteSink.sink.failures l.writer ≡ g.W.ByteSink.sink.failures l.initial.writer;
 }
 
 abbrev pub decreases-loop-at : goal.decreases-loop-at

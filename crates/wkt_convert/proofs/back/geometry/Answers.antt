@@ -15,9 +15,9 @@ use Rattle.wkt_convert.proofs.back.geometry.Goals as goal
 pub returns-in_ok-line-in-LineString : goal.returns-in_ok-line-in-LineString
 returns-in_ok-line-in-LineString g c =
     let k = c.in_ok-line-in-LineString in
-    let lent : c.as_slice.result.now ≡ c.in-LineString.l = search rules in
+    let given : c.as_slice.result.now ≡ c.in-LineString.l = search rules in
     tree-line_string k.field-0
-    ∙ (ap (λ l. trees.line_string l) (k.ensures ∙ ap line_back lent)
+    ∙ (ap (λ l. trees.line_string l) (k.ensures ∙ ap line_back given)
     ∙ sym (ap (λ g. back (flat_tree g)) c.in-LineString.is ∙ ap back (flat-line_string c.in-LineString.l)))
 
 pub returns-in_ok-points-in-MultiPoint : goal.returns-in_ok-points-in-MultiPoint

@@ -11,7 +11,7 @@ fault_of-requires-in-Err-FmtError g c =
 pub returns-in-Err-FmtError-clause-io : goal.returns-in-Err-FmtError-clause-io
 returns-in-Err-FmtError-clause-io g c =
     let b = rw c.in-Err-FmtError.field-0-is at c.in-Err-FmtError.ensures in
-    rw c.fault_of-in-Err-FmtError.ensures (some_sent g.W.ByteSink.device _ _ _ b.broken.left c.requires.held)
+    rw c.fault_of-in-Err-FmtError.ensures (some_sent g.W.ByteSink.sink _ _ _ b.broken.left c.requires.held)
 
 pub returns-in-Err-FmtError-clause-io_count : goal.returns-in-Err-FmtError-clause-io_count
 returns-in-Err-FmtError-clause-io_count g c =
@@ -25,11 +25,11 @@ returns-in-Err-FmtError-clause-keeps g c =
 
 pub returns-in-Ok-finish-clause-ok : goal.returns-in-Ok-finish-clause-ok
 returns-in-Ok-finish-clause-ok g c =
-    all_sent g.W.ByteSink.device _ _ _ _ c.in-Ok.ensures.added.given c.in-Ok-finish.ensures.ok c.requires.held c.in-Ok-finish.ensures.empty
+    all_sent g.W.ByteSink.sink _ _ _ _ c.in-Ok.ensures.added.given c.in-Ok-finish.ensures.ok c.requires.held c.in-Ok-finish.ensures.empty
 
 pub returns-in-Ok-finish-clause-keeps : goal.returns-in-Ok-finish-clause-keeps
 returns-in-Ok-finish-clause-keeps g c =
-    g.W.ByteSink.device.keeps_more _ _ _ c.in-Ok.ensures.added.given.tied c.in-Ok-finish.ensures.ok.tied
+    g.W.ByteSink.sink.keeps_more _ _ _ c.in-Ok.ensures.added.given.tied c.in-Ok-finish.ensures.ok.tied
 
 pub fault_of-requires : goal.fault_of-requires
 fault_of-requires g c =
@@ -37,7 +37,7 @@ fault_of-requires g c =
 
 pub returns-in-Err-finish-clause-io : goal.returns-in-Err-finish-clause-io
 returns-in-Err-finish-clause-io g c =
-    rw c.fault_of.ensures (some_sent_late g.W.ByteSink.device _ _ _ _ c.in-Ok.ensures.added.given c.in-Err-finish.ensures.err c.requires.held)
+    rw c.fault_of.ensures (some_sent_late g.W.ByteSink.sink _ _ _ _ c.in-Ok.ensures.added.given c.in-Err-finish.ensures.err c.requires.held)
 
 pub returns-in-Err-finish-clause-io_count : goal.returns-in-Err-finish-clause-io_count
 returns-in-Err-finish-clause-io_count g c =
@@ -46,4 +46,4 @@ returns-in-Err-finish-clause-io_count g c =
 
 pub returns-in-Err-finish-clause-keeps : goal.returns-in-Err-finish-clause-keeps
 returns-in-Err-finish-clause-keeps g c =
-    rw c.fault_of.ensures (g.W.ByteSink.device.keeps_more _ _ _ c.in-Ok.ensures.added.given.tied c.in-Err-finish.ensures.err.tied)
+    rw c.fault_of.ensures (g.W.ByteSink.sink.keeps_more _ _ _ c.in-Ok.ensures.added.given.tied c.in-Err-finish.ensures.err.tied)

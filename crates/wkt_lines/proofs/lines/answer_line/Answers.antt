@@ -11,8 +11,8 @@ fault_of-requires g c =
 pub returns-in-Err-Sink-clause-write : goal.returns-in-Err-Sink-clause-write
 returns-in-Err-Sink-clause-write g c =
     let b = rw c.in-Err-Sink.field-0-is at c.in-Err-Sink.ensures.sink in
-    let l = leaves_longer g.W.ByteSink.device _ _ _ _ b.2.left in
-    (b.0, b.1, rw c.fault_of.ensures (some_sent g.W.ByteSink.device _ _ _ l c.requires.held))
+    let l = leaves_longer g.W.ByteSink.sink _ _ _ _ b.2.left in
+    (b.0, b.1, rw c.fault_of.ensures (some_sent g.W.ByteSink.sink _ _ _ l c.requires.held))
 
 pub returns-in-Err-Sink-clause-write_count : goal.returns-in-Err-Sink-clause-write_count
 returns-in-Err-Sink-clause-write_count g c =
@@ -29,47 +29,47 @@ returns-in-Err-Sink-clause-keeps g c =
 pub returns-in-Ok-end_line-clause-ok : goal.returns-in-Ok-end_line-clause-ok
 returns-in-Ok-end_line-clause-ok g c =
     let h = c.in-Ok.ensures.ok.2.given in
-    let j = gives_more g.W.ByteSink.device _ _ _ _ _ h c.in-Ok-end_line.ensures.ok in
-    (c.in-Ok.ensures.ok.0, c.in-Ok.ensures.ok.1, all_out g.W.ByteSink.device _ _ _ j c.requires.held c.in-Ok-end_line.ensures.held)
+    let j = gives_more g.W.ByteSink.sink _ _ _ _ _ h c.in-Ok-end_line.ensures.ok in
+    (c.in-Ok.ensures.ok.0, c.in-Ok.ensures.ok.1, all_out g.W.ByteSink.sink _ _ _ j c.requires.held c.in-Ok-end_line.ensures.held)
 
 pub returns-in-Ok-end_line-clause-well : goal.returns-in-Ok-end_line-clause-well
 returns-in-Ok-end_line-clause-well g c =
     let h = c.in-Ok.ensures.ok.2.given in
-    let j = gives_more g.W.ByteSink.device _ _ _ _ _ h c.in-Ok-end_line.ensures.ok in
+    let j = gives_more g.W.ByteSink.sink _ _ _ _ _ h c.in-Ok-end_line.ensures.ok in
     j.same ∙ c.requires.well
 
 pub returns-in-Ok-end_line-clause-count : goal.returns-in-Ok-end_line-clause-count
 returns-in-Ok-end_line-clause-count g c =
     let h = c.in-Ok.ensures.ok.2.given in
-    let j = gives_more g.W.ByteSink.device _ _ _ _ _ h c.in-Ok-end_line.ensures.ok in
+    let j = gives_more g.W.ByteSink.sink _ _ _ _ _ h c.in-Ok-end_line.ensures.ok in
     j.count
 
 pub returns-in-Ok-end_line-clause-keeps : goal.returns-in-Ok-end_line-clause-keeps
 returns-in-Ok-end_line-clause-keeps g c =
     let h = c.in-Ok.ensures.ok.2.given in
-    let j = gives_more g.W.ByteSink.device _ _ _ _ _ h c.in-Ok-end_line.ensures.ok in
+    let j = gives_more g.W.ByteSink.sink _ _ _ _ _ h c.in-Ok-end_line.ensures.ok in
     j.tied
 
 pub fault_of-requires-in-Err : goal.fault_of-requires-in-Err
 fault_of-requires-in-Err g c =
     let h = c.in-Ok.ensures.ok.2.given in
-    let l = leaves_after g.W.ByteSink.device _ _ _ _ _ h c.in-Err.ensures.err in
+    let l = leaves_after g.W.ByteSink.sink _ _ _ _ _ h c.in-Err.ensures.err in
     l.untold c.requires.well
 
 pub returns-in-Err-clause-write : goal.returns-in-Err-clause-write
 returns-in-Err-clause-write g c =
     let h = c.in-Ok.ensures.ok.2.given in
-    let l = leaves_after g.W.ByteSink.device _ _ _ _ _ h c.in-Err.ensures.err in
-    (c.in-Ok.ensures.ok.0, c.in-Ok.ensures.ok.1, rw c.fault_of-in-Err.ensures (some_sent g.W.ByteSink.device _ _ _ l c.requires.held))
+    let l = leaves_after g.W.ByteSink.sink _ _ _ _ _ h c.in-Err.ensures.err in
+    (c.in-Ok.ensures.ok.0, c.in-Ok.ensures.ok.1, rw c.fault_of-in-Err.ensures (some_sent g.W.ByteSink.sink _ _ _ l c.requires.held))
 
 pub returns-in-Err-clause-write_count : goal.returns-in-Err-clause-write_count
 returns-in-Err-clause-write_count g c =
     let h = c.in-Ok.ensures.ok.2.given in
-    let l = leaves_after g.W.ByteSink.device _ _ _ _ _ h c.in-Err.ensures.err in
+    let l = leaves_after g.W.ByteSink.sink _ _ _ _ _ h c.in-Err.ensures.err in
     rw c.fault_of-in-Err.ensures (l.count c.requires.well)
 
 pub returns-in-Err-clause-keeps : goal.returns-in-Err-clause-keeps
 returns-in-Err-clause-keeps g c =
     let h = c.in-Ok.ensures.ok.2.given in
-    let l = leaves_after g.W.ByteSink.device _ _ _ _ _ h c.in-Err.ensures.err in
+    let l = leaves_after g.W.ByteSink.sink _ _ _ _ _ h c.in-Err.ensures.err in
     rw c.fault_of-in-Err.ensures l.tied

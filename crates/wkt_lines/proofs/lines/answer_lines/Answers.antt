@@ -25,5 +25,5 @@ lines-preserved g c =
       well = c.in-Ok.ensures.well;
       held = c.in-Ok.ensures.held;
       count = c.in-Ok.ensures.count ∙ i.count;
-      tied = g.W.ByteSink.device.keeps_more _ _ _ i.tied c.answer_line.ensures.keeps;
+      tied = g.W.ByteSink.sink.keeps_more _ _ _ i.tied c.answer_line.ensures.keeps;
     }

@@ -11,11 +11,11 @@ invariant-lines g l = record {
   out : List ℕ;
   lines : first ++ input_lines l.rest ≡ input_lines l.fn.input;
   answers : AreAnswers g.T.WktNum.read g.T.WktNum.num first out;
-  went : Appends (g.W.ByteSink.device.bytes l.initial.wrapper.writer) (g.W.ByteSink.device.bytes l.wrapper.writer) out;
+  went : Appends (g.W.ByteSink.sink.bytes l.initial.wrapper.writer) (g.W.ByteSink.sink.bytes l.wrapper.writer) out;
   well : is_well l.wrapper ≡ true;
   held : held_bytes l.wrapper ≡ [];
-  count : g.W.ByteSink.device.failures l.wrapper.writer ≡ g.W.ByteSink.device.failures l.initial.wrapper.writer;
-  tied : g.W.ByteSink.device.keeps l.initial.wrapper.writer l.wrapper.writer;
+  count : g.W.ByteSink.sink.failures l.wrapper.writer ≡ g.W.ByteSink.sink.failures l.initial.wrapper.writer;
+  tied : g.W.ByteSink.sink.keeps l.initial.wrapper.writer l.wrapper.writer;
 }
 
 abbrev pub decreases-lines : goal.decreases-lines

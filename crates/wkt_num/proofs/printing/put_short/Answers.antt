@@ -16,7 +16,7 @@ returns-then-last-eq0-clause-value c =
     let sixteen : length lanes ≡ 16 = ap length c.sixteen-digits.ensures ∙ length-padded 16 (c.args.fraction * c.ten_to.result / 100) in
     let inside : 59 ≤ length (copied old lanes) = omega (arith, copied-long old lanes c.told-out) in
     cut c.args.places c.args.fraction c.ten_to.result c.requires.few c.requires.less c.requires.some c.ten_to.ensures (copied old lanes) old lanes c.told-out inside (copied-there old lanes c.told-out sixteen)
-    c.sixteen-digits.ensures c.zeros_behind.result c.if-last-eq0.true c.zeros_behind.ensures
+    c.sixteen-digits.ensures c.zeros_after.result c.if-last-eq0.true c.zeros_after.ensures
 
 pub returns-clause-value : goal.returns-clause-value
 returns-clause-value c =

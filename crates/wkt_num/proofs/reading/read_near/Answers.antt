@@ -7,7 +7,7 @@ use Rattle.wkt_num.proofs.reading.read_near.Goals as goal
 inside : {at n : ℕ} → at ≤ n → (at ≡ n → ⊥) → at < n
 inside h k = omega (arith, h, k)
 
--- the digits behind the point are few units
+-- the digits after the point are few units
 units : (D at f s : ℕ) (body : List ℕ) → at < length body → length body - at - 1 ≤ D → D ≤ 18
     → AllDigits 10 (drop (at + 1) body) → f ≡ digits_value 10 (drop (at + 1) body) → s ≡ 10 ^ (D - (length body - at - 1)) → f * s < 10 ^ 18
 units D at f s body n few most digits value shift = near-fraction D (length body - at - 1) f s (drop (at + 1) body) (omega (arith, length-drop (at + 1) body)) few most digits value shift
@@ -18,7 +18,7 @@ overflow_mul-fraction c =
     let f = c.in_ok-fraction in
     let n = inside d.ensures.within c.if-at-body.false in
     let tail = near-tail d.result.1 c.args.body.now n in
-    let less = units c.args.places d.result.1 f.fraction c.ten_to-shift.result c.args.body.now n c.if-behind-places.false c.if-places-gt-SHORT_PLACES.false
+    let less = units c.args.places d.result.1 f.fraction c.ten_to-shift.result c.args.body.now n c.if-after-places.false c.if-places-gt-SHORT_PLACES.false
     (subst (AllDigits 10) tail f.ensures.digits) (f.ensures.value ∙ ap (digits_value 10) tail) c.ten_to-shift.ensures in
     omega (arith, less)
 
@@ -28,7 +28,7 @@ overflow_add-result c =
     let f = c.in_ok-fraction in
     let n = inside d.ensures.within c.if-at-body.false in
     let tail = near-tail d.result.1 c.args.body.now n in
-    let less = units c.args.places d.result.1 f.fraction c.ten_to-shift.result c.args.body.now n c.if-behind-places.false c.if-places-gt-SHORT_PLACES.false
+    let less = units c.args.places d.result.1 f.fraction c.ten_to-shift.result c.args.body.now n c.if-after-places.false c.if-places-gt-SHORT_PLACES.false
     (subst (AllDigits 10) tail f.ensures.digits) (f.ensures.value ∙ ap (digits_value 10) tail) c.ten_to-shift.ensures in
     let whole = near-whole c.from.result d.result.1 c.from-2.result c.args.places (subst (λ w. w < 10 ^ d.result.1) (sym c.from.ensures) d.ensures.small) (omega (arith, n, c.if-body-gt-SHORT_BYTES.false)) (c.from-2.ensures ∙ c.ten_to.ensures) c.if-places-gt-SHORT_PLACES.false in
     omega (arith, less, whole, c.from-3.ensures)
@@ -39,7 +39,7 @@ returns c =
     let f = c.in_ok-fraction in
     let n = inside d.ensures.within c.if-at-body.false in
     let tail = near-tail d.result.1 c.args.body.now n in
-    near-body c.args.places d.result.1 c.from.result c.from-2.result f.fraction c.ten_to-shift.result c.from-3.result c.args.body.now n c.if-body-lt-VECTOR_BYTES.false c.if-body-gt-SHORT_BYTES.false c.if-body-at-ne46.false c.if-behind-places.false c.if-places-gt-SHORT_PLACES.false
+    near-body c.args.places d.result.1 c.from.result c.from-2.result f.fraction c.ten_to-shift.result c.from-3.result c.args.body.now n c.if-body-lt-VECTOR_BYTES.false c.if-body-gt-SHORT_BYTES.false c.if-body-at-ne46.false c.if-after-places.false c.if-places-gt-SHORT_PLACES.false
     d.ensures.digits (c.from.ensures ∙ d.ensures.value) (subst (λ w. w < 10 ^ d.result.1) (sym c.from.ensures) d.ensures.small)
     (subst (AllDigits 10) tail f.ensures.digits) (f.ensures.value ∙ ap (digits_value 10) tail)
     (c.from-2.ensures ∙ c.ten_to.ensures) c.ten_to-shift.ensures c.from-3.ensures

@@ -1,5 +1,8 @@
-use Rattle.std.proofs.Common.{sym, ◌∙◌}
-use Rattle.wkt_uses.proofs.Ordering.{stream_more, peeked_rest, none_left}
+use Rattle.std.proofs.Common.{[], ◌∷◌, sym, ◌∙◌}
+use Rattle.std.proofs.lemmas.List.{map-append}
+use Rattle.wkt_types.specs.Tree.{tree}
+use Rattle.wkt_read.proofs.TokenizerLemmas.Peeked.{peeked_rest, none_left}
+use Rattle.wkt_uses.proofs.Ordering.{stream_more}
 use Rattle.wkt_uses.proofs.every_geometry.every_geometry_of_stream.Goals as goal
 
 pub tokens-smaller : goal.tokens-smaller
@@ -9,7 +12,7 @@ pub tokens-preserved : goal.tokens-preserved
 tokens-preserved g c =
     let same = peeked_rest _ _ c.peek.follows.holds-at-none.0 in
     let found = rw same at c.in_ok-geometry.ensures.found in
-    rw c.in_ok-keep.ensures (stream_more g.T.WktNum.read _ _ _ _ _ c.tokens.invariant found)
+    rw (c.in_ok-push.ensures.items, map-append tree c.tokens.all.items (c.in_ok-geometry.geometry ∷ [])) (stream_more g.T.WktNum.read _ _ _ _ _ c.tokens.invariant found)
 
 pub returns : goal.returns
 returns g c =

@@ -1,7 +1,7 @@
 use Rattle.std.proofs.Common.{◌≤◌, ◌∙◌, ap, drop, length, arith}
 use Rattle.std.proofs.lemmas.List.{append-nil}
 use Rattle.wkt_bytes.specs.Wrapper.{state_well, gives_more, kept_gives, leaves_after, leaves_longer}
-use Rattle.wkt_bytes.proofs.DeviceLemmas.{any_err, take_step, with_rest}
+use Rattle.wkt_bytes.proofs.SinkLemmas.{any_err, take_step, with_rest}
 use Rattle.wkt_bytes.proofs.wrapper.WriterWrapper.accept_long.Goals as goal
 use Rattle.wkt_bytes.proofs.wrapper.WriterWrapper.accept_long.Goals.{then-bytes-at, else-bytes-at}
 
@@ -12,10 +12,10 @@ loop-at-preserved g c =
     let next = c.if-bytes-at.next in
     let low : c.loop-at.at ≤ next = elim c.if-bytes-at.branch [ then-bytes-at w ↦ omega arith | else-bytes-at w ↦ omega arith ] in
     let high : next ≤ length bs = elim c.if-bytes-at.branch [ then-bytes-at w ↦ omega arith | else-bytes-at w ↦ omega arith ] in
-    let k = kept_gives g.W.ByteSink.device _ c.keep.new.self _ c.keep.ensures.writer c.keep.ensures.state c.keep.ensures.held in
+    let k = kept_gives g.W.ByteSink.sink _ c.keep.new.self _ c.keep.ensures.writer c.keep.ensures.state c.keep.ensures.held in
     record {
       within = high;
-      gave = rw (take_step bs c.loop-at.at next low) (gives_more g.W.ByteSink.device _ _ _ _ _ i.gave k);
+      gave = rw (take_step bs c.loop-at.at next low) (gives_more g.W.ByteSink.sink _ _ _ _ _ i.gave k);
       well = ap (λ s. state_well s) c.keep.ensures.state ∙ i.well;
       failures = c.keep.ensures.failures ∙ i.failures;
     }
@@ -27,9 +27,9 @@ loop-at-preserved-in-Continue-1 g c =
     let next = c.if-bytes-at.next in
     let low : c.loop-at.at ≤ next = elim c.if-bytes-at.branch [ then-bytes-at w ↦ omega arith | else-bytes-at w ↦ omega arith ] in
     let high : next ≤ length bs = elim c.if-bytes-at.branch [ then-bytes-at w ↦ omega arith | else-bytes-at w ↦ omega arith ] in
-    let k = kept_gives g.W.ByteSink.device _ c.keep.new.self _ c.keep.ensures.writer c.keep.ensures.state c.keep.ensures.held in
-    let m = gives_more g.W.ByteSink.device _ _ _ _ _ i.gave k in
-    let e = gives_more g.W.ByteSink.device _ _ _ _ _ m c.in_ok-empty.ensures.ok in
+    let k = kept_gives g.W.ByteSink.sink _ c.keep.new.self _ c.keep.ensures.writer c.keep.ensures.state c.keep.ensures.held in
+    let m = gives_more g.W.ByteSink.sink _ _ _ _ _ i.gave k in
+    let e = gives_more g.W.ByteSink.sink _ _ _ _ _ m c.in_ok-empty.ensures.ok in
     record {
       within = high;
       gave = rw (take_step bs c.loop-at.at next low) (rw append-nil at e);
@@ -43,7 +43,7 @@ returns-in_err-empty-clause-err g c =
     let bs = c.args.bytes.now in
     let next = c.if-bytes-at.next in
     let low : c.loop-at.at ≤ next = elim c.if-bytes-at.branch [ then-bytes-at w ↦ omega arith | else-bytes-at w ↦ omega arith ] in
-    let k = kept_gives g.W.ByteSink.device _ c.keep.new.self _ c.keep.ensures.writer c.keep.ensures.state c.keep.ensures.held in
-    let m = gives_more g.W.ByteSink.device _ _ _ _ _ i.gave k in
-    let l = leaves_longer g.W.ByteSink.device _ _ _ (drop next bs) (leaves_after g.W.ByteSink.device _ _ _ _ _ m c.in_err-empty.ensures.err) in
+    let k = kept_gives g.W.ByteSink.sink _ c.keep.new.self _ c.keep.ensures.writer c.keep.ensures.state c.keep.ensures.held in
+    let m = gives_more g.W.ByteSink.sink _ _ _ _ _ i.gave k in
+    let l = leaves_longer g.W.ByteSink.sink _ _ _ (drop next bs) (leaves_after g.W.ByteSink.sink _ _ _ _ _ m c.in_err-empty.ensures.err) in
     any_err c.from_residual.result (rw (with_rest bs c.loop-at.at next low) at l)

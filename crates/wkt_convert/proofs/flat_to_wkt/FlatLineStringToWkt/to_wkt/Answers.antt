@@ -6,5 +6,5 @@ use Rattle.wkt_convert.proofs.flat_to_wkt.FlatLineStringToWkt.to_wkt.Goals as go
 
 pub returns : goal.returns
 returns g c =
-    let lent : c.as_slice.result.now ≡ c.args.self.now = search rules in
-    tree-line_string c.in_ok-line.field-0 ∙ ap (λ l. trees.line_string l) (c.in_ok-line.ensures ∙ ap line_back lent)
+    let given : c.as_slice.result.now ≡ c.args.self.now = search rules in
+    tree-line_string c.in_ok-line.field-0 ∙ ap (λ l. trees.line_string l) (c.in_ok-line.ensures ∙ ap line_back given)

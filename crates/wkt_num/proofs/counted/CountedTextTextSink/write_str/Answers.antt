@@ -1,5 +1,5 @@
 use Rattle.std.proofs.Common.{refl}
-use Rattle.wkt_num.specs.Lent.{broke_at_once, calls_none, calls_once}
+use Rattle.wkt_num.specs.Borrowed.{broke_at_once, calls_none, calls_once}
 use Rattle.wkt_num.proofs.counted.CountedTextTextSink.write_str.Goals as goal
 
 pub returns-in-Ok : goal.returns-in-Ok

@@ -1,5 +1,5 @@
 use Rattle.std.proofs.Common.{refl}
-use Rattle.wkt_num.specs.Lent.{broke_at_once, shows_none}
+use Rattle.wkt_num.specs.Borrowed.{broke_at_once, shows_none}
 use Rattle.wkt_num.proofs.formatted.FormatterTextTextSink.write_str.Goals as goal
 
 pub returns-in-Ok : goal.returns-in-Ok

@@ -1,14 +1,16 @@
 //! Flat values to writers, and from readers, which are slow or fail.
 
-use crate::slow_devices::{Slow, source};
+use crate::slow_sinks::{Slow, source};
+use std::alloc::Global;
 use std::io;
 use std::io::ErrorKind;
+use std::process::Abort;
 use std::test::Fail;
 use wkt::error::Error as WriteError;
 use wkt::geo_types::{Coord, Geometry, GeometryCollection, Line, LineString, Point, Rect};
 use wkt::geo_types_from_wkt::Error;
 use wkt::to_wkt::{TextSink, ToWktError, WriterWrapper};
-use wkt::{Decimal, ToWkt, TryFromWkt};
+use wkt::{Decimal, ToWkt, TryFromWkt, WktNum};
 
 type Number = Decimal<6>;
 
@@ -29,24 +31,27 @@ fn io_kind(answer: Result<(), ToWktError>) -> Option<ErrorKind> {
     }
 }
 
+/// The value is written by a byte a call.
+fn writes_bytewise<T: WktNum, G: ToWkt<T>>(
+    rt: &impl Abort,
+    alloc: Global,
+    value: &G,
+    want: &[u8],
+) -> Result<(), Fail> {
+    let mut writer = Slow::new(1, 100);
+    value.write_wkt(alloc, &mut writer)?;
+    assert_eq!(rt; writer.taken(), want);
+    assert_eq!(rt; writer.calls, 100usize.wrapping_sub(want.len()));
+    Ok(())
+}
+
 #[test]
 fn one_byte_a_call(rt: HostRuntime) -> Result<(), Fail> {
     let alloc = rt.alloc();
-    let mut writer = Slow::new(1, 100);
-    point().write_wkt(alloc, &mut writer)?;
-    assert_eq!(rt; writer.taken(), TEXT);
-    assert_eq!(rt; writer.calls, 100 - 14);
-    let mut writer = Slow::new(1, 100);
-    Geometry::from(point()).write_wkt(alloc, &mut writer)?;
-    assert_eq!(rt; writer.taken(), TEXT);
+    writes_bytewise(&rt, alloc, &point(), TEXT)?;
+    writes_bytewise(&rt, alloc, &Geometry::from(point()), TEXT)?;
     let rect = Rect::new(Coord { x: 4i32, y: 4 }, Coord { x: 8, y: 8 });
-    let mut writer = Slow::new(1, 100);
-    rect.write_wkt(alloc, &mut writer)?;
-    assert_eq!(rt;
-        writer.taken(),
-        b"POLYGON((8 4,8 8,4 8,4 4,8 4))".as_slice()
-    );
-    Ok(())
+    writes_bytewise(&rt, alloc, &rect, b"POLYGON((8 4,8 8,4 8,4 4,8 4))")
 }
 
 #[test]
@@ -95,7 +100,12 @@ fn gathers_256_bytes(rt: HostRuntime) -> Result<(), Fail> {
     let answer = line.write_wkt(alloc, &mut writer);
     assert_eq!(rt; io_kind(answer), Some(ErrorKind::BrokenPipe));
     assert_eq!(rt; writer.len, 256);
-    let piece = "POINT Z ".repeat(alloc, 16)?;
+    Ok(())
+}
+
+#[test]
+fn gathers_pieces(rt: HostRuntime) -> Result<(), Fail> {
+    let piece = "POINT Z ".repeat(rt.alloc(), 16)?;
     let mut writer = Slow::new(1000, 100);
     let mut wrapper = WriterWrapper::new(&mut writer);
     assert!(rt; wrapper.write_str(&piece).is_ok());
@@ -117,7 +127,13 @@ fn reads_one_byte_a_call(rt: HostRuntime) -> Result<(), Fail> {
     assert_eq!(rt; point.x().units(), 10_000_000);
     assert_eq!(rt; point.y().units(), 20_000_000);
     assert_eq!(rt; reader.rest.len(), 0);
-    // What follows the front is read too, and isn't looked at.
+    Ok(())
+}
+
+/// What follows the front is read too, and isn't looked at.
+#[test]
+fn reads_past_the_front(rt: HostRuntime) -> Result<(), Fail> {
+    let alloc = rt.alloc();
     let mut reader = source(b"LINESTRING(1 2,3 4)x(", 3, 100);
     let Ok(line) = LineString::<i32>::try_from_wkt_reader(alloc, &mut reader) else {
         panic!(rt; "a line string wasn't read");

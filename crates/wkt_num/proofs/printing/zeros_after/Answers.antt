@@ -3,7 +3,7 @@ use Rattle.std.specs.List.{prefix_len}
 use lib.Count.{count_trailing_zeros}
 use Rattle.std.proofs.lemmas.Simd.{bitmask_splat, leading_from_mask_l, trailing_mask_l}
 use Rattle.wkt_num.proofs.Eighteen.{down, down-reverse}
-use Rattle.wkt_num.proofs.printing.zeros_behind.Goals as goal
+use Rattle.wkt_num.proofs.printing.zeros_after.Goals as goal
 
 pub returns-then-others-eq0 : goal.returns-then-others-eq0
 returns-then-others-eq0 c =

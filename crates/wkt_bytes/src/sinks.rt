@@ -2,7 +2,7 @@
 ghost use Rattle.std.specs.Prelude.{◌≡◌, ℕ, ◌≤◌, List, [], ◌∷◌, ◌++◌, IfOk, OnOk, OnErr, Option, length};
 ghost use Rattle.std.specs.Io.KnownBytes.{WriteAppends, ReadConsumes};
 ghost use Rattle.wkt_num.specs.Sink.{next_count};
-ghost use Rattle.wkt_bytes.specs.Device.{Device, lent_device, owned, count_after_put, count_after_take};
+ghost use Rattle.wkt_bytes.specs.Sinks.{SinkOfBytes, borrowed_sink, owned, count_after_put, count_after_take};
 
 use std::io;
 use std::io::{Read, Write};
@@ -15,7 +15,7 @@ use std::io::{Read, Write};
 pub trait ByteSink {
     /// What it holds, where it can tell, how many calls have failed, and that a reference stays the
     /// same reference.
-    ghost device: { Device Self };
+    ghost sink: { SinkOfBytes Self };
 
     /// Takes some of the bytes from the front, and answers how many.
     ///
@@ -23,9 +23,9 @@ pub trait ByteSink {
     /// The sink's fault.
     fn put(&mut self, buf: &[u8]) -> io::Result<usize>
         ensures bound { IfOk result (λ n. n ≤ length buf.now) }
-        ensures took { WriteAppends (device.bytes self.old) (device.bytes self.new) result buf.now }
-        ensures count { device.failures self.new ≡ count_after_put (device.failures self.old) result buf.now }
-        ensures keeps { device.keeps self.old self.new };
+        ensures took { WriteAppends (sink.bytes self.old) (sink.bytes self.new) result buf.now }
+        ensures count { sink.failures self.new ≡ count_after_put (sink.failures self.old) result buf.now }
+        ensures keeps { sink.keeps self.old self.new };
 }
 
 /// Where bytes come from: one call of `take` is one call of a reader.
@@ -47,7 +47,7 @@ pub trait ByteSource {
 }
 
 impl<W: ByteSink> ByteSink for &mut W {
-    ghost device = { lent_device W.device };
+    ghost sink = { borrowed_sink W.sink };
 
     fn put(&mut self, buf: &[u8]) -> io::Result<usize> {
         (**self).put(buf)
@@ -58,35 +58,35 @@ impl<W: ByteSink> ByteSink for &mut W {
 /// `io::Write`, a [`ByteSource`] over any `io::Read`.
 #[derive(Drop)]
 pub struct Counted<D> {
-    device: D,
+    inner: D,
     count: u64,
 }
 
 impl<D> Counted<D> {
-    ghost use Rattle.wkt_bytes.specs.Counted.{device_of, counted};
+    ghost use Rattle.wkt_bytes.specs.Counted.{inner_of, counted};
 
     /// This writer or reader, of which no failure has been counted.
-    pub fn new(device: D) -> Self
-        ensures device { device_of result ≡ device }
+    pub fn new(inner: D) -> Self
+        ensures inner { inner_of result ≡ inner }
         ensures count { counted result ≡ 0 }
     {
-        Counted { device, count: 0 }
+        Counted { inner, count: 0 }
     }
 
     /// Gives the writer or reader back.
     pub fn into_inner(self) -> D
-        ensures { result ≡ device_of self }
+        ensures { result ≡ inner_of self }
     {
-        let Counted { device, count: _ } = self;
-        device
+        let Counted { inner, count: _ } = self;
+        inner
     }
 }
 
 impl<W: Write> ByteSink for Counted<W> {
-    ghost device = { owned (λ c. W.contents c.device) (λ c. c.count) };
+    ghost sink = { owned (λ c. W.contents c.inner) (λ c. c.count) };
 
     fn put(&mut self, buf: &[u8]) -> io::Result<usize> {
-        match self.device.write(buf) {
+        match self.inner.write(buf) {
             Ok(0) => {
                 if !buf.is_empty() {
                     self.count = self.count.wrapping_add(1);
@@ -103,12 +103,12 @@ impl<W: Write> ByteSink for Counted<W> {
 }
 
 impl<R: Read> ByteSource for Counted<R> {
-    ghost left = { λ c. R.remaining c.device };
+    ghost left = { λ c. R.remaining c.inner };
 
     ghost failures = { λ c. c.count };
 
     fn take(&mut self, buf: &mut [u8]) -> io::Result<usize> {
-        match self.device.read(buf) {
+        match self.inner.read(buf) {
             Ok(n) => Ok(n),
             Err(e) => {
                 self.count = self.count.wrapping_add(1);

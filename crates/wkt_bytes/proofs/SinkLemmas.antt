@@ -1,10 +1,10 @@
 -- Steps of a loop that puts bytes out.
 use Rattle.std.proofs.Common.{◌≡◌, ℕ, zero, suc, ◌+◌, ◌-◌, List, [], ◌++◌, take, drop, length, refl, ap, sym, ◌∙◌, arith, Ok, Err, Result, OnOk, OnErr, ◌≢◌, ◌≤◌, Option, subst}
 use Rattle.std.specs.Io.KnownBytes.{Appends}
-use Rattle.wkt_bytes.specs.Device.{BeginningOut}
+use Rattle.wkt_bytes.specs.Sinks.{BeginningOut}
 use Rattle.std.proofs.Math.Seq.{take-add}
 use Rattle.std.proofs.lemmas.List.{length-drop, take_all, append-nil, take-append-drop}
-use Rattle.wkt_bytes.specs.Device.{count_after_put}
+use Rattle.wkt_bytes.specs.Sinks.{count_after_put}
 
 pub rest_whole : (bs : List ℕ) (at : ℕ) → take (length bs - at) (drop at bs) ≡ drop at bs
 rest_whole bs at = take_all (length bs - at) (drop at bs) (omega (arith, length-drop at bs))

@@ -17,7 +17,12 @@ fn at(x: i32, y: i32) -> Coord<i32> {
 }
 
 /// The three calls of `ToWkt` give one text.
-fn gives<G: ToWkt<i32>>(rt: &impl Abort, alloc: Global, value: &G, want: &str) -> Result<(), Fail> {
+fn gives<G: ToWkt<i32> + Drop>(
+    rt: &impl Abort,
+    alloc: Global,
+    value: G,
+    want: &str,
+) -> Result<(), Fail> {
     let displayed = format!(in alloc; "{}", value.to_wkt(alloc)?)?;
     assert_eq!(rt; displayed.as_str(), want);
     assert_eq!(rt; value.wkt_string(alloc)?.as_str(), want);
@@ -48,90 +53,69 @@ fn holed(alloc: Global) -> Result<Polygon<i32>, Fail> {
 fn single_values_are_written(rt: HostRuntime) -> Result<(), Fail> {
     let alloc = rt.alloc();
     let rect = Rect::new(at(4, 4), at(8, 8));
-    gives(&rt, alloc, &rect, "POLYGON((8 4,8 8,4 8,4 4,8 4))")?;
-    gives(&rt, alloc, &Point::new(1, 2), "POINT(1 2)")?;
-    gives(
-        &rt,
-        alloc,
-        &Line::new(at(1, 2), at(3, 4)),
-        "LINESTRING(1 2,3 4)",
-    )?;
     let triangle = Triangle::new(at(0, 0), at(4, 0), at(2, 4));
-    gives(&rt, alloc, &triangle, "POLYGON((0 0,4 0,2 4,0 0))")?;
-    gives(
-        &rt,
-        alloc,
-        &path(alloc, &[at(10, -20), at(0, 5)])?,
-        "LINESTRING(10 -20,0 5)",
-    )?;
-    gives(&rt, alloc, &path(alloc, &[])?, "LINESTRING EMPTY")?;
-    gives(
-        &rt,
-        alloc,
-        &holed(alloc)?,
-        "POLYGON((0 0,4 0,2 4,0 0),EMPTY)",
-    )?;
-    gives(&rt, alloc, &hollow(alloc)?, "POLYGON EMPTY")?;
-    gives(
-        &rt,
-        alloc,
-        &Geometry::from(rect),
-        "POLYGON((8 4,8 8,4 8,4 4,8 4))",
-    )?;
-    gives(
-        &rt,
-        alloc,
-        &Geometry::from(triangle),
-        "POLYGON((0 0,4 0,2 4,0 0))",
-    )?;
-    gives(&rt, alloc, &Geometry::from(hollow(alloc)?), "POLYGON EMPTY")
+    let line = Line::new(at(1, 2), at(3, 4));
+    gives(&rt, alloc, Point::new(1, 2), "POINT(1 2)")?;
+    gives(&rt, alloc, line, "LINESTRING(1 2,3 4)")?;
+    gives(&rt, alloc, rect, "POLYGON((8 4,8 8,4 8,4 4,8 4))")?;
+    gives(&rt, alloc, triangle, "POLYGON((0 0,4 0,2 4,0 0))")?;
+    let rect = Geometry::from(rect);
+    gives(&rt, alloc, rect, "POLYGON((8 4,8 8,4 8,4 4,8 4))")?;
+    let triangle = Geometry::from(triangle);
+    gives(&rt, alloc, triangle, "POLYGON((0 0,4 0,2 4,0 0))")
+}
+
+#[test]
+fn line_strings_and_polygons_are_written(rt: HostRuntime) -> Result<(), Fail> {
+    let alloc = rt.alloc();
+    let line = path(alloc, &[at(10, -20), at(0, 5)])?;
+    gives(&rt, alloc, line, "LINESTRING(10 -20,0 5)")?;
+    gives(&rt, alloc, path(alloc, &[])?, "LINESTRING EMPTY")?;
+    let holed = holed(alloc)?;
+    gives(&rt, alloc, holed, "POLYGON((0 0,4 0,2 4,0 0),EMPTY)")?;
+    gives(&rt, alloc, hollow(alloc)?, "POLYGON EMPTY")?;
+    gives(&rt, alloc, Geometry::from(hollow(alloc)?), "POLYGON EMPTY")
 }
 
 #[test]
 fn lists_are_written(rt: HostRuntime) -> Result<(), Fail> {
     let alloc = rt.alloc();
     let points = MultiPoint(vec![in alloc; Point::new(8, 4), Point::new(4, 0)]?);
-    gives(&rt, alloc, &points, "MULTIPOINT((8 4),(4 0))")?;
-    gives(
-        &rt,
-        alloc,
-        &MultiPoint::<i32>(Vec::new(alloc)),
-        "MULTIPOINT EMPTY",
-    )?;
+    gives(&rt, alloc, points, "MULTIPOINT((8 4),(4 0))")?;
     let lines = vec![in alloc; path(alloc, &[at(8, 4), at(-3, 0)])?, path(alloc, &[])?]?;
-    gives(
-        &rt,
-        alloc,
-        &MultiLineString(lines),
-        "MULTILINESTRING((8 4,-3 0),EMPTY)",
-    )?;
-    gives(
-        &rt,
-        alloc,
-        &MultiLineString::<i32>(Vec::new(alloc)),
-        "MULTILINESTRING EMPTY",
-    )?;
+    let want = "MULTILINESTRING((8 4,-3 0),EMPTY)";
+    gives(&rt, alloc, MultiLineString(lines), want)?;
     let polygons = vec![in alloc; hollow(alloc)?, holed(alloc)?]?;
     let want = "MULTIPOLYGON(EMPTY,((0 0,4 0,2 4,0 0),EMPTY))";
-    gives(&rt, alloc, &MultiPolygon(polygons), want)?;
-    gives(
-        &rt,
-        alloc,
-        &MultiPolygon::<i32>(Vec::new(alloc)),
-        "MULTIPOLYGON EMPTY",
-    )?;
-    gives(
-        &rt,
-        alloc,
-        &GeometryCollection::<i32>(Vec::new(alloc)),
-        "GEOMETRYCOLLECTION EMPTY",
-    )?;
+    gives(&rt, alloc, MultiPolygon(polygons), want)
+}
+
+#[test]
+fn empty_lists_are_written(rt: HostRuntime) -> Result<(), Fail> {
+    let alloc = rt.alloc();
+    let points = MultiPoint(Vec::new(alloc));
+    gives(&rt, alloc, points, "MULTIPOINT EMPTY")?;
+    let lines = MultiLineString(Vec::new(alloc));
+    gives(&rt, alloc, lines, "MULTILINESTRING EMPTY")?;
+    let polygons = MultiPolygon(Vec::new(alloc));
+    gives(&rt, alloc, polygons, "MULTIPOLYGON EMPTY")?;
+    let all = GeometryCollection(Vec::new(alloc));
+    gives(&rt, alloc, all, "GEOMETRYCOLLECTION EMPTY")
+}
+
+/// The rectangle from 4 4 to 8 8, and the line from 1 2 to 3 4.
+fn rect_and_line(alloc: Global) -> Result<GeometryCollection<i32>, AllocError> {
     let rect = Geometry::from(Rect::new(at(4, 4), at(8, 8)));
     let line = Geometry::from(Line::new(at(1, 2), at(3, 4)));
-    let all = GeometryCollection(vec![in alloc; rect, line]?);
+    Ok(GeometryCollection(vec![in alloc; rect, line]?))
+}
+
+#[test]
+fn collections_are_written(rt: HostRuntime) -> Result<(), Fail> {
+    let alloc = rt.alloc();
     let want = "GEOMETRYCOLLECTION(POLYGON((8 4,8 8,4 8,4 4,8 4)),LINESTRING(1 2,3 4))";
-    gives(&rt, alloc, &all, want)?;
-    gives(&rt, alloc, &Geometry::from(all), want)
+    gives(&rt, alloc, rect_and_line(alloc)?, want)?;
+    gives(&rt, alloc, Geometry::from(rect_and_line(alloc)?), want)
 }
 
 /// What a text is read as, and the text of it again; or the refusal.
@@ -193,32 +177,49 @@ fn geometries_are_read(rt: HostRuntime) -> Result<(), Fail> {
     Ok(())
 }
 
+/// The text is read as a value of that type, whose text is the other.
+fn reads<G: TryFromWkt<Number, Error = Error> + ToWkt<Number> + Drop>(
+    rt: &impl Abort,
+    alloc: Global,
+    text: &str,
+    want: &str,
+) -> Result<(), Fail> {
+    let text = again::<G>(alloc, text)?;
+    assert_eq!(rt; text.as_str(), want);
+    Ok(())
+}
+
 #[test]
-fn each_kind_is_read(rt: HostRuntime) -> Result<(), Fail> {
+fn points_are_read(rt: HostRuntime) -> Result<(), Fail> {
     let alloc = rt.alloc();
     let Ok(point) = Point::<Number>::try_from_wkt_str(alloc, "POINT(10 20)") else {
         panic!(rt; "a point wasn't read");
     };
     assert_eq!(rt; point.y().units(), 20_000_000);
     assert_eq!(rt; point.x().units(), 10_000_000);
-    let text = again::<LineString<Number>>(alloc, "LINESTRING Z(1 2 3,4 5 6)")?;
-    assert_eq!(rt; text.as_str(), "LINESTRING(1 2,4 5)");
-    let text = again::<Polygon<Number>>(alloc, "POLYGON((0 0,4 0,2 4))")?;
-    assert_eq!(rt; text.as_str(), "POLYGON((0 0,4 0,2 4,0 0))");
-    for text in ["POINT EMPTY", "MULTIPOINT Z EMPTY"] {
-        let text = again::<MultiPoint<Number>>(alloc, text)?;
-        assert_eq!(rt; text.as_str(), "MULTIPOINT EMPTY");
+    for (text, want) in [
+        ("POINT EMPTY", "MULTIPOINT EMPTY"),
+        ("MULTIPOINT Z EMPTY", "MULTIPOINT EMPTY"),
+        ("MULTIPOINT(8 4,4 0)", "MULTIPOINT((8 4),(4 0))"),
+    ] {
+        reads::<MultiPoint<Number>>(&rt, alloc, text, want)?;
     }
-    let text = again::<MultiPoint<Number>>(alloc, "MULTIPOINT(8 4,4 0)")?;
-    assert_eq!(rt; text.as_str(), "MULTIPOINT((8 4),(4 0))");
-    let text = again::<MultiLineString<Number>>(alloc, "MULTILINESTRING M((1 2 3),EMPTY)")?;
-    assert_eq!(rt; text.as_str(), "MULTILINESTRING((1 2),EMPTY)");
-    let text = again::<MultiPolygon<Number>>(alloc, "MULTIPOLYGON(((0 0,4 0,2 4)))")?;
-    assert_eq!(rt; text.as_str(), "MULTIPOLYGON(((0 0,4 0,2 4,0 0)))");
-    let want = "GEOMETRYCOLLECTION(POINT(8 4),LINESTRING(4 6,7 10))";
-    let text = again::<GeometryCollection<Number>>(alloc, want)?;
-    assert_eq!(rt; text.as_str(), want);
     Ok(())
+}
+
+#[test]
+fn each_kind_is_read(rt: HostRuntime) -> Result<(), Fail> {
+    let alloc = rt.alloc();
+    let (text, want) = ("LINESTRING Z(1 2 3,4 5 6)", "LINESTRING(1 2,4 5)");
+    reads::<LineString<Number>>(&rt, alloc, text, want)?;
+    let (text, want) = ("POLYGON((0 0,4 0,2 4))", "POLYGON((0 0,4 0,2 4,0 0))");
+    reads::<Polygon<Number>>(&rt, alloc, text, want)?;
+    let text = "MULTILINESTRING M((1 2 3),EMPTY)";
+    reads::<MultiLineString<Number>>(&rt, alloc, text, "MULTILINESTRING((1 2),EMPTY)")?;
+    let text = "MULTIPOLYGON(((0 0,4 0,2 4)))";
+    reads::<MultiPolygon<Number>>(&rt, alloc, text, "MULTIPOLYGON(((0 0,4 0,2 4,0 0)))")?;
+    let text = "GEOMETRYCOLLECTION(POINT(8 4),LINESTRING(4 6,7 10))";
+    reads::<GeometryCollection<Number>>(&rt, alloc, text, text)
 }
 
 /// The text is refused for its kind, with these names.
@@ -235,13 +236,12 @@ fn mismatches<G: TryFromWkt<Number, Error = Error> + Drop>(
 }
 
 #[test]
-fn other_kinds_are_refused(rt: HostRuntime) -> Result<(), Fail> {
+fn single_values_of_other_kinds_are_refused(rt: HostRuntime) {
     let alloc = rt.alloc();
-    let ring = "POLYGON((8 4,8 8,4 8,4 4,8 4))";
     for (text, kind) in [
         ("POINT EMPTY", "MultiPoint"),
         ("LINESTRING(1 2,3 4)", "LineString"),
-        (ring, "Polygon"),
+        ("POLYGON((8 4,8 8,4 8,4 4,8 4))", "Polygon"),
         ("MULTILINESTRING EMPTY", "MultiLineString"),
         ("MULTIPOLYGON EMPTY", "MultiPolygon"),
         ("GEOMETRYCOLLECTION EMPTY", "GeometryCollection"),
@@ -251,18 +251,29 @@ fn other_kinds_are_refused(rt: HostRuntime) -> Result<(), Fail> {
         assert!(rt; mismatches::<Rect<Number>>(alloc, text, "Rect", kind));
         assert!(rt; mismatches::<Triangle<Number>>(alloc, text, "Triangle", kind));
     }
+}
+
+#[test]
+fn lists_of_other_kinds_are_refused(rt: HostRuntime) {
+    let alloc = rt.alloc();
     for (text, kind) in [("POINT (1 2)", "Point"), ("POINT EMPTY", "MultiPoint")] {
         assert!(rt; mismatches::<LineString<Number>>(alloc, text, "LineString", kind));
         assert!(rt; mismatches::<Polygon<Number>>(alloc, text, "Polygon", kind));
         assert!(rt; mismatches::<MultiLineString<Number>>(alloc, text, "MultiLineString", kind));
         assert!(rt; mismatches::<MultiPolygon<Number>>(alloc, text, "MultiPolygon", kind));
     }
+    let ring = "POLYGON((8 4,8 8,4 8,4 4,8 4))";
     assert!(rt; mismatches::<MultiPoint<Number>>(alloc, ring, "MultiPoint", "Polygon"));
+}
+
+#[test]
+fn other_kinds_than_a_collection_are_refused(rt: HostRuntime) {
+    let alloc = rt.alloc();
     // A collection asked of another kind is refused at once, by the kind of the `Wkt`.
     for (text, kind) in [
         ("POINT EMPTY", "Point"),
         ("LINESTRING EMPTY", "LineString"),
-        (ring, "Polygon"),
+        ("POLYGON((8 4,8 8,4 8,4 4,8 4))", "Polygon"),
         ("MULTIPOINT(EMPTY)", "MultiPoint"),
         ("MULTILINESTRING EMPTY", "MultiLineString"),
         ("MULTIPOLYGON EMPTY", "MultiPolygon"),
@@ -271,10 +282,8 @@ fn other_kinds_are_refused(rt: HostRuntime) -> Result<(), Fail> {
         assert!(rt; mismatches::<GeometryCollection<Number>>(alloc, text, want, kind));
     }
     // Every other kind is asked of the geometry, whose refusal comes first.
-    match Rect::<Number>::try_from_wkt_str(alloc, "MULTIPOINT(EMPTY)") {
-        Err(Error::PointConversionError) => Ok(()),
-        _ => panic!(rt; "a multipoint with an empty member was converted"),
-    }
+    let rect = Rect::<Number>::try_from_wkt_str(alloc, "MULTIPOINT(EMPTY)");
+    assert!(rt; matches!(rect, Err(Error::PointConversionError)));
 }
 
 #[test]

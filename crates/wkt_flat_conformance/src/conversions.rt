@@ -18,42 +18,57 @@ fn wkt(alloc: Global, text: &str) -> Result<Wkt<Number>, Fail> {
     Ok(Wkt::from_str(alloc, text)?)
 }
 
-/// The text of the flat value of a value of that type, by value and by reference.
-fn both_ways(alloc: Global, text: &str) -> Result<String, Fail> {
-    let (by_reference, by_value) = match wkt(alloc, text)? {
-        Wkt::LineString(x) => (
-            Geometry::convert_from(alloc, &x)?,
-            Geometry::from(LineString::convert_from(alloc, x)?),
-        ),
-        Wkt::Polygon(x) => (
-            Geometry::convert_from(alloc, &x)?,
-            Geometry::from(Polygon::convert_from(alloc, x)?),
-        ),
-        Wkt::MultiPoint(x) => (
-            Geometry::convert_from(alloc, &x)?,
-            Geometry::from(MultiPoint::convert_from(alloc, x)?),
-        ),
-        Wkt::MultiLineString(x) => (
-            Geometry::convert_from(alloc, &x)?,
-            Geometry::from(MultiLineString::convert_from(alloc, x)?),
-        ),
-        Wkt::MultiPolygon(x) => (
-            Geometry::convert_from(alloc, &x)?,
-            Geometry::from(MultiPolygon::convert_from(alloc, x)?),
-        ),
-        Wkt::GeometryCollection(x) => (
-            try_into_geometry_collection(alloc, &x)?,
-            Geometry::from(GeometryCollection::convert_from(alloc, x)?),
-        ),
-        Wkt::Point(x) => (
-            try_into_geometry(alloc, &Wkt::Point(x))?,
-            Geometry::convert_from(alloc, Wkt::Point(x))?,
-        ),
-    };
-    if by_reference == by_value {
-        Ok(by_value.wkt_string(alloc)?)
+/// The text of a flat value that two calls gave.
+fn text_of_both(
+    alloc: Global,
+    one: Result<Geometry<Number>, Error>,
+    other: Result<Geometry<Number>, Error>,
+) -> Result<String, Fail> {
+    let one = one?;
+    if one == other? {
+        Ok(one.wkt_string(alloc)?)
     } else {
-        Ok(format!(in alloc; "two answers")?)
+        Ok(String::from_str(alloc, "two answers")?)
+    }
+}
+
+/// The text of the flat value of a value of that type, by reference and by value.
+fn both_ways(alloc: Global, text: &str) -> Result<String, Fail> {
+    match wkt(alloc, text)? {
+        Wkt::LineString(x) => {
+            let by_reference = Geometry::convert_from(alloc, &x);
+            let by_value = LineString::convert_from(alloc, x).map(Geometry::LineString);
+            text_of_both(alloc, by_reference, by_value)
+        }
+        Wkt::Polygon(x) => {
+            let by_reference = Geometry::convert_from(alloc, &x);
+            let by_value = Polygon::convert_from(alloc, x).map(Geometry::Polygon);
+            text_of_both(alloc, by_reference, by_value)
+        }
+        Wkt::MultiPoint(x) => {
+            let by_reference = Geometry::convert_from(alloc, &x);
+            let by_value = MultiPoint::convert_from(alloc, x).map(Geometry::MultiPoint);
+            text_of_both(alloc, by_reference, by_value)
+        }
+        Wkt::MultiLineString(x) => {
+            let by_reference = Geometry::convert_from(alloc, &x);
+            let by_value = MultiLineString::convert_from(alloc, x).map(Geometry::MultiLineString);
+            text_of_both(alloc, by_reference, by_value)
+        }
+        Wkt::MultiPolygon(x) => {
+            let by_reference = Geometry::convert_from(alloc, &x);
+            let by_value = MultiPolygon::convert_from(alloc, x).map(Geometry::MultiPolygon);
+            text_of_both(alloc, by_reference, by_value)
+        }
+        Wkt::GeometryCollection(x) => {
+            let by_reference = try_into_geometry_collection(alloc, &x);
+            let all = GeometryCollection::convert_from(alloc, x);
+            text_of_both(alloc, by_reference, all.map(Geometry::GeometryCollection))
+        }
+        point => {
+            let by_reference = try_into_geometry(alloc, &point);
+            text_of_both(alloc, by_reference, Geometry::convert_from(alloc, point))
+        }
     }
 }
 

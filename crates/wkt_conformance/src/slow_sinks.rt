@@ -44,9 +44,9 @@ impl Slow {
 
 impl ByteSink for Slow {
     ghost use Rattle.std.specs.Prelude.{Some, take};
-    ghost use Rattle.wkt_bytes.specs.Device.{owned};
+    ghost use Rattle.wkt_bytes.specs.Sinks.{owned};
 
-    ghost device = { owned (λ s. Some (take s.len s.held)) (λ s. s.failures) };
+    ghost sink = { owned (λ s. Some (take s.len s.held)) (λ s. s.failures) };
 
     fn put(&mut self, buf: &[u8]) -> io::Result<usize> {
         if self.calls == 0 && !self.full {

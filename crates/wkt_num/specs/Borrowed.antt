@@ -55,8 +55,8 @@ module _ {M : Type 0} {took : M → List ℕ → M → Type 0} where
     }
 
 -- A sink of what a loan takes.
-abbrev pub lent : {S M : Type 0} → (S → MutBor M) → (S → ℕ) → (took : M → List ℕ → M → Type 0) → ((m : M) → took m [] m) → ((m n o : M) (bs cs : List ℕ) → took m bs n → took n cs o → took m (bs ++ cs) o) → Sink S
-lent loan failures took none more = record {
+abbrev pub borrowed : {S M : Type 0} → (S → MutBor M) → (S → ℕ) → (took : M → List ℕ → M → Type 0) → ((m : M) → took m [] m) → ((m n o : M) (bs cs : List ℕ) → took m bs n → took n cs o → took m (bs ++ cs) o) → Sink S
+borrowed loan failures took none more = record {
   gives = λ s bs t. Took took (loan s) bs (loan t);
   leaves = λ s bs t. BrokeOff took (loan s) bs (loan t);
   failures = failures;

@@ -1,5 +1,5 @@
 //! What the program does over sinks and sources that are slow or fail.
-use crate::slow_devices::{Slow, source};
+use crate::slow_sinks::{Slow, source};
 use std::io::ErrorKind;
 use std::test::Fail;
 use wkt_lines::{RunError, run};

@@ -6,7 +6,7 @@ use Rattle.std.specs.Io.KnownBytes.{Appends}
 use Rattle.wkt_num.specs.Sink.{next_count}
 
 -- What is known of a sink of bytes.
-pub record Device (D : Type 0) : Type 1 where
+pub record SinkOfBytes (D : Type 0) : Type 1 where
   -- What it was given and holds, where it can tell. A call that fails leaves it as it is.
   pub bytes : D → Option (List ℕ)
   -- How many calls have failed, modulo 2 ^ 64: those that answered a fault, or took nothing of something.
@@ -17,7 +17,7 @@ pub record Device (D : Type 0) : Type 1 where
   pub keeps_more : (d e f : D) → keeps d e → keeps e f → keeps d f
 
 -- A sink that is no reference.
-abbrev pub owned : {D : Type 0} → (D → Option (List ℕ)) → (D → ℕ) → Device D
+abbrev pub owned : {D : Type 0} → (D → Option (List ℕ)) → (D → ℕ) → SinkOfBytes D
 owned bytes failures = record {
   bytes = bytes;
   failures = failures;
@@ -27,10 +27,10 @@ owned bytes failures = record {
 }
 
 -- A sink that is reached by a reference.
-abbrev pub lent_device : {D : Type 0} → Device D → Device (MutBor D)
-lent_device device = record {
-  bytes = λ d. device.bytes d.now;
-  failures = λ d. device.failures d.now;
+abbrev pub borrowed_sink : {D : Type 0} → SinkOfBytes D → SinkOfBytes (MutBor D)
+borrowed_sink sink = record {
+  bytes = λ d. sink.bytes d.now;
+  failures = λ d. sink.failures d.now;
   keeps = λ d e. e.ghost_name ≡ d.ghost_name;
   keeps_none = λ d. refl;
   keeps_more = λ d e f h k. k ∙ h;
@@ -55,11 +55,11 @@ pub record BeginningOut (old new : Option (List ℕ)) (bs : List ℕ) : Type 0 w
   pub went : Appends old new out
   pub whole : bs ≡ out ++ lost
 
-module _ {D : Type 0} (device : Device D) where
+module _ {D : Type 0} (sink : SinkOfBytes D) where
   -- These bytes went out, and nothing else.
   abbrev pub IsOut : D → D → List ℕ → Type 0
-  IsOut old new bs = Appends (device.bytes old) (device.bytes new) bs
+  IsOut old new bs = Appends (sink.bytes old) (sink.bytes new) bs
 
   -- A beginning of these bytes went out, and nothing else.
   abbrev pub IsPartOut : D → D → List ℕ → Type 0
-  IsPartOut old new bs = BeginningOut (device.bytes old) (device.bytes new) bs
+  IsPartOut old new bs = BeginningOut (sink.bytes old) (sink.bytes new) bs

@@ -42,9 +42,9 @@ pub struct Page {
 
 impl ByteSink for Page {
     ghost use Rattle.std.specs.Prelude.{Some};
-    ghost use Rattle.wkt_bytes.specs.Device.{owned};
+    ghost use Rattle.wkt_bytes.specs.Sinks.{owned};
 
-    ghost device = { owned (λ p. Some p.text.items) (λ p. p.failures) };
+    ghost sink = { owned (λ p. Some p.text.items) (λ p. p.failures) };
 
     fn put(&mut self, buf: &[u8]) -> io::Result<usize> {
         let count = buf.len().min(self.room);
