@@ -6,30 +6,30 @@ use Rattle.wkt_access.specs.Shapes.{canon, canons, cut, rings_of}
 use Rattle.wkt_access.specs.Values.{Value, Values}
 use Rattle.wkt_access.specs.declared.dimensions.Dimension.TheVariants.{XY}
 use Rattle.wkt_access.specs.declared.dimensions.Dimensions.TheVariants.{Xy}
-use Rattle.wkt_types.specs.Values.{value_of, values_of, point_numbers, line_numbers, polygon_numbers, HasDim, IsPointIn, IsLineIn, IsPolygonIn, IsUniform, AreUniform, IsWktOf}
+use Rattle.wkt_types.specs.Values.{value_of, values_of, point_numbers, line_string_numbers, polygon_numbers, HasDim, IsPointIn, IsLineStringIn, IsPolygonIn, IsUniform, AreUniform, IsWktOf}
 use Rattle.wkt_flat.specs.Rings.{Rings}
 use Rattle.wkt_flat.specs.Shape as shape
 use Rattle.wkt_flat.specs.Shape.{flat_shape, flat_shapes, path_numbers, rings_shape}
 use Rattle.wkt_flat.specs.Tree.{Flat, Flats}
 use Rattle.wkt_flat.specs.declared.coord.Coord as flat_coord
 use Rattle.wkt_flat.specs.declared.point.Point as flat_point
-use Rattle.wkt_convert.specs.Back.{back, all_back, flat_xy, line_back, rings_back, point_back, polygon_back}
+use Rattle.wkt_convert.specs.Back.{back, all_back, flat_xy, line_string_back, rings_back, point_back, polygon_back}
 
 coords_uniform : {T : Type 0} (cs : List (flat_coord.Coord T)) → AllByRecursion (HasDim XY) (map flat_xy cs)
 coords_uniform [] = tt
 coords_uniform (c ∷ cs) = (refl, coords_uniform cs)
 
-lines_uniform : {T : Type 0} (ls : List (List (flat_coord.Coord T))) → AllByRecursion (IsLineIn XY) (map line_back ls)
-lines_uniform [] = tt
-lines_uniform (l ∷ ls) = ((refl, coords_uniform l), lines_uniform ls)
+line_strings_uniform : {T : Type 0} (ls : List (List (flat_coord.Coord T))) → AllByRecursion (IsLineStringIn XY) (map line_string_back ls)
+line_strings_uniform [] = tt
+line_strings_uniform (l ∷ ls) = ((refl, coords_uniform l), line_strings_uniform ls)
 
 points_uniform : {T : Type 0} (ps : List (flat_point.Point T)) → AllByRecursion (IsPointIn XY) (map point_back ps)
 points_uniform [] = tt
 points_uniform (p ∷ ps) = ((refl, refl), points_uniform ps)
 
-rings_uniform : {T : Type 0} (e : List (flat_coord.Coord T)) (is : List (List (flat_coord.Coord T))) → AllByRecursion (IsLineIn XY) (rings_back e is)
+rings_uniform : {T : Type 0} (e : List (flat_coord.Coord T)) (is : List (List (flat_coord.Coord T))) → AllByRecursion (IsLineStringIn XY) (rings_back e is)
 rings_uniform [] is = tt
-rings_uniform (c ∷ cs) is = lines_uniform ((c ∷ cs) ∷ is)
+rings_uniform (c ∷ cs) is = line_strings_uniform ((c ∷ cs) ∷ is)
 
 polygons_uniform : {T : Type 0} (ys : List (Rings (flat_coord.Coord T))) → AllByRecursion (IsPolygonIn XY) (map polygon_back ys)
 polygons_uniform [] = tt
@@ -42,7 +42,7 @@ mutual
   back_uniform (Flat.line_string cs) = (refl, coords_uniform cs)
   back_uniform (Flat.polygon y) = (refl, rings_uniform y.exterior y.interiors)
   back_uniform (Flat.multi_point ps) = points_uniform ps
-  back_uniform (Flat.multi_line_string ls) = lines_uniform ls
+  back_uniform (Flat.multi_line_string ls) = line_strings_uniform ls
   back_uniform (Flat.multi_polygon ys) = polygons_uniform ys
   back_uniform (Flat.collection ts) = all_back_uniform ts
   back_uniform (Flat.rect r) = (refl, ((refl, (refl, (refl, (refl, (refl, (refl, tt)))))), tt))
@@ -52,22 +52,22 @@ mutual
   all_back_uniform Flats.no_flats = tt
   all_back_uniform (Flats.more_flats t ts) = (back_uniform t, all_back_uniform ts)
 
-line_value : {T : Type 0} (cs : List (flat_coord.Coord T)) → line_numbers (line_back cs) ≡ map (cut Xy) (path_numbers cs)
-line_value [] = refl
-line_value (c ∷ cs) = ap (λ l. (c.x ∷ c.y ∷ []) ∷ l) (line_value cs)
+line_string_value : {T : Type 0} (cs : List (flat_coord.Coord T)) → line_string_numbers (line_string_back cs) ≡ map (cut Xy) (path_numbers cs)
+line_string_value [] = refl
+line_string_value (c ∷ cs) = ap (λ l. (c.x ∷ c.y ∷ []) ∷ l) (line_string_value cs)
 
-lines_value : {T : Type 0} (ls : List (List (flat_coord.Coord T))) → map line_numbers (map line_back ls) ≡ map (map (cut Xy)) (map path_numbers ls)
-lines_value [] = refl
-lines_value (l ∷ ls) = ap₂ (λ x xs. x ∷ xs) (line_value l) (lines_value ls)
+line_strings_value : {T : Type 0} (ls : List (List (flat_coord.Coord T))) → map line_string_numbers (map line_string_back ls) ≡ map (map (cut Xy)) (map path_numbers ls)
+line_strings_value [] = refl
+line_strings_value (l ∷ ls) = ap₂ (λ x xs. x ∷ xs) (line_string_value l) (line_strings_value ls)
 
 points_value : {T : Type 0} (ps : List (flat_point.Point T)) → map point_numbers (map point_back ps) ≡ map (option_map (cut Xy)) (map (λ p. Some (shape.flat_point_numbers p)) ps)
 points_value [] = refl
 points_value (p ∷ ps) = ap (λ xs. Some (p.0.x ∷ p.0.y ∷ []) ∷ xs) (points_value ps)
 
 rings_value : {T : Type 0} (e : List (flat_coord.Coord T)) (is : List (List (flat_coord.Coord T))) →
-    map line_numbers (rings_back e is) ≡ map (map (cut Xy)) (rings_of (rings_shape (record { exterior = e; interiors = is })))
+    map line_string_numbers (rings_back e is) ≡ map (map (cut Xy)) (rings_of (rings_shape (record { exterior = e; interiors = is })))
 rings_value [] is = refl
-rings_value (c ∷ cs) is = lines_value ((c ∷ cs) ∷ is)
+rings_value (c ∷ cs) is = line_strings_value ((c ∷ cs) ∷ is)
 
 polygons_value : {T : Type 0} (ys : List (Rings (flat_coord.Coord T))) →
     map polygon_numbers (map polygon_back ys) ≡ map (λ p. map (map (cut Xy)) (rings_of p)) (map rings_shape ys)
@@ -78,10 +78,10 @@ mutual
   back_value : {T : Type 0} (t : Flat T) → value_of (back t) ≡ canon (flat_shape t)
   back_value (Flat.point p) = refl
   back_value (Flat.line l) = refl
-  back_value (Flat.line_string cs) = ap (λ l. Value.line_string XY l) (line_value cs)
+  back_value (Flat.line_string cs) = ap (λ l. Value.line_string XY l) (line_string_value cs)
   back_value (Flat.polygon y) = ap (λ l. Value.polygon XY l) (rings_value y.exterior y.interiors)
   back_value (Flat.multi_point ps) = ap (λ l. Value.multi_point XY l) (points_value ps)
-  back_value (Flat.multi_line_string ls) = ap (λ l. Value.multi_line_string XY l) (lines_value ls)
+  back_value (Flat.multi_line_string ls) = ap (λ l. Value.multi_line_string XY l) (line_strings_value ls)
   back_value (Flat.multi_polygon ys) = ap (λ l. Value.multi_polygon XY l) (polygons_value ys)
   back_value (Flat.collection ts) = ap (λ vs. Value.collection XY vs) (all_back_value ts)
   back_value (Flat.rect r) = refl

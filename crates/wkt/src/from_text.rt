@@ -44,7 +44,7 @@ pub trait TryFromWkt<T>: Sized {
     ///
     /// # Errors
     /// `InvalidWKT` with the reader's message where the text doesn't begin with a geometry; then the
-    /// refusal of the conversion; `Memory` when out of memory.
+    /// error of the conversion; `Memory` when out of memory.
     fn try_from_wkt_str(alloc: Global, text: &str) -> Result<Self, Self::Error>
         ensures { answers text.now result };
 

@@ -7,7 +7,7 @@ use Rattle.wkt_access.specs.declared.dimensions.Dimensions.TheVariants.{Xy}
 use Rattle.wkt_access.specs.Values.{Value, Values}
 use Rattle.wkt_access.specs.Texts.{text}
 use Rattle.wkt_access.specs.Faults.{fault, faults, first_fault, coordinates_fault, point_fault, polygon_fault}
-use Rattle.wkt_types.specs.Values.{tree_shape, values_of, point_numbers, line_numbers, polygon_numbers}
+use Rattle.wkt_types.specs.Values.{tree_shape, values_of, point_numbers, line_string_numbers, polygon_numbers}
 use Rattle.wkt_flat.specs.Shape as shape
 use Rattle.wkt_flat.specs.Shape.{flat_shape, flat_shapes, path_numbers, rings_shape}
 use Rattle.wkt_flat.specs.Rings.{Rings}
@@ -15,25 +15,25 @@ use Rattle.wkt_flat.specs.Tree.{Flat, Flats}
 use Rattle.wkt_flat.proofs.Writable.{writable}
 use Rattle.wkt_flat.specs.declared.coord.Coord as flat_coord
 use Rattle.wkt_flat.specs.declared.point.Point as flat_point
-use Rattle.wkt_convert.specs.Back.{back, all_back, line_back, rings_back, point_back, polygon_back}
+use Rattle.wkt_convert.specs.Back.{back, all_back, line_string_back, rings_back, point_back, polygon_back}
 use Rattle.wkt_convert.specs.Laws.{FlatAndBack}
 
-lines : {T : Type 0} (cs : List (flat_coord.Coord T)) → path_numbers cs ≡ line_numbers (line_back cs)
+lines : {T : Type 0} (cs : List (flat_coord.Coord T)) → path_numbers cs ≡ line_string_numbers (line_string_back cs)
 lines [] = refl
 lines (c ∷ cs) = ap (λ l. (c.x ∷ c.y ∷ []) ∷ l) (lines cs)
 
-all_lines : {T : Type 0} (ls : List (List (flat_coord.Coord T))) → map path_numbers ls ≡ map line_numbers (map line_back ls)
-all_lines [] = refl
-all_lines (l ∷ ls) = ap₂ (λ x xs. x ∷ xs) (lines l) (all_lines ls)
+all_line_strings : {T : Type 0} (ls : List (List (flat_coord.Coord T))) → map path_numbers ls ≡ map line_string_numbers (map line_string_back ls)
+all_line_strings [] = refl
+all_line_strings (l ∷ ls) = ap₂ (λ x xs. x ∷ xs) (lines l) (all_line_strings ls)
 
 points : {T : Type 0} (ps : List (flat_point.Point T)) → map (λ p. Some (shape.flat_point_numbers p)) ps ≡ map point_numbers (map point_back ps)
 points [] = refl
 points (p ∷ ps) = ap (λ xs. Some (p.0.x ∷ p.0.y ∷ []) ∷ xs) (points ps)
 
 rings : {T : Type 0} (e : List (flat_coord.Coord T)) (is : List (List (flat_coord.Coord T))) →
-    rings_of (rings_shape (record { exterior = e; interiors = is })) ≡ rings_of (polygon_of (map line_numbers (rings_back e is)))
+    rings_of (rings_shape (record { exterior = e; interiors = is })) ≡ rings_of (polygon_of (map line_string_numbers (rings_back e is)))
 rings [] is = refl
-rings (c ∷ cs) is = ap₂ (λ l ls. ((c.x ∷ c.y ∷ []) ∷ l) ∷ ls) (lines cs) (all_lines is)
+rings (c ∷ cs) is = ap₂ (λ l ls. ((c.x ∷ c.y ∷ []) ∷ l) ∷ ls) (lines cs) (all_line_strings is)
 
 polygons : {T : Type 0} (ys : List (Rings (flat_coord.Coord T))) →
     map (λ p. map (map (cut Xy)) (rings_of p)) (map rings_shape ys) ≡ map (λ p. map (map (cut Xy)) (rings_of p)) (map polygon_of (map polygon_numbers (map polygon_back ys)))
@@ -47,7 +47,7 @@ mutual
   same (Flat.line_string cs) = ap (λ l. Value.line_string XY (map (cut Xy) l)) (lines cs)
   same (Flat.polygon y) = ap (λ l. Value.polygon XY (map (map (cut Xy)) l)) (rings y.exterior y.interiors)
   same (Flat.multi_point ps) = ap (λ l. canon (Shape.multi_point Xy l)) (points ps)
-  same (Flat.multi_line_string ls) = ap (λ l. Value.multi_line_string XY (map (map (cut Xy)) l)) (all_lines ls)
+  same (Flat.multi_line_string ls) = ap (λ l. Value.multi_line_string XY (map (map (cut Xy)) l)) (all_line_strings ls)
   same (Flat.multi_polygon ys) = ap (λ l. Value.multi_polygon XY l) (polygons ys)
   same (Flat.collection ts) = ap (λ vs. Value.collection XY vs) (all_same ts)
   same (Flat.rect r) = refl
@@ -71,7 +71,7 @@ mutual
   clear (Flat.line_string cs) = ap (coordinates_fault 2) (sym (lines cs)) ∙ writable (Flat.line_string cs)
   clear (Flat.polygon y) = polygon_clear y
   clear (Flat.multi_point ps) = ap (first_fault (point_fault 2)) (sym (points ps)) ∙ writable (Flat.multi_point ps)
-  clear (Flat.multi_line_string ls) = ap (first_fault (coordinates_fault 2)) (sym (all_lines ls)) ∙ writable (Flat.multi_line_string ls)
+  clear (Flat.multi_line_string ls) = ap (first_fault (coordinates_fault 2)) (sym (all_line_strings ls)) ∙ writable (Flat.multi_line_string ls)
   clear (Flat.multi_polygon ys) = polygons_clear ys
   clear (Flat.collection ts) = all_clear ts
   clear (Flat.rect r) = refl

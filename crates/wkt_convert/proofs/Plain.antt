@@ -9,17 +9,17 @@ use Rattle.wkt_flat.specs.Rings.{Rings, IsClosed, AreClosed, close, last_from}
 use Rattle.wkt_flat.specs.Tree.{Flat, Flats}
 use Rattle.wkt_flat.specs.declared.coord.Coord as flat_coord
 use Rattle.wkt_flat.specs.declared.point.Point as flat_point
-use Rattle.wkt_convert.specs.Back.{back, all_back, flat_xy, line_back, point_back, rings_back, polygon_back}
+use Rattle.wkt_convert.specs.Back.{back, all_back, flat_xy, line_string_back, point_back, rings_back, polygon_back}
 use Rattle.wkt_convert.specs.Flatten.{path, rings, points, flat, flat_all}
 use Rattle.wkt_types.specs.Outcome.{value}
 use Rattle.wkt_convert.specs.Outcomes.{outcome_map, outcome_both}
 use Rattle.wkt_convert.specs.Laws.{IsPlain, ArePlain, IsPlainPolygon}
 
-path_again : {T : Type 0} (cs : List (flat_coord.Coord T)) → path (line_back cs) ≡ cs
+path_again : {T : Type 0} (cs : List (flat_coord.Coord T)) → path (line_string_back cs) ≡ cs
 path_again [] = refl
 path_again (c ∷ cs) = ap (λ l. c ∷ l) (path_again cs)
 
-paths_again : {T : Type 0} (ls : List (List (flat_coord.Coord T))) → map path (map line_back ls) ≡ ls
+paths_again : {T : Type 0} (ls : List (List (flat_coord.Coord T))) → map path (map line_string_back ls) ≡ ls
 paths_again [] = refl
 paths_again (l ∷ ls) = ap₂ (λ x xs. x ∷ xs) (path_again l) (paths_again ls)
 

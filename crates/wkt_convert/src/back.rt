@@ -6,7 +6,7 @@ ghost use Rattle.wkt_types.specs.Tree as trees;
 ghost use Rattle.wkt_flat.specs.Tree.{Flat, flat_tree, flat_members};
 ghost use Rattle.wkt_flat.specs.Rings.{one_ring, corner_ring, triangle_ring};
 ghost use Rattle.wkt_convert.specs.Adds.{AddsTree, AddsTrees};
-ghost use Rattle.wkt_convert.specs.Back.{flat_xy, point_back, line_back, polygon_back, back, all_back};
+ghost use Rattle.wkt_convert.specs.Back.{flat_xy, point_back, line_string_back, polygon_back, back, all_back};
 
 use std::alloc::{AllocError, Global};
 use wkt_flat as flat;
@@ -41,7 +41,7 @@ pub(crate) fn line<T: Copy + Drop>(
     alloc: Global,
     cs: &[flat::Coord<T>],
 ) -> Result<LineString<T>, AllocError>
-    ensures { IfOk result (λ r. r ≡ line_back cs.now) }
+    ensures { IfOk result (λ r. r ≡ line_string_back cs.now) }
 {
     let mut all = Vec::with_capacity(alloc, cs.len())?;
     for c in cs {
@@ -55,7 +55,7 @@ pub(crate) fn two<T: Copy + Drop>(
     alloc: Global,
     l: &flat::Line<T>,
 ) -> Result<LineString<T>, AllocError>
-    ensures { IfOk result (λ r. r ≡ line_back (l.now.start ∷ l.now.end ∷ [])) }
+    ensures { IfOk result (λ r. r ≡ line_string_back (l.now.start ∷ l.now.end ∷ [])) }
 {
     let mut all = Vec::with_capacity(alloc, 2)?;
     all.push(coord(l.start))?;
@@ -64,12 +64,12 @@ pub(crate) fn two<T: Copy + Drop>(
 }
 
 /// A line of each path.
-pub(crate) fn push_lines<T: Copy + Drop>(
+pub(crate) fn push_line_strings<T: Copy + Drop>(
     alloc: Global,
     ls: &[flat::LineString<T>],
     mut all: Vec<LineString<T>>,
 ) -> Result<Vec<LineString<T>>, AllocError>
-    ensures { IfOk result (λ r. r.items ≡ all.items ++ map line_back ls.now) }
+    ensures { IfOk result (λ r. r.items ≡ all.items ++ map line_string_back ls.now) }
 {
     for l in ls {
         all.push(line(alloc, l.0.as_slice())?)?;
@@ -90,7 +90,7 @@ pub(crate) fn polygon<T: Copy + Drop>(
     }
     let mut all = Vec::new(alloc);
     all.push(line(alloc, exterior)?)?;
-    Ok(Polygon::new(push_lines(alloc, y.interiors(), all)?, Dimension::XY))
+    Ok(Polygon::new(push_line_strings(alloc, y.interiors(), all)?, Dimension::XY))
 }
 
 /// A point of each point.
@@ -128,7 +128,7 @@ fn multi_line_string<T: Copy + Drop>(
 ) -> Result<Wkt<T>, AllocError>
     ensures { IfOk result (λ w. trees.tree w ≡ back (Flat.multi_line_string ls.now)) }
 {
-    let lines = push_lines(alloc, ls, Vec::new(alloc))?;
+    let lines = push_line_strings(alloc, ls, Vec::new(alloc))?;
     Ok(Wkt::MultiLineString(MultiLineString::new(lines, Dimension::XY)))
 }
 

@@ -9,7 +9,9 @@ ghost use Rattle.wkt_flat.specs.Tree.{Flat, flat_tree, flat_trees};
 ghost use Rattle.wkt_convert.specs.Back.{back, wkt_text};
 ghost use Rattle.wkt_convert.specs.Sent.{IsMemory, IsRefusal, IfIo, IfShape};
 
-use crate::back::{geometries, geometry, line, point, points, polygon, polygons, push_lines, two};
+use crate::back::{
+    geometries, geometry, line, point, points, polygon, polygons, push_line_strings, two,
+};
 use crate::flat_text::{flat_send, flat_string};
 use crate::send::ToWktError;
 use crate::to_text::ToWkt;
@@ -218,7 +220,7 @@ impl<T: WktNum> ToWkt<T> for flat::MultiLineString<T> {
     ghost held = { λ x. back (Flat.multi_line_string x) };
 
     fn to_wkt(&self, alloc: Global) -> Result<Wkt<T>, AllocError> {
-        let all = push_lines(alloc, self.0.as_slice(), Vec::new(alloc))?;
+        let all = push_line_strings(alloc, self.0.as_slice(), Vec::new(alloc))?;
         Ok(Wkt::MultiLineString(MultiLineString::new(all, Dimension::XY)))
     }
 

@@ -15,7 +15,7 @@ use wkt_flat::Geometry;
 use wkt_num::WktNum;
 use wkt_types::{ConvertError, Wkt};
 
-/// The refusal of a geometry that isn't of the kind asked for.
+/// The error of a geometry that isn't of the kind asked for.
 ///
 /// # Errors
 /// `MismatchedGeometry` always: `expected` as given, and the name of the type that was found.

@@ -118,7 +118,7 @@ fn collections_are_written(rt: HostRuntime) -> Result<(), Fail> {
     gives(&rt, alloc, Geometry::from(rect_and_line(alloc)?), want)
 }
 
-/// What a text is read as, and the text of it again; or the refusal.
+/// What a text is read as, and the text of it again; or the text of the error.
 fn again<G: TryFromWkt<Number, Error = Error> + ToWkt<Number> + Drop>(
     alloc: Global,
     text: &str,
@@ -281,7 +281,7 @@ fn other_kinds_than_a_collection_are_refused(rt: HostRuntime) {
         let want = "GeometryCollection";
         assert!(rt; mismatches::<GeometryCollection<Number>>(alloc, text, want, kind));
     }
-    // Every other kind is asked of the geometry, whose refusal comes first.
+    // Every other kind is asked of the geometry, whose error comes first.
     let rect = Rect::<Number>::try_from_wkt_str(alloc, "MULTIPOINT(EMPTY)");
     assert!(rt; matches!(rect, Err(Error::PointConversionError)));
 }

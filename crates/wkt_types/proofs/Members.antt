@@ -4,7 +4,7 @@ use Rattle.std.proofs.lemmas.List.{length-map}
 use Rattle.wkt_access.specs.Shapes.{polygon_of}
 use Rattle.wkt_types.specs.Held.{Held}
 use Rattle.wkt_types.specs.declared.coord.Coord.{Coord}
-use Rattle.wkt_types.specs.Values.{line_numbers, polygon_numbers}
+use Rattle.wkt_types.specs.Values.{line_string_numbers, polygon_numbers}
 
 pub get_map : {X Y : Type 0} (f : X → Y) (xs : List X) (i : ℕ) (x : X) → slice_get xs i ≡ Some x → slice_get (map f xs) i ≡ Some (f x)
 get_map f [] i x h = cc
@@ -16,11 +16,11 @@ got [] i x h e = absurd (omega arith)
 got (y ∷ ys) zero x h e = ap (λ z. Some z) (sym e)
 got (y ∷ ys) (suc i) x h e = got ys i x (omega arith) e
 
-interior_at : {T : Type 0} (rs : List (Held (Coord T))) (i : ℕ) (r : Held (Coord T)) → i < length (polygon_of (map line_numbers rs)).interiors → r ≡ get_or rs (suc i) r → slice_get (polygon_of (map line_numbers rs)).interiors i ≡ Some (line_numbers r)
+interior_at : {T : Type 0} (rs : List (Held (Coord T))) (i : ℕ) (r : Held (Coord T)) → i < length (polygon_of (map line_string_numbers rs)).interiors → r ≡ get_or rs (suc i) r → slice_get (polygon_of (map line_string_numbers rs)).interiors i ≡ Some (line_string_numbers r)
 interior_at [] i r h e = absurd (omega arith)
-interior_at (x ∷ rs) i r h e = let n = length-map rs line_numbers in get_map line_numbers rs i r (got rs i r (omega (arith, n)) e)
+interior_at (x ∷ rs) i r h e = let n = length-map rs line_string_numbers in get_map line_string_numbers rs i r (got rs i r (omega (arith, n)) e)
 
-pub interior_is : {T : Type 0} (rs : List (Held (Coord T))) (i : ℕ) (r : Held (Coord T)) → i < length (polygon_of (map line_numbers rs)).interiors → r ≡ get_or rs (i + 1) r → slice_get (polygon_of (map line_numbers rs)).interiors i ≡ Some (line_numbers r)
+pub interior_is : {T : Type 0} (rs : List (Held (Coord T))) (i : ℕ) (r : Held (Coord T)) → i < length (polygon_of (map line_string_numbers rs)).interiors → r ≡ get_or rs (i + 1) r → slice_get (polygon_of (map line_string_numbers rs)).interiors i ≡ Some (line_string_numbers r)
 interior_is rs i r h e = interior_at rs i r h (rw add-one at e)
 
 pub polygon_is : {T : Type 0} (ys : List (Held (Held (Coord T)))) (i : ℕ) (y : Held (Held (Coord T))) → i < length (map polygon_of (map polygon_numbers ys)) → y ≡ get_or ys i y → slice_get (map polygon_of (map polygon_numbers ys)) i ≡ Some (polygon_of (polygon_numbers y))

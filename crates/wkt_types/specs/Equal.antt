@@ -29,17 +29,17 @@ wkt_coord_exact {T} {E} e = record {
 abbrev pub wkt_point_eq : {T : Type 0} → (T → T → Bool) → HeldPoint (Coord T) → HeldPoint (Coord T) → Bool
 wkt_point_eq E = held_point_eq (wkt_coord_eq E)
 
-abbrev pub wkt_line_eq : {T : Type 0} → (T → T → Bool) → Held (Coord T) → Held (Coord T) → Bool
-wkt_line_eq E = held_eq (wkt_coord_eq E)
+abbrev pub wkt_line_string_eq : {T : Type 0} → (T → T → Bool) → Held (Coord T) → Held (Coord T) → Bool
+wkt_line_string_eq E = held_eq (wkt_coord_eq E)
 
 abbrev pub polygon_eq : {T : Type 0} → (T → T → Bool) → Held (Held (Coord T)) → Held (Held (Coord T)) → Bool
-polygon_eq E = held_eq (wkt_line_eq E)
+polygon_eq E = held_eq (wkt_line_string_eq E)
 
 pub wkt_point_exact : {T : Type 0} {E : T → T → Bool} → IsExact E → IsExact (wkt_point_eq E)
 wkt_point_exact e = held_point_exact (wkt_coord_exact e)
 
-pub wkt_line_exact : {T : Type 0} {E : T → T → Bool} → IsExact E → IsExact (wkt_line_eq E)
-wkt_line_exact e = held_exact (wkt_coord_exact e)
+pub wkt_line_string_exact : {T : Type 0} {E : T → T → Bool} → IsExact E → IsExact (wkt_line_string_eq E)
+wkt_line_string_exact e = held_exact (wkt_coord_exact e)
 
 pub polygon_exact : {T : Type 0} {E : T → T → Bool} → IsExact E → IsExact (polygon_eq E)
-polygon_exact e = held_exact (wkt_line_exact e)
+polygon_exact e = held_exact (wkt_line_string_exact e)

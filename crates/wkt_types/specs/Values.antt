@@ -13,20 +13,20 @@ use Rattle.wkt_types.specs.declared.coord.Coord.{Coord}
 abbrev pub point_numbers : {T : Type 0} → HeldPoint (Coord T) → Option (List T)
 point_numbers p = option_map numbers_of p.coord
 
-abbrev pub line_numbers : {T : Type 0} → Held (Coord T) → List (List T)
-line_numbers l = map numbers_of l.parts
+abbrev pub line_string_numbers : {T : Type 0} → Held (Coord T) → List (List T)
+line_string_numbers l = map numbers_of l.parts
 
 abbrev pub polygon_numbers : {T : Type 0} → Held (Held (Coord T)) → List (List (List T))
-polygon_numbers y = map line_numbers y.parts
+polygon_numbers y = map line_string_numbers y.parts
 
 -- The value of a tree: its kind, its header's dimension and its numbers.
 abbrev mutual
   pub value_of : {T : Type 0} → Tree T → Value T
   value_of (point p) = Value.point p.dim (point_numbers p)
-  value_of (line_string l) = Value.line_string l.dim (line_numbers l)
+  value_of (line_string l) = Value.line_string l.dim (line_string_numbers l)
   value_of (polygon y) = Value.polygon y.dim (polygon_numbers y)
   value_of (multi_point m) = Value.multi_point m.dim (map point_numbers m.parts)
-  value_of (multi_line_string m) = Value.multi_line_string m.dim (map line_numbers m.parts)
+  value_of (multi_line_string m) = Value.multi_line_string m.dim (map line_string_numbers m.parts)
   value_of (multi_polygon m) = Value.multi_polygon m.dim (map polygon_numbers m.parts)
   value_of (collection ts d) = Value.collection d (values_of ts)
 
@@ -51,20 +51,20 @@ HasDimIfAny d (Some c) = HasDim d c
 abbrev pub IsPointIn : {T : Type 0} → Dimension → HeldPoint (Coord T) → Type 0
 IsPointIn d p = (p.dim ≡ d) × HasDimIfAny d p.coord
 
-abbrev pub IsLineIn : {T : Type 0} → Dimension → Held (Coord T) → Type 0
-IsLineIn d l = (l.dim ≡ d) × AllByRecursion (HasDim d) l.parts
+abbrev pub IsLineStringIn : {T : Type 0} → Dimension → Held (Coord T) → Type 0
+IsLineStringIn d l = (l.dim ≡ d) × AllByRecursion (HasDim d) l.parts
 
 abbrev pub IsPolygonIn : {T : Type 0} → Dimension → Held (Held (Coord T)) → Type 0
-IsPolygonIn d y = (y.dim ≡ d) × AllByRecursion (IsLineIn d) y.parts
+IsPolygonIn d y = (y.dim ≡ d) × AllByRecursion (IsLineStringIn d) y.parts
 
 -- All parts carry the header's dimension, but the members of a collection each its own.
 abbrev mutual
   pub IsUniform : {T : Type 0} → Tree T → Type 0
   IsUniform (point p) = IsPointIn p.dim p
-  IsUniform (line_string l) = IsLineIn l.dim l
+  IsUniform (line_string l) = IsLineStringIn l.dim l
   IsUniform (polygon y) = IsPolygonIn y.dim y
   IsUniform (multi_point m) = AllByRecursion (IsPointIn m.dim) m.parts
-  IsUniform (multi_line_string m) = AllByRecursion (IsLineIn m.dim) m.parts
+  IsUniform (multi_line_string m) = AllByRecursion (IsLineStringIn m.dim) m.parts
   IsUniform (multi_polygon m) = AllByRecursion (IsPolygonIn m.dim) m.parts
   IsUniform (collection ts d) = AreUniform ts
 

@@ -2,7 +2,7 @@
 ghost use Rattle.std.specs.Prelude.{◌≡◌, map, option_map};
 ghost use Rattle.wkt_access.specs.Shapes.{header_of, polygon_of};
 ghost use Rattle.wkt_types.specs.Coords.{numbers_of};
-ghost use Rattle.wkt_types.specs.Values.{point_numbers, line_numbers, polygon_numbers};
+ghost use Rattle.wkt_types.specs.Values.{point_numbers, line_string_numbers, polygon_numbers};
 
 use crate::coord::Coord;
 use crate::linestring::LineString;
@@ -76,7 +76,7 @@ impl<T: WktNum> LineStringTrait for LineString<T> {
 
     ghost dimension = { λ l. header_of l.dim };
 
-    ghost coordinates = { line_numbers };
+    ghost coordinates = { line_string_numbers };
 
     fn dim(&self) -> Dimensions {
         Dimensions::from(self.dimension())
@@ -149,7 +149,7 @@ impl<T: WktNum> MultiLineStringTrait for MultiLineString<T> {
 
     ghost dimension = { λ m. header_of m.dim };
 
-    ghost line_strings = { λ m. map line_numbers m.parts };
+    ghost line_strings = { λ m. map line_string_numbers m.parts };
 
     fn dim(&self) -> Dimensions {
         Dimensions::from(self.dimension())

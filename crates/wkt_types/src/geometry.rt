@@ -147,7 +147,7 @@ fn push_point<T: Copy + Drop>(part: &Point<T>, copies: &mut Vec<Wkt<T>>) -> Resu
 }
 
 #[inline(never)]
-fn push_line<T: Copy + Drop>(
+fn push_line_string<T: Copy + Drop>(
     part: &LineString<T>,
     alloc: Global,
     copies: &mut Vec<Wkt<T>>,
@@ -183,7 +183,7 @@ fn push_points<T: Copy + Drop>(
 }
 
 #[inline(never)]
-fn push_lines<T: Copy + Drop>(
+fn push_line_strings<T: Copy + Drop>(
     part: &MultiLineString<T>,
     alloc: Global,
     copies: &mut Vec<Wkt<T>>,
@@ -236,10 +236,10 @@ fn push_copy<T: Copy + Drop>(
 {
     match w {
         Wkt::Point(p) => push_point(p, copies),
-        Wkt::LineString(l) => push_line(l, alloc, copies),
+        Wkt::LineString(l) => push_line_string(l, alloc, copies),
         Wkt::Polygon(y) => push_polygon(y, alloc, copies),
         Wkt::MultiPoint(m) => push_points(m, alloc, copies),
-        Wkt::MultiLineString(m) => push_lines(m, alloc, copies),
+        Wkt::MultiLineString(m) => push_line_strings(m, alloc, copies),
         Wkt::MultiPolygon(m) => push_polygons(m, alloc, copies),
         Wkt::GeometryCollection(c) => {
             let mut geometries = Vec::with_capacity(alloc, c.geometries.len())?;

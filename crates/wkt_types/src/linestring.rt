@@ -1,4 +1,4 @@
-//! Lines.
+//! Line strings.
 ghost use Rattle.std.specs.Prelude.{◌≡◌, [], IsTrue, ◌↔◌, IfOk, Some};
 ghost use Rattle.std.specs.Iterator.{IsFinite};
 ghost use Rattle.std.specs.Iterator.Runs.{WholeRun};
@@ -11,7 +11,7 @@ use std::marker::Model;
 use wkt_access::Dimension;
 use wkt_num::WktNum;
 
-/// A line: coordinates in order, and the dimension of the header.
+/// A line string: coordinates in order, and the dimension of the header.
 #[derive(Debug, Drop)]
 pub struct LineString<T> {
     coords: Vec<Coord<T>>,
@@ -31,7 +31,7 @@ impl<T> LineString<T> {
     ghost use Rattle.wkt_types.specs.Coords.{coord_dim};
     ghost use Rattle.wkt_types.specs.Held.{IsMadeOf};
 
-    /// A line of those coordinates. Their dimensions aren't compared with the line's.
+    /// A line string of those coordinates. Their dimensions aren't compared with its own.
     pub fn new(coords: Vec<Coord<T>>, dim: Dimension) -> Self
         ensures coords { result.parts ≡ coords.items }
         ensures dim { result.dim ≡ dim }
@@ -39,7 +39,7 @@ impl<T> LineString<T> {
         LineString { coords, dim }
     }
 
-    /// A line without coordinates. It takes no memory.
+    /// A line string without coordinates. It takes no memory.
     pub fn empty(alloc: Global, dim: Dimension) -> Self
         ensures coords { result.parts ≡ [] }
         ensures dim { result.dim ≡ dim }
@@ -50,8 +50,8 @@ impl<T> LineString<T> {
         }
     }
 
-    /// The line of all coordinates that the iterator gives, with the first one's dimension: None
-    /// where it gives none.
+    /// The line string of all coordinates that the iterator gives, with the first one's dimension:
+    /// None where it gives none.
     ///
     /// # Errors
     /// Out of memory.
@@ -100,7 +100,7 @@ impl<T> LineString<T> {
 }
 
 impl<T: Copy + Drop> LineString<T> {
-    /// An equal line.
+    /// An equal line string.
     ///
     /// # Errors
     /// Out of memory.

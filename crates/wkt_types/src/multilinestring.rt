@@ -1,4 +1,4 @@
-//! Multilines.
+//! Multi line strings.
 ghost use Rattle.std.specs.Prelude.{◌≡◌, [], IsTrue, ◌↔◌, IfOk, Some};
 ghost use Rattle.std.specs.Iterator.{IsFinite};
 ghost use Rattle.std.specs.Iterator.Runs.{WholeRun};
@@ -11,7 +11,7 @@ use std::marker::Model;
 use wkt_access::Dimension;
 use wkt_num::WktNum;
 
-/// A multiline: lines in order, and the dimension of the header.
+/// A multi line string: line strings in order, and the dimension of the header.
 #[derive(Debug, Drop)]
 pub struct MultiLineString<T> {
     line_strings: Vec<LineString<T>>,
@@ -30,7 +30,7 @@ impl<T> Model for MultiLineString<T> {
 impl<T> MultiLineString<T> {
     ghost use Rattle.wkt_types.specs.Held.{IsMadeOf};
 
-    /// A multiline of those lines. Their dimensions aren't compared with its own.
+    /// A multi line string of those line strings. Their dimensions aren't compared with its own.
     pub fn new(line_strings: Vec<LineString<T>>, dim: Dimension) -> Self
         ensures line_strings { result.parts ≡ line_strings.items }
         ensures dim { result.dim ≡ dim }
@@ -38,7 +38,7 @@ impl<T> MultiLineString<T> {
         MultiLineString { line_strings, dim }
     }
 
-    /// A multiline without lines. It takes no memory.
+    /// A multi line string without line strings. It takes no memory.
     pub fn empty(alloc: Global, dim: Dimension) -> Self
         ensures line_strings { result.parts ≡ [] }
         ensures dim { result.dim ≡ dim }
@@ -49,8 +49,8 @@ impl<T> MultiLineString<T> {
         }
     }
 
-    /// The multiline of all lines that the iterator gives, with the first one's dimension: None
-    /// where it gives none.
+    /// The multi line string of all line strings that the iterator gives, with the first one's
+    /// dimension: None where it gives none.
     ///
     /// # Errors
     /// Out of memory.
@@ -81,14 +81,14 @@ impl<T> MultiLineString<T> {
         self.dim
     }
 
-    /// The lines in order.
+    /// The line strings in order.
     pub fn line_strings(&self) -> &[LineString<T>]
         ensures { result.now ≡ self.now.parts }
     {
         self.line_strings.as_slice()
     }
 
-    /// The lines and the dimension.
+    /// The line strings and the dimension.
     pub fn into_inner(self) -> (Vec<LineString<T>>, Dimension)
         ensures line_strings { result.0.items ≡ self.parts }
         ensures dim { result.1 ≡ self.dim }
@@ -99,7 +99,7 @@ impl<T> MultiLineString<T> {
 }
 
 impl<T: Copy + Drop> MultiLineString<T> {
-    /// An equal multiline.
+    /// An equal multi line string.
     ///
     /// # Errors
     /// Out of memory.
@@ -122,16 +122,16 @@ impl<T: Copy + Drop> Part for MultiLineString<T> {
 impl<T: WktNum> PartialEq for MultiLineString<T> {
     ghost use Rattle.wkt_flat.specs.Exact.{exact_by, exact_per};
     ghost use Rattle.wkt_types.specs.Exact.{held_eq, held_exact};
-    ghost use Rattle.wkt_types.specs.Equal.{wkt_line_eq, wkt_line_exact};
+    ghost use Rattle.wkt_types.specs.Equal.{wkt_line_string_eq, wkt_line_string_exact};
 
-    ghost eq = { held_eq (wkt_line_eq T.eq) };
+    ghost eq = { held_eq (wkt_line_string_eq T.eq) };
 
-    ghost laws = { exact_per (held_exact (wkt_line_exact (exact_by T.same))) };
+    ghost laws = { exact_per (held_exact (wkt_line_string_exact (exact_by T.same))) };
 
-    /// True exactly if lines and dimension are equal.
+    /// True exactly if line strings and dimension are equal.
     #[inline(never)]
     fn eq(&self, other: &Self) -> bool
-        ensures eq { result ≡ held_eq (wkt_line_eq T.eq) self.now other.now }
+        ensures eq { result ≡ held_eq (wkt_line_string_eq T.eq) self.now other.now }
         ensures exact { IsTrue result ↔ (self.now ≡ other.now) }
     {
         let parts = self.line_strings.as_slice() == other.line_strings.as_slice();

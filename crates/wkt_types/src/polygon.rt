@@ -122,16 +122,16 @@ impl<T: Copy + Drop> Part for Polygon<T> {
 impl<T: WktNum> PartialEq for Polygon<T> {
     ghost use Rattle.wkt_flat.specs.Exact.{exact_by, exact_per};
     ghost use Rattle.wkt_types.specs.Exact.{held_eq, held_exact};
-    ghost use Rattle.wkt_types.specs.Equal.{wkt_line_eq, wkt_line_exact};
+    ghost use Rattle.wkt_types.specs.Equal.{wkt_line_string_eq, wkt_line_string_exact};
 
-    ghost eq = { held_eq (wkt_line_eq T.eq) };
+    ghost eq = { held_eq (wkt_line_string_eq T.eq) };
 
-    ghost laws = { exact_per (held_exact (wkt_line_exact (exact_by T.same))) };
+    ghost laws = { exact_per (held_exact (wkt_line_string_exact (exact_by T.same))) };
 
     /// True exactly if rings and dimension are equal.
     #[inline(never)]
     fn eq(&self, other: &Self) -> bool
-        ensures eq { result ≡ held_eq (wkt_line_eq T.eq) self.now other.now }
+        ensures eq { result ≡ held_eq (wkt_line_string_eq T.eq) self.now other.now }
         ensures exact { IsTrue result ↔ (self.now ≡ other.now) }
     {
         let parts = self.rings.as_slice() == other.rings.as_slice();

@@ -36,19 +36,19 @@ module _ {N : Type 0} (is_value : N → Type 0) where
     coord_fits : (c : List N) → coordinate_fault (size d) c ≡ None → KnownCoord is_value (size d) c → CoordFits is_value d (take (size d) c)
     coord_fits c e h = (h, length-take-le (size d) c (enough (length c) (size d) e))
 
-    line_fits : (cs : List (List N)) → coordinates_fault (size d) cs ≡ None → KnownCoords is_value (size d) cs → LineStringFits is_value d (map (take (size d)) cs)
-    line_fits cs e h = all_fit (coordinate_fault (size d)) (KnownCoord is_value (size d)) (CoordFits is_value d) (take (size d)) coord_fits cs e h
+    line_string_fits : (cs : List (List N)) → coordinates_fault (size d) cs ≡ None → KnownCoords is_value (size d) cs → LineStringFits is_value d (map (take (size d)) cs)
+    line_string_fits cs e h = all_fit (coordinate_fault (size d)) (KnownCoord is_value (size d)) (CoordFits is_value d) (take (size d)) coord_fits cs e h
 
-    lines_fit : (ls : List (List (List N))) → first_fault (coordinates_fault (size d)) ls ≡ None → KnownLineStrings is_value (size d) ls → PolygonFits is_value d (map (map (take (size d))) ls)
-    lines_fit ls e h = all_fit (coordinates_fault (size d)) (KnownCoords is_value (size d)) (LineStringFits is_value d) (map (take (size d))) line_fits ls e h
+    line_strings_fit : (ls : List (List (List N))) → first_fault (coordinates_fault (size d)) ls ≡ None → KnownLineStrings is_value (size d) ls → PolygonFits is_value d (map (map (take (size d))) ls)
+    line_strings_fit ls e h = all_fit (coordinates_fault (size d)) (KnownCoords is_value (size d)) (LineStringFits is_value d) (map (take (size d))) line_string_fits ls e h
 
     point_fits : (c : Option (List N)) → point_fault (size d) c ≡ None → KnownPoint is_value (size d) c → PointFits is_value d (option_map (take (size d)) c)
     point_fits None e h = tt
-    point_fits (Some c) e h = (line_fits (c ∷ []) e h).0
+    point_fits (Some c) e h = (line_string_fits (c ∷ []) e h).0
 
     member_fits : (c : Option (List N)) → point_fault (size d) c ≡ None → KnownPoint is_value (size d) c → MemberFits is_value true d (option_map (take (size d)) c)
     member_fits None e h = refl
-    member_fits (Some c) e h = (line_fits (c ∷ []) e h).0
+    member_fits (Some c) e h = (line_string_fits (c ∷ []) e h).0
 
   corner_fits : (a b : List N) → KnownRectCorner is_value a → KnownRectCorner is_value b → CoordFits is_value XY (rect_corner a b)
   corner_fits [] b h g = absurd (omega (arith, h.1))
@@ -59,17 +59,17 @@ module _ {N : Type 0} (is_value : N → Type 0) where
   mutual
     pub known_well_formed : (s : Shape N) → fault s ≡ None → Known is_value s → IsWellFormed is_value true (canon s)
     known_well_formed (Shape.point d c) e h = point_fits (dimension d) c (under_clean d (λ k. point_fault k c) e) h
-    known_well_formed (Shape.line_string d cs) e h = line_fits (dimension d) cs (under_clean d (λ k. coordinates_fault k cs) e) h
-    known_well_formed (Shape.polygon d p) e h = lines_fit (dimension d) (rings_of p) (under_clean d (λ k. polygon_fault k p) e) h
+    known_well_formed (Shape.line_string d cs) e h = line_string_fits (dimension d) cs (under_clean d (λ k. coordinates_fault k cs) e) h
+    known_well_formed (Shape.polygon d p) e h = line_strings_fit (dimension d) (rings_of p) (under_clean d (λ k. polygon_fault k p) e) h
     known_well_formed (Shape.multi_point d ps) e h = all_fit (point_fault (size (dimension d))) (KnownPoint is_value (size (dimension d))) (MemberFits is_value true (dimension d)) (option_map (cut d)) (member_fits (dimension d)) ps (under_clean d (λ k. first_fault (point_fault k) ps) e) h
-    known_well_formed (Shape.multi_line_string d ls) e h = lines_fit (dimension d) ls (under_clean d (λ k. first_fault (coordinates_fault k) ls) e) h
-    known_well_formed (Shape.multi_polygon d ps) e h = all_fit (polygon_fault (size (dimension d))) (KnownPolygon is_value (size (dimension d))) (PolygonFits is_value (dimension d)) (λ p. map (map (cut d)) (rings_of p)) (λ p. lines_fit (dimension d) (rings_of p)) ps (under_clean d (λ k. first_fault (polygon_fault k) ps) e) h
+    known_well_formed (Shape.multi_line_string d ls) e h = line_strings_fit (dimension d) ls (under_clean d (λ k. first_fault (coordinates_fault k) ls) e) h
+    known_well_formed (Shape.multi_polygon d ps) e h = all_fit (polygon_fault (size (dimension d))) (KnownPolygon is_value (size (dimension d))) (PolygonFits is_value (dimension d)) (λ p. map (map (cut d)) (rings_of p)) (λ p. line_strings_fit (dimension d) (rings_of p)) ps (under_clean d (λ k. first_fault (polygon_fault k) ps) e) h
     known_well_formed (Shape.collection d gs) e h = all_known_well_formed gs (inside_clean (printed d) (faults gs) e) h
     known_well_formed (Shape.rect d a b) e (ha, hb) = ((corner_fits b a hb ha, (corner_fits b b hb hb, (corner_fits a b ha hb, (corner_fits a a ha ha, (corner_fits b a hb ha, tt))))), tt)
     known_well_formed (Shape.triangle d a b c) e h =
-        let (fa, (fb, (fc, u))) = line_fits (dimension d) (a ∷ b ∷ c ∷ []) (under_clean d (λ k. coordinates_fault k (a ∷ b ∷ c ∷ [])) e) h in
+        let (fa, (fb, (fc, u))) = line_string_fits (dimension d) (a ∷ b ∷ c ∷ []) (under_clean d (λ k. coordinates_fault k (a ∷ b ∷ c ∷ [])) e) h in
         ((fa, (fb, (fc, (fa, tt)))), tt)
-    known_well_formed (Shape.line d a b) e h = line_fits (dimension d) (a ∷ b ∷ []) (under_clean d (λ k. coordinates_fault k (a ∷ b ∷ [])) e) h
+    known_well_formed (Shape.line d a b) e h = line_string_fits (dimension d) (a ∷ b ∷ []) (under_clean d (λ k. coordinates_fault k (a ∷ b ∷ [])) e) h
 
     all_known_well_formed : (gs : Shapes N) → faults gs ≡ None → AllKnown is_value gs → AreWellFormed is_value true (canons gs)
     all_known_well_formed Shapes.no_shapes e h = tt

@@ -37,14 +37,14 @@ few_own false = tt
 coordinate_own : {N : Type 0} (k : ℕ) (c : List N) → IsOwnIfAny (coordinate_fault k c)
 coordinate_own k c = few_own (nat_lt (length c) k)
 
-line_own : {N : Type 0} (k : ℕ) (cs : List (List N)) → IsOwnIfAny (coordinates_fault k cs)
-line_own k cs = first_own (coordinate_fault k) (coordinate_own k) cs
+line_string_own : {N : Type 0} (k : ℕ) (cs : List (List N)) → IsOwnIfAny (coordinates_fault k cs)
+line_string_own k cs = first_own (coordinate_fault k) (coordinate_own k) cs
 
 member_own : {N : Type 0} (k : ℕ) (c : Option (List N)) → IsOwnIfAny (point_fault k c)
-member_own k c = line_own k (option_to_list c)
+member_own k c = line_string_own k (option_to_list c)
 
 polygon_own : {N : Type 0} (k : ℕ) (p : PolygonShape N) → IsOwnIfAny (polygon_fault k p)
-polygon_own k p = first_own (coordinates_fault k) (line_own k) (rings_of p)
+polygon_own k p = first_own (coordinates_fault k) (line_string_own k) (rings_of p)
 
 under_own : (o : Option Dimension) (inside : ℕ → Option Error) → ((k : ℕ) → IsOwnIfAny (inside k)) → IsOwnIfAny (under o inside)
 under_own None inside h = tt
@@ -60,15 +60,15 @@ rect_own (Some XYZM) = tt
 mutual
   fault_own : {N : Type 0} (s : Shape N) → IsOwnIfAny (fault s)
   fault_own (Shape.point d c) = under_own (printed d) (λ k. point_fault k c) (λ k. member_own k c)
-  fault_own (Shape.line_string d cs) = under_own (printed d) (λ k. coordinates_fault k cs) (λ k. line_own k cs)
+  fault_own (Shape.line_string d cs) = under_own (printed d) (λ k. coordinates_fault k cs) (λ k. line_string_own k cs)
   fault_own (Shape.polygon d p) = under_own (printed d) (λ k. polygon_fault k p) (λ k. polygon_own k p)
   fault_own (Shape.multi_point d ps) = under_own (printed d) (λ k. first_fault (point_fault k) ps) (λ k. first_own (point_fault k) (member_own k) ps)
-  fault_own (Shape.multi_line_string d ls) = under_own (printed d) (λ k. first_fault (coordinates_fault k) ls) (λ k. first_own (coordinates_fault k) (line_own k) ls)
+  fault_own (Shape.multi_line_string d ls) = under_own (printed d) (λ k. first_fault (coordinates_fault k) ls) (λ k. first_own (coordinates_fault k) (line_string_own k) ls)
   fault_own (Shape.multi_polygon d ps) = under_own (printed d) (λ k. first_fault (polygon_fault k) ps) (λ k. first_own (polygon_fault k) (polygon_own k) ps)
   fault_own (Shape.collection d gs) = under_own (printed d) (λ k. faults gs) (λ k. faults_own gs)
   fault_own (Shape.rect d a b) = rect_own (printed d)
-  fault_own (Shape.triangle d a b c) = under_own (printed d) (λ k. coordinates_fault k (a ∷ b ∷ c ∷ [])) (λ k. line_own k (a ∷ b ∷ c ∷ []))
-  fault_own (Shape.line d a b) = under_own (printed d) (λ k. coordinates_fault k (a ∷ b ∷ [])) (λ k. line_own k (a ∷ b ∷ []))
+  fault_own (Shape.triangle d a b c) = under_own (printed d) (λ k. coordinates_fault k (a ∷ b ∷ c ∷ [])) (λ k. line_string_own k (a ∷ b ∷ c ∷ []))
+  fault_own (Shape.line d a b) = under_own (printed d) (λ k. coordinates_fault k (a ∷ b ∷ [])) (λ k. line_string_own k (a ∷ b ∷ []))
 
   faults_own : {N : Type 0} (gs : Shapes N) → IsOwnIfAny (faults gs)
   faults_own Shapes.no_shapes = tt

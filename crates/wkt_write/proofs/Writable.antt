@@ -60,32 +60,32 @@ module _ {N : Type 0} (is_value : N → Type 0) where
     coord_clear : (c : List N) → CoordFits is_value d c → (coordinate_fault (size d) c ≡ None) × KnownCoord is_value (size d) c
     coord_clear c (h, e) = (long (length c) (size d) e, take_values (size d) c h)
 
-    line_clear : (cs : List (List N)) → LineStringFits is_value d cs → (coordinates_fault (size d) cs ≡ None) × KnownCoords is_value (size d) cs
-    line_clear cs h = clear (coordinate_fault (size d)) (KnownCoord is_value (size d)) (CoordFits is_value d) coord_clear cs h
+    line_string_clear : (cs : List (List N)) → LineStringFits is_value d cs → (coordinates_fault (size d) cs ≡ None) × KnownCoords is_value (size d) cs
+    line_string_clear cs h = clear (coordinate_fault (size d)) (KnownCoord is_value (size d)) (CoordFits is_value d) coord_clear cs h
 
-    lines_clear : (ls : List (List (List N))) → PolygonFits is_value d ls → (first_fault (coordinates_fault (size d)) ls ≡ None) × KnownLineStrings is_value (size d) ls
-    lines_clear ls h = clear (coordinates_fault (size d)) (KnownCoords is_value (size d)) (LineStringFits is_value d) line_clear ls h
+    line_strings_clear : (ls : List (List (List N))) → PolygonFits is_value d ls → (first_fault (coordinates_fault (size d)) ls ≡ None) × KnownLineStrings is_value (size d) ls
+    line_strings_clear ls h = clear (coordinates_fault (size d)) (KnownCoords is_value (size d)) (LineStringFits is_value d) line_string_clear ls h
 
     polygon_clear : (rings : List (List (List N))) → PolygonFits is_value d rings → (polygon_fault (size d) (polygon_of rings) ≡ None) × KnownPolygon is_value (size d) (polygon_of rings)
     polygon_clear [] h = (refl, tt)
     polygon_clear ([] ∷ rs) h = (refl, tt)
-    polygon_clear ((c ∷ cs) ∷ rs) h = lines_clear ((c ∷ cs) ∷ rs) h
+    polygon_clear ((c ∷ cs) ∷ rs) h = line_strings_clear ((c ∷ cs) ∷ rs) h
 
     point_clear : (c : Option (List N)) → PointFits is_value d c → (point_fault (size d) c ≡ None) × KnownPoint is_value (size d) c
     point_clear None h = (refl, tt)
-    point_clear (Some c) h = line_clear (c ∷ []) (h, tt)
+    point_clear (Some c) h = line_string_clear (c ∷ []) (h, tt)
 
     member_clear : (c : Option (List N)) → MemberFits is_value true d c → (point_fault (size d) c ≡ None) × KnownPoint is_value (size d) c
     member_clear None h = (refl, tt)
-    member_clear (Some c) h = line_clear (c ∷ []) (h, tt)
+    member_clear (Some c) h = line_string_clear (c ∷ []) (h, tt)
 
   mutual
     clear_of : (v : Value N) → IsWellFormed is_value true v → (fault (shape_of v) ≡ None) × Known is_value (shape_of v)
     clear_of (Value.point d c) h = let p = point_clear d c h in (under_header d (λ k. point_fault k c) p.0, known_header d (λ k. KnownPoint is_value k c) p.1)
-    clear_of (Value.line_string d cs) h = let p = line_clear d cs h in (under_header d (λ k. coordinates_fault k cs) p.0, known_header d (λ k. KnownCoords is_value k cs) p.1)
+    clear_of (Value.line_string d cs) h = let p = line_string_clear d cs h in (under_header d (λ k. coordinates_fault k cs) p.0, known_header d (λ k. KnownCoords is_value k cs) p.1)
     clear_of (Value.polygon d rings) h = let p = polygon_clear d rings h in (under_header d (λ k. polygon_fault k (polygon_of rings)) p.0, known_header d (λ k. KnownPolygon is_value k (polygon_of rings)) p.1)
     clear_of (Value.multi_point d ps) h = let p = clear (point_fault (size d)) (KnownPoint is_value (size d)) (MemberFits is_value true d) (member_clear d) ps h in (under_header d (λ k. first_fault (point_fault k) ps) p.0, known_header d (λ k. AllByRecursion (KnownPoint is_value k) ps) p.1)
-    clear_of (Value.multi_line_string d ls) h = let p = lines_clear d ls h in (under_header d (λ k. first_fault (coordinates_fault k) ls) p.0, known_header d (λ k. KnownLineStrings is_value k ls) p.1)
+    clear_of (Value.multi_line_string d ls) h = let p = line_strings_clear d ls h in (under_header d (λ k. first_fault (coordinates_fault k) ls) p.0, known_header d (λ k. KnownLineStrings is_value k ls) p.1)
     clear_of (Value.multi_polygon d ps) h = let p = all_clear (polygon_fault (size d)) (KnownPolygon is_value (size d)) (PolygonFits is_value d) polygon_of (polygon_clear d) ps h in (under_header d (λ k. first_fault (polygon_fault k) (map polygon_of ps)) p.0, known_header d (λ k. AllByRecursion (KnownPolygon is_value k) (map polygon_of ps)) p.1)
     clear_of (Value.collection d vs) h = let p = all_clear_of vs h in (under_header d (λ k. faults (shapes_of vs)) p.0, p.1)
 

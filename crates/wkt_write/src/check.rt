@@ -1,4 +1,4 @@
-//! Looks for the first refusal in the order of the text.
+//! Looks for the first fault in the order of the text.
 #![tactic(auto, using(crate::proofs::Firsts::clean_start, crate::proofs::Firsts::clean_more, crate::proofs::Firsts::clean_fault, crate::proofs::Firsts::clean_end))]
 
 ghost use Rattle.std.specs.Prelude.{◌≡◌, ℕ, Some, None, Option, IfOk, IfErr};

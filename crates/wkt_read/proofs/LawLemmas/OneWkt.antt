@@ -8,7 +8,7 @@ use Rattle.wkt_types.specs.declared.coord.Coord.{Coord}
 use Rattle.wkt_types.specs.Held.{Held, HeldPoint}
 use Rattle.wkt_types.specs.Coords.{numbers_of, dim_by}
 use Rattle.wkt_types.specs.Tree.{Tree, Trees, point, line_string, polygon, multi_point, multi_line_string, multi_polygon, collection, no_trees, more_trees}
-use Rattle.wkt_types.specs.Values.{value_of, values_of, point_numbers, line_numbers, polygon_numbers, HasDim, HasDimIfAny, IsPointIn, IsLineIn, IsPolygonIn, IsUniform, AreUniform, IsWktOf}
+use Rattle.wkt_types.specs.Values.{value_of, values_of, point_numbers, line_string_numbers, polygon_numbers, HasDim, HasDimIfAny, IsPointIn, IsLineStringIn, IsPolygonIn, IsUniform, AreUniform, IsWktOf}
 use Rattle.wkt_read.specs.Answered.{IsFrontTo}
 use Rattle.wkt_read.proofs.LawLemmas.Fronts.{front_one}
 
@@ -72,11 +72,11 @@ module _ {T : Type 0} where
   point-one : (d : Dimension) (p q : HeldPoint (Coord T)) → IsPointIn d p → IsPointIn d q → point_numbers p ≡ point_numbers q → p ≡ q
   point-one d p q h k e = held-point-one d p q h.1 k.1 (h.0 ∙ sym k.0) e
 
-  line-one : (d : Dimension) (l m : Held (Coord T)) → IsLineIn d l → IsLineIn d m → line_numbers l ≡ line_numbers m → l ≡ m
+  line-one : (d : Dimension) (l m : Held (Coord T)) → IsLineStringIn d l → IsLineStringIn d m → line_string_numbers l ≡ line_string_numbers m → l ≡ m
   line-one d l m h k e = held-one (HasDim d) numbers_of (coord-one d) l m h.1 k.1 (h.0 ∙ sym k.0) e
 
   polygon-one : (d : Dimension) (l m : Held (Held (Coord T))) → IsPolygonIn d l → IsPolygonIn d m → polygon_numbers l ≡ polygon_numbers m → l ≡ m
-  polygon-one d l m h k e = held-one (IsLineIn d) line_numbers (line-one d) l m h.1 k.1 (h.0 ∙ sym k.0) e
+  polygon-one d l m h k e = held-one (IsLineStringIn d) line_string_numbers (line-one d) l m h.1 k.1 (h.0 ∙ sym k.0) e
 
   mutual
     pub tree-one : (s t : Tree T) → IsUniform s → IsUniform t → value_of s ≡ value_of t → s ≡ t
@@ -86,20 +86,20 @@ module _ {T : Type 0} where
         ap point (held-point-one p.dim p q h.1 (subst (λ n. HasDimIfAny n q.coord) (sym d) k.1) d numbers)
     tree-one (line_string l) (line_string m) h k e =
         let d : l.dim ≡ m.dim = cc in
-        let numbers : line_numbers l ≡ line_numbers m = cc in
+        let numbers : line_string_numbers l ≡ line_string_numbers m = cc in
         ap line_string (whole-one HasDim numbers_of coord-one l m h.1 k.1 d numbers)
     tree-one (polygon l) (polygon m) h k e =
         let d : l.dim ≡ m.dim = cc in
         let numbers : polygon_numbers l ≡ polygon_numbers m = cc in
-        ap polygon (whole-one IsLineIn line_numbers line-one l m h.1 k.1 d numbers)
+        ap polygon (whole-one IsLineStringIn line_string_numbers line-one l m h.1 k.1 d numbers)
     tree-one (multi_point l) (multi_point m) h k e =
         let d : l.dim ≡ m.dim = cc in
         let numbers : map point_numbers l.parts ≡ map point_numbers m.parts = cc in
         ap multi_point (whole-one IsPointIn point_numbers point-one l m h k d numbers)
     tree-one (multi_line_string l) (multi_line_string m) h k e =
         let d : l.dim ≡ m.dim = cc in
-        let numbers : map line_numbers l.parts ≡ map line_numbers m.parts = cc in
-        ap multi_line_string (whole-one IsLineIn line_numbers line-one l m h k d numbers)
+        let numbers : map line_string_numbers l.parts ≡ map line_string_numbers m.parts = cc in
+        ap multi_line_string (whole-one IsLineStringIn line_string_numbers line-one l m h k d numbers)
     tree-one (multi_polygon l) (multi_polygon m) h k e =
         let d : l.dim ≡ m.dim = cc in
         let numbers : map polygon_numbers l.parts ≡ map polygon_numbers m.parts = cc in

@@ -9,7 +9,7 @@ use Rattle.wkt_read.specs.Begun.{BegunCoord, BegunRing, BegunPoly, BegunMember}
 use Rattle.wkt_read.specs.Parser.Reading.{is_empty_word, number_in, number_at, coord_at, inside_at, line_string_at, line_strings_at, member_at, closing_at}
 use Rattle.wkt_read.proofs.LawLemmas.OneForm.{coord_starts}
 use Rattle.wkt_read.proofs.LawLemmas.Begun.{cuts_word, cuts_numbers, cuts_coord, cuts_member}
-use Rattle.wkt_read.proofs.ParserLemmas.Tells.{told, tell, andthen, mapped, closed_f, numbers_f, coord_f, inside_f, line_f, lines_f, member_f, plain_coord, plain_member}
+use Rattle.wkt_read.proofs.ParserLemmas.Tells.{told, tell, andthen, mapped, closed_f, numbers_f, coord_f, inside_f, line_string_f, line_strings_f, member_f, plain_coord, plain_member}
 use Rattle.wkt_read.proofs.ParserLemmas.Told.{Told, told_then, told_weaken, told_closed, Framed, BegunFrame, empty_is, is_empty}
 use Rattle.wkt_read.proofs.ParserLemmas.Reaches.{reach, told_reach, reach_closed}
 use Rattle.wkt_read.proofs.ParserLemmas.Parts.{Part, Anything, Just, just_part, listed_part, whole_begun, within_cut}
@@ -84,11 +84,11 @@ module _ {N : Type 0} (read : List ℕ → Option N) where
       begun = λ a b le h. coord_cut d a b h;
     }
 
-    pub line_part : Part (Ring read d) (BegunRing read true d) Anything (line_string_at read d n) (line_f read d n) n
-    line_part = listed_part (Coord read d) (BegunCoord read true d) (coord_at read d) (coord_f read d) n coord_part
+    pub line_string_part : Part (Ring read d) (BegunRing read true d) Anything (line_string_at read d n) (line_string_f read d n) n
+    line_string_part = listed_part (Coord read d) (BegunCoord read true d) (coord_at read d) (coord_f read d) n coord_part
 
-    pub lines_part : Part (Poly read d) (BegunPoly read true d) Anything (line_strings_at read d n) (lines_f read d n) n
-    lines_part = listed_part (Ring read d) (BegunRing read true d) (line_string_at read d n) (line_f read d n) n line_part
+    pub line_strings_part : Part (Poly read d) (BegunPoly read true d) Anything (line_strings_at read d n) (line_strings_f read d n) n
+    line_strings_part = listed_part (Ring read d) (BegunRing read true d) (line_string_at read d n) (line_string_f read d n) n line_string_part
 
     inside_part : Part (Just (Coord read d)) (BegunCoord read true d) Anything (inside_at read d) (inside_f read d) n
     inside_part = just_part (Coord read d) (BegunCoord read true d) (coord_at read d) (coord_f read d) n coord_part

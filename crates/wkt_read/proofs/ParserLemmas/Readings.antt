@@ -14,11 +14,11 @@ use Rattle.wkt_read.specs.Begun.{BegunNext, BegunEmpty, BegunWithin, BegunListed
 use Rattle.wkt_read.specs.Parser.Reading.{is_empty_word, members_read, worded, numbered, dimension_at, point_at, line_string_at, line_strings_at, polygons_at, member_at, points_at, members_at, body_at, value_at}
 use Rattle.wkt_read.proofs.LawLemmas.OneForm.{BeginsBody, BodyOf, geometry_body, body_begins}
 use Rattle.wkt_read.proofs.LawLemmas.Begun.{CutIn, Later, Earlier, cut_in, cuts_geometry, cuts_header, body_nothing, begun_listed_at}
-use Rattle.wkt_read.proofs.ParserLemmas.Tells.{plain, told, tell, andthen, mapped, framed_f, many_f, inside_f, line_f, lines_f, polygons_f, member_f, points_f, joined_or_f, kinded_f, header_f, body_f, value_f, plain_then, plain_header, ok_told}
+use Rattle.wkt_read.proofs.ParserLemmas.Tells.{plain, told, tell, andthen, mapped, framed_f, many_f, inside_f, line_string_f, line_strings_f, polygons_f, member_f, points_f, joined_or_f, kinded_f, header_f, body_f, value_f, plain_then, plain_header, ok_told}
 use Rattle.wkt_read.proofs.ParserLemmas.Told.{Told, told_then, told_after, is_empty}
 use Rattle.wkt_read.proofs.ParserLemmas.Reaches.{reach, told_reach, reach_then, reach_mapped}
 use Rattle.wkt_read.proofs.ParserLemmas.Parts.{Part, Anything, map_part, listed_part, perhaps_part}
-use Rattle.wkt_read.proofs.ParserLemmas.Coords.{Nothing, coord_part, line_part, lines_part, member_part}
+use Rattle.wkt_read.proofs.ParserLemmas.Coords.{Nothing, coord_part, line_string_part, line_strings_part, member_part}
 
 -- the words EMPTY, Z, M and ZM are four
 pub empty_no_dim : (w : List ℕ) → str_to_ascii_uppercase w ≡ codes "EMPTY" → dim_word w ≡ None
@@ -152,9 +152,9 @@ module _ {N : Type 0} (read : List ℕ → Option N) where
   from_point d f (Value.point e c) (w, k, ed) = (c, ap (λ d. Value.point d c) ed, subst (λ d. Perhaps (Coord read d) f c) ed w)
   from_point d f v (w, k, ed) = let no : ⊥ = cc in absurd no
 
-  from_line : (d : Dimension) → From kind.LineString d (Ring read d) (λ c. Value.line_string d c)
-  from_line d f (Value.line_string e c) (w, k, ed) = (c, ap (λ d. Value.line_string d c) ed, subst (λ d. Ring read d f c) ed w)
-  from_line d f v (w, k, ed) = let no : ⊥ = cc in absurd no
+  from_line_string : (d : Dimension) → From kind.LineString d (Ring read d) (λ c. Value.line_string d c)
+  from_line_string d f (Value.line_string e c) (w, k, ed) = (c, ap (λ d. Value.line_string d c) ed, subst (λ d. Ring read d f c) ed w)
+  from_line_string d f v (w, k, ed) = let no : ⊥ = cc in absurd no
 
   from_polygon : (d : Dimension) → From kind.Polygon d (Poly read d) (λ c. Value.polygon d c)
   from_polygon d f (Value.polygon e c) (w, k, ed) = (c, ap (λ d. Value.polygon d c) ed, subst (λ d. Poly read d f c) ed w)
@@ -164,9 +164,9 @@ module _ {N : Type 0} (read : List ℕ → Option N) where
   from_points d f (Value.multi_point e c) (w, k, ed) = (c, ap (λ d. Value.multi_point d c) ed, subst (λ d. Listed (Member read true d) f c) ed w)
   from_points d f v (w, k, ed) = let no : ⊥ = cc in absurd no
 
-  from_lines : (d : Dimension) → From kind.MultiLineString d (Poly read d) (λ c. Value.multi_line_string d c)
-  from_lines d f (Value.multi_line_string e c) (w, k, ed) = (c, ap (λ d. Value.multi_line_string d c) ed, subst (λ d. Poly read d f c) ed w)
-  from_lines d f v (w, k, ed) = let no : ⊥ = cc in absurd no
+  from_line_strings : (d : Dimension) → From kind.MultiLineString d (Poly read d) (λ c. Value.multi_line_string d c)
+  from_line_strings d f (Value.multi_line_string e c) (w, k, ed) = (c, ap (λ d. Value.multi_line_string d c) ed, subst (λ d. Poly read d f c) ed w)
+  from_line_strings d f v (w, k, ed) = let no : ⊥ = cc in absurd no
 
   from_polygons : (d : Dimension) → From kind.MultiPolygon d (Listed (Poly read d)) (λ c. Value.multi_polygon d c)
   from_polygons d f (Value.multi_polygon e c) (w, k, ed) = (c, ap (λ d. Value.multi_polygon d c) ed, subst (λ d. Listed (Poly read d) f c) ed w)
@@ -183,22 +183,22 @@ module _ {N : Type 0} (read : List ℕ → Option N) where
         (BodyPart kind.Point d) (λ c. Value.point d c) (λ f c w. (w, refl, refl)) (from_point d)
         (perhaps_part (Coord read d) (BegunCoord read true d) _ _ n (coord_part read d n))
     body_part kind.LineString d =
-        map_part (Ring read d) (BegunRing read true d) Anything (line_string_at read d n) (line_f read d n) n
-        (BodyPart kind.LineString d) (λ c. Value.line_string d c) (λ f c w. (w, refl, refl)) (from_line d) (line_part read d n)
+        map_part (Ring read d) (BegunRing read true d) Anything (line_string_at read d n) (line_string_f read d n) n
+        (BodyPart kind.LineString d) (λ c. Value.line_string d c) (λ f c w. (w, refl, refl)) (from_line_string d) (line_string_part read d n)
     body_part kind.Polygon d =
-        map_part (Poly read d) (BegunPoly read true d) Anything (line_strings_at read d n) (lines_f read d n) n
-        (BodyPart kind.Polygon d) (λ c. Value.polygon d c) (λ f c w. (w, refl, refl)) (from_polygon d) (lines_part read d n)
+        map_part (Poly read d) (BegunPoly read true d) Anything (line_strings_at read d n) (line_strings_f read d n) n
+        (BodyPart kind.Polygon d) (λ c. Value.polygon d c) (λ f c w. (w, refl, refl)) (from_polygon d) (line_strings_part read d n)
     body_part kind.MultiPoint d =
         map_part (Listed (Member read true d)) (BegunListed (Member read true d) (BegunMember read true d)) Anything (points_at read d n) (points_f read d n) n
         (BodyPart kind.MultiPoint d) (λ c. Value.multi_point d c) (λ f c w. (w, refl, refl)) (from_points d)
         (listed_part (Member read true d) (BegunMember read true d) (member_at read d) (member_f read d) n (member_part read d n))
     body_part kind.MultiLineString d =
-        map_part (Poly read d) (BegunPoly read true d) Anything (line_strings_at read d n) (lines_f read d n) n
-        (BodyPart kind.MultiLineString d) (λ c. Value.multi_line_string d c) (λ f c w. (w, refl, refl)) (from_lines d) (lines_part read d n)
+        map_part (Poly read d) (BegunPoly read true d) Anything (line_strings_at read d n) (line_strings_f read d n) n
+        (BodyPart kind.MultiLineString d) (λ c. Value.multi_line_string d c) (λ f c w. (w, refl, refl)) (from_line_strings d) (line_strings_part read d n)
     body_part kind.MultiPolygon d =
         map_part (Listed (Poly read d)) (BegunListed (Poly read d) (BegunPoly read true d)) Anything (polygons_at read d n) (polygons_f read d n) n
         (BodyPart kind.MultiPolygon d) (λ c. Value.multi_polygon d c) (λ f c w. (w, refl, refl)) (from_polygons d)
-        (listed_part (Poly read d) (BegunPoly read true d) (line_strings_at read d n) (lines_f read d n) n (lines_part read d n))
+        (listed_part (Poly read d) (BegunPoly read true d) (line_strings_at read d n) (line_strings_f read d n) n (line_strings_part read d n))
     body_part kind.GeometryCollection d =
         map_part (Listed (Geometry read true)) (BegunListed (Geometry read true) Begun) Anything (members_at read (value_at read n) n) (framed_f [] (many_f (value_f read n) n)) n
         (BodyPart kind.GeometryCollection d) (λ vs. Value.collection d (members_read vs)) (λ f xs w. (geometries_to read xs f w, refl, refl)) (from_members d)

@@ -90,24 +90,24 @@ module _ {N : Type 0} (read : List ℕ → Option N) where
   member_f d (Comma ∷ rest) = inside_f d (Comma ∷ rest)
   member_f d (Num w ∷ rest) = inside_f d (Num w ∷ rest)
 
-  abbrev pub line_f : Dimension → ℕ → List Lexeme → Telling (List (List N))
-  line_f d n = framed_f [] (many_f (coord_f d) n)
+  abbrev pub line_string_f : Dimension → ℕ → List Lexeme → Telling (List (List N))
+  line_string_f d n = framed_f [] (many_f (coord_f d) n)
 
-  abbrev pub lines_f : Dimension → ℕ → List Lexeme → Telling (List (List (List N)))
-  lines_f d n = framed_f [] (many_f (line_f d n) n)
+  abbrev pub line_strings_f : Dimension → ℕ → List Lexeme → Telling (List (List (List N)))
+  line_strings_f d n = framed_f [] (many_f (line_string_f d n) n)
 
   abbrev pub polygons_f : Dimension → ℕ → List Lexeme → Telling (List (List (List (List N))))
-  polygons_f d n = framed_f [] (many_f (lines_f d n) n)
+  polygons_f d n = framed_f [] (many_f (line_strings_f d n) n)
 
   abbrev pub points_f : Dimension → ℕ → List Lexeme → Telling (List (Option (List N)))
   points_f d n = framed_f [] (many_f (member_f d) n)
 
   abbrev pub body_f : (List Lexeme → Telling (Value N)) → ℕ → GeometryType → Dimension → List Lexeme → Telling (Value N)
   body_f value n kind.Point d ls = mapped (λ c. Value.point d c) (framed_f None (inside_f d) ls)
-  body_f value n kind.LineString d ls = mapped (λ c. Value.line_string d c) (line_f d n ls)
-  body_f value n kind.Polygon d ls = mapped (λ c. Value.polygon d c) (lines_f d n ls)
+  body_f value n kind.LineString d ls = mapped (λ c. Value.line_string d c) (line_string_f d n ls)
+  body_f value n kind.Polygon d ls = mapped (λ c. Value.polygon d c) (line_strings_f d n ls)
   body_f value n kind.MultiPoint d ls = mapped (λ c. Value.multi_point d c) (points_f d n ls)
-  body_f value n kind.MultiLineString d ls = mapped (λ c. Value.multi_line_string d c) (lines_f d n ls)
+  body_f value n kind.MultiLineString d ls = mapped (λ c. Value.multi_line_string d c) (line_strings_f d n ls)
   body_f value n kind.MultiPolygon d ls = mapped (λ c. Value.multi_polygon d c) (polygons_f d n ls)
   body_f value n kind.GeometryCollection d ls = mapped (λ vs. Value.collection d (members_read vs)) (framed_f [] (many_f value n) ls)
 

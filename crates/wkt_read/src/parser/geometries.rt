@@ -3,7 +3,7 @@ ghost use Rattle.std.specs.Prelude.{◌≡◌, ◌≤◌, ◌<◌, length, map, 
 ghost use Rattle.std.specs.List.{AllByRecursion};
 ghost use Rattle.wkt_access.specs.Values.{Value};
 ghost use Rattle.wkt_types.specs.Coords.{numbers_of};
-ghost use Rattle.wkt_types.specs.Values.{HasDim, HasDimIfAny, IsPointIn, IsLineIn, IsPolygonIn, point_numbers, line_numbers, polygon_numbers};
+ghost use Rattle.wkt_types.specs.Values.{HasDim, HasDimIfAny, IsPointIn, IsLineStringIn, IsPolygonIn, point_numbers, line_string_numbers, polygon_numbers};
 ghost use Rattle.wkt_read.specs.Ahead.{rest};
 ghost use Rattle.wkt_read.specs.Parser.Walks.{GoesOn};
 ghost use Rattle.wkt_read.specs.Ahead.{IsNear};
@@ -104,8 +104,8 @@ fn line_string_of<T>(coords: Vec<Coord<T>>, dim: Dimension) -> Wkt<T>
 }
 
 fn polygon_of<T>(rings: Vec<LineString<T>>, dim: Dimension) -> Wkt<T>
-    ensures value { wkt_value result ≡ Value.polygon dim (map line_numbers rings.items) }
-    ensures uniform { AllByRecursion (IsLineIn dim) rings.items → UniformWkt result }
+    ensures value { wkt_value result ≡ Value.polygon dim (map line_string_numbers rings.items) }
+    ensures uniform { AllByRecursion (IsLineStringIn dim) rings.items → UniformWkt result }
 {
     Wkt::from(Polygon::new(rings, dim))
 }
@@ -118,8 +118,8 @@ fn points_of<T>(points: Vec<Point<T>>, dim: Dimension) -> Wkt<T>
 }
 
 fn line_strings_of<T>(lines: Vec<LineString<T>>, dim: Dimension) -> Wkt<T>
-    ensures value { wkt_value result ≡ Value.multi_line_string dim (map line_numbers lines.items) }
-    ensures uniform { AllByRecursion (IsLineIn dim) lines.items → UniformWkt result }
+    ensures value { wkt_value result ≡ Value.multi_line_string dim (map line_string_numbers lines.items) }
+    ensures uniform { AllByRecursion (IsLineStringIn dim) lines.items → UniformWkt result }
 {
     Wkt::from(MultiLineString::new(lines, dim))
 }

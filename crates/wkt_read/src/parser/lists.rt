@@ -138,16 +138,16 @@ pub(crate) fn coordinates<T: WktNum>(
 /// A line string of a multi line string, or a ring of a polygon.
 impl<T: WktNum> Item<T> for LineString<T> {
     ghost use Rattle.std.specs.Prelude.{List};
-    ghost use Rattle.wkt_types.specs.Values.{IsLineIn, line_numbers};
+    ghost use Rattle.wkt_types.specs.Values.{IsLineStringIn, line_string_numbers};
     ghost use Rattle.wkt_read.specs.Parser.Reading.{line_string_at};
 
     ghost View = { List (List T) };
 
-    ghost view = { line_numbers };
+    ghost view = { line_string_numbers };
 
     ghost item_at = { line_string_at T.read };
 
-    ghost IsIn = { IsLineIn };
+    ghost IsIn = { IsLineStringIn };
 
     fn read(
         alloc: Global,

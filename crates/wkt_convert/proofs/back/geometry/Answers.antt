@@ -6,7 +6,7 @@ use Rattle.wkt_types.specs.Tree as trees
 use Rattle.wkt_types.proofs.TreeLemmas.{tree-collection}
 use Rattle.wkt_flat.specs.Tree.{flat_tree, flat_members}
 use Rattle.wkt_flat.proofs.TreeLemmas.{flat-collection}
-use Rattle.wkt_convert.specs.Back.{back, all_back, line_back, point_back}
+use Rattle.wkt_convert.specs.Back.{back, all_back, line_string_back, point_back}
 use Rattle.wkt_convert.proofs.FlatDepth.{depth, deepest, below_deepest}
 use Rattle.wkt_convert.proofs.FlatKinds.{flat-line, flat-line_string, flat-multi_point}
 use Rattle.wkt_convert.proofs.Members.{tree-line_string, tree-multi_point, all_back_members}
@@ -17,7 +17,7 @@ returns-in_ok-line-in-LineString g c =
     let k = c.in_ok-line-in-LineString in
     let given : c.as_slice.result.now ≡ c.in-LineString.l = search rules in
     tree-line_string k.field-0
-    ∙ (ap (λ l. trees.line_string l) (k.ensures ∙ ap line_back given)
+    ∙ (ap (λ l. trees.line_string l) (k.ensures ∙ ap line_string_back given)
     ∙ sym (ap (λ g. back (flat_tree g)) c.in-LineString.is ∙ ap back (flat-line_string c.in-LineString.l)))
 
 pub returns-in_ok-points-in-MultiPoint : goal.returns-in_ok-points-in-MultiPoint

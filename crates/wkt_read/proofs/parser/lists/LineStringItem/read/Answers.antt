@@ -3,13 +3,13 @@ use Rattle.std.specs.Prelude.{map, Vec}
 use Rattle.std.specs.declared.alloc.Global.{Global}
 use Rattle.wkt_types.specs.declared.coord.Coord.{Coord}
 use Rattle.wkt_types.specs.Coords.{numbers_of}
-use Rattle.wkt_types.specs.Values.{line_numbers}
+use Rattle.wkt_types.specs.Values.{line_string_numbers}
 use Rattle.wkt_read.specs.Ahead.{rest}
 use Rattle.wkt_read.proofs.ParserLemmas.Many.{reads-pass}
 use Rattle.wkt_read.proofs.parser.lists.LineStringItem.read.Goals as goal
 
 pub returns-in_err-coords-clause-exact : goal.returns-in_err-coords-clause-exact
-returns-in_err-coords-clause-exact g c = λ fuel h. reads-pass line_numbers (λ (v : Vec (Coord g.row.T.Denot) Global). map numbers_of v.items) _ _ _ _ _ c.from_residual.ensures.1 (c.in_err-coords.ensures.exact fuel h) (λ e. e)
+returns-in_err-coords-clause-exact g c = λ fuel h. reads-pass line_string_numbers (λ (v : Vec (Coord g.row.T.Denot) Global). map numbers_of v.items) _ _ _ _ _ c.from_residual.ensures.1 (c.in_err-coords.ensures.exact fuel h) (λ e. e)
 
 pub returns-clause-exact : goal.returns-clause-exact
 returns-clause-exact g c = λ fuel h. c.in_ok-coords.ensures.exact fuel h ∙ ap (λ l. Ok (map numbers_of l, rest c.coordinates.new.tokens)) (sym c.new.ensures.coords)
