@@ -72,32 +72,34 @@ fn both_ways(alloc: Global, text: &str) -> Result<String, Fail> {
     }
 }
 
+const CONVERTED: [(&str, &str); 9] = [
+    ("POINT ZM(1 2 3 4)", "POINT(1 2)"),
+    ("POINT M EMPTY", "MULTIPOINT EMPTY"),
+    ("LINESTRING Z(1 2 3,4 5 6)", "LINESTRING(1 2,4 5)"),
+    (
+        "POLYGON M((0 0 9,4 0 9,2 4 9),(1 1 9,2 2 8))",
+        "POLYGON((0 0,4 0,2 4,0 0),(1 1,2 2,1 1))",
+    ),
+    ("POLYGON EMPTY", "POLYGON EMPTY"),
+    ("MULTIPOINT Z(8 4 1,4 0 2)", "MULTIPOINT((8 4),(4 0))"),
+    (
+        "MULTILINESTRING((8 4,-3 0),EMPTY)",
+        "MULTILINESTRING((8 4,-3 0),EMPTY)",
+    ),
+    (
+        "MULTIPOLYGON(((0 0,4 0,2 4)))",
+        "MULTIPOLYGON(((0 0,4 0,2 4,0 0)))",
+    ),
+    (
+        "GEOMETRYCOLLECTION(POLYGON((0 0,4 0,2 4)),POINT EMPTY)",
+        "GEOMETRYCOLLECTION(POLYGON((0 0,4 0,2 4,0 0)),MULTIPOINT EMPTY)",
+    ),
+];
+
 #[test]
 fn each_type_is_converted(rt: HostRuntime) -> Result<(), Fail> {
     let alloc = rt.alloc();
-    for (text, want) in [
-        ("POINT ZM(1 2 3 4)", "POINT(1 2)"),
-        ("POINT M EMPTY", "MULTIPOINT EMPTY"),
-        ("LINESTRING Z(1 2 3,4 5 6)", "LINESTRING(1 2,4 5)"),
-        (
-            "POLYGON M((0 0 9,4 0 9,2 4 9),(1 1 9,2 2 8))",
-            "POLYGON((0 0,4 0,2 4,0 0),(1 1,2 2,1 1))",
-        ),
-        ("POLYGON EMPTY", "POLYGON EMPTY"),
-        ("MULTIPOINT Z(8 4 1,4 0 2)", "MULTIPOINT((8 4),(4 0))"),
-        (
-            "MULTILINESTRING((8 4,-3 0),EMPTY)",
-            "MULTILINESTRING((8 4,-3 0),EMPTY)",
-        ),
-        (
-            "MULTIPOLYGON(((0 0,4 0,2 4)))",
-            "MULTIPOLYGON(((0 0,4 0,2 4,0 0)))",
-        ),
-        (
-            "GEOMETRYCOLLECTION(POLYGON((0 0,4 0,2 4)),POINT EMPTY)",
-            "GEOMETRYCOLLECTION(POLYGON((0 0,4 0,2 4,0 0)),MULTIPOINT EMPTY)",
-        ),
-    ] {
+    for (text, want) in CONVERTED {
         assert_eq!(rt; both_ways(alloc, text)?.as_str(), want);
     }
     Ok(())
@@ -151,20 +153,22 @@ fn becomes<G: ConvertFrom<Wkt<Number>> + Drop>(alloc: Global, text: &str) -> Res
     Ok(G::convert_from(alloc, wkt(alloc, text)?).is_ok())
 }
 
+const KINDS: [(&str, u8); 9] = [
+    ("POINT(1 2)", 0u8),
+    ("LINESTRING(1 2,3 4)", 1),
+    ("POLYGON((8 4,8 8,4 8,4 4,8 4))", 2),
+    ("MULTIPOINT(1 2)", 3),
+    ("POINT EMPTY", 3),
+    ("MULTIPOINT(EMPTY)", 7),
+    ("MULTILINESTRING EMPTY", 4),
+    ("MULTIPOLYGON EMPTY", 5),
+    ("GEOMETRYCOLLECTION(POINT(1 2))", 6),
+];
+
 #[test]
 fn each_kind_becomes_one(rt: HostRuntime) -> Result<(), Fail> {
     let alloc = rt.alloc();
-    for (text, kind) in [
-        ("POINT(1 2)", 0u8),
-        ("LINESTRING(1 2,3 4)", 1),
-        ("POLYGON((8 4,8 8,4 8,4 4,8 4))", 2),
-        ("MULTIPOINT(1 2)", 3),
-        ("POINT EMPTY", 3),
-        ("MULTIPOINT(EMPTY)", 7),
-        ("MULTILINESTRING EMPTY", 4),
-        ("MULTIPOLYGON EMPTY", 5),
-        ("GEOMETRYCOLLECTION(POINT(1 2))", 6),
-    ] {
+    for (text, kind) in KINDS {
         assert_eq!(rt; becomes::<Point<Number>>(alloc, text)?, kind == 0);
         assert_eq!(rt; becomes::<LineString<Number>>(alloc, text)?, kind == 1);
         assert_eq!(rt; becomes::<Polygon<Number>>(alloc, text)?, kind == 2);

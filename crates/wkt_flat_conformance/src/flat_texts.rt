@@ -129,49 +129,55 @@ fn again<G: TryFromWkt<Number, Error = Error> + ToWkt<Number> + Drop>(
     }
 }
 
+const EMPTY_POINT: &str = "The WKT Point was empty, but geo_type::Points cannot be empty";
+
+const READ: [(&str, &str); 16] = [
+    ("POINT Z(1 2 3)", "POINT(1 2)"),
+    ("POINT EMPTY", "MULTIPOINT EMPTY"),
+    (
+        "LINEARRING ZM(1.50 2 3 4,5 6 7 8)x",
+        "LINESTRING(1.5 2,5 6)",
+    ),
+    (
+        "POLYGON((0 0,4 0,2 4),EMPTY,(1 1,2 2))",
+        "POLYGON((0 0,4 0,2 4,0 0),EMPTY,(1 1,2 2,1 1))",
+    ),
+    ("POLYGON((1 2))", "POLYGON((1 2))"),
+    ("POLYGON(EMPTY,(1 1,2 2))", "POLYGON EMPTY"),
+    ("POLYGON M EMPTY", "POLYGON EMPTY"),
+    ("MULTIPOINT M(8 4 1,(4 0 2))", "MULTIPOINT((8 4),(4 0))"),
+    ("MULTIPOINT(1 2,EMPTY)", EMPTY_POINT),
+    (
+        "MULTILINESTRING Z((8 4 0,-3 0 0),EMPTY)",
+        "MULTILINESTRING((8 4,-3 0),EMPTY)",
+    ),
+    (
+        "MULTIPOLYGON(((0 0,4 0,2 4)),EMPTY)",
+        "MULTIPOLYGON(((0 0,4 0,2 4,0 0)),EMPTY)",
+    ),
+    (
+        "GEOMETRYCOLLECTION ZM(GEOMETRYCOLLECTION M(POINT(1 2)),POINT EMPTY)",
+        "GEOMETRYCOLLECTION(GEOMETRYCOLLECTION(POINT(1 2)),MULTIPOINT EMPTY)",
+    ),
+    (
+        "GEOMETRYCOLLECTION(POINT(1 2),MULTIPOINT(EMPTY))",
+        EMPTY_POINT,
+    ),
+    ("", "Invalid WKT: Invalid WKT format"),
+    (
+        "LINEARRINGZ(1 2 3)",
+        "Invalid WKT: Invalid type encountered",
+    ),
+    (
+        "POINT EMPTYX",
+        "Invalid WKT: Unexpected word before open paren",
+    ),
+];
+
 #[test]
 fn geometries_are_read(rt: HostRuntime) -> Result<(), Fail> {
     let alloc = rt.alloc();
-    let empty = "The WKT Point was empty, but geo_type::Points cannot be empty";
-    for (text, want) in [
-        ("POINT Z(1 2 3)", "POINT(1 2)"),
-        ("POINT EMPTY", "MULTIPOINT EMPTY"),
-        (
-            "LINEARRING ZM(1.50 2 3 4,5 6 7 8)x",
-            "LINESTRING(1.5 2,5 6)",
-        ),
-        (
-            "POLYGON((0 0,4 0,2 4),EMPTY,(1 1,2 2))",
-            "POLYGON((0 0,4 0,2 4,0 0),EMPTY,(1 1,2 2,1 1))",
-        ),
-        ("POLYGON((1 2))", "POLYGON((1 2))"),
-        ("POLYGON(EMPTY,(1 1,2 2))", "POLYGON EMPTY"),
-        ("POLYGON M EMPTY", "POLYGON EMPTY"),
-        ("MULTIPOINT M(8 4 1,(4 0 2))", "MULTIPOINT((8 4),(4 0))"),
-        ("MULTIPOINT(1 2,EMPTY)", empty),
-        (
-            "MULTILINESTRING Z((8 4 0,-3 0 0),EMPTY)",
-            "MULTILINESTRING((8 4,-3 0),EMPTY)",
-        ),
-        (
-            "MULTIPOLYGON(((0 0,4 0,2 4)),EMPTY)",
-            "MULTIPOLYGON(((0 0,4 0,2 4,0 0)),EMPTY)",
-        ),
-        (
-            "GEOMETRYCOLLECTION ZM(GEOMETRYCOLLECTION M(POINT(1 2)),POINT EMPTY)",
-            "GEOMETRYCOLLECTION(GEOMETRYCOLLECTION(POINT(1 2)),MULTIPOINT EMPTY)",
-        ),
-        ("GEOMETRYCOLLECTION(POINT(1 2),MULTIPOINT(EMPTY))", empty),
-        ("", "Invalid WKT: Invalid WKT format"),
-        (
-            "LINEARRINGZ(1 2 3)",
-            "Invalid WKT: Invalid type encountered",
-        ),
-        (
-            "POINT EMPTYX",
-            "Invalid WKT: Unexpected word before open paren",
-        ),
-    ] {
+    for (text, want) in READ {
         assert_eq!(rt; again::<Geometry<Number>>(alloc, text)?.as_str(), want);
     }
     Ok(())
@@ -189,6 +195,12 @@ fn reads<G: TryFromWkt<Number, Error = Error> + ToWkt<Number> + Drop>(
     Ok(())
 }
 
+const READ_AS_POINTS: [(&str, &str); 3] = [
+    ("POINT EMPTY", "MULTIPOINT EMPTY"),
+    ("MULTIPOINT Z EMPTY", "MULTIPOINT EMPTY"),
+    ("MULTIPOINT(8 4,4 0)", "MULTIPOINT((8 4),(4 0))"),
+];
+
 #[test]
 fn points_are_read(rt: HostRuntime) -> Result<(), Fail> {
     let alloc = rt.alloc();
@@ -197,11 +209,7 @@ fn points_are_read(rt: HostRuntime) -> Result<(), Fail> {
     };
     assert_eq!(rt; point.y().units(), 20_000_000);
     assert_eq!(rt; point.x().units(), 10_000_000);
-    for (text, want) in [
-        ("POINT EMPTY", "MULTIPOINT EMPTY"),
-        ("MULTIPOINT Z EMPTY", "MULTIPOINT EMPTY"),
-        ("MULTIPOINT(8 4,4 0)", "MULTIPOINT((8 4),(4 0))"),
-    ] {
+    for (text, want) in READ_AS_POINTS {
         reads::<MultiPoint<Number>>(&rt, alloc, text, want)?;
     }
     Ok(())
@@ -235,17 +243,19 @@ fn mismatches<G: TryFromWkt<Number, Error = Error> + Drop>(
     }
 }
 
+const OTHER_THAN_SINGLE: [(&str, &str); 6] = [
+    ("POINT EMPTY", "MultiPoint"),
+    ("LINESTRING(1 2,3 4)", "LineString"),
+    ("POLYGON((8 4,8 8,4 8,4 4,8 4))", "Polygon"),
+    ("MULTILINESTRING EMPTY", "MultiLineString"),
+    ("MULTIPOLYGON EMPTY", "MultiPolygon"),
+    ("GEOMETRYCOLLECTION EMPTY", "GeometryCollection"),
+];
+
 #[test]
 fn single_values_of_other_kinds_are_refused(rt: HostRuntime) {
     let alloc = rt.alloc();
-    for (text, kind) in [
-        ("POINT EMPTY", "MultiPoint"),
-        ("LINESTRING(1 2,3 4)", "LineString"),
-        ("POLYGON((8 4,8 8,4 8,4 4,8 4))", "Polygon"),
-        ("MULTILINESTRING EMPTY", "MultiLineString"),
-        ("MULTIPOLYGON EMPTY", "MultiPolygon"),
-        ("GEOMETRYCOLLECTION EMPTY", "GeometryCollection"),
-    ] {
+    for (text, kind) in OTHER_THAN_SINGLE {
         assert!(rt; mismatches::<Point<Number>>(alloc, text, "Point", kind));
         assert!(rt; mismatches::<Line<Number>>(alloc, text, "Line", kind));
         assert!(rt; mismatches::<Rect<Number>>(alloc, text, "Rect", kind));
@@ -266,18 +276,20 @@ fn lists_of_other_kinds_are_refused(rt: HostRuntime) {
     assert!(rt; mismatches::<MultiPoint<Number>>(alloc, ring, "MultiPoint", "Polygon"));
 }
 
+const OTHER_THAN_A_COLLECTION: [(&str, &str); 6] = [
+    ("POINT EMPTY", "Point"),
+    ("LINESTRING EMPTY", "LineString"),
+    ("POLYGON((8 4,8 8,4 8,4 4,8 4))", "Polygon"),
+    ("MULTIPOINT(EMPTY)", "MultiPoint"),
+    ("MULTILINESTRING EMPTY", "MultiLineString"),
+    ("MULTIPOLYGON EMPTY", "MultiPolygon"),
+];
+
 #[test]
 fn other_kinds_than_a_collection_are_refused(rt: HostRuntime) {
     let alloc = rt.alloc();
     // A collection asked of another kind is refused at once, by the kind of the `Wkt`.
-    for (text, kind) in [
-        ("POINT EMPTY", "Point"),
-        ("LINESTRING EMPTY", "LineString"),
-        ("POLYGON((8 4,8 8,4 8,4 4,8 4))", "Polygon"),
-        ("MULTIPOINT(EMPTY)", "MultiPoint"),
-        ("MULTILINESTRING EMPTY", "MultiLineString"),
-        ("MULTIPOLYGON EMPTY", "MultiPolygon"),
-    ] {
+    for (text, kind) in OTHER_THAN_A_COLLECTION {
         let want = "GeometryCollection";
         assert!(rt; mismatches::<GeometryCollection<Number>>(alloc, text, want, kind));
     }

@@ -1,4 +1,5 @@
-//! Tests of two-dimensional values that cross crates: made, written, read and converted.
+//! Tests of two-dimensional values that cross crates: made, written, read and converted,
+//! and of geometries in JSON values.
 #![tactic(auto)]
 
 #[cfg(test)]
@@ -7,3 +8,5 @@ mod conversions;
 mod flat_texts;
 #[cfg(test)]
 mod flat_values;
+#[cfg(test)]
+mod json_values;

@@ -1,9 +1,12 @@
 -- One geometry more after those that were read.
-use Rattle.std.proofs.Common.{◌≡◌, ℕ, List, [], ◌∷◌, ◌++◌, drop, Option, refl, sym, subst}
+use Rattle.std.proofs.Common.{◌≡◌, ℕ, List, [], ◌∷◌, ◌++◌, drop, Option, Err, refl, sym, subst}
 use Rattle.wkt_num.specs.Bytes.{Lexeme}
 use Rattle.wkt_types.specs.Tree.{Tree}
-use Rattle.wkt_read.specs.Answered.{IsFrontTo, IsReadOff}
-use Rattle.wkt_uses.specs.Ordered.{BeginsWith, StreamBeginsWith}
+use Rattle.wkt_read.specs.Answered.{IsFrontTo, IsReadOff, OnText}
+use Rattle.wkt_read.specs.Begun.{NoneBegins}
+use Rattle.wkt_read.specs.declared.error.ReadError.{ReadError}
+use Rattle.wkt_read.specs.declared.error.ReadError.TheVariants.{Text, Memory}
+use Rattle.wkt_uses.specs.Ordered.{BeginsWith, StreamBeginsWith, StreamStops}
 
 module _ {T : Type 0} (read : List ℕ → Option T) where
   pub begins_more : (text : List ℕ) (ts : List (Tree T)) (rest : List ℕ) (t : Tree T) (end : ℕ)
@@ -15,3 +18,8 @@ module _ {T : Type 0} (read : List ℕ → Option T) where
       → StreamBeginsWith read old ts mid → IsReadOff read mid t new → StreamBeginsWith read old (ts ++ t ∷ []) new
   stream_more old [] mid t new h f = (new, subst (λ x. IsReadOff read x t new) (sym h) f, refl)
   stream_more old (s ∷ ts) mid t new h f = (h.0, h.1, stream_more h.0 ts mid t new h.2 f)
+
+  pub stream_stops : (e : ReadError) (old : List Lexeme) (ts : List (Tree T)) (mid : List Lexeme)
+      → StreamBeginsWith read old ts mid → OnText {X = Unit {0}} (Err e) (NoneBegins read mid) → OnText {X = Unit {0}} (Err e) (StreamStops read old)
+  stream_stops (Text m) old ts mid h none = (ts, mid, h, none)
+  stream_stops (Memory e) old ts mid h none = tt

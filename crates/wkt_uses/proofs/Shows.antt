@@ -4,7 +4,6 @@ use Rattle.std.specs.String.{string_eq}
 use Rattle.std.proofs.lemmas.Slice.Eq.{bytes_eq-Decides}
 use Rattle.wkt_access.specs.declared.dimensions.Dimension.TheVariants.{XY}
 use Rattle.wkt_access.specs.Values.{Value}
-use Rattle.wkt_access.specs.Shapes.{Shape}
 use Rattle.wkt_access.specs.Texts.{shape_text}
 use Rattle.wkt_access.specs.Faults.{fault}
 use Rattle.wkt_types.specs.Shown.{shown}

@@ -1,5 +1,7 @@
 -- Texts on lines of their own.
-use Rattle.std.specs.Prelude.{ℕ, List, [], ◌∷◌, ◌++◌}
+use Rattle.std.specs.Prelude.{◌≡◌, ℕ, List, [], ◌∷◌, ◌++◌, slice_get, Some}
+use Rattle.wkt_access.specs.declared.error.Error.{Error}
+use Rattle.wkt_access.specs.Faults.{fault}
 use Rattle.wkt_access.specs.Shapes.{Shape}
 use Rattle.wkt_access.specs.Texts.{shape_text}
 
@@ -7,3 +9,7 @@ use Rattle.wkt_access.specs.Texts.{shape_text}
 abbrev pub lined : {N : Type 0} → (N → List ℕ) → List (Shape N) → List ℕ
 lined num [] = []
 lined num (s ∷ ss) = shape_text num s ++ (10 ∷ lined num ss)
+
+-- One of the shapes has this fault.
+abbrev pub HasFault : {N : Type 0} → List (Shape N) → Error → Type 0
+HasFault {N} ss e = (i : ℕ) × (s : Shape N) × (slice_get ss i ≡ Some s) × (fault s ≡ Some e)

@@ -3,6 +3,7 @@ use Rattle.std.specs.Prelude.{◌≡◌, ℕ, List, [], ◌∷◌, drop, Option}
 use Rattle.wkt_num.specs.Bytes.{Lexeme}
 use Rattle.wkt_types.specs.Tree.{Tree}
 use Rattle.wkt_read.specs.Answered.{IsFrontTo, IsReadOff}
+use Rattle.wkt_read.specs.Begun.{NoneBegins}
 
 module _ {T : Type 0} (read : List ℕ → Option T) where
   -- The text begins with these geometries, each of which is the front of what the one before it left; then the rest follows.
@@ -14,3 +15,7 @@ module _ {T : Type 0} (read : List ℕ → Option T) where
   abbrev pub StreamBeginsWith : List Lexeme → List (Tree T) → List Lexeme → Type 0
   StreamBeginsWith lexemes [] rest = lexemes ≡ rest
   StreamBeginsWith lexemes (t ∷ ts) rest = (later : List Lexeme) × IsReadOff read lexemes t later × StreamBeginsWith later ts rest
+
+  -- Geometries one after the other end before lexemes that don't begin with one.
+  abbrev pub StreamStops : List Lexeme → Type 0
+  StreamStops lexemes = (ts : List (Tree T)) × (later : List Lexeme) × StreamBeginsWith lexemes ts later × NoneBegins read later

@@ -1,7 +1,8 @@
 //! Functions over any collection, in whatever representation.
 ghost use Rattle.std.specs.Prelude.{◌≡◌, OnOk, length};
 ghost use Rattle.wkt_num.specs.Sink.{Adds};
-ghost use Rattle.wkt_uses.specs.Lined.{lined};
+ghost use Rattle.wkt_write.specs.Writes.{IfFault};
+ghost use Rattle.wkt_uses.specs.Lined.{lined, HasFault};
 
 use wkt::error::Error;
 use wkt::geo_traits::GeometryCollectionTrait;
@@ -22,7 +23,8 @@ pub fn write_members<W: TextSink, C: GeometryCollectionTrait>(
     f: &mut W,
     collection: &C,
 ) -> Result<(), Error>
-    ensures { OnOk result (Adds W.sink f.old (lined C.T.num (C.geometries collection.now)) f.new) }
+    ensures written { OnOk result (Adds W.sink f.old (lined C.T.num (C.geometries collection.now)) f.new) }
+    ensures fault { IfFault result (HasFault (C.geometries collection.now)) }
 {
     for i in 0..collection.num_geometries() {
         write_geometry(f, collection.geometry(i))?;
@@ -31,35 +33,4 @@ pub fn write_members<W: TextSink, C: GeometryCollectionTrait>(
         }
     }
     Ok(())
-}
-
-#[cfg(test)]
-mod tests {
-    use super::*;
-    use crate::my_map::{Figure, Map};
-    use std::test::Fail;
-    use wkt::geo_traits::Dimensions;
-    use wkt::to_wkt::CountedText;
-
-    #[test]
-    fn writes_members(rt: HostRuntime) -> Result<(), Fail> {
-        let alloc = rt.alloc();
-        let mut figures = Vec::new(alloc);
-        figures.push(Figure::Group(Dimensions::Xyz, Vec::new(alloc)))?;
-        figures.push(Figure::Group(Dimensions::Xy, Vec::new(alloc)))?;
-        let map = Map {
-            header: Dimensions::Xy,
-            figures,
-        };
-        assert_eq!(rt; count_members(&map), 2);
-        let mut out = String::new(alloc);
-        let mut sink = CountedText::new(&mut out);
-        write_members(&mut sink, &map)?;
-        sink.into_writer();
-        assert_eq!(rt;
-            out.as_str(),
-            "GEOMETRYCOLLECTION Z EMPTY\nGEOMETRYCOLLECTION EMPTY\n"
-        );
-        Ok(())
-    }
 }

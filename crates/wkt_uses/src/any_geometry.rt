@@ -22,27 +22,3 @@ pub fn first_member<G: GeometryTrait>(geometry: &G) -> Option<&G>
         _ => None,
     }
 }
-
-#[cfg(test)]
-mod tests {
-    use super::*;
-    use crate::my_map::Figure;
-    use std::test::Fail;
-    use wkt::geo_traits::Dimensions;
-
-    #[test]
-    fn finds_members(rt: HostRuntime) -> Result<(), Fail> {
-        let alloc = rt.alloc();
-        let mut members = Vec::new(alloc);
-        members.push(Figure::Group(Dimensions::Xyz, Vec::new(alloc)))?;
-        let group = Figure::Group(Dimensions::Xy, members);
-        match first_member(&group) {
-            Some(member) => {
-                assert!(rt; matches!(member.dim(), Dimensions::Xyz));
-                assert!(rt; first_member(member).is_none());
-            }
-            None => assert!(rt; false),
-        }
-        Ok(())
-    }
-}

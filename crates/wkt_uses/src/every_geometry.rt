@@ -2,9 +2,10 @@
 //! by `read_tokens`.
 ghost use Rattle.std.specs.Prelude.{◌≡◌, [], ◌∷◌, ◌++◌, IfOk, OnOk, map};
 ghost use Rattle.wkt_read.specs.Ahead.{rest};
+ghost use Rattle.wkt_read.specs.Answered.{OnText};
 ghost use Rattle.wkt_read.specs.Front.{HasNoFront};
 ghost use Rattle.wkt_types.specs.Tree.{tree};
-ghost use Rattle.wkt_uses.specs.Ordered.{BeginsWith, StreamBeginsWith};
+ghost use Rattle.wkt_uses.specs.Ordered.{BeginsWith, StreamBeginsWith, StreamStops};
 
 use std::alloc::{AllocError, Global};
 use wkt::tokenizer::PeekableTokens;
@@ -53,7 +54,8 @@ pub fn every_geometry_of_stream<T: WktNum>(
     alloc: Global,
     tokens: &mut PeekableTokens<'_, T>,
 ) -> Result<Vec<Wkt<T>>, ReadError>
-    ensures { IfOk result (λ all. StreamBeginsWith T.read (rest tokens.old) (map tree all.items) []) }
+    ensures all { IfOk result (λ all. StreamBeginsWith T.read (rest tokens.old) (map tree all.items) []) }
+    ensures stops { OnText result (StreamStops T.read (rest tokens.old)) }
 {
     let mut all = Vec::new(alloc);
     'tokens: while tokens.peek().is_some() {
@@ -61,25 +63,4 @@ pub fn every_geometry_of_stream<T: WktNum>(
         all.push(geometry)?;
     }
     Ok(all)
-}
-
-#[cfg(test)]
-mod tests {
-    use super::*;
-    use std::test::Fail;
-    use wkt::tokenizer::Tokens;
-
-    #[test]
-    fn reads_all(rt: HostRuntime) -> Result<(), Fail> {
-        let alloc = rt.alloc();
-        let (all, rest) = every_geometry::<i32>(alloc, "POINT(1 2) point empty\nLINESTRING(1 2)x")?;
-        assert_eq!(rt; all.len(), 3);
-        assert_eq!(rt; rest, "x");
-        let mut tokens = PeekableTokens::new(Tokens::from_str("POINT(1 2) POINT EMPTY "));
-        let all = every_geometry_of_stream::<i32>(alloc, &mut tokens)?;
-        assert_eq!(rt; all.len(), 2);
-        let mut tokens = PeekableTokens::new(Tokens::from_str("POINT(1 2) x"));
-        assert!(rt; every_geometry_of_stream::<i32>(alloc, &mut tokens).is_err());
-        Ok(())
-    }
 }

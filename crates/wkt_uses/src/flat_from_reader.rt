@@ -43,34 +43,3 @@ pub fn copy_polygon<T: WktNum, R: ByteSource, W: ByteSink>(
         Err(error) => Err(CopyError::Write(error)),
     }
 }
-
-#[cfg(test)]
-mod tests {
-    use super::*;
-    use crate::my_sinks::{Page, Piecewise};
-    use std::test::Fail;
-
-    // What goes out of this text.
-    fn copied(alloc: Global, text: &[u8]) -> Result<Vec<u8>, CopyError> {
-        let mut page = Page {
-            text: Vec::new(alloc),
-            room: 100,
-            failures: 0,
-        };
-        let mut source = Piecewise {
-            rest: text,
-            step: 7,
-        };
-        copy_polygon::<i32, Piecewise<'_>, Page>(alloc, &mut source, &mut page)?;
-        Ok(page.text)
-    }
-
-    #[test]
-    fn copies(rt: HostRuntime) -> Result<(), Fail> {
-        let alloc = rt.alloc();
-        let text = copied(alloc, b"POLYGON Z ((0 0 1, 4 0 2, 2 4 3))")?;
-        assert_eq!(rt; text.as_slice(), b"POLYGON((0 0,4 0,2 4,0 0))".as_slice());
-        assert!(rt; copied(alloc, b"POINT (1 2)").is_err());
-        Ok(())
-    }
-}

@@ -23,26 +23,3 @@ pub fn geometry_in<T: WktNum>(
     let field = document.get(name)?;
     Some(wkt_from_value(alloc, field))
 }
-
-#[cfg(test)]
-mod tests {
-    use super::*;
-    use std::test::Fail;
-
-    #[test]
-    fn reads_fields(rt: HostRuntime) -> Result<(), Fail> {
-        let alloc = rt.alloc();
-        let json = "{\"at\":\"POINT (4 2)\",\"id\":7,\"name\":\"x\"}";
-        let document = Value::from_str(alloc, json)?;
-        for (name, want) in [("at", "POINT(4 2)"), ("id", "?"), ("name", "!"), ("to", "")] {
-            let text = match geometry_in::<i32>(alloc, &document, name) {
-                Some(Ok(geometry)) => geometry.to_string(alloc)?,
-                Some(Err(ValueError::NotAString)) => String::from_str(alloc, "?")?,
-                Some(Err(ValueError::Fault(_))) => String::from_str(alloc, "!")?,
-                None => String::new(alloc),
-            };
-            assert_eq!(rt; text.as_str(), want);
-        }
-        Ok(())
-    }
-}

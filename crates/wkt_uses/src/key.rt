@@ -29,20 +29,3 @@ pub fn key<G: GeometryTrait>(alloc: Global, geometry: &G) -> Result<String, Erro
     reads_back::<G::T>();
     Ok(text)
 }
-
-#[cfg(test)]
-mod tests {
-    use super::*;
-    use std::test::Fail;
-    use wkt::geo_types::{Coord, Line};
-
-    #[test]
-    fn keys(rt: HostRuntime) -> Result<(), Fail> {
-        let line = Line {
-            start: Coord { x: 3u8, y: 4 },
-            end: Coord { x: 5, y: 6 },
-        };
-        assert_eq!(rt; key(rt.alloc(), &line)?.as_str(), "LINESTRING(3 4,5 6)");
-        Ok(())
-    }
-}

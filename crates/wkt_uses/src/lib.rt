@@ -1,4 +1,5 @@
-//! Callers of `wkt`, proved and tested: each in a file of its own, written to be copied from.
+//! Callers of `wkt`, proved, each in a file of its own and written to be copied from.
+//! `wkt_use_conformance` calls and tests them.
 //!
 //! `docs/CALLING.md` has the calls that they make, with the clause that each of them rests on.
 #![tactic(auto)]
@@ -16,7 +17,5 @@ pub mod my_number;
 pub mod my_paper;
 pub mod my_points;
 pub mod my_sinks;
-#[cfg(test)]
-mod my_tests;
 pub mod read_and_write;
 pub mod same_place;

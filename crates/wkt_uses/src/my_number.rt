@@ -49,19 +49,3 @@ impl WktNum for Half {
 
     fn known(&self) {}
 }
-
-#[cfg(test)]
-mod tests {
-    use super::*;
-    use crate::read_and_write::tidy;
-    use std::test::Fail;
-
-    #[test]
-    fn reads_halves(rt: HostRuntime) -> Result<(), Fail> {
-        let alloc = rt.alloc();
-        let line = tidy::<Half>(alloc, "linestring (0 .5, 1 +1)")?;
-        assert_eq!(rt; line.as_str(), "LINESTRING(0 .5,1 1)");
-        assert!(rt; tidy::<Half>(alloc, "POINT (0 0.5)").is_err());
-        Ok(())
-    }
-}

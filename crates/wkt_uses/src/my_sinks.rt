@@ -1,7 +1,7 @@
 //! A source and a sink of one's own, and the program's `run` over them.
 ghost use Rattle.std.specs.Prelude.{◌≡◌, ◌<◌, IfOk};
 ghost use Rattle.wkt_lines.specs.Numbers.{read_line, print_line};
-ghost use Rattle.wkt_lines.specs.Output.{IsOutput};
+ghost use Rattle.wkt_lines.specs.Output.{IfRunRead, IsOutput};
 
 use std::alloc::Global;
 use std::io;
@@ -60,9 +60,10 @@ impl ByteSink for Page {
 /// The answers to all lines of the input: of each line the text of its geometry, or `refused`.
 ///
 /// # Errors
-/// Those of `run`.
+/// `Write` where the answers are longer than the room, or out of memory for them; `Memory`. `Read` never comes.
 pub fn answers(alloc: Global, input: &[u8], room: usize) -> Result<Vec<u8>, RunError>
-    ensures { IfOk result (λ v. IsOutput read_line print_line input.now v.items) }
+    ensures output { IfOk result (λ v. IsOutput read_line print_line input.now v.items) }
+    ensures never_read { IfRunRead result ⊥ }
 {
     let mut source = Piecewise {
         rest: input,
@@ -75,20 +76,4 @@ pub fn answers(alloc: Global, input: &[u8], room: usize) -> Result<Vec<u8>, RunE
     };
     run(alloc, &mut source, &mut sink)?;
     Ok(sink.text)
-}
-
-#[cfg(test)]
-mod tests {
-    use super::*;
-    use std::test::Fail;
-
-    #[test]
-    fn runs(rt: HostRuntime) -> Result<(), Fail> {
-        let alloc = rt.alloc();
-        let input = b"point ( 10 -20.50 )\nPOINT (10)\n";
-        let text = answers(alloc, input, 24)?;
-        assert_eq!(rt; text.as_slice(), b"POINT(10 -20.5)\nrefused\n".as_slice());
-        assert!(rt; matches!(answers(alloc, input, 23), Err(RunError::Write(_))));
-        Ok(())
-    }
 }

@@ -1,5 +1,5 @@
 //! A text is read, and the geometry, changed or not, is written. An error is told apart.
-ghost use Rattle.std.specs.Prelude.{◌≡◌, [], ◌∷◌, IfOk, MatchOption, string_bytes};
+ghost use Rattle.std.specs.Prelude.{◌≡◌, ◌⊎◌, [], ◌∷◌, IfOk, MatchOption, string_bytes};
 ghost use Rattle.wkt_read.specs.Answered.{OnText};
 ghost use Rattle.wkt_read.specs.Front.{HasNoFront};
 ghost use Rattle.wkt_access.specs.declared.dimensions.Dimension.TheVariants.{XY};
@@ -40,7 +40,8 @@ fn pair_of<T: WktNum>(alloc: Global, one: Wkt<T>, other: Wkt<T>) -> Result<Wkt<T
 /// # Errors
 /// `Text` where a text has no geometry at its front; `Memory`.
 pub fn tidy_pair<T: WktNum>(alloc: Global, one: &str, other: &str) -> Result<String, ReadError>
-    ensures { IfOk result (λ s. IsTidyPair T.read T.num one.now other.now (string_bytes s)) }
+    ensures pair { IfOk result (λ s. IsTidyPair T.read T.num one.now other.now (string_bytes s)) }
+    ensures no_front { OnText result (HasNoFront T.read one.now ⊎ HasNoFront T.read other.now) }
 {
     let one = Wkt::<T>::from_str(alloc, one)?;
     let other = Wkt::<T>::from_str(alloc, other)?;
@@ -61,30 +62,5 @@ pub fn tidy_if_any<T: WktNum>(alloc: Global, text: &str) -> Result<Option<String
         Ok(tidy) => Ok(Some(tidy)),
         Err(ReadError::Text(_)) => Ok(None),
         Err(ReadError::Memory(error)) => Err(error),
-    }
-}
-
-#[cfg(test)]
-mod tests {
-    use super::*;
-    use std::test::Fail;
-    use wkt::Decimal;
-
-    #[test]
-    fn reads_and_writes(rt: HostRuntime) -> Result<(), Fail> {
-        let alloc = rt.alloc();
-        let text = tidy::<Decimal<6>>(alloc, "linestring z (1 2 3, 4 5.50 6)")?;
-        assert_eq!(rt; text.as_str(), "LINESTRING Z(1 2 3,4 5.5 6)");
-        let pair = tidy_pair::<Decimal<6>>(alloc, "POINT (1 2)", "LINESTRING EMPTY")?;
-        assert_eq!(rt;
-            pair.as_str(),
-            "GEOMETRYCOLLECTION(POINT(1 2),LINESTRING EMPTY)"
-        );
-        assert!(rt; tidy_if_any::<Decimal<6>>(alloc, "POINT (1)")?.is_none());
-        match tidy::<Decimal<6>>(alloc, "CIRCLE (1 2)") {
-            Err(ReadError::Text(message)) => assert_eq!(rt; message, "Invalid type encountered"),
-            _ => assert!(rt; false),
-        }
-        Ok(())
     }
 }

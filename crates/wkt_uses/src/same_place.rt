@@ -25,29 +25,3 @@ pub fn same_place<T: WktNum>(alloc: Global, one: &str, other: &str) -> Result<bo
     one_text::<T>();
     Ok(first == second)
 }
-
-#[cfg(test)]
-mod tests {
-    use super::*;
-    use std::test::Fail;
-    use wkt::Decimal;
-
-    #[test]
-    fn compares(rt: HostRuntime) -> Result<(), Fail> {
-        let alloc = rt.alloc();
-        for (one, other, same) in [
-            ("POINT (1 2)", "point(1.0 +2.)", true),
-            ("MULTIPOINT (1 2)", "MULTIPOINT ((1 2))", true),
-            ("LINEARRING (1 2)", "LINESTRING (1 2)", true),
-            ("POINT (1 2)", "POINT (2 1)", false),
-            ("POINT Z EMPTY", "POINT EMPTY", false),
-        ] {
-            assert_eq!(rt;
-                same_place::<Decimal<6>>(alloc, one, other)?,
-                same,
-                "of {one} and {other}"
-            );
-        }
-        Ok(())
-    }
-}

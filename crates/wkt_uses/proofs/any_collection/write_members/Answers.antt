@@ -9,5 +9,5 @@ loop-i-init g c = record { given = g.W.TextSink.sink.none _; unfailed = refl }
 pub loop-i-preserved : goal.loop-i-preserved
 loop-i-preserved g c = line_added _ g.W.TextSink.sink _ _ _ _ _ _ _ c.loop-i.invariant c.geometry.ensures (c.in_ok-write_geometry.ensures).added c.in_default.ensures
 
-pub returns : goal.returns
-returns g c = rw (take_all c.loop-i.i (g.C.GeometryCollectionTrait.geometries c.args.collection.now) (rw (c.num_geometries-i-end.ensures) at c.loop-i-test.false)) at c.loop-i.invariant
+pub returns-clause-written : goal.returns-clause-written
+returns-clause-written g c = rw (take_all c.loop-i.i (g.C.GeometryCollectionTrait.geometries c.args.collection.now) (rw (c.num_geometries-i-end.ensures) at c.loop-i-test.false)) at c.loop-i.invariant

@@ -7,8 +7,8 @@ use Rattle.wkt_uses.specs.Tidy.{pair}
 use Rattle.wkt_uses.proofs.Shows.{pair_shown}
 use Rattle.wkt_uses.proofs.read_and_write.tidy_pair.Goals as goal
 
-pub returns : goal.returns
-returns g c =
+pub returns-clause-pair : goal.returns-clause-pair
+returns-clause-pair g c =
     let (end, (value, front, is)) = c.in_ok-one.ensures.found in
     let (end', (value', front', is')) = c.in_ok-other.ensures.found in
     let law = c.read_values_are_writable.ensures _ value end _ front is in

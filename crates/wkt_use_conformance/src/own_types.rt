@@ -1,9 +1,4 @@
-//! The representation of one's own, written by all eleven writers.
-use crate::my_areas::{Area, Areas, Corners};
-use crate::my_lines::{Segment, Track, Tracks};
-use crate::my_map::{Figure, Map};
-use crate::my_paper::Paper;
-use crate::my_points::{Dot, Dots, Spot};
+//! The representation of one's own in `wkt_uses`, written by all eleven writers.
 use std::alloc::{AllocError, Global};
 use std::test::Fail;
 use wkt::error::Error;
@@ -13,6 +8,11 @@ use wkt::to_wkt::{
     write_linestring, write_multi_linestring, write_multi_point, write_multi_polygon, write_point,
     write_polygon, write_rect, write_triangle,
 };
+use wkt_uses::my_areas::{Area, Areas, Corners};
+use wkt_uses::my_lines::{Segment, Track, Tracks};
+use wkt_uses::my_map::{Figure, Map};
+use wkt_uses::my_paper::Paper;
+use wkt_uses::my_points::{Dot, Dots, Spot};
 
 fn spot(alloc: Global, x: i32, y: i32, others: &[i32]) -> Result<Spot, AllocError> {
     let mut numbers = [x, y].to_vec(alloc)?;

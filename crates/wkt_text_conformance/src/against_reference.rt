@@ -176,24 +176,26 @@ fn differences(
     Ok(wrong)
 }
 
+const PROGRAM_ROWS: [(&str, &str); 7] = [
+    ("POINT ( 1 +-2 )", "POINT(1 -2)"),
+    ("LineString m empty 1x", "LINESTRING M EMPTY"),
+    (
+        "MULTIPOINT(1 2,(3 4),EMPTY)",
+        "MULTIPOINT((1 2),(3 4),EMPTY)",
+    ),
+    ("POLYGON(EMPTY,(1 2))", "POLYGON EMPTY"),
+    (
+        "GEOMETRYCOLLECTION Z (POINT (1 2), POINTM(1 2 3))",
+        "GEOMETRYCOLLECTION Z(POINT(1 2),POINT M(1 2 3))",
+    ),
+    ("LINEARRINGZ(1 2 3)", "none"),
+    ("MULTIPOINT((EMPTY))", "none"),
+];
+
 #[test]
 fn plain_program(rt: HostRuntime) -> Result<(), Fail> {
     let alloc = rt.alloc();
-    for (text, wanted) in [
-        ("POINT ( 1 +-2 )", "POINT(1 -2)"),
-        ("LineString m empty 1x", "LINESTRING M EMPTY"),
-        (
-            "MULTIPOINT(1 2,(3 4),EMPTY)",
-            "MULTIPOINT((1 2),(3 4),EMPTY)",
-        ),
-        ("POLYGON(EMPTY,(1 2))", "POLYGON EMPTY"),
-        (
-            "GEOMETRYCOLLECTION Z (POINT (1 2), POINTM(1 2 3))",
-            "GEOMETRYCOLLECTION Z(POINT(1 2),POINT M(1 2 3))",
-        ),
-        ("LINEARRINGZ(1 2 3)", "none"),
-        ("MULTIPOINT((EMPTY))", "none"),
-    ] {
+    for (text, wanted) in PROGRAM_ROWS {
         let given = match front(alloc, text)? {
             Some(given) => given,
             None => String::from_str(alloc, "none")?,
@@ -203,19 +205,21 @@ fn plain_program(rt: HostRuntime) -> Result<(), Fail> {
     Ok(())
 }
 
+const LISTS_OF_NUMBERS: [&str; 7] = [
+    "LINESTRINGM",
+    "LINEARRING",
+    "POLYGON",
+    "MULTIPOINT",
+    "MULTILINESTRING",
+    "MULTIPOLYGON",
+    "GeometryCollection",
+];
+
 #[test]
 fn short_lists(rt: HostRuntime) -> Result<(), Fail> {
     let alloc = rt.alloc();
     assert_eq!(rt; lists(9, 5), 66430);
-    for kind in [
-        "LINESTRINGM",
-        "LINEARRING",
-        "POLYGON",
-        "MULTIPOINT",
-        "MULTILINESTRING",
-        "MULTIPOLYGON",
-        "GeometryCollection",
-    ] {
+    for kind in LISTS_OF_NUMBERS {
         let words = [kind, "point", "m", "empty", "(", ")", ",", "1", "1x"];
         let wrong = differences(alloc, "", &words, " ", 5)?;
         assert_eq!(rt; wrong.as_str(), "");
@@ -223,17 +227,19 @@ fn short_lists(rt: HostRuntime) -> Result<(), Fail> {
     Ok(())
 }
 
+const BEGINNINGS: [&str; 6] = [
+    "LINESTRING (",
+    "POLYGON(",
+    "MULTIPOINT (",
+    "MULTILINESTRING(",
+    "MULTIPOLYGON ((",
+    "GEOMETRYCOLLECTION(POINT",
+];
+
 #[test]
 fn longer_lists(rt: HostRuntime) -> Result<(), Fail> {
     let alloc = rt.alloc();
-    for first in [
-        "LINESTRING (",
-        "POLYGON(",
-        "MULTIPOINT (",
-        "MULTILINESTRING(",
-        "MULTIPOLYGON ((",
-        "GEOMETRYCOLLECTION(POINT",
-    ] {
+    for first in BEGINNINGS {
         let wrong = differences(alloc, first, &["(", ")", ",", "1 +-2", "empty"], " ", 6)?;
         assert_eq!(rt; wrong.as_str(), "");
     }

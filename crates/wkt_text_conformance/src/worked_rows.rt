@@ -1,11 +1,11 @@
 //! Texts and what reading and writing gives, from outside.
-use crate::table::answer;
 use std::alloc::{AllocError, Global};
 use std::process::Abort;
 use std::test::Fail;
 use wkt::geo_types::Geometry;
 use wkt::tokenizer::{PeekableTokens, Token, Tokens};
 use wkt::{Decimal, FromWktStr, ReadError, ToWkt, TryFromWkt, Wkt, WktNum, infer_type};
+use wkt_answers::answer;
 use wkt_odd::{Dash, Letter};
 
 const NOT_WKT: &str = "Invalid WKT format";
@@ -36,135 +36,125 @@ fn each<T: WktNum>(rt: &impl Abort, alloc: Global, rows: &[(&str, &str)]) -> Res
     Ok(())
 }
 
+const POINTS: [(&str, &str); 11] = [
+    (
+        " \n\t\rPOINT \n\t\r( \n\r\t10 \n\t\r-20 \n\t\r) \n\t\r",
+        "POINT(10 -20)",
+    ),
+    ("point ( 10 -20.50 )", "POINT(10 -20.5)"),
+    ("POINT ZM EMPTY", "POINT ZM EMPTY"),
+    ("POINTZ(-117 33 10)", "POINT Z(-117 33 10)"),
+    ("pointm(1 2 3)", "POINT M(1 2 3)"),
+    ("POINT (1 2) 1x", "POINT(1 2)"),
+    ("POINT (1 2)\0)", "POINT(1 2)"),
+    ("POINT EMPTY\0X", "POINT EMPTY"),
+    ("POINT (+-2 .5)", "POINT(-2 0.5)"),
+    ("POINT (-0 0.0000010)", "POINT(0 0.000001)"),
+    (
+        "POINT(9223372036854.775807 -9223372036854.775808)",
+        "POINT(9223372036854.775807 -9223372036854.775808)",
+    ),
+];
+
 #[test]
 fn points(rt: HostRuntime) -> Result<(), Fail> {
-    each::<Decimal<6>>(
-        &rt,
-        rt.alloc(),
-        &[
-            (
-                " \n\t\rPOINT \n\t\r( \n\r\t10 \n\t\r-20 \n\t\r) \n\t\r",
-                "POINT(10 -20)",
-            ),
-            ("point ( 10 -20.50 )", "POINT(10 -20.5)"),
-            ("POINT ZM EMPTY", "POINT ZM EMPTY"),
-            ("POINTZ(-117 33 10)", "POINT Z(-117 33 10)"),
-            ("pointm(1 2 3)", "POINT M(1 2 3)"),
-            ("POINT (1 2) 1x", "POINT(1 2)"),
-            ("POINT (1 2)\0)", "POINT(1 2)"),
-            ("POINT EMPTY\0X", "POINT EMPTY"),
-            ("POINT (+-2 .5)", "POINT(-2 0.5)"),
-            ("POINT (-0 0.0000010)", "POINT(0 0.000001)"),
-            (
-                "POINT(9223372036854.775807 -9223372036854.775808)",
-                "POINT(9223372036854.775807 -9223372036854.775808)",
-            ),
-        ],
-    )
+    each::<Decimal<6>>(&rt, rt.alloc(), &POINTS)
 }
+
+const LISTS_OF_EACH_KIND: [(&str, &str); 13] = [
+    ("LINESTRING (10 -20, -0 -0.5)", "LINESTRING(10 -20,0 -0.5)"),
+    ("LINEARRING Z(1 2 3)", "LINESTRING Z(1 2 3)"),
+    (
+        "linestringzm(1 2 3 4,5 6 7 8)",
+        "LINESTRING ZM(1 2 3 4,5 6 7 8)",
+    ),
+    ("linestring z empty", "LINESTRING Z EMPTY"),
+    ("POLYGON(EMPTY)", "POLYGON EMPTY"),
+    ("POLYGON(EMPTY,(1 2))", "POLYGON EMPTY"),
+    ("MULTIPOINT (8 4, (4 0))", "MULTIPOINT((8 4),(4 0))"),
+    ("MULTIPOINT (EMPTY)", "MULTIPOINT(EMPTY)"),
+    (
+        "multipoint z(1 2 3,empty,(4 5 6))",
+        "MULTIPOINT Z((1 2 3),EMPTY,(4 5 6))",
+    ),
+    (
+        "MULTIPOLYGON ((EMPTY,(1 2)),((3 4),EMPTY))",
+        "MULTIPOLYGON(EMPTY,((3 4),EMPTY))",
+    ),
+    (
+        "MULTIPOLYGON (((8 4)), ((4 0)))",
+        "MULTIPOLYGON(((8 4)),((4 0)))",
+    ),
+    (
+        "GEOMETRYCOLLECTION (POINT (8 4),LINESTRING(4 6,7 10)))",
+        "GEOMETRYCOLLECTION(POINT(8 4),LINESTRING(4 6,7 10))",
+    ),
+    (
+        "GEOMETRYCOLLECTION Z (POINT (1 2), POINT M(1 2 3))",
+        "GEOMETRYCOLLECTION Z(POINT(1 2),POINT M(1 2 3))",
+    ),
+];
 
 #[test]
 fn lists(rt: HostRuntime) -> Result<(), Fail> {
-    each::<Decimal<6>>(
-        &rt,
-        rt.alloc(),
-        &[
-            ("LINESTRING (10 -20, -0 -0.5)", "LINESTRING(10 -20,0 -0.5)"),
-            ("LINEARRING Z(1 2 3)", "LINESTRING Z(1 2 3)"),
-            (
-                "linestringzm(1 2 3 4,5 6 7 8)",
-                "LINESTRING ZM(1 2 3 4,5 6 7 8)",
-            ),
-            ("linestring z empty", "LINESTRING Z EMPTY"),
-            ("POLYGON(EMPTY)", "POLYGON EMPTY"),
-            ("POLYGON(EMPTY,(1 2))", "POLYGON EMPTY"),
-            ("MULTIPOINT (8 4, (4 0))", "MULTIPOINT((8 4),(4 0))"),
-            ("MULTIPOINT (EMPTY)", "MULTIPOINT(EMPTY)"),
-            (
-                "multipoint z(1 2 3,empty,(4 5 6))",
-                "MULTIPOINT Z((1 2 3),EMPTY,(4 5 6))",
-            ),
-            (
-                "MULTIPOLYGON ((EMPTY,(1 2)),((3 4),EMPTY))",
-                "MULTIPOLYGON(EMPTY,((3 4),EMPTY))",
-            ),
-            (
-                "MULTIPOLYGON (((8 4)), ((4 0)))",
-                "MULTIPOLYGON(((8 4)),((4 0)))",
-            ),
-            (
-                "GEOMETRYCOLLECTION (POINT (8 4),LINESTRING(4 6,7 10)))",
-                "GEOMETRYCOLLECTION(POINT(8 4),LINESTRING(4 6,7 10))",
-            ),
-            (
-                "GEOMETRYCOLLECTION Z (POINT (1 2), POINT M(1 2 3))",
-                "GEOMETRYCOLLECTION Z(POINT(1 2),POINT M(1 2 3))",
-            ),
-        ],
-    )
+    each::<Decimal<6>>(&rt, rt.alloc(), &LISTS_OF_EACH_KIND)
 }
+
+const REFUSED: [(&str, &str); 28] = [
+    ("", NOT_WKT),
+    ("POINTZ Z (1 2 3)", NO_OPENING),
+    ("POINTZ", NO_OPENING),
+    ("POINT (10)", NO_CLOSING),
+    ("POINT ZM(1 2 3)", NO_CLOSING),
+    ("POINT (42 PI3.14)", NO_Y),
+    ("POINT (10 20.1A)", BAD_NUMBER),
+    ("POINT Z 1x", BAD_NUMBER),
+    ("POINT 1x", "End of stream"),
+    ("POINT (1 1e-7)", BAD_NUMBER),
+    ("POINT (1e-7 2)", NO_CLOSING),
+    ("POINT (1 \0)", NO_CLOSING),
+    ("POINT (1 0.0000001)", BAD_NUMBER),
+    ("POINT EMPTYX", "Unexpected word before open paren"),
+    ("LINEARRINGZ(1 2 3)", NO_KIND),
+    ("LINESTRING ()", NO_CLOSING),
+    ("LINESTRING (1 2,)", NO_CLOSING),
+    ("LINESTRING (1 2 3 4)", NO_CLOSING),
+    ("MULTIPOINT ((EMPTY))", NO_X),
+    ("MULTIPOINT (EMPTYX)", NO_X),
+    ("GEOMETRYCOLLECTION ()", NO_CLOSING),
+    (
+        "GEOMETRYCOLLECTION (1)",
+        "Expected a word in GEOMETRYCOLLECTION",
+    ),
+    ("GEOMETRYCOLLECTION(¾)", NO_KIND),
+    ("GEOMETRYCOLLECTION(¾(1 2))", NO_CLOSING),
+    ("\0POINT (1 2)", NOT_WKT),
+    ("PO\0INT(1 2)", NO_KIND),
+    ("POINT\0(1 2)", "End of stream"),
+    ("POINTZ\0", NO_OPENING),
+];
 
 #[test]
 fn refusals(rt: HostRuntime) -> Result<(), Fail> {
-    each::<Decimal<6>>(
-        &rt,
-        rt.alloc(),
-        &[
-            ("", NOT_WKT),
-            ("POINTZ Z (1 2 3)", NO_OPENING),
-            ("POINTZ", NO_OPENING),
-            ("POINT (10)", NO_CLOSING),
-            ("POINT ZM(1 2 3)", NO_CLOSING),
-            ("POINT (42 PI3.14)", NO_Y),
-            ("POINT (10 20.1A)", BAD_NUMBER),
-            ("POINT Z 1x", BAD_NUMBER),
-            ("POINT 1x", "End of stream"),
-            ("POINT (1 1e-7)", BAD_NUMBER),
-            ("POINT (1e-7 2)", NO_CLOSING),
-            ("POINT (1 \0)", NO_CLOSING),
-            ("POINT (1 0.0000001)", BAD_NUMBER),
-            ("POINT EMPTYX", "Unexpected word before open paren"),
-            ("LINEARRINGZ(1 2 3)", NO_KIND),
-            ("LINESTRING ()", NO_CLOSING),
-            ("LINESTRING (1 2,)", NO_CLOSING),
-            ("LINESTRING (1 2 3 4)", NO_CLOSING),
-            ("MULTIPOINT ((EMPTY))", NO_X),
-            ("MULTIPOINT (EMPTYX)", NO_X),
-            ("GEOMETRYCOLLECTION ()", NO_CLOSING),
-            (
-                "GEOMETRYCOLLECTION (1)",
-                "Expected a word in GEOMETRYCOLLECTION",
-            ),
-            ("GEOMETRYCOLLECTION(¾)", NO_KIND),
-            ("GEOMETRYCOLLECTION(¾(1 2))", NO_CLOSING),
-            ("\0POINT (1 2)", NOT_WKT),
-            ("PO\0INT(1 2)", NO_KIND),
-            ("POINT\0(1 2)", "End of stream"),
-            ("POINTZ\0", NO_OPENING),
-        ],
-    )
+    each::<Decimal<6>>(&rt, rt.alloc(), &REFUSED)
 }
+
+const BYTES: [(&str, &str); 3] = [
+    ("POINT (255 256)", BAD_NUMBER),
+    ("POINT (1 -0)", BAD_NUMBER),
+    ("POINT (255 ++2)", "POINT(255 2)"),
+];
+
+const LETTERS: [(&str, &str); 2] = [
+    ("POINT (.a .b)", "POINT(.a .b)"),
+    ("POINT (.a .c)", BAD_NUMBER),
+];
 
 #[test]
 fn number_types(rt: HostRuntime) -> Result<(), Fail> {
     let alloc = rt.alloc();
-    each::<u8>(
-        &rt,
-        alloc,
-        &[
-            ("POINT (255 256)", BAD_NUMBER),
-            ("POINT (1 -0)", BAD_NUMBER),
-            ("POINT (255 ++2)", "POINT(255 2)"),
-        ],
-    )?;
-    each::<Letter>(
-        &rt,
-        alloc,
-        &[
-            ("POINT (.a .b)", "POINT(.a .b)"),
-            ("POINT (.a .c)", BAD_NUMBER),
-        ],
-    )?;
+    each::<u8>(&rt, alloc, &BYTES)?;
+    each::<Letter>(&rt, alloc, &LETTERS)?;
     each::<Dash>(&rt, alloc, &[("POINT (+ -)", "POINT(- -)")])
 }
 
@@ -174,14 +164,16 @@ fn front(alloc: Global, text: &str) -> Result<String, Fail> {
     Ok(format!(in alloc; "{geometry} {end}")?)
 }
 
+const FRONTS: [(&str, &str); 3] = [
+    ("POINT(1 2) POINT Z EMPTY,", "POINT(1 2) 10"),
+    (" POINT Z EMPTY,", "POINT Z EMPTY 14"),
+    ("POINT (1 2)\0POINT (3 4)", "POINT(1 2) 11"),
+];
+
 #[test]
 fn fronts(rt: HostRuntime) -> Result<(), Fail> {
     let alloc = rt.alloc();
-    for (text, want) in [
-        ("POINT(1 2) POINT Z EMPTY,", "POINT(1 2) 10"),
-        (" POINT Z EMPTY,", "POINT Z EMPTY 14"),
-        ("POINT (1 2)\0POINT (3 4)", "POINT(1 2) 11"),
-    ] {
+    for (text, want) in FRONTS {
         let given = front(alloc, text)?;
         assert_eq!(rt; given.as_str(), want, "at {text}");
     }
@@ -375,26 +367,28 @@ fn has_lexemes(text: &str, count: usize) -> bool {
     tokens.next().is_none() && tokens.next().is_none()
 }
 
+const CLASSES: [(&str, usize); 15] = [
+    (" ", 0),
+    ("\n", 0),
+    ("\r", 0),
+    ("\t", 0),
+    ("\0", 0),
+    ("0", 1),
+    ("9", 1),
+    ("-", 1),
+    (".", 1),
+    ("A", 1),
+    ("z", 1),
+    ("¾", 1),
+    ("(", 100000),
+    (")", 100000),
+    (",", 100000),
+];
+
 #[test]
 fn long_runs_of_each_class(rt: HostRuntime) -> Result<(), Fail> {
     let alloc = rt.alloc();
-    for (piece, lexemes) in [
-        (" ", 0),
-        ("\n", 0),
-        ("\r", 0),
-        ("\t", 0),
-        ("\0", 0),
-        ("0", 1),
-        ("9", 1),
-        ("-", 1),
-        (".", 1),
-        ("A", 1),
-        ("z", 1),
-        ("¾", 1),
-        ("(", 100000),
-        (")", 100000),
-        (",", 100000),
-    ] {
+    for (piece, lexemes) in CLASSES {
         let text = piece.repeat(alloc, 100000)?;
         assert!(rt; has_lexemes(&text, lexemes), "of {piece}");
     }

@@ -18,27 +18,29 @@ fn read(alloc: Global, value: &Value) -> Result<String, Fail> {
     }
 }
 
+const GEOMETRIES: [(&str, &str); 13] = [
+    ("\"POINT (42 3.14)\"", "POINT(42 3.14)"),
+    ("\"POINT\\u00281 2)\"", "POINT(1 2)"),
+    ("\"POINT\\t(1 2)\\n\"", "POINT(1 2)"),
+    ("\"POINT (1 2)\\u0000)\"", "POINT(1 2)"),
+    ("\"POINT (10 20.1A)\"", BAD_NUMBER),
+    (
+        "\"POINT (42 PI3.14)\"",
+        "Expected a number for the Y coordinate",
+    ),
+    ("\"\"", "Invalid WKT format"),
+    ("3", "a valid WKT format"),
+    ("1.5", "a valid WKT format"),
+    ("null", "a valid WKT format"),
+    ("true", "a valid WKT format"),
+    ("[\"POINT (1 2)\"]", "a valid WKT format"),
+    ("{\"POINT\":\"POINT (1 2)\"}", "a valid WKT format"),
+];
+
 #[test]
 fn reads_strings_and_nothing_else(rt: HostRuntime) -> Result<(), Fail> {
     let alloc = rt.alloc();
-    for (json, want) in [
-        ("\"POINT (42 3.14)\"", "POINT(42 3.14)"),
-        ("\"POINT\\u00281 2)\"", "POINT(1 2)"),
-        ("\"POINT\\t(1 2)\\n\"", "POINT(1 2)"),
-        ("\"POINT (1 2)\\u0000)\"", "POINT(1 2)"),
-        ("\"POINT (10 20.1A)\"", BAD_NUMBER),
-        (
-            "\"POINT (42 PI3.14)\"",
-            "Expected a number for the Y coordinate",
-        ),
-        ("\"\"", "Invalid WKT format"),
-        ("3", "a valid WKT format"),
-        ("1.5", "a valid WKT format"),
-        ("null", "a valid WKT format"),
-        ("true", "a valid WKT format"),
-        ("[\"POINT (1 2)\"]", "a valid WKT format"),
-        ("{\"POINT\":\"POINT (1 2)\"}", "a valid WKT format"),
-    ] {
+    for (json, want) in GEOMETRIES {
         let given = read(alloc, &Value::from_str(alloc, json)?)?;
         assert_eq!(rt; given.as_str(), want, "of {json}");
     }
@@ -94,41 +96,43 @@ fn read_point(alloc: Global, value: &Value) -> Result<String, Fail> {
     }
 }
 
+const POINTS_AND_NONE: [(&str, &str); 15] = [
+    ("\"POINT (42 3.14)\"", "POINT(42 3.14)"),
+    ("\"POINT ZM (1 2 3 4)\"", "POINT(1 2)"),
+    ("\"POINT EMPTY\"", "none"),
+    ("\"POINT Z EMPTY\"", "none"),
+    ("\"MULTIPOINT EMPTY\"", "none"),
+    ("3", "a valid WKT format"),
+    ("1.5", "a valid WKT format"),
+    ("null", "a valid WKT format"),
+    ("[]", "a valid WKT format"),
+    ("{}", "a valid WKT format"),
+    (
+        "\"LINESTRING(1 2,3 4)\"",
+        "Mismatched geometry (expected \"Point\", found \"LineString\")",
+    ),
+    (
+        "\"MULTIPOINT (1 2)\"",
+        "Mismatched geometry (expected \"Point\", found \"MultiPoint\")",
+    ),
+    (
+        "\"GEOMETRYCOLLECTION EMPTY\"",
+        "Mismatched geometry (expected \"Point\", found \"GeometryCollection\")",
+    ),
+    (
+        "\"MULTIPOINT (EMPTY)\"",
+        "The WKT Point was empty, but geo_type::Points cannot be empty",
+    ),
+    (
+        "\"POINT (10)\"",
+        "Invalid WKT: Missing closing parenthesis for type",
+    ),
+];
+
 #[test]
 fn reads_points_and_none(rt: HostRuntime) -> Result<(), Fail> {
     let alloc = rt.alloc();
-    for (json, want) in [
-        ("\"POINT (42 3.14)\"", "POINT(42 3.14)"),
-        ("\"POINT ZM (1 2 3 4)\"", "POINT(1 2)"),
-        ("\"POINT EMPTY\"", "none"),
-        ("\"POINT Z EMPTY\"", "none"),
-        ("\"MULTIPOINT EMPTY\"", "none"),
-        ("3", "a valid WKT format"),
-        ("1.5", "a valid WKT format"),
-        ("null", "a valid WKT format"),
-        ("[]", "a valid WKT format"),
-        ("{}", "a valid WKT format"),
-        (
-            "\"LINESTRING(1 2,3 4)\"",
-            "Mismatched geometry (expected \"Point\", found \"LineString\")",
-        ),
-        (
-            "\"MULTIPOINT (1 2)\"",
-            "Mismatched geometry (expected \"Point\", found \"MultiPoint\")",
-        ),
-        (
-            "\"GEOMETRYCOLLECTION EMPTY\"",
-            "Mismatched geometry (expected \"Point\", found \"GeometryCollection\")",
-        ),
-        (
-            "\"MULTIPOINT (EMPTY)\"",
-            "The WKT Point was empty, but geo_type::Points cannot be empty",
-        ),
-        (
-            "\"POINT (10)\"",
-            "Invalid WKT: Missing closing parenthesis for type",
-        ),
-    ] {
+    for (json, want) in POINTS_AND_NONE {
         let given = read_point(alloc, &Value::from_str(alloc, json)?)?;
         assert_eq!(rt; given.as_str(), want, "of {json}");
     }
@@ -168,28 +172,30 @@ fn reads_as(
     Ok(())
 }
 
+const TWO_DIMENSIONAL: [(&str, &str, &str); 5] = [
+    ("\"POINT (42 3.14)\"", "POINT(42 3.14)", "POINT(42 3.14)"),
+    (
+        "\"POINT EMPTY\"",
+        "MULTIPOINT EMPTY",
+        "Mismatched geometry (expected \"Point\", found \"MultiPoint\")",
+    ),
+    (
+        "\"LINESTRING Z(1 2 3,3 4 5)\"",
+        "LINESTRING(1 2,3 4)",
+        "Mismatched geometry (expected \"Point\", found \"LineString\")",
+    ),
+    ("1.5", "a valid WKT format", "a valid WKT format"),
+    (
+        "\"\"",
+        "Invalid WKT: Invalid WKT format",
+        "Invalid WKT: Invalid WKT format",
+    ),
+];
+
 #[test]
 fn reads_geometries_and_what_is_asked_for(rt: HostRuntime) -> Result<(), Fail> {
     let alloc = rt.alloc();
-    for (json, want, as_point) in [
-        ("\"POINT (42 3.14)\"", "POINT(42 3.14)", "POINT(42 3.14)"),
-        (
-            "\"POINT EMPTY\"",
-            "MULTIPOINT EMPTY",
-            "Mismatched geometry (expected \"Point\", found \"MultiPoint\")",
-        ),
-        (
-            "\"LINESTRING Z(1 2 3,3 4 5)\"",
-            "LINESTRING(1 2,3 4)",
-            "Mismatched geometry (expected \"Point\", found \"LineString\")",
-        ),
-        ("1.5", "a valid WKT format", "a valid WKT format"),
-        (
-            "\"\"",
-            "Invalid WKT: Invalid WKT format",
-            "Invalid WKT: Invalid WKT format",
-        ),
-    ] {
+    for (json, want, as_point) in TWO_DIMENSIONAL {
         reads_as(&rt, alloc, json, want, as_point)?;
     }
     Ok(())

@@ -19,63 +19,65 @@ fn message(alloc: Global, text: &str) -> &'static str {
     }
 }
 
+const REFUSED: [(&str, &str); 40] = [
+    ("", "Invalid WKT format"),
+    ("(", "Invalid WKT format"),
+    ("1x", BAD_NUMBER),
+    ("¾", "Encountered non-ascii word"),
+    ("X", "Invalid type encountered"),
+    ("LINEARRINGZ(1 2 3)", "Invalid type encountered"),
+    ("POINT X", "Unexpected word before open paren"),
+    ("POINT EMPTYX", "Unexpected word before open paren"),
+    ("POINT", "End of stream"),
+    ("POINT 1x", "End of stream"),
+    ("POINT Z 1x", BAD_NUMBER),
+    ("POINTZ", NO_OPENING),
+    ("POINTZ Z (1 2 3)", NO_OPENING),
+    ("POINT (10)", NO_CLOSING),
+    ("POINT ZM(1 2 3)", NO_CLOSING),
+    ("POINT (1 2 3)", NO_CLOSING),
+    ("POINT (1 \0)", NO_CLOSING),
+    ("POINT (1e-7 2)", NO_CLOSING),
+    ("POINT (1 1e-7)", BAD_NUMBER),
+    ("POINT (10 20.1A)", BAD_NUMBER),
+    ("POINT (0.0000001 2)", NO_CLOSING),
+    ("POINT (X)", "Expected a number for the X coordinate"),
+    (
+        "POINT (42 PI3.14)",
+        "Expected a number for the Y coordinate",
+    ),
+    ("POINT Z(1 2 X)", "Expected a number for the Z coordinate"),
+    ("POINT M(1 2 X)", "Expected a number for the M coordinate"),
+    ("LINESTRING ()", NO_CLOSING),
+    ("LINESTRING (1 2,)", NO_CLOSING),
+    ("LINESTRING (1 2 3 4)", NO_CLOSING),
+    (
+        "MULTIPOINT ((EMPTY))",
+        "Expected a number for the X coordinate",
+    ),
+    (
+        "MULTIPOINT (EMPTYX)",
+        "Expected a number for the X coordinate",
+    ),
+    ("GEOMETRYCOLLECTION ()", NO_CLOSING),
+    (
+        "GEOMETRYCOLLECTION (1)",
+        "Expected a word in GEOMETRYCOLLECTION",
+    ),
+    ("GEOMETRYCOLLECTION(¾)", "Invalid type encountered"),
+    ("GEOMETRYCOLLECTION(¾(1 2))", NO_CLOSING),
+    ("POINT (1 2)", "Ok"),
+    ("POINT (1 2) 1x", "Ok"),
+    ("POINT (1 2)\0)", "Ok"),
+    ("POLYGON((1 2),EMPTY)", "Ok"),
+    ("MULTILINESTRING M((1 2 3),EMPTY)", "Ok"),
+    ("MULTIPOLYGON ((EMPTY,(1 2)),((3 4),EMPTY))", "Ok"),
+];
+
 #[test]
 fn tells_why_a_text_is_refused(rt: HostRuntime) {
     let alloc = rt.alloc();
-    for (text, want) in [
-        ("", "Invalid WKT format"),
-        ("(", "Invalid WKT format"),
-        ("1x", BAD_NUMBER),
-        ("¾", "Encountered non-ascii word"),
-        ("X", "Invalid type encountered"),
-        ("LINEARRINGZ(1 2 3)", "Invalid type encountered"),
-        ("POINT X", "Unexpected word before open paren"),
-        ("POINT EMPTYX", "Unexpected word before open paren"),
-        ("POINT", "End of stream"),
-        ("POINT 1x", "End of stream"),
-        ("POINT Z 1x", BAD_NUMBER),
-        ("POINTZ", NO_OPENING),
-        ("POINTZ Z (1 2 3)", NO_OPENING),
-        ("POINT (10)", NO_CLOSING),
-        ("POINT ZM(1 2 3)", NO_CLOSING),
-        ("POINT (1 2 3)", NO_CLOSING),
-        ("POINT (1 \0)", NO_CLOSING),
-        ("POINT (1e-7 2)", NO_CLOSING),
-        ("POINT (1 1e-7)", BAD_NUMBER),
-        ("POINT (10 20.1A)", BAD_NUMBER),
-        ("POINT (0.0000001 2)", NO_CLOSING),
-        ("POINT (X)", "Expected a number for the X coordinate"),
-        (
-            "POINT (42 PI3.14)",
-            "Expected a number for the Y coordinate",
-        ),
-        ("POINT Z(1 2 X)", "Expected a number for the Z coordinate"),
-        ("POINT M(1 2 X)", "Expected a number for the M coordinate"),
-        ("LINESTRING ()", NO_CLOSING),
-        ("LINESTRING (1 2,)", NO_CLOSING),
-        ("LINESTRING (1 2 3 4)", NO_CLOSING),
-        (
-            "MULTIPOINT ((EMPTY))",
-            "Expected a number for the X coordinate",
-        ),
-        (
-            "MULTIPOINT (EMPTYX)",
-            "Expected a number for the X coordinate",
-        ),
-        ("GEOMETRYCOLLECTION ()", NO_CLOSING),
-        (
-            "GEOMETRYCOLLECTION (1)",
-            "Expected a word in GEOMETRYCOLLECTION",
-        ),
-        ("GEOMETRYCOLLECTION(¾)", "Invalid type encountered"),
-        ("GEOMETRYCOLLECTION(¾(1 2))", NO_CLOSING),
-        ("POINT (1 2)", "Ok"),
-        ("POINT (1 2) 1x", "Ok"),
-        ("POINT (1 2)\0)", "Ok"),
-        ("POLYGON((1 2),EMPTY)", "Ok"),
-        ("MULTILINESTRING M((1 2 3),EMPTY)", "Ok"),
-        ("MULTIPOLYGON ((EMPTY,(1 2)),((3 4),EMPTY))", "Ok"),
-    ] {
+    for (text, want) in REFUSED {
         assert_eq!(rt; message(alloc, text), want, "at {text}");
     }
 }

@@ -1,5 +1,5 @@
 use Rattle.std.proofs.Common.{length}
-use Rattle.wkt_conformance.proofs.reading.rewritten.Given as goal
+use Rattle.wkt_text_conformance.proofs.reading.rewritten.Given as goal
 
 abbrev pub decreases-fronts : goal.decreases-fronts
 decreases-fronts l = length l.rest

@@ -1,0 +1,183 @@
+//! The callers of `wkt_uses`, each called.
+use serde_json::Value;
+use std::alloc::Global;
+use std::test::Fail;
+use wkt::deserialize::ValueError;
+use wkt::geo_traits::{Dimensions, GeometryTrait};
+use wkt::geo_types::{Coord, Line};
+use wkt::to_wkt::CountedText;
+use wkt::tokenizer::{PeekableTokens, Tokens};
+use wkt::{Decimal, ReadError};
+use wkt_lines::RunError;
+use wkt_uses::any_collection::{count_members, write_members};
+use wkt_uses::any_geometry::first_member;
+use wkt_uses::every_geometry::{every_geometry, every_geometry_of_stream};
+use wkt_uses::flat_from_reader::{CopyError, copy_polygon};
+use wkt_uses::from_json::geometry_in;
+use wkt_uses::key::key;
+use wkt_uses::my_map::{Figure, Map};
+use wkt_uses::my_number::Half;
+use wkt_uses::my_sinks::{Page, Piecewise, answers};
+use wkt_uses::read_and_write::{tidy, tidy_if_any, tidy_pair};
+use wkt_uses::same_place::same_place;
+
+#[test]
+fn writes_members(rt: HostRuntime) -> Result<(), Fail> {
+    let alloc = rt.alloc();
+    let mut figures = Vec::new(alloc);
+    figures.push(Figure::Group(Dimensions::Xyz, Vec::new(alloc)))?;
+    figures.push(Figure::Group(Dimensions::Xy, Vec::new(alloc)))?;
+    let map = Map {
+        header: Dimensions::Xy,
+        figures,
+    };
+    assert_eq!(rt; count_members(&map), 2);
+    let mut out = String::new(alloc);
+    let mut sink = CountedText::new(&mut out);
+    write_members(&mut sink, &map)?;
+    sink.into_writer();
+    assert_eq!(rt;
+        out.as_str(),
+        "GEOMETRYCOLLECTION Z EMPTY\nGEOMETRYCOLLECTION EMPTY\n"
+    );
+    Ok(())
+}
+
+#[test]
+fn finds_members(rt: HostRuntime) -> Result<(), Fail> {
+    let alloc = rt.alloc();
+    let mut members = Vec::new(alloc);
+    members.push(Figure::Group(Dimensions::Xyz, Vec::new(alloc)))?;
+    let group = Figure::Group(Dimensions::Xy, members);
+    match first_member(&group) {
+        Some(member) => {
+            assert!(rt; matches!(member.dim(), Dimensions::Xyz));
+            assert!(rt; first_member(member).is_none());
+        }
+        None => assert!(rt; false),
+    }
+    Ok(())
+}
+
+#[test]
+fn reads_all(rt: HostRuntime) -> Result<(), Fail> {
+    let alloc = rt.alloc();
+    let (all, rest) = every_geometry::<i32>(alloc, "POINT(1 2) point empty\nLINESTRING(1 2)x")?;
+    assert_eq!(rt; all.len(), 3);
+    assert_eq!(rt; rest, "x");
+    let mut tokens = PeekableTokens::new(Tokens::from_str("POINT(1 2) POINT EMPTY "));
+    let all = every_geometry_of_stream::<i32>(alloc, &mut tokens)?;
+    assert_eq!(rt; all.len(), 2);
+    let mut tokens = PeekableTokens::new(Tokens::from_str("POINT(1 2) x"));
+    assert!(rt; every_geometry_of_stream::<i32>(alloc, &mut tokens).is_err());
+    Ok(())
+}
+
+// What goes out of this text.
+fn copied(alloc: Global, text: &[u8]) -> Result<Vec<u8>, CopyError> {
+    let mut page = Page {
+        text: Vec::new(alloc),
+        room: 100,
+        failures: 0,
+    };
+    let mut source = Piecewise {
+        rest: text,
+        step: 7,
+    };
+    copy_polygon::<i32, Piecewise<'_>, Page>(alloc, &mut source, &mut page)?;
+    Ok(page.text)
+}
+
+#[test]
+fn copies(rt: HostRuntime) -> Result<(), Fail> {
+    let alloc = rt.alloc();
+    let text = copied(alloc, b"POLYGON Z ((0 0 1, 4 0 2, 2 4 3))")?;
+    assert_eq!(rt; text.as_slice(), b"POLYGON((0 0,4 0,2 4,0 0))".as_slice());
+    assert!(rt; copied(alloc, b"POINT (1 2)").is_err());
+    Ok(())
+}
+
+#[test]
+fn reads_fields(rt: HostRuntime) -> Result<(), Fail> {
+    let alloc = rt.alloc();
+    let json = "{\"at\":\"POINT (4 2)\",\"id\":7,\"name\":\"x\"}";
+    let document = Value::from_str(alloc, json)?;
+    for (name, want) in [("at", "POINT(4 2)"), ("id", "?"), ("name", "!"), ("to", "")] {
+        let text = match geometry_in::<i32>(alloc, &document, name) {
+            Some(Ok(geometry)) => geometry.to_string(alloc)?,
+            Some(Err(ValueError::NotAString)) => String::from_str(alloc, "?")?,
+            Some(Err(ValueError::Fault(_))) => String::from_str(alloc, "!")?,
+            None => String::new(alloc),
+        };
+        assert_eq!(rt; text.as_str(), want);
+    }
+    Ok(())
+}
+
+#[test]
+fn keys(rt: HostRuntime) -> Result<(), Fail> {
+    let line = Line {
+        start: Coord { x: 3u8, y: 4 },
+        end: Coord { x: 5, y: 6 },
+    };
+    assert_eq!(rt; key(rt.alloc(), &line)?.as_str(), "LINESTRING(3 4,5 6)");
+    Ok(())
+}
+
+#[test]
+fn reads_halves(rt: HostRuntime) -> Result<(), Fail> {
+    let alloc = rt.alloc();
+    let line = tidy::<Half>(alloc, "linestring (0 .5, 1 +1)")?;
+    assert_eq!(rt; line.as_str(), "LINESTRING(0 .5,1 1)");
+    assert!(rt; tidy::<Half>(alloc, "POINT (0 0.5)").is_err());
+    Ok(())
+}
+
+#[test]
+fn runs(rt: HostRuntime) -> Result<(), Fail> {
+    let alloc = rt.alloc();
+    let input = b"point ( 10 -20.50 )\nPOINT (10)\n";
+    let text = answers(alloc, input, 24)?;
+    assert_eq!(rt; text.as_slice(), b"POINT(10 -20.5)\nrefused\n".as_slice());
+    assert!(rt; matches!(answers(alloc, input, 23), Err(RunError::Write(_))));
+    Ok(())
+}
+
+#[test]
+fn reads_and_writes(rt: HostRuntime) -> Result<(), Fail> {
+    let alloc = rt.alloc();
+    let text = tidy::<Decimal<6>>(alloc, "linestring z (1 2 3, 4 5.50 6)")?;
+    assert_eq!(rt; text.as_str(), "LINESTRING Z(1 2 3,4 5.5 6)");
+    let pair = tidy_pair::<Decimal<6>>(alloc, "POINT (1 2)", "LINESTRING EMPTY")?;
+    assert_eq!(rt;
+        pair.as_str(),
+        "GEOMETRYCOLLECTION(POINT(1 2),LINESTRING EMPTY)"
+    );
+    assert!(rt; tidy_if_any::<Decimal<6>>(alloc, "POINT (1)")?.is_none());
+    match tidy::<Decimal<6>>(alloc, "CIRCLE (1 2)") {
+        Err(ReadError::Text(message)) => assert_eq!(rt; message, "Invalid type encountered"),
+        _ => assert!(rt; false),
+    }
+    Ok(())
+}
+
+const PLACES: [(&str, &str, bool); 5] = [
+    ("POINT (1 2)", "point(1.0 +2.)", true),
+    ("MULTIPOINT (1 2)", "MULTIPOINT ((1 2))", true),
+    ("LINEARRING (1 2)", "LINESTRING (1 2)", true),
+    ("POINT (1 2)", "POINT (2 1)", false),
+    ("POINT Z EMPTY", "POINT EMPTY", false),
+];
+
+#[test]
+fn compares(rt: HostRuntime) -> Result<(), Fail> {
+    let alloc = rt.alloc();
+    for (one, other, same) in PLACES {
+        assert_eq!(rt;
+            same_place::<Decimal<6>>(alloc, one, other)?,
+            same,
+            "of {one} and {other}"
+        );
+    }
+    Ok(())
+}

@@ -1,0 +1,14 @@
+//! Tests of the library in use: the callers of `wkt_uses`, and sinks and sources that are slow, full or
+//! fail, under the library and under the program.
+#![tactic(auto)]
+
+#[cfg(test)]
+mod callers;
+#[cfg(test)]
+mod flat_sinks;
+#[cfg(test)]
+mod own_types;
+#[cfg(test)]
+mod program_sinks;
+#[cfg(test)]
+mod slow_sinks;
