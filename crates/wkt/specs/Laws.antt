@@ -8,7 +8,7 @@ use Rattle.wkt_flat.specs.Shape.{flat_shape}
 use Rattle.wkt_flat.specs.Tree.{Flat}
 use Rattle.wkt_types.specs.Outcome.{Outcome, value}
 use Rattle.wkt_convert.specs.Flatten.{flat}
-use Rattle.wkt_convert.specs.Laws.{IsPlain}
+use Rattle.wkt_to_wkt.specs.Laws.{IsPlain}
 use Rattle.wkt.specs.FromText.{FrontGives}
 
 -- The text of a plain value is answered with that value, and with nothing else.

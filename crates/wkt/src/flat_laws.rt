@@ -1,12 +1,12 @@
 //! Laws of flat values and their texts: each function changes nothing, and its contract is the law.
-ghost use Rattle.wkt_convert.specs.Laws.{ComesBack};
+ghost use Rattle.wkt_to_wkt.specs.Laws.{ComesBack};
 ghost use Rattle.wkt.specs.Laws.{FlatReadsBack, PlainReadsBack};
 ghost use Rattle.wkt_flat.specs.Tree.{flat_tree};
 
-use wkt_convert::laws::plain_comes_back;
 use wkt_flat::Geometry;
 use wkt_flat::laws::rings_are_closed;
 use wkt_num::WktNum;
+use wkt_to_wkt::laws::plain_comes_back;
 
 /// The text of what a flat value holds is answered with that, and with nothing else, if it is as
 /// `plain_comes_back` asks and its numbers are values of the number type.

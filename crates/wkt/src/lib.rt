@@ -12,9 +12,9 @@ pub use from_text::TryFromWkt;
 pub use json::{
     ValueError, deserialize_geometry, deserialize_point, deserialize_wkt, wkt_from_value,
 };
-pub use wkt_convert::{ToWkt, ToWktError};
 pub use wkt_num::{Decimal, WktNum};
 pub use wkt_read::{FromWktStr, InferError, ReadError, infer_type};
+pub use wkt_to_wkt::{ToWkt, ToWktError};
 pub use wkt_types::Wkt;
 
 /// The traits by which any representation of a geometry is accessed.
@@ -45,8 +45,8 @@ pub mod types {
 /// Writing, and where text and bytes go.
 pub mod to_wkt {
     pub use wkt_bytes::{ByteSink, ByteSource, Counted, ReadAllError, WriterWrapper, read_all};
-    pub use wkt_convert::{ToWkt, ToWktError};
     pub use wkt_num::{CountedText, FormatterText, TextSink};
+    pub use wkt_to_wkt::{ToWkt, ToWktError};
     pub use wkt_write::{
         push_geometry, write_geometry, write_geometry_collection, write_line, write_linestring,
         write_multi_linestring, write_multi_point, write_multi_polygon, write_point, write_polygon,
@@ -84,7 +84,6 @@ pub mod deserialize {
 /// contracts are the laws.
 pub mod laws {
     pub use crate::flat_laws::{geometry_comes_back, plain_reads_back};
-    pub use wkt_convert::laws::{flat_and_back, plain_comes_back};
     pub use wkt_flat::laws::{flat_is_writable, rings_are_closed};
     pub use wkt_num::laws::{finer_keeps, reading_is_equation, wider_keeps};
     pub use wkt_read::laws::{
@@ -92,4 +91,5 @@ pub mod laws {
         old_forms, one_form, one_front, one_reading, one_split, one_text, one_value_text, one_wkt,
         read_values_are_writable, reads_back, stable_front, value_reads_back, whole_characters,
     };
+    pub use wkt_to_wkt::laws::{flat_and_back, plain_comes_back};
 }

@@ -1,21 +1,18 @@
 -- Values added to a list one after the other, and the collection of a list that was filled.
 use Rattle.std.proofs.Common.{◌≡◌, ℕ, ◌+◌, ◌<◌, refl, ap, sym, ◌∙◌, subst, List, [], ◌∷◌, ◌++◌, length, get_or, take, map, Bool, append_assoc, Result, Ok, Err}
-use Rattle.std.specs.Prelude.{MatchResult, OnOk}
-use Rattle.std.specs.Result.{IsOk}
+use Rattle.std.specs.Prelude.{MatchResult}
 use Rattle.wkt_types.specs.Outcome.{Outcome, Fault, value, refused}
-use Rattle.wkt_types.specs.Tree.{Tree, tree, members, trees_of}
+use Rattle.wkt_types.specs.Tree.{Tree, tree, members}
 use Rattle.wkt_types.specs.declared.convert.ConvertError.{ConvertError}
 use Rattle.wkt_types.specs.declared.geometry.Wkt.{Wkt}
 use Rattle.wkt_access.specs.declared.dimensions.Dimension.{Dimension}
-use Rattle.wkt_access.specs.declared.dimensions.Dimension.TheVariants.{XY}
 use Rattle.wkt_flat.specs.Tree.{Flat, flats_of, flat_tree, flat_members}
 use Rattle.wkt_flat.specs.declared.coord.Coord as flat_coord
 use Rattle.wkt_flat.specs.declared.geometry.Geometry.{Geometry}
-use Rattle.wkt_convert.specs.Adds.{AddsFlat, AddsFlats, AddsTree, AddsTrees}
-use Rattle.wkt_convert.specs.Back.{back}
+use Rattle.wkt_convert.specs.Adds.{AddsFlat, AddsFlats}
 use Rattle.wkt_convert.specs.Flatten.{flat}
 use Rattle.wkt_convert.specs.Outcomes.{outcome_map, outcomes}
-use Rattle.wkt_convert.proofs.Members.{flatten_members, all_back_members}
+use Rattle.wkt_convert.proofs.Members.{flatten_members}
 use Rattle.wkt_convert.proofs.Outcomes.{more, stop, passes, map_refused}
 
 map_value : {X Y : Type 0} (f : X → Y) (o : Outcome X) (z : Y) → outcome_map f o ≡ value z → (x : X) × (o ≡ value x) × (f x ≡ z)
@@ -64,15 +61,3 @@ module _ {T : Type 0} (E : flat_coord.Coord T → flat_coord.Coord T → Bool) (
       let p = passes (λ (u : Unit {0}). map flat_tree all) (λ (u : Unit {0}). map flat_tree news) _ (outcome_map add (flat E t))
       (λ k q. ap (outcome_map add) (gathered ∙ ap (λ o. outcome_map Flat.collection (outcome_map flats_of o)) (map_refuses (λ ts. map flat_tree start ++ ts) (outcomes (λ w. flat E (tree w)) ws) k q))) x h in
       subst (λ (z : Result (Unit {0}) ConvertError). AddsFlat z olds news (flat E t)) (sym g) p
-
--- the same of a collection of those of well-known text
-pub collected_back : {T X : Type 0} (gs : List (Geometry T)) (t : Flat T) → t ≡ Flat.collection (flat_members gs) →
-    (filled r : Result (Unit {0}) X) (start all olds news : List (Wkt T)) → start ≡ [] →
-    AddsTrees filled start all (map (λ g. back (flat_tree g)) gs) → OnOk r (IsOk filled) → AddsTree r olds news (Tree.collection (members all) XY) →
-    AddsTree r olds news (back t)
-collected_back gs t is (Ok u) (Ok v) start all olds news e h o g =
-    let filled : map tree all ≡ map (λ g. back (flat_tree g)) gs = h ∙ ap (λ l. map tree l ++ map (λ g. back (flat_tree g)) gs) e in
-    let same : Tree.collection (members all) XY ≡ back t = ap (λ ts. Tree.collection ts XY) (ap trees_of filled ∙ sym (all_back_members gs)) ∙ sym (ap back is) in
-    g ∙ ap (λ t. map tree olds ++ t ∷ []) same
-collected_back gs t is (Err x) (Ok v) start all olds news e h o g = cc
-collected_back gs t is filled (Err y) start all olds news e h o g = tt

@@ -2,8 +2,4 @@ pub mod Outcomes
 pub mod Adding
 pub mod Members
 pub mod Depth
-pub mod FlatDepth
 pub mod FlatKinds
-pub mod Backs
-pub mod Plain
-pub mod Sends

@@ -1,22 +1,14 @@
 -- The members of a collection, one after the other; and multipoints.
-use Rattle.std.proofs.Common.{◌≡◌, refl, ap, sym, ◌∙◌, List, [], ◌∷◌, Bool, map}
+use Rattle.std.proofs.Common.{◌≡◌, refl, ap, sym, ◌∙◌, List, [], ◌∷◌, Bool}
 use Rattle.wkt_types.specs.Held.{Held, HeldPoint}
-use Rattle.wkt_types.specs.Tree.{Tree, Trees, tree, trees_of, members, wkt_step, collection_step}
+use Rattle.wkt_types.specs.Tree.{Tree, tree, members, wkt_step, collection_step}
 use Rattle.wkt_types.specs.declared.coord.Coord.{Coord}
 use Rattle.wkt_types.specs.declared.geometry.Wkt.{Wkt}
 use Rattle.wkt_types.specs.declared.geometry.Wkt.TheVariants as variants
 use Rattle.wkt_types.specs.declared.geometry.Wkt.TheFolds as folds
 use Rattle.wkt_types.specs.declared.geometry.Wkt.TheOpen as opened
-use Rattle.wkt_flat.specs.Tree as steps
-use Rattle.wkt_flat.specs.Tree.{Flat, Flats, flats_of, flat_tree, flat_members}
-use Rattle.wkt_flat.specs.declared.geometry.Geometry.TheVariants as flat_variants
-use Rattle.wkt_flat.specs.declared.geometry.Geometry.TheFolds as flat_folds
-use Rattle.wkt_flat.specs.declared.geometry.Geometry.TheOpen as flat_opened
+use Rattle.wkt_flat.specs.Tree.{Flat, Flats, flats_of}
 use Rattle.wkt_flat.specs.declared.coord.Coord as flat_coord
-use Rattle.wkt_flat.specs.declared.point.Point as flat_point
-use Rattle.wkt_flat.specs.declared.line.Line as flat_line
-use Rattle.wkt_flat.specs.declared.geometry.Geometry.{Geometry}
-use Rattle.wkt_convert.specs.Back.{back, all_back}
 use Rattle.wkt_convert.specs.Flatten.{flat, flat_all}
 use Rattle.wkt_types.specs.Outcome.{Outcome, value, refused}
 use Rattle.wkt_convert.specs.Outcomes.{outcome_map, outcome_both, outcomes}
@@ -42,7 +34,3 @@ pub tree-line_string : {T : Type 0} (l : Held (Coord T)) → tree (variants.Line
 tree-line_string {T} l =
     ap tree (sym (variants.rolls-LineString l))
     ∙ folds.fold-roll-Wkt T (Tree T) (Tree T) wkt_step collection_step (opened.Wkt-F.LineString l)
-
-pub all_back_members : {T : Type 0} (gs : List (Geometry T)) → all_back (flat_members gs) ≡ trees_of (map (λ g. back (flat_tree g)) gs)
-all_back_members [] = refl
-all_back_members (g ∷ gs) = ap (λ ts. Trees.more_trees (back (flat_tree g)) ts) (all_back_members gs)

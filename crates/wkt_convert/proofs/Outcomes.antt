@@ -1,5 +1,5 @@
 -- Outcomes of a list, as a loop meets them.
-use Rattle.std.proofs.Common.{◌≡◌, ℕ, zero, suc, ◌+◌, ◌<◌, refl, ap, ap₂, sym, ◌∙◌, List, [], ◌∷◌, ◌++◌, length, get_or, take, arith, add-one, Err, Ok}
+use Rattle.std.proofs.Common.{◌≡◌, ℕ, zero, suc, ◌+◌, ◌<◌, refl, ap, ap₂, sym, ◌∙◌, List, [], ◌∷◌, ◌++◌, length, get_or, take, arith, add-one, Err}
 use Rattle.wkt_types.specs.Outcome.{Outcome, Fault, value, refused, Answers}
 use Rattle.wkt_convert.specs.Outcomes.{outcome_map, outcome_both, outcomes}
 use Rattle.wkt_types.specs.declared.convert.ConvertError.{ConvertError}

@@ -1,7 +1,4 @@
 pub mod Outcomes
 pub mod Flatten
 pub mod Kinds
-pub mod Back
-pub mod Sent
-pub mod Laws
 pub mod Adds

@@ -1,19 +1,9 @@
-//! Types of well-known text and two-dimensional types converted into each other, and both as text.
+//! Geometries of well-known text converted into two-dimensional types.
 #![tactic(auto)]
 
-mod back;
 mod convert;
-mod flat_text;
-mod flat_to_wkt;
-mod flat_written;
 mod flatten;
 mod kinds;
-pub mod laws;
-mod send;
-mod string_text;
-mod to_text;
 
 pub use convert::{ConvertFrom, try_into_geometry, try_into_geometry_collection};
 pub use kinds::mismatch;
-pub use send::ToWktError;
-pub use to_text::ToWkt;

@@ -8,7 +8,7 @@ use Rattle.wkt_flat.specs.Tree.{Flat}
 use Rattle.wkt_flat.specs.declared.coord.Coord.{Coord}
 use Rattle.wkt_types.specs.Outcome.{value}
 use Rattle.wkt_types.specs.Values.{tree_shape}
-use Rattle.wkt_convert.specs.Back.{back}
+use Rattle.wkt_to_wkt.specs.Back.{back}
 use Rattle.wkt_convert.specs.Flatten.{flat}
 use Rattle.wkt.specs.FromText.{FrontGives}
 use Rattle.wkt_convert.specs.Kinds.{only, rings_in}

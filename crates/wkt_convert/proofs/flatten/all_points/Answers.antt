@@ -1,6 +1,6 @@
-use Rattle.std.proofs.Common.{◌≡◌, ap, sym, ◌∙◌}
+use Rattle.std.proofs.Common.{ap}
 use Rattle.wkt_types.specs.Flattened.{point_or_fault}
-use Rattle.wkt_types.specs.Outcome.{value, empty_point}
+use Rattle.wkt_types.specs.Outcome.{empty_point}
 use Rattle.wkt_convert.proofs.Outcomes.{more, stop}
 use Rattle.wkt_convert.proofs.flatten.all_points.Goals as goal
 

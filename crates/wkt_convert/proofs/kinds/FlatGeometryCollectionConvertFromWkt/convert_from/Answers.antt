@@ -1,4 +1,4 @@
-use Rattle.std.proofs.Common.{◌≡◌, ap, sym, subst, ◌∙◌}
+use Rattle.std.proofs.Common.{ap, sym, subst, ◌∙◌}
 use Rattle.wkt_types.specs.Outcome.{Answers}
 use Rattle.wkt_types.specs.Tree.{Tree, tree}
 use Rattle.wkt_types.proofs.TreeLemmas.{tree-collection}

@@ -1,4 +1,3 @@
-use Rattle.std.proofs.Common.{◌≡◌, ap, rules, codes}
 use Rattle.wkt_convert.proofs.FlatKinds.{no_path}
 use Rattle.wkt_convert.proofs.kinds.FlatLineStringConvertFromWkt.convert_from.Goals as goal
 

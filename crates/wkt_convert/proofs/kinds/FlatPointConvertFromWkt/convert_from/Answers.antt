@@ -1,4 +1,3 @@
-use Rattle.std.proofs.Common.{◌≡◌, ap, rules, codes}
 use Rattle.wkt_convert.proofs.FlatKinds.{no_point}
 use Rattle.wkt_convert.proofs.kinds.FlatPointConvertFromWkt.convert_from.Goals as goal
 

@@ -1,0 +1,12 @@
+use Rattle.std.proofs.Common.{ap, ◌∙◌, ◌++◌, ◌∷◌, []}
+use Rattle.std.specs.Prelude.{map}
+use Rattle.std.proofs.lemmas.List.{map-append}
+use Rattle.wkt_types.specs.Tree.{tree}
+use Rattle.wkt_types.proofs.TreeLemmas.{tree-collection}
+use Rattle.wkt_to_wkt.proofs.back.push_collection.Goals as goal
+
+pub returns-clause-pushed : goal.returns-clause-pushed
+returns-clause-pushed g c =
+    ap (map tree) c.in_ok-push.ensures.items
+    ∙ map-append tree c.args.all.now.items _
+    ∙ ap (λ t. map tree c.args.all.now.items ++ t ∷ []) (tree-collection _ ∙ c.new-collection.ensures)

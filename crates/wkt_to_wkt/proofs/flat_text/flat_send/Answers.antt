@@ -1,0 +1,34 @@
+use Rattle.std.proofs.Common.{ℕ, List, OnOk, subst, ap, ◌∙◌}
+use Rattle.std.specs.Io.KnownBytes.{Appends}
+use Rattle.wkt_bytes.specs.Sinks.{BeginningOut}
+use Rattle.wkt_access.specs.Faults.{fault}
+use Rattle.wkt_access.specs.Texts.{shape_text}
+use Rattle.wkt_flat.proofs.Writable.{writable}
+use Rattle.wkt_to_wkt.specs.Sent.{IfIo}
+use Rattle.wkt_to_wkt.proofs.Backs.{same_text}
+use Rattle.wkt_to_wkt.proofs.Sends.{never, whatever}
+use Rattle.wkt_to_wkt.proofs.flat_text.flat_send.Goals as goal
+
+pub returns-clause-ok : goal.returns-clause-ok
+returns-clause-ok g c =
+    let num = g.G.T.WktNum.num in
+    let sink = g.W.ByteSink.sink in
+    let same = ap (shape_text num) (g.met.G.FlatValue.same c.args.g.now) ∙ same_text num (g.G.FlatValue.value c.args.g.now) in
+    subst (λ (bs : List ℕ). OnOk c.send.result (Appends (sink.bytes c.args.writer.now) (sink.bytes c.send.new.writer) bs)) same c.send.ensures.ok
+
+pub returns-clause-io : goal.returns-clause-io
+returns-clause-io g c =
+    let num = g.G.T.WktNum.num in
+    let sink = g.W.ByteSink.sink in
+    let same = ap (shape_text num) (g.met.G.FlatValue.same c.args.g.now) ∙ same_text num (g.G.FlatValue.value c.args.g.now) in
+    subst (λ (bs : List ℕ). IfIo c.send.result (BeginningOut (sink.bytes c.args.writer.now) (sink.bytes c.send.new.writer) bs)) same c.send.ensures.io
+
+pub returns-clause-never : goal.returns-clause-never
+returns-clause-never g c =
+    let sound = ap fault (g.met.G.FlatValue.same c.args.g.now) ∙ writable (g.G.FlatValue.value c.args.g.now) in
+    never (g.G.Written.shape c.args.g.now) sound c.send.result c.send.ensures.cause
+
+pub returns-clause-cause : goal.returns-clause-cause
+returns-clause-cause g c =
+    let sound = ap fault (g.met.G.FlatValue.same c.args.g.now) ∙ writable (g.G.FlatValue.value c.args.g.now) in
+    whatever _ c.send.result (never (g.G.Written.shape c.args.g.now) sound c.send.result c.send.ensures.cause)
