@@ -37,7 +37,7 @@ pub(crate) fn point<T: Copy>(p: flat::Point<T>) -> Point<T>
 }
 
 /// A line.
-pub(crate) fn line<T: Copy + Drop>(
+pub(crate) fn line_string<T: Copy + Drop>(
     alloc: Global,
     cs: &[flat::Coord<T>],
 ) -> Result<LineString<T>, AllocError>
@@ -72,7 +72,7 @@ pub(crate) fn push_line_strings<T: Copy + Drop>(
     ensures { IfOk result (λ r. r.items ≡ all.items ++ map line_string_back ls.now) }
 {
     for l in ls {
-        all.push(line(alloc, l.0.as_slice())?)?;
+        all.push(line_string(alloc, l.0.as_slice())?)?;
     }
     Ok(all)
 }
@@ -89,7 +89,7 @@ pub(crate) fn polygon<T: Copy + Drop>(
         return Ok(Polygon::empty(alloc, Dimension::XY));
     }
     let mut all = Vec::new(alloc);
-    all.push(line(alloc, exterior)?)?;
+    all.push(line_string(alloc, exterior)?)?;
     Ok(Polygon::new(push_line_strings(alloc, y.interiors(), all)?, Dimension::XY))
 }
 
@@ -173,7 +173,7 @@ fn push_line_string<T: Copy + Drop>(
 ) -> Result<(), AllocError>
     ensures { AddsTree result all.old.items all.new.items (back (Flat.line_string cs.now)) }
 {
-    all.push(Wkt::LineString(line(alloc, cs)?))?;
+    all.push(Wkt::LineString(line_string(alloc, cs)?))?;
     Ok(())
 }
 
@@ -316,7 +316,7 @@ pub(crate) fn geometry<T: WktNum>(alloc: Global, g: &Geometry<T>) -> Result<Wkt<
     match g {
         Geometry::Point(p) => Ok(Wkt::Point(point(*p))),
         Geometry::Line(l) => Ok(Wkt::LineString(two(alloc, l)?)),
-        Geometry::LineString(l) => Ok(Wkt::LineString(line(alloc, l.0.as_slice())?)),
+        Geometry::LineString(l) => Ok(Wkt::LineString(line_string(alloc, l.0.as_slice())?)),
         Geometry::Polygon(y) => Ok(Wkt::Polygon(polygon(alloc, y)?)),
         Geometry::MultiPoint(m) => Ok(Wkt::MultiPoint(MultiPoint::new(
             points(alloc, m.0.as_slice())?,

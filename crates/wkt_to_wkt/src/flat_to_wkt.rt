@@ -10,7 +10,7 @@ ghost use Rattle.wkt_to_wkt.specs.Back.{back, wkt_text};
 ghost use Rattle.wkt_to_wkt.specs.Sent.{IsMemory, IsRefusal, IfIo, IfShape};
 
 use crate::back::{
-    geometries, geometry, line, point, points, polygon, polygons, push_line_strings, two,
+    geometries, geometry, line_string, point, points, polygon, polygons, push_line_strings, two,
 };
 use crate::flat_text::{flat_send, flat_string};
 use crate::send::ToWktError;
@@ -103,7 +103,7 @@ impl<T: WktNum> ToWkt<T> for flat::LineString<T> {
     ghost held = { λ x. back (Flat.line_string x) };
 
     fn to_wkt(&self, alloc: Global) -> Result<Wkt<T>, AllocError> {
-        Ok(Wkt::LineString(line(alloc, self.0.as_slice())?))
+        Ok(Wkt::LineString(line_string(alloc, self.0.as_slice())?))
     }
 
     /// The text of its `Wkt`, written without one.

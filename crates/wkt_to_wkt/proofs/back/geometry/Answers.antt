@@ -10,9 +10,9 @@ use Rattle.wkt_convert.proofs.FlatKinds.{flat-line, flat-line_string, flat-multi
 use Rattle.wkt_convert.proofs.Members.{tree-line_string, tree-multi_point}
 use Rattle.wkt_to_wkt.proofs.back.geometry.Goals as goal
 
-pub returns-in_ok-line-in-LineString : goal.returns-in_ok-line-in-LineString
-returns-in_ok-line-in-LineString g c =
-    let k = c.in_ok-line-in-LineString in
+pub returns-in_ok-line_string-in-LineString : goal.returns-in_ok-line_string-in-LineString
+returns-in_ok-line_string-in-LineString g c =
+    let k = c.in_ok-line_string-in-LineString in
     let given : c.as_slice.result.now ≡ c.in-LineString.l = search rules in
     tree-line_string k.field-0
     ∙ (ap (λ l. trees.line_string l) (k.ensures ∙ ap line_string_back given)

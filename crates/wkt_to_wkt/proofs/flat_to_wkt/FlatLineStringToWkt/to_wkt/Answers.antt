@@ -7,4 +7,4 @@ use Rattle.wkt_to_wkt.proofs.flat_to_wkt.FlatLineStringToWkt.to_wkt.Goals as goa
 pub returns : goal.returns
 returns g c =
     let given : c.as_slice.result.now ≡ c.args.self.now = search rules in
-    tree-line_string c.in_ok-line.field-0 ∙ ap (λ l. trees.line_string l) (c.in_ok-line.ensures ∙ ap line_string_back given)
+    tree-line_string c.in_ok-line_string.field-0 ∙ ap (λ l. trees.line_string l) (c.in_ok-line_string.ensures ∙ ap line_string_back given)
