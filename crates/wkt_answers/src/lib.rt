@@ -1,48 +1,117 @@
-//! What reading a text gives, by all the calls that read, copy and write a geometry, told as one text.
+//! What reading a text gives, by all the calls that read, copy and write a geometry, as one answer.
 //! The program of the table and the tests of worked rows ask for it.
 #![tactic(auto)]
+
+ghost use Rattle.std.specs.Prelude.{◌≡◌, IfOk};
+ghost use Rattle.std.specs.String.{string_bytes};
+ghost use Rattle.wkt_read.specs.Front.{HasNoFront};
+ghost use Rattle.wkt_answers.specs.Answer.{IsTextOfFront, OnRefused};
 
 mod flat_calls;
 
 use flat_calls::flat_alike;
 use std::alloc::{AllocError, Global};
+use thiserror::Error;
+use wkt::laws::read_values_are_writable;
 use wkt::tokenizer::{PeekableTokens, Tokens};
 use wkt::types::{
     GeometryCollection, LineString, MultiLineString, MultiPoint, MultiPolygon, Polygon,
 };
 use wkt::{FromWktStr, InferError, ReadError, Wkt, WktNum, infer_type};
 
-/// The text of a copy of a text's geometry, or the message with which the text is refused. Where two
-/// calls disagree, the text says so.
+/// Why a text has no answer.
+#[derive(Debug, Drop, Error)]
+pub enum AnswerError {
+    /// The text has no geometry at its front, for this reason.
+    #[error("{0}")]
+    Refused(&'static str),
+    /// Two calls that have to give the same gave two things.
+    #[error("two calls differ")]
+    Differ,
+    /// Out of memory.
+    #[error("out of memory")]
+    Memory(AllocError),
+}
+
+/// The one text of the geometry at the front of a text, where all calls that read, copy, put together,
+/// convert or write it agree.
 ///
 /// # Errors
-/// Out of memory.
-pub fn answer<T: WktNum>(alloc: Global, text: &str) -> Result<String, AllocError> {
-    match read_alike::<T>(alloc, text) {
-        Ok((geometry, alike)) => {
-            let again = rebuilt(alloc, geometry.try_clone(alloc)?)?;
-            if alike && again == geometry && flat_alike(alloc, text, &geometry)? {
-                format!(in alloc; "{again}")
-            } else {
-                format!(in alloc; "{geometry}, but another call gives another, as {again}")
-            }
-        }
-        Err(ReadError::Text(message)) => match infer_type(alloc, text) {
-            Err(InferError::Memory(e)) => Err(e),
-            _ => format!(in alloc; "{message}"),
-        },
-        Err(ReadError::Memory(e)) => Err(e),
+/// `Refused` where the text has no geometry at its front; `Differ` where two calls disagree; `Memory`.
+pub fn answer<T: WktNum>(alloc: Global, text: &str) -> Result<String, AnswerError>
+    ensures text { IfOk result (λ s. IsTextOfFront T.read T.num text.now (string_bytes s)) }
+    ensures no_front { OnRefused result (HasNoFront T.read text.now) }
+{
+    let geometry = match Wkt::<T>::from_str(alloc, text) {
+        Ok(geometry) => geometry,
+        Err(ReadError::Text(message)) => return Err(refused(alloc, text, message)),
+        Err(ReadError::Memory(e)) => return Err(AnswerError::Memory(e)),
+    };
+    // No effect at run time. The proof reads that what was read can be written.
+    read_values_are_writable::<T>();
+    let answer = match geometry.to_string(alloc) {
+        Ok(answer) => answer,
+        Err(e) => return Err(AnswerError::Memory(e)),
+    };
+    match all_alike(alloc, text, geometry, &answer) {
+        Ok(true) => Ok(answer),
+        Ok(false) => Err(AnswerError::Differ),
+        Err(e) => Err(AnswerError::Memory(e)),
     }
 }
 
-/// The geometry at the front of a text, and whether the three calls read it alike to one end.
-fn read_alike<T: WktNum>(alloc: Global, text: &str) -> Result<(Wkt<T>, bool), ReadError> {
-    let geometry = Wkt::<T>::from_str(alloc, text)?;
-    let (front, end) = Wkt::<T>::read_front(alloc, text)?;
+/// That the text is refused with that message, unless memory runs out where its kind is inferred.
+fn refused(alloc: Global, text: &str, message: &'static str) -> AnswerError {
+    match infer_type(alloc, text) {
+        Err(InferError::Memory(e)) => AnswerError::Memory(e),
+        _ => AnswerError::Refused(message),
+    }
+}
+
+/// What a table of texts says of an answer: the text, or the message of the error.
+///
+/// # Errors
+/// Out of memory, now or in the answer.
+pub fn told(alloc: Global, answer: Result<String, AnswerError>) -> Result<String, AllocError>
+    ensures text { IfOk result (λ told. IfOk answer (λ text. told ≡ text)) }
+{
+    match answer {
+        Ok(text) => Ok(text),
+        Err(AnswerError::Memory(e)) => Err(e),
+        Err(error) => format!(in alloc; "{error}"),
+    }
+}
+
+/// Whether every call over that geometry of a text agrees, and gives that answer where it displays.
+fn all_alike<T: WktNum>(
+    alloc: Global,
+    text: &str,
+    geometry: Wkt<T>,
+    answer: &str,
+) -> Result<bool, AllocError> {
+    let again = rebuilt(alloc, geometry.try_clone(alloc)?)?;
+    let displayed = format!(in alloc; "{again}")?;
+    Ok(
+        again == geometry
+            && displayed.as_str() == answer
+            && read_alike(alloc, text, &geometry)?
+            && flat_alike(alloc, text, &geometry)?,
+    )
+}
+
+/// Whether the two calls that tell where the front ends read that geometry, to one end.
+fn read_alike<T: WktNum>(alloc: Global, text: &str, geometry: &Wkt<T>) -> Result<bool, AllocError> {
     let mut tokens = PeekableTokens::new(Tokens::<T>::from_str(text));
-    let streamed = Wkt::<T>::read_tokens(alloc, &mut tokens)?;
-    let alike = front == geometry && streamed == geometry && tokens.end() == end;
-    Ok((geometry, alike))
+    match (
+        Wkt::<T>::read_front(alloc, text),
+        Wkt::<T>::read_tokens(alloc, &mut tokens),
+    ) {
+        (Ok((front, end)), Ok(streamed)) => {
+            Ok(front == *geometry && streamed == *geometry && tokens.end() == end)
+        }
+        (Err(ReadError::Memory(e)), _) | (_, Err(ReadError::Memory(e))) => Err(e),
+        _ => Ok(false),
+    }
 }
 
 /// An equal geometry, put together again from its parts.

@@ -4,7 +4,7 @@ use std::io;
 use thiserror::Error;
 use wkt::Decimal;
 use wkt::to_wkt::{Counted, ReadAllError, read_all};
-use wkt_answers::answer;
+use wkt_answers::{answer, told};
 
 /// Why a table isn't checked to its end.
 #[derive(Debug, Drop, Error)]
@@ -56,7 +56,7 @@ fn check_row(rt: &impl Print, alloc: Global, row: &str) -> Result<bool, TableErr
         Some(pair) => pair,
         None => (row, ""),
     };
-    let answer = match answer::<Decimal<18>>(alloc, text) {
+    let answer = match told(alloc, answer::<Decimal<18>>(alloc, text)) {
         Ok(answer) => answer,
         Err(e) => return Err(TableError::Memory(e)),
     };

@@ -5,7 +5,7 @@ use std::test::Fail;
 use wkt::geo_types::Geometry;
 use wkt::tokenizer::{PeekableTokens, Token, Tokens};
 use wkt::{Decimal, FromWktStr, ReadError, ToWkt, TryFromWkt, Wkt, WktNum, infer_type};
-use wkt_answers::answer;
+use wkt_answers::{answer, told};
 use wkt_odd::{Dash, Letter};
 
 const NOT_WKT: &str = "Invalid WKT format";
@@ -24,13 +24,13 @@ const BAD_NUMBER: &str = "Unable to parse input number as the desired output typ
 
 // What a text over decimals of six places gives.
 fn gives(alloc: Global, text: &str) -> Result<String, AllocError> {
-    answer::<Decimal<6>>(alloc, text)
+    told(alloc, answer::<Decimal<6>>(alloc, text))
 }
 
 // Each text gives what stands beside it, over numbers of that type.
 fn each<T: WktNum>(rt: &impl Abort, alloc: Global, rows: &[(&str, &str)]) -> Result<(), Fail> {
     for (text, want) in rows {
-        let given = answer::<T>(alloc, text)?;
+        let given = told(alloc, answer::<T>(alloc, text))?;
         assert_eq!(rt; given.as_str(), *want, "at {text}");
     }
     Ok(())

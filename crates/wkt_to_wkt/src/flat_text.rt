@@ -4,6 +4,7 @@ ghost use Rattle.std.specs.String.{string_bytes};
 ghost use Rattle.wkt_num.specs.Sink.{next_count};
 ghost use Rattle.wkt_bytes.specs.Sinks.{IsOut, IsPartOut};
 ghost use Rattle.wkt_access.specs.Faults.{fault};
+ghost use Rattle.wkt_access.specs.Lawful.{IsLawful};
 ghost use Rattle.wkt_types.specs.Values.{tree_shape};
 ghost use Rattle.wkt_flat.specs.Shape.{flat_shape};
 ghost use Rattle.wkt_flat.specs.Tree.{Flat};
@@ -29,6 +30,7 @@ pub(crate) trait FlatValue: Written {
 pub(crate) fn flat_string<G: FlatValue>(alloc: Global, g: &G) -> Result<String, Error>
     ensures text { IfOk result (λ s. string_bytes s ≡ wkt_text G.T.num (G.value g.now)) }
     ensures sound { OnOk result (fault (tree_shape (back (G.value g.now))) ≡ None) }
+    ensures lawful { OnOk result (IsLawful G.T.is_value (tree_shape (back (G.value g.now)))) }
     ensures refused { IfErr result (IsRefusal (tree_shape (back (G.value g.now)))) }
     ensures memory { IfErr result IsMemory }
 {

@@ -4,6 +4,7 @@ ghost use Rattle.std.specs.String.{string_bytes};
 ghost use Rattle.wkt_num.specs.Sink.{next_count};
 ghost use Rattle.wkt_bytes.specs.Sinks.{IsOut, IsPartOut};
 ghost use Rattle.wkt_access.specs.Faults.{fault};
+ghost use Rattle.wkt_access.specs.Lawful.{IsLawful};
 ghost use Rattle.wkt_types.specs.Values.{tree_shape};
 ghost use Rattle.wkt_flat.specs.Tree.{Flat, flat_tree, flat_trees};
 ghost use Rattle.wkt_to_wkt.specs.Back.{back, wkt_text};
@@ -37,6 +38,7 @@ impl<T: WktNum> ToWkt<T> for flat::Point<T> {
     fn wkt_string(&self, alloc: Global) -> Result<String, Error>
         ensures text { IfOk result (λ s. string_bytes s ≡ wkt_text T.num (Flat.point self.now)) }
         ensures sound { OnOk result (fault (tree_shape (back (Flat.point self.now))) ≡ None) }
+        ensures lawful { OnOk result (IsLawful T.is_value (tree_shape (back (Flat.point self.now)))) }
         ensures refused { IfErr result (IsRefusal (tree_shape (back (Flat.point self.now)))) }
         ensures memory { IfErr result IsMemory }
     {
@@ -75,6 +77,7 @@ impl<T: WktNum> ToWkt<T> for flat::Line<T> {
     fn wkt_string(&self, alloc: Global) -> Result<String, Error>
         ensures text { IfOk result (λ s. string_bytes s ≡ wkt_text T.num (Flat.line self.now)) }
         ensures sound { OnOk result (fault (tree_shape (back (Flat.line self.now))) ≡ None) }
+        ensures lawful { OnOk result (IsLawful T.is_value (tree_shape (back (Flat.line self.now)))) }
         ensures refused { IfErr result (IsRefusal (tree_shape (back (Flat.line self.now)))) }
         ensures memory { IfErr result IsMemory }
     {
@@ -113,6 +116,7 @@ impl<T: WktNum> ToWkt<T> for flat::LineString<T> {
     fn wkt_string(&self, alloc: Global) -> Result<String, Error>
         ensures text { IfOk result (λ s. string_bytes s ≡ wkt_text T.num (Flat.line_string self.now)) }
         ensures sound { OnOk result (fault (tree_shape (back (Flat.line_string self.now))) ≡ None) }
+        ensures lawful { OnOk result (IsLawful T.is_value (tree_shape (back (Flat.line_string self.now)))) }
         ensures refused { IfErr result (IsRefusal (tree_shape (back (Flat.line_string self.now)))) }
         ensures memory { IfErr result IsMemory }
     {
@@ -152,6 +156,7 @@ impl<T: WktNum> ToWkt<T> for flat::Polygon<T> {
     fn wkt_string(&self, alloc: Global) -> Result<String, Error>
         ensures text { IfOk result (λ s. string_bytes s ≡ wkt_text T.num (Flat.polygon self.now)) }
         ensures sound { OnOk result (fault (tree_shape (back (Flat.polygon self.now))) ≡ None) }
+        ensures lawful { OnOk result (IsLawful T.is_value (tree_shape (back (Flat.polygon self.now)))) }
         ensures refused { IfErr result (IsRefusal (tree_shape (back (Flat.polygon self.now)))) }
         ensures memory { IfErr result IsMemory }
     {
@@ -191,6 +196,7 @@ impl<T: WktNum> ToWkt<T> for flat::MultiPoint<T> {
     fn wkt_string(&self, alloc: Global) -> Result<String, Error>
         ensures text { IfOk result (λ s. string_bytes s ≡ wkt_text T.num (Flat.multi_point self.now)) }
         ensures sound { OnOk result (fault (tree_shape (back (Flat.multi_point self.now))) ≡ None) }
+        ensures lawful { OnOk result (IsLawful T.is_value (tree_shape (back (Flat.multi_point self.now)))) }
         ensures refused { IfErr result (IsRefusal (tree_shape (back (Flat.multi_point self.now)))) }
         ensures memory { IfErr result IsMemory }
     {
@@ -231,6 +237,7 @@ impl<T: WktNum> ToWkt<T> for flat::MultiLineString<T> {
     fn wkt_string(&self, alloc: Global) -> Result<String, Error>
         ensures text { IfOk result (λ s. string_bytes s ≡ wkt_text T.num (Flat.multi_line_string self.now)) }
         ensures sound { OnOk result (fault (tree_shape (back (Flat.multi_line_string self.now))) ≡ None) }
+        ensures lawful { OnOk result (IsLawful T.is_value (tree_shape (back (Flat.multi_line_string self.now)))) }
         ensures refused { IfErr result (IsRefusal (tree_shape (back (Flat.multi_line_string self.now)))) }
         ensures memory { IfErr result IsMemory }
     {
@@ -272,6 +279,7 @@ impl<T: WktNum> ToWkt<T> for flat::MultiPolygon<T> {
     fn wkt_string(&self, alloc: Global) -> Result<String, Error>
         ensures text { IfOk result (λ s. string_bytes s ≡ wkt_text T.num (Flat.multi_polygon self.now)) }
         ensures sound { OnOk result (fault (tree_shape (back (Flat.multi_polygon self.now))) ≡ None) }
+        ensures lawful { OnOk result (IsLawful T.is_value (tree_shape (back (Flat.multi_polygon self.now)))) }
         ensures refused { IfErr result (IsRefusal (tree_shape (back (Flat.multi_polygon self.now)))) }
         ensures memory { IfErr result IsMemory }
     {
@@ -312,6 +320,7 @@ impl<T: WktNum> ToWkt<T> for flat::GeometryCollection<T> {
     fn wkt_string(&self, alloc: Global) -> Result<String, Error>
         ensures text { IfOk result (λ s. string_bytes s ≡ wkt_text T.num (Flat.collection (flat_trees self.now))) }
         ensures sound { OnOk result (fault (tree_shape (back (Flat.collection (flat_trees self.now)))) ≡ None) }
+        ensures lawful { OnOk result (IsLawful T.is_value (tree_shape (back (Flat.collection (flat_trees self.now))))) }
         ensures refused { IfErr result (IsRefusal (tree_shape (back (Flat.collection (flat_trees self.now))))) }
         ensures memory { IfErr result IsMemory }
     {
@@ -352,6 +361,7 @@ impl<T: WktNum> ToWkt<T> for flat::Rect<T> {
     fn wkt_string(&self, alloc: Global) -> Result<String, Error>
         ensures text { IfOk result (λ s. string_bytes s ≡ wkt_text T.num (Flat.rect self.now)) }
         ensures sound { OnOk result (fault (tree_shape (back (Flat.rect self.now))) ≡ None) }
+        ensures lawful { OnOk result (IsLawful T.is_value (tree_shape (back (Flat.rect self.now)))) }
         ensures refused { IfErr result (IsRefusal (tree_shape (back (Flat.rect self.now)))) }
         ensures memory { IfErr result IsMemory }
     {
@@ -390,6 +400,7 @@ impl<T: WktNum> ToWkt<T> for flat::Triangle<T> {
     fn wkt_string(&self, alloc: Global) -> Result<String, Error>
         ensures text { IfOk result (λ s. string_bytes s ≡ wkt_text T.num (Flat.triangle self.now)) }
         ensures sound { OnOk result (fault (tree_shape (back (Flat.triangle self.now))) ≡ None) }
+        ensures lawful { OnOk result (IsLawful T.is_value (tree_shape (back (Flat.triangle self.now)))) }
         ensures refused { IfErr result (IsRefusal (tree_shape (back (Flat.triangle self.now)))) }
         ensures memory { IfErr result IsMemory }
     {
@@ -428,6 +439,7 @@ impl<T: WktNum> ToWkt<T> for flat::Geometry<T> {
     fn wkt_string(&self, alloc: Global) -> Result<String, Error>
         ensures text { IfOk result (λ s. string_bytes s ≡ wkt_text T.num (flat_tree self.now)) }
         ensures sound { OnOk result (fault (tree_shape (back (flat_tree self.now))) ≡ None) }
+        ensures lawful { OnOk result (IsLawful T.is_value (tree_shape (back (flat_tree self.now)))) }
         ensures refused { IfErr result (IsRefusal (tree_shape (back (flat_tree self.now)))) }
         ensures memory { IfErr result IsMemory }
     {

@@ -3,6 +3,7 @@ ghost use Rattle.std.specs.Prelude.{◌≡◌, IfOk, IfErr, OnOk, None};
 ghost use Rattle.std.specs.String.{string_bytes};
 ghost use Rattle.wkt_access.specs.Texts.{shape_text};
 ghost use Rattle.wkt_access.specs.Faults.{fault};
+ghost use Rattle.wkt_access.specs.Lawful.{IsLawful};
 ghost use Rattle.wkt_to_wkt.specs.Sent.{IsRefusal};
 
 use crate::send::Written;
@@ -39,6 +40,7 @@ impl TextSink for StringText {
 pub(crate) fn string_of<G: Written>(alloc: Global, g: &G) -> Result<String, Error>
     ensures text { IfOk result (λ s. string_bytes s ≡ shape_text G.T.num (G.shape g.now)) }
     ensures sound { OnOk result (fault (G.shape g.now) ≡ None) }
+    ensures lawful { OnOk result (IsLawful G.T.is_value (G.shape g.now)) }
     ensures refused { IfErr result (IsRefusal (G.shape g.now)) }
 {
     let mut sink = StringText {

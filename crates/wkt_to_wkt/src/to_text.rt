@@ -4,6 +4,7 @@ ghost use Rattle.std.specs.String.{string_bytes};
 ghost use Rattle.wkt_num.specs.Sink.{next_count};
 ghost use Rattle.wkt_bytes.specs.Sinks.{IsOut, IsPartOut};
 ghost use Rattle.wkt_access.specs.Faults.{fault};
+ghost use Rattle.wkt_access.specs.Lawful.{IsLawful};
 ghost use Rattle.wkt_access.specs.Texts.{shape_text};
 ghost use Rattle.wkt_types.specs.Tree.{Tree, tree};
 ghost use Rattle.wkt_types.specs.Values.{tree_shape};
@@ -43,6 +44,7 @@ pub trait ToWkt<T: WktNum> {
     fn wkt_string(&self, alloc: Global) -> Result<String, Error>
         ensures text { IfOk result (λ s. string_bytes s ≡ shape_text T.num (tree_shape (held self.now))) }
         ensures sound { OnOk result (fault (tree_shape (held self.now)) ≡ None) }
+        ensures lawful { OnOk result (IsLawful T.is_value (tree_shape (held self.now))) }
         ensures refused { IfErr result (IsRefusal (tree_shape (held self.now))) }
     {
         let wkt = self.to_wkt(alloc)?;
