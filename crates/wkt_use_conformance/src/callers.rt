@@ -4,15 +4,16 @@ use std::alloc::Global;
 use std::test::Fail;
 use wkt::deserialize::ValueError;
 use wkt::geo_traits::{Dimensions, GeometryTrait};
-use wkt::geo_types::{Coord, Line};
+use wkt::geo_types::{Coord, Geometry, Line};
 use wkt::to_wkt::CountedText;
 use wkt::tokenizer::{PeekableTokens, Tokens};
-use wkt::{Decimal, ReadError};
+use wkt::{Decimal, ReadError, TryFromWkt};
 use wkt_lines::RunError;
 use wkt_uses::any_collection::{count_members, write_members};
 use wkt_uses::any_geometry::first_member;
 use wkt_uses::every_geometry::{every_geometry, every_geometry_of_stream};
 use wkt_uses::flat_from_reader::{CopyError, copy_polygon};
+use wkt_uses::flat_key::flat_key;
 use wkt_uses::from_json::geometry_in;
 use wkt_uses::key::key;
 use wkt_uses::my_map::{Figure, Map};
@@ -121,6 +122,28 @@ fn keys(rt: HostRuntime) -> Result<(), Fail> {
         end: Coord { x: 5, y: 6 },
     };
     assert_eq!(rt; key(rt.alloc(), &line)?.as_str(), "LINESTRING(3 4,5 6)");
+    Ok(())
+}
+
+const FLAT_KEYS: [(&str, &str); 4] = [
+    ("point m (1 2.50 3)", "POINT(1 2.5)"),
+    ("POLYGON((0 0,4 0,2 4))", "POLYGON((0 0,4 0,2 4,0 0))"),
+    ("MULTIPOINT(1 2,3 4)", "MULTIPOINT((1 2),(3 4))"),
+    (
+        "GEOMETRYCOLLECTION(POINT Z(1 2 3),LINESTRING EMPTY)",
+        "GEOMETRYCOLLECTION(POINT(1 2),LINESTRING EMPTY)",
+    ),
+];
+
+#[test]
+fn flat_keys(rt: HostRuntime) -> Result<(), Fail> {
+    let alloc = rt.alloc();
+    for (text, want) in &FLAT_KEYS {
+        let geometry = Geometry::<Decimal<6>>::try_from_wkt_str(alloc, text)?;
+        let key = flat_key(alloc, &geometry)?;
+        assert_eq!(rt; key.as_str(), *want);
+        assert!(rt; Geometry::try_from_wkt_str(alloc, &key)? == geometry);
+    }
     Ok(())
 }
 

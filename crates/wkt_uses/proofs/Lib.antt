@@ -2,3 +2,4 @@ pub mod Groups
 pub mod Lining
 pub mod Shows
 pub mod Ordering
+pub mod FlatKeys

@@ -6,3 +6,4 @@ pub mod Halves
 pub mod Lined
 pub mod Fields
 pub mod Copied
+pub mod FlatKey

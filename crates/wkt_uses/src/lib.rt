@@ -8,6 +8,7 @@ pub mod any_collection;
 pub mod any_geometry;
 pub mod every_geometry;
 pub mod flat_from_reader;
+pub mod flat_key;
 pub mod from_json;
 pub mod key;
 pub mod my_areas;

@@ -1,0 +1,31 @@
+-- The text of a flat value names it.
+use Rattle.std.proofs.Common.{◌≡◌, ◌↔◌, ℕ, Bool, List, Option, Result, Ok, Err, subst, sym, true}
+use Rattle.std.specs.Prelude.{IfOk, OnOk}
+use Rattle.wkt_access.specs.Lawful.{IsLawful}
+use Rattle.wkt_access.specs.Shapes.{canon}
+use Rattle.wkt_access.specs.Texts.{text, shape_text}
+use Rattle.wkt_access.specs.WellFormed.{IsWellFormed}
+use Rattle.wkt_flat.specs.Equal.{coord_eq}
+use Rattle.wkt_flat.specs.Shape.{flat_shape}
+use Rattle.wkt_flat.specs.Tree.{Flat}
+use Rattle.wkt_types.specs.Outcome.{value}
+use Rattle.wkt_types.specs.Values.{tree_shape}
+use Rattle.wkt_convert.specs.Flatten.{flat}
+use Rattle.wkt_to_wkt.specs.Back.{back}
+use Rattle.wkt.specs.FromText.{FrontGives}
+use Rattle.wkt.specs.Laws.{FlatReadsBack}
+use Rattle.wkt_uses.specs.FlatKey.{NamesPlain}
+
+-- The text of the `Wkt` of a value is that of the value, so the law of the one is that of the other.
+pub names_plain : {T : Type 0} (is_value : T → Type 0) (num : T → List ℕ) (read : List ℕ → Option T) (eq : T → T → Bool) (t : Flat T)
+    → FlatReadsBack is_value num read eq t → canon (flat_shape t) ≡ canon (tree_shape (back t))
+    → IsLawful is_value (tree_shape (back t)) → NamesPlain read eq t (shape_text num (tree_shape (back t)))
+names_plain is_value num read eq t law same lawful plain o =
+    subst (λ s. FrontGives read (flat (coord_eq eq)) (text num s) o ↔ (o ≡ value t)) same
+    (law plain (subst (IsWellFormed is_value true) (sym same) lawful) o)
+
+-- What holds of the text that is answered, where it follows from another fact of the answer.
+pub named : {A E L : Type 0} (bytes : A → List ℕ) (P : List ℕ → Type 0) (bs : List ℕ) (r : Result A E)
+    → IfOk r (λ s. bytes s ≡ bs) → OnOk r L → (L → P bs) → IfOk r (λ s. P (bytes s))
+named bytes P bs (Ok s) is holds f = subst P (sym is) (f holds)
+named bytes P bs (Err e) is holds f = tt
