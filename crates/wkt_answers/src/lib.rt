@@ -118,16 +118,16 @@ fn read_alike<T: WktNum>(alloc: Global, text: &str, geometry: &Wkt<T>) -> Result
 fn rebuilt<T: WktNum>(alloc: Global, geometry: Wkt<T>) -> Result<Wkt<T>, AllocError> {
     match geometry {
         Wkt::Point(point) => Ok(Wkt::from(point)),
-        Wkt::LineString(line) => line_again(alloc, line),
+        Wkt::LineString(line) => line_string_again(alloc, line),
         Wkt::Polygon(polygon) => polygon_again(alloc, polygon),
         Wkt::MultiPoint(points) => points_again(alloc, points),
-        Wkt::MultiLineString(lines) => lines_again(alloc, lines),
+        Wkt::MultiLineString(lines) => line_strings_again(alloc, lines),
         Wkt::MultiPolygon(polygons) => polygons_again(alloc, polygons),
         Wkt::GeometryCollection(all) => collection_again(alloc, all),
     }
 }
 
-fn line_again<T: WktNum>(alloc: Global, line: LineString<T>) -> Result<Wkt<T>, AllocError> {
+fn line_string_again<T: WktNum>(alloc: Global, line: LineString<T>) -> Result<Wkt<T>, AllocError> {
     let (coords, dim) = line.into_inner();
     let line = LineString::from_coords(alloc, coords.into_iter())?;
     Ok(Wkt::from(line.unwrap_or_else(|| LineString::empty(alloc, dim))))
@@ -145,7 +145,10 @@ fn points_again<T: WktNum>(alloc: Global, points: MultiPoint<T>) -> Result<Wkt<T
     Ok(Wkt::from(points.unwrap_or_else(|| MultiPoint::empty(alloc, dim))))
 }
 
-fn lines_again<T: WktNum>(alloc: Global, lines: MultiLineString<T>) -> Result<Wkt<T>, AllocError> {
+fn line_strings_again<T: WktNum>(
+    alloc: Global,
+    lines: MultiLineString<T>,
+) -> Result<Wkt<T>, AllocError> {
     let (lines, dim) = lines.into_inner();
     let lines = MultiLineString::from_line_strings(alloc, lines.into_iter())?;
     Ok(Wkt::from(lines.unwrap_or_else(|| MultiLineString::empty(alloc, dim))))

@@ -19,7 +19,7 @@ fn xy(x: i32, y: i32) -> Coord<i32> {
 }
 
 /// A line string of coordinates that are one number twice.
-fn line(alloc: Global, numbers: &[i32]) -> Result<LineString<i32>, AllocError> {
+fn line_string(alloc: Global, numbers: &[i32]) -> Result<LineString<i32>, AllocError> {
     let mut coords = Vec::new(alloc);
     for n in numbers {
         coords.push(xy(*n, *n))?;
@@ -41,7 +41,7 @@ fn without_a_dimension_named(rt: HostRuntime) {
 }
 
 #[test]
-fn lines_and_points(rt: HostRuntime) -> Result<(), Fail> {
+fn line_strings_and_points(rt: HostRuntime) -> Result<(), Fail> {
     let alloc = rt.alloc();
     let all = Coord {
         x: 1,
@@ -62,15 +62,18 @@ fn lines_and_points(rt: HostRuntime) -> Result<(), Fail> {
 }
 
 #[test]
-fn rings_and_lines(rt: HostRuntime) -> Result<(), Fail> {
+fn rings_and_line_strings(rt: HostRuntime) -> Result<(), Fail> {
     let alloc = rt.alloc();
     let empty = LineString::empty(alloc, Dimension::XY);
     let lines = MultiLineString::new(vec![in alloc; empty]?, Dimension::XY);
     shows(&rt, alloc, &Wkt::from(lines), "MULTILINESTRING(EMPTY)");
-    let rings = vec![in alloc; LineString::empty(alloc, Dimension::XY), line(alloc, &[1])?]?;
+    let rings = vec![in alloc;
+        LineString::empty(alloc, Dimension::XY),
+        line_string(alloc, &[1])?,
+    ]?;
     let polygon = Polygon::new(rings, Dimension::XYZ);
     shows(&rt, alloc, &Wkt::from(polygon), "POLYGON Z EMPTY");
-    let lines = vec![in alloc; line(alloc, &[1, 2])?, line(alloc, &[3])?]?;
+    let lines = vec![in alloc; line_string(alloc, &[1, 2])?, line_string(alloc, &[3])?]?;
     let lines = MultiLineString::from_line_strings(alloc, lines.into_iter())?.ok_or("lines")?;
     shows(
         &rt,
@@ -87,7 +90,10 @@ fn polygons(rt: HostRuntime) -> Result<(), Fail> {
     let polygon = Polygon::empty(alloc, Dimension::XY);
     let polygons = MultiPolygon::new(vec![in alloc; polygon]?, Dimension::XY);
     shows(&rt, alloc, &Wkt::from(polygons), "MULTIPOLYGON(EMPTY)");
-    let rings = vec![in alloc; line(alloc, &[0, 20, 0])?, line(alloc, &[5, 6])?]?;
+    let rings = vec![in alloc;
+        line_string(alloc, &[0, 20, 0])?,
+        line_string(alloc, &[5, 6])?,
+    ]?;
     let polygon = Polygon::from_rings(alloc, rings.into_iter())?.ok_or("rings")?;
     let members = vec![in alloc; polygon]?;
     let polygons = MultiPolygon::from_polygons(alloc, members.into_iter())?.ok_or("polygons")?;
@@ -192,7 +198,7 @@ fn options_change_nothing(rt: HostRuntime) -> Result<(), Fail> {
 
 /// A line in that many collections.
 fn nested(alloc: Global, depth: u32) -> Result<Wkt<i32>, AllocError> {
-    let mut all = Wkt::from(line(alloc, &[1, 3])?);
+    let mut all = Wkt::from(line_string(alloc, &[1, 3])?);
     for _ in 0..depth {
         all = Wkt::from(GeometryCollection::new(vec![in alloc; all]?, Dimension::XYZ));
     }
