@@ -14,7 +14,7 @@ type Told<T> = Result<Geometry<T>, String>;
 
 /// Whether the flat value of a text's geometry, or the error in its place, is one by every call that
 /// gives it, and whether its text is one by every call that writes it.
-pub fn flat_alike<T: WktNum>(
+pub(crate) fn flat_alike<T: WktNum>(
     alloc: Global,
     text: &str,
     geometry: &Wkt<T>,
