@@ -23,6 +23,8 @@ use wkt_types::{ConvertError, Wkt};
 ///
 /// ```text
 /// let point = Point::<Decimal<6>>::try_from_wkt_str(alloc, "POINT (10 20)")?;
+/// let mut source = Counted::new("POINT(10 20)".as_bytes());
+/// let same = Point::<Decimal<6>>::try_from_wkt_reader(alloc, &mut source)?;
 /// ```
 pub trait TryFromWkt<T>: Sized {
     /// Why a text is refused.

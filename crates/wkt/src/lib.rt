@@ -1,4 +1,47 @@
 //! Well-known text read and written, proved: every name of the crates below, in one place.
+//!
+//! A call that takes memory has the allocator first, `alloc`, which `main` gets with `rt.alloc()`, and answers
+//! an error where there is none. Numbers are of any type with [`WktNum`]: whole ones, or a [`Decimal`] of so
+//! many places.
+//!
+//! # Read
+//! A text is read as a [`Wkt`], which keeps z and m, or as one of the two-dimensional [`geo_types`]:
+//!
+//! ```text
+//! let geometry = Wkt::<Decimal<6>>::from_str(alloc, "linestring z (1 2 3, 4 5.50 6)")?;
+//! let point = Point::<Decimal<6>>::try_from_wkt_str(alloc, "POINT (10 20)")?;
+//! ```
+//!
+//! # Infer
+//! The kind and the dimension, without reading the rest of the text:
+//!
+//! ```text
+//! let (kind, dimension) = infer_type(alloc, "POINT Z EMPTY")?;
+//! ```
+//!
+//! # Write
+//! A `Wkt` is displayed as its text, and a two-dimensional geometry gives it as a string or to a sink of bytes:
+//!
+//! ```text
+//! let rect = Rect::<i32>::new(Coord { x: 4, y: 4 }, Coord { x: 8, y: 8 });
+//! rect.write_wkt(alloc, &mut Counted::new(&mut bytes))?;
+//! ```
+//!
+//! # Convert
+//! A `Wkt` becomes a two-dimensional geometry, without z and m, and back:
+//!
+//! ```text
+//! let flat = try_into_geometry(alloc, &wkt)?;
+//! ```
+//!
+//! # Geometries of one's own
+//! Any type with the traits of [`geo_traits`] is written as it stands, with no copy: see [`to_wkt`]. A function
+//! over those traits takes a `Wkt`, a two-dimensional geometry and any other alike:
+//!
+//! ```text
+//! pub fn count_members<C: GeometryCollectionTrait>(collection: &C) -> usize
+//!     ensures { result ≡ length (C.geometries collection.now) }
+//! ```
 #![tactic(auto)]
 
 mod flat_laws;
@@ -17,7 +60,8 @@ pub use wkt_read::{FromWktStr, InferError, ReadError, infer_type};
 pub use wkt_to_wkt::{ToWkt, ToWktError};
 pub use wkt_types::Wkt;
 
-/// The traits by which any representation of a geometry is accessed.
+/// The traits by which any representation of a geometry is accessed: a type of one's own that has them is
+/// written by the writers of [`to_wkt`].
 pub mod geo_traits {
     pub use wkt_access::{
         CoordTrait, Dimensions, GeometryCollectionTrait, GeometryTrait, GeometryType,
@@ -26,7 +70,11 @@ pub mod geo_traits {
     };
 }
 
-/// Two-dimensional types.
+/// Two-dimensional types, under the names of the Rust crate `geo-types`.
+///
+/// ```text
+/// let rect = Rect::<i32>::new(Coord { x: 4, y: 4 }, Coord { x: 8, y: 8 });
+/// ```
 pub mod geo_types {
     pub use wkt_flat::{
         Coord, Geometry, GeometryCollection, Line, LineString, MultiLineString, MultiPoint,
@@ -34,7 +82,8 @@ pub mod geo_types {
     };
 }
 
-/// The types of well-known text.
+/// The types of well-known text: what a [`Wkt`] holds, with up to four numbers a coordinate, in the order x, y,
+/// z, m.
 pub mod types {
     pub use wkt_types::{
         Coord, Dimension, GeometryCollection, GeometryType, LineString, MultiLineString,
@@ -43,6 +92,11 @@ pub mod types {
 }
 
 /// Writing, and where text and bytes go.
+///
+/// ```text
+/// let mut out = String::new(alloc);
+/// push_geometry(&mut out, &rect)?;
+/// ```
 pub mod to_wkt {
     pub use wkt_bytes::{ByteSink, ByteSource, Counted, ReadAllError, WriterWrapper, read_all};
     pub use wkt_num::{CountedText, FormatterText, TextSink};
@@ -55,6 +109,11 @@ pub mod to_wkt {
 }
 
 /// Conversions of the types of well-known text into two-dimensional ones.
+///
+/// ```text
+/// let wkt = Wkt::<i32>::from_str(alloc, "POINT Z(1 2 3)")?;
+/// let flat = try_into_geometry(alloc, &wkt)?;
+/// ```
 pub mod geo_types_from_wkt {
     pub use wkt_convert::{ConvertFrom, try_into_geometry, try_into_geometry_collection};
     pub use wkt_types::ConvertError as Error;
@@ -65,12 +124,17 @@ pub mod error {
     pub use wkt_access::Error;
 }
 
-/// The lexemes of a text.
+/// The lexemes of a text, one after the other: what `Wkt::read_tokens` reads from.
 pub mod tokenizer {
     pub use wkt_read::{PeekableTokens, Token, Tokens};
 }
 
-/// Geometries out of JSON.
+/// Geometries out of JSON, where each is a string of well-known text.
+///
+/// ```text
+/// let value = Value::from_str(alloc, "\"POINT (42 3.14)\"")?;
+/// let point = wkt_from_value::<Decimal<6>>(alloc, &value)?;
+/// ```
 pub mod deserialize {
     pub use crate::json::{ValueError, deserialize_wkt, wkt_from_value};
 

@@ -9,8 +9,11 @@ use std::io::{Read, Write};
 
 /// Where bytes go: one call of `put` is one call of a writer.
 ///
+/// [`Counted`] is one over any `io::Write`. One of one's own says by `put` how many bytes were taken:
+///
 /// ```text
-/// impl ByteSink for MySink { .. put: hand over some bytes, and answer how many were taken .. }
+/// impl ByteSink for Page {
+///     fn put(&mut self, buf: &[u8]) -> io::Result<usize> {
 /// ```
 pub trait ByteSink {
     /// What it holds, where it can tell, how many calls have failed, and that a reference stays the

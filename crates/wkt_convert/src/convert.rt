@@ -37,6 +37,12 @@ pub trait ConvertFrom<S>: Sized {
 
 /// The geometry of any kind. An empty point becomes an empty multipoint.
 ///
+/// ```text
+/// let wkt = Wkt::<i32>::from_str(alloc, "POINT Z(1 2 3)")?;
+/// let flat = try_into_geometry(alloc, &wkt)?;
+/// // POINT(1 2)
+/// ```
+///
 /// # Errors
 /// `PointConversionError` where it holds a multipoint with an empty member, for the first one;
 /// `Memory`.

@@ -55,6 +55,11 @@ fn read_text<T: WktNum>(alloc: Global, text: &str) -> Result<(Wkt<T>, usize), Re
 }
 
 /// A type that is read from well-known text.
+///
+/// ```text
+/// let geometry = Wkt::<Decimal<6>>::from_str(alloc, "linestring z (1 2 3, 4 5.50 6)")?;
+/// // LINESTRING Z(1 2 3,4 5.5 6)
+/// ```
 pub trait FromWktStr {
     /// The type of its numbers.
     type Num: WktNum;
@@ -76,6 +81,11 @@ pub trait FromWktStr {
     /// The geometry at the front of the text, and where its last lexeme ends, in bytes. The end is past
     /// the text's start, and a character boundary of the text: so a text of several geometries is read
     /// one after the other, each time from `&text[end..]`.
+    ///
+    /// ```text
+    /// let (first, end) = Wkt::<i32>::read_front(alloc, "POINT(1 2) POINT(3 4)")?;
+    /// // POINT(1 2), and 10
+    /// ```
     ///
     /// # Errors
     /// Those of `from_str`.

@@ -132,6 +132,11 @@ fn named(
 /// The upstream crate has this call with a `String` for its errors; where the header ends is this
 /// project's own choice. ` POINT (10 20.1)` is a Point of XY, `LINEARRING Z(1 2 3)` a LineString
 /// of XYZ.
+///
+/// ```text
+/// let (kind, dimension) = infer_type(alloc, "POINT Z EMPTY")?;
+/// // a Point of XYZ
+/// ```
 pub fn infer_type(alloc: Global, text: &str) -> Result<(GeometryType, Dimension), InferError>
     ensures exact { Infers result (header_rule text.now) }
 {

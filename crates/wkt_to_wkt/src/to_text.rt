@@ -22,7 +22,8 @@ use wkt_write::write_geometry;
 /// A type that is written as well-known text: it has a `Wkt`, and its text is that of the `Wkt`.
 ///
 /// ```text
-/// let text = Rect::new(Coord { x: 4, y: 4 }, Coord { x: 8, y: 8 }).wkt_string(alloc)?;
+/// let rect = Rect::<i32>::new(Coord { x: 4, y: 4 }, Coord { x: 8, y: 8 });
+/// rect.write_wkt(alloc, &mut Counted::new(&mut bytes))?;
 /// // POLYGON((8 4,8 8,4 8,4 4,8 4))
 /// ```
 pub trait ToWkt<T: WktNum> {

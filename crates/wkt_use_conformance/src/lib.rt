@@ -5,6 +5,8 @@
 #[cfg(test)]
 mod callers;
 #[cfg(test)]
+mod doc_examples;
+#[cfg(test)]
 mod flat_sinks;
 #[cfg(test)]
 mod own_types;

@@ -134,7 +134,7 @@ pub fn write_geometry<W: TextSink, G: GeometryTrait>(f: &mut W, g: &G) -> Result
 ///
 /// ```text
 /// let mut out = String::new(alloc);
-/// push_geometry(&mut out, &geometry)?;
+/// push_geometry(&mut out, &rect)?;
 /// ```
 ///
 /// # Errors

@@ -1,0 +1,77 @@
+//! The examples of the doc comments, line for line, with what they give.
+use serde_json::Value;
+use std::test::Fail;
+use wkt::deserialize::wkt_from_value;
+use wkt::geo_types::{Coord, Point, Rect};
+use wkt::geo_types_from_wkt::try_into_geometry;
+use wkt::to_wkt::{Counted, push_geometry};
+use wkt::types::{Dimension, GeometryType};
+use wkt::{Decimal, FromWktStr, ToWkt, TryFromWkt, Wkt, infer_type};
+
+#[test]
+fn reads(rt: HostRuntime) -> Result<(), Fail> {
+    let alloc = rt.alloc();
+    let geometry = Wkt::<Decimal<6>>::from_str(alloc, "linestring z (1 2 3, 4 5.50 6)")?;
+    assert_eq!(rt;
+        geometry.to_string(alloc)?.as_str(),
+        "LINESTRING Z(1 2 3,4 5.5 6)"
+    );
+    let (first, end) = Wkt::<i32>::read_front(alloc, "POINT(1 2) POINT(3 4)")?;
+    assert_eq!(rt; first.to_string(alloc)?.as_str(), "POINT(1 2)");
+    assert_eq!(rt; end, 10);
+    Ok(())
+}
+
+#[test]
+fn reads_flat(rt: HostRuntime) -> Result<(), Fail> {
+    let alloc = rt.alloc();
+    let point = Point::<Decimal<6>>::try_from_wkt_str(alloc, "POINT (10 20)")?;
+    assert_eq!(rt; point.wkt_string(alloc)?.as_str(), "POINT(10 20)");
+    let mut source = Counted::new("POINT(10 20)".as_bytes());
+    let same = Point::<Decimal<6>>::try_from_wkt_reader(alloc, &mut source)?;
+    assert!(rt; same == point);
+    Ok(())
+}
+
+#[test]
+fn infers(rt: HostRuntime) -> Result<(), Fail> {
+    let alloc = rt.alloc();
+    let (kind, dimension) = infer_type(alloc, "POINT Z EMPTY")?;
+    assert!(rt; kind == GeometryType::Point && dimension == Dimension::XYZ);
+    Ok(())
+}
+
+#[test]
+fn writes(rt: HostRuntime) -> Result<(), Fail> {
+    let alloc = rt.alloc();
+    let rect = Rect::<i32>::new(Coord { x: 4, y: 4 }, Coord { x: 8, y: 8 });
+    assert_eq!(rt;
+        rect.wkt_string(alloc)?.as_str(),
+        "POLYGON((8 4,8 8,4 8,4 4,8 4))"
+    );
+    let mut bytes = Vec::new(alloc);
+    rect.write_wkt(alloc, &mut Counted::new(&mut bytes))?;
+    assert_eq!(rt; str::from_utf8(&bytes)?, "POLYGON((8 4,8 8,4 8,4 4,8 4))");
+    let mut out = String::new(alloc);
+    push_geometry(&mut out, &rect)?;
+    assert_eq!(rt; out.as_str(), "POLYGON((8 4,8 8,4 8,4 4,8 4))");
+    Ok(())
+}
+
+#[test]
+fn converts(rt: HostRuntime) -> Result<(), Fail> {
+    let alloc = rt.alloc();
+    let wkt = Wkt::<i32>::from_str(alloc, "POINT Z(1 2 3)")?;
+    let flat = try_into_geometry(alloc, &wkt)?;
+    assert_eq!(rt; flat.wkt_string(alloc)?.as_str(), "POINT(1 2)");
+    Ok(())
+}
+
+#[test]
+fn reads_json(rt: HostRuntime) -> Result<(), Fail> {
+    let alloc = rt.alloc();
+    let value = Value::from_str(alloc, "\"POINT (42 3.14)\"")?;
+    let point = wkt_from_value::<Decimal<6>>(alloc, &value)?;
+    assert_eq!(rt; point.to_string(alloc)?.as_str(), "POINT(42 3.14)");
+    Ok(())
+}
