@@ -22,9 +22,8 @@ use wkt_types::{ConvertError, Wkt};
 /// A type that is read from well-known text through a conversion.
 ///
 /// ```text
-/// let point = Point::<Decimal<6>>::try_from_wkt_str(alloc, "POINT (10 20)")?;
-/// let mut source = Counted::new("POINT(10 20)".as_bytes());
-/// let same = Point::<Decimal<6>>::try_from_wkt_reader(alloc, &mut source)?;
+/// let geometry = Geometry::<Decimal<6>>::try_from_wkt_str(alloc, "POINT (10 20)")?;
+/// let read = Geometry::<i32>::try_from_wkt_reader(alloc, &mut Counted::new(text.as_bytes()))?;
 /// ```
 pub trait TryFromWkt<T>: Sized {
     /// Why a text is refused.

@@ -9,7 +9,7 @@
 //!
 //! ```text
 //! let geometry = Wkt::<Decimal<6>>::from_str(alloc, "linestring z (1 2 3, 4 5.50 6)")?;
-//! let point = Point::<Decimal<6>>::try_from_wkt_str(alloc, "POINT (10 20)")?;
+//! let geometry = Geometry::<Decimal<6>>::try_from_wkt_str(alloc, "POINT (10 20)")?;
 //! ```
 //!
 //! # Infer

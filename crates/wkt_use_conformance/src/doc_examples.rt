@@ -1,8 +1,9 @@
 //! The examples of the doc comments, line for line, with what they give.
 use serde_json::Value;
+use std::alloc::Global;
 use std::test::Fail;
 use wkt::deserialize::wkt_from_value;
-use wkt::geo_types::{Coord, Point, Rect};
+use wkt::geo_types::{Coord, Geometry, Rect};
 use wkt::geo_types_from_wkt::try_into_geometry;
 use wkt::to_wkt::{Counted, push_geometry};
 use wkt::types::{Dimension, GeometryType};
@@ -25,12 +26,16 @@ fn reads(rt: HostRuntime) -> Result<(), Fail> {
 #[test]
 fn reads_flat(rt: HostRuntime) -> Result<(), Fail> {
     let alloc = rt.alloc();
-    let point = Point::<Decimal<6>>::try_from_wkt_str(alloc, "POINT (10 20)")?;
-    assert_eq!(rt; point.wkt_string(alloc)?.as_str(), "POINT(10 20)");
-    let mut source = Counted::new("POINT(10 20)".as_bytes());
-    let same = Point::<Decimal<6>>::try_from_wkt_reader(alloc, &mut source)?;
-    assert!(rt; same == point);
+    let geometry = Geometry::<Decimal<6>>::try_from_wkt_str(alloc, "POINT (10 20)")?;
+    assert_eq!(rt; geometry.wkt_string(alloc)?.as_str(), "POINT(10 20)");
+    assert_eq!(rt; of_bytes(alloc, "point(1 2)")?.as_str(), "POINT(1 2)");
     Ok(())
+}
+
+// The text of a geometry that is read from bytes.
+fn of_bytes(alloc: Global, text: &str) -> Result<String, Fail> {
+    let read = Geometry::<i32>::try_from_wkt_reader(alloc, &mut Counted::new(text.as_bytes()))?;
+    Ok(read.wkt_string(alloc)?)
 }
 
 #[test]
