@@ -2,10 +2,10 @@
 //! The program of the table and the tests of worked rows ask for it.
 #![tactic(auto)]
 
-ghost use Rattle.std.specs.Prelude.{◌≡◌, IfOk};
+ghost use Rattle.std.specs.Prelude.{◌≡◌, IfOk, IsErr};
 ghost use Rattle.std.specs.String.{string_bytes};
 ghost use Rattle.wkt_read.specs.Front.{HasNoFront};
-ghost use Rattle.wkt_answers.specs.Answer.{IsTextOfFront, OnRefused};
+ghost use Rattle.wkt_answers.specs.Answer.{IsTextOfFront, OnMemory, OnRefused};
 
 mod flat_calls;
 
@@ -74,6 +74,7 @@ fn refused(alloc: Global, text: &str, message: &'static str) -> AnswerError {
 /// Out of memory, now or in the answer.
 pub fn told(alloc: Global, answer: Result<String, AnswerError>) -> Result<String, AllocError>
     ensures text { IfOk result (λ told. IfOk answer (λ text. told ≡ text)) }
+    ensures memory { OnMemory answer (IsErr result) }
 {
     match answer {
         Ok(text) => Ok(text),
