@@ -53,6 +53,19 @@ fn put_coord<W: TextSink, C: CoordTrait>(f: &mut W, c: &C, k: usize) -> fmt::Res
     requires { k ≤ length (C.numbers c.now) }
     ensures { Puts W.sink f.old (cut_coordinate C.T.num k (C.numbers c.now)) f.new result }
 {
+    // Most coordinates are x and y alone, which take no loop.
+    if k == 2 {
+        return put_rect_corner(f, c, c);
+    }
+    put_numbers(f, c, k)
+}
+
+/// The same, one number after the other.
+#[inline(never)]
+fn put_numbers<W: TextSink, C: CoordTrait>(f: &mut W, c: &C, k: usize) -> fmt::Result
+    requires { k ≤ length (C.numbers c.now) }
+    ensures { Puts W.sink f.old (cut_coordinate C.T.num k (C.numbers c.now)) f.new result }
+{
     for n in 0..k {
         put_separator(f, " ", n)?;
         c.nth(n).write_number(f)?;
@@ -318,6 +331,7 @@ fn put_triangle_ring<W: TextSink, C: CoordTrait>(
 }
 
 /// Writes the x of one coordinate and the y of another.
+#[inline(always)]
 fn put_rect_corner<W: TextSink, C: CoordTrait>(f: &mut W, a: &C, b: &C) -> fmt::Result
     ensures { Puts W.sink f.old (rect_corner_text C.T.num (C.numbers a.now) (C.numbers b.now)) f.new result }
 {

@@ -1,7 +1,7 @@
 use Rattle.wkt_num.proofs.Calls.{puts_err}
 use Rattle.wkt_write.proofs.Listing.{listing_start, listing_more, listing_broken_before, listing_broken}
 use Rattle.wkt_write.proofs.Lists.{get_front, all_front}
-use Rattle.wkt_write.proofs.put_parts.put_coord.Goals as goal
+use Rattle.wkt_write.proofs.put_parts.put_numbers.Goals as goal
 
 pub loop-n-init : goal.loop-n-init
 loop-n-init g c = listing_start _ _ _ _ _ (all_front _ _ c.requires)
