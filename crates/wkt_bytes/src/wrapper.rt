@@ -147,13 +147,13 @@ impl<W: ByteSink> WriterWrapper<W> {
         let State::Well = self.state else {
             return Err(fmt::Error);
         };
-        // Most pieces are one byte, which fits, and a copy is a call.
-        if bytes.len() == 1 && self.len < 255 {
-            self.keep_one(bytes);
-            return Ok(());
-        }
+        // Most pieces just fit. Half of them are one byte, and a copy of more is a call.
         if bytes.len() < 256 - self.len {
-            self.keep(bytes);
+            if bytes.len() == 1 {
+                self.keep_one(bytes);
+            } else {
+                self.keep(bytes);
+            }
             return Ok(());
         }
         self.accept_long(bytes)
