@@ -1,4 +1,4 @@
--- A fraction of 18 places, put as sixteen digits and two.
+-- A fraction of 18 places, put as eight digits, or as sixteen and two.
 use Rattle.std.proofs.Common.{◌≡◌, ℕ, zero, suc, ◌+◌, ◌-◌, ◌*◌, ◌/◌, ◌%◌, ◌^◌, ◌<◌, ◌≤◌, true, false, not, ◌==◌, List, [], ◌∷◌, ◌++◌, length, reverse, get_or, take, set, cond, refl, sym, ap, ◌∙◌, subst, arith, append_assoc, length-append, length-set}
 use Rattle.std.specs.List.{prefix_len}
 use Rattle.std.proofs.lemmas.List.{reverse-append, length-take-le, take-take}
@@ -83,8 +83,8 @@ down-take : (n : ℕ) (v : List ℕ) → n ≤ length v → down n v ≡ reverse
 down-take zero v h = refl
 down-take (suc n) v h = ap (λ l. get_or v n 0 ∷ l) (down-take n v (omega (arith, h))) ∙ sym (ap reverse (take-suc v n 0 (omega (arith, h))) ∙ reverse-append (take n v) (get_or v n 0 ∷ []))
 
-pub down-reverse : (v : List ℕ) → length v ≡ 16 → down 16 (v ++ v) ≡ reverse v
-down-reverse v long = down-take 16 (v ++ v) (omega (arith, long, length-append v v)) ∙ ap reverse (ap (λ (n : ℕ). take n (v ++ v)) (sym long) ∙ take-append_seam v v)
+pub down-reverse : (n : ℕ) (v : List ℕ) → length v ≡ n → down n (v ++ v) ≡ reverse v
+down-reverse n v long = down-take n (v ++ v) (omega (arith, long, length-append v v)) ∙ ap reverse (ap (λ (k : ℕ). take k (v ++ v)) (sym long) ∙ take-append_seam v v)
 
 length-zeros : (m : ℕ) → length (zeros m) ≡ m
 length-zeros zero = refl
@@ -105,43 +105,35 @@ module _ (D F T : ℕ) (few : D ≤ 18) (less : F < 10 ^ D) (some : F ≡ 0 → 
   pub scaled : fraction_digits 18 (F * T) ≡ fraction_digits D F
   scaled = ap (fraction_digits 18) same ∙ digits-scaled D (18 - D) 18 F (omega (arith, few)) less
 
-  -- sixteen digits are put, of which r are zeros after the others
+  -- the first n digits G are put, of which r are zeros after the others, and the rest are 0
+  module _ (n e G r : ℕ) (out old lanes : List ℕ) (full : 18 ≡ n + e) (less-front : G < 10 ^ n) (front : G * 10 ^ e ≡ F * T) (long : length old ≡ 80)
+      (there : take (41 + n) out ≡ take 41 old ++ lanes) (digits : lanes ≡ padded n G) (count : r ≡ prefix_len (λ b. not (not (b == 48))) (reverse lanes)) where
+    kept-is : fraction_digits n G ≡ fraction_digits D F
+    kept-is = sym (digits-scaled n e 18 G full less-front) ∙ ap (fraction_digits 18) front ∙ scaled
+
+    r-is : r ≡ (pads n G).0
+    r-is =
+        count ∙ ap (λ l. prefix_len (λ b. not (not (b == 48))) (reverse l)) (digits ∙ (pads n G).1)
+        ∙ zeros-last (fraction_digits n G) (pads n G).0 (last-digit n G less-front (λ h. some-all (sym front ∙ ap (λ m. m * 10 ^ e) h ∙ omega arith)))
+
+    text : take (41 + n) out ≡ (take 41 old ++ fraction_digits n G) ++ zeros (pads n G).0
+    text = there ∙ ap (λ l. take 41 old ++ l) (digits ∙ (pads n G).1) ∙ sym (append_assoc (take 41 old) (fraction_digits n G) (zeros (pads n G).0))
+
+    place : 41 + n - r ≡ length (take 41 old ++ fraction_digits n G)
+    place = omega (arith, r-is, length-take-le 41 old (omega (arith, long)), length-append (take 41 old) (fraction_digits n G), ap length (pads n G).1, length-append (fraction_digits n G) (zeros (pads n G).0), length-zeros (pads n G).0, length-padded n G)
+
+    pub cut : take (41 + n - r) out ≡ take 41 old ++ fraction_digits D F
+    cut =
+        sym (take-take (41 + n - r) (41 + n) out (omega arith)) ∙ ap (take (41 + n - r)) text
+        ∙ ap (λ (k : ℕ). take k ((take 41 old ++ fraction_digits n G) ++ zeros (pads n G).0)) place
+        ∙ take-append_seam (take 41 old ++ fraction_digits n G) (zeros (pads n G).0)
+        ∙ ap (λ l. take 41 old ++ l) kept-is
+
+  -- sixteen digits are put, and two more
   module _ (out old lanes : List ℕ) (long : length old ≡ 80) (within : 59 ≤ length out) (there : take 57 out ≡ take 41 old ++ lanes) (digits : lanes ≡ padded 16 (F * T / 100)) where
     before : length (take 41 old) ≡ 41
     before = length-take-le 41 old (omega (arith, long))
 
-    module _ (r : ℕ) (none : F * T % 100 ≡ 0) (count : r ≡ prefix_len (λ b. not (not (b == 48))) (reverse lanes)) where
-      p : (m : ℕ) × (padded 16 (F * T / 100) ≡ fraction_digits 16 (F * T / 100) ++ zeros m)
-      p = pads 16 (F * T / 100)
-
-      front-less : F * T / 100 < 10 ^ 16
-      front-less = omega (arith, small)
-
-      kept : List ℕ
-      kept = fraction_digits 16 (F * T / 100)
-
-      kept-is : fraction_digits 16 (F * T / 100) ≡ fraction_digits D F
-      kept-is = sym (digits-scaled 16 2 18 (F * T / 100) refl front-less) ∙ ap (fraction_digits 18) {x = F * T / 100 * 10 ^ 2} {y = F * T} (omega (arith, none)) ∙ scaled
-
-      r-is : r ≡ p.0
-      r-is =
-          count ∙ ap (λ l. prefix_len (λ b. not (not (b == 48))) (reverse l)) (digits ∙ p.1)
-          ∙ zeros-last (fraction_digits 16 (F * T / 100)) p.0 (last-digit 16 (F * T / 100) front-less (λ h. some-all (omega (arith, h, none))))
-
-      text : take 57 out ≡ (take 41 old ++ fraction_digits 16 (F * T / 100)) ++ zeros p.0
-      text = there ∙ ap (λ l. take 41 old ++ l) (digits ∙ p.1) ∙ sym (append_assoc (take 41 old) (fraction_digits 16 (F * T / 100)) (zeros p.0))
-
-      place : 57 - r ≡ length (take 41 old ++ fraction_digits 16 (F * T / 100))
-      place = omega (arith, r-is, before, length-append (take 41 old) (fraction_digits 16 (F * T / 100)), ap length p.1, length-append (fraction_digits 16 (F * T / 100)) (zeros p.0), length-zeros p.0, length-padded 16 (F * T / 100))
-
-      pub cut : take (57 - r) out ≡ take 41 old ++ fraction_digits D F
-      cut =
-          sym (take-take (57 - r) 57 out (omega arith)) ∙ ap (take (57 - r)) text
-          ∙ ap (λ (n : ℕ). take n ((take 41 old ++ fraction_digits 16 (F * T / 100)) ++ zeros p.0)) place
-          ∙ take-append_seam (take 41 old ++ fraction_digits 16 (F * T / 100)) (zeros p.0)
-          ∙ ap (λ l. take 41 old ++ l) kept-is
-
-    -- and two more
     abbrev pub whole : List ℕ
     whole = take 41 old ++ fraction_digits 18 (F * T)
 
@@ -166,14 +158,14 @@ module _ (D F T : ℕ) (few : D ≤ 18) (less : F < 10 ^ D) (some : F ≡ 0 → 
     whole-long = let e = last-digit 18 (F * T) small some-all in
         omega (arith, length-append (take 41 old) (fraction_digits 18 (F * T)), before, ap length e.2, length-append e.0 ((48 + e.1) ∷ []))
 
--- sixteen bytes are copied to place 41
-abbrev pub copied : List ℕ → List ℕ → List ℕ
-copied old lanes = put_mid 41 16 old (put_chunk 0 (mid_of 41 16 old) lanes)
+-- n bytes are copied to place 41
+abbrev pub copied : ℕ → List ℕ → List ℕ → List ℕ
+copied n old lanes = put_mid 41 n old (put_chunk 0 (mid_of 41 n old) lanes)
 
-pub copied-there : (old lanes : List ℕ) → length old ≡ 80 → length lanes ≡ 16 → take 57 (copied old lanes) ≡ take 41 old ++ lanes
-copied-there old lanes long sixteen =
-    ap (λ l. take 57 (put_mid 41 16 old l)) (put_chunk_whole (mid_of 41 16 old) lanes (mid_len 41 57 old (omega (arith, long)) ∙ sym sixteen))
-    ∙ take-put_mid 41 16 old lanes 57 (omega (arith, sixteen)) (omega (arith, long))
+pub copied-there : (n : ℕ) (old lanes : List ℕ) → n ≤ 16 → length old ≡ 80 → length lanes ≡ n → take (41 + n) (copied n old lanes) ≡ take 41 old ++ lanes
+copied-there n old lanes few long lasts =
+    ap (λ l. take (41 + n) (put_mid 41 n old l)) (put_chunk_whole (mid_of 41 n old) lanes (ap (λ (k : ℕ). length (mid_of 41 k old)) {x = n} {y = 41 + n - 41} (omega arith) ∙ mid_len 41 (41 + n) old (omega (arith, few, long)) ∙ omega (arith, lasts)))
+    ∙ take-put_mid 41 n old lanes (41 + n) (omega (arith, lasts)) (omega (arith, few, long))
 
-pub copied-long : (old lanes : List ℕ) → length old ≡ 80 → length (copied old lanes) ≡ 80
-copied-long old lanes long = same_len_mid 41 16 old (put_chunk 0 (mid_of 41 16 old) lanes) (length-put_chunk 0 (mid_of 41 16 old) lanes) ∙ long
+pub copied-long : (n : ℕ) (old lanes : List ℕ) → length old ≡ 80 → length (copied n old lanes) ≡ 80
+copied-long n old lanes long = same_len_mid 41 n old (put_chunk 0 (mid_of 41 n old) lanes) (length-put_chunk 0 (mid_of 41 n old) lanes) ∙ long

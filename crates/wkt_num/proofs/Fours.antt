@@ -58,3 +58,6 @@ four-is v less =
 pub four-fours : (a b c d : ℕ) → a < 10000 → b < 10000 → c < 10000 → d < 10000
     → four a ++ (four b ++ (four c ++ four d)) ≡ padded 4 a ++ (padded 4 b ++ (padded 4 c ++ padded 4 d))
 four-fours a b c d p q r s = ap₂ (λ x y. x ++ y) (four-is a p) (ap₂ (λ x y. x ++ y) (four-is b q) (ap₂ (λ x y. x ++ y) (four-is c r) (four-is d s)))
+
+pub two-fours : (a b : ℕ) → a < 10000 → b < 10000 → four a ++ four b ≡ padded 4 a ++ padded 4 b
+two-fours a b p q = ap₂ (λ x y. x ++ y) (four-is a p) (four-is b q)

@@ -143,7 +143,7 @@ fn put_fraction(places: u32, fraction: u128, out: &mut [u8; 80]) -> usize
 
 /// Puts the digits after the point, and answers where they end.
 ///
-/// The fraction is first made one of 18 places, of which sixteen are put at once.
+/// The fraction is first made one of 18 places, of which sixteen are put at once, or eight if the others are 0.
 #[inline(always)]
 fn put_short(places: u32, fraction: u64, out: &mut [u8; 80]) -> usize
     requires few { places ≤ 18 }
@@ -154,6 +154,13 @@ fn put_short(places: u32, fraction: u64, out: &mut [u8; 80]) -> usize
     ensures value { take result out.new ≡ take 41 out.old ++ fraction_digits places fraction }
 {
     let all = fraction * ten_to(SHORT_PLACES - places);
+    let high = all / 10_000_000_000;
+    if high * 10_000_000_000 == all {
+        // At most eight digits, as most fractions have.
+        let digits = eight(high);
+        digits.copy_to_slice(&mut out[41..49]);
+        return 49 - zeros_after_eight(digits);
+    }
     let front = all / 100;
     let last = all % 100;
     let digits = sixteen(front);
@@ -164,6 +171,47 @@ fn put_short(places: u32, fraction: u64, out: &mut [u8; 80]) -> usize
     out[57] = b'0' + (last / 10) as u8;
     out[58] = b'0' + (last % 10) as u8;
     without_zeros(out, 59)
+}
+
+/// Eight digits.
+#[inline(always)]
+fn eight(n: u64) -> u8x8
+    requires { n < 10 ^ 8 }
+    ensures { result ≡ padded 8 n }
+{
+    two_fours((n / 10000) as u32, (n % 10000) as u32)
+}
+
+/// Four digits of each number.
+#[inline(always)]
+fn two_fours(a: u32, b: u32) -> u8x8
+    requires { (a < 10000) × (b < 10000) }
+    ensures { result ≡ padded 4 a ++ padded 4 b }
+{
+    // A division by 100, and then one by 10.
+    let fours = u32x2::from_array([a, b]);
+    let hundreds = (fours * u32x2::splat(5243)) >> u32x2::splat(19);
+    let rests = fours - hundreds * u32x2::splat(100);
+    let pairs: u32x4 = hundreds.shuffle(rests, [0, 2, 1, 3]);
+    let pairs: u16x4 = pairs.cast();
+    let tens = (pairs * u16x4::splat(103)) >> u16x4::splat(10);
+    let ones = pairs - tens * u16x4::splat(10);
+    let digits: u16x8 = tens.shuffle(ones, [0, 4, 1, 5, 2, 6, 3, 7]);
+    let digits: u8x8 = digits.cast();
+    digits + u8x8::splat(48)
+}
+
+/// How many zeros stand last.
+#[inline(always)]
+fn zeros_after_eight(digits: u8x8) -> usize
+    ensures { result ≡ prefix_len (λ b. not (not (b == 48))) (reverse digits) }
+{
+    let others = digits.reverse().simd_ne(u8x8::splat(b'0')).to_bitmask();
+    if others == 0 {
+        8
+    } else {
+        others.trailing_zeros() as usize
+    }
 }
 
 /// Sixteen digits.
@@ -182,13 +230,12 @@ fn sixteen(n: u64) -> u8x16
     )
 }
 
-/// Four digits of each number.
+/// The same of four numbers.
 #[inline(always)]
 fn four_fours(a: u32, b: u32, c: u32, d: u32) -> u8x16
     requires { (a < 10000) × (b < 10000) × (c < 10000) × (d < 10000) }
     ensures { result ≡ padded 4 a ++ (padded 4 b ++ (padded 4 c ++ padded 4 d)) }
 {
-    // A division by 100, and then one by 10.
     let fours = u32x4::from_array([a, b, c, d]);
     let hundreds = (fours * u32x4::splat(5243)) >> u32x4::splat(19);
     let rests = fours - hundreds * u32x4::splat(100);
@@ -201,7 +248,7 @@ fn four_fours(a: u32, b: u32, c: u32, d: u32) -> u8x16
     digits + u8x16::splat(48)
 }
 
-/// How many zeros stand last.
+/// The same of sixteen digits.
 #[inline(always)]
 fn zeros_after(digits: u8x16) -> usize
     ensures { result ≡ prefix_len (λ b. not (not (b == 48))) (reverse digits) }

@@ -9,7 +9,7 @@ pub returns-then-others-eq0 : goal.returns-then-others-eq0
 returns-then-others-eq0 c =
     let digits = c.args.digits in
     let v = down 16 (digits ++ digits) in
-    let back = down-reverse digits c.fits-digits.0 in
+    let back = down-reverse 16 digits c.fits-digits.0 in
     let others = bitmask_splat w8 (λ a b. not (eqb a b)) v 16 48 refl (omega arith) in
     sym (leading_from_mask_l (λ x. not (eqb x 48)) v (sym others ∙ c.if-others-eq0.true)) ∙ ap (prefix_len (λ b. not (not (eqb b 48)))) back
 
@@ -17,6 +17,6 @@ pub returns-else-others-eq0 : goal.returns-else-others-eq0
 returns-else-others-eq0 c =
     let digits = c.args.digits in
     let v = down 16 (digits ++ digits) in
-    let back = down-reverse digits c.fits-digits.0 in
+    let back = down-reverse 16 digits c.fits-digits.0 in
     let others = bitmask_splat w8 (λ a b. not (eqb a b)) v 16 48 refl (omega arith) in
     ap (count_trailing_zeros 64) others ∙ trailing_mask_l (λ x. not (eqb x 48)) 64 v (omega arith) (omega (arith, sym others, c.if-others-eq0.false)) ∙ ap (prefix_len (λ b. not (not (eqb b 48)))) back

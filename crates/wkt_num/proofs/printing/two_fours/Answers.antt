@@ -1,0 +1,5 @@
+use Rattle.wkt_num.proofs.Fours.{two-fours}
+use Rattle.wkt_num.proofs.printing.two_fours.Goals as goal
+
+pub returns : goal.returns
+returns c = two-fours c.args.a c.args.b c.requires.0 c.requires.1
