@@ -48,8 +48,45 @@ pub fn put_small_whole(negative: bool, n: u64, out: &mut [u8; 80]) -> usize
     ensures bound { result ≤ 40 }
     ensures value { drop result out.new ≡ sign_text negative ++ decimal n ++ drop 40 out.old }
 {
-    let start = put_short(n, 40, out);
+    let start = put_few(n, out);
     put_minus(negative, start, out)
+}
+
+/// Puts the digits of `n`, in 64 bits, before place 40, and answers where they start.
+#[inline(always)]
+fn put_few(n: u64, out: &mut [u8; 80]) -> usize
+    ensures sign { 1 ≤ result }
+    ensures bound { result ≤ 40 }
+    ensures value { drop result out.new ≡ decimal n ++ drop 40 out.old }
+{
+    if n < 1000 {
+        put_three(n as u32, out)
+    } else {
+        put_short(n, 40, out)
+    }
+}
+
+/// The same of a number below 1000.
+#[inline(always)]
+fn put_three(n: u32, out: &mut [u8; 80]) -> usize
+    requires { n < 1000 }
+    ensures sign { 1 ≤ result }
+    ensures bound { result ≤ 40 }
+    ensures value { drop result out.new ≡ decimal n ++ drop 40 out.old }
+{
+    // A division by 10, and then another.
+    let tens = (n * 6554) >> 16;
+    out[39] = digit_byte((n - tens * 10) as u8);
+    if tens == 0 {
+        return 39;
+    }
+    let hundreds = (tens * 205) >> 11;
+    out[38] = digit_byte((tens - hundreds * 10) as u8);
+    if hundreds == 0 {
+        return 38;
+    }
+    out[37] = digit_byte(hundreds as u8);
+    37
 }
 
 /// Puts the digits of `n` before place 40, and answers where they start.
