@@ -58,8 +58,8 @@ to-end from h k = omega (arith, h, k)
 pub fits-more : (all at d : ℕ) → all < 10 ^ at → d ≤ 9 → all * 10 + d < 10 ^ (at + 1)
 fits-more all at d h k = omega (arith, h, k, pow-suc 10 at, ap (λ n. 10 ^ n) {x = at + 1} {y = suc at} (omega arith))
 
-pub fits-short : (n at : ℕ) → n < 10 ^ at → at ≤ 19 → n < 10 ^ 19
-fits-short n at h k = omega (arith, h, pow-le-pow_right {n = 10} (omega arith) {i = at} {j = 19} k)
+pub fits-within : (n at most : ℕ) → n < 10 ^ at → at ≤ most → n < 10 ^ most
+fits-within n at most h k = omega (arith, h, pow-le-pow_right {n = 10} (omega arith) {i = at} {j = most} k)
 
 -- the product is within the limit
 product-fits : (all t D : ℕ) → all < 10 ^ 19 → t ≡ 10 ^ D → D ≤ 18 → all * t ≤ 2 ^ 127
@@ -91,7 +91,7 @@ whole-body D at all t body e some short digits value small ten few =
     (subst (λ (l : List ℕ). AllDigits 10 l) (sym none) all_digits)
     (omega (arith, ap length none, e, some))
     (omega (arith, ap (λ x. all * x) ten) ∙ ap (λ x. x * 10 ^ D) (value ∙ ap (digits_value_after 10 0) (same ∙ sym none)))
-    (product-fits all t D (fits-short all at small (omega (arith, e, short))) ten few)
+    (product-fits all t D (fits-within all at 19 small (omega (arith, e, short))) ten few)
 
 -- digits around a point
 pub point-body : (D at whole all end t : ℕ) (body : List ℕ) → at < length body → length body ≤ 19 → get_or body at 0 ≡ 46 → length body ≤ end → end ≤ length body → (length body - at - 1 ≡ 0 → ⊥) → length body - at - 1 ≤ D
@@ -116,7 +116,7 @@ point-body D at whole all end t body inside short point past within some few bef
     (digits_append ds fs before after)
     (omega (arith, length-append ds fs, long, some))
     (omega (arith, ap (λ x. all * x) scale) ∙ ap (λ x. x * 10 ^ D) (value_all ∙ ap (λ n. digits_value_after 10 n fs) value ∙ sym (value_append 0 ds fs)))
-    (product-fits all t (D - k) (fits-short all end small (omega (arith, within, short))) ten (omega (arith, most)))
+    (product-fits all t (D - k) (fits-within all end 19 small (omega (arith, within, short))) ten (omega (arith, most)))
 
 -- digits around a point, those before it and those after it each as a number
 near-equation : (w t f s x P T : ℕ) → t ≡ T → s * P ≡ T → x ≡ f * s → (w * t + x) * P ≡ (w * P + f) * T
@@ -135,7 +135,7 @@ near-fraction D k f s fs long few most digits value e =
 pub near-whole : (w at t D : ℕ) → w < 10 ^ at → at ≤ 19 → t ≡ 10 ^ D → D ≤ 18 → w * t ≤ 10 ^ 37
 near-whole w at t D h short e k =
     let low : t ≤ 10 ^ 18 = omega (arith, e, pow-le-pow_right {n = 10} (omega arith) {i = D} {j = 18} k) in
-    omega (arith, mul-le-mul {n₁ = w} {m₁ = t} {n₂ = 10 ^ 19} {m₂ = 10 ^ 18} (omega (arith, fits-short w at h short)) low)
+    omega (arith, mul-le-mul {n₁ = w} {m₁ = t} {n₂ = 10 ^ 19} {m₂ = 10 ^ 18} (omega (arith, fits-within w at 19 h short)) low)
 
 pub near-tail : (at : ℕ) (body : List ℕ) → at < length body → drop (length body - (length body - at - 1)) body ≡ drop (at + 1) body
 near-tail at body inside = ap (λ (n : ℕ). drop n body) {x = length body - (length body - at - 1)} {y = at + 1} (omega (arith, inside))

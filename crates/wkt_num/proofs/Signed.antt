@@ -1,5 +1,5 @@
 -- The reading with its sign, from the parts that the code makes.
-use Rattle.std.proofs.Common.{◌≡◌, ℕ, ◌^◌, ◌<◌, ◌≤◌, Bool, if◌then◌else◌, List, Option, None, sym, ap, ◌∙◌}
+use Rattle.std.proofs.Common.{◌≡◌, ℕ, ℤ, ◌^◌, ◌<◌, ◌≤◌, Bool, if◌then◌else◌, List, Option, None, sym, ap, ◌∙◌}
 use Rattle.std.specs.Str.Parse.{starts_with_minus, without_leading_sign}
 use borrow.Author.Tests.{lt-leb}
 use Rattle.wkt_num.specs.Decimal.{read_magnitude, read_decimal, with_sign, and_then}
@@ -11,10 +11,10 @@ unfolding read_decimal
 read-far k most D bs h = ap (λ b. if b then and_then (read_magnitude (2 ^ k) D (without_leading_sign bs)) (with_sign k (starts_with_minus bs)) else None) (lt-leb D most h)
 
 -- The reading from the parts that the code makes.
-pub read-by : (D : ℕ) (bs b body : List ℕ) (negative : Bool) (o : Option ℕ) → D ≤ 36 → b ≡ bs → negative ≡ starts_with_minus b → body ≡ without_leading_sign b → o ≡ read_magnitude (2 ^ 127) D body → read_decimal 127 36 D bs ≡ and_then o (with_sign 127 negative)
+pub read-by : (D : ℕ) (bs b body : List ℕ) (negative : Bool) (o : Option ℤ) → D ≤ 36 → b ≡ bs → negative ≡ starts_with_minus b → body ≡ without_leading_sign b → o ≡ and_then (read_magnitude (2 ^ 127) D body) (with_sign 127 negative) → read_decimal 127 36 D bs ≡ o
 read-by D bs b body negative o h e f i k =
     read-near 127 36 D bs h
     ∙ ap (λ x. and_then (read_magnitude (2 ^ 127) D (without_leading_sign x)) (with_sign 127 (starts_with_minus x))) (sym e)
     ∙ ap (λ x. and_then (read_magnitude (2 ^ 127) D x) (with_sign 127 (starts_with_minus b))) (sym i)
-    ∙ ap (λ x. and_then x (with_sign 127 (starts_with_minus b))) (sym k)
-    ∙ ap (λ n. and_then o (with_sign 127 n)) (sym f)
+    ∙ ap (λ n. and_then (read_magnitude (2 ^ 127) D body) (with_sign 127 n)) (sym f)
+    ∙ sym k

@@ -6,7 +6,7 @@ ghost use Rattle.wkt_num.specs.DecimalLaws.{decimal_reads_back, decimal_reads_va
 use crate::formatted::FormatterText;
 use crate::number::WktNum;
 use crate::printing::write_units;
-use crate::reading::{read_body, split_sign, with_sign};
+use crate::reading::{read_signed, split_sign};
 use crate::sink::TextSink;
 use std::fmt;
 use std::marker::Model;
@@ -78,8 +78,7 @@ impl<const D: u32> WktNum for Decimal<D> {
             return None;
         }
         let (negative, body) = split_sign(text.as_bytes());
-        let magnitude = read_body(D, body)?;
-        let units = with_sign(negative, magnitude)?;
+        let units = read_signed(D, negative, body)?;
         Some(Decimal { units })
     }
 

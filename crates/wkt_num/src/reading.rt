@@ -1,8 +1,8 @@
 //! Decimal fractions from text.
-ghost use Rattle.std.specs.Prelude.{◌≡◌, ◌≢◌, true, false, ◌+◌, ◌*◌, ◌^◌, ◌≤◌, ◌<◌, Some, IfSome, length, slice_range, nat_le};
+ghost use Rattle.std.specs.Prelude.{◌≡◌, ◌≢◌, ℕ, true, false, ◌+◌, ◌-◌, ◌*◌, ◌^◌, ◌≤◌, ◌<◌, Some, IfSome, length, slice_range, nat_le};
 ghost use Rattle.std.specs.Str.Parse.{AllDigits, digits_value_after, starts_with_minus, without_leading_sign};
 ghost use Rattle.wkt_num.specs.Whole.{keep_if};
-ghost use Rattle.wkt_num.specs.Decimal.{read_magnitude, with_sign};
+ghost use Rattle.wkt_num.specs.Decimal.{read_magnitude, with_sign, and_then};
 
 use crate::lanes::last_digits;
 use crate::powers::{SHORT_PLACES, ten_to};
@@ -19,28 +19,36 @@ pub fn split_sign(text: &[u8]) -> (bool, &[u8])
     }
 }
 
-/// Reads digits with at most one point, as units of ten to the minus `places`.
+/// Reads digits with at most one point, as units of ten to the minus `places`, with their sign.
 #[inline(always)]
-pub fn read_body(places: u32, body: &[u8]) -> Option<u128>
+pub fn read_signed(places: u32, negative: bool, body: &[u8]) -> Option<i128>
     requires { places ≤ 36 }
-    ensures { result ≡ read_magnitude (2 ^ 127) places body.now }
+    ensures { result ≡ and_then (read_magnitude (2 ^ 127) places body.now) (with_sign 127 negative) }
 {
-    if let Some(units) = read_near(places, body) {
-        return Some(units);
+    // Each way has its sign set apart, where its range is known.
+    if body.len() < VECTOR_BYTES {
+        return match read_few(places, body) {
+            Some(units) => with_sign(negative, units),
+            None => read_other(places, negative, body),
+        };
     }
-    read_other(places, body)
+    match read_near(places, body) {
+        Some(units) => with_sign(negative, units),
+        None => read_other(places, negative, body),
+    }
 }
 
 /// The same for a body of any form.
 #[inline(never)]
-fn read_other(places: u32, body: &[u8]) -> Option<u128>
+fn read_other(places: u32, negative: bool, body: &[u8]) -> Option<i128>
     requires { places ≤ 36 }
-    ensures { result ≡ read_magnitude (2 ^ 127) places body.now }
+    ensures { result ≡ and_then (read_magnitude (2 ^ 127) places body.now) (with_sign 127 negative) }
 {
     if let Some(units) = read_short(places, body) {
-        return Some(units);
+        return with_sign(negative, units);
     }
-    read_magnitude(places, body)
+    let units = read_magnitude(places, body)?;
+    with_sign(negative, units)
 }
 
 /// The most bytes whose digits, with a point among them or not, fit 64 bits.
@@ -49,7 +57,66 @@ const SHORT_BYTES: usize = 19;
 /// The fewest bytes that a vector is loaded from.
 const VECTOR_BYTES: usize = 8;
 
-/// The same by vectors, for a body of common length around a point. `None` says nothing of the body.
+/// The units of a body of fewer bytes. `None` says nothing of the body.
+#[inline(always)]
+fn read_few(places: u32, body: &[u8]) -> Option<u128>
+    ensures { IfSome result (λ units. read_magnitude (2 ^ 127) places body.now ≡ Some units) }
+{
+    if places > SHORT_PLACES {
+        return None;
+    }
+    let (all, after) = few_digits(body);
+    if after > places as usize {
+        return None;
+    }
+    Some(u128::from(all) * u128::from(ten_to(places - after as u32)))
+}
+
+/// The number of the digits of such a body, and how many of them follow a point. A count past all
+/// places says nothing of the body.
+#[inline(always)]
+fn few_digits(body: &[u8]) -> (u32, usize)
+    ensures { (D : ℕ) → D ≤ 18 → result.1 ≤ D
+        → read_magnitude (2 ^ 127) D body.now ≡ Some (result.0 * 10 ^ (D - result.1)) }
+{
+    let none = (0, 64);
+    if body.len() >= VECTOR_BYTES {
+        return none;
+    }
+    let (whole, at) = small_digits(body, 0, 0);
+    if at == body.len() {
+        return if at == 0 { none } else { (whole, 0) };
+    }
+    let after = body.len() - at - 1;
+    if body[at] != b'.' || after == 0 {
+        return none;
+    }
+    let (all, end) = small_digits(body, at + 1, whole);
+    if end < body.len() { none } else { (all, after) }
+}
+
+/// The number followed by the digits from `from` on, in 32 bits, and where they end.
+#[inline(always)]
+fn small_digits(body: &[u8], from: usize, number: u32) -> (u32, usize)
+    requires short { length body.now ≤ 7 }
+    requires within { from ≤ length body.now }
+    requires small { number < 10 ^ from }
+    ensures from { from ≤ result.1 }
+    ensures within { result.1 ≤ length body.now }
+    ensures digits { AllDigits 10 (slice_range body.now from result.1) }
+    ensures value { result.0 ≡ digits_value_after 10 number (slice_range body.now from result.1) }
+    ensures small { result.0 < 10 ^ result.1 }
+{
+    let mut all = number;
+    let mut at = from;
+    while at < body.len() && body[at].is_ascii_digit() {
+        all = all * 10 + u32::from(body[at] - b'0');
+        at += 1;
+    }
+    (all, at)
+}
+
+/// The units by vectors, for a body of common length around a point. `None` says nothing of the body.
 #[inline(always)]
 fn read_near(places: u32, body: &[u8]) -> Option<u128>
     ensures { IfSome result (λ units. read_magnitude (2 ^ 127) places body.now ≡ Some units) }
@@ -70,7 +137,7 @@ fn read_near(places: u32, body: &[u8]) -> Option<u128>
     Some(u128::from(whole) * u128::from(ten_to(places)) + u128::from(fraction * shift))
 }
 
-/// The same by 64 bits, for a short body of digits, or of digits around a point with at most `places`
+/// The same in 64 bits, for a short body of digits, or of digits around a point with at most `places`
 /// after it. `None` says nothing of the body: it is then read in the plain way.
 #[inline(always)]
 fn read_short(places: u32, body: &[u8]) -> Option<u128>
@@ -100,7 +167,7 @@ fn read_short(places: u32, body: &[u8]) -> Option<u128>
     Some(u128::from(all) * u128::from(ten_to(places - after)))
 }
 
-/// The number followed by the digits from `from` on, and where they end.
+/// The number followed by the digits from `from` on, in 64 bits, and where they end.
 #[inline(always)]
 fn digits_from(body: &[u8], from: usize, number: u64) -> (u64, usize)
     requires short { length body.now ≤ 19 }
@@ -124,7 +191,7 @@ fn digits_from(body: &[u8], from: usize, number: u64) -> (u64, usize)
 /// The magnitude of the least number of units.
 const LIMIT: u128 = 1 << 127;
 
-/// The same, one digit after the other.
+/// The same for any body, one digit after the other: `None` says that it stands for no units.
 #[inline(never)]
 fn read_magnitude(places: u32, body: &[u8]) -> Option<u128>
     requires { places ≤ 36 }
@@ -196,7 +263,8 @@ fn raise(number: u128, zeros: u32) -> Option<u128>
 }
 
 /// The magnitude with its sign.
-pub fn with_sign(negative: bool, magnitude: u128) -> Option<i128>
+#[inline(always)]
+fn with_sign(negative: bool, magnitude: u128) -> Option<i128>
     requires { magnitude ≤ 2 ^ 127 }
     ensures { result ≡ with_sign 127 negative magnitude }
 {
