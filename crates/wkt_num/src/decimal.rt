@@ -1,6 +1,9 @@
 //! Decimal fractions, exact and of fixed places.
-ghost use Rattle.std.specs.Prelude.{◌≡◌, ℤ, ◌≤◌, Some};
+ghost use Rattle.std.specs.Prelude.{◌≡◌, ℤ, pos, ◌^◌, ◌+ℤ◌, ◌*ℤ◌, ◌<◌, ◌≤◌, Some, refl};
+ghost use Rattle.std.specs.Ordering.{int_cmp, int_eq, as_partial_cmp};
+ghost use Rattle.std.specs.Cmp.{int_eq_equiv, int_cmp_total, signed_po, partial_equiv_from_equiv};
 ghost use Rattle.wkt_num.specs.Decimal.{read_decimal, decimal_text, IsUnits};
+ghost use Rattle.wkt_num.specs.Halves.{upper_half, lower_half, upper_back, lower_back};
 ghost use Rattle.wkt_num.specs.DecimalLaws.{decimal_reads_back, decimal_reads_values, decimal_number_text, decimal_same};
 
 use crate::formatted::FormatterText;
@@ -8,6 +11,7 @@ use crate::number::WktNum;
 use crate::printing::write_units;
 use crate::reading::{read_signed, split_sign};
 use crate::sink::TextSink;
+use std::cmp::Ordering;
 use std::fmt;
 use std::marker::Model;
 
@@ -25,19 +29,29 @@ pub const MOST_PLACES: u32 = 36;
 /// let d = Decimal::<6>::read_number("+5.40")?; // 5400000 units, printed as `5.4`
 /// let d = Decimal::<6>::from_units(-1); // printed as `-0.000001`
 /// ```
-#[derive(Clone, Copy, PartialEq, Eq, PartialOrd, Ord, Debug)]
+#[derive(Clone, Copy)]
 pub struct Decimal<const D: u32> {
-    units: i128,
+    // The units in two halves. As one number they would be aligned to sixteen bytes, and a coordinate takes a sixth less so.
+    high: i64,
+    low: u64,
 }
+
+/// The units that one of the upper half stands for.
+const UPPER: i128 = 1 << 64;
 
 impl<const D: u32> Model for Decimal<D> {
     ghost Value = { ℤ };
 
-    ghost view = { λ d. d.units };
+    ghost view = { λ d. d.high *ℤ pos (2 ^ 64) +ℤ pos d.low };
 
-    ghost invariant = { λ _. D ≤ 36 };
+    ghost invariant = { λ d. (D ≤ 36) × (d.low < 2 ^ 64) };
 
-    ghost inverse = { λ u. record { units = u } };
+    ghost inverse = { λ u. record { high = upper_half u; low = lower_half u } };
+
+    ghost inverse_ok = { λ d h i. record {
+      high = upper_back d.high d.low h.1 i;
+      low = lower_back d.high d.low h.1 i;
+    } };
 }
 
 impl<const D: u32> Decimal<D> {
@@ -46,14 +60,64 @@ impl<const D: u32> Decimal<D> {
         requires { D ≤ 36 }
         ensures { result ≡ units }
     {
-        Decimal { units }
+        let high = units >> 64;
+        Decimal {
+            high: high as i64,
+            low: (units - high * UPPER) as u64,
+        }
     }
 
     /// How many units of ten to the minus `D` it is.
     pub fn units(&self) -> i128
         ensures { result ≡ self.now }
     {
-        self.units
+        i128::from(self.high) * UPPER + i128::from(self.low)
+    }
+}
+
+impl<const D: u32> PartialEq for Decimal<D> {
+    ghost eq = { int_eq };
+
+    ghost laws = { partial_equiv_from_equiv int_eq_equiv };
+
+    fn eq(&self, other: &Decimal<D>) -> bool {
+        self.units() == other.units()
+    }
+}
+
+impl<const D: u32> Eq for Decimal<D> {
+    ghost laws = { int_eq_equiv };
+}
+
+impl<const D: u32> PartialOrd for Decimal<D> {
+    ghost partial_cmp = { as_partial_cmp int_cmp };
+
+    ghost laws = { signed_po };
+
+    fn partial_cmp(&self, other: &Decimal<D>) -> Option<Ordering> {
+        Some(self.cmp(other))
+    }
+}
+
+impl<const D: u32> Ord for Decimal<D> {
+    ghost cmp = { int_cmp };
+
+    ghost total = { int_cmp_total };
+
+    ghost matches_partial_cmp = { λ x y. refl };
+
+    ghost matches_eq = { λ x y. refl };
+
+    fn cmp(&self, other: &Decimal<D>) -> Ordering {
+        self.units().cmp(&other.units())
+    }
+}
+
+impl<const D: u32> fmt::Debug for Decimal<D> {
+    fn fmt<W: fmt::Write>(&self, f: &mut fmt::Formatter<W>) -> fmt::Result {
+        f.debug_struct("Decimal")
+            .field("units", &self.units())
+            .finish()
     }
 }
 
@@ -79,15 +143,19 @@ impl<const D: u32> WktNum for Decimal<D> {
         }
         let (negative, body) = split_sign(text.as_bytes());
         let units = read_signed(D, negative, body)?;
-        Some(Decimal { units })
+        Some(Decimal::from_units(units))
     }
 
     fn write_number<W: TextSink>(&self, f: &mut W) -> fmt::Result {
-        write_units(D, self.units < 0, self.units.unsigned_abs(), f)
+        // No effect at run time. The proof reads from it that the places are few enough.
+        let _ = &self.high;
+        let units = self.units();
+        write_units(D, units < 0, units.unsigned_abs(), f)
     }
 
     fn known(&self) {
-        let _value = self.units;
+        let _ = &self.high;
+        let _units = self.units();
     }
 }
 
