@@ -1,10 +1,11 @@
 //! Text to a byte sink, gathered in an array.
-ghost use Rattle.std.specs.Prelude.{◌≡◌, ℕ, ◌≤◌, ◌<◌, ◌+◌, [], ◌++◌, OnOk, OnErr, Ok, IsSome, ◌↔◌, length, take, true, false};
+ghost use Rattle.std.specs.Prelude.{◌≡◌, ℕ, ◌≤◌, ◌<◌, ◌+◌, ◌*◌, [], ◌++◌, OnOk, OnErr, Ok, IsSome, ◌↔◌, length, take, true, false};
 ghost use Rattle.std.specs.Io.KnownBytes.{Appends};
 ghost use Rattle.wkt_num.specs.Sink.{next_count, Puts};
 
 use crate::sinks::ByteSink;
 use std::io::ErrorKind;
+use std::simd::prelude::*;
 use std::{fmt, io};
 use wkt_num::TextSink;
 
@@ -52,6 +53,41 @@ fn put_all<W: ByteSink>(writer: &mut W, bytes: &[u8]) -> Result<(), io::Error>
     Ok(())
 }
 
+/// Copies a piece to a place of its length. Most pieces are of some ten bytes, and a copy by `copy_from_slice` is a call.
+#[inline(always)]
+fn copy_piece(from: &[u8], to: &mut [u8])
+    requires { length to.old ≡ length from.now }
+    ensures { to.new ≡ from.now }
+{
+    let n = from.len();
+    if n > 32 {
+        to.copy_from_slice(from);
+    } else if n >= 16 {
+        copy_ends::<16>(from, to);
+    } else if n >= 8 {
+        copy_ends::<8>(from, to);
+    } else if n >= 4 {
+        copy_ends::<4>(from, to);
+    } else if n >= 2 {
+        copy_ends::<2>(from, to);
+    } else if n == 1 {
+        to[0] = from[0];
+    }
+}
+
+/// Copies a piece of at most two vectors, its first bytes and its last ones, which overlap.
+#[inline(always)]
+fn copy_ends<const N: usize>(from: &[u8], to: &mut [u8])
+    requires long { N ≤ length from.now }
+    requires short { length from.now ≤ 2 * N }
+    requires room { length to.old ≡ length from.now }
+    ensures { to.new ≡ from.now }
+{
+    let last = from.len() - N;
+    Simd::<u8, N>::from_slice(from).copy_to_slice(to);
+    Simd::<u8, N>::from_slice(&from[last..]).copy_to_slice(&mut to[last..]);
+}
+
 impl<W: ByteSink> WriterWrapper<W> {
     ghost use Rattle.wkt_bytes.specs.Wrapper.{held_bytes, failed_calls, is_well, is_untold, wrapped_writer, Gathers, BreaksOff};
 
@@ -95,7 +131,7 @@ impl<W: ByteSink> WriterWrapper<W> {
         ensures failures { self.new.failures ≡ self.old.failures }
     {
         let end = self.len + bytes.len();
-        self.held[self.len..end].copy_from_slice(bytes);
+        copy_piece(bytes, &mut self.held[self.len..end]);
         self.len = end;
     }
 

@@ -1,0 +1,5 @@
+use Rattle.wkt_bytes.proofs.Pieces.{both_ends}
+use Rattle.wkt_bytes.proofs.wrapper.copy_ends.Goals as goal
+
+pub returns : goal.returns
+returns g c = both_ends _ _ _ c.requires.long c.requires.short c.requires.room
