@@ -117,7 +117,7 @@ module _ {N : Type 0} (read : List ℕ → Option N) (num : N → List ℕ) wher
   no_answers [] z h n e = let k : length z ≡ 0 = ap length h in omega (arith, n, k)
   no_answers (l ∷ ls) z h n e = cc
 
-  module _ {W : Type 0} (sink : SinkOfBytes W) (s t u : Gatherer W) (empty : gathered_bytes s ≡ []) (input : List ℕ) where
+  module _ {W : Type 0} (sink : SinkOfBytes W) (s u : Gatherer W) (empty : gathered_bytes s ≡ []) (input : List ℕ) where
     -- the writer failed within the answers to some first lines and the next
     pub cut_within : (first : List (List ℕ)) (line : List ℕ) (others : List (List ℕ)) (out answer : List ℕ) → first ++ (line ∷ others) ≡ input_lines input
         → AreAnswers read num first out → IsAnswer read num line answer → CutsOff sink s (out ++ (answer ++ 10 ∷ [])) u
@@ -128,10 +128,10 @@ module _ {N : Type 0} (read : List ℕ → Option N) (num : N → List ℕ) wher
         (some_line first line) (one_answer first out line answer h a) e (append_assoc first (line ∷ []) others ∙ l) w
 
     -- the writer failed when the answers to some first lines were to go out
-    pub cut_late : (first others : List (List ℕ)) (out : List ℕ) → first ++ others ≡ input_lines input → AreAnswers read num first out
+    pub cut_late : (t : Gatherer W) (first others : List (List ℕ)) (out : List ℕ) → first ++ others ≡ input_lines input → AreAnswers read num first out
         → Collects sink s out t → 0 < length (gathered_bytes t) → CutsOff sink t [] u
         → PartOut read num (sink.bytes (gathering_writer s)) (sink.bytes (gathering_writer u)) input
-    cut_late first others out l h j n k =
+    cut_late t first others out l h j n k =
         let (p, q, e, w) = some_handed_on sink s u (out ++ []) (cuts_after sink s t u out [] j k) empty in
         let whole : out ≡ j.out ++ gathered_bytes t = sym (ap (λ (xs : List ℕ). xs ++ out) empty) ∙ j.whole in
         let long : length out ≡ length j.out + length (gathered_bytes t) = ap length whole ∙ length-append j.out (gathered_bytes t) in

@@ -50,3 +50,7 @@ pub seen_none : (n : ℕ) (front fresh more : List ℕ) → n ≡ length front �
 seen_none n front fresh more e f h =
     let same : take n more ≡ front = ap (λ (m : ℕ). take m more) e ∙ (ap (λ (xs : List ℕ). take (length front) xs) f ∙ take-append_seam front fresh) in
     subst (λ (xs : List ℕ). HasNoFeed xs) (sym same) h
+
+-- nothing has none
+pub none_in_nothing : (xs : List ℕ) → xs ≡ [] → HasNoFeed xs
+none_in_nothing xs e = λ k h. let n : length xs ≡ 0 = ap length e in absurd (omega (arith, h, n))

@@ -17,11 +17,11 @@ pub ok_map : {A P Q : Type 0} (r : Result A RunError) → (P → Q) → OnOk r P
 ok_map (Ok x) f h = f h
 ok_map (Err e) f h = tt
 
-pub read_none : {A P : Type 0} (r : Result A RunError) → IfRunRead r ⊥ → IfRunRead r P
-read_none (Ok x) h = tt
-read_none (Err (run.Read e)) h = absurd h
-read_none (Err (run.Write e)) h = tt
-read_none (Err (run.Memory e)) h = tt
+pub read_none : {A : Type 0} (P : Type 0) (r : Result A RunError) → IfRunRead r ⊥ → IfRunRead r P
+read_none P (Ok x) h = tt
+read_none P (Err (run.Read e)) h = absurd h
+read_none P (Err (run.Write e)) h = tt
+read_none P (Err (run.Memory e)) h = tt
 
 pub memory_map : {A P Q : Type 0} (r : Result A RunError) → (P → Q) → IfRunMemory r P → IfRunMemory r Q
 memory_map (Ok x) f h = tt

@@ -5,12 +5,12 @@ ghost use Rattle.wkt_num.specs.Sink.{next_count};
 ghost use Rattle.wkt_lines.specs.Laws.{IsWhole};
 ghost use Rattle.wkt_stream.specs.Feeds.{HasNoFeed};
 
-use std::alloc::AllocError;
+use std::alloc::{AllocError, Global};
 use std::io;
 use wkt::to_wkt::ByteSource;
 
-/// How many bytes a block has.
-pub const BLOCK: usize = 262144;
+// How many bytes of room are made at once.
+const BLOCK: usize = 262144;
 
 /// A buffer at whose front stands what was read and not answered yet.
 #[derive(Drop)]
@@ -23,11 +23,14 @@ pub struct Block {
 impl Block {
     ghost use Rattle.wkt_stream.specs.Blocks.{unanswered, has_room};
 
-    /// A block that holds nothing, in this buffer.
-    pub fn new(bytes: Vec<u8>) -> Block
+    /// A block that holds nothing and has no room yet.
+    pub fn new(alloc: Global) -> Block
         ensures { unanswered result ≡ [] }
     {
-        Block { bytes, len: 0 }
+        Block {
+            bytes: Vec::new(alloc),
+            len: 0,
+        }
     }
 
     /// What it holds.
@@ -44,8 +47,7 @@ impl Block {
         self.len
     }
 
-    /// Makes room for a block more where there is none: what it holds has no line feed then, since whole lines are
-    /// forgotten.
+    /// Makes room for 256 KiB more where there is none, as at the begin, and where a line is longer than the buffer.
     ///
     /// # Errors
     /// Out of memory.

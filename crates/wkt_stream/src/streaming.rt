@@ -5,10 +5,9 @@ ghost use Rattle.wkt_num.specs.Sink.{next_count};
 ghost use Rattle.wkt_bytes.specs.Gatherer.{gathering_writer, gathered_bytes, is_sound, is_unasked};
 ghost use Rattle.wkt_lines.specs.Numbers.{read_line, print_line};
 ghost use Rattle.wkt_lines.specs.Output.{IsAllOut, IsFirstOut, IsSomeOut, IfRunRead, IfRunWrite, IfRunMemory};
-ghost use Rattle.wkt_stream.specs.Blocks.{unanswered};
 ghost use Rattle.wkt_stream.specs.Streaming.{IsTakenOut};
 
-use crate::block::{BLOCK, Block};
+use crate::block::Block;
 use std::alloc::{AllocError, Global};
 use std::io;
 use wkt::to_wkt::{ByteSink, ByteSource};
@@ -43,12 +42,8 @@ pub fn stream<R: ByteSource, W: ByteSink>(
     ensures memory { IfRunMemory result
         (IfSome (R.left reader.old) (IsFirstOut read_line print_line W.sink writer.old writer.new)) }
 {
-    let Ok(bytes) = vec![in alloc; 0u8; BLOCK] else {
-        return Err(RunError::Memory(AllocError));
-    };
-    let block = Block::new(bytes);
     let mut gatherer = Gatherer::new(writer);
-    let answer = answer_source::<Decimal<18>, R, &mut W>(alloc, reader, block, &mut gatherer);
+    let answer = answer_source::<Decimal<18>, R, &mut W>(alloc, reader, &mut gatherer);
     gatherer.into_writer();
     answer
 }
@@ -57,10 +52,8 @@ pub fn stream<R: ByteSource, W: ByteSink>(
 fn answer_source<T: WktNum, R: ByteSource, W: ByteSink>(
     alloc: Global,
     reader: &mut R,
-    block: Block,
     gatherer: &mut Gatherer<W>,
 ) -> Result<(), RunError>
-    requires empty { unanswered block ≡ [] }
     requires sound { is_sound gatherer.old ≡ true }
     requires held { gathered_bytes gatherer.old ≡ [] }
     ensures ok { OnOk result (IfSome (R.left reader.old)
@@ -79,8 +72,8 @@ fn answer_source<T: WktNum, R: ByteSource, W: ByteSink>(
         (IsFirstOut T.read T.num W.sink (gathering_writer gatherer.old) (gathering_writer gatherer.new))) }
     ensures keeps { W.sink.keeps (gathering_writer gatherer.old) (gathering_writer gatherer.new) }
 {
-    let mut block = block;
-    'blocks: for _ in 0..u64::MAX {
+    let mut block = Block::new(alloc);
+    'turns: for _ in 0..u64::MAX {
         if let Err(e) = block.make_room() {
             return Err(RunError::Memory(e));
         }
