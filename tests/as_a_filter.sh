@@ -1,10 +1,10 @@
 #!/usr/bin/env bash
-# Shows how the program behaves as a filter: what the README says of it, one line a case.
+# Shows how both programs behave as filters: what the README says of them, one line a case.
 #
-# Build it first (rt run in crates/wktline). It needs a C compiler, for the cases that count calls or fail one.
+# Build them first (rt run in crates/wktline and in crates/wktstream). It needs a C compiler, for the cases that count
+# calls or fail one.
 set -u
 cd "$(dirname "$0")/.."
-program=$PWD/crates/wktline/out/wktline
 dir=$(mktemp -d)
 trap 'rm -rf "$dir"' EXIT
 wrong=0
@@ -14,11 +14,17 @@ says() {
     local got
     got="$(cat "$dir/status") | $(head -c 200 "$dir/out") | $(cat "$dir/err")"
     if [ "$got" = "$2" ]; then
-        echo "ok: $1"
+        echo "ok: $name: $1"
     else
-        echo "wrong: $1: wanted [$2], got [$got]"
+        echo "wrong: $name: $1: wanted [$2], got [$got]"
         wrong=1
     fi
+}
+
+# same NAME FILE: the case left this file's bytes in the file whole, and no others
+same() {
+    cmp -s "$dir/whole" "$2" && : > "$dir/out" || echo "another output" > "$dir/out"
+    says "$1" "0 |  | "
 }
 
 # run COMMAND..: runs it with its output, its error and its status in files
@@ -35,9 +41,13 @@ cat > "$dir/calls.c" <<'C'
 #include <sys/syscall.h>
 #include <unistd.h>
 static long writes, reads;
-/* Counts the calls on standard output, and interrupts the second read. */
+/* Counts the calls on standard output, and interrupts the second read, or the first write, or cuts each write short. */
 ssize_t write(int file, const void *bytes, size_t length) {
-    if (file == 1) writes++;
+    if (file == 1) {
+        writes++;
+        if (getenv("STOP")) { errno = EINTR; return -1; }
+        if (getenv("SHORT") && length > 3) length = 3;
+    }
     return syscall(SYS_write, file, bytes, length);
 }
 ssize_t read(int file, void *bytes, size_t length) {
@@ -52,6 +62,40 @@ cc -shared -fPIC -o "$dir/calls.so" "$dir/calls.c" || exit 2
 
 printf 'POINT(1 2)\n' > "$dir/one"
 printf 'POINT(1 2)\nPOINT(3 4)\nx\n' > "$dir/three"
+printf 'POINT(1 2)\nPOINT(3 4)\nrefused\n' > "$dir/three_answers"
+printf '\xef\xbb\xbfPOINT(1 2)\nPOINT(1 2)\r\nPOINT(1\0 2)\n' > "$dir/marks"
+# LINESTRING(1 1,..) of 100 coordinates is 411 bytes and a line feed
+{ printf 'LINESTRING(1 1'; for _ in $(seq 99); do printf ',1 1'; done; printf ')\n'; } > "$dir/long"
+
+python3 - "$dir" <<'P'
+import sys
+folder = sys.argv[1]
+def put(name, text):
+    with open(folder + '/' + name, 'w') as file:
+        file.write(text)
+def nested(depth):
+    return 'GEOMETRYCOLLECTION(' * depth + 'POINT(1 2)' + ')' * depth + '\n'
+put('wide', 'POINT(1 2)\nLINESTRING(' + ','.join(['0 0'] * 4_000_000) + ')\n')
+put('deep', 'POINT(1 2)\n' + nested(50_000) + 'POINT(3 4)\n')
+put('deeper', 'POINT(1 2)\n' + nested(1_000_000) + 'POINT(3 4)\n')
+put('open', 'GEOMETRYCOLLECTION(' * 1_000_000 + '\nPOINT(1 2)\n')
+# line feeds as the last byte of a block of 256 KiB, the one before it and the first of the next
+edges = []
+for last in (262144, 524287, 786433):
+    at = sum(len(line) for line in edges)
+    edges.append('POINT(5 6)' + ' ' * (last - at - 11) + '\n')
+    edges.append('POINT(7 8)\n')
+put('edges', ''.join(edges))
+put('edges_answers', 'POINT(5 6)\nPOINT(7 8)\n' * 3)
+put('longest', 'POINT(1 2)\nPOINT(3 4)' + ' ' * 100_000_000 + '\n' + 'x' * 100_000_000 + '\nPOINT(5 6)')
+put('longest_answers', 'POINT(1 2)\nPOINT(3 4)\nrefused\nPOINT(5 6)\n')
+P
+
+# cases NAME READ WRITES LONG: what both do; what is out after the second read failed, and how many writes three lines
+# and one of 412 bytes take
+cases() {
+name=$1
+program=$PWD/crates/$1/out/$1
 
 run "$program" < "$dir/three"
 says "each line is answered" "0 | POINT(1 2)
@@ -61,11 +105,19 @@ refused | "
 run "$program" --help whatever < "$dir/one"
 says "arguments are ignored" "0 | POINT(1 2) | "
 
-printf '\xef\xbb\xbfPOINT(1 2)\nPOINT(1 2)\r\nPOINT(1\0 2)\n' > "$dir/marks"
 run "$program" < "$dir/marks"
 says "a byte order mark belongs to the line; CR is white space; a NUL ends the text" "0 | refused
 POINT(1 2)
 refused | "
+
+run "$program" < /dev/null
+says "an empty input" "0 |  | "
+
+printf 'POINT(1 2)\n\nPOINT(3 4)' > "$dir/unended"
+run "$program" < "$dir/unended"
+says "an empty line is refused, and a last line needs no line feed" "0 | POINT(1 2)
+refused
+POINT(3 4) | "
 
 run "$program" < /
 says "a folder as input" "1 |  | wkt: read fault"
@@ -82,6 +134,7 @@ says "a full device" "1 |  | wkt: write fault"
 echo $? > "$dir/status"
 says "a closed output" "1 |  | wkt: write fault"
 
+rm -f "$dir/pipe"
 mkfifo "$dir/pipe"
 (exec 3< "$dir/pipe"; exec 3<&-) &
 # the reader is gone before the program writes
@@ -91,34 +144,37 @@ wait
 says "a closed pipe" "1 |  | wkt: write fault"
 
 run env INTERRUPT=1 LD_PRELOAD="$dir/calls.so" "$program" < "$dir/one"
-says "an interrupted read isn't tried again" "1 |  | wkt: read fault"
+says "an interrupted read isn't tried again" "1 | $2 | wkt: read fault"
+
+run env STOP=1 COUNT=1 LD_PRELOAD="$dir/calls.so" "$program" < "$dir/three"
+says "an interrupted write isn't tried again" "1 |  | wkt: write fault
+1 writes"
+
+env SHORT=1 LD_PRELOAD="$dir/calls.so" "$program" < "$dir/three" > "$dir/whole" 2> "$dir/err"
+echo $? > "$dir/status"
+same "writes that take three bytes each" "$dir/three_answers"
 
 run env COUNT=1 LD_PRELOAD="$dir/calls.so" "$program" < "$dir/three"
-says "one write a line" "0 | POINT(1 2)
+says "how many writes three lines take" "0 | POINT(1 2)
 POINT(3 4)
-refused | 3 writes"
+refused | $3 writes"
 
-# LINESTRING(1 1,..) of 100 coordinates is 411 bytes and a line feed
-{ printf 'LINESTRING(1 1'; for _ in $(seq 99); do printf ',1 1'; done; printf ')\n'; } > "$dir/long"
 env COUNT=1 LD_PRELOAD="$dir/calls.so" "$program" < "$dir/long" > "$dir/whole" 2> "$dir/err"
 echo $? > "$dir/status"
 cmp -s "$dir/whole" "$dir/long" && : > "$dir/out" || echo "another output" > "$dir/out"
-says "one write for each 256 bytes of a longer line" "0 |  | 2 writes"
+says "how many writes a line of 412 bytes takes" "0 |  | $4 writes"
 
-python3 - "$dir" <<'P'
-import sys
-folder = sys.argv[1]
-with open(folder + '/wide', 'w') as file:
-    file.write('POINT(1 2)\nLINESTRING(' + ','.join(['0 0'] * 4_000_000) + ')\n')
-def nested(depth):
-    return 'GEOMETRYCOLLECTION(' * depth + 'POINT(1 2)' + ')' * depth + '\n'
-with open(folder + '/deep', 'w') as file:
-    file.write('POINT(1 2)\n' + nested(50_000) + 'POINT(3 4)\n')
-with open(folder + '/deeper', 'w') as file:
-    file.write('POINT(1 2)\n' + nested(1_000_000) + 'POINT(3 4)\n')
-with open(folder + '/open', 'w') as file:
-    file.write('GEOMETRYCOLLECTION(' * 1_000_000 + '\nPOINT(1 2)\n')
-P
+"$program" < "$dir/edges" > "$dir/whole" 2> "$dir/err"
+echo $? > "$dir/status"
+same "line feeds at the edges of blocks" "$dir/edges_answers"
+
+"$program" < "$dir/longest" > "$dir/whole" 2> "$dir/err"
+echo $? > "$dir/status"
+same "lines of 100 MB" "$dir/longest_answers"
+
+{ printf 'POINT(1 2)\nPOI'; sleep 1; printf 'NT(3 4)\nx\n'; } | "$program" > "$dir/whole" 2> "$dir/err"
+echo "${PIPESTATUS[1]}" > "$dir/status"
+same "an input that stops for a second within a line" "$dir/three_answers"
 
 run bash -c "ulimit -v 200000; exec $program < $dir/wide"
 says "out of memory: the answers to the lines before are out" "1 | POINT(1 2) | wkt: out of memory"
@@ -129,12 +185,43 @@ POINT(1 2) | "
 
 bash -c "ulimit -s 8192; $program < $dir/deep" > "$dir/whole" 2> "$dir/err"
 echo $? > "$dir/status"
-cmp -s "$dir/whole" "$dir/deep" && : > "$dir/out" || echo "another output" > "$dir/out"
-says "50,000 collections in one another on a stack of 8 MB" "0 |  | "
+same "50,000 collections in one another on a stack of 8 MB" "$dir/deep"
 
 { bash -c "ulimit -s 8192; ulimit -c 0; exec $program < $dir/deeper" > "$dir/out"; echo $? > "$dir/status"; } 2> /dev/null
 : > "$dir/err"
 head -n 1 "$dir/out" > "$dir/first" && mv "$dir/first" "$dir/out"
-says "a million on 8 MB: a signal, after the answers to the lines before" "139 | POINT(1 2) | "
+says "a million on 8 MB: a signal, after the answers to the lines of the blocks before" "139 | POINT(1 2) | "
+}
+
+cases wktline "" 3 2
+cases wktstream "POINT(1 2)" 1 1
+
+# What only wktstream does. The pipe is kept open for writing, so the program waits for more.
+rm -f "$dir/pipe"
+mkfifo "$dir/pipe"
+"$program" < "$dir/pipe" > "$dir/whole" 2> "$dir/err" &
+child=$!
+exec 3> "$dir/pipe"
+printf 'POINT(1 2)\nPOI' >&3
+sleep 0.5
+cp "$dir/whole" "$dir/out"
+printf 'NT(3 4)\n' >&3
+exec 3>&-
+wait $child
+echo $? > "$dir/status"
+says "a whole line is answered while the input waits within the next" "0 | POINT(1 2) | "
+
+for _ in $(seq 100); do cat "$dir/edges"; done > "$dir/many"
+"$program" < "$dir/pipe" > /dev/null 2> "$dir/err" &
+child=$!
+exec 3> "$dir/pipe"
+cat "$dir/many" >&3
+sleep 0.5
+peak=$(sed -n 's/VmHWM: *\([0-9]*\) kB/\1/p' /proc/$child/status)
+exec 3>&-
+wait $child
+echo $? > "$dir/status"
+[ "$peak" -lt 2500 ] && : > "$dir/out" || echo "$peak kB" > "$dir/out"
+says "80 MB of lines of up to 262 kB: a peak of less than 2.5 MB" "0 |  | "
 
 exit $wrong

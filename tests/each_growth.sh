@@ -1,14 +1,14 @@
 #!/usr/bin/env bash
-# Refuses each growth of memory of the two built programs in turn, and of the macros' built tests, until a run meets none.
+# Refuses each growth of memory of the three built programs in turn, and of the macros' built tests, until a run meets none.
 #
-# wktline answers lines of every kind: each refusal has to end it with its words and status, after the whole answers to
-# some first lines. wkt_conformance reads each text by three calls, copies the geometry, puts the copy together again from
+# wktline and wktstream answer lines of every kind: each refusal has to end them with their words and status, after the
+# whole answers to some first lines. wkt_conformance reads each text by three calls, copies the geometry, puts the copy together again from
 # its parts and displays it, converts it to a two-dimensional one and back, reads that from the text, from bytes and
 # from JSON, and writes it in three ways: each refusal has to end it as out of memory, with no row told as wrong, or to
 # change nothing. Then the same of ten thousand nested collections, at growths all over the run. A test of the macros
 # has to end as out of memory, which no wrong value does, or to pass.
 #
-# The gate runs it on what it has built; alone, build all three first (rt run in crates/wktline and
+# The gate runs it on what it has built; alone, build all four first (rt run in crates/wktline, crates/wktstream and
 # crates/wkt_conformance, rt test in crates/wkt).
 set -u
 cd "$(dirname "$0")/.."
@@ -91,6 +91,7 @@ each_test() {
 
 cut -f 1 tests/growth.tsv > "$dir/lines"
 each wktline "$dir/lines" 1 1
+each wktstream "$dir/lines" 1 1
 each wkt_conformance tests/growth.tsv 2 1
 each_test wkt
 
@@ -99,5 +100,6 @@ nested() { printf 'GEOMETRYCOLLECTION(%.0s' $(seq "$1"); printf 'POINT(1 2)'; pr
 
 nested 10000 > "$dir/deep"
 each wktline "$dir/deep" 1 199
+each wktstream "$dir/deep" 1 199
 printf '%s\t%s\n' "$(nested 10000)" "$(nested 10000)" > "$dir/deep.tsv"
 each wkt_conformance "$dir/deep.tsv" 2 997

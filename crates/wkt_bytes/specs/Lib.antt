@@ -1,4 +1,5 @@
 pub mod Sinks
 pub mod Counted
 pub mod Wrapper
+pub mod Gatherer
 pub mod ReadAll

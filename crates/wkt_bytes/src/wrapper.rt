@@ -11,7 +11,7 @@ use wkt_num::TextSink;
 
 /// Whether a fault came.
 #[derive(Drop)]
-enum State {
+pub(crate) enum State {
     Well,
     Faulty(io::Error),
     Told,
@@ -34,11 +34,12 @@ pub struct WriterWrapper<W> {
 }
 
 /// Puts all the bytes out, or stops at the first fault.
-fn put_all<W: ByteSink>(writer: &mut W, bytes: &[u8]) -> Result<(), io::Error>
+pub(crate) fn put_all<W: ByteSink>(writer: &mut W, bytes: &[u8]) -> Result<(), io::Error>
     ensures ok { OnOk result (Appends (W.sink.bytes writer.old) (W.sink.bytes writer.new) bytes.now) }
     ensures kept { OnOk result (W.sink.failures writer.new ≡ W.sink.failures writer.old) }
     ensures err { OnErr result
         ((k : ℕ) × Appends (W.sink.bytes writer.old) (W.sink.bytes writer.new) (take k bytes.now)) }
+    ensures some { OnErr result (0 < length bytes.now) }
     ensures failed { OnErr result (W.sink.failures writer.new ≡ next_count (W.sink.failures writer.old)) }
     ensures keeps { W.sink.keeps writer.old writer.new }
 {

@@ -1,2 +1,5 @@
 pub mod Answering
+pub mod Adding
 mod Feeds
+pub mod Parts
+pub mod Ones

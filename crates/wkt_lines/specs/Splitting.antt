@@ -21,10 +21,10 @@ pieces_split (b ∷ bs) = elim (b == 10) as (λ t.
       | false ↦ elim (pieces_split bs) [ inl h ↦ inl (ap (λ ps. onto_first b ps) h) | inr h ↦ inr (ap (λ ps. onto_first b ps) h.0, h.1, ap (λ xs. b ∷ xs) h.2) ]
     ]
 
-pieces_some : (bs : List ℕ) → (p : List ℕ) × ((ps : List (List ℕ)) × (pieces bs ≡ p ∷ ps))
+pub pieces_some : (bs : List ℕ) → (p : List ℕ) × ((ps : List (List ℕ)) × (pieces bs ≡ p ∷ ps))
 pieces_some bs = elim (pieces_split bs) [ inl h ↦ (before_feed bs, (pieces (after_feed bs), h)) | inr h ↦ (bs, ([], h.0)) ]
 
-two_pieces : (p q : List ℕ) (qs : List (List ℕ)) → without_last_empty (p ∷ q ∷ qs) ≡ p ∷ without_last_empty (q ∷ qs)
+pub two_pieces : (p q : List ℕ) (qs : List (List ℕ)) → without_last_empty (p ∷ q ∷ qs) ≡ p ∷ without_last_empty (q ∷ qs)
 two_pieces [] q qs = refl
 two_pieces (b ∷ bs) q qs = refl
 

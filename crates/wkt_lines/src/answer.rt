@@ -15,11 +15,13 @@ use wkt::laws::read_values_are_writable;
 use wkt::to_wkt::{TextSink, write_geometry};
 use wkt::{FromWktStr, ReadError, Wkt, WktNum};
 
-/// Why a line wasn't answered.
+/// Why lines weren't answered.
 #[derive(Debug, Drop, Error)]
-pub(crate) enum AnswerError {
+pub enum AnswerError {
+    /// The sink failed; a beginning of the answers was added.
     #[error("{0}")]
     Sink(fmt::Error),
+    /// Out of memory; the whole answers to some first lines were added, and nothing else.
     #[error("out of memory")]
     Memory(AllocError),
 }

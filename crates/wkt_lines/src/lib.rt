@@ -11,6 +11,10 @@
 #![tactic(auto)]
 
 mod answer;
+mod answers;
+pub mod laws;
 mod lines;
 
+pub use answer::AnswerError;
+pub use answers::write_answers;
 pub use lines::{RunError, run};

@@ -111,7 +111,7 @@ fn answer_lines<T: WktNum, W: ByteSink>(
 }
 
 /// Where the first line ends.
-fn line_end(rest: &[u8]) -> usize
+pub(crate) fn line_end(rest: &[u8]) -> usize
     ensures within { result ≤ length rest.now }
     ensures before { take result rest.now ≡ before_feed rest.now }
     ensures after { drop (result + 1) rest.now ≡ after_feed rest.now }
@@ -147,7 +147,7 @@ fn feed_in(rest: &[u8], at: usize) -> usize
 }
 
 /// What follows a line and its line feed.
-fn after_line(rest: &[u8], end: usize) -> &[u8]
+pub(crate) fn after_line(rest: &[u8], end: usize) -> &[u8]
     requires { end ≤ length rest.now }
     ensures { result.now ≡ drop (end + 1) rest.now }
 {

@@ -1,0 +1,50 @@
+use Rattle.std.proofs.Common.{◌≤◌, ◌∙◌, ap, drop, length, arith}
+use Rattle.std.proofs.lemmas.List.{append-nil}
+use Rattle.wkt_bytes.specs.Wrapper.{state_well}
+use Rattle.wkt_bytes.specs.Gatherer.{collects_more, kept_collects, cuts_after, cuts_longer}
+use Rattle.wkt_bytes.proofs.SinkLemmas.{any_err, take_step, with_rest}
+use Rattle.wkt_bytes.proofs.gatherer.Gatherer.accept_long.Goals as goal
+use Rattle.wkt_bytes.proofs.gatherer.Gatherer.accept_long.Goals.{then-bytes-at, else-bytes-at}
+
+pub loop-at-preserved : goal.loop-at-preserved
+loop-at-preserved g c =
+    let i = c.loop-at.invariant in
+    let bs = c.args.bytes.now in
+    let next = c.if-bytes-at.next in
+    let low : c.loop-at.at ≤ next = elim c.if-bytes-at.branch [ then-bytes-at w ↦ omega arith | else-bytes-at w ↦ omega arith ] in
+    let high : next ≤ length bs = elim c.if-bytes-at.branch [ then-bytes-at w ↦ omega arith | else-bytes-at w ↦ omega arith ] in
+    let k = kept_collects g.W.ByteSink.sink _ c.keep.new.self _ c.keep.ensures.writer c.keep.ensures.state c.keep.ensures.held in
+    record {
+      within = high;
+      gave = rw (take_step bs c.loop-at.at next low) (collects_more g.W.ByteSink.sink _ _ _ _ _ i.gave k);
+      sound = ap (λ s. state_well s) c.keep.ensures.state ∙ i.sound;
+      failures = c.keep.ensures.failures ∙ i.failures;
+    }
+
+pub loop-at-preserved-in-Continue-1 : goal.loop-at-preserved-in-Continue-1
+loop-at-preserved-in-Continue-1 g c =
+    let i = c.loop-at.invariant in
+    let bs = c.args.bytes.now in
+    let next = c.if-bytes-at.next in
+    let low : c.loop-at.at ≤ next = elim c.if-bytes-at.branch [ then-bytes-at w ↦ omega arith | else-bytes-at w ↦ omega arith ] in
+    let high : next ≤ length bs = elim c.if-bytes-at.branch [ then-bytes-at w ↦ omega arith | else-bytes-at w ↦ omega arith ] in
+    let k = kept_collects g.W.ByteSink.sink _ c.keep.new.self _ c.keep.ensures.writer c.keep.ensures.state c.keep.ensures.held in
+    let m = collects_more g.W.ByteSink.sink _ _ _ _ _ i.gave k in
+    let e = collects_more g.W.ByteSink.sink _ _ _ _ _ m c.in_ok-empty.ensures.ok in
+    record {
+      within = high;
+      gave = rw (take_step bs c.loop-at.at next low) (rw append-nil at e);
+      sound = c.in_ok-empty.ensures.sound;
+      failures = c.empty.ensures.failures ∙ (c.keep.ensures.failures ∙ i.failures);
+    }
+
+pub returns-in_err-empty-clause-err : goal.returns-in_err-empty-clause-err
+returns-in_err-empty-clause-err g c =
+    let i = c.loop-at.invariant in
+    let bs = c.args.bytes.now in
+    let next = c.if-bytes-at.next in
+    let low : c.loop-at.at ≤ next = elim c.if-bytes-at.branch [ then-bytes-at w ↦ omega arith | else-bytes-at w ↦ omega arith ] in
+    let k = kept_collects g.W.ByteSink.sink _ c.keep.new.self _ c.keep.ensures.writer c.keep.ensures.state c.keep.ensures.held in
+    let m = collects_more g.W.ByteSink.sink _ _ _ _ _ i.gave k in
+    let l = cuts_longer g.W.ByteSink.sink _ _ _ (drop next bs) (cuts_after g.W.ByteSink.sink _ _ _ _ _ m c.in_err-empty.ensures.err) in
+    any_err c.from_residual.result (rw (with_rest bs c.loop-at.at next low) at l)

@@ -1,0 +1,142 @@
+//! Answers each line of an input that is read block by block.
+ghost use Rattle.std.specs.Prelude.{◌≡◌, [], IfSome, OnOk, true};
+ghost use Rattle.std.specs.Io.KnownBytes.{IsAtEnd};
+ghost use Rattle.wkt_num.specs.Sink.{next_count};
+ghost use Rattle.wkt_bytes.specs.Gatherer.{gathering_writer, gathered_bytes, is_sound, is_unasked};
+ghost use Rattle.wkt_lines.specs.Numbers.{read_line, print_line};
+ghost use Rattle.wkt_lines.specs.Output.{IsAllOut, IsFirstOut, IsSomeOut, IfRunRead, IfRunWrite, IfRunMemory};
+ghost use Rattle.wkt_stream.specs.Streaming.{IsTakenOut};
+
+use crate::block::Block;
+use std::alloc::{AllocError, Global};
+use std::io;
+use wkt::to_wkt::{ByteSink, ByteSource};
+use wkt::{Decimal, WktNum};
+use wkt_bytes::Gatherer;
+use wkt_lines::{AnswerError, RunError, write_answers};
+
+/// Writes the answers to all lines of the source, as [`run`](wkt_lines::run) does, in the memory of the longest line.
+///
+/// The source is asked for a block of 256 KiB at a time. Answers are gathered, and put out when there are 64 KiB of
+/// them; those to all whole lines that were read are out before the source is asked again.
+///
+/// # Errors
+/// [`RunError`], of which `Read` comes later than `run`'s: the answers to the whole lines that were read are out then,
+/// and nothing else. No fault is tried again. A source that never ends is answered as `Memory` after 2^64 - 1 calls.
+pub fn stream<R: ByteSource, W: ByteSink>(
+    alloc: Global,
+    reader: &mut R,
+    writer: &mut W,
+) -> Result<(), RunError>
+    ensures ok { OnOk result
+        (IfSome (R.left reader.old) (IsAllOut read_line print_line W.sink writer.old writer.new)) }
+    ensures end { OnOk result (IsAtEnd (R.left reader.new)) }
+    ensures read { IfRunRead result
+        (IsTakenOut read_line print_line W.sink (R.left reader.old) (R.left reader.new) writer.old writer.new) }
+    ensures read_first { IfRunRead result
+        (IfSome (R.left reader.old) (IsFirstOut read_line print_line W.sink writer.old writer.new)) }
+    ensures read_count { IfRunRead result (R.failures reader.new ≡ next_count (R.failures reader.old)) }
+    ensures write { IfRunWrite result
+        (IfSome (R.left reader.old) (IsSomeOut read_line print_line W.sink writer.old writer.new)) }
+    ensures write_count { IfRunWrite result (W.sink.failures writer.new ≡ next_count (W.sink.failures writer.old)) }
+    ensures memory { IfRunMemory result
+        (IfSome (R.left reader.old) (IsFirstOut read_line print_line W.sink writer.old writer.new)) }
+{
+    let mut gatherer = Gatherer::new(writer);
+    let answer = answer_source::<Decimal<18>, R, &mut W>(alloc, reader, &mut gatherer);
+    gatherer.into_writer();
+    answer
+}
+
+/// Writes the answers to all lines of the source.
+fn answer_source<T: WktNum, R: ByteSource, W: ByteSink>(
+    alloc: Global,
+    reader: &mut R,
+    gatherer: &mut Gatherer<W>,
+) -> Result<(), RunError>
+    requires sound { is_sound gatherer.old ≡ true }
+    requires held { gathered_bytes gatherer.old ≡ [] }
+    ensures ok { OnOk result (IfSome (R.left reader.old)
+        (IsAllOut T.read T.num W.sink (gathering_writer gatherer.old) (gathering_writer gatherer.new))) }
+    ensures end { OnOk result (IsAtEnd (R.left reader.new)) }
+    ensures read { IfRunRead result (IsTakenOut T.read T.num W.sink (R.left reader.old) (R.left reader.new)
+        (gathering_writer gatherer.old) (gathering_writer gatherer.new)) }
+    ensures read_first { IfRunRead result (IfSome (R.left reader.old)
+        (IsFirstOut T.read T.num W.sink (gathering_writer gatherer.old) (gathering_writer gatherer.new))) }
+    ensures read_count { IfRunRead result (R.failures reader.new ≡ next_count (R.failures reader.old)) }
+    ensures write { IfRunWrite result (IfSome (R.left reader.old)
+        (IsSomeOut T.read T.num W.sink (gathering_writer gatherer.old) (gathering_writer gatherer.new))) }
+    ensures write_count { IfRunWrite result
+        (W.sink.failures (gathering_writer gatherer.new) ≡ next_count (W.sink.failures (gathering_writer gatherer.old))) }
+    ensures memory { IfRunMemory result (IfSome (R.left reader.old)
+        (IsFirstOut T.read T.num W.sink (gathering_writer gatherer.old) (gathering_writer gatherer.new))) }
+    ensures keeps { W.sink.keeps (gathering_writer gatherer.old) (gathering_writer gatherer.new) }
+{
+    let mut block = Block::new(alloc);
+    'turns: for _ in 0..u64::MAX {
+        if let Err(e) = block.make_room() {
+            return Err(RunError::Memory(e));
+        }
+        let seen = block.len();
+        match block.fill(reader) {
+            Err(e) => return Err(RunError::Read(e)),
+            Ok(0) => return answer_block::<T, W>(alloc, block.front(), gatherer),
+            Ok(_) => {
+                let whole = block.whole(seen);
+                match answer_block::<T, W>(alloc, &block.front()[..whole], gatherer) {
+                    Ok(()) => block.forget(whole),
+                    Err(e) => return Err(e),
+                }
+            }
+        }
+    }
+    // The source never ends.
+    Err(RunError::Memory(AllocError))
+}
+
+/// Writes the answers to the lines of a block, and puts out all that were written.
+fn answer_block<T: WktNum, W: ByteSink>(
+    alloc: Global,
+    input: &[u8],
+    gatherer: &mut Gatherer<W>,
+) -> Result<(), RunError>
+    requires sound { is_sound gatherer.old ≡ true }
+    requires held { gathered_bytes gatherer.old ≡ [] }
+    ensures ok { OnOk result
+        (IsAllOut T.read T.num W.sink (gathering_writer gatherer.old) (gathering_writer gatherer.new) input.now) }
+    ensures sound { OnOk result (is_sound gatherer.new ≡ true) }
+    ensures held { OnOk result (gathered_bytes gatherer.new ≡ []) }
+    ensures count { OnOk result
+        (W.sink.failures (gathering_writer gatherer.new) ≡ W.sink.failures (gathering_writer gatherer.old)) }
+    ensures write { IfRunWrite result
+        (IsSomeOut T.read T.num W.sink (gathering_writer gatherer.old) (gathering_writer gatherer.new) input.now) }
+    ensures write_count { IfRunWrite result
+        (W.sink.failures (gathering_writer gatherer.new) ≡ next_count (W.sink.failures (gathering_writer gatherer.old))) }
+    ensures memory { IfRunMemory result
+        (IsFirstOut T.read T.num W.sink (gathering_writer gatherer.old) (gathering_writer gatherer.new) input.now) }
+    ensures read { IfRunRead result ⊥ }
+    ensures keeps { W.sink.keeps (gathering_writer gatherer.old) (gathering_writer gatherer.new) }
+{
+    match write_answers::<T, Gatherer<W>>(alloc, input, gatherer) {
+        Err(AnswerError::Sink(_)) => Err(RunError::Write(fault_of(gatherer))),
+        Err(AnswerError::Memory(e)) => match gatherer.finish() {
+            Ok(()) => Err(RunError::Memory(e)),
+            Err(_) => Err(RunError::Write(fault_of(gatherer))),
+        },
+        Ok(()) => match gatherer.finish() {
+            Ok(()) => Ok(()),
+            Err(_) => Err(RunError::Write(fault_of(gatherer))),
+        },
+    }
+}
+
+/// The fault that a gatherer met.
+fn fault_of<W: ByteSink>(gatherer: &mut Gatherer<W>) -> io::Error
+    requires { is_unasked gatherer.old ≡ true }
+    ensures { gathering_writer gatherer.new ≡ gathering_writer gatherer.old }
+{
+    match gatherer.take_fault() {
+        Some(e) => e,
+        None => unreachable!(),
+    }
+}
