@@ -20,25 +20,34 @@ done
 python3 - "$work" "${TURNS:-5}" "$workloads" "$@" <<'P'
 import os, subprocess, sys, time
 work, turns, workloads, programs = sys.argv[1], int(sys.argv[2]), sys.argv[3].split(), sys.argv[4:]
+def peak_of(process):
+    # the peak that getrusage tells is no less than that of what started the program
+    try:
+        with open(f'/proc/{process}/status') as lines:
+            return next((int(line.split()[1]) for line in lines if line.startswith('VmHWM')), 0)
+    except OSError:
+        return 0
 def run(program, workload):
     start = time.monotonic()
     with open(f'{work}/{workload}') as lines:
         answering = subprocess.Popen([os.path.realpath(program)], stdin=lines, stdout=subprocess.PIPE)
         reading = subprocess.Popen(['cat'], stdin=answering.stdout, stdout=subprocess.DEVNULL)
         answering.stdout.close()
-        _, status, usage = os.wait4(answering.pid, 0)
-        answering.returncode = status
+        peak = 0
+        while answering.poll() is None:
+            peak = max(peak, peak_of(answering.pid))
+            time.sleep(0.02)
         reading.wait()
-    if status != 0:
-        sys.exit(f'{program}: status {status}')
-    return time.monotonic() - start, usage.ru_maxrss
-print(f'{"program":28}' + ''.join(f'{workload:>16}' for workload in workloads))
+    if answering.returncode != 0:
+        sys.exit(f'{program}: status {answering.returncode}')
+    return time.monotonic() - start, peak
+print(f'{"program":28}' + ''.join(f'{workload:>20}' for workload in workloads))
 times = {(p, w): [] for p in programs for w in workloads}
 for _ in range(turns):
     for workload in workloads:
         for program in programs:
             times[program, workload].append(run(program, workload))
 for program in programs:
-    cells = ''.join(f'{min(t for t, _ in times[program, w]):8.2f} s{max(m for _, m in times[program, w]) / 1000:4.0f} MB'.rjust(16) for w in workloads)
+    cells = ''.join(f'{min(t for t, _ in times[program, w]):8.2f} s{max(m for _, m in times[program, w]) / 1000:7.1f} MB'.rjust(20) for w in workloads)
     print(f'{os.path.basename(program):28}' + cells)
 P

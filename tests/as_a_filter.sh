@@ -217,7 +217,7 @@ child=$!
 exec 3> "$dir/pipe"
 cat "$dir/many" >&3
 sleep 0.5
-peak=$(sed -n 's/VmHWM: *\([0-9]*\) kB/\1/p' /proc/$child/status)
+peak=$(sed -n 's/VmHWM:[[:space:]]*\([0-9]*\) kB/\1/p' /proc/$child/status)
 exec 3>&-
 wait $child
 echo $? > "$dir/status"
