@@ -20,8 +20,7 @@ pub(crate) fn begins(word: &[u8], text: &[u8]) -> bool
         if i == text.len() {
             return false;
         }
-        // A letter without the bit of small letters is a capital, and no other byte becomes one.
-        if text[i] & 0xdf != word[i] {
+        if text[i].to_ascii_uppercase() != word[i] {
             return false;
         }
         i += 1;

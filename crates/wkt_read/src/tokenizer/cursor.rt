@@ -1,7 +1,6 @@
 //! The bytes of a text, taken one at a time.
 ghost use Rattle.std.specs.Prelude.{◌≡◌, ℕ, ◌+◌, ◌-◌, ◌≤◌, ◌<◌, length, drop, slice_index, slice_range, MatchOption};
 ghost use Rattle.std.specs.Str.{IsCharBoundary, IsUtf8};
-ghost use Rattle.wkt_read.specs.Tokenizer.Cursors.{taken_in};
 
 use std::mem;
 
@@ -17,6 +16,8 @@ pub(crate) struct Cursor<'a> {
 
 #[tactic(auto, unfolding(crate::specs::Tokenizer::Cursors::taken_in))]
 impl<'a> Cursor<'a> {
+    ghost use Rattle.wkt_read.specs.Tokenizer.Cursors.{taken_in};
+
     pub(crate) fn new(text: &'a str) -> Self
         ensures text { result.text.now ≡ text.now }
         ensures taken { taken_in result ≡ 0 }
@@ -52,6 +53,8 @@ impl<'a> Cursor<'a> {
             (λ b. (taken_in self.new ≡ taken_in self.old + 1) × (taken_in self.old < length self.old.text.now)
             × (b ≡ slice_index self.old.text.now (taken_in self.old))) }
     {
+        // As the bytes of a text they are UTF-8, on which the readers of runs rest.
+        let _ = self.text.as_bytes();
         match self.left {
             [byte, left @ ..] => {
                 self.left = left;

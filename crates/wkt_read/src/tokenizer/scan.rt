@@ -62,23 +62,23 @@ fn run_ends(bytes: &mut Cursor<'_>) -> Option<(usize, Class)>
 #[inline(always)]
 pub(crate) fn end_of_run<'a>(bytes: Cursor<'a>, from: usize) -> (Cursor<'a>, usize, Class)
     requires { IsRunSoFar bytes.text.now from (taken_in bytes) }
-    ensures text { result.0.text ≡ bytes.text }
-    ensures grows { taken_in bytes ≤ taken_in result.0 }
-    ensures on { taken_in bytes ≤ result.1 }
+    ensures text { result.0.text ≡ bytes.entry.text }
+    ensures grows { taken_in bytes.entry ≤ taken_in result.0 }
+    ensures on { taken_in bytes.entry ≤ result.1 }
     ensures ends { EndsRun result.0.text.now from result.1 (taken_in result.0) result.2 }
     ensures other { result.2 ≢ Class.Run }
 {
-    let mut bytes = bytes;
-    'eight: while bytes.left() >= 8 {
-        'turn: for _ in 0..8 {
-            if let Some((end, class)) = run_ends(&mut bytes) {
-                return (bytes, end, class);
+    let mut cursor = bytes;
+    'eight: while cursor.left() >= 8 {
+        'turn: for _ in 0..8usize {
+            if let Some((end, class)) = run_ends(&mut cursor) {
+                return (cursor, end, class);
             }
         }
     }
     'one: loop {
-        if let Some((end, class)) = run_ends(&mut bytes) {
-            return (bytes, end, class);
+        if let Some((end, class)) = run_ends(&mut cursor) {
+            return (cursor, end, class);
         }
     }
 }
