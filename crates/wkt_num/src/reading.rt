@@ -29,16 +29,25 @@ pub fn read_signed(places: u32, negative: bool, body: &[u8]) -> Option<i128>
     if body.len() < VECTOR_BYTES {
         return match read_few(places, body) {
             Some(units) => with_sign(negative, units),
-            None => read_other(places, negative, body),
+            None => read_apart(places, negative, body),
         };
     }
     match read_near(places, body) {
         Some(units) => with_sign(negative, units),
-        None => read_other(places, negative, body),
+        None => read_apart(places, negative, body),
     }
 }
 
-/// The same for a body of any form.
+/// The same for a body of any form. What it answers comes through memory, whose place is cleared here, away
+/// from those before it, which answer in registers.
+#[inline(always)]
+fn read_apart(places: u32, negative: bool, body: &[u8]) -> Option<i128>
+    requires { places ≤ 36 }
+    ensures { result ≡ and_then (read_magnitude (2 ^ 127) places body.now) (with_sign 127 negative) }
+{
+    read_other(places, negative, body)
+}
+
 #[inline(never)]
 fn read_other(places: u32, negative: bool, body: &[u8]) -> Option<i128>
     requires { places ≤ 36 }

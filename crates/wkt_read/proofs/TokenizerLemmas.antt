@@ -1,4 +1,5 @@
 pub mod Placings
 pub mod Steps
 pub mod Afters
+pub mod Cursors
 pub mod Peeked

@@ -6,6 +6,7 @@ use Rattle.std.specs.Option.{option_copied}
 use Rattle.wkt_num.specs.Bytes.{Lexeme}
 use Rattle.wkt_read.specs.Placed.{Placed, lexemes_of, end_after}
 use Rattle.wkt_read.specs.Items.{IsItem}
+use Rattle.wkt_read.specs.Tokenizer.Cursors.{taken_in}
 use Rattle.wkt_read.specs.Tokenizer.Unread.{found}
 use Rattle.wkt_read.specs.Stream.{coming}
 use Rattle.wkt_read.specs.declared.tokenizer.token.Lexeme as code
@@ -28,7 +29,7 @@ left p = after_look p.ahead p.tokens.end (coming p.tokens)
 
 -- how many bytes of the text were taken, for what was looked at too
 unfoldable pub taken_of : {T : Type 0} → PeekableTokens T → ℕ
-taken_of p = p.tokens.bytes.taken
+taken_of p = taken_in p.tokens.bytes
 
 -- where the last lexeme that `next` gave ends
 unfoldable pub end_of : {T : Type 0} → PeekableTokens T → ℕ

@@ -5,6 +5,7 @@ use Rattle.std.specs.Iterator.{Count, at_most}
 use Rattle.wkt_num.specs.Bytes.{Lexeme}
 use Rattle.wkt_read.specs.Placed.{Placed}
 use Rattle.wkt_read.specs.Tokenizer.Classes.{meant}
+use Rattle.wkt_read.specs.Tokenizer.Cursors.{taken_in}
 use Rattle.wkt_read.specs.Tokenizer.Scan.{coming_at}
 use Rattle.wkt_read.specs.Items.{IsItem}
 use Rattle.wkt_read.specs.declared.tokenizer.token.Token.{Token}
@@ -12,11 +13,11 @@ use Rattle.wkt_read.specs.declared.tokenizer.tokens.Tokens.{Tokens}
 
 -- the lexemes that `next` has not given yet
 unfoldable pub coming : {T : Type 0} → Tokens T → List Placed
-coming s = coming_at s.bytes.text.now (meant s.ahead) s.bytes.taken
+coming s = coming_at s.bytes.text.now (meant s.ahead) (taken_in s.bytes)
 
 -- how many bytes of the text were taken
 unfoldable pub bytes_taken : {T : Type 0} → Tokens T → ℕ
-bytes_taken s = s.bytes.taken
+bytes_taken s = taken_in s.bytes
 
 -- where the last lexeme that `next` gave ends
 unfoldable pub end_of_last : {T : Type 0} → Tokens T → ℕ

@@ -1,3 +1,4 @@
 pub mod Classes
+pub mod Cursors
 pub mod Scan
 pub mod Unread

@@ -1,15 +1,17 @@
 -- Items with commas between them, frames, and errors that are passed on.
 use Rattle.std.proofs.Common.{◌≡◌, ℕ, zero, suc, ◌≤◌, List, [], ◌∷◌, ◌++◌, length, sym, refl, ap, ◌∙◌, subst, append_assoc, append-nil, arith, Result, Ok, Err, Bool, true, false, cond}
-use Rattle.std.specs.Prelude.{IfOk}
+use Rattle.std.specs.Prelude.{IfOk, Option}
 use Rattle.std.specs.Result.{IsErr, IsErrAnd}
 use Rattle.std.specs.List.{AllByRecursion}
 use Rattle.wkt_num.specs.Bytes.{Lexeme, Open, Close, Comma, Word, Num}
 use Rattle.wkt_read.specs.Parser.Walks.{BeginsWithoutComma, GoesOn}
 use Rattle.wkt_read.specs.declared.tokenizer.peekable.PeekableTokens.{PeekableTokens}
-use Rattle.wkt_read.specs.Parser.Reading.{Reading, ◌>>=◌, with_front, tail_at, many_at, framed, closed, opening_at}
+use Rattle.wkt_read.specs.Parser.Reading.{Reading, ◌>>=◌, coord_at, with_front, tail_at, many_at, framed, closed, opening_at}
 use Rattle.wkt_read.specs.declared.messages.ParseError.{ParseError}
 use Rattle.wkt_read.specs.declared.messages.ParseError.TheVariants.{Text, Memory}
-use Rattle.wkt_read.specs.Parser.Reads.{ReadsIn, Closes}
+use Rattle.wkt_access.specs.declared.dimensions.Dimension.{Dimension}
+use Rattle.wkt_types.specs.declared.coord.Coord.{Coord}
+use Rattle.wkt_read.specs.Parser.Reads.{ReadsIn, Pushes, Closes}
 
 -- one item more
 pub all-push : {A : Type 0} (P : A → Type 0) (xs : List A) (x : A) → AllByRecursion P xs → P x → AllByRecursion P (xs ++ x ∷ [])
@@ -115,6 +117,14 @@ reads-pass view other (Text m) (Err (Text k)) item whole rest h reads f = f read
 reads-pass view other (Text m) (Err (Memory k)) item whole rest h reads f = tt
 reads-pass view other (Memory m) (Err (Memory k)) item whole rest h reads f = tt
 reads-pass view other (Memory m) (Err (Text k)) item whole rest h reads f = cc
+
+-- an error of the reader that pushes a coordinate
+pub pushes-pass : {A T X : Type 0} (view : X → A) (number : List ℕ → Option T) (d : Dimension) (before after : List (Coord T)) (e : ParseError) (r : Result X ParseError) (whole : Reading A) (start rest : List Lexeme) → IsErrAnd r (λ y. y ≡ e) → Pushes {X = Unit {0}} number d start before (Err e) rest after → (coord_at number d start ≡ Err rest → whole ≡ Err rest) → ReadsIn view r whole rest
+pushes-pass view number d before after e (Ok x) whole start rest h pushes f = absurd h
+pushes-pass view number d before after (Text m) (Err (Text k)) whole start rest h pushes f = f pushes
+pushes-pass view number d before after (Text m) (Err (Memory k)) whole start rest h pushes f = tt
+pushes-pass view number d before after (Memory m) (Err (Memory k)) whole start rest h pushes f = tt
+pushes-pass view number d before after (Memory m) (Err (Text k)) whole start rest h pushes f = cc
 
 -- what holds of a body holds of what is after its closing place
 pub closes-keeps : {X : Type 0} (P : X → Type 0) (b r : Result X ParseError) (old new : List Lexeme) → Closes b r old new → IfOk b P → IfOk r P

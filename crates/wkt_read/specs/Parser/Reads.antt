@@ -1,10 +1,12 @@
 -- What a reader answers, by what there is to read. Only private contracts cite this file.
-use Rattle.std.specs.Prelude.{◌≡◌, ◌≤◌, ℕ, List, length, map, Vec, Option, Result, Ok, Err}
+use Rattle.std.specs.Prelude.{◌≡◌, ◌≤◌, ℕ, ◌++◌, ◌∷◌, [], List, length, map, Vec, Option, Result, Ok, Err}
 use Rattle.std.specs.declared.alloc.Global.{Global}
 use Rattle.wkt_num.specs.Bytes.{Lexeme}
 use Rattle.wkt_access.specs.Values.{Value}
 use Rattle.wkt_types.specs.Tree.{tree}
-use Rattle.wkt_types.specs.Values.{value_of, IsUniform}
+use Rattle.wkt_types.specs.Coords.{numbers_of}
+use Rattle.wkt_types.specs.Values.{value_of, IsUniform, HasDim}
+use Rattle.wkt_types.specs.declared.coord.Coord.{Coord}
 use Rattle.wkt_access.specs.declared.dimensions.Dimension.{Dimension}
 use Rattle.wkt_types.specs.declared.geometry_type.GeometryType.{GeometryType}
 use Rattle.wkt_types.specs.declared.geometry.Wkt.{Wkt}
@@ -14,7 +16,7 @@ use Rattle.wkt_read.specs.declared.messages.Message.{Message}
 use Rattle.wkt_read.specs.declared.tokenizer.peekable.PeekableTokens.{PeekableTokens}
 use Rattle.wkt_read.specs.Placed.{Placed, lexemes_of}
 use Rattle.wkt_read.specs.Ahead.{rest, IsAfter}
-use Rattle.wkt_read.specs.Parser.Reading.{Reading, closing_at, left_by, body_at, value_at}
+use Rattle.wkt_read.specs.Parser.Reading.{Reading, coord_at, closing_at, left_by, body_at, value_at}
 use Rattle.wkt_read.specs.Parser.Errors.{OnBad, OnBadIn}
 use Rattle.wkt_read.specs.Bad.{HasBad}
 
@@ -32,6 +34,13 @@ ReadsAll view reading old result new =
 -- The same of a list, by what its items show.
 abbrev pub ReadsList : {T A X : Type 0} → (X → A) → (ℕ → List Lexeme → Reading (List A)) → PeekableTokens T → Result (Vec X Global) ParseError → PeekableTokens T → Type 0
 ReadsList {X = X} view reading old result new = ReadsAll (λ (v : Vec X Global). map view v.items) reading old result new
+
+-- A coordinate is read and stands behind those before it, or none can be read, unless memory runs out.
+abbrev pub Pushes : {T X : Type 0} → (List ℕ → Option T) → Dimension → List Lexeme → List (Coord T) → Result X ParseError → List Lexeme → List (Coord T) → Type 0
+Pushes {T = T} read d start before (Ok x) left after =
+    (c : Coord T) × (after ≡ before ++ c ∷ []) × HasDim d c × (coord_at read d start ≡ Ok (numbers_of c, left))
+Pushes read d start before (Err (Text m)) left after = coord_at read d start ≡ Err left
+Pushes read d start before (Err (Memory e)) left after = Unit {0}
 
 -- the closing place was taken after a body
 abbrev pub Closes : {X : Type 0} → Result X ParseError → Result X ParseError → List Lexeme → List Lexeme → Type 0

@@ -1,5 +1,5 @@
 -- What the scanner knows at a place of a text. Only private contracts cite this file.
-use Rattle.std.specs.Prelude.{◌≡◌, ℕ, ◌+◌, ◌≤◌, ◌++◌, [], List, drop, slice_range}
+use Rattle.std.specs.Prelude.{◌≡◌, ◌≢◌, ℕ, ◌+◌, ◌≤◌, ◌<◌, ◌++◌, [], List, length, drop, slice_range}
 use Rattle.std.specs.Str.{IsCharBoundary}
 use Rattle.wkt_num.specs.Bytes.{Class, White}
 use Rattle.wkt_read.specs.Placed.{Placed, marks, front, placed_from}
@@ -26,6 +26,19 @@ pub record EndsRun (text : List ℕ) (from end at : ℕ) (ahead : code.Class) : 
   pub later : (front from (drop from text)).1 ≡ coming_at text (meant ahead) at
   pub until : IsCharBoundary text end
   pub boundary : IsCharBoundary text at
+
+-- The byte at `at` was taken, and each run that came to there goes on.
+pub record RunGoesOn (text : List ℕ) (at after : ℕ) : Type 0 where
+  pub inside : at < length text
+  pub next : after ≡ at + 1
+  pub run : (from : ℕ) → IsRunSoFar text from at → IsRunSoFar text from after
+
+-- Each run that came to `at` ends at `end`; the byte after it, if there is one, is of this class and was taken.
+pub record RunEnds (text : List ℕ) (at end after : ℕ) (ahead : code.Class) : Type 0 where
+  pub grows : at ≤ after
+  pub on : at ≤ end
+  pub run : (from : ℕ) → IsRunSoFar text from at → EndsRun text from end after ahead
+  pub other : ahead ≢ class.Run
 
 -- Of the lexemes `left`, the first begins with a byte of this class, the last that was taken.
 abbrev pub Found : List Placed → List ℕ → code.Class → ℕ → Type 0

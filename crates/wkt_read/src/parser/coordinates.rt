@@ -23,7 +23,10 @@ use wkt_types::Coord;
 
 #[inline(never)]
 #[tactic(auto, unfolding(crate::specs::Parser::Reading::number_at))]
-fn number<T: WktNum>(tokens: &mut PeekableTokens<'_, T>, expected: Message) -> Result<T, Message>
+pub(crate) fn number<T: WktNum>(
+    tokens: &mut PeekableTokens<'_, T>,
+    expected: Message,
+) -> Result<T, Message>
     requires plain { expected ≢ BadNumber }
     ensures exact { Reads (λ x. x) result (number_at T.read (rest tokens.old)) (rest tokens.new) }
     ensures bad { Blames T.read tokens.old result }
@@ -79,7 +82,7 @@ fn coord_of_two<T: WktNum>(tokens: &mut PeekableTokens<'_, T>) -> Result<Coord<T
 /// A coordinate of any dimension.
 #[inline(never)]
 #[tactic(auto, unfolding(crate::specs::Parser::Reading::coord_at))]
-fn coord_of_any<T: WktNum>(
+pub(crate) fn coord_of_any<T: WktNum>(
     tokens: &mut PeekableTokens<'_, T>,
     dim: Dimension,
 ) -> Result<Coord<T>, Message>

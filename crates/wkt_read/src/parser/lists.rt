@@ -6,12 +6,12 @@ ghost use Rattle.wkt_types.specs.Values.{HasDim, IsPointIn, point_numbers};
 ghost use Rattle.wkt_read.specs.Ahead.{rest, IsNear};
 ghost use Rattle.wkt_read.specs.Parser.Walks.{GoesOn};
 ghost use Rattle.wkt_read.specs.Parser.Reading.{Reads, coord_at, line_string_at, member_at, many_at, list_at, IsOpened};
-ghost use Rattle.wkt_read.specs.Parser.Reads.{ReadsAll, ReadsList, Blames, BlamesIn};
+ghost use Rattle.wkt_read.specs.Parser.Reads.{ReadsAll, ReadsList, Pushes, Blames, BlamesIn};
 ghost use Rattle.wkt_read.specs.Parser.Errors.{OnMemory};
 
 use crate::keywords::is_empty;
 use crate::messages::{Message, ParseError};
-use crate::parser::coordinates::{close, coord, opening, point};
+use crate::parser::coordinates::{close, coord, coord_of_any, number, opening, point};
 use crate::tokenizer::peekable::PeekableTokens;
 use crate::tokenizer::token::Lexeme;
 use std::alloc::Global;
@@ -103,13 +103,43 @@ fn coords<T: WktNum>(
     ensures goes_on { GoesOn tokens.old tokens.new }
 {
     let mut items = Vec::new(alloc);
-    let first = coord(tokens, dim)?;
-    items.push(first)?;
+    push_coord(tokens, dim, &mut items)?;
     'more: while tokens.take_comma() {
-        let next = coord(tokens, dim)?;
-        items.push(next)?;
+        push_coord(tokens, dim, &mut items)?;
     }
     Ok(items)
+}
+
+// Reads a coordinate onto the end of those before it. One of x and y alone is made where it is to stand, with
+// no result between.
+#[inline(always)]
+#[tactic(auto, unfolding(crate::specs::Parser::Reading::coord_at))]
+fn push_coord<T: WktNum>(
+    tokens: &mut PeekableTokens<'_, T>,
+    dim: Dimension,
+    items: &mut Vec<Coord<T>>,
+) -> Result<(), ParseError>
+    ensures exact { Pushes T.read dim (rest tokens.old) items.old.items result (rest tokens.new) items.new.items }
+    ensures bad { BlamesIn T.read tokens.old result }
+    ensures goes_on { GoesOn tokens.old tokens.new }
+{
+    match dim {
+        Dimension::XY => {
+            let x = number(tokens, Message::X)?;
+            let y = number(tokens, Message::Y)?;
+            items.push(Coord {
+                x,
+                y,
+                z: None,
+                m: None,
+            })?;
+        }
+        _ => {
+            let coord = coord_of_any(tokens, dim)?;
+            items.push(coord)?;
+        }
+    }
+    Ok(())
 }
 
 /// What stands after the header of a line string: EMPTY, or coordinates in parentheses. They are no

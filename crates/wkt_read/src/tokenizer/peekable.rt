@@ -2,6 +2,7 @@
 ghost use Rattle.std.specs.Prelude.{◌≡◌, ◌+◌, ◌≤◌, ℕ, ◌∷◌, Some, None, OnSome};
 ghost use Rattle.std.specs.Bool.{MatchBool, OnFalse};
 ghost use Rattle.wkt_num.specs.Bytes.{Lexeme, Comma};
+ghost use Rattle.wkt_read.specs.Tokenizer.Cursors.{taken_in};
 ghost use Rattle.wkt_read.specs.Tokenizer.Unread.{found};
 
 use crate::tokenizer::token::{Lexeme, Token, item_of};
@@ -34,7 +35,7 @@ pub struct PeekableTokens<'a, T> {
     // What `peek` returns a reference to: it alone reads the number ahead of its time.
     pub(crate) peeked: Peeked<'a, T>,
     ghost near: { (lexeme : _) (l : Lexeme) → ahead ≡ Some lexeme → found lexeme ≡ Some l
-        → (tokens.end ≤ tokens.bytes.taken) × (tokens.bytes.taken ≤ tokens.end + 1) },
+        → (tokens.end ≤ taken_in tokens.bytes) × (taken_in tokens.bytes ≤ tokens.end + 1) },
     ghost level: { ahead ≡ None → end ≡ tokens.end },
 }
 
@@ -126,8 +127,26 @@ impl<'a, T: WktNum> PeekableTokens<'a, T> {
         }
     }
 
-    // TakesNext the next lexeme if it is a comma.
+    // Takes the next lexeme if it is a comma.
+    #[inline(always)]
     pub(crate) fn take_comma(&mut self) -> bool
+        ensures goes_on { GoesOn self.old self.new }
+        ensures takes { MatchBool result (rest self.old ≡ Comma ∷ rest self.new) (rest self.new ≡ rest self.old) }
+        ensures none { OnFalse result (BeginsWithoutComma (rest self.old)) }
+    {
+        // Most commas stand right after a run, and were taken with it.
+        if let None = self.ahead {
+            if self.tokens.take_comma_ahead() {
+                self.end = self.tokens.end();
+                return true;
+            }
+        }
+        self.take_comma_behind()
+    }
+
+    // The same of a comma anywhere.
+    #[inline(never)]
+    fn take_comma_behind(&mut self) -> bool
         ensures goes_on { GoesOn self.old self.new }
         ensures takes { MatchBool result (rest self.old ≡ Comma ∷ rest self.new) (rest self.new ≡ rest self.old) }
         ensures none { OnFalse result (BeginsWithoutComma (rest self.old)) }

@@ -1,8 +1,9 @@
 //! Runs and marks in the bytes of a text.
-ghost use Rattle.std.specs.Prelude.{◌≡◌, ◌≢◌, ◌≤◌};
+ghost use Rattle.std.specs.Prelude.{◌≡◌, ◌≢◌, ◌≤◌, MatchOption};
 ghost use Rattle.std.specs.Str.{IsCharBoundary};
 ghost use Rattle.wkt_read.specs.Tokenizer.Classes.{meant};
-ghost use Rattle.wkt_read.specs.Tokenizer.Scan.{coming_at, Found, IsRunSoFar, EndsRun};
+ghost use Rattle.wkt_read.specs.Tokenizer.Cursors.{taken_in};
+ghost use Rattle.wkt_read.specs.Tokenizer.Scan.{coming_at, Found, IsRunSoFar, EndsRun, RunGoesOn, RunEnds};
 
 use crate::tokenizer::class::{Class, class_of};
 use crate::tokenizer::cursor::Cursor;
@@ -10,12 +11,12 @@ use crate::tokenizer::cursor::Cursor;
 /// The class of the first byte that is no white space, which is taken.
 #[inline(always)]
 pub(crate) fn first_class(bytes: &mut Cursor<'_>, ahead: Class) -> Class
-    requires boundary { IsCharBoundary bytes.old.text.now bytes.old.taken }
+    requires boundary { IsCharBoundary bytes.old.text.now (taken_in bytes.old) }
     requires start { ahead ≢ Class.Run }
     ensures text { bytes.new.text ≡ bytes.old.text }
-    ensures grows { bytes.old.taken ≤ bytes.new.taken }
-    ensures found { Found (coming_at bytes.old.text.now (meant ahead) bytes.old.taken) bytes.new.text.now result
-        bytes.new.taken }
+    ensures grows { taken_in bytes.old ≤ taken_in bytes.new }
+    ensures found { Found (coming_at bytes.old.text.now (meant ahead) (taken_in bytes.old)) bytes.new.text.now result
+        (taken_in bytes.new) }
     ensures stops { result ≢ Class.White }
 {
     let mut class = ahead;
@@ -33,28 +34,51 @@ pub(crate) fn first_class(bytes: &mut Cursor<'_>, ahead: Class) -> Class
     class
 }
 
-/// The end of the run that begins at `from`, and the class of the byte after it, which is taken.
+/// Takes the next byte: the end of a run that came so far, and the class of the byte, if it is no part of the run.
 #[inline(always)]
-pub(crate) fn end_of_run(bytes: &mut Cursor<'_>, from: usize) -> (usize, Class)
-    requires { IsRunSoFar bytes.old.text.now from bytes.old.taken }
+fn run_ends(bytes: &mut Cursor<'_>) -> Option<(usize, Class)>
     ensures text { bytes.new.text ≡ bytes.old.text }
-    ensures grows { bytes.old.taken ≤ bytes.new.taken }
-    ensures on { bytes.old.taken ≤ result.0 }
-    ensures ends { EndsRun bytes.new.text.now from result.0 bytes.new.taken result.1 }
-    ensures other { result.1 ≢ Class.Run }
+    ensures cases { MatchOption result
+        (RunGoesOn bytes.new.text.now (taken_in bytes.old) (taken_in bytes.new))
+        (λ r. RunEnds bytes.new.text.now (taken_in bytes.old) r.0 (taken_in bytes.new) r.1) }
 {
-    'run: loop {
-        let end = bytes.taken();
-        match bytes.next_byte() {
-            Some(byte) => {
-                if byte <= b',' {
-                    match class_of(byte) {
-                        Class::Run => {}
-                        class => return (end, class),
-                    }
-                }
+    let end = bytes.taken();
+    match bytes.next_byte() {
+        Some(byte) => {
+            if byte > b',' {
+                return None;
             }
-            None => return (end, Class::Nul),
+            match class_of(byte) {
+                Class::Run => None,
+                class => Some((end, class)),
+            }
+        }
+        None => Some((end, Class::Nul)),
+    }
+}
+
+/// The end of the run that begins at `from`, and the class of the byte after it, which is taken. The cursor
+/// is held by value, and asked once for eight bytes how many are left, so that it stays in registers.
+#[inline(always)]
+pub(crate) fn end_of_run<'a>(bytes: Cursor<'a>, from: usize) -> (Cursor<'a>, usize, Class)
+    requires { IsRunSoFar bytes.text.now from (taken_in bytes) }
+    ensures text { result.0.text ≡ bytes.entry.text }
+    ensures grows { taken_in bytes.entry ≤ taken_in result.0 }
+    ensures on { taken_in bytes.entry ≤ result.1 }
+    ensures ends { EndsRun result.0.text.now from result.1 (taken_in result.0) result.2 }
+    ensures other { result.2 ≢ Class.Run }
+{
+    let mut cursor = bytes;
+    'eight: while cursor.left() >= 8 {
+        'turn: for _ in 0..8usize {
+            if let Some((end, class)) = run_ends(&mut cursor) {
+                return (cursor, end, class);
+            }
+        }
+    }
+    'one: loop {
+        if let Some((end, class)) = run_ends(&mut cursor) {
+            return (cursor, end, class);
         }
     }
 }

@@ -1,6 +1,9 @@
 //! The lexemes of a text.
-ghost use Rattle.std.specs.Prelude.{◌≡◌, ◌≢◌, ◌≤◌, ℕ, length};
+ghost use Rattle.std.specs.Prelude.{◌≡◌, ◌≢◌, ◌≤◌, ℕ, length, Some};
+ghost use Rattle.std.specs.Bool.{MatchBool};
 ghost use Rattle.std.specs.Str.{IsCharBoundary};
+ghost use Rattle.wkt_read.specs.Tokenizer.Cursors.{taken_in};
+ghost use Rattle.wkt_num.specs.Bytes.{Comma};
 ghost use Rattle.wkt_read.specs.declared.tokenizer.class.Class.TheVariants.{Run};
 
 use crate::tokenizer::class::Class;
@@ -21,7 +24,7 @@ pub struct Tokens<'a, T> {
     ahead: Class,
     end: usize,
     of: PhantomData<T>,
-    ghost boundary: { IsCharBoundary bytes.text.now bytes.taken },
+    ghost boundary: { IsCharBoundary bytes.text.now (taken_in bytes) },
     ghost no_run: { ahead ≢ Run },
 }
 
@@ -64,6 +67,22 @@ impl<'a, T: WktNum> Tokens<'a, T> {
         self.end
     }
 
+    // Gives the next lexeme if it is a comma that was taken with the run before it.
+    #[inline(always)]
+    #[tactic(auto, unfolding(crate::specs::Stream::coming, crate::specs::Stream::bytes_taken, crate::specs::Stream::end_of_last))]
+    pub(crate) fn take_comma_ahead(&mut self) -> bool
+        ensures { MatchBool result (Steps self.old (Some Comma) self.new) (self.new ≡ self.old) }
+    {
+        match self.ahead {
+            Class::Comma => {
+                self.ahead = Class::White;
+                self.end = self.bytes.taken();
+                true
+            }
+            _ => false,
+        }
+    }
+
     // The next lexeme, its number not read.
     #[inline(always)]
     pub(crate) fn next_lexeme(&mut self) -> Lexeme<'a>
@@ -75,7 +94,8 @@ impl<'a, T: WktNum> Tokens<'a, T> {
             Class::Comma => Lexeme::Comma,
             Class::Run => {
                 let from = self.bytes.taken() - 1;
-                let (end, ahead) = end_of_run(&mut self.bytes, from);
+                let (bytes, end, ahead) = end_of_run(self.bytes.move_out(), from);
+                self.bytes = bytes;
                 self.end = end;
                 self.ahead = ahead;
                 return lexeme_of(self.bytes.part(from, end));

@@ -1,6 +1,7 @@
 use Rattle.std.proofs.Common.{◌≡◌, ◌-◌, ◌<◌, ap, ◌∙◌, arith, refl, drop, slice_range, Some}
 use Rattle.wkt_read.specs.Lexemes.{lexeme_of}
 use Rattle.wkt_read.specs.Placed.{placed_from}
+use Rattle.wkt_read.specs.Tokenizer.Cursors.{taken_in}
 use Rattle.wkt_read.specs.Stream.{coming, bytes_taken, end_of_last}
 use Rattle.wkt_read.specs.Tokenizer.Unread.{found}
 use Rattle.wkt_read.proofs.TokenizerLemmas.Steps.{gives-run, gives-open, gives-close, gives-comma, found-nul}
@@ -10,16 +11,17 @@ use Rattle.wkt_read.proofs.tokenizer.tokens.Tokens.next_lexeme.Goals.{in-Open, i
 pub returns-in-Run : goal.returns-in-Run
 unfolding coming bytes_taken end_of_last
 returns-in-Run g c =
-    let lexeme : found c.lexeme_of.result ≡ Some (lexeme_of (slice_range c.end_of_run-end.new.bytes.text.now (c.taken-from.result - 1) c.end_of_run-end.result.0)) = c.lexeme_of.ensures ∙ ap (λ l. Some (lexeme_of l)) c.part.ensures in
+    let r = c.end_of_run-end.ensures in
+    let lexeme : found c.lexeme_of.result ≡ Some (lexeme_of (slice_range c.end_of_run-end.result.0.text.now (c.taken-from.result - 1) c.end_of_run-end.result.1)) = c.lexeme_of.ensures ∙ ap (λ l. Some (lexeme_of l)) c.part.ensures in
     let f = c.in-Run.ensures.found in
     let e : f.0 ≡ c.taken-from.result - 1 = omega (arith, f.1, c.taken-from.ensures) in
-    let r = c.end_of_run-end.ensures in
-    let order : c.taken-from.result - 1 < c.end_of_run-end.result.0 = omega (arith, f.1, c.taken-from.ensures, r.on) in
+    let from : c.move_out.result ≡ c.first_class.new.bytes = c.move_out.ensures.moved in
+    let order : c.taken-from.result - 1 < c.end_of_run-end.result.1 = omega (arith, f.1, c.taken-from.ensures, r.on, ap taken_in from) in
     rw lexeme (
-      gives-run _ _ _ _ _ _ _ _ (f.2 ∙ ap (λ n. placed_from n (drop n c.first_class.new.bytes.text.now)) e) (ap (λ t. t.now) r.text) order r.ends refl,
+      gives-run _ _ _ _ _ _ _ _ (f.2 ∙ ap (λ n. placed_from n (drop n c.first_class.new.bytes.text.now)) e) (ap (λ t. t.now) (r.text ∙ ap (λ b. b.text) from)) order r.ends refl,
       r.ends.taken,
       r.ends.near,
-      omega (arith, r.grows, c.first_class.ensures.grows),
+      omega (arith, r.grows, c.first_class.ensures.grows, ap taken_in from),
     )
 
 pub returns-in-Nul : goal.returns-in-Nul
