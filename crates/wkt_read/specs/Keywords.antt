@@ -1,8 +1,12 @@
 -- What the code finds of a kind word. Only private contracts cite this file.
-use Rattle.std.specs.Prelude.{◌≡◌, Option, Some, None}
+use Rattle.std.specs.Prelude.{◌≡◌, ◌≤◌, ℕ, Option, Some, None}
 use Rattle.wkt_access.specs.declared.Dimension.{Dimension}
 use Rattle.wkt_types.specs.declared.geometry_type.GeometryType.{GeometryType}
 use Rattle.wkt_read.specs.Grammar.{KindWord}
+
+-- the code of a capital letter
+abbrev pub IsCapital : ℕ → Type 0
+IsCapital c = (65 ≤ c) × (c ≤ 90)
 
 -- what was found of a word is what it says as a kind word
 abbrev pub Names : Option (GeometryType × Option Dimension) → Option KindWord → Type 0

@@ -1,6 +1,8 @@
 //! The kind and the dimension that the header of a text names.
 ghost use Rattle.std.specs.Prelude.{◌≡◌};
 ghost use Rattle.std.specs.Str.{str_to_ascii_uppercase};
+ghost use Rattle.std.specs.List.{AllByRecursion};
+ghost use Rattle.wkt_read.specs.Keywords.{IsCapital};
 ghost use Rattle.wkt_read.specs.Header.{holds, has_space, dim_said, header_rule};
 ghost use Rattle.wkt_read.specs.HeaderSteps.{EndsHeader, header_answer};
 ghost use Rattle.wkt_read.specs.Infer.{Infers};
@@ -40,6 +42,7 @@ impl From<AllocError> for InferError {
 
 // Whether the word, which is in capitals, stands in the text.
 fn holds(word: &[u8], text: &[u8]) -> bool
+    requires capitals { AllByRecursion IsCapital word.now }
     ensures { result ≡ holds word.now (str_to_ascii_uppercase text.now) }
 {
     let mut i = 0;

@@ -3,9 +3,10 @@ ghost use Rattle.std.specs.Prelude.{◌≡◌};
 ghost use Rattle.std.specs.Str.{str_to_ascii_uppercase};
 ghost use Rattle.wkt_read.specs.Grammar.{kind_word, dim_word};
 ghost use Rattle.wkt_read.specs.Parser.Reading.{is_empty_word};
+ghost use Rattle.std.specs.List.{AllByRecursion};
 ghost use Rattle.wkt_read.specs.Header.{begins};
 ghost use Rattle.wkt_read.specs.HeaderSteps.{Strips, BeginsKind};
-ghost use Rattle.wkt_read.specs.Keywords.{Names};
+ghost use Rattle.wkt_read.specs.Keywords.{Names, IsCapital};
 
 use wkt_access::Dimension;
 use wkt_types::GeometryType;
@@ -13,6 +14,7 @@ use wkt_types::GeometryType;
 // Whether the text begins with the word, which is in capitals, whatever the text's case.
 #[inline(always)]
 pub(crate) fn begins(word: &[u8], text: &[u8]) -> bool
+    requires capitals { AllByRecursion IsCapital word.now }
     ensures { result ≡ begins word.now (str_to_ascii_uppercase text.now) }
 {
     let mut i = 0;
@@ -20,7 +22,8 @@ pub(crate) fn begins(word: &[u8], text: &[u8]) -> bool
         if i == text.len() {
             return false;
         }
-        if text[i].to_ascii_uppercase() != word[i] {
+        // Most headers are in capitals, which are compared as they are.
+        if text[i] != word[i] && text[i].to_ascii_uppercase() != word[i] {
             return false;
         }
         i += 1;
@@ -31,6 +34,7 @@ pub(crate) fn begins(word: &[u8], text: &[u8]) -> bool
 // What follows the word, which is in capitals, at the start of the text, whatever the text's case.
 #[inline(always)]
 fn strip<'a>(word: &[u8], text: &'a [u8]) -> Option<&'a [u8]>
+    requires capitals { AllByRecursion IsCapital word.now }
     ensures { Strips result word.now (str_to_ascii_uppercase text.now) }
 {
     if begins(word, text) {

@@ -1,11 +1,14 @@
 -- Words at a place of a text, and the header up to there.
-use Rattle.std.proofs.Common.{◌≡◌, ℕ, suc, ◌+◌, ◌≤◌, ◌<◌, List, [], ◌∷◌, length, take, drop, get_or, Bool, true, false, cond, ◌&&◌, ◌||◌, ◌==◌, nat_eq, Some, None, refl, sym, ap, ◌∙◌, arith, codes, add-one, eqb-true, eq-eqb, ◌-◌}
+use Rattle.std.proofs.Common.{◌≡◌, ℕ, zero, suc, ◌+◌, ◌≤◌, ◌<◌, List, [], ◌∷◌, length, take, drop, get_or, Bool, true, false, cond, ◌&&◌, ◌||◌, ◌==◌, nat_eq, Some, None, refl, sym, ap, ◌∙◌, arith, codes, add-one, eqb-true, eq-eqb, ◌-◌}
 use Rattle.std.proofs.lemmas.Bool.Decides.{nat_tests}
 use Rattle.std.proofs.lemmas.List.{take_rest, drop-map, length-map}
 use Rattle.std.proofs.Math.Seq.{drop-cons, drop-length, take-suc}
 use Rattle.std.specs.Prelude.{slice_range}
 use Rattle.std.specs.Str.{str_to_ascii_uppercase}
 use Rattle.std.specs.Char.{to_ascii_uppercase}
+use Rattle.std.specs.List.{AllByRecursion}
+use Rattle.std.proofs.lemmas.Str.Ascii.{uppercase_is}
+use Rattle.wkt_read.specs.Keywords.{IsCapital}
 use Rattle.wkt_read.specs.Header.{begins, holds, has_space, with_byte, header_cut}
 use Rattle.wkt_read.proofs.LawLemmas.Headers.{with_bytes, with_bytes_is, with_bytes_append}
 
@@ -119,3 +122,9 @@ upper_rest text i = drop-map to_ascii_uppercase i text ∙ sym (rest_text text i
 
 pub range_take : (text : List ℕ) (n : ℕ) → slice_range text 0 n ≡ take n text
 range_take text n = let e : n - 0 ≡ n = omega arith in ap (λ m. take m text) e
+
+-- a capital stays as it is among capitals
+pub capital_at : (word : List ℕ) (i : ℕ) → AllByRecursion IsCapital word → i < length word → to_ascii_uppercase (get_or word i 0) ≡ get_or word i 0
+capital_at [] i all h = absurd (omega arith)
+capital_at (b ∷ word) zero all h = (uppercase_is b).1 (omega (arith, all.0.1))
+capital_at (b ∷ word) (suc i) all h = capital_at word i all.1 (omega (arith, h))
