@@ -1,0 +1,7 @@
+fn main() {
+    // The folder of libwkt.a, which capi/build.sh makes.
+    let folder = std::env::var("WKT_LIB_DIR").unwrap_or_else(|_| format!("{}/../out", env!("CARGO_MANIFEST_DIR")));
+    println!("cargo:rerun-if-env-changed=WKT_LIB_DIR");
+    println!("cargo:rustc-link-search=native={folder}");
+    println!("cargo:rustc-link-lib=static=wkt");
+}

@@ -1,0 +1,4 @@
+pub mod Growth
+pub mod Steps
+pub mod PartsOf
+pub mod Handing
