@@ -23,16 +23,16 @@ abbrev pub print_at : ℕ → ℤ → List ℕ
 print_at places = decimal_text places
 
 -- A buffer after a list was put to its front.
-abbrev pub filled : {A : Type 0} → List A → List A → List A
-filled list old = list ++ drop (length list) old
+abbrev pub with_front : {A : Type 0} → List A → List A → List A
+with_front list old = list ++ drop (length list) old
 
 -- The answer stands at the front of the buffer, and its length is told.
-pub record Stands (answer : List ℕ) (needed : ℕ) (old new : List ℕ) : Type 0 where
+pub record IsHandedOut (answer : List ℕ) (needed : ℕ) (old new : List ℕ) : Type 0 where
   pub size : needed ≡ length answer
-  pub front : new ≡ filled answer old
+  pub front : new ≡ with_front answer old
 
 -- The buffer has no room for the answer, whose length is told.
-pub record Lacks (answer : List ℕ) (needed : ℕ) (old : List ℕ) : Type 0 where
+pub record HasNoRoom (answer : List ℕ) (needed : ℕ) (old : List ℕ) : Type 0 where
   pub size : needed ≡ length answer
   pub small : length old < length answer
 

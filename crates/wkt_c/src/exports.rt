@@ -2,24 +2,24 @@
 ghost use Rattle.std.specs.Prelude.{◌≡◌, ◌≤◌, ◌≢◌, ◌⊎◌, ℕ, List, Bool};
 ghost use Rattle.wkt_lines.specs.Numbers.{read_line, print_line};
 ghost use Rattle.wkt_lines.specs.Output.{IsOutput};
-ghost use Rattle.wkt_c.specs.Answer.{read_at, print_at, IsCanonical, Compares, RefusesAt, RefusesOneAt, IsNamed, NamesNone, IsNoText, Stands, Lacks, same_number};
+ghost use Rattle.wkt_c.specs.Answer.{read_at, print_at, IsCanonical, Compares, RefusesAt, RefusesOneAt, IsNamed, NamesNone, IsNoText, IsHandedOut, HasNoRoom, same_number};
 ghost use Rattle.wkt_c.specs.Arrays.{IsTextOf, IsNotFlat};
-ghost use Rattle.wkt_c.specs.Sizes.{AreHandedOut, AreTooMany};
+ghost use Rattle.wkt_c.specs.Sizes.{AreHandedOut, HaveNoRoom};
 
 use crate::canonical::{canonical_at, same_at};
-use crate::fill::fill;
+use crate::fill::copy_to_front;
 use crate::flat::flat_at;
 use crate::infer::infer;
 use crate::lines::answers;
-use crate::rebuild::{Given, text_at};
+use crate::rebuild::{GivenArrays, text_at};
 use crate::sizes::WktSizes;
 use crate::status::{DONE, MEMORY, SMALL};
 use std::alloc::Global;
 
 /// Hands out an answer, if there is room for it.
-fn give(answer: &[u8], out: &mut [u8], needed: &mut usize) -> u32
-    ensures stands { result ≡ DONE → Stands answer.now needed.new out.old out.new }
-    ensures lacks { result ≡ SMALL → Lacks answer.now needed.new out.old }
+fn hand_out(answer: &[u8], out: &mut [u8], needed: &mut usize) -> u32
+    ensures stands { result ≡ DONE → IsHandedOut answer.now needed.new out.old out.new }
+    ensures lacks { result ≡ SMALL → HasNoRoom answer.now needed.new out.old }
     ensures kept { 1 ≤ result → out.new ≡ out.old }
     ensures two { (result ≡ DONE) ⊎ (result ≡ SMALL) }
 {
@@ -28,7 +28,7 @@ fn give(answer: &[u8], out: &mut [u8], needed: &mut usize) -> u32
     if size > out.len() {
         return SMALL;
     }
-    fill(answer, out);
+    copy_to_front(answer, out);
     DONE
 }
 
@@ -44,16 +44,16 @@ pub extern "C" fn wkt_canonical(
     end: &mut usize,
 ) -> u32
     ensures written { result ≡ DONE → (answer : List ℕ)
-        × IsCanonical (read_at places) (print_at places) text.now answer end.new × Stands answer needed.new out.old out.new }
+        × IsCanonical (read_at places) (print_at places) text.now answer end.new × IsHandedOut answer needed.new out.old out.new }
     ensures small { result ≡ SMALL → (answer : List ℕ)
-        × IsCanonical (read_at places) (print_at places) text.now answer end.new × Lacks answer needed.new out.old }
+        × IsCanonical (read_at places) (print_at places) text.now answer end.new × HasNoRoom answer needed.new out.old }
     ensures others { 1 ≤ result → result ≢ SMALL → RefusesAt places text.now result }
     ensures kept { 1 ≤ result → out.new ≡ out.old }
 {
     match canonical_at(alloc, text, places) {
         Ok((answer, at)) => {
             *end = at;
-            give(&answer, out, needed)
+            hand_out(&answer, out, needed)
         }
         Err(status) => status,
     }
@@ -105,14 +105,14 @@ pub extern "C" fn wkt_infer(alloc: Global, text: &[u8], kind: &mut u32, dimensio
 #[unsafe(no_mangle)]
 pub extern "C" fn wkt_lines(alloc: Global, input: &[u8], out: &mut [u8], needed: &mut usize) -> u32
     ensures written { result ≡ DONE → (answers : List ℕ)
-        × IsOutput read_line print_line input.now answers × Stands answers needed.new out.old out.new }
+        × IsOutput read_line print_line input.now answers × IsHandedOut answers needed.new out.old out.new }
     ensures small { result ≡ SMALL → (answers : List ℕ)
-        × IsOutput read_line print_line input.now answers × Lacks answers needed.new out.old }
+        × IsOutput read_line print_line input.now answers × HasNoRoom answers needed.new out.old }
     ensures others { (result ≡ DONE) ⊎ (result ≡ SMALL) ⊎ (result ≡ MEMORY) }
     ensures kept { 1 ≤ result → out.new ≡ out.old }
 {
     match answers(alloc, input) {
-        Ok(text) => give(&text, out, needed),
+        Ok(text) => hand_out(&text, out, needed),
         Err(status) => status,
     }
 }
@@ -132,7 +132,7 @@ pub extern "C" fn wkt_arrays(
 ) -> u32
     ensures filled { result ≡ DONE →
         AreHandedOut places text.now sizes.new numbers.old numbers.new rings.old rings.new polygons.old polygons.new }
-    ensures small { result ≡ SMALL → AreTooMany places text.now sizes.new numbers.old rings.old polygons.old }
+    ensures small { result ≡ SMALL → HaveNoRoom places text.now sizes.new numbers.old rings.old polygons.old }
     ensures others { 1 ≤ result → result ≢ SMALL → IsNotFlat places text.now result }
     ensures kept { 1 ≤ result →
         (numbers.new ≡ numbers.old) × (rings.new ≡ rings.old) × (polygons.new ≡ polygons.old) }
@@ -151,9 +151,9 @@ pub extern "C" fn wkt_arrays(
             {
                 return SMALL;
             }
-            fill(&flat.arrays.numbers, numbers);
-            fill(&flat.arrays.rings, rings);
-            fill(&flat.arrays.polygons, polygons);
+            copy_to_front(&flat.arrays.numbers, numbers);
+            copy_to_front(&flat.arrays.rings, rings);
+            copy_to_front(&flat.arrays.polygons, polygons);
             DONE
         }
         Err(status) => status,
@@ -175,13 +175,13 @@ pub extern "C" fn wkt_from_arrays(
     needed: &mut usize,
 ) -> u32
     ensures written { result ≡ DONE → (answer : List ℕ)
-        × IsTextOf places kind dimension numbers.now rings.now polygons.now answer × Stands answer needed.new out.old out.new }
+        × IsTextOf places kind dimension numbers.now rings.now polygons.now answer × IsHandedOut answer needed.new out.old out.new }
     ensures small { result ≡ SMALL → (answer : List ℕ)
-        × IsTextOf places kind dimension numbers.now rings.now polygons.now answer × Lacks answer needed.new out.old }
+        × IsTextOf places kind dimension numbers.now rings.now polygons.now answer × HasNoRoom answer needed.new out.old }
     ensures others { 1 ≤ result → SMALL ≤ result }
     ensures kept { 1 ≤ result → out.new ≡ out.old }
 {
-    let given = Given {
+    let given = GivenArrays {
         kind,
         dimension,
         numbers,
@@ -189,7 +189,7 @@ pub extern "C" fn wkt_from_arrays(
         polygons,
     };
     match text_at(alloc, given, places) {
-        Ok(answer) => give(&answer, out, needed),
+        Ok(answer) => hand_out(&answer, out, needed),
         Err(status) => status,
     }
 }

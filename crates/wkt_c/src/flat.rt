@@ -62,10 +62,23 @@ pub(crate) fn flat_at(alloc: Global, text: &[u8], places: u32) -> Result<Flat, u
 {
     match places {
         0 => make_flat::<0>(alloc, text),
+        1 => make_flat::<1>(alloc, text),
+        2 => make_flat::<2>(alloc, text),
+        3 => make_flat::<3>(alloc, text),
+        4 => make_flat::<4>(alloc, text),
+        5 => make_flat::<5>(alloc, text),
         6 => make_flat::<6>(alloc, text),
         7 => make_flat::<7>(alloc, text),
+        8 => make_flat::<8>(alloc, text),
         9 => make_flat::<9>(alloc, text),
+        10 => make_flat::<10>(alloc, text),
+        11 => make_flat::<11>(alloc, text),
+        12 => make_flat::<12>(alloc, text),
+        13 => make_flat::<13>(alloc, text),
+        14 => make_flat::<14>(alloc, text),
         15 => make_flat::<15>(alloc, text),
+        16 => make_flat::<16>(alloc, text),
+        17 => make_flat::<17>(alloc, text),
         18 => make_flat::<18>(alloc, text),
         _ => Err(NO_PLACES),
     }

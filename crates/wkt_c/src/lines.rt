@@ -1,69 +1,52 @@
 //! Many lines answered at once.
-ghost use Rattle.std.specs.Prelude.{◌≡◌, ◌<◌, MatchResult};
-ghost use Rattle.wkt_lines.specs.Numbers.{read_line, print_line};
+ghost use Rattle.std.specs.Prelude.{◌≡◌, ◌⊎◌, MatchResult};
 ghost use Rattle.wkt_lines.specs.Output.{IsOutput};
+ghost use Rattle.wkt_c.specs.Answer.{read_at, print_at};
 
-use crate::status::MEMORY;
+use crate::gathered::Gathered;
+use crate::status::{MEMORY, NO_PLACES};
 use std::alloc::Global;
-use std::io;
-use std::io::ErrorKind;
-use wkt::to_wkt::{ByteSink, ByteSource};
-use wkt_lines::run;
-
-/// A source of bytes in memory.
-#[derive(Drop)]
-struct Held<'a> {
-    rest: &'a [u8],
-}
-
-impl ByteSource for Held<'_> {
-    ghost use Rattle.std.specs.Prelude.{Some};
-
-    ghost left = { λ s. Some s.rest.now };
-
-    ghost failures = { λ s. 0 };
-
-    fn take(&mut self, buf: &mut [u8]) -> io::Result<usize> {
-        let count = buf.len().min(self.rest.len());
-        buf[..count].copy_from_slice(&self.rest[..count]);
-        self.rest = &self.rest[count..];
-        Ok(count)
-    }
-}
-
-/// A sink that holds what it is given, and fails where there is no memory.
-#[derive(Drop)]
-struct Page {
-    text: Vec<u8>,
-    failures: u64,
-}
-
-impl ByteSink for Page {
-    ghost use Rattle.std.specs.Prelude.{Some};
-    ghost use Rattle.wkt_bytes.specs.Sinks.{owned};
-
-    ghost sink = { owned (λ p. Some p.text.items) (λ p. p.failures) };
-
-    fn put(&mut self, buf: &[u8]) -> io::Result<usize> {
-        if self.text.extend_from_slice(buf).is_err() {
-            self.failures = self.failures.wrapping_add(1);
-            return Err(io::Error::from(ErrorKind::OutOfMemory));
-        }
-        Ok(buf.len())
-    }
-}
+use wkt::{Decimal, WktNum};
+use wkt_lines::write_answers;
 
 /// The answers to all lines of the input.
-pub(crate) fn answers(alloc: Global, input: &[u8]) -> Result<Vec<u8>, u32>
-    ensures { MatchResult result (λ v. IsOutput read_line print_line input.now v.items) (λ s. s ≡ MEMORY) }
+fn answers<T: WktNum>(alloc: Global, input: &[u8]) -> Result<Vec<u8>, u32>
+    ensures { MatchResult result (λ v. IsOutput T.read T.num input.now v.items) (λ s. s ≡ MEMORY) }
 {
-    let Ok(text) = Vec::with_capacity(alloc, input.len()) else {
+    let Ok(mut sink) = Gathered::new(alloc, input.len()) else {
         return Err(MEMORY);
     };
-    let mut source = Held { rest: input };
-    let mut sink = Page { text, failures: 0 };
-    match run(alloc, &mut source, &mut sink) {
-        Ok(()) => Ok(sink.text),
+    match write_answers::<T, Gathered>(alloc, input, &mut sink) {
+        Ok(()) => Ok(sink.into_bytes()),
         Err(_) => Err(MEMORY),
+    }
+}
+
+/// The same, with decimals of so many places.
+pub(crate) fn answers_at(alloc: Global, input: &[u8], places: u32) -> Result<Vec<u8>, u32>
+    ensures { MatchResult result (λ v. IsOutput (read_at places) (print_at places) input.now v.items)
+        (λ s. (s ≡ NO_PLACES) ⊎ (s ≡ MEMORY)) }
+{
+    match places {
+        0 => answers::<Decimal<0>>(alloc, input),
+        1 => answers::<Decimal<1>>(alloc, input),
+        2 => answers::<Decimal<2>>(alloc, input),
+        3 => answers::<Decimal<3>>(alloc, input),
+        4 => answers::<Decimal<4>>(alloc, input),
+        5 => answers::<Decimal<5>>(alloc, input),
+        6 => answers::<Decimal<6>>(alloc, input),
+        7 => answers::<Decimal<7>>(alloc, input),
+        8 => answers::<Decimal<8>>(alloc, input),
+        9 => answers::<Decimal<9>>(alloc, input),
+        10 => answers::<Decimal<10>>(alloc, input),
+        11 => answers::<Decimal<11>>(alloc, input),
+        12 => answers::<Decimal<12>>(alloc, input),
+        13 => answers::<Decimal<13>>(alloc, input),
+        14 => answers::<Decimal<14>>(alloc, input),
+        15 => answers::<Decimal<15>>(alloc, input),
+        16 => answers::<Decimal<16>>(alloc, input),
+        17 => answers::<Decimal<17>>(alloc, input),
+        18 => answers::<Decimal<18>>(alloc, input),
+        _ => Err(NO_PLACES),
     }
 }

@@ -20,7 +20,7 @@ use wkt::{Decimal, Wkt};
 
 /// Flat arrays of the caller's.
 #[derive(Clone, Copy)]
-pub(crate) struct Given<'a> {
+pub(crate) struct GivenArrays<'a> {
     pub(crate) kind: u32,
     pub(crate) dimension: u32,
     pub(crate) numbers: &'a [i64],
@@ -101,7 +101,7 @@ fn number<const D: u32>(units: i64) -> Decimal<D>
 /// The coordinates of the ring of that index.
 fn ring<const D: u32>(
     alloc: Global,
-    given: Given<'_>,
+    given: GivenArrays<'_>,
     dimension: Dimension,
     index: usize,
 ) -> Result<Vec<Coord<Decimal<D>>>, u32>
@@ -131,7 +131,7 @@ fn bounds(offsets: &[usize], index: usize) -> Result<(usize, usize), u32>
 
 fn point<const D: u32>(
     alloc: Global,
-    given: Given<'_>,
+    given: GivenArrays<'_>,
     dimension: Dimension,
     index: usize,
 ) -> Result<Point<Decimal<D>>, u32>
@@ -148,7 +148,7 @@ fn point<const D: u32>(
 
 fn line<const D: u32>(
     alloc: Global,
-    given: Given<'_>,
+    given: GivenArrays<'_>,
     dimension: Dimension,
     index: usize,
 ) -> Result<LineString<Decimal<D>>, u32>
@@ -161,7 +161,7 @@ fn line<const D: u32>(
 
 fn points<const D: u32>(
     alloc: Global,
-    given: Given<'_>,
+    given: GivenArrays<'_>,
     dimension: Dimension,
 ) -> Result<Vec<Point<Decimal<D>>>, u32>
     requires { D ≤ 36 }
@@ -180,7 +180,7 @@ fn points<const D: u32>(
 
 fn lines<const D: u32>(
     alloc: Global,
-    given: Given<'_>,
+    given: GivenArrays<'_>,
     dimension: Dimension,
     polygon: usize,
 ) -> Result<Vec<LineString<Decimal<D>>>, u32>
@@ -200,7 +200,7 @@ fn lines<const D: u32>(
 
 fn polygons<const D: u32>(
     alloc: Global,
-    given: Given<'_>,
+    given: GivenArrays<'_>,
     dimension: Dimension,
 ) -> Result<Vec<Polygon<Decimal<D>>>, u32>
     requires { D ≤ 36 }
@@ -217,7 +217,7 @@ fn polygons<const D: u32>(
     Ok(polygons)
 }
 
-fn rebuilt<const D: u32>(alloc: Global, given: Given<'_>) -> Result<Wkt<Decimal<D>>, u32>
+fn rebuilt<const D: u32>(alloc: Global, given: GivenArrays<'_>) -> Result<Wkt<Decimal<D>>, u32>
     requires { D ≤ 36 }
     ensures { IfErr result IsNoText }
 {
@@ -246,7 +246,7 @@ fn same_offsets(one: &Vec<usize>, other: &[usize]) -> bool
 }
 
 /// Whether the arrays are those that were given.
-fn are_same(arrays: &Arrays, given: Given<'_>) -> bool
+fn are_same(arrays: &Arrays, given: GivenArrays<'_>) -> bool
     ensures { result ≡ true → AreSame arrays.now given.entry.numbers.now given.entry.rings.now given.entry.polygons.now }
 {
     if !same_numbers(&arrays.numbers, given.numbers) {
@@ -262,7 +262,7 @@ fn are_same(arrays: &Arrays, given: Given<'_>) -> bool
 fn text_if_same<const D: u32>(
     alloc: Global,
     wkt: &Wkt<Decimal<D>>,
-    given: Given<'_>,
+    given: GivenArrays<'_>,
 ) -> Result<Vec<u8>, u32>
     requires { D ≤ 36 }
     ensures { MatchResult result
@@ -284,7 +284,7 @@ fn text_if_same<const D: u32>(
 }
 
 /// The text of the geometry of those arrays.
-pub(crate) fn text_of<const D: u32>(alloc: Global, given: Given<'_>) -> Result<Vec<u8>, u32>
+pub(crate) fn text_of<const D: u32>(alloc: Global, given: GivenArrays<'_>) -> Result<Vec<u8>, u32>
     requires { D ≤ 36 }
     ensures { MatchResult result
         (λ v. IsTextOf D given.entry.kind given.entry.dimension given.entry.numbers.now given.entry.rings.now given.entry.polygons.now v.items)
@@ -297,15 +297,28 @@ pub(crate) fn text_of<const D: u32>(alloc: Global, given: Given<'_>) -> Result<V
 }
 
 /// The same, with decimals of so many places.
-pub(crate) fn text_at(alloc: Global, given: Given<'_>, places: u32) -> Result<Vec<u8>, u32>
+pub(crate) fn text_at(alloc: Global, given: GivenArrays<'_>, places: u32) -> Result<Vec<u8>, u32>
     ensures { MatchResult result (λ v. IsTextOf places given.entry.kind given.entry.dimension given.entry.numbers.now given.entry.rings.now given.entry.polygons.now v.items) IsNoText }
 {
     match places {
         0 => text_of::<0>(alloc, given),
+        1 => text_of::<1>(alloc, given),
+        2 => text_of::<2>(alloc, given),
+        3 => text_of::<3>(alloc, given),
+        4 => text_of::<4>(alloc, given),
+        5 => text_of::<5>(alloc, given),
         6 => text_of::<6>(alloc, given),
         7 => text_of::<7>(alloc, given),
+        8 => text_of::<8>(alloc, given),
         9 => text_of::<9>(alloc, given),
+        10 => text_of::<10>(alloc, given),
+        11 => text_of::<11>(alloc, given),
+        12 => text_of::<12>(alloc, given),
+        13 => text_of::<13>(alloc, given),
+        14 => text_of::<14>(alloc, given),
         15 => text_of::<15>(alloc, given),
+        16 => text_of::<16>(alloc, given),
+        17 => text_of::<17>(alloc, given),
         18 => text_of::<18>(alloc, given),
         _ => Err(NO_PLACES),
     }

@@ -1,5 +1,5 @@
 use Rattle.std.proofs.Common.{rules, ap, ◌∙◌, inl, inr}
-use Rattle.wkt_c.specs.Answer.{filled}
+use Rattle.wkt_c.specs.Answer.{with_front}
 use Rattle.wkt_c.proofs.exports.wkt_arrays.Goals as goal
 use Rattle.wkt_c.proofs.exports.wkt_arrays.Goals.{then-len-numbers-via-then-len-numbers, then-len-numbers-via-else-len-numbers+then-len-rings, then-len-numbers-via-else-len-numbers+else-len-rings+then-len-polygons}
 
@@ -32,7 +32,7 @@ returns-else-len-polygons-clause-filled c = λ _. record {
     rings = search rules;
     polygons = search rules;
   };
-  numbers_in = c.fill.ensures ∙ ap (λ xs. filled xs c.args.numbers.now) c.deref.ensures.value;
-  rings_in = c.fill-in-Ok.ensures ∙ ap (λ xs. filled xs c.args.rings.now) c.deref-in-Ok.ensures.value;
-  polygons_in = c.fill-in-Ok-2.ensures ∙ ap (λ xs. filled xs c.args.polygons.now) c.deref-in-Ok-2.ensures.value;
+  numbers_in = c.copy_to_front.ensures ∙ ap (λ xs. with_front xs c.args.numbers.now) c.deref.ensures.value;
+  rings_in = c.copy_to_front-in-Ok.ensures ∙ ap (λ xs. with_front xs c.args.rings.now) c.deref-in-Ok.ensures.value;
+  polygons_in = c.copy_to_front-in-Ok-2.ensures ∙ ap (λ xs. with_front xs c.args.polygons.now) c.deref-in-Ok-2.ensures.value;
 }
