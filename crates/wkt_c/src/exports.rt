@@ -1,6 +1,5 @@
 //! The functions that C calls.
 ghost use Rattle.std.specs.Prelude.{◌≡◌, ◌≤◌, ◌≢◌, ◌⊎◌, ℕ, List, Bool};
-ghost use Rattle.wkt_lines.specs.Numbers.{read_line, print_line};
 ghost use Rattle.wkt_lines.specs.Output.{IsOutput};
 ghost use Rattle.wkt_c.specs.Answer.{read_at, print_at, IsCanonical, Compares, RefusesAt, RefusesOneAt, IsNamed, NamesNone, IsNoText, IsHandedOut, HasNoRoom, same_number};
 ghost use Rattle.wkt_c.specs.Arrays.{IsTextOf, IsNotFlat};
@@ -10,10 +9,10 @@ use crate::canonical::{canonical_at, same_at};
 use crate::fill::copy_to_front;
 use crate::flat::flat_at;
 use crate::infer::infer;
-use crate::lines::answers;
+use crate::lines::answers_at;
 use crate::rebuild::{GivenArrays, text_at};
 use crate::sizes::WktSizes;
-use crate::status::{DONE, MEMORY, SMALL};
+use crate::status::{DONE, MEMORY, NO_PLACES, SMALL};
 use std::alloc::Global;
 
 /// Hands out an answer, if there is room for it.
@@ -100,18 +99,24 @@ pub extern "C" fn wkt_infer(alloc: Global, text: &[u8], kind: &mut u32, dimensio
 }
 
 /// Writes the answers to all lines of `input` to the front of `out`, and their length to `needed`: of each line
-/// the text of the geometry that it begins with, or `refused`, and a line feed. Numbers are decimals of eighteen
+/// the text of the geometry that it begins with, or `refused`, and a line feed. Numbers are decimals of so many
 /// places.
 #[unsafe(no_mangle)]
-pub extern "C" fn wkt_lines(alloc: Global, input: &[u8], out: &mut [u8], needed: &mut usize) -> u32
+pub extern "C" fn wkt_lines(
+    alloc: Global,
+    input: &[u8],
+    places: u32,
+    out: &mut [u8],
+    needed: &mut usize,
+) -> u32
     ensures written { result ≡ DONE → (answers : List ℕ)
-        × IsOutput read_line print_line input.now answers × IsHandedOut answers needed.new out.old out.new }
+        × IsOutput (read_at places) (print_at places) input.now answers × IsHandedOut answers needed.new out.old out.new }
     ensures small { result ≡ SMALL → (answers : List ℕ)
-        × IsOutput read_line print_line input.now answers × HasNoRoom answers needed.new out.old }
-    ensures others { (result ≡ DONE) ⊎ (result ≡ SMALL) ⊎ (result ≡ MEMORY) }
+        × IsOutput (read_at places) (print_at places) input.now answers × HasNoRoom answers needed.new out.old }
+    ensures others { (result ≡ DONE) ⊎ (result ≡ SMALL) ⊎ (result ≡ NO_PLACES) ⊎ (result ≡ MEMORY) }
     ensures kept { 1 ≤ result → out.new ≡ out.old }
 {
-    match answers(alloc, input) {
+    match answers_at(alloc, input, places) {
         Ok(text) => hand_out(&text, out, needed),
         Err(status) => status,
     }

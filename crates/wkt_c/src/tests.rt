@@ -45,7 +45,7 @@ fn writes(rt: HostRuntime) -> Result<(), Fail> {
         20
     );
     assert_eq!(rt;
-        wkt_canonical(alloc, b"POINT(1 2)", 5, &mut out, &mut needed, &mut end),
+        wkt_canonical(alloc, b"POINT(1 2)", 19, &mut out, &mut needed, &mut end),
         23
     );
     Ok(())
@@ -92,13 +92,13 @@ fn answers_lines(rt: HostRuntime) -> Result<(), Fail> {
     let mut needed = 0;
     let alloc = rt.alloc();
     assert_eq!(rt;
-        wkt_lines(alloc, b"point ( 1 2.50)\nx\n", &mut out, &mut needed),
+        wkt_lines(alloc, b"point ( 1 2.50)\nx\n", 18, &mut out, &mut needed),
         0
     );
     assert_eq!(rt; needed, 21);
     assert!(rt; &out[..22] == b"POINT(1 2.5)\nrefused\n#".as_slice());
     assert_eq!(rt;
-        wkt_lines(alloc, b"point ( 1 2.50)\nx\n", &mut out[..20], &mut needed),
+        wkt_lines(alloc, b"point ( 1 2.50)\nx\n", 18, &mut out[..20], &mut needed),
         21
     );
     Ok(())
