@@ -1,5 +1,5 @@
 #!/usr/bin/env bash
-# Makes libwkt.a and libwkt.so of crates/wkt_c/out/libwkt_c.a, which `rt lib` in crates/wkt_c leaves once it is proved.
+# Makes libwkt.a, libwkt.so, wkt.pc and wkt.h of crates/wkt_c/out/libwkt_c.a, which `rt lib` in crates/wkt_c leaves once it is proved.
 # build.sh [FOLDER]: into that folder, else into capi/out.
 set -eu
 here=$(cd "$(dirname "$0")" && pwd)
@@ -14,5 +14,14 @@ ar rcs "$out/libwkt.a" "$work"/*.o
 printf '{ global: wkt_*; local: *; };\n' > "$work/names"
 "${CC:-gcc}" -shared -Wl,-soname,libwkt.so -Wl,-z,defs -Wl,-z,text -Wl,--version-script="$work/names" \
     "$work"/*.o -o "$out/libwkt.so"
-cp "$here/wkt.h" "$out/"
-ls -l "$out"
+cp "$here/../include/wkt.h" "$out/"
+cat > "$out/wkt.pc" <<PC
+libdir=$out
+includedir=$out
+
+Name: wkt
+Description: Well-known text, read and written by proved code
+Version: 0.14.0
+Cflags: -I\${includedir}
+Libs: -L\${libdir} -lwkt
+PC

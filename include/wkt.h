@@ -2,7 +2,7 @@
  *
  * Numbers are decimals of `places` digits after the point: whole units of ten to the minus `places`, of which a
  * text's number may have up to 2^127. Nothing is rounded: a text with more digits after the point is refused (13).
- * `places` is 0, 6, 7, 9, 15 or 18; wkt_lines has 18.
+ * `places` is 0 to 18.
  *
  * Every function answers a status and is proved to do what its comment says, in crates/wkt_c/src/exports.rt. After
  * any status but WKT_OK the caller's buffers are as they were. Texts need no 0 at the end, and may hold any bytes.
@@ -30,7 +30,7 @@ enum {
     WKT_NOT_UTF8 = 20,
     WKT_TOO_SMALL = 21, /* a buffer has no room; the sizes that are needed are told, and so is the rest */
     WKT_NO_MEMORY = 22,
-    WKT_NO_PLACES = 23,   /* `places` is none of those above */
+    WKT_NO_PLACES = 23,   /* `places` is more than 18 */
     WKT_COLLECTION = 24,  /* a collection has no flat arrays */
     WKT_TOO_LARGE = 25,   /* a number of more units than an int64_t holds */
     WKT_NOT_ARRAYS = 26   /* the arrays are of no geometry */
@@ -63,8 +63,9 @@ wkt_status wkt_same(const uint8_t *one, size_t one_len, const uint8_t *other, si
 wkt_status wkt_infer(const uint8_t *text, size_t text_len, uint32_t *kind, uint32_t *dimension);
 
 /* All lines at once: for each line of the input, the canonical text of the geometry that it begins with or `refused`,
- * and a line feed. What the program wktline writes. 21, 22. A line of n bytes is answered in at most some 2n + 8. */
-wkt_status wkt_lines(const uint8_t *input, size_t input_len, uint8_t *out, size_t out_len, size_t *needed);
+ * and a line feed. What the program wktline writes, if places is 18. 21, 22, 23. A line of n bytes is answered in at most some 2n + 8. */
+wkt_status wkt_lines(const uint8_t *input, size_t input_len, uint32_t places, uint8_t *out, size_t out_len,
+                     size_t *needed);
 
 /* What wkt_arrays tells beside the arrays. */
 typedef struct {

@@ -15,18 +15,18 @@ int main(int argc, char **argv) {
     const char *what = argc > 1 ? argv[1] : "lines";
     uint32_t places = argc > 2 ? atoi(argv[2]) : 18;
     size_t room = 1 << 16, n = 0, k;
-    uint8_t *in = malloc(room);
+    uint8_t *in = (uint8_t *)malloc(room);
     while ((k = fread(in + n, 1, room - n, stdin)) > 0)
-        if ((n += k) == room) in = realloc(in, room *= 2);
+        if ((n += k) == room) in = (uint8_t *)realloc(in, room *= 2);
     size_t cap = 2 * n + 64, needed = 0, end, lines = 0, total = 0;
-    uint8_t *out = malloc(cap);
+    uint8_t *out = (uint8_t *)malloc(cap);
     double t = now();
     if (!strcmp(what, "lines")) {
-        if (wkt_lines(in, n, out, cap, &needed)) return 1;
+        if (wkt_lines(in, n, places, out, cap, &needed)) return 1;
         total = needed;
     } else {
-        int64_t *numbers = malloc(8 * n + 64);
-        size_t *rings = malloc(8 * n + 64), *polygons = malloc(8 * n + 64);
+        int64_t *numbers = (int64_t *)malloc(8 * n + 64);
+        size_t *rings = (size_t *)malloc(8 * n + 64), *polygons = (size_t *)malloc(8 * n + 64);
         WktSizes z;
         for (uint8_t *p = in, *e = in + n; p < e; lines++) {
             uint8_t *q = memchr(p, '\n', e - p);

@@ -1,4 +1,4 @@
-/* gcc -I.. show.c ../out/libwkt.a -o show */
+/* cc -Icapi/out capi/examples/show.c capi/out/libwkt.a -o show */
 #include "wkt.h"
 #include <inttypes.h>
 #include <stdio.h>
@@ -24,7 +24,7 @@ int main(void) {
     canonical("POINT(1.0000005 2)", 18);
     canonical("POINT(1)", 6);
     canonical("\xff", 6);
-    canonical("POINT(1 2)", 5);
+    canonical("POINT(1 2)", 19);
 
     uint32_t same, kind, dimension;
     wkt_same(TEXT("LINESTRING(1 2,3 4)"), TEXT("linestring (1.0 2, 3 +4)"), 6, &same);
@@ -59,7 +59,7 @@ int main(void) {
                         sizeof out, &needed);
     printf("no split: status %u\n", s);
     const char *lines = "point(1 2.50)\nnonsense\nPOINT EMPTY\n";
-    s = wkt_lines(TEXT(lines), out, sizeof out, &needed);
+    s = wkt_lines(TEXT(lines), 6, out, sizeof out, &needed);
     printf("lines: status %u\n%.*s", s, (int)needed, out);
     free(numbers); free(rings); free(polygons);
     return 0;
