@@ -29,7 +29,7 @@ int main(int argc, char **argv) {
         size_t *rings = (size_t *)malloc(8 * n + 64), *polygons = (size_t *)malloc(8 * n + 64);
         WktSizes z;
         for (uint8_t *p = in, *e = in + n; p < e; lines++) {
-            uint8_t *q = memchr(p, '\n', e - p);
+            uint8_t *q = (uint8_t *)memchr(p, '\n', e - p);
             if (!q) q = e;
             if (!strcmp(what, "canonical")) {
                 if (!wkt_canonical(p, q - p, places, out, cap, &needed, &end)) total += needed;
