@@ -2,3 +2,4 @@ pub mod Growth
 pub mod Steps
 pub mod PartsOf
 pub mod Handing
+pub mod Answering

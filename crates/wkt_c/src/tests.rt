@@ -98,7 +98,13 @@ fn answers_lines(rt: HostRuntime) -> Result<(), Fail> {
     assert_eq!(rt; needed, 21);
     assert!(rt; &out[..22] == b"POINT(1 2.5)\nrefused\n#".as_slice());
     assert_eq!(rt;
-        wkt_lines(alloc, b"point ( 1 2.50)\nx\n", 18, &mut out[..20], &mut needed),
+        wkt_lines(
+            alloc,
+            b"point ( 1 2.50)\nx\n",
+            18,
+            &mut out[..20],
+            &mut needed
+        ),
         21
     );
     Ok(())
