@@ -60,9 +60,10 @@ static wkt_status canonical(const char *text, uint32_t places, size_t room) {
 }
 
 static void canonicals(void) {
+    /* A text for each message, at its number. */
     static const char *const refused[] = {
-        "", NULL, "p\xc3\xb6int(1 2)", "PINT(1 2)", NULL, "POINT", "POINT 1 2)", "POINT(1 2", "POINT(,)", "POINT(1)",
-        "POINT Z(1 2)", "POINT ZM(1 2 3)", "GEOMETRYCOLLECTION(1)", "POINT(1.5 2)"};
+        "",        "1",        "\xc2\xbe",  "X",           "POINT X",      "POINT",       "POINT 1",
+        "POINT(1", "POINT(X)", "POINT(1 X)", "POINT Z(1 2 X)", "POINT M(1 2 X)", "GEOMETRYCOLLECTION(1)", "POINT(1.5 2)"};
     uint32_t places;
     size_t i;
     CHECK(canonical("point ( 10 -20.50 ) more", 6, ROOM) == WKT_OK && holds("POINT(10 -20.5)") && end_at == 19);
@@ -74,13 +75,9 @@ static void canonicals(void) {
     CHECK(canonical("POINT(1 2)", 6, 9) == WKT_TOO_SMALL && untouched() && needed == 10 && end_at == 10);
     CHECK(canonical("POINT(1 2)", 6, 10) == WKT_OK && holds("POINT(1 2)"));
     CHECK(canonical("POINT(1 2)\xff", 6, ROOM) == WKT_NOT_UTF8 && untouched());
-    for (i = 0; i < sizeof refused / sizeof *refused; i++)
-        if (refused[i]) {
-            wkt_status status = canonical(refused[i], 0, ROOM);
-            CHECK(status >= 1 && status <= WKT_LAST_REFUSAL && untouched());
-        }
-    CHECK(canonical("POINT(1)", 0, ROOM) == 7 || canonical("POINT(1)", 0, ROOM) == 9);
-    CHECK(wkt_canonical(NULL, 0, 6, NULL, 0, &needed, &end_at) >= 1);
+    for (i = 1; i < sizeof refused / sizeof *refused; i++)
+        CHECK(canonical(refused[i], 0, ROOM) == i && untouched());
+    CHECK(wkt_canonical(NULL, 0, 6, NULL, 0, &needed, &end_at) == 1);
     CHECK(wkt_canonical(BYTES("POINT(1 2)"), 6, NULL, 0, &needed, &end_at) == WKT_TOO_SMALL && needed == 10);
 }
 
