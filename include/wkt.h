@@ -1,7 +1,7 @@
 /* Well-known text, read and written by proved code: one text for one geometry, exact decimals, exact refusals.
  *
  * Numbers are decimals of `places` digits after the point: whole units of ten to the minus `places`, of which a
- * text's number may have up to 2^127. Nothing is rounded: a text with more digits after the point is refused (13).
+ * text's number may have up to 2^127. Nothing is rounded: a text with more digits after the point is refused.
  * `places` is 0 to 18.
  *
  * Every function answers a status and is proved to do what its comment says, in crates/wkt_c/src/exports.rt. After

@@ -41,7 +41,7 @@ class Calls(unittest.TestCase):
     def test_errors(self):
         for text, places, status in [
             ("PINT(1 2)", 6, 3),
-            ("POINT(1.5 2)", 0, 13),
+            ("POINT(2 1.5)", 0, 13),
             (b"\xff", 6, 20),
             ("POINT(1 2)", 19, 23),
             ("POINT(1 2)", -1, 23),

@@ -7,7 +7,7 @@ fn canonical_texts() {
         canonical("point ( 10 -20.50 ) x", 6),
         Ok(("POINT(10 -20.5)".to_string(), 19))
     );
-    assert_eq!(canonical("POINT(1.5 2)", 0), Err(Error { status: 13 }));
+    assert_eq!(canonical("POINT(2 1.5)", 0), Err(Error { status: 13 }));
     assert_eq!(canonical("POINT(1 2)", 19), Err(Error { status: 23 }));
     assert_eq!(
         canonical("PINT(1 2)", 6).unwrap_err().to_string(),
