@@ -75,10 +75,10 @@ class Calls(unittest.TestCase):
         self.assertEqual(plain(arrays), ("MultiPolygon", "XY", numbers, [0, 4, 8], [0, 2, 2]))
         self.assertEqual(wkt.from_arrays(arrays, places=1), text)
         self.assertEqual(wkt.from_arrays([arrays, None], places=1), [text, None])
-        self.assertEqual(wkt.from_arrays(("Point", "XYM", [1, 2, 3], [0, 1], [0, 1]), 0), "POINT M(1 2 3)")
-        for wrong in [("Point", "XY", [1, 2, 3], [0, 1], [0, 1]), ("Point", "XY", [], [0, 9], [0, 1])]:
+        self.assertEqual(wkt.from_arrays(wkt.Arrays("Point", "XYM", [1, 2, 3], [0, 1], [0, 1]), 0), "POINT M(1 2 3)")
+        for numbers, rings in [([1, 2, 3], [0, 1]), ([], [0, 9])]:
             with self.assertRaises(wkt.WktError) as raised:
-                wkt.from_arrays(wrong)
+                wkt.from_arrays(wkt.Arrays("Point", "XY", numbers, rings, [0, 1]))
             self.assertEqual(raised.exception.status, 26)
         for text, status in [("GEOMETRYCOLLECTION EMPTY", 24), ("POINT(1 99999999999999)", 25)]:
             with self.assertRaises(wkt.WktError) as raised:
