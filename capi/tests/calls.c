@@ -96,6 +96,7 @@ static void headers(void) {
     CHECK(wkt_infer(BYTES("multipolygon zm empty"), &kind, &dimension) == WKT_OK && kind == 5 && dimension == 3);
     CHECK(wkt_infer(BYTES("Point M(1"), &kind, &dimension) == WKT_OK && kind == 0 && dimension == 2);
     CHECK(wkt_infer(BYTES("PINT("), &kind, &dimension) == 1);
+    CHECK(wkt_infer(BYTES("POINTEMPTY"), &kind, &dimension) == 2);
     CHECK(wkt_infer(BYTES("POINT Z 1"), &kind, &dimension) == 3);
     CHECK(wkt_infer(BYTES("\xff"), &kind, &dimension) == WKT_NOT_UTF8);
 }
@@ -151,6 +152,20 @@ static void arrays(void) {
     CHECK(wkt_arrays(BYTES("\xff"), 6, &told, NULL, 0, NULL, 0, NULL, 0) == WKT_NOT_UTF8);
 }
 
+/* Offsets that go to and fro over one long ring are refused before anything is made of them. */
+static void to_and_fro(void) {
+    enum { MANY = 100000 };
+    int64_t *numbers = (int64_t *)calloc(2 * MANY, sizeof *numbers);
+    size_t *rings = (size_t *)calloc(MANY, sizeof *rings), polygons[2] = {0, MANY - 1}, i;
+    CHECK(numbers && rings);
+    for (i = 1; i < MANY; i += 2) rings[i] = MANY;
+    growths = 0;
+    CHECK(wkt_from_arrays(4, 0, numbers, 2 * MANY, rings, MANY, polygons, 2, 6, out, ROOM, &needed) == WKT_NOT_ARRAYS);
+    CHECK(growths == 0);
+    free(numbers);
+    free(rings);
+}
+
 /* One call of each function over a text that takes memory. */
 static wkt_status call(int which) {
     const char *text = "MULTIPOLYGON(((0 0,4 0,0 4,0 0),(1 1,2 1,1 2,1 1)),EMPTY)";
@@ -195,6 +210,7 @@ int main(void) {
     headers();
     many_lines();
     arrays();
+    to_and_fro();
     refusals();
     printf("%d checks hold\n", checks);
     return 0;

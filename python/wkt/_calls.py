@@ -102,7 +102,7 @@ def _column(values: Any) -> Optional[Sequence[Any]]:
     if isinstance(values, (str, bytes, bytearray, memoryview)):
         return None
     if isinstance(values, (list, tuple)):
-        return None if isinstance(values, Arrays) else values
+        return values
     for method in ("to_pylist", "tolist"):
         if hasattr(values, method):
             return getattr(values, method)()
@@ -255,4 +255,5 @@ def from_arrays(arrays: Any, places: int = 6) -> Any:
 
         return _answer(call, 16 * len(numbers) + 32).decode()
 
-    return _of_each(one, arrays)
+    # A tuple is one geometry: Arrays is one, and so is what is given in its place.
+    return one(arrays) if isinstance(arrays, tuple) else _of_each(one, arrays)

@@ -93,4 +93,4 @@ text-of D kind dimension a t numbers rings polygons text is_value are same back 
 }
 
 pub unwritten : (status : ℕ) (P : Type 0) → ((status ≡ 22) ⊎ ((status ≡ 26) × (P → ⊥))) → IsNoText status
-unwritten status P h = elim h [ inl e ↦ omega (arith, e) | inr k ↦ omega (arith, k.0) ]
+unwritten status P h = elim h [ inl e ↦ inl e | inr k ↦ inr k.0 ]

@@ -77,12 +77,16 @@ module _ {N : Type 0} (read : List ℕ → Option N) (num : N → List ℕ) wher
     pub texts : IsTrue same ↔ (shape_text num (shape_of first) ≡ shape_text num (shape_of second))
     pub values : IsTrue same ↔ (canon (shape_of first) ≡ canon (shape_of second))
 
+-- The status is 23, and there are more than 18 places.
+abbrev pub HasNoPlaces : ℕ → ℕ → Type 0
+HasNoPlaces places status = (status ≡ 23) × (18 < places)
+
 -- A status is 23 where there are no numbers of so many places, and otherwise says something of the text.
 abbrev pub RefusesAt : ℕ → List ℕ → ℕ → Type 0
-RefusesAt places text status = (status ≡ 23) ⊎ Refuses (read_at places) text status
+RefusesAt places text status = HasNoPlaces places status ⊎ Refuses (read_at places) text status
 
 abbrev pub RefusesOneAt : ℕ → List ℕ → List ℕ → ℕ → Type 0
-RefusesOneAt places one other status = (status ≡ 23) ⊎ RefusesOne (read_at places) one other status
+RefusesOneAt places one other status = HasNoPlaces places status ⊎ RefusesOne (read_at places) one other status
 
 -- The answer to a comparison as a number.
 abbrev pub same_number : Bool → ℕ
@@ -131,6 +135,10 @@ pub record IsWritten {N : Type 0} (is_value : N → Type 0) (num : N → List �
 abbrev pub IsUnwritten : {N : Type 0} → Shape N → ℕ → Type 0
 IsUnwritten shape status = (status ≡ 22) ⊎ ((status ≡ 26) × (fault shape ≡ None → ⊥))
 
--- Why arrays have no text: 22, 23, 24, 25 or 26.
+-- Memory ran out, or the arrays are of no geometry. Only private contracts cite this.
 abbrev pub IsNoText : ℕ → Type 0
-IsNoText status = 22 ≤ status
+IsNoText status = (status ≡ 22) ⊎ (status ≡ 26)
+
+-- Why arrays have no text: 22, 23 or 26.
+abbrev pub IsNoTextAt : ℕ → ℕ → Type 0
+IsNoTextAt places status = HasNoPlaces places status ⊎ IsNoText status

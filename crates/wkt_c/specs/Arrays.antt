@@ -10,7 +10,7 @@ use Rattle.wkt_types.specs.Values.{point_numbers}
 use Rattle.wkt_types.specs.declared.coord.Coord.{Coord}
 use Rattle.wkt_read.specs.Front.{Front}
 use Rattle.wkt_read.specs.Kinds.{kind_of, dim_of}
-use Rattle.wkt_c.specs.Answer.{read_at, print_at, kind_number, dimension_number, Refuses}
+use Rattle.wkt_c.specs.Answer.{read_at, print_at, kind_number, dimension_number, HasNoPlaces, Refuses}
 
 -- A value as polygons of rings of coordinates: a point is a ring of one coordinate or none, a line string a ring, and a multipoint a ring for each member; each but a multipolygon is one polygon. Collections are none.
 abbrev pub parts_of : {N : Type 0} → Value N → Option (List (List (List (List N))))
@@ -73,4 +73,4 @@ member_numbers p = option_to_list (point_numbers p)
 
 -- Why a text has no arrays: there are no numbers of so many places, its front is a collection, a number has more units than 64 bits hold, or the text is refused.
 abbrev pub IsNotFlat : ℕ → List ℕ → ℕ → Type 0
-IsNotFlat places text status = (status ≡ 23) ⊎ (IsNoArrays places text status ⊎ Refuses (read_at places) text status)
+IsNotFlat places text status = HasNoPlaces places status ⊎ (IsNoArrays places text status ⊎ Refuses (read_at places) text status)

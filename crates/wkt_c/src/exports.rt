@@ -1,7 +1,7 @@
 //! The functions that C calls.
 ghost use Rattle.std.specs.Prelude.{◌≡◌, ◌≤◌, ◌≢◌, ◌⊎◌, ℕ, List, Bool};
 ghost use Rattle.wkt_lines.specs.Output.{IsOutput};
-ghost use Rattle.wkt_c.specs.Answer.{read_at, print_at, IsCanonical, Compares, RefusesAt, RefusesOneAt, IsNamed, NamesNone, IsNoText, IsHandedOut, HasNoRoom, same_number};
+ghost use Rattle.wkt_c.specs.Answer.{read_at, print_at, IsCanonical, Compares, RefusesAt, RefusesOneAt, IsNamed, NamesNone, HasNoPlaces, IsNoTextAt, IsHandedOut, HasNoRoom, same_number};
 ghost use Rattle.wkt_c.specs.Arrays.{IsTextOf, IsNotFlat};
 ghost use Rattle.wkt_c.specs.Sizes.{AreHandedOut, HaveNoRoom};
 
@@ -12,7 +12,7 @@ use crate::infer::infer;
 use crate::lines::answers_at;
 use crate::rebuild::{GivenArrays, text_at};
 use crate::sizes::WktSizes;
-use crate::status::{DONE, MEMORY, NO_PLACES, SMALL};
+use crate::status::{DONE, MEMORY, SMALL};
 use std::alloc::Global;
 
 /// Hands out an answer, if there is room for it.
@@ -113,7 +113,7 @@ pub extern "C" fn wkt_lines(
         × IsOutput (read_at places) (print_at places) input.now answers × IsHandedOut answers needed.new out.old out.new }
     ensures small { result ≡ SMALL → (answers : List ℕ)
         × IsOutput (read_at places) (print_at places) input.now answers × HasNoRoom answers needed.new out.old }
-    ensures others { (result ≡ DONE) ⊎ (result ≡ SMALL) ⊎ (result ≡ NO_PLACES) ⊎ (result ≡ MEMORY) }
+    ensures others { 1 ≤ result → result ≢ SMALL → HasNoPlaces places result ⊎ (result ≡ MEMORY) }
     ensures kept { 1 ≤ result → out.new ≡ out.old }
 {
     match answers_at(alloc, input, places) {
@@ -183,7 +183,7 @@ pub extern "C" fn wkt_from_arrays(
         × IsTextOf places kind dimension numbers.now rings.now polygons.now answer × IsHandedOut answer needed.new out.old out.new }
     ensures small { result ≡ SMALL → (answer : List ℕ)
         × IsTextOf places kind dimension numbers.now rings.now polygons.now answer × HasNoRoom answer needed.new out.old }
-    ensures others { 1 ≤ result → SMALL ≤ result }
+    ensures others { 1 ≤ result → result ≢ SMALL → IsNoTextAt places result }
     ensures kept { 1 ≤ result → out.new ≡ out.old }
 {
     let given = GivenArrays {

@@ -1,7 +1,7 @@
 //! Many lines answered at once.
 ghost use Rattle.std.specs.Prelude.{◌≡◌, ◌⊎◌, MatchResult};
 ghost use Rattle.wkt_lines.specs.Output.{IsOutput};
-ghost use Rattle.wkt_c.specs.Answer.{read_at, print_at};
+ghost use Rattle.wkt_c.specs.Answer.{read_at, print_at, HasNoPlaces};
 
 use crate::gathered::Gathered;
 use crate::status::{MEMORY, NO_PLACES};
@@ -26,7 +26,7 @@ fn answers<T: WktNum>(alloc: Global, input: &[u8]) -> Result<Vec<u8>, u32>
 /// The same, with decimals of so many places.
 pub(crate) fn answers_at(alloc: Global, input: &[u8], places: u32) -> Result<Vec<u8>, u32>
     ensures { MatchResult result (λ v. IsOutput (read_at places) (print_at places) input.now v.items)
-        (λ s. (s ≡ NO_PLACES) ⊎ (s ≡ MEMORY)) }
+        (λ s. HasNoPlaces places s ⊎ (s ≡ MEMORY)) }
 {
     match places {
         0 => answers::<Decimal<0>>(alloc, input),

@@ -4,7 +4,7 @@ ghost use Rattle.std.specs.Prelude.{◌≡◌, ◌≤◌, true, IfErr, MatchResu
 ghost use Rattle.wkt_access.specs.Values.{size};
 ghost use Rattle.wkt_c.specs.Arrays.{IsTextOf};
 ghost use Rattle.wkt_c.specs.Growing.{AreSame};
-ghost use Rattle.wkt_c.specs.Answer.{IsNoText};
+ghost use Rattle.wkt_c.specs.Answer.{IsNoText, IsNoTextAt};
 
 use crate::arrays::Arrays;
 use crate::canonical::write_any;
@@ -271,7 +271,7 @@ fn text_if_same<const D: u32>(
 {
     let arrays = match Arrays::of(alloc, wkt) {
         Ok(arrays) => arrays,
-        Err(status) => return Err(status),
+        Err(status) => return Err(if status == MEMORY { MEMORY } else { NOT_ARRAYS }),
     };
     let kind = number_of_kind(kind_of(wkt));
     let dimension = number_of_dimension(wkt.dimension());
@@ -283,6 +283,18 @@ fn text_if_same<const D: u32>(
     Err(NOT_ARRAYS)
 }
 
+/// Whether no offset is less than the one before it.
+fn ascend(offsets: &[usize]) -> bool {
+    let mut last = 0;
+    for offset in offsets {
+        if *offset < last {
+            return false;
+        }
+        last = *offset;
+    }
+    true
+}
+
 /// The text of the geometry of those arrays.
 pub(crate) fn text_of<const D: u32>(alloc: Global, given: GivenArrays<'_>) -> Result<Vec<u8>, u32>
     requires { D ≤ 36 }
@@ -290,6 +302,10 @@ pub(crate) fn text_of<const D: u32>(alloc: Global, given: GivenArrays<'_>) -> Re
         (λ v. IsTextOf D given.entry.kind given.entry.dimension given.entry.numbers.now given.entry.rings.now given.entry.polygons.now v.items)
         IsNoText }
 {
+    // Else offsets that go back could have one ring made again and again before it is refused.
+    if !ascend(given.rings) || !ascend(given.polygons) {
+        return Err(NOT_ARRAYS);
+    }
     match rebuilt::<D>(alloc, given) {
         Ok(wkt) => text_if_same(alloc, &wkt, given),
         Err(status) => Err(status),
@@ -298,7 +314,8 @@ pub(crate) fn text_of<const D: u32>(alloc: Global, given: GivenArrays<'_>) -> Re
 
 /// The same, with decimals of so many places.
 pub(crate) fn text_at(alloc: Global, given: GivenArrays<'_>, places: u32) -> Result<Vec<u8>, u32>
-    ensures { MatchResult result (λ v. IsTextOf places given.entry.kind given.entry.dimension given.entry.numbers.now given.entry.rings.now given.entry.polygons.now v.items) IsNoText }
+    ensures { MatchResult result (λ v. IsTextOf places given.entry.kind given.entry.dimension given.entry.numbers.now given.entry.rings.now given.entry.polygons.now v.items)
+        (IsNoTextAt places) }
 {
     match places {
         0 => text_of::<0>(alloc, given),
