@@ -1,0 +1,27 @@
+#!/usr/bin/env bash
+# Makes libwkt.a, libwkt.so, wkt.pc and wkt.h of crates/wkt_c/out/libwkt_c.a, which `rt lib` in crates/wkt_c leaves once it is proved.
+# build.sh [FOLDER]: into that folder, else into capi/out.
+set -eu
+here=$(cd "$(dirname "$0")" && pwd)
+out=$(mkdir -p "${1:-$here/out}" && cd "${1:-$here/out}" && pwd)
+proved=${WKT_C_LIB:-$here/../crates/wkt_c/out/libwkt_c.a}
+work=$(mktemp -d)
+trap 'rm -rf "$work"' EXIT
+(cd "$work" && ar x "$(realpath "$proved")")
+"${CC:-gcc}" -O2 -fPIC -fvisibility=hidden -c "$here/heap.c" -o "$work/heap.o"
+rm -f "$out/libwkt.a"
+ar rcs "$out/libwkt.a" "$work"/*.o
+printf '{ global: wkt_*; local: *; };\n' > "$work/names"
+"${CC:-gcc}" -shared -Wl,-soname,libwkt.so -Wl,-z,defs -Wl,-z,text -Wl,--version-script="$work/names" \
+    "$work"/*.o -o "$out/libwkt.so"
+cp "$here/../include/wkt.h" "$out/"
+cat > "$out/wkt.pc" <<PC
+libdir=$out
+includedir=$out
+
+Name: wkt
+Description: Well-known text, read and written by proved code
+Version: 0.14.0
+Cflags: -I\${includedir}
+Libs: -L\${libdir} -lwkt
+PC

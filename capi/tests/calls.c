@@ -1,0 +1,217 @@
+/* Every function and every status, with values worked by hand. It also refuses each growth of memory in turn: link it
+ * with -Wl,--wrap=malloc -Wl,--wrap=realloc. It is C and C++. */
+#include "wkt.h"
+#include <stdio.h>
+#include <stdlib.h>
+#include <string.h>
+
+#ifdef __cplusplus
+extern "C" {
+#endif
+void *__real_malloc(size_t size);
+void *__real_realloc(void *block, size_t size);
+void *__wrap_malloc(size_t size);
+void *__wrap_realloc(void *block, size_t size);
+#ifdef __cplusplus
+}
+#endif
+
+static long growths, refuse_at; /* refuse_at 0 refuses none */
+
+void *__wrap_malloc(size_t size) { return ++growths == refuse_at ? NULL : __real_malloc(size); }
+void *__wrap_realloc(void *block, size_t size) { return ++growths == refuse_at ? NULL : __real_realloc(block, size); }
+
+#define BYTES(text) (const uint8_t *)(text), strlen(text)
+#define ROOM 256
+static int checks;
+
+static void check(int holds, const char *what, int line) {
+    checks++;
+    if (!holds) {
+        printf("line %d: %s\n", line, what);
+        exit(1);
+    }
+}
+#define CHECK(holds) check((holds) ? 1 : 0, #holds, __LINE__)
+
+static uint8_t out[ROOM];
+static size_t needed, end_at;
+
+/* Whether the buffer begins with the text, and is as it was after it. */
+static int holds(const char *text) {
+    size_t i = strlen(text);
+    if (needed != i || memcmp(out, text, i)) return 0;
+    for (; i < ROOM; i++)
+        if (out[i] != '#') return 0;
+    return 1;
+}
+
+static int untouched(void) {
+    size_t i;
+    for (i = 0; i < ROOM; i++)
+        if (out[i] != '#') return 0;
+    return 1;
+}
+
+static wkt_status canonical(const char *text, uint32_t places, size_t room) {
+    memset(out, '#', ROOM);
+    needed = end_at = 99;
+    return wkt_canonical(BYTES(text), places, out, room, &needed, &end_at);
+}
+
+static void canonicals(void) {
+    /* A text for each message, at its number. */
+    static const char *const refused[] = {
+        "",        "1",        "\xc2\xbe",  "X",           "POINT X",      "POINT",       "POINT 1",
+        "POINT(1", "POINT(X)", "POINT(1 X)", "POINT Z(1 2 X)", "POINT M(1 2 X)", "GEOMETRYCOLLECTION(1)", "POINT(2 1.5)"};
+    uint32_t places;
+    size_t i;
+    CHECK(canonical("point ( 10 -20.50 ) more", 6, ROOM) == WKT_OK && holds("POINT(10 -20.5)") && end_at == 19);
+    CHECK(canonical("POINT(2 1.0000005)", 6, ROOM) == WKT_BAD_NUMBER && untouched());
+    CHECK(canonical("POINT(1.0000005 2)", 7, ROOM) == WKT_OK && holds("POINT(1.0000005 2)"));
+    for (places = 0; places <= 18; places++)
+        CHECK(canonical("POINT(1 2)", places, ROOM) == WKT_OK && holds("POINT(1 2)") && end_at == 10);
+    CHECK(canonical("POINT(1 2)", 19, ROOM) == WKT_NO_PLACES && untouched());
+    CHECK(canonical("POINT(1 2)", 6, 9) == WKT_TOO_SMALL && untouched() && needed == 10 && end_at == 10);
+    CHECK(canonical("POINT(1 2)", 6, 10) == WKT_OK && holds("POINT(1 2)"));
+    CHECK(canonical("POINT(1 2)\xff", 6, ROOM) == WKT_NOT_UTF8 && untouched());
+    for (i = 1; i < sizeof refused / sizeof *refused; i++)
+        CHECK(canonical(refused[i], 0, ROOM) == i && untouched());
+    CHECK(wkt_canonical(NULL, 0, 6, NULL, 0, &needed, &end_at) == 1);
+    CHECK(wkt_canonical(BYTES("POINT(1 2)"), 6, NULL, 0, &needed, &end_at) == WKT_TOO_SMALL && needed == 10);
+}
+
+static void comparisons(void) {
+    uint32_t same = 9;
+    CHECK(wkt_same(BYTES("POINT(1 2)"), BYTES("point (1.0 +2) x"), 6, &same) == WKT_OK && same == 1);
+    CHECK(wkt_same(BYTES("POINT(1 2)"), BYTES("POINT(2 1)"), 6, &same) == WKT_OK && same == 0);
+    same = 9;
+    CHECK(wkt_same(BYTES("POINT(1 2)"), BYTES("PINT(2 1)"), 6, &same) == 3 && same == 9);
+    CHECK(wkt_same(BYTES("\xff"), BYTES("POINT(2 1)"), 6, &same) == WKT_NOT_UTF8);
+    CHECK(wkt_same(BYTES("POINT(1 2)"), BYTES("POINT(1 2)"), 19, &same) == WKT_NO_PLACES);
+}
+
+static void headers(void) {
+    uint32_t kind = 9, dimension = 9;
+    CHECK(wkt_infer(BYTES("multipolygon zm empty"), &kind, &dimension) == WKT_OK && kind == 5 && dimension == 3);
+    CHECK(wkt_infer(BYTES("Point M(1"), &kind, &dimension) == WKT_OK && kind == 0 && dimension == 2);
+    CHECK(wkt_infer(BYTES("PINT("), &kind, &dimension) == 1);
+    CHECK(wkt_infer(BYTES("POINTEMPTY"), &kind, &dimension) == 2);
+    CHECK(wkt_infer(BYTES("POINT Z 1"), &kind, &dimension) == 3);
+    CHECK(wkt_infer(BYTES("\xff"), &kind, &dimension) == WKT_NOT_UTF8);
+}
+
+static void many_lines(void) {
+    const char *input = "point(1 2.50)\nnonsense\n\nPOINT EMPTY";
+    const char *answers = "POINT(1 2.5)\nrefused\nrefused\nPOINT EMPTY\n";
+    memset(out, '#', ROOM);
+    CHECK(wkt_lines(BYTES(input), 18, out, ROOM, &needed) == WKT_OK && holds(answers));
+    memset(out, '#', ROOM);
+    CHECK(wkt_lines(BYTES(input), 18, out, strlen(answers) - 1, &needed) == WKT_TOO_SMALL && untouched());
+    CHECK(needed == strlen(answers));
+    CHECK(wkt_lines(BYTES(input), 19, out, ROOM, &needed) == WKT_NO_PLACES && untouched());
+    CHECK(wkt_lines(NULL, 0, 18, NULL, 0, &needed) == WKT_OK && needed == 0);
+    CHECK(wkt_lines(BYTES("POINT(1 2.5)"), 0, out, ROOM, &needed) == WKT_OK && holds("refused\n"));
+}
+
+static void arrays(void) {
+    const char *text = "multipolygon(((0 0, 4 0, 0 4, 0 0),(1 1,2 1,1 2,1 1)),empty,((9 9,9.5 9,9 9.5,9 9))) x";
+    const char *canon = "MULTIPOLYGON(((0 0,4 0,0 4,0 0),(1 1,2 1,1 2,1 1)),EMPTY,((9 9,9.5 9,9 9.5,9 9)))";
+    static const int64_t want[24] = {0,  0, 40, 0, 0,  40, 0,  0,  10, 10, 20, 10,
+                                     10, 20, 10, 10, 90, 90, 95, 90, 90, 95, 90, 90};
+    static const size_t want_rings[4] = {0, 4, 8, 12}, want_polygons[4] = {0, 2, 2, 3};
+    int64_t numbers[24], few[2] = {7, 7}, point[2] = {15, -20};
+    size_t rings[4], polygons[4], one[2] = {0, 1};
+    WktSizes told;
+    CHECK(wkt_arrays(BYTES(text), 1, &told, NULL, 0, NULL, 0, NULL, 0) == WKT_TOO_SMALL);
+    CHECK(told.kind == 5 && told.dimension == 0 && told.end == strlen(text) - 2);
+    CHECK(told.numbers == 24 && told.rings == 4 && told.polygons == 4);
+    CHECK(wkt_arrays(BYTES(text), 1, &told, few, 2, rings, 4, polygons, 4) == WKT_TOO_SMALL && few[0] == 7);
+    CHECK(wkt_arrays(BYTES(text), 1, &told, numbers, 24, rings, 4, polygons, 4) == WKT_OK);
+    CHECK(!memcmp(numbers, want, sizeof want) && !memcmp(rings, want_rings, sizeof want_rings));
+    CHECK(!memcmp(polygons, want_polygons, sizeof want_polygons));
+    memset(out, '#', ROOM);
+    CHECK(wkt_from_arrays(5, 0, numbers, 24, rings, 4, polygons, 4, 1, out, ROOM, &needed) == WKT_OK && holds(canon));
+    CHECK(wkt_from_arrays(5, 0, numbers, 24, rings, 4, polygons, 4, 1, out, 9, &needed) == WKT_TOO_SMALL);
+    CHECK(needed == strlen(canon));
+    CHECK(wkt_from_arrays(5, 0, numbers, 24, rings, 4, polygons, 4, 19, out, ROOM, &needed) == WKT_NO_PLACES);
+    CHECK(wkt_from_arrays(2, 0, numbers, 24, rings, 4, polygons, 4, 1, out, ROOM, &needed) == WKT_NOT_ARRAYS);
+    CHECK(wkt_from_arrays(5, 1, numbers, 24, rings, 4, polygons, 4, 1, out, ROOM, &needed) == WKT_NOT_ARRAYS);
+    CHECK(wkt_from_arrays(6, 0, numbers, 24, rings, 4, polygons, 4, 1, out, ROOM, &needed) == WKT_NOT_ARRAYS);
+    CHECK(wkt_from_arrays(5, 0, numbers, 23, rings, 4, polygons, 4, 1, out, ROOM, &needed) == WKT_NOT_ARRAYS);
+    rings[1] = 99;
+    CHECK(wkt_from_arrays(5, 0, numbers, 24, rings, 4, polygons, 4, 1, out, ROOM, &needed) == WKT_NOT_ARRAYS);
+    CHECK(wkt_from_arrays(0, 0, NULL, 0, NULL, 0, NULL, 0, 1, out, ROOM, &needed) == WKT_NOT_ARRAYS);
+    memset(out, '#', ROOM);
+    CHECK(wkt_from_arrays(0, 0, point, 2, one, 2, one, 2, 1, out, ROOM, &needed) == WKT_OK && holds("POINT(1.5 -2)"));
+    CHECK(wkt_arrays(BYTES("GEOMETRYCOLLECTION EMPTY"), 6, &told, NULL, 0, NULL, 0, NULL, 0) == WKT_COLLECTION);
+    CHECK(wkt_arrays(BYTES("POINT(1 9223372036854.775808)"), 6, &told, NULL, 0, NULL, 0, NULL, 0) == WKT_TOO_LARGE);
+    CHECK(wkt_arrays(BYTES("POINT(1 9223372036854.775807)"), 6, &told, NULL, 0, NULL, 0, NULL, 0) == WKT_TOO_SMALL);
+    CHECK(wkt_arrays(BYTES("POINT(1 2)"), 19, &told, NULL, 0, NULL, 0, NULL, 0) == WKT_NO_PLACES);
+    CHECK(wkt_arrays(BYTES("POINT(1 2"), 6, &told, NULL, 0, NULL, 0, NULL, 0) == 7);
+    CHECK(wkt_arrays(BYTES("\xff"), 6, &told, NULL, 0, NULL, 0, NULL, 0) == WKT_NOT_UTF8);
+}
+
+/* Offsets that go to and fro over one long ring are refused before anything is made of them. */
+static void to_and_fro(void) {
+    enum { MANY = 100000 };
+    int64_t *numbers = (int64_t *)calloc(2 * MANY, sizeof *numbers);
+    size_t *rings = (size_t *)calloc(MANY, sizeof *rings), polygons[2] = {0, MANY - 1}, i;
+    CHECK(numbers && rings);
+    for (i = 1; i < MANY; i += 2) rings[i] = MANY;
+    growths = 0;
+    CHECK(wkt_from_arrays(4, 0, numbers, 2 * MANY, rings, MANY, polygons, 2, 6, out, ROOM, &needed) == WKT_NOT_ARRAYS);
+    CHECK(growths == 0);
+    free(numbers);
+    free(rings);
+}
+
+/* One call of each function over a text that takes memory. */
+static wkt_status call(int which) {
+    const char *text = "MULTIPOLYGON(((0 0,4 0,0 4,0 0),(1 1,2 1,1 2,1 1)),EMPTY)";
+    static const int64_t numbers[6] = {1, 2, 3, 4, 5, 6};
+    static const size_t rings[2] = {0, 3}, polygons[2] = {0, 1};
+    int64_t got[16];
+    size_t got_rings[3], got_polygons[3];
+    uint32_t same;
+    WktSizes told;
+    switch (which) {
+    case 0: return wkt_canonical(BYTES(text), 6, out, ROOM, &needed, &end_at);
+    case 1: return wkt_same(BYTES(text), BYTES(text), 6, &same);
+    case 2: return wkt_lines(BYTES(text), 6, out, ROOM, &needed);
+    case 3: return wkt_arrays(BYTES(text), 6, &told, got, 16, got_rings, 3, got_polygons, 3);
+    default: return wkt_from_arrays(1, 0, numbers, 6, rings, 2, polygons, 2, 6, out, ROOM, &needed);
+    }
+}
+
+static void refusals(void) {
+    int which;
+    for (which = 0; which < 5; which++) {
+        long all, n;
+        growths = 0;
+        CHECK(call(which) == WKT_OK);
+        all = growths;
+        CHECK(all > 0);
+        for (n = 1; n <= all; n++) {
+            wkt_status status;
+            memset(out, '#', ROOM);
+            growths = 0;
+            refuse_at = n;
+            status = call(which);
+            refuse_at = 0;
+            CHECK(status == WKT_NO_MEMORY && untouched());
+        }
+    }
+}
+
+int main(void) {
+    canonicals();
+    comparisons();
+    headers();
+    many_lines();
+    arrays();
+    to_and_fro();
+    refusals();
+    printf("%d checks hold\n", checks);
+    return 0;
+}

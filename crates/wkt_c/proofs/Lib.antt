@@ -1,0 +1,5 @@
+pub mod Growth
+pub mod Steps
+pub mod PartsOf
+pub mod Handing
+pub mod Answering

@@ -1,0 +1,12 @@
+use Rattle.std.proofs.Common.{refl, sym, ap, ◌∙◌, ◌++◌, arith, rules}
+use Rattle.std.proofs.lemmas.List.{length-map}
+use Rattle.std.proofs.lemmas.List.Folds.{flat_map-map}
+use Rattle.wkt_types.specs.Coords.{numbers_of}
+use Rattle.wkt_c.proofs.Steps.{ring-added}
+use Rattle.wkt_c.proofs.arrays.Arrays.ring.Goals as goal
+
+pub returns-clause-ok : goal.returns-clause-ok
+returns-clause-ok g c =
+    ring-added _ _ _
+    (c.in_ok-push_coords.ensures.ok ∙ ap (λ ns. c.args.self.now.numbers.items ++ ns) (sym (flat_map-map (λ xs. xs) numbers_of c.args.coords.now)))
+    c.in_ok-push_offset.ensures.ok (rw length-map (search rules)) (search rules) refl

@@ -1,0 +1,76 @@
+-- A value as flat arrays.
+use Rattle.std.specs.Prelude.{◌≡◌, ◌+◌, ◌⊎◌, ℕ, ℤ, List, [], ◌∷◌, map, flat_map, length, Option, Some, None, option_to_list, IsUtf8, true}
+use Rattle.wkt_num.specs.Decimal.{IsUnits}
+use Rattle.wkt_access.specs.Values.{Value}
+use Rattle.wkt_access.specs.WellFormed.{IsWellFormed}
+use Rattle.wkt_access.specs.Shapes.{shape_of, canon}
+use Rattle.wkt_access.specs.Texts.{shape_text}
+use Rattle.wkt_types.specs.Held.{HeldPoint}
+use Rattle.wkt_types.specs.Values.{point_numbers}
+use Rattle.wkt_types.specs.declared.coord.Coord.{Coord}
+use Rattle.wkt_read.specs.Front.{Front}
+use Rattle.wkt_read.specs.Kinds.{kind_of, dim_of}
+use Rattle.wkt_c.specs.Answer.{read_at, print_at, kind_number, dimension_number, HasNoPlaces, Refuses}
+
+-- A value as polygons of rings of coordinates: a point is a ring of one coordinate or none, a line string a ring, and a multipoint a ring for each member; each but a multipolygon is one polygon. Collections are none.
+abbrev pub parts_of : {N : Type 0} → Value N → Option (List (List (List (List N))))
+parts_of (Value.point d c) = Some ((option_to_list c ∷ []) ∷ [])
+parts_of (Value.line_string d cs) = Some ((cs ∷ []) ∷ [])
+parts_of (Value.polygon d rings) = Some (rings ∷ [])
+parts_of (Value.multi_point d ps) = Some (map option_to_list ps ∷ [])
+parts_of (Value.multi_line_string d ls) = Some (ls ∷ [])
+parts_of (Value.multi_polygon d ps) = Some ps
+parts_of (Value.collection d vs) = None
+
+-- Lists joined in order.
+abbrev pub joined : {A : Type 0} → List (List A) → List A
+joined xss = flat_map (λ xs. xs) xss
+
+-- The running totals of the lengths, from n on.
+abbrev pub offsets : {A : Type 0} → ℕ → List (List A) → List ℕ
+offsets n [] = n ∷ []
+offsets n (xs ∷ xss) = n ∷ offsets (n + length xs) xss
+
+-- All numbers of some rings, in order.
+abbrev pub numbers_in : {N : Type 0} → List (List (List N)) → List N
+numbers_in rings = flat_map joined rings
+
+-- The arrays of a value: its kind, its dimension, all its numbers in order, where each ring begins among the coordinates, and where each polygon begins among the rings, with the end of the last.
+pub record AreArrays {N : Type 0} (value : Value N) (kind dimension : ℕ) (numbers : List N) (rings polygons : List ℕ) : Type 0 where
+  pub parts : List (List (List (List N)))
+  pub flat : parts_of value ≡ Some parts
+  pub kind_is : kind ≡ kind_number (kind_of value)
+  pub dimension_is : dimension ≡ dimension_number (dim_of value)
+  pub numbers_are : numbers ≡ numbers_in (joined parts)
+  pub rings_are : rings ≡ offsets 0 (joined parts)
+  pub polygons_are : polygons ≡ offsets 0 parts
+
+-- The arrays are those of the value of the text's front, which ends here; each coordinate has as many numbers as the dimension says, and each is a value.
+pub record AreOf (places : ℕ) (text : List ℕ) (end kind dimension : ℕ) (numbers : List ℤ) (rings polygons : List ℕ) : Type 0 where
+  pub utf8 : IsUtf8 text
+  pub value : Value ℤ
+  pub front : Front (read_at places) text value end
+  pub fits : IsWellFormed (IsUnits places) true value
+  pub arrays : AreArrays value kind dimension numbers rings polygons
+
+-- The front is a collection, or a number of it has more units than 64 bits hold.
+pub record IsNoArrays (places : ℕ) (text : List ℕ) (status : ℕ) : Type 0 where
+  pub value : Value ℤ
+  pub end : ℕ
+  pub front : Front (read_at places) text value end
+  pub why : ((status ≡ 24) × (parts_of value ≡ None)) ⊎ (status ≡ 25)
+
+-- The text is that of the value of these arrays, and reads back as its canonical value.
+pub record IsTextOf (places kind dimension : ℕ) (numbers : List ℤ) (rings polygons text : List ℕ) : Type 0 where
+  pub value : Value ℤ
+  pub arrays : AreArrays value kind dimension numbers rings polygons
+  pub is : text ≡ shape_text (print_at places) (shape_of value)
+  pub reads : Front (read_at places) text (canon (shape_of value)) (length text)
+
+-- A point of a multipoint as a ring. Only private contracts cite this.
+abbrev pub member_numbers : {T : Type 0} → HeldPoint (Coord T) → List (List T)
+member_numbers p = option_to_list (point_numbers p)
+
+-- Why a text has no arrays: there are no numbers of so many places, its front is a collection, a number has more units than 64 bits hold, or the text is refused.
+abbrev pub IsNotFlat : ℕ → List ℕ → ℕ → Type 0
+IsNotFlat places text status = HasNoPlaces places status ⊎ (IsNoArrays places text status ⊎ Refuses (read_at places) text status)

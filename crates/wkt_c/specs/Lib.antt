@@ -1,0 +1,6 @@
+pub mod Gathered
+pub mod Answer
+pub mod Arrays
+pub mod Growing
+pub mod Sizes
+pub mod Flat

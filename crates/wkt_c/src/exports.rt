@@ -1,0 +1,200 @@
+//! The functions that C calls.
+ghost use Rattle.std.specs.Prelude.{◌≡◌, ◌≤◌, ◌≢◌, ◌⊎◌, ℕ, List, Bool};
+ghost use Rattle.wkt_lines.specs.Output.{IsOutput};
+ghost use Rattle.wkt_c.specs.Answer.{read_at, print_at, IsCanonical, Compares, RefusesAt, RefusesOneAt, IsNamed, NamesNone, HasNoPlaces, IsNoTextAt, IsHandedOut, HasNoRoom, same_number};
+ghost use Rattle.wkt_c.specs.Arrays.{IsTextOf, IsNotFlat};
+ghost use Rattle.wkt_c.specs.Sizes.{AreHandedOut, HaveNoRoom};
+
+use crate::canonical::{canonical_at, same_at};
+use crate::fill::copy_to_front;
+use crate::flat::flat_at;
+use crate::infer::infer;
+use crate::lines::answers_at;
+use crate::rebuild::{GivenArrays, text_at};
+use crate::sizes::WktSizes;
+use crate::status::{DONE, MEMORY, SMALL};
+use std::alloc::Global;
+
+/// Hands out an answer, if there is room for it.
+fn hand_out(answer: &[u8], out: &mut [u8], needed: &mut usize) -> u32
+    ensures stands { result ≡ DONE → IsHandedOut answer.now needed.new out.old out.new }
+    ensures lacks { result ≡ SMALL → HasNoRoom answer.now needed.new out.old }
+    ensures kept { 1 ≤ result → out.new ≡ out.old }
+    ensures two { (result ≡ DONE) ⊎ (result ≡ SMALL) }
+{
+    let size = answer.len();
+    *needed = size;
+    if size > out.len() {
+        return SMALL;
+    }
+    copy_to_front(answer, out);
+    DONE
+}
+
+/// Writes the one text of the geometry that `text` begins with to the front of `out`, its length to `needed`,
+/// and to `end` where the geometry ends in `text`. Numbers are decimals of so many places.
+#[unsafe(no_mangle)]
+pub extern "C" fn wkt_canonical(
+    alloc: Global,
+    text: &[u8],
+    places: u32,
+    out: &mut [u8],
+    needed: &mut usize,
+    end: &mut usize,
+) -> u32
+    ensures written { result ≡ DONE → (answer : List ℕ)
+        × IsCanonical (read_at places) (print_at places) text.now answer end.new × IsHandedOut answer needed.new out.old out.new }
+    ensures small { result ≡ SMALL → (answer : List ℕ)
+        × IsCanonical (read_at places) (print_at places) text.now answer end.new × HasNoRoom answer needed.new out.old }
+    ensures others { 1 ≤ result → result ≢ SMALL → RefusesAt places text.now result }
+    ensures kept { 1 ≤ result → out.new ≡ out.old }
+{
+    match canonical_at(alloc, text, places) {
+        Ok((answer, at)) => {
+            *end = at;
+            hand_out(&answer, out, needed)
+        }
+        Err(status) => status,
+    }
+}
+
+/// Tells whether two texts begin with one geometry: `same` is 1 where their canonical texts are equal, and else
+/// 0. Numbers are decimals of so many places.
+#[unsafe(no_mangle)]
+pub extern "C" fn wkt_same(
+    alloc: Global,
+    one: &[u8],
+    other: &[u8],
+    places: u32,
+    same: &mut u32,
+) -> u32
+    ensures compared { result ≡ DONE → (answer : Bool)
+        × Compares (read_at places) (print_at places) one.now other.now answer × (same.new ≡ same_number answer) }
+    ensures others { 1 ≤ result → RefusesOneAt places one.now other.now result }
+{
+    match same_at(alloc, one, other, places) {
+        Ok(answer) => {
+            *same = if answer { 1 } else { 0 };
+            DONE
+        }
+        Err(status) => status,
+    }
+}
+
+/// Tells the kind (0 Point to 6 GeometryCollection) and the dimension (0 XY, 1 XYZ, 2 XYM, 3 XYZM) that the
+/// header of `text` names.
+#[unsafe(no_mangle)]
+pub extern "C" fn wkt_infer(alloc: Global, text: &[u8], kind: &mut u32, dimension: &mut u32) -> u32
+    ensures named { result ≡ DONE → IsNamed text.now kind.new dimension.new }
+    ensures others { 1 ≤ result → NamesNone text.now result }
+{
+    match infer(alloc, text) {
+        Ok((k, d)) => {
+            *kind = k;
+            *dimension = d;
+            DONE
+        }
+        Err(status) => status,
+    }
+}
+
+/// Writes the answers to all lines of `input` to the front of `out`, and their length to `needed`: of each line
+/// the text of the geometry that it begins with, or `refused`, and a line feed. Numbers are decimals of so many
+/// places.
+#[unsafe(no_mangle)]
+pub extern "C" fn wkt_lines(
+    alloc: Global,
+    input: &[u8],
+    places: u32,
+    out: &mut [u8],
+    needed: &mut usize,
+) -> u32
+    ensures written { result ≡ DONE → (answers : List ℕ)
+        × IsOutput (read_at places) (print_at places) input.now answers × IsHandedOut answers needed.new out.old out.new }
+    ensures small { result ≡ SMALL → (answers : List ℕ)
+        × IsOutput (read_at places) (print_at places) input.now answers × HasNoRoom answers needed.new out.old }
+    ensures others { 1 ≤ result → result ≢ SMALL → HasNoPlaces places result ⊎ (result ≡ MEMORY) }
+    ensures kept { 1 ≤ result → out.new ≡ out.old }
+{
+    match answers_at(alloc, input, places) {
+        Ok(text) => hand_out(&text, out, needed),
+        Err(status) => status,
+    }
+}
+
+/// Writes the numbers of the geometry that `text` begins with, in units of ten to the minus `places`, to the
+/// front of `numbers`, and its offsets to the fronts of `rings` and `polygons`. Where a buffer has no room,
+/// `sizes` tells how much each needs.
+#[unsafe(no_mangle)]
+pub extern "C" fn wkt_arrays(
+    alloc: Global,
+    text: &[u8],
+    places: u32,
+    sizes: &mut WktSizes,
+    numbers: &mut [i64],
+    rings: &mut [usize],
+    polygons: &mut [usize],
+) -> u32
+    ensures filled { result ≡ DONE →
+        AreHandedOut places text.now sizes.new numbers.old numbers.new rings.old rings.new polygons.old polygons.new }
+    ensures small { result ≡ SMALL → HaveNoRoom places text.now sizes.new numbers.old rings.old polygons.old }
+    ensures others { 1 ≤ result → result ≢ SMALL → IsNotFlat places text.now result }
+    ensures kept { 1 ≤ result →
+        (numbers.new ≡ numbers.old) × (rings.new ≡ rings.old) × (polygons.new ≡ polygons.old) }
+{
+    match flat_at(alloc, text, places) {
+        Ok(flat) => {
+            sizes.kind = flat.kind;
+            sizes.dimension = flat.dimension;
+            sizes.numbers = flat.arrays.numbers.len();
+            sizes.rings = flat.arrays.rings.len();
+            sizes.polygons = flat.arrays.polygons.len();
+            sizes.end = flat.end;
+            if flat.arrays.numbers.len() > numbers.len()
+                || flat.arrays.rings.len() > rings.len()
+                || flat.arrays.polygons.len() > polygons.len()
+            {
+                return SMALL;
+            }
+            copy_to_front(&flat.arrays.numbers, numbers);
+            copy_to_front(&flat.arrays.rings, rings);
+            copy_to_front(&flat.arrays.polygons, polygons);
+            DONE
+        }
+        Err(status) => status,
+    }
+}
+
+/// Writes the text of the geometry of those arrays, which are as `wkt_arrays` gives them, to the front of `out`,
+/// and its length to `needed`.
+#[unsafe(no_mangle)]
+pub extern "C" fn wkt_from_arrays(
+    alloc: Global,
+    kind: u32,
+    dimension: u32,
+    numbers: &[i64],
+    rings: &[usize],
+    polygons: &[usize],
+    places: u32,
+    out: &mut [u8],
+    needed: &mut usize,
+) -> u32
+    ensures written { result ≡ DONE → (answer : List ℕ)
+        × IsTextOf places kind dimension numbers.now rings.now polygons.now answer × IsHandedOut answer needed.new out.old out.new }
+    ensures small { result ≡ SMALL → (answer : List ℕ)
+        × IsTextOf places kind dimension numbers.now rings.now polygons.now answer × HasNoRoom answer needed.new out.old }
+    ensures others { 1 ≤ result → result ≢ SMALL → IsNoTextAt places result }
+    ensures kept { 1 ≤ result → out.new ≡ out.old }
+{
+    let given = GivenArrays {
+        kind,
+        dimension,
+        numbers,
+        rings,
+        polygons,
+    };
+    match text_at(alloc, given, places) {
+        Ok(answer) => hand_out(&answer, out, needed),
+        Err(status) => status,
+    }
+}

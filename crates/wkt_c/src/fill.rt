@@ -1,0 +1,12 @@
+//! A list handed to the caller's buffer.
+ghost use Rattle.std.specs.Prelude.{◌≡◌, ◌≤◌, ◌<◌, length};
+ghost use Rattle.wkt_c.specs.Answer.{with_front};
+
+/// Puts the list to the front of the buffer, which has room for it.
+pub(crate) fn copy_to_front<T: Copy>(list: &[T], out: &mut [T])
+    requires { length list.now ≤ length out.old }
+    ensures { out.new ≡ with_front list.now out.old }
+{
+    let size = list.len();
+    out[..size].copy_from_slice(list);
+}

@@ -1,0 +1,85 @@
+//! The flat arrays of the geometry that a text begins with.
+ghost use Rattle.std.specs.Prelude.{◌≡◌, MatchResult};
+ghost use Rattle.wkt_types.specs.Tree.{tree};
+ghost use Rattle.wkt_types.specs.Values.{value_of};
+ghost use Rattle.wkt_read.specs.Kinds.{kind_of};
+ghost use Rattle.wkt_c.specs.Flat.{IsFlat};
+ghost use Rattle.wkt_c.specs.Arrays.{IsNotFlat};
+
+use crate::arrays::Arrays;
+use crate::infer::{number_of_dimension, number_of_kind};
+use crate::read::read;
+use crate::status::NO_PLACES;
+use std::alloc::Global;
+use wkt::laws::front_is_writable;
+use wkt::types::GeometryType;
+use wkt::{Decimal, Wkt};
+
+/// Flat arrays with the kind, the dimension and the end of their geometry.
+#[derive(Drop)]
+pub(crate) struct Flat {
+    pub(crate) kind: u32,
+    pub(crate) dimension: u32,
+    pub(crate) end: usize,
+    pub(crate) arrays: Arrays,
+}
+
+/// The kind of a geometry.
+pub(crate) fn kind_of<const D: u32>(wkt: &Wkt<Decimal<D>>) -> GeometryType
+    ensures { result ≡ kind_of (value_of (tree wkt.now)) }
+{
+    match wkt {
+        Wkt::Point(_) => GeometryType::Point,
+        Wkt::LineString(_) => GeometryType::LineString,
+        Wkt::Polygon(_) => GeometryType::Polygon,
+        Wkt::MultiPoint(_) => GeometryType::MultiPoint,
+        Wkt::MultiLineString(_) => GeometryType::MultiLineString,
+        Wkt::MultiPolygon(_) => GeometryType::MultiPolygon,
+        Wkt::GeometryCollection(_) => GeometryType::GeometryCollection,
+    }
+}
+
+fn make_flat<const D: u32>(alloc: Global, text: &[u8]) -> Result<Flat, u32>
+    ensures { MatchResult result (IsFlat D text.now) (IsNotFlat D text.now) }
+{
+    let (wkt, end) = read::<Decimal<D>>(alloc, text)?;
+    // No effect at run time. The proof reads that each coordinate has as many numbers as the dimension says.
+    front_is_writable::<Decimal<D>>();
+    match Arrays::of(alloc, &wkt) {
+        Ok(arrays) => Ok(Flat {
+            kind: number_of_kind(kind_of(&wkt)),
+            dimension: number_of_dimension(wkt.dimension()),
+            end,
+            arrays,
+        }),
+        Err(status) => Err(status),
+    }
+}
+
+/// The same, with decimals of so many places.
+pub(crate) fn flat_at(alloc: Global, text: &[u8], places: u32) -> Result<Flat, u32>
+    ensures { MatchResult result (IsFlat places text.now) (IsNotFlat places text.now) }
+{
+    match places {
+        0 => make_flat::<0>(alloc, text),
+        1 => make_flat::<1>(alloc, text),
+        2 => make_flat::<2>(alloc, text),
+        3 => make_flat::<3>(alloc, text),
+        4 => make_flat::<4>(alloc, text),
+        5 => make_flat::<5>(alloc, text),
+        6 => make_flat::<6>(alloc, text),
+        7 => make_flat::<7>(alloc, text),
+        8 => make_flat::<8>(alloc, text),
+        9 => make_flat::<9>(alloc, text),
+        10 => make_flat::<10>(alloc, text),
+        11 => make_flat::<11>(alloc, text),
+        12 => make_flat::<12>(alloc, text),
+        13 => make_flat::<13>(alloc, text),
+        14 => make_flat::<14>(alloc, text),
+        15 => make_flat::<15>(alloc, text),
+        16 => make_flat::<16>(alloc, text),
+        17 => make_flat::<17>(alloc, text),
+        18 => make_flat::<18>(alloc, text),
+        _ => Err(NO_PLACES),
+    }
+}

@@ -1,0 +1,20 @@
+//! Well-known text for callers in C: `include/wkt.h` declares these functions, and says what each answers.
+//!
+//! Each call answers a status: 0 where it is done, 1 to 14 where a text is refused, which says why, and 20 or
+//! more for the rest. Where it isn't 0, the caller's buffers are as they were.
+#![tactic(auto)]
+
+mod arrays;
+mod canonical;
+mod exports;
+mod fill;
+mod flat;
+mod gathered;
+mod infer;
+mod lines;
+mod read;
+mod rebuild;
+mod sizes;
+mod status;
+#[cfg(test)]
+mod tests;

@@ -1,0 +1,342 @@
+//! A geometry out of flat arrays. What is made is turned into arrays again and compared, so that a wrong one is
+//! never written.
+ghost use Rattle.std.specs.Prelude.{◌≡◌, ◌≤◌, true, IfErr, MatchResult};
+ghost use Rattle.wkt_access.specs.Values.{size};
+ghost use Rattle.wkt_c.specs.Arrays.{IsTextOf};
+ghost use Rattle.wkt_c.specs.Growing.{AreSame};
+ghost use Rattle.wkt_c.specs.Answer.{IsNoText, IsNoTextAt};
+
+use crate::arrays::Arrays;
+use crate::canonical::write_any;
+use crate::flat::kind_of;
+use crate::infer::{number_of_dimension, number_of_kind};
+use crate::status::{MEMORY, NO_PLACES, NOT_ARRAYS};
+use std::alloc::Global;
+use wkt::laws::reads_back;
+use wkt::types::{
+    Coord, Dimension, LineString, MultiLineString, MultiPoint, MultiPolygon, Point, Polygon,
+};
+use wkt::{Decimal, Wkt};
+
+/// Flat arrays of the caller's.
+#[derive(Clone, Copy)]
+pub(crate) struct GivenArrays<'a> {
+    pub(crate) kind: u32,
+    pub(crate) dimension: u32,
+    pub(crate) numbers: &'a [i64],
+    pub(crate) rings: &'a [usize],
+    pub(crate) polygons: &'a [usize],
+}
+
+fn dimension_of(number: u32) -> Result<Dimension, u32>
+    ensures { IfErr result IsNoText }
+{
+    match number {
+        0 => Ok(Dimension::XY),
+        1 => Ok(Dimension::XYZ),
+        2 => Ok(Dimension::XYM),
+        3 => Ok(Dimension::XYZM),
+        _ => Err(NOT_ARRAYS),
+    }
+}
+
+/// The coordinate of that index.
+fn coord<const D: u32>(
+    numbers: &[i64],
+    index: usize,
+    dimension: Dimension,
+) -> Result<Coord<Decimal<D>>, u32>
+    requires { D ≤ 36 }
+    ensures { IfErr result IsNoText }
+{
+    let size = numbers_of(dimension);
+    let Some(at) = index.checked_mul(size) else {
+        return Err(NOT_ARRAYS);
+    };
+    if at > numbers.len() || numbers.len() - at < size {
+        return Err(NOT_ARRAYS);
+    }
+    let numbers = &numbers[at..];
+    let x = number::<D>(numbers[0]);
+    let y = number::<D>(numbers[1]);
+    match dimension {
+        Dimension::XY => Ok(made(x, y, None, None)),
+        Dimension::XYZ => Ok(made(x, y, Some(number::<D>(numbers[2])), None)),
+        Dimension::XYM => Ok(made(x, y, None, Some(number::<D>(numbers[2])))),
+        Dimension::XYZM => {
+            let z = number::<D>(numbers[2]);
+            let m = number::<D>(numbers[3]);
+            Ok(made(x, y, Some(z), Some(m)))
+        }
+    }
+}
+
+fn made<const D: u32>(
+    x: Decimal<D>,
+    y: Decimal<D>,
+    z: Option<Decimal<D>>,
+    m: Option<Decimal<D>>,
+) -> Coord<Decimal<D>> {
+    Coord { x, y, z, m }
+}
+
+/// How many numbers a coordinate has.
+fn numbers_of(dimension: Dimension) -> usize
+    ensures { result ≡ size dimension }
+{
+    match dimension {
+        Dimension::XY => 2,
+        Dimension::XYZ => 3,
+        Dimension::XYM => 3,
+        Dimension::XYZM => 4,
+    }
+}
+
+fn number<const D: u32>(units: i64) -> Decimal<D>
+    requires { D ≤ 36 }
+{
+    Decimal::from_units(i128::from(units))
+}
+
+/// The coordinates of the ring of that index.
+fn ring<const D: u32>(
+    alloc: Global,
+    given: GivenArrays<'_>,
+    dimension: Dimension,
+    index: usize,
+) -> Result<Vec<Coord<Decimal<D>>>, u32>
+    requires { D ≤ 36 }
+    ensures { IfErr result IsNoText }
+{
+    let mut coords = Vec::new(alloc);
+    let (from, to) = bounds(given.rings, index)?;
+    for i in from..to {
+        let c = coord(given.numbers, i, dimension)?;
+        if coords.push(c).is_err() {
+            return Err(MEMORY);
+        }
+    }
+    Ok(coords)
+}
+
+/// The offsets of that index and the next.
+fn bounds(offsets: &[usize], index: usize) -> Result<(usize, usize), u32>
+    ensures { IfErr result IsNoText }
+{
+    if index >= offsets.len() || offsets.len() - index < 2 {
+        return Err(NOT_ARRAYS);
+    }
+    Ok((offsets[index], offsets[index + 1]))
+}
+
+fn point<const D: u32>(
+    alloc: Global,
+    given: GivenArrays<'_>,
+    dimension: Dimension,
+    index: usize,
+) -> Result<Point<Decimal<D>>, u32>
+    requires { D ≤ 36 }
+    ensures { IfErr result IsNoText }
+{
+    let coords = ring::<D>(alloc, given, dimension, index)?;
+    match coords.as_slice() {
+        [] => Ok(Point::empty(dimension)),
+        [c] => Ok(Point::new(Some(*c), dimension)),
+        _ => Err(NOT_ARRAYS),
+    }
+}
+
+fn line<const D: u32>(
+    alloc: Global,
+    given: GivenArrays<'_>,
+    dimension: Dimension,
+    index: usize,
+) -> Result<LineString<Decimal<D>>, u32>
+    requires { D ≤ 36 }
+    ensures { IfErr result IsNoText }
+{
+    let coords = ring::<D>(alloc, given, dimension, index)?;
+    Ok(LineString::new(coords, dimension))
+}
+
+fn points<const D: u32>(
+    alloc: Global,
+    given: GivenArrays<'_>,
+    dimension: Dimension,
+) -> Result<Vec<Point<Decimal<D>>>, u32>
+    requires { D ≤ 36 }
+    ensures { IfErr result IsNoText }
+{
+    let mut points = Vec::new(alloc);
+    let (from, to) = bounds(given.polygons, 0)?;
+    for i in from..to {
+        let p = point::<D>(alloc, given, dimension, i)?;
+        if points.push(p).is_err() {
+            return Err(MEMORY);
+        }
+    }
+    Ok(points)
+}
+
+fn lines<const D: u32>(
+    alloc: Global,
+    given: GivenArrays<'_>,
+    dimension: Dimension,
+    polygon: usize,
+) -> Result<Vec<LineString<Decimal<D>>>, u32>
+    requires { D ≤ 36 }
+    ensures { IfErr result IsNoText }
+{
+    let mut lines = Vec::new(alloc);
+    let (from, to) = bounds(given.polygons, polygon)?;
+    for i in from..to {
+        let l = line::<D>(alloc, given, dimension, i)?;
+        if lines.push(l).is_err() {
+            return Err(MEMORY);
+        }
+    }
+    Ok(lines)
+}
+
+fn polygons<const D: u32>(
+    alloc: Global,
+    given: GivenArrays<'_>,
+    dimension: Dimension,
+) -> Result<Vec<Polygon<Decimal<D>>>, u32>
+    requires { D ≤ 36 }
+    ensures { IfErr result IsNoText }
+{
+    let mut polygons = Vec::new(alloc);
+    let count = given.polygons.len().saturating_sub(1);
+    for i in 0..count {
+        let rings = lines::<D>(alloc, given, dimension, i)?;
+        if polygons.push(Polygon::new(rings, dimension)).is_err() {
+            return Err(MEMORY);
+        }
+    }
+    Ok(polygons)
+}
+
+fn rebuilt<const D: u32>(alloc: Global, given: GivenArrays<'_>) -> Result<Wkt<Decimal<D>>, u32>
+    requires { D ≤ 36 }
+    ensures { IfErr result IsNoText }
+{
+    let d = dimension_of(given.dimension)?;
+    match given.kind {
+        0 => Ok(Wkt::Point(point::<D>(alloc, given, d, 0)?)),
+        1 => Ok(Wkt::LineString(line::<D>(alloc, given, d, 0)?)),
+        2 => Ok(Wkt::Polygon(Polygon::new(lines::<D>(alloc, given, d, 0)?, d))),
+        3 => Ok(Wkt::MultiPoint(MultiPoint::new(points::<D>(alloc, given, d)?, d))),
+        4 => Ok(Wkt::MultiLineString(MultiLineString::new(lines::<D>(alloc, given, d, 0)?, d))),
+        5 => Ok(Wkt::MultiPolygon(MultiPolygon::new(polygons::<D>(alloc, given, d)?, d))),
+        _ => Err(NOT_ARRAYS),
+    }
+}
+
+fn same_numbers(one: &Vec<i64>, other: &[i64]) -> bool
+    ensures { result ≡ true → one.now.items ≡ other.now }
+{
+    one.as_slice() == other
+}
+
+fn same_offsets(one: &Vec<usize>, other: &[usize]) -> bool
+    ensures { result ≡ true → one.now.items ≡ other.now }
+{
+    one.as_slice() == other
+}
+
+/// Whether the arrays are those that were given.
+fn are_same(arrays: &Arrays, given: GivenArrays<'_>) -> bool
+    ensures { result ≡ true → AreSame arrays.now given.entry.numbers.now given.entry.rings.now given.entry.polygons.now }
+{
+    if !same_numbers(&arrays.numbers, given.numbers) {
+        return false;
+    }
+    if !same_offsets(&arrays.rings, given.rings) {
+        return false;
+    }
+    same_offsets(&arrays.polygons, given.polygons)
+}
+
+/// The text of a geometry whose arrays are those that were given.
+fn text_if_same<const D: u32>(
+    alloc: Global,
+    wkt: &Wkt<Decimal<D>>,
+    given: GivenArrays<'_>,
+) -> Result<Vec<u8>, u32>
+    requires { D ≤ 36 }
+    ensures { MatchResult result
+        (λ v. IsTextOf D given.entry.kind given.entry.dimension given.entry.numbers.now given.entry.rings.now given.entry.polygons.now v.items)
+        IsNoText }
+{
+    let arrays = match Arrays::of(alloc, wkt) {
+        Ok(arrays) => arrays,
+        Err(status) => return Err(if status == MEMORY { MEMORY } else { NOT_ARRAYS }),
+    };
+    let kind = number_of_kind(kind_of(wkt));
+    let dimension = number_of_dimension(wkt.dimension());
+    if kind == given.kind && dimension == given.dimension && are_same(&arrays, given) {
+        // No effect at run time. The proof reads that the text is read as that geometry.
+        reads_back::<Decimal<D>>();
+        return write_any(alloc, wkt, given.numbers.len());
+    }
+    Err(NOT_ARRAYS)
+}
+
+/// Whether no offset is less than the one before it.
+fn ascend(offsets: &[usize]) -> bool {
+    let mut last = 0;
+    for offset in offsets {
+        if *offset < last {
+            return false;
+        }
+        last = *offset;
+    }
+    true
+}
+
+/// The text of the geometry of those arrays.
+pub(crate) fn text_of<const D: u32>(alloc: Global, given: GivenArrays<'_>) -> Result<Vec<u8>, u32>
+    requires { D ≤ 36 }
+    ensures { MatchResult result
+        (λ v. IsTextOf D given.entry.kind given.entry.dimension given.entry.numbers.now given.entry.rings.now given.entry.polygons.now v.items)
+        IsNoText }
+{
+    // Else offsets that go back could have one ring made again and again before it is refused.
+    if !ascend(given.rings) || !ascend(given.polygons) {
+        return Err(NOT_ARRAYS);
+    }
+    match rebuilt::<D>(alloc, given) {
+        Ok(wkt) => text_if_same(alloc, &wkt, given),
+        Err(status) => Err(status),
+    }
+}
+
+/// The same, with decimals of so many places.
+pub(crate) fn text_at(alloc: Global, given: GivenArrays<'_>, places: u32) -> Result<Vec<u8>, u32>
+    ensures { MatchResult result (λ v. IsTextOf places given.entry.kind given.entry.dimension given.entry.numbers.now given.entry.rings.now given.entry.polygons.now v.items)
+        (IsNoTextAt places) }
+{
+    match places {
+        0 => text_of::<0>(alloc, given),
+        1 => text_of::<1>(alloc, given),
+        2 => text_of::<2>(alloc, given),
+        3 => text_of::<3>(alloc, given),
+        4 => text_of::<4>(alloc, given),
+        5 => text_of::<5>(alloc, given),
+        6 => text_of::<6>(alloc, given),
+        7 => text_of::<7>(alloc, given),
+        8 => text_of::<8>(alloc, given),
+        9 => text_of::<9>(alloc, given),
+        10 => text_of::<10>(alloc, given),
+        11 => text_of::<11>(alloc, given),
+        12 => text_of::<12>(alloc, given),
+        13 => text_of::<13>(alloc, given),
+        14 => text_of::<14>(alloc, given),
+        15 => text_of::<15>(alloc, given),
+        16 => text_of::<16>(alloc, given),
+        17 => text_of::<17>(alloc, given),
+        18 => text_of::<18>(alloc, given),
+        _ => Err(NO_PLACES),
+    }
+}

@@ -1,0 +1,95 @@
+/* Well-known text, read and written by proved code: one text for one geometry, exact decimals, exact refusals.
+ *
+ * Numbers are decimals of `places` digits after the point: whole units of ten to the minus `places`, of which a
+ * text's number may have up to 2^127. Nothing is rounded: a text with more digits after the point is refused.
+ * `places` is 0 to 18.
+ *
+ * Every function answers a status and is proved to do what its comment says, in crates/wkt_c/src/exports.rt. After
+ * any status but WKT_OK the caller's buffers are as they were. Texts need no 0 at the end, and may hold any bytes.
+ *
+ * What nothing checks, and a caller owes:
+ * - no two pointers that are passed overlap, but for those that are only read; a size is that of its buffer;
+ *   a buffer or text of size 0 may be NULL;
+ * - malloc, realloc and free come from one allocator; no call from a signal handler, nor in the forked child of a
+ *   process with threads. Calls may run side by side on several threads: there is no state between calls;
+ * - the stack suffices: some 150 bytes for each collection in a collection (on 8 MB some 57,000 deep). */
+#ifndef WKT_H
+#define WKT_H
+#include <stddef.h>
+#include <stdint.h>
+#ifdef __cplusplus
+extern "C" {
+#endif
+
+typedef uint32_t wkt_status;
+enum {
+    WKT_OK = 0,
+    /* The text begins with no geometry; WKT_MESSAGES has why. */
+    WKT_BAD_NUMBER = 13, /* and some number of the text is none of so many places, or too large */
+    WKT_LAST_REFUSAL = 14,
+    WKT_NOT_UTF8 = 20,
+    WKT_TOO_SMALL = 21, /* a buffer has no room; the sizes that are needed are told, and so is the rest */
+    WKT_NO_MEMORY = 22,
+    WKT_NO_PLACES = 23,   /* `places` is more than 18 */
+    WKT_COLLECTION = 24,  /* a collection has no flat arrays */
+    WKT_TOO_LARGE = 25,   /* a number of more units than an int64_t holds */
+    WKT_NOT_ARRAYS = 26   /* the arrays are of no geometry */
+};
+
+/* The messages of 1 to 14, at their numbers. Which of them comes is tested, and not proved (but what 13 says). */
+#define WKT_MESSAGES { "", "Invalid WKT format", "Encountered non-ascii word", "Invalid type encountered", \
+    "Unexpected word before open paren", "End of stream", "Missing open parenthesis for type", \
+    "Missing closing parenthesis for type", "Expected a number for the X coordinate", \
+    "Expected a number for the Y coordinate", "Expected a number for the Z coordinate", \
+    "Expected a number for the M coordinate", "Expected a word in GEOMETRYCOLLECTION", \
+    "Unable to parse input number as the desired output type", "Refused" }
+
+/* Kinds: 0 Point, 1 LineString, 2 Polygon, 3 MultiPoint, 4 MultiLineString, 5 MultiPolygon, 6 GeometryCollection.
+ * Dimensions: 0 XY, 1 XYZ, 2 XYM, 3 XYZM, with 2, 3, 3 and 4 numbers a coordinate. */
+
+/* The canonical text of the geometry that the text begins with. *end: where the geometry ends in the text; what
+ * follows is not looked at. WKT_OK: the text is in out, and *needed is its length. WKT_TOO_SMALL: *needed is its
+ * length (*end is set too). 1..14, 20, 22, 23. */
+wkt_status wkt_canonical(const uint8_t *text, size_t text_len, uint32_t places,
+                         uint8_t *out, size_t out_len, size_t *needed, size_t *end);
+
+/* Whether two texts begin with one geometry: *same is 1 exactly if their canonical texts are equal, and else 0.
+ * 1..14, 20 (of one of the texts), 22, 23. */
+wkt_status wkt_same(const uint8_t *one, size_t one_len, const uint8_t *other, size_t other_len, uint32_t places,
+                    uint32_t *same);
+
+/* The kind and the dimension that the header of the text names; the rest is not read. 1: it begins with no kind word.
+ * 2: EMPTY comes first, with no space before it. 3: there is neither a parenthesis nor EMPTY. 20, 22. */
+wkt_status wkt_infer(const uint8_t *text, size_t text_len, uint32_t *kind, uint32_t *dimension);
+
+/* All lines at once: for each line of the input, the canonical text of the geometry that it begins with or `refused`,
+ * and a line feed. What the program wktline writes, if places is 18. 21, 22, 23. A line of n bytes is answered in at most some 2n + 8. */
+wkt_status wkt_lines(const uint8_t *input, size_t input_len, uint32_t places, uint8_t *out, size_t out_len,
+                     size_t *needed);
+
+/* What wkt_arrays tells beside the arrays. */
+typedef struct {
+    uint32_t kind, dimension;
+    size_t numbers, rings, polygons; /* the sizes of the arrays */
+    size_t end;                      /* where the geometry ends in the text */
+} WktSizes;
+
+/* A geometry that is no collection as flat arrays: its numbers, in units, coordinate after coordinate; where each
+ * ring begins among the coordinates, and the end of the last; where each polygon begins among the rings, and the end
+ * of the last. A line string, a line and a point (of one coordinate, or none if it is empty) count as a ring, and the
+ * rings of each kind but MultiPolygon as one polygon. So a Point has rings {0, 1} and polygons {0, 1}, and
+ * POLYGON EMPTY has rings {0} and polygons {0, 0}. (GeoArrow: numbers are the interleaved coordinates, rings and
+ * polygons its offsets.) WKT_TOO_SMALL: *sizes tells all sizes. 1..14, 20, 22, 23, 24, 25. */
+wkt_status wkt_arrays(const uint8_t *text, size_t text_len, uint32_t places, WktSizes *sizes,
+                      int64_t *numbers, size_t numbers_len, size_t *rings, size_t rings_len,
+                      size_t *polygons, size_t polygons_len);
+
+/* The canonical text of the geometry of such arrays. 21, 22, 23, 26. */
+wkt_status wkt_from_arrays(uint32_t kind, uint32_t dimension, const int64_t *numbers, size_t numbers_len,
+                           const size_t *rings, size_t rings_len, const size_t *polygons, size_t polygons_len,
+                           uint32_t places, uint8_t *out, size_t out_len, size_t *needed);
+
+#ifdef __cplusplus
+}
+#endif
+#endif

@@ -1,0 +1,259 @@
+"""The functions of the package."""
+import array
+import ctypes
+from typing import Any, Callable, List, NamedTuple, Optional, Sequence, Tuple, Union
+
+from . import _library
+from ._library import size, u32
+
+try:
+    import numpy
+except ImportError:  # The functions then give and take sequences of numbers.
+    numpy = None
+
+Text = Union[str, bytes]
+
+KINDS = (
+    "Point",
+    "LineString",
+    "Polygon",
+    "MultiPoint",
+    "MultiLineString",
+    "MultiPolygon",
+    "GeometryCollection",
+)
+DIMENSIONS = ("XY", "XYZ", "XYM", "XYZM")
+
+_MESSAGES = {
+    1: "Invalid WKT format",
+    2: "Encountered non-ascii word",
+    3: "Invalid type encountered",
+    4: "Unexpected word before open paren",
+    5: "End of stream",
+    6: "Missing open parenthesis for type",
+    7: "Missing closing parenthesis for type",
+    8: "Expected a number for the X coordinate",
+    9: "Expected a number for the Y coordinate",
+    10: "Expected a number for the Z coordinate",
+    11: "Expected a number for the M coordinate",
+    12: "Expected a word in GEOMETRYCOLLECTION",
+    13: "Unable to parse input number as the desired output type",
+    14: "Refused",
+    20: "The text is not UTF-8",
+    23: "There are no numbers of so many places",
+    24: "A collection has no flat arrays",
+    25: "A number has more units than 64 bits hold",
+    26: "The arrays are of no geometry",
+}
+_HEADER_MESSAGES = {
+    1: "No kind word",
+    2: "No space before EMPTY",
+    3: "Neither a parenthesis nor EMPTY",
+    20: "The text is not UTF-8",
+}
+_TOO_SMALL, _NO_MEMORY = 21, 22
+
+
+class WktError(ValueError):
+    """A text, or arrays, without an answer: `message` says why, and `status` is its number."""
+
+    def __init__(self, status: int, message: str) -> None:
+        super().__init__(message)
+        self.status = status
+        self.message = message
+
+
+class Arrays(NamedTuple):
+    """A geometry as flat arrays, as `wkt_arrays` in include/wkt.h gives them.
+
+    `numbers` are whole units of ten to the minus `places`, coordinate after coordinate. `rings` are where each ring
+    begins among the coordinates, and the end of the last; `polygons` where each polygon begins among the rings, and
+    the end of the last. They are NumPy arrays where NumPy is installed, and else of Python's `array`.
+    """
+
+    kind: str
+    dimension: str
+    numbers: Any
+    rings: Any
+    polygons: Any
+
+
+def _encoded(text: Text) -> bytes:
+    if isinstance(text, str):
+        return text.encode("utf-8", "surrogatepass")
+    return bytes(text)
+
+
+def _check(status: int, messages=_MESSAGES) -> None:
+    if status == _NO_MEMORY:
+        raise MemoryError
+    if status:
+        raise WktError(status, messages.get(status, "Status %d" % status))
+
+
+def _places(places: int) -> int:
+    if not 0 <= places <= 18:
+        raise WktError(23, _MESSAGES[23])
+    return places
+
+
+def _column(values: Any) -> Optional[Sequence[Any]]:
+    """The values of a list, a tuple, a NumPy array or an Arrow column; None of a single value."""
+    if isinstance(values, (str, bytes, bytearray, memoryview)):
+        return None
+    if isinstance(values, (list, tuple)):
+        return values
+    for method in ("to_pylist", "tolist"):
+        if hasattr(values, method):
+            return getattr(values, method)()
+    return None
+
+
+def _of_each(call: Callable[[Any], Any], values: Any) -> Any:
+    column = _column(values)
+    if column is None:
+        return call(values)
+    return [None if value is None else call(value) for value in column]
+
+
+def _answer(call: Callable[[Any, int, Any], int], likely: int) -> bytes:
+    """What a call writes, which tells how much room it needs where that is too little."""
+    room, needed = likely, size()
+    while True:
+        out = ctypes.create_string_buffer(room)
+        status = call(out, room, ctypes.byref(needed))
+        if status != _TOO_SMALL:
+            _check(status)
+            return out.raw[: needed.value]
+        room = needed.value
+
+
+def canonical(text: Any, places: int = 18) -> Any:
+    """The one text of the geometry that a text begins with; of many texts a list."""
+    places = _places(places)
+
+    def one(text: Text) -> str:
+        data, end = _encoded(text), size()
+
+        def call(out, room, needed):
+            return _library.wkt_canonical(data, len(data), places, out, room, needed, ctypes.byref(end))
+
+        return _answer(call, len(data) + 32).decode()
+
+    return _of_each(one, text)
+
+
+def same(one: Any, other: Any, places: int = 18) -> Any:
+    """Whether two texts begin with one geometry; of two columns of one length a list, row by row."""
+    places = _places(places)
+    ones, others = _column(one), _column(other)
+    if ones is None and others is None:
+        a, b, answer = _encoded(one), _encoded(other), u32()
+        _check(_library.wkt_same(a, len(a), b, len(b), places, ctypes.byref(answer)))
+        return answer.value == 1
+    if ones is None:
+        ones = [one] * len(others)
+    if others is None:
+        others = [other] * len(ones)
+    if len(ones) != len(others):
+        raise ValueError("columns of %d and of %d rows" % (len(ones), len(others)))
+    return [None if a is None or b is None else same(a, b, places) for a, b in zip(ones, others)]
+
+
+def infer(text: Any) -> Any:
+    """The kind and the dimension that the header of a text names; of many texts a list."""
+
+    def one(text: Text) -> Tuple[str, str]:
+        data, kind, dimension = _encoded(text), u32(), u32()
+        status = _library.wkt_infer(data, len(data), ctypes.byref(kind), ctypes.byref(dimension))
+        _check(status, _HEADER_MESSAGES)
+        return KINDS[kind.value], DIMENSIONS[dimension.value]
+
+    return _of_each(one, text)
+
+
+def lines(data: Any, places: int = 18) -> Any:
+    """For each line of some bytes the canonical text of its geometry, or `refused`, and a line feed, by one call.
+
+    Of many texts, none of which holds a line feed, it gives a list of the answers.
+    """
+    places = _places(places)
+    column = _column(data)
+    if column is None:
+        data = _encoded(data)
+
+        def call(out, room, needed):
+            return _library.wkt_lines(data, len(data), places, out, room, needed)
+
+        return _answer(call, len(data) + len(data) // 4 + 64)
+    rows = [b"" if row is None else _encoded(row) for row in column]
+    if any(b"\n" in row for row in rows):
+        raise ValueError("a text of a column holds a line feed")
+    answers = lines(b"".join(row + b"\n" for row in rows), places).decode().split("\n")
+    return [None if row is None else answer for row, answer in zip(column, answers)]
+
+
+def _buffer(code: str, length: int) -> Any:
+    if numpy is not None:
+        return numpy.zeros(length, "int64" if code == "q" else "uint64")
+    return array.array(code, bytes(8 * length))
+
+
+def _address(values: Any) -> int:
+    return values.ctypes.data if numpy is not None else values.buffer_info()[0]
+
+
+def to_arrays(text: Any, places: int = 6) -> Any:
+    """The geometry that a text begins with as flat arrays; of many texts a list. Collections have none."""
+    places = _places(places)
+
+    def one(text: Text) -> Arrays:
+        data, told = _encoded(text), _library.Sizes()
+        likely = len(data) // 2 + 4
+        room = (likely, likely, likely)
+        while True:
+            numbers, rings, polygons = (_buffer(c, n) for c, n in zip("qQQ", room))
+            status = _library.wkt_arrays(
+                data, len(data), places, ctypes.byref(told),
+                _address(numbers), room[0], _address(rings), room[1], _address(polygons), room[2],
+            )  # fmt: skip
+            if status != _TOO_SMALL:
+                break
+            room = (told.numbers, told.rings, told.polygons)
+        _check(status)
+        return Arrays(
+            KINDS[told.kind],
+            DIMENSIONS[told.dimension],
+            numbers[: told.numbers],
+            rings[: told.rings],
+            polygons[: told.polygons],
+        )
+
+    return _of_each(one, text)
+
+
+def _held(code: str, values: Any) -> Any:
+    if numpy is not None:
+        return numpy.ascontiguousarray(values, "int64" if code == "q" else "uint64").reshape(-1)
+    return array.array(code, values)
+
+
+def from_arrays(arrays: Any, places: int = 6) -> Any:
+    """The canonical text of the geometry of flat arrays, as `to_arrays` gives them; of a list of them a list."""
+    places = _places(places)
+
+    def one(arrays: Arrays) -> str:
+        kind, dimension, *rest = arrays
+        numbers, rings, polygons = (_held(c, values) for c, values in zip("qQQ", rest))
+
+        def call(out, room, needed):
+            return _library.wkt_from_arrays(
+                KINDS.index(kind), DIMENSIONS.index(dimension),
+                _address(numbers), len(numbers), _address(rings), len(rings), _address(polygons), len(polygons),
+                places, out, room, needed,
+            )  # fmt: skip
+
+        return _answer(call, 16 * len(numbers) + 32).decode()
+
+    # A tuple is one geometry: Arrays is one, and so is what is given in its place.
+    return one(arrays) if isinstance(arrays, tuple) else _of_each(one, arrays)
