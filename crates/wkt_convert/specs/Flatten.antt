@@ -64,7 +64,7 @@ tree_name (Tree.multi_line_string m) = codes "MultiLineString"
 tree_name (Tree.multi_polygon m) = codes "MultiPolygon"
 tree_name (Tree.collection ts d) = codes "GeometryCollection"
 
--- The flat collection of a tree that is one; of any other the mismatch of names, xy_point once.
+-- The flat collection of a tree that is one; of any other the mismatch of names, at once.
 abbrev pub flat_collection : {T : Type 0} → (flat_coord.Coord T → flat_coord.Coord T → Bool) → Tree T → Outcome (Flats T)
 flat_collection E (Tree.collection ts d) = flat_all E ts
 flat_collection E t = refused (mismatched (codes "GeometryCollection") (tree_name t))

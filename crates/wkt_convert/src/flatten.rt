@@ -107,7 +107,7 @@ pub(crate) fn point<T: WktNum>(alloc: Global, p: &Point<T>) -> Geometry<T>
     }
 }
 
-/// AddsFlat a flat geometry to others.
+/// Adds a flat geometry to others.
 fn push<T: Drop>(g: Geometry<T>, all: &mut Vec<Geometry<T>>) -> Result<(), ConvertError>
     ensures { AddsFlat result all.old.items all.new.items (value (flat_tree g)) }
 {
@@ -207,7 +207,7 @@ fn push_collection<T: Drop>(
     }
 }
 
-// AddsFlat the flat geometry to others. It takes little stack, since it goes as deep as collections do.
+// Adds the flat geometry to others. It takes little stack, since it goes as deep as collections do.
 #[cycle(flatten)]
 fn push_geometry<T: WktNum>(
     alloc: Global,

@@ -9,7 +9,7 @@ use Rattle.wkt_types.specs.Outcome.{Outcome, value, refused, empty_point}
 abbrev pub xy : {T : Type 0} → Coord T → flat_coord.Coord T
 xy c = record { x = c.x; y = c.y }
 
--- The point xy_point a coordinate's x and y.
+-- The point at a coordinate's x and y.
 abbrev pub xy_point : {T : Type 0} → Coord T → flat_point.Point T
 xy_point c = record { 0 = xy c }
 
