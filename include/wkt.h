@@ -33,7 +33,9 @@ enum {
     WKT_NO_PLACES = 23,   /* `places` is more than 18 */
     WKT_COLLECTION = 24,  /* a collection has no flat arrays */
     WKT_TOO_LARGE = 25,   /* a number of more units than an int64_t holds */
-    WKT_NOT_ARRAYS = 26   /* the arrays are of no geometry */
+    WKT_NOT_ARRAYS = 26,  /* the arrays are of no geometry */
+    WKT_NOT_COLUMN = 27,  /* the offsets, the bits or the sizes are of no column */
+    WKT_NULL = 28         /* of a row alone: it is null */
 };
 
 /* The messages of 1 to 14, at their numbers. Which of them comes is tested, and not proved (but what 13 says). */
@@ -66,6 +68,18 @@ wkt_status wkt_infer(const uint8_t *text, size_t text_len, uint32_t *kind, uint3
  * and a line feed. What the program wktline writes, if places is 18. 21, 22, 23. A line of n bytes is answered in at most some 2n + 8. */
 wkt_status wkt_lines(const uint8_t *input, size_t input_len, uint32_t places, uint8_t *out, size_t out_len,
                      size_t *needed);
+
+/* A column at once, as Arrow's large_utf8 has it. Row i is the bytes of texts from offsets[i] to offsets[i + 1], so
+ * there is one offset more than rows. valid: bit i % 8, from the lowest on, of byte i / 8 is 0 where row i is null;
+ * NULL and 0 where no row is. out_offsets has room for as many offsets, statuses for a status of each row.
+ * WKT_OK: the canonical texts of all rows are in out, one after the other, and *needed is their length; row i's is from
+ * out_offsets[i] to out_offsets[i + 1]. statuses[i] is WKT_OK, or why row i has no text: 1..14, 20, or WKT_NULL.
+ * WKT_TOO_SMALL: *needed is their length. 22, 23. WKT_NOT_COLUMN: an offset is less than the one before it, or past
+ * texts (as one below 0 is), or a size fits no such column. After any but WKT_OK the three buffers are as they were. */
+wkt_status wkt_column_canonical(const uint8_t *texts, size_t texts_len, const int64_t *offsets, size_t offsets_len,
+                                const uint8_t *valid, size_t valid_len, uint32_t places,
+                                uint8_t *out, size_t out_len, int64_t *out_offsets, size_t out_offsets_len,
+                                wkt_status *statuses, size_t statuses_len, size_t *needed);
 
 /* What wkt_arrays tells beside the arrays. */
 typedef struct {

@@ -78,7 +78,15 @@ def nested(depth):
 put('wide', 'POINT(1 2)\nLINESTRING(' + ','.join(['0 0'] * 4_000_000) + ')\n')
 put('deep', 'POINT(1 2)\n' + nested(50_000) + 'POINT(3 4)\n')
 put('deeper', 'POINT(1 2)\n' + nested(1_000_000) + 'POINT(3 4)\n')
-put('open', 'GEOMETRYCOLLECTION(' * 1_000_000 + '\nPOINT(1 2)\n')
+def refused(name, text):
+    put(name, text + '\nPOINT(1 2)\n')
+many = 1_000_000
+opened = 'GEOMETRYCOLLECTION('
+refused('open', opened * many)
+refused('open_but_one', opened * many + 'POINT(1 2)' + ')' * (many - 1))
+refused('points_before', (opened + 'POINT(1 2),') * many + 'POINT(1 2)' + ')' * (many - 1))
+refused('points_behind', opened * many + 'POINT EMPTY' + '),POINT EMPTY' * (many - 1))
+refused('side_by_side', opened + 'POINT EMPTY,' * many)
 # line feeds as the last byte of a block of 256 KiB, the one before it and the first of the next
 edges = []
 for last in (262144, 524287, 786433):
@@ -179,9 +187,13 @@ same "an input that stops for a second within a line" "$dir/three_answers"
 run bash -c "ulimit -v 200000; exec $program < $dir/wide"
 says "out of memory: the answers to the lines before are out" "1 | POINT(1 2) | wkt: out of memory"
 
-run bash -c "ulimit -s 8192; $program < $dir/open"
-says "a million collections opened and none closed" "0 | refused
+for stack in 8192 256; do
+  for case in open open_but_one points_before points_behind side_by_side; do
+    run bash -c "ulimit -s $stack; exec timeout 20 $program < $dir/$case"
+    says "a million geometries, $case, on a stack of $stack KB" "0 | refused
 POINT(1 2) | "
+  done
+done
 
 bash -c "ulimit -s 8192; $program < $dir/deep" > "$dir/whole" 2> "$dir/err"
 echo $? > "$dir/status"

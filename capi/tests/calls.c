@@ -114,6 +114,64 @@ static void many_lines(void) {
     CHECK(wkt_lines(BYTES("POINT(1 2.5)"), 0, out, ROOM, &needed) == WKT_OK && holds("refused\n"));
 }
 
+#define ROWS 10
+static int64_t ends[ROWS + 1];
+static wkt_status statuses[ROWS];
+
+/* The column of these texts, none of which is null where valid is NULL. */
+static wkt_status column(const char *texts, const int64_t *offsets, const uint8_t *valid, size_t rows, size_t room) {
+    size_t i;
+    memset(out, '#', ROOM);
+    for (i = 0; i < ROWS; i++) ends[i] = -7, statuses[i] = 77;
+    ends[ROWS] = -7;
+    needed = 99;
+    return wkt_column_canonical(BYTES(texts), offsets, rows + 1, valid, valid ? (rows + 7) / 8 : 0, 18, out, room,
+                                ends, rows + 1, statuses, rows, &needed);
+}
+
+static int column_untouched(void) {
+    size_t i;
+    for (i = 0; i < ROWS; i++)
+        if (ends[i] != -7 || statuses[i] != 77) return 0;
+    return untouched() && ends[ROWS] == -7;
+}
+
+static void columns(void) {
+    const char *texts = "point(1 2.50)XPOINT(1 2)\xffPOINT EMPTYPOINT(3 4)";
+    const char *answers = "POINT(1 2.5)POINT EMPTYPOINT(3 4)";
+    static const int64_t offsets[8] = {0, 13, 14, 24, 25, 36, 36, 46};
+    static const int64_t want[8] = {0, 12, 12, 12, 12, 23, 23, 33};
+    static const wkt_status told[7] = {WKT_OK, 3, WKT_NULL, WKT_NOT_UTF8, WKT_OK, 1, WKT_OK};
+    static const int64_t back[3] = {0, 14, 13}, below[2] = {-1, 13}, past[3] = {0, 13, 47}, later[2] = {36, 46};
+    static const uint8_t valid[2] = {0xfb, 0};
+    int64_t many[ROWS + 1], zero = 0;
+    size_t i;
+    CHECK(column(texts, offsets, valid, 7, ROOM) == WKT_OK && holds(answers));
+    CHECK(!memcmp(ends, want, sizeof want) && !memcmp(statuses, told, sizeof told) && ends[8] == -7);
+    CHECK(column(texts, offsets, NULL, 7, ROOM) == WKT_OK && statuses[2] == WKT_OK && ends[3] == 22 && needed == 43);
+    CHECK(column(texts, later, NULL, 1, ROOM) == WKT_OK && holds("POINT(3 4)") && ends[0] == 0 && ends[1] == 10);
+    CHECK(column(texts, offsets, valid, 7, 32) == WKT_TOO_SMALL && needed == 33 && column_untouched());
+    CHECK(column(texts, offsets, valid, 7, 33) == WKT_OK && holds(answers));
+    CHECK(column(texts, back, NULL, 2, ROOM) == WKT_NOT_COLUMN && column_untouched());
+    CHECK(column(texts, below, NULL, 1, ROOM) == WKT_NOT_COLUMN && column_untouched());
+    CHECK(column(texts, past, NULL, 2, ROOM) == WKT_NOT_COLUMN && column_untouched());
+    CHECK(column(texts, &zero, NULL, 0, ROOM) == WKT_OK && needed == 0 && ends[0] == 0 && untouched());
+    for (i = 0; i <= ROWS; i++) many[i] = 0;
+    many[ROWS] = 13;
+    CHECK(column(texts, many, valid, ROWS, ROOM) == WKT_OK && statuses[8] == WKT_NULL && statuses[9] == WKT_NULL);
+    CHECK(column(texts, many, NULL, ROWS, ROOM) == WKT_OK && statuses[9] == WKT_OK && holds("POINT(1 2.5)"));
+    column(texts, offsets, NULL, 7, ROOM);
+#define WITH(offset_count, bits, places, end_count, status_count)                                                     \
+    wkt_column_canonical(BYTES(texts), many, offset_count, valid, bits, places, out, ROOM, ends, end_count, statuses, \
+                         status_count, &needed)
+    CHECK(WITH(ROWS + 1, 2, 18, ROWS + 1, ROWS) == WKT_OK);
+    CHECK(WITH(ROWS + 1, 2, 19, ROWS + 1, ROWS) == WKT_NO_PLACES);
+    CHECK(WITH(ROWS + 1, 1, 18, ROWS + 1, ROWS) == WKT_NOT_COLUMN);
+    CHECK(WITH(ROWS + 1, 2, 18, ROWS, ROWS) == WKT_NOT_COLUMN);
+    CHECK(WITH(ROWS + 1, 2, 18, ROWS + 1, ROWS - 1) == WKT_NOT_COLUMN);
+    CHECK(WITH(0, 0, 18, 0, 0) == WKT_NOT_COLUMN);
+}
+
 static void arrays(void) {
     const char *text = "multipolygon(((0 0, 4 0, 0 4, 0 0),(1 1,2 1,1 2,1 1)),empty,((9 9,9.5 9,9 9.5,9 9))) x";
     const char *canon = "MULTIPOLYGON(((0 0,4 0,0 4,0 0),(1 1,2 1,1 2,1 1)),EMPTY,((9 9,9.5 9,9 9.5,9 9)))";
@@ -179,14 +237,18 @@ static wkt_status call(int which) {
     case 0: return wkt_canonical(BYTES(text), 6, out, ROOM, &needed, &end_at);
     case 1: return wkt_same(BYTES(text), BYTES(text), 6, &same);
     case 2: return wkt_lines(BYTES(text), 6, out, ROOM, &needed);
-    case 3: return wkt_arrays(BYTES(text), 6, &told, got, 16, got_rings, 3, got_polygons, 3);
+    case 3: {
+        static const int64_t offsets[3] = {0, 57, 57};
+        return wkt_column_canonical(BYTES(text), offsets, 3, NULL, 0, 6, out, ROOM, ends, 3, statuses, 2, &needed);
+    }
+    case 4: return wkt_arrays(BYTES(text), 6, &told, got, 16, got_rings, 3, got_polygons, 3);
     default: return wkt_from_arrays(1, 0, numbers, 6, rings, 2, polygons, 2, 6, out, ROOM, &needed);
     }
 }
 
 static void refusals(void) {
     int which;
-    for (which = 0; which < 5; which++) {
+    for (which = 0; which < 6; which++) {
         long all, n;
         growths = 0;
         CHECK(call(which) == WKT_OK);
@@ -209,6 +271,7 @@ int main(void) {
     comparisons();
     headers();
     many_lines();
+    columns();
     arrays();
     to_and_fro();
     refusals();

@@ -93,6 +93,25 @@ class Calls(unittest.TestCase):
         if pyarrow is not None:
             self.assertEqual(wkt.canonical(pyarrow.array(texts)), answers)
 
+    def test_statuses_of_rows(self):
+        texts = ["point(1 2)", None, "x", b"\xff", "POINT(3.0 4)", b"", None, "POINT EMPTY", None, "POINT(5 6)"]
+        answers = ["POINT(1 2)", None, None, None, "POINT(3 4)", None, None, "POINT EMPTY", None, "POINT(5 6)"]
+        self.assertEqual(wkt.canonical_column(texts), (answers, [0, 28, 3, 20, 0, 1, 28, 0, 28, 0]))
+        self.assertEqual(wkt.canonical_column([]), ([], []))
+        with self.assertRaises(wkt.WktError) as raised:
+            wkt.canonical(texts)
+        self.assertEqual(raised.exception.status, 3)
+        with self.assertRaises(TypeError):
+            wkt.canonical_column("POINT(1 2)")
+
+    def test_table_as_a_column(self):
+        rows = table()
+        answers, statuses = wkt.canonical_column([text for text, _ in rows])
+        for (text, want), answer, status in zip(rows, answers, statuses):
+            self.assertEqual(want if status else answer, want, text)
+            self.assertEqual(answer is None, status != 0)
+        self.assertEqual(len(answers), len(rows))
+
     def test_table(self):
         read = 0
         for text, want in table():

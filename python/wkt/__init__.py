@@ -2,7 +2,8 @@
 
 Numbers are decimals of `places` digits after the point, 0 to 18: nothing is rounded, and a text with more digits is
 refused. Each function but `lines` takes one text, or a list, a NumPy array or an Arrow column of texts, and then gives
-a list; `None` stays `None`. A text that has no answer is a `WktError`.
+a list; `None` stays `None`. A text that has no answer is a `WktError`;
+`canonical_column` gives each row's status in its place.
 """
 from ._calls import (
     DIMENSIONS,
@@ -10,6 +11,7 @@ from ._calls import (
     Arrays,
     WktError,
     canonical,
+    canonical_column,
     from_arrays,
     infer,
     lines,
@@ -23,6 +25,7 @@ __all__ = [
     "Arrays",
     "WktError",
     "canonical",
+    "canonical_column",
     "from_arrays",
     "infer",
     "lines",

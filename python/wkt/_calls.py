@@ -1,6 +1,7 @@
 """The functions of the package."""
 import array
 import ctypes
+import itertools
 from typing import Any, Callable, List, NamedTuple, Optional, Sequence, Tuple, Union
 
 from . import _library
@@ -44,6 +45,7 @@ _MESSAGES = {
     24: "A collection has no flat arrays",
     25: "A number has more units than 64 bits hold",
     26: "The arrays are of no geometry",
+    27: "The offsets, the bits or the sizes are of no column",
 }
 _HEADER_MESSAGES = {
     1: "No kind word",
@@ -51,7 +53,7 @@ _HEADER_MESSAGES = {
     3: "Neither a parenthesis nor EMPTY",
     20: "The text is not UTF-8",
 }
-_TOO_SMALL, _NO_MEMORY = 21, 22
+_TOO_SMALL, _NO_MEMORY, _NULL = 21, 22, 28
 
 
 class WktError(ValueError):
@@ -129,18 +131,53 @@ def _answer(call: Callable[[Any, int, Any], int], likely: int) -> bytes:
 
 
 def canonical(text: Any, places: int = 18) -> Any:
-    """The one text of the geometry that a text begins with; of many texts a list."""
+    """The one text of the geometry that a text begins with; of many texts a list, by one call."""
     places = _places(places)
+    column = _column(text)
+    if column is not None:
+        answers, statuses = canonical_column(column, places)
+        for status in statuses:
+            _check(0 if status == _NULL else status)
+        return answers
+    data, end = _encoded(text), size()
 
-    def one(text: Text) -> str:
-        data, end = _encoded(text), size()
+    def call(out, room, needed):
+        return _library.wkt_canonical(data, len(data), places, out, room, needed, ctypes.byref(end))
 
-        def call(out, room, needed):
-            return _library.wkt_canonical(data, len(data), places, out, room, needed, ctypes.byref(end))
+    return _answer(call, len(data) + 32).decode()
 
-        return _answer(call, len(data) + 32).decode()
 
-    return _of_each(one, text)
+def _bits(rows: Sequence[Any]) -> bytes:
+    """A bit for each row, from the lowest on, which is 0 where the row is None."""
+    bits = bytearray((len(rows) + 7) // 8)
+    for i, row in enumerate(rows):
+        bits[i // 8] |= (row is not None) << i % 8
+    return bytes(bits)
+
+
+def canonical_column(texts: Any, places: int = 18) -> Tuple[List[Optional[str]], List[int]]:
+    """The canonical texts of a list, a NumPy array or an Arrow column of texts, and the status of each, by one call.
+
+    A status is 0, or 28 of a None, or why the text is refused; where it isn't 0 there is None for a text.
+    """
+    places = _places(places)
+    column = _column(texts)
+    if column is None:
+        raise TypeError("a column of texts is wanted, and not one text")
+    rows = [b"" if row is None else _encoded(row) for row in column]
+    offsets = array.array("q", itertools.accumulate(map(len, rows), initial=0))
+    data, valid = b"".join(rows), _bits(column)
+    ends, statuses = array.array("q", bytes(8 * len(offsets))), (u32 * len(rows))()
+
+    def call(out, room, needed):
+        return _library.wkt_column_canonical(
+            data, len(data), offsets.buffer_info()[0], len(offsets), valid, len(valid), places, out, room,
+            ends.buffer_info()[0], len(ends), statuses, len(rows), needed,
+        )  # fmt: skip
+
+    answers = _answer(call, len(data) + len(data) // 4 + 64).decode("ascii")
+    bounds = zip(statuses, ends, ends[1:])
+    return [None if status else answers[start:end] for status, start, end in bounds], list(statuses)
 
 
 def same(one: Any, other: Any, places: int = 18) -> Any:

@@ -44,6 +44,10 @@ wkt_canonical = _declared("wkt_canonical", _bytes, size, u32, _pointer, size, _p
 wkt_same = _declared("wkt_same", _bytes, size, _bytes, size, u32, _pointer)
 wkt_infer = _declared("wkt_infer", _bytes, size, _pointer, _pointer)
 wkt_lines = _declared("wkt_lines", _bytes, size, u32, _pointer, size, _pointer)
+wkt_column_canonical = _declared(
+    "wkt_column_canonical",
+    _bytes, size, _pointer, size, _bytes, size, u32, _pointer, size, _pointer, size, _pointer, size, _pointer,
+)  # fmt: skip
 wkt_arrays = _declared(
     "wkt_arrays", _bytes, size, u32, _pointer, _pointer, size, _pointer, size, _pointer, size
 )

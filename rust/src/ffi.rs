@@ -38,6 +38,22 @@ extern "C" {
         out_len: usize,
         needed: *mut usize,
     ) -> u32;
+    pub fn wkt_column_canonical(
+        texts: *const u8,
+        texts_len: usize,
+        offsets: *const i64,
+        offsets_len: usize,
+        valid: *const u8,
+        valid_len: usize,
+        places: u32,
+        out: *mut u8,
+        out_len: usize,
+        out_offsets: *mut i64,
+        out_offsets_len: usize,
+        statuses: *mut u32,
+        statuses_len: usize,
+        needed: *mut usize,
+    ) -> u32;
     pub fn wkt_arrays(
         text: *const u8,
         text_len: usize,

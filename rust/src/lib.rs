@@ -9,7 +9,8 @@ use std::fmt;
 #[derive(Debug, Clone, Copy, PartialEq, Eq)]
 pub struct Error {
     /// 1 to 14: the text is refused. 20: no UTF-8. 22: out of memory. 23: no such places. 24: a collection.
-    /// 25: a number is too large. 26: the arrays are of no geometry.
+    /// 25: a number is too large. 26: the arrays are of no geometry. 27: the offsets, bits or sizes are of no column.
+    /// 28, of a row alone: it is null.
     pub status: u32,
 }
 
@@ -35,6 +36,8 @@ impl fmt::Display for Error {
             24 => "a collection has no flat arrays",
             25 => "a number has more units than 64 bits hold",
             26 => "the arrays are of no geometry",
+            27 => "the offsets, the bits or the sizes are of no column",
+            28 => "the row is null",
             _ => "refused",
         })
     }
@@ -55,6 +58,17 @@ pub struct Arrays {
     pub rings: Vec<usize>,
     /// Where each polygon begins among the rings, and the end of the last.
     pub polygons: Vec<usize>,
+}
+
+/// The canonical texts of a column, as `wkt_column_canonical` in `include/wkt.h` gives them.
+#[derive(Debug, Clone, PartialEq, Eq, Default)]
+pub struct Column {
+    /// The texts, one after the other.
+    pub texts: String,
+    /// Where each row's text begins, and the end of the last.
+    pub offsets: Vec<i64>,
+    /// 0 of each row that has a text; else why it has none, and its text is empty.
+    pub statuses: Vec<u32>,
 }
 
 const TOO_SMALL: u32 = 21;
@@ -145,6 +159,42 @@ pub fn lines(input: &[u8], places: u32) -> Result<Vec<u8>, Error> {
             out.len(),
             needed,
         )
+    })
+}
+
+/// The canonical texts of a column, as Arrow's large_utf8 has it: row i is the bytes of `texts` from offset i to offset
+/// i + 1, and bit `i % 8` of byte `i / 8` of `valid` is 0 where it is null. No byte of `valid`: no row is.
+pub fn canonical_column(
+    texts: &[u8],
+    offsets: &[i64],
+    valid: &[u8],
+    places: u32,
+) -> Result<Column, Error> {
+    let mut ends = vec![0; offsets.len()];
+    let mut statuses = vec![0; offsets.len().saturating_sub(1)];
+    let likely = texts.len() + texts.len() / 4 + 64;
+    let out = answer(likely, |out, needed| unsafe {
+        ffi::wkt_column_canonical(
+            texts.as_ptr(),
+            texts.len(),
+            offsets.as_ptr(),
+            offsets.len(),
+            valid.as_ptr(),
+            valid.len(),
+            places,
+            out.as_mut_ptr(),
+            out.len(),
+            ends.as_mut_ptr(),
+            ends.len(),
+            statuses.as_mut_ptr(),
+            statuses.len(),
+            needed,
+        )
+    })?;
+    Ok(Column {
+        texts: ascii(out),
+        offsets: ends,
+        statuses,
     })
 }
 

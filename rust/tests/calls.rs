@@ -1,5 +1,7 @@
 //! Each function, with values worked by hand.
-use wkt_proved::{canonical, from_arrays, infer, lines, same, to_arrays, Arrays, Error};
+use wkt_proved::{
+    canonical, canonical_column, from_arrays, infer, lines, same, to_arrays, Arrays, Column, Error,
+};
 
 #[test]
 fn canonical_texts() {
@@ -34,6 +36,30 @@ fn many_lines() {
         Ok(b"POINT(1 2.5)\nrefused\n".to_vec())
     );
     assert_eq!(lines(b"", 18), Ok(vec![]));
+}
+
+#[test]
+fn columns() {
+    let texts = b"point(1 2.50)XPOINT(1 2)POINT EMPTY";
+    let offsets = [0, 13, 14, 24, 35];
+    let want = Column {
+        texts: "POINT(1 2.5)POINT EMPTY".to_string(),
+        offsets: vec![0, 12, 12, 12, 23],
+        statuses: vec![0, 3, 28, 0],
+    };
+    assert_eq!(canonical_column(texts, &offsets, &[0b1011], 6), Ok(want));
+    assert_eq!(
+        canonical_column(texts, &[0, 36], &[], 6),
+        Err(Error { status: 27 })
+    );
+    assert_eq!(
+        canonical_column(texts, &[], &[], 6),
+        Err(Error { status: 27 })
+    );
+    assert_eq!(
+        canonical_column(b"", &[0], &[], 6).map(|column| column.offsets),
+        Ok(vec![0])
+    );
 }
 
 #[test]

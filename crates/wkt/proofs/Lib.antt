@@ -1,3 +1,9 @@
 pub mod Texts
 pub mod BackValues
 mod JsonPoints
+-- Lemmas of the crates below that callers' proofs cite.
+pub use Rattle.wkt_access.proofs.Collections
+pub use Rattle.wkt_access.proofs.Lists
+pub use Rattle.wkt_write.proofs.Members
+pub use Rattle.wkt_types.proofs.Displays
+pub use Rattle.wkt_read.proofs.TokenizerLemmas.Peeked

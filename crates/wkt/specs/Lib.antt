@@ -1,3 +1,80 @@
 pub mod FromText
 pub mod Laws
 pub mod Json
+-- What public clauses cite of the crates below, so that a caller names this crate alone.
+
+-- values, shapes and their text
+pub use Rattle.wkt_access.specs.Values
+pub use Rattle.wkt_access.specs.Shapes
+pub use Rattle.wkt_access.specs.Texts
+pub use Rattle.wkt_access.specs.WellFormed
+pub use Rattle.wkt_access.specs.Faults
+pub use Rattle.wkt_access.specs.Lawful
+pub use Rattle.wkt_access.specs.Parts
+pub use Rattle.wkt_access.specs.declared.dimensions.Dimension
+pub use Rattle.wkt_access.specs.declared.dimensions.Dimensions
+pub use Rattle.wkt_access.specs.declared.error.Error as WriteError
+pub use Rattle.wkt_write.specs.Writes
+-- numbers, and sinks of text
+pub use Rattle.wkt_num.specs.Bytes
+pub use Rattle.wkt_num.specs.Number
+pub use Rattle.wkt_num.specs.Whole
+pub use Rattle.wkt_num.specs.WholeLaws
+pub use Rattle.wkt_num.specs.Decimal
+pub use Rattle.wkt_num.specs.Laws as NumberLaws
+pub use Rattle.wkt_num.specs.Sink
+pub use Rattle.wkt_num.specs.Counted as CountedText
+-- sinks and sources of bytes
+pub use Rattle.wkt_bytes.specs.Sinks
+pub use Rattle.wkt_bytes.specs.Counted
+pub use Rattle.wkt_bytes.specs.Wrapper
+pub use Rattle.wkt_bytes.specs.Gatherer
+pub use Rattle.wkt_bytes.specs.ReadAll
+-- what is read
+pub use Rattle.wkt_read.specs.Lexemes
+pub use Rattle.wkt_read.specs.Placed
+pub use Rattle.wkt_read.specs.Grammar
+pub use Rattle.wkt_read.specs.Front
+pub use Rattle.wkt_read.specs.Begun
+pub use Rattle.wkt_read.specs.Early
+pub use Rattle.wkt_read.specs.Bad
+pub use Rattle.wkt_read.specs.Items
+pub use Rattle.wkt_read.specs.Stream
+pub use Rattle.wkt_read.specs.Ahead
+pub use Rattle.wkt_read.specs.Answered
+pub use Rattle.wkt_read.specs.Header
+pub use Rattle.wkt_read.specs.Infer
+pub use Rattle.wkt_read.specs.Headline
+pub use Rattle.wkt_read.specs.Laws as ReadLaws
+pub use Rattle.wkt_read.specs.declared.error.ReadError
+pub use Rattle.wkt_read.specs.declared.infer.InferError
+-- what a `Wkt` holds
+pub use Rattle.wkt_types.specs.Tree
+pub use Rattle.wkt_types.specs.Trees
+pub use Rattle.wkt_types.specs.Values as TreeValues
+pub use Rattle.wkt_types.specs.Coords
+pub use Rattle.wkt_types.specs.Held
+pub use Rattle.wkt_types.specs.Equal
+pub use Rattle.wkt_types.specs.Exact
+pub use Rattle.wkt_types.specs.Shown
+pub use Rattle.wkt_types.specs.Outcome
+pub use Rattle.wkt_types.specs.Flattened
+pub use Rattle.wkt_types.specs.declared.geometry.Wkt
+-- what a two-dimensional geometry holds
+pub use Rattle.wkt_flat.specs.Tree as FlatTree
+pub use Rattle.wkt_flat.specs.Trees as FlatTrees
+pub use Rattle.wkt_flat.specs.Shape as FlatShape
+pub use Rattle.wkt_flat.specs.Numbers as FlatNumbers
+pub use Rattle.wkt_flat.specs.Rings
+pub use Rattle.wkt_flat.specs.Corners
+pub use Rattle.wkt_flat.specs.Closed
+pub use Rattle.wkt_flat.specs.Equal as FlatEqual
+pub use Rattle.wkt_flat.specs.Exact as FlatExact
+pub use Rattle.wkt_flat.specs.declared.coord.Coord as FlatCoord
+-- conversions between the two
+pub use Rattle.wkt_convert.specs.Flatten
+pub use Rattle.wkt_convert.specs.Outcomes
+pub use Rattle.wkt_convert.specs.Kinds as FlatKinds
+pub use Rattle.wkt_to_wkt.specs.Back
+pub use Rattle.wkt_to_wkt.specs.Sent
+pub use Rattle.wkt_to_wkt.specs.Laws as ConversionLaws

@@ -44,6 +44,7 @@
 //! ```
 #![tactic(auto)]
 
+mod any_error;
 mod flat_laws;
 mod from_text;
 mod json;
@@ -51,6 +52,7 @@ mod json;
 mod macro_tests;
 mod macros;
 
+pub use any_error::AnyError;
 pub use from_text::TryFromWkt;
 pub use json::{
     ValueError, deserialize_geometry, deserialize_point, deserialize_wkt, wkt_from_value,
@@ -98,7 +100,9 @@ pub mod types {
 /// push_geometry(&mut out, &rect)?;
 /// ```
 pub mod to_wkt {
-    pub use wkt_bytes::{ByteSink, ByteSource, Counted, ReadAllError, WriterWrapper, read_all};
+    pub use wkt_bytes::{
+        ByteSink, ByteSource, Counted, Gatherer, ReadAllError, WriterWrapper, put_all, read_all,
+    };
     pub use wkt_num::{CountedText, FormatterText, TextSink};
     pub use wkt_to_wkt::{ToWkt, ToWktError};
     pub use wkt_write::{
@@ -119,8 +123,9 @@ pub mod geo_types_from_wkt {
     pub use wkt_types::ConvertError as Error;
 }
 
-/// Why a geometry isn't written.
+/// Why a geometry isn't written, and one error for whatever a function here answers.
 pub mod error {
+    pub use crate::any_error::AnyError;
     pub use wkt_access::Error;
 }
 
@@ -152,8 +157,9 @@ pub mod laws {
     pub use wkt_num::laws::{finer_keeps, reading_is_equation, wider_keeps};
     pub use wkt_read::laws::{
         canon_once, dead_for_good, few_lexemes, front_is_writable, front_of_lexemes, header_names,
-        old_forms, one_form, one_front, one_reading, one_split, one_text, one_value_text, one_wkt,
-        read_values_are_writable, reads_back, stable_front, value_reads_back, whole_characters,
+        headline, old_forms, one_form, one_front, one_reading, one_split, one_text, one_value_text,
+        one_wkt, read_values_are_writable, reads_back, stable_front, value_reads_back,
+        whole_characters,
     };
     pub use wkt_to_wkt::laws::{flat_and_back, plain_comes_back};
 }

@@ -11,4 +11,4 @@ mod wrapper;
 pub use gatherer::Gatherer;
 pub use read::{ReadAllError, read_all};
 pub use sinks::{ByteSink, ByteSource, Counted};
-pub use wrapper::WriterWrapper;
+pub use wrapper::{WriterWrapper, put_all};

@@ -33,8 +33,12 @@ pub struct WriterWrapper<W> {
     ghost fits: { len ≤ 256 },
 }
 
-/// Puts all the bytes out, or stops at the first fault.
-pub(crate) fn put_all<W: ByteSink>(writer: &mut W, bytes: &[u8]) -> Result<(), io::Error>
+/// Puts all the bytes out: the sink is called until it took them all. It stops at the first fault, of which none
+/// is tried again, `Interrupted` neither.
+///
+/// # Errors
+/// The sink's, or `WriteZero` where it took nothing; a beginning of the bytes is out then.
+pub fn put_all<W: ByteSink>(writer: &mut W, bytes: &[u8]) -> Result<(), io::Error>
     ensures ok { OnOk result (Appends (W.sink.bytes writer.old) (W.sink.bytes writer.new) bytes.now) }
     ensures kept { OnOk result (W.sink.failures writer.new ≡ W.sink.failures writer.old) }
     ensures err { OnErr result

@@ -3,3 +3,4 @@ pub mod Steps
 pub mod PartsOf
 pub mod Handing
 pub mod Answering
+pub mod Columns

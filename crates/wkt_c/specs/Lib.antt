@@ -4,3 +4,5 @@ pub mod Arrays
 pub mod Growing
 pub mod Sizes
 pub mod Flat
+pub mod Column
+pub mod Rows

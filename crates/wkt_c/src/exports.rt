@@ -1,18 +1,20 @@
 //! The functions that C calls.
-ghost use Rattle.std.specs.Prelude.{◌≡◌, ◌≤◌, ◌≢◌, ◌⊎◌, ℕ, List, Bool};
+ghost use Rattle.std.specs.Prelude.{◌≡◌, ◌≤◌, ◌≢◌, ◌⊎◌, ℕ, List, Bool, length};
 ghost use Rattle.wkt_lines.specs.Output.{IsOutput};
 ghost use Rattle.wkt_c.specs.Answer.{read_at, print_at, IsCanonical, Compares, RefusesAt, RefusesOneAt, IsNamed, NamesNone, HasNoPlaces, IsNoTextAt, IsHandedOut, HasNoRoom, same_number};
+ghost use Rattle.wkt_c.specs.Column.{AreColumnAnswers, IsNoColumn};
 ghost use Rattle.wkt_c.specs.Arrays.{IsTextOf, IsNotFlat};
 ghost use Rattle.wkt_c.specs.Sizes.{AreHandedOut, HaveNoRoom};
 
 use crate::canonical::{canonical_at, same_at};
-use crate::fill::copy_to_front;
+use crate::column::{GivenColumn, Rows, column_at, is_column};
+use crate::fill::{copy_to_front, copy_whole};
 use crate::flat::flat_at;
 use crate::infer::infer;
 use crate::lines::answers_at;
 use crate::rebuild::{GivenArrays, text_at};
 use crate::sizes::WktSizes;
-use crate::status::{DONE, MEMORY, SMALL};
+use crate::status::{DONE, MEMORY, NOT_COLUMN, SMALL};
 use std::alloc::Global;
 
 /// Hands out an answer, if there is room for it.
@@ -118,6 +120,73 @@ pub extern "C" fn wkt_lines(
 {
     match answers_at(alloc, input, places) {
         Ok(text) => hand_out(&text, out, needed),
+        Err(status) => status,
+    }
+}
+
+/// Hands out the answers to a column, if there is room for their texts.
+fn hand_out_rows(
+    rows: &Rows,
+    out: &mut [u8],
+    ends: &mut [usize],
+    statuses: &mut [u32],
+    needed: &mut usize,
+) -> u32
+    requires ends_fit { length rows.now.ends.items ≡ length ends.old }
+    requires statuses_fit { length rows.now.statuses.items ≡ length statuses.old }
+    ensures stands { result ≡ DONE → IsHandedOut rows.now.bytes.items needed.new out.old out.new }
+    ensures ends_are { result ≡ DONE → ends.new ≡ rows.now.ends.items }
+    ensures statuses_are { result ≡ DONE → statuses.new ≡ rows.now.statuses.items }
+    ensures lacks { result ≡ SMALL → HasNoRoom rows.now.bytes.items needed.new out.old }
+    ensures kept { 1 ≤ result →
+        (out.new ≡ out.old) × (ends.new ≡ ends.old) × (statuses.new ≡ statuses.old) }
+    ensures two { (result ≡ DONE) ⊎ (result ≡ SMALL) }
+{
+    let status = hand_out(&rows.bytes, out, needed);
+    if status != DONE {
+        return status;
+    }
+    copy_whole(&rows.ends, ends);
+    copy_whole(&rows.statuses, statuses);
+    DONE
+}
+
+/// Writes the canonical texts of a column of texts to the front of `out`, their length to `needed`, where each begins
+/// in `out`, with the end of the last, to `out_offsets`, and of each row to `statuses` why it has none, or 0. Row i is
+/// the bytes of `texts` from offset i to offset i + 1. `valid` has a bit for each row, which is 0 where the row is
+/// null, or no byte. Numbers are decimals of so many places.
+#[unsafe(no_mangle)]
+pub extern "C" fn wkt_column_canonical(
+    alloc: Global,
+    texts: &[u8],
+    offsets: &[usize],
+    valid: &[u8],
+    places: u32,
+    out: &mut [u8],
+    out_offsets: &mut [usize],
+    statuses: &mut [u32],
+    needed: &mut usize,
+) -> u32
+    ensures written { result ≡ DONE → (answers : List ℕ)
+        × AreColumnAnswers places texts.now offsets.now valid.now answers out_offsets.new statuses.new
+        × IsHandedOut answers needed.new out.old out.new }
+    ensures small { result ≡ SMALL → (answers : List ℕ) × (ends : List ℕ) × (told : List ℕ)
+        × AreColumnAnswers places texts.now offsets.now valid.now answers ends told × HasNoRoom answers needed.new out.old }
+    ensures others { 1 ≤ result → result ≢ SMALL →
+        IsNoColumn places texts.now offsets.now valid.now out_offsets.old statuses.old result }
+    ensures kept { 1 ≤ result →
+        (out.new ≡ out.old) × (out_offsets.new ≡ out_offsets.old) × (statuses.new ≡ statuses.old) }
+{
+    let given = GivenColumn {
+        texts,
+        offsets,
+        valid,
+    };
+    if !is_column(given, out_offsets, statuses) {
+        return NOT_COLUMN;
+    }
+    match column_at(alloc, given, places) {
+        Ok(rows) => hand_out_rows(&rows, out, out_offsets, statuses, needed),
         Err(status) => status,
     }
 }

@@ -10,3 +10,11 @@ pub(crate) fn copy_to_front<T: Copy>(list: &[T], out: &mut [T])
     let size = list.len();
     out[..size].copy_from_slice(list);
 }
+
+/// Puts the list in the place of the buffer, which is as long.
+pub(crate) fn copy_whole<T: Copy>(list: &[T], out: &mut [T])
+    requires { length list.now ≡ length out.old }
+    ensures { out.new ≡ list.now }
+{
+    out.copy_from_slice(list);
+}

@@ -6,6 +6,7 @@
 
 mod arrays;
 mod canonical;
+mod column;
 mod exports;
 mod fill;
 mod flat;

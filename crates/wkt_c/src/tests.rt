@@ -1,5 +1,8 @@
 //! Each exported call once.
-use crate::exports::{wkt_arrays, wkt_canonical, wkt_from_arrays, wkt_infer, wkt_lines, wkt_same};
+use crate::exports::{
+    wkt_arrays, wkt_canonical, wkt_column_canonical, wkt_from_arrays, wkt_infer, wkt_lines,
+    wkt_same,
+};
 use crate::sizes::WktSizes;
 use std::test::Fail;
 
@@ -107,6 +110,47 @@ fn answers_lines(rt: HostRuntime) -> Result<(), Fail> {
         ),
         21
     );
+    Ok(())
+}
+
+#[test]
+fn answers_a_column(rt: HostRuntime) -> Result<(), Fail> {
+    let alloc = rt.alloc();
+    let texts = b"point(1 2.50)XPOINT(1 2)POINT EMPTY";
+    let offsets = [0, 13, 14, 24, 35];
+    let valid = [0b1011];
+    let mut out = [35; 24];
+    let mut ends = [7; 5];
+    let mut statuses = [77; 4];
+    let mut needed = 0;
+    let status = wkt_column_canonical(
+        alloc,
+        texts,
+        &offsets,
+        &valid,
+        6,
+        &mut out,
+        &mut ends,
+        &mut statuses,
+        &mut needed,
+    );
+    assert_eq!(rt; status, 0);
+    assert_eq!(rt; needed, 23);
+    assert!(rt; out == *b"POINT(1 2.5)POINT EMPTY#");
+    assert!(rt; ends == [0, 12, 12, 12, 23]);
+    assert!(rt; statuses == [0, 3, 28, 0]);
+    let status = wkt_column_canonical(
+        alloc,
+        texts,
+        &[14, 13],
+        &[],
+        6,
+        &mut out,
+        &mut ends[..2],
+        &mut statuses[..1],
+        &mut needed,
+    );
+    assert_eq!(rt; status, 27);
     Ok(())
 }
 

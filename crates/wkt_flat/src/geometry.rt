@@ -6,6 +6,7 @@ ghost use Rattle.wkt_flat.specs.Exact.{exact_by, exact_per};
 ghost use Rattle.wkt_flat.specs.Tree.{flat_tree, flat_trees, flat_members, collection, point, line, line_string, polygon, multi_point, multi_line_string, multi_polygon, rect, triangle};
 ghost use Rattle.wkt_flat.specs.Trees.{flat_eq, flats_eq, flat_exact, flats_exact};
 
+use crate::letting_go::let_go;
 use crate::line::Line;
 use crate::linestring::LineString;
 use crate::multilinestring::MultiLineString;
@@ -20,8 +21,8 @@ use wkt_num::WktNum;
 
 /// A collection: geometries in order, which may be collections too. It may be empty.
 ///
-/// Since a drop of its own saves stack at deep nesting, no pattern of another crate takes it apart:
-/// [`GeometryCollection::into_inner`] gives its geometries.
+/// Since it has a drop of its own, so that nesting takes no stack, no pattern of another crate takes
+/// it apart: [`GeometryCollection::into_inner`] gives its geometries.
 #[cycle(geometry)]
 #[derive(Debug)]
 pub struct GeometryCollection<T>(pub Vec<Geometry<T>>);
@@ -53,11 +54,10 @@ pub enum Geometry<T> {
 }
 
 impl<T: Drop> Drop for GeometryCollection<T> {
-    // A function of its own, so that a level takes little stack.
-    #[cycle(letting_go)]
-    #[inline(never)]
+    // By a loop, so that nesting takes no stack.
     fn drop(self) {
-        let GeometryCollection(_) = self;
+        let GeometryCollection(geometries) = self;
+        let_go(geometries);
     }
 }
 

@@ -10,4 +10,5 @@ pub mod Reaches
 pub mod Early
 pub mod Free
 pub mod Answering
+pub mod Valued
 pub mod Refusals

@@ -1,6 +1,8 @@
 -- The messages, as texts.
-use Rattle.std.specs.Prelude.{ℕ, List, codes}
+use Rattle.std.specs.Prelude.{◌≡◌, ℕ, List, codes}
 use Rattle.wkt_read.specs.Items.{bad_number}
+use Rattle.wkt_read.specs.declared.error.ReadError.{ReadError}
+use Rattle.wkt_read.specs.declared.error.ReadError.TheVariants.{Text, Memory}
 use Rattle.wkt_read.specs.declared.messages.Message.{Message}
 use Rattle.wkt_read.specs.declared.messages.Message.TheVariants.{BadNumber, Format, NonAscii, Kind, Word, End, Open, Close, X, Y, Z, M, Member}
 
@@ -18,3 +20,8 @@ message_text Y = codes "Expected a number for the Y coordinate"
 message_text Z = codes "Expected a number for the Z coordinate"
 message_text M = codes "Expected a number for the M coordinate"
 message_text Member = codes "Expected a word in GEOMETRYCOLLECTION"
+
+-- The error is this message, as a text.
+abbrev pub Says : ReadError → Message → Type 0
+Says (Text t) message = t.now ≡ message_text message
+Says (Memory e) message = ⊥

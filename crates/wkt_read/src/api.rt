@@ -13,7 +13,6 @@ ghost use Rattle.wkt_read.specs.Ahead.{rest, Advances, IsNear};
 ghost use Rattle.wkt_read.specs.Answered.{IsFront, IsFrontTo, Begins, IsReadOff, HasBadNumber, OnText, OnMessage};
 
 use crate::error::ReadError;
-use crate::messages::{ParseError, text};
 use crate::parser::geometries::value;
 use crate::tokenizer::peekable::PeekableTokens;
 use crate::tokenizer::tokens::Tokens;
@@ -31,11 +30,7 @@ fn read<T: WktNum>(alloc: Global, tokens: &mut PeekableTokens<'_, T>) -> Result<
     ensures advances { Advances tokens.old tokens.new }
     ensures near { OnOk result (IsNear tokens.new) }
 {
-    match value(alloc, tokens, false) {
-        Ok(value) => Ok(value),
-        Err(ParseError::Text(message)) => Err(ReadError::Text(text(message))),
-        Err(ParseError::Memory(error)) => Err(ReadError::Memory(error)),
-    }
+    value(alloc, tokens, false)
 }
 
 fn read_text<T: WktNum>(alloc: Global, text: &str) -> Result<(Wkt<T>, usize), ReadError>
@@ -124,10 +119,8 @@ impl<T: WktNum> FromWktStr for Wkt<T> {
     ghost tree = { tree };
 
     fn from_str(alloc: Global, text: &str) -> Result<Self, ReadError> {
-        match read_text(alloc, text) {
-            Ok((geometry, _)) => Ok(geometry),
-            Err(error) => Err(error),
-        }
+        let mut tokens = PeekableTokens::new(Tokens::from_str(text));
+        read(alloc, &mut tokens)
     }
 
     fn read_front(alloc: Global, text: &str) -> Result<(Self, usize), ReadError> {

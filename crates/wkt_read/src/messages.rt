@@ -1,8 +1,8 @@
-//! The thirteen messages, and the errors of the readers of parts.
+//! The thirteen messages.
 ghost use Rattle.std.specs.Prelude.{◌≡◌};
 ghost use Rattle.wkt_read.specs.Messages.{message_text};
 
-use std::alloc::{AllocError, AllocFailed};
+use crate::error::ReadError;
 
 /// What was found amiss in a text.
 #[derive(Clone, Copy)]
@@ -42,29 +42,13 @@ pub(crate) fn text(message: Message) -> &'static str
     }
 }
 
-/// The error of a reader of a part: its message is no text yet.
-#[derive(Drop)]
-pub(crate) enum ParseError {
-    Text(Message),
-    Memory(AllocError),
-}
+/// So that `?` passes a message on.
+impl From<Message> for ReadError {
+    ghost use Rattle.wkt_read.specs.Messages.{Says};
 
-impl From<Message> for ParseError {
-    ghost use Rattle.wkt_read.specs.declared.messages.ParseError.TheVariants.{Text};
-
-    ghost from_gives = { λ message e. e ≡ Text message };
+    ghost from_gives = { λ message error. Says error message };
 
     fn from(message: Message) -> Self {
-        ParseError::Text(message)
-    }
-}
-
-impl<V: Drop> From<AllocFailed<V>> for ParseError {
-    ghost use Rattle.wkt_read.specs.Parser.Errors.{IsParseMemory};
-
-    ghost from_gives = { λ _ e. IsParseMemory e };
-
-    fn from(failed: AllocFailed<V>) -> Self {
-        ParseError::Memory(AllocError::from(failed))
+        ReadError::Text(text(message))
     }
 }

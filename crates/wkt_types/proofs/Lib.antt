@@ -3,3 +3,4 @@ pub mod TreeLemmas
 pub mod Members
 pub mod Collections
 pub mod Displays
+pub mod Weighing

@@ -8,3 +8,4 @@ pub mod Values
 pub mod Shown
 pub mod Outcome
 pub mod Flattened
+pub mod Weight

@@ -10,6 +10,7 @@ ghost use Rattle.wkt_types.specs.Tree.{tree, collection_tree, members, no_trees,
 ghost use Rattle.wkt_types.specs.Trees.{tree_eq, trees_eq, tree_exact};
 
 use crate::dimension::and_same;
+use crate::letting_go::let_go;
 use crate::linestring::LineString;
 use crate::multilinestring::MultiLineString;
 use crate::multipoint::MultiPoint;
@@ -42,14 +43,10 @@ pub enum Wkt<T> {
 }
 
 impl<T: Drop> Drop for GeometryCollection<T> {
-    // A function of its own, so that a level takes little stack.
-    #[cycle(letting_go)]
-    #[inline(never)]
+    // By a loop, so that nesting takes no stack.
     fn drop(self) {
-        let GeometryCollection {
-            geometries: _,
-            dim: _,
-        } = self;
+        let GeometryCollection { geometries, dim: _ } = self;
+        let_go(geometries);
     }
 }
 

@@ -10,6 +10,7 @@ mod display;
 mod geometry;
 mod geometry_access;
 mod geometry_type;
+mod letting_go;
 mod linestring;
 mod multilinestring;
 mod multipoint;

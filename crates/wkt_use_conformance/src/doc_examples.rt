@@ -7,7 +7,7 @@ use wkt::geo_types::{Coord, Geometry, Rect};
 use wkt::geo_types_from_wkt::try_into_geometry;
 use wkt::to_wkt::{Counted, push_geometry};
 use wkt::types::{Dimension, GeometryType};
-use wkt::{Decimal, FromWktStr, ToWkt, TryFromWkt, Wkt, infer_type};
+use wkt::{AnyError, Decimal, FromWktStr, ReadError, ToWkt, TryFromWkt, Wkt, infer_type};
 
 #[test]
 fn reads(rt: HostRuntime) -> Result<(), Fail> {
@@ -28,6 +28,8 @@ fn reads_flat(rt: HostRuntime) -> Result<(), Fail> {
     let alloc = rt.alloc();
     let geometry = Geometry::<Decimal<6>>::try_from_wkt_str(alloc, "POINT (10 20)")?;
     assert_eq!(rt; geometry.wkt_string(alloc)?.as_str(), "POINT(10 20)");
+    let flat = Geometry::<i32>::try_from_wkt_str(alloc, "POINT M(1 2 9)")?;
+    assert_eq!(rt; flat.wkt_string(alloc)?.as_str(), "POINT(1 2)");
     assert_eq!(rt; of_bytes(alloc, "point(1 2)")?.as_str(), "POINT(1 2)");
     Ok(())
 }
@@ -78,5 +80,48 @@ fn reads_json(rt: HostRuntime) -> Result<(), Fail> {
     let value = Value::from_str(alloc, "\"POINT (42 3.14)\"")?;
     let point = wkt_from_value::<Decimal<6>>(alloc, &value)?;
     assert_eq!(rt; point.to_string(alloc)?.as_str(), "POINT(42 3.14)");
+    Ok(())
+}
+
+// The text of the geometry of a text without z and m.
+fn flat_text(alloc: Global, text: &str) -> Result<String, AnyError> {
+    let wkt = Wkt::<i32>::from_str(alloc, text)?;
+    let flat = try_into_geometry(alloc, &wkt)?;
+    Ok(flat.wkt_string(alloc)?)
+}
+
+#[test]
+fn one_error(rt: HostRuntime) -> Result<(), Fail> {
+    let alloc = rt.alloc();
+    assert_eq!(rt; flat_text(alloc, "POINT Z(1 2 3)")?.as_str(), "POINT(1 2)");
+    match flat_text(alloc, "POINT(1)") {
+        Err(AnyError::Read(ReadError::Text(message))) => {
+            assert_eq!(rt; message, "Missing closing parenthesis for type");
+        }
+        _ => assert!(rt; false),
+    }
+    match flat_text(alloc, "MULTIPOINT(EMPTY)") {
+        Err(AnyError::Convert(error)) => {
+            assert_eq!(rt;
+                error.to_string(alloc)?.as_str(),
+                "The WKT Point was empty, but geo_type::Points cannot be empty"
+            );
+        }
+        _ => assert!(rt; false),
+    }
+    let mut out = String::new(alloc);
+    assert!(rt; pushed(alloc, &mut out).is_ok() && out.as_str() == "POINT(1 2)");
+    Ok(())
+}
+
+// Each call with an error of its own under one `?`.
+fn pushed(alloc: Global, out: &mut String) -> Result<(), AnyError> {
+    let _ = infer_type(alloc, "POINT(1 2)")?;
+    let rect = Rect::<i32>::new(Coord { x: 4, y: 4 }, Coord { x: 8, y: 8 });
+    let mut bytes = Vec::new(alloc);
+    bytes.push(1u8)?;
+    rect.write_wkt(alloc, &mut Counted::new(&mut bytes))?;
+    let wkt = Wkt::<i32>::from_str(alloc, "POINT(1 2)")?.try_clone(alloc)?;
+    push_geometry(out, &wkt)?;
     Ok(())
 }

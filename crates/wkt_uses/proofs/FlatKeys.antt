@@ -1,17 +1,17 @@
 -- The text of a flat value names it.
 use Rattle.std.proofs.Common.{◌≡◌, ◌↔◌, ℕ, Bool, List, Option, Result, Ok, Err, subst, sym, true}
 use Rattle.std.specs.Prelude.{IfOk, OnOk}
-use Rattle.wkt_access.specs.Lawful.{IsLawful}
-use Rattle.wkt_access.specs.Shapes.{canon}
-use Rattle.wkt_access.specs.Texts.{text, shape_text}
-use Rattle.wkt_access.specs.WellFormed.{IsWellFormed}
-use Rattle.wkt_flat.specs.Equal.{coord_eq}
-use Rattle.wkt_flat.specs.Shape.{flat_shape}
-use Rattle.wkt_flat.specs.Tree.{Flat}
-use Rattle.wkt_types.specs.Outcome.{value}
-use Rattle.wkt_types.specs.Values.{tree_shape}
-use Rattle.wkt_convert.specs.Flatten.{flat}
-use Rattle.wkt_to_wkt.specs.Back.{back}
+use Rattle.wkt.specs.Lawful.{IsLawful}
+use Rattle.wkt.specs.Shapes.{canon}
+use Rattle.wkt.specs.Texts.{text, shape_text}
+use Rattle.wkt.specs.WellFormed.{IsWellFormed}
+use Rattle.wkt.specs.FlatEqual.{coord_eq}
+use Rattle.wkt.specs.FlatShape.{flat_shape}
+use Rattle.wkt.specs.FlatTree.{Flat}
+use Rattle.wkt.specs.Outcome.{value}
+use Rattle.wkt.specs.TreeValues.{tree_shape}
+use Rattle.wkt.specs.Flatten.{flat}
+use Rattle.wkt.specs.Back.{back}
 use Rattle.wkt.specs.FromText.{FrontGives}
 use Rattle.wkt.specs.Laws.{FlatReadsBack}
 use Rattle.wkt_uses.specs.FlatKey.{NamesPlain}

@@ -2,9 +2,9 @@
 use Rattle.std.proofs.Common.{◌≡◌, ℤ, map, ap, sym, ◌∙◌}
 use Rattle.std.specs.declared.vec.Vec.{Vec}
 use Rattle.std.specs.declared.alloc.Global.{Global}
-use Rattle.wkt_access.specs.declared.dimensions.Dimensions.{Dimensions}
-use Rattle.wkt_access.specs.Shapes.{Shape}
-use Rattle.wkt_access.specs.Parts.{collection_of}
+use Rattle.wkt.specs.Dimensions.{Dimensions}
+use Rattle.wkt.specs.Shapes.{Shape}
+use Rattle.wkt.specs.Parts.{collection_of}
 use Rattle.wkt_uses.specs.declared.my_map.Figure.{Figure}
 use Rattle.wkt_uses.specs.declared.my_map.Figure.TheVariants.{rolls-Group}
 use Rattle.wkt_uses.specs.declared.my_map.Figure.TheOpen.{Group}

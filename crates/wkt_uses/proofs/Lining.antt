@@ -1,9 +1,9 @@
 -- Lines that are added to a sink one after the other.
 use Rattle.std.proofs.Common.{◌≡◌, ℕ, ◌+◌, List, [], ◌∷◌, ◌++◌, take, Some, refl, ap, sym, ◌∙◌, subst, append_assoc, slice_get}
-use Rattle.wkt_num.specs.Sink.{Sink, Adds}
-use Rattle.wkt_access.specs.Shapes.{Shape}
-use Rattle.wkt_access.specs.Texts.{shape_text}
-use Rattle.wkt_access.proofs.Lists.{take_one_more}
+use Rattle.wkt.specs.Sink.{Sink, Adds}
+use Rattle.wkt.specs.Shapes.{Shape}
+use Rattle.wkt.specs.Texts.{shape_text}
+use Rattle.wkt.proofs.Lists.{take_one_more}
 use Rattle.wkt_uses.specs.Lined.{lined}
 
 module _ {N : Type 0} (num : N → List ℕ) where

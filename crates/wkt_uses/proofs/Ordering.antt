@@ -1,11 +1,11 @@
 -- One geometry more after those that were read.
 use Rattle.std.proofs.Common.{◌≡◌, ℕ, List, [], ◌∷◌, ◌++◌, drop, Option, Err, refl, sym, subst}
-use Rattle.wkt_num.specs.Bytes.{Lexeme}
-use Rattle.wkt_types.specs.Tree.{Tree}
-use Rattle.wkt_read.specs.Answered.{IsFrontTo, IsReadOff, OnText}
-use Rattle.wkt_read.specs.Begun.{NoneBegins}
-use Rattle.wkt_read.specs.declared.error.ReadError.{ReadError}
-use Rattle.wkt_read.specs.declared.error.ReadError.TheVariants.{Text, Memory}
+use Rattle.wkt.specs.Bytes.{Lexeme}
+use Rattle.wkt.specs.Tree.{Tree}
+use Rattle.wkt.specs.Answered.{IsFrontTo, IsReadOff, OnText}
+use Rattle.wkt.specs.Begun.{NoneBegins}
+use Rattle.wkt.specs.ReadError.{ReadError}
+use Rattle.wkt.specs.ReadError.TheVariants.{Text, Memory}
 use Rattle.wkt_uses.specs.Ordered.{BeginsWith, StreamBeginsWith, StreamStops}
 
 module _ {T : Type 0} (read : List ℕ → Option T) where

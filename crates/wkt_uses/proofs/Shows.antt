@@ -2,15 +2,15 @@
 use Rattle.std.proofs.Common.{◌≡◌, ℕ, List, [], ◌++◌, length, Option, None, IfSome, Bool, IsTrue, ◌↔◌, String, string_bytes, ap, sym, ◌∙◌, subst}
 use Rattle.std.specs.String.{string_eq}
 use Rattle.std.proofs.lemmas.Slice.Eq.{bytes_eq-Decides}
-use Rattle.wkt_access.specs.declared.dimensions.Dimension.TheVariants.{XY}
-use Rattle.wkt_access.specs.Values.{Value}
-use Rattle.wkt_access.specs.Texts.{shape_text}
-use Rattle.wkt_access.specs.Faults.{fault}
-use Rattle.wkt_types.specs.Shown.{shown}
-use Rattle.wkt_types.proofs.Displays.{shown_is}
-use Rattle.wkt_types.specs.Tree.{Tree, collection, more_trees, no_trees}
-use Rattle.wkt_types.specs.Values.{tree_shape}
-use Rattle.wkt_read.specs.Front.{Front}
+use Rattle.wkt.specs.Dimension.TheVariants.{XY}
+use Rattle.wkt.specs.Values.{Value}
+use Rattle.wkt.specs.Texts.{shape_text}
+use Rattle.wkt.specs.Faults.{fault}
+use Rattle.wkt.specs.Shown.{shown}
+use Rattle.wkt.proofs.Displays.{shown_is}
+use Rattle.wkt.specs.Tree.{Tree, collection, more_trees, no_trees}
+use Rattle.wkt.specs.TreeValues.{tree_shape}
+use Rattle.wkt.specs.Front.{Front}
 use Rattle.wkt_uses.specs.Tidy.{pair}
 
 module _ {N : Type 0} (num : N → List ℕ) where

@@ -1,8 +1,8 @@
 -- Texts that are compared by what they stand for.
 use Rattle.std.specs.Prelude.{◌≡◌, ◌↔◌, ℕ, List, Option, Bool, IsTrue}
-use Rattle.wkt_access.specs.Values.{Value}
-use Rattle.wkt_access.specs.Shapes.{shape_of, canon}
-use Rattle.wkt_read.specs.Front.{Front}
+use Rattle.wkt.specs.Values.{Value}
+use Rattle.wkt.specs.Shapes.{shape_of, canon}
+use Rattle.wkt.specs.Front.{Front}
 
 -- Each text has a geometry at its front, and the answer is true exactly if both have one canonical value.
 pub record Compares {N : Type 0} (read : List ℕ → Option N) (one other : List ℕ) (same : Bool) : Type 0 where

@@ -2,11 +2,11 @@
 use Rattle.std.specs.Prelude.{ℕ, List, Option, Some, None, Result, IfOk}
 use Rattle.serde_json.specs.Data.{Data}
 use Rattle.serde_json.specs.Find.{as_str}
-use Rattle.wkt_types.specs.Tree.{tree}
-use Rattle.wkt_types.specs.declared.geometry.Wkt.{Wkt}
-use Rattle.wkt_read.specs.Answered.{IsFront, OnText}
-use Rattle.wkt_read.specs.Front.{HasNoFront}
-use Rattle.wkt_read.specs.declared.error.ReadError.{ReadError}
+use Rattle.wkt.specs.Tree.{tree}
+use Rattle.wkt.specs.Wkt.{Wkt}
+use Rattle.wkt.specs.Answered.{IsFront, OnText}
+use Rattle.wkt.specs.Front.{HasNoFront}
+use Rattle.wkt.specs.ReadError.{ReadError}
 use Rattle.wkt.specs.Json.{AsText}
 use Rattle.wkt.specs.declared.json.ValueError.{ValueError}
 

@@ -1,10 +1,10 @@
 -- What the text of a two-dimensional geometry is read as.
 use Rattle.std.specs.Prelude.{◌≡◌, ◌↔◌, ℕ, Bool, List, Option}
-use Rattle.wkt_flat.specs.Equal.{coord_eq}
-use Rattle.wkt_flat.specs.Tree.{Flat}
-use Rattle.wkt_types.specs.Outcome.{Outcome, value}
-use Rattle.wkt_convert.specs.Flatten.{flat}
-use Rattle.wkt_to_wkt.specs.Laws.{IsPlain}
+use Rattle.wkt.specs.FlatEqual.{coord_eq}
+use Rattle.wkt.specs.FlatTree.{Flat}
+use Rattle.wkt.specs.Outcome.{Outcome, value}
+use Rattle.wkt.specs.Flatten.{flat}
+use Rattle.wkt.specs.ConversionLaws.{IsPlain}
 use Rattle.wkt.specs.FromText.{FrontGives}
 
 -- The text of a plain value is answered with the value, and with nothing else.

@@ -1,7 +1,7 @@
 -- A number type of three values, and its laws.
 use Rattle.std.proofs.Common.{◌≡◌, ℕ, ◌==◌, if◌then◌else◌, List, [], ◌∷◌, Option, Some, None, IfSome, refl}
-use Rattle.wkt_num.specs.Bytes.{class_of}
-use Rattle.wkt_num.specs.Number.{IsNumberText}
+use Rattle.wkt.specs.Bytes.{class_of}
+use Rattle.wkt.specs.Number.{IsNumberText}
 use Rattle.wkt_uses.specs.declared.my_number.Half as half
 
 -- Each is a value.

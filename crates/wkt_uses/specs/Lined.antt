@@ -1,9 +1,9 @@
 -- Texts on lines of their own.
 use Rattle.std.specs.Prelude.{◌≡◌, ℕ, List, [], ◌∷◌, ◌++◌, slice_get, Some}
-use Rattle.wkt_access.specs.declared.error.Error.{Error}
-use Rattle.wkt_access.specs.Faults.{fault}
-use Rattle.wkt_access.specs.Shapes.{Shape}
-use Rattle.wkt_access.specs.Texts.{shape_text}
+use Rattle.wkt.specs.WriteError.{Error}
+use Rattle.wkt.specs.Faults.{fault}
+use Rattle.wkt.specs.Shapes.{Shape}
+use Rattle.wkt.specs.Texts.{shape_text}
 
 -- The text of each shape, with a line feed after it.
 abbrev pub lined : {N : Type 0} → (N → List ℕ) → List (Shape N) → List ℕ

@@ -1,7 +1,7 @@
 -- What the types of `my_points`, `my_lines`, `my_areas` and `my_map` stand for.
 use Rattle.std.specs.Prelude.{ℤ, List, map, Option, option_map}
-use Rattle.wkt_access.specs.Shapes.{Shape, PolygonShape}
-use Rattle.wkt_access.specs.Parts.{collection_of}
+use Rattle.wkt.specs.Shapes.{Shape, PolygonShape}
+use Rattle.wkt.specs.Parts.{collection_of}
 use Rattle.wkt_uses.specs.declared.my_points.Dot.{Dot}
 use Rattle.wkt_uses.specs.declared.my_lines.Track.{Track}
 use Rattle.wkt_uses.specs.declared.my_areas.Area.{Area}

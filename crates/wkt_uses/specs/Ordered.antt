@@ -1,9 +1,9 @@
 -- Geometries one after the other.
 use Rattle.std.specs.Prelude.{◌≡◌, ℕ, List, [], ◌∷◌, drop, Option}
-use Rattle.wkt_num.specs.Bytes.{Lexeme}
-use Rattle.wkt_types.specs.Tree.{Tree}
-use Rattle.wkt_read.specs.Answered.{IsFrontTo, IsReadOff}
-use Rattle.wkt_read.specs.Begun.{NoneBegins}
+use Rattle.wkt.specs.Bytes.{Lexeme}
+use Rattle.wkt.specs.Tree.{Tree}
+use Rattle.wkt.specs.Answered.{IsFrontTo, IsReadOff}
+use Rattle.wkt.specs.Begun.{NoneBegins}
 
 module _ {T : Type 0} (read : List ℕ → Option T) where
   -- The text begins with these geometries, each of which is the front of what the one before it left; then the rest follows.

@@ -1,10 +1,10 @@
 -- The one text of what another text begins with.
 use Rattle.std.specs.Prelude.{◌≡◌, ℕ, List, Option}
-use Rattle.wkt_access.specs.Values.{Value}
-use Rattle.wkt_access.specs.Shapes.{Shape, Shapes, shape_of}
-use Rattle.wkt_access.specs.Texts.{shape_text}
-use Rattle.wkt_access.specs.declared.dimensions.Dimensions.TheVariants.{Xy}
-use Rattle.wkt_read.specs.Front.{Front}
+use Rattle.wkt.specs.Values.{Value}
+use Rattle.wkt.specs.Shapes.{Shape, Shapes, shape_of}
+use Rattle.wkt.specs.Texts.{shape_text}
+use Rattle.wkt.specs.Dimensions.TheVariants.{Xy}
+use Rattle.wkt.specs.Front.{Front}
 
 -- The collection of two shapes.
 abbrev pub pair : {N : Type 0} → Shape N → Shape N → Shape N

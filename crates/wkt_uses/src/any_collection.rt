@@ -1,7 +1,7 @@
 //! Functions over any collection, in whatever representation.
 ghost use Rattle.std.specs.Prelude.{◌≡◌, OnOk, length};
-ghost use Rattle.wkt_num.specs.Sink.{Adds};
-ghost use Rattle.wkt_write.specs.Writes.{IfFault};
+ghost use Rattle.wkt.specs.Sink.{Adds};
+ghost use Rattle.wkt.specs.Writes.{IfFault};
 ghost use Rattle.wkt_uses.specs.Lined.{lined, HasFault};
 
 use wkt::error::Error;

@@ -1,10 +1,10 @@
 //! All geometries of a text one after the other, by `read_front`, and those of a stream of lexemes,
 //! by `read_tokens`.
 ghost use Rattle.std.specs.Prelude.{◌≡◌, [], ◌∷◌, ◌++◌, IfOk, OnOk, map};
-ghost use Rattle.wkt_read.specs.Ahead.{rest};
-ghost use Rattle.wkt_read.specs.Answered.{OnText};
-ghost use Rattle.wkt_read.specs.Front.{HasNoFront};
-ghost use Rattle.wkt_types.specs.Tree.{tree};
+ghost use Rattle.wkt.specs.Ahead.{rest};
+ghost use Rattle.wkt.specs.Answered.{OnText};
+ghost use Rattle.wkt.specs.Front.{HasNoFront};
+ghost use Rattle.wkt.specs.Tree.{tree};
 ghost use Rattle.wkt_uses.specs.Ordered.{BeginsWith, StreamBeginsWith, StreamStops};
 
 use std::alloc::{AllocError, Global};

@@ -1,8 +1,8 @@
 //! A key for a two-dimensional geometry: its text, which is answered with the geometry.
 ghost use Rattle.std.specs.Prelude.{◌≡◌, IfOk, IfErr, string_bytes};
-ghost use Rattle.wkt_flat.specs.Tree.{flat_tree};
-ghost use Rattle.wkt_to_wkt.specs.Back.{wkt_text};
-ghost use Rattle.wkt_to_wkt.specs.Sent.{IsMemory};
+ghost use Rattle.wkt.specs.FlatTree.{flat_tree};
+ghost use Rattle.wkt.specs.Back.{wkt_text};
+ghost use Rattle.wkt.specs.Sent.{IsMemory};
 ghost use Rattle.wkt_uses.specs.FlatKey.{NamesPlain};
 
 use std::alloc::Global;

@@ -1,10 +1,10 @@
 //! A key for a table: the one text of a geometry, which reads back as the geometry.
 ghost use Rattle.std.specs.Prelude.{◌≡◌, IfOk, Some, length, string_bytes};
-ghost use Rattle.wkt_access.specs.Shapes.{canon};
-ghost use Rattle.wkt_access.specs.Faults.{fault};
-ghost use Rattle.wkt_access.specs.Texts.{shape_text};
-ghost use Rattle.wkt_write.specs.Writes.{IfFault};
-ghost use Rattle.wkt_read.specs.Front.{Front};
+ghost use Rattle.wkt.specs.Shapes.{canon};
+ghost use Rattle.wkt.specs.Faults.{fault};
+ghost use Rattle.wkt.specs.Texts.{shape_text};
+ghost use Rattle.wkt.specs.Writes.{IfFault};
+ghost use Rattle.wkt.specs.Front.{Front};
 
 use std::alloc::Global;
 use wkt::error::Error;

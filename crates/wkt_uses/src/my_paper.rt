@@ -29,7 +29,7 @@ impl Paper {
 }
 
 impl TextSink for Paper {
-    ghost use Rattle.wkt_num.specs.Sink.{telling};
+    ghost use Rattle.wkt.specs.Sink.{telling};
 
     ghost sink = { telling (λ p. p.bytes.items) (λ p. p.failures) };
 

@@ -42,7 +42,7 @@ pub struct Page {
 
 impl ByteSink for Page {
     ghost use Rattle.std.specs.Prelude.{Some};
-    ghost use Rattle.wkt_bytes.specs.Sinks.{owned};
+    ghost use Rattle.wkt.specs.Sinks.{owned};
 
     ghost sink = { owned (λ p. Some p.text.items) (λ p. p.failures) };
 

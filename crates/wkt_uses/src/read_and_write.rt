@@ -1,9 +1,9 @@
 //! A text is read, and the geometry, changed or not, is written. An error is told apart.
 ghost use Rattle.std.specs.Prelude.{◌≡◌, ◌⊎◌, [], ◌∷◌, IfOk, MatchOption, string_bytes};
-ghost use Rattle.wkt_read.specs.Answered.{OnText};
-ghost use Rattle.wkt_read.specs.Front.{HasNoFront};
-ghost use Rattle.wkt_access.specs.declared.dimensions.Dimension.TheVariants.{XY};
-ghost use Rattle.wkt_types.specs.Tree.{tree, members, collection};
+ghost use Rattle.wkt.specs.Answered.{OnText};
+ghost use Rattle.wkt.specs.Front.{HasNoFront};
+ghost use Rattle.wkt.specs.Dimension.TheVariants.{XY};
+ghost use Rattle.wkt.specs.Tree.{tree, members, collection};
 ghost use Rattle.wkt_uses.specs.Tidy.{IsTidy, IsTidyPair};
 
 use std::alloc::{AllocError, Global};

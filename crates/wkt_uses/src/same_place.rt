@@ -1,7 +1,7 @@
 //! Two texts name the same geometry exactly if their keys are equal.
 ghost use Rattle.std.specs.Prelude.{◌⊎◌, IfOk};
-ghost use Rattle.wkt_read.specs.Answered.{OnText};
-ghost use Rattle.wkt_read.specs.Front.{HasNoFront};
+ghost use Rattle.wkt.specs.Answered.{OnText};
+ghost use Rattle.wkt.specs.Front.{HasNoFront};
 ghost use Rattle.wkt_uses.specs.Compared.{Compares};
 
 use crate::read_and_write::tidy;

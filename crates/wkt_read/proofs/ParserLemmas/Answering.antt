@@ -1,7 +1,6 @@
 -- From the lexemes of a stream to its text.
 use Rattle.std.proofs.Common.{◌≡◌, ℕ, ◌≤◌, ◌<◌, List, [], ◌∷◌, ◌++◌, length, sym, subst, refl, ap, ◌∙◌, arith, length-append, Option, Err, true}
 use Rattle.std.proofs.lemmas.List.{append_cancel_right}
-use Rattle.std.specs.declared.alloc.AllocError.{AllocError}
 use Rattle.wkt_num.specs.Bytes.{Lexeme, Open}
 use Rattle.wkt_access.specs.Values.{Value}
 use Rattle.wkt_read.specs.Lexemes.{IsSplit}
@@ -10,16 +9,13 @@ use Rattle.wkt_read.specs.Front.{FrontBy, HasNoFront}
 use Rattle.wkt_read.specs.Placed.{Placed, lexemes_of, end_after, AreEnds, placed}
 use Rattle.wkt_read.specs.Ahead.{left, rest, end_of, taken_of, IfLast, Advances}
 use Rattle.wkt_read.specs.Parser.Walks.{GoesOn}
-use Rattle.wkt_read.specs.Messages.{message_text}
-use Rattle.wkt_read.specs.Parser.Reading.{Reading}
-use Rattle.wkt_read.specs.Parser.Reads.{ReadsIn}
-use Rattle.wkt_read.specs.Parser.Errors.{OnBad, OnBadIn, OnMemory}
+use Rattle.wkt_read.specs.Messages.{message_text, Says}
+use Rattle.wkt_read.specs.Parser.Errors.{OnBad}
+use Rattle.wkt_read.specs.Items.{bad_number}
 use Rattle.wkt_read.specs.Answered.{Begins, OnText, OnMessage}
 use Rattle.wkt_read.specs.Begun.{NoneBeginsBy}
 use Rattle.wkt_read.specs.declared.error.ReadError.{ReadError}
-use Rattle.wkt_read.specs.declared.error.ReadError.TheVariants as error
-use Rattle.wkt_read.specs.declared.messages.ParseError.{ParseError}
-use Rattle.wkt_read.specs.declared.messages.ParseError.TheVariants.{Text, Memory}
+use Rattle.wkt_read.specs.declared.error.ReadError.TheVariants.{Text, Memory}
 use Rattle.wkt_read.specs.declared.messages.Message.{Message}
 use Rattle.wkt_read.specs.declared.messages.Message.TheVariants as message
 use Rattle.wkt_read.specs.declared.tokenizer.peekable.PeekableTokens.{PeekableTokens}
@@ -97,12 +93,12 @@ module _ {T : Type 0} (read : List ℕ → Option T) where
 
 -- an error that is passed on
 pub text-map : (X Y : Type 0) (e : ReadError) (P Q : Type 0) → (P → Q) → OnText {X = X} (Err e) P → OnText {X = Y} (Err e) Q
-text-map X Y (error.Text m) P Q f h = f h
-text-map X Y (error.Memory m) P Q f h = tt
+text-map X Y (Text m) P Q f h = f h
+text-map X Y (Memory m) P Q f h = tt
 
 pub message-map : (X Y : Type 0) (e : ReadError) (m : List ℕ) (P Q : Type 0) → (P → Q) → OnMessage {X = X} (Err e) m P → OnMessage {X = Y} (Err e) m Q
-message-map X Y (error.Text t) m P Q f h = λ e. f (h e)
-message-map X Y (error.Memory t) m P Q f h = tt
+message-map X Y (Text t) m P Q f h = λ e. f (h e)
+message-map X Y (Memory t) m P Q f h = tt
 
 -- no other message is that of a bad number
 pub bad-text : (X : Type 0) (m : Message) (P : Type 0) → message_text m ≡ message_text message.BadNumber → OnBad {X = X} (Err m) P → P
@@ -120,11 +116,7 @@ bad-text X message.Z P e h = absurd (omega (arith, ap length e))
 bad-text X message.M P e h = absurd (omega (arith, ap length e))
 bad-text X message.Member P e h = absurd (omega (arith, ap length e))
 
-pub text-reads : {A X : Type 0} (view : X → A) (f : ParseError) (m : Message) (reading : Reading A) (after : List Lexeme) → f ≡ Text m → ReadsIn view (Err f) reading after → reading ≡ Err after
-text-reads view f m reading after e h = subst (λ f. ReadsIn view (Err f) reading after) e h
-
-pub text-bad : (X : Type 0) (f : ParseError) (m : Message) (P : Type 0) → f ≡ Text m → OnBadIn {X = X} (Err f) P → OnBad {X = X} (Err m) P
-text-bad X f m P e h = subst (λ f. OnBadIn {X = X} (Err f) P) e h
-
-pub memory-in : (X : Type 0) (f : ParseError) (m : AllocError) (P : Type 0) → f ≡ Memory m → OnMemory {X = X} (Err f) P → P
-memory-in X f m P e h = subst (λ f. OnMemory {X = X} (Err f) P) e h
+-- a message that is passed on as a text
+pub said-bad : (X Y : Type 0) (e : ReadError) (m : Message) (P : Type 0) → Says e m → OnBad {X = X} (Err m) P → OnMessage {X = Y} (Err e) bad_number P
+said-bad X Y (Text t) m P says h = λ is. bad-text X m P (sym says ∙ is) h
+said-bad X Y (Memory f) m P says h = tt

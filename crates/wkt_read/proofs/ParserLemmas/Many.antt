@@ -7,8 +7,8 @@ use Rattle.wkt_num.specs.Bytes.{Lexeme, Open, Close, Comma, Word, Num}
 use Rattle.wkt_read.specs.Parser.Walks.{BeginsWithoutComma, GoesOn}
 use Rattle.wkt_read.specs.declared.tokenizer.peekable.PeekableTokens.{PeekableTokens}
 use Rattle.wkt_read.specs.Parser.Reading.{Reading, ◌>>=◌, coord_at, with_front, tail_at, many_at, framed, closed, opening_at}
-use Rattle.wkt_read.specs.declared.messages.ParseError.{ParseError}
-use Rattle.wkt_read.specs.declared.messages.ParseError.TheVariants.{Text, Memory}
+use Rattle.wkt_read.specs.declared.error.ReadError.{ReadError}
+use Rattle.wkt_read.specs.declared.error.ReadError.TheVariants.{Text, Memory}
 use Rattle.wkt_access.specs.declared.dimensions.Dimension.{Dimension}
 use Rattle.wkt_types.specs.declared.coord.Coord.{Coord}
 use Rattle.wkt_read.specs.Parser.Reads.{ReadsIn, Pushes, Closes}
@@ -72,8 +72,8 @@ module _ {A : Type 0} (item : List Lexeme → Reading A) where
   many-stop whole items m now w h = w ∙ ap (with_front items) (stop m now h) ∙ ap (λ l. Ok (l, now)) (append-nil items)
 
 -- an error that is passed on
-pub reads-err : {A X : Type 0} (view : X → A) (r : Result X ParseError) (read : Reading A) (rest : List Lexeme) → IsErr r → read ≡ Err rest → ReadsIn view r read rest
-reads-err {X = X} view (Ok x) read rest h e = absurd (err-ok X ParseError x h)
+pub reads-err : {A X : Type 0} (view : X → A) (r : Result X ReadError) (read : Reading A) (rest : List Lexeme) → IsErr r → read ≡ Err rest → ReadsIn view r read rest
+reads-err {X = X} view (Ok x) read rest h e = absurd (err-ok X ReadError x h)
 reads-err view (Err (Text m)) read rest h e = e
 reads-err view (Err (Memory m)) read rest h e = tt
 
@@ -92,7 +92,7 @@ module _ {A : Type 0} (empty : A) (body : List Lexeme → Reading A) where
 
 module _ {A X : Type 0} (view : X → A) where
   -- a closing place after a body
-  pub closed-in : (b res : Result X ParseError) (read : Reading A) (old new : List Lexeme) → ReadsIn view b read old → Closes b res old new → ReadsIn view res (closed read) new
+  pub closed-in : (b res : Result X ReadError) (read : Reading A) (old new : List Lexeme) → ReadsIn view b read old → Closes b res old new → ReadsIn view res (closed read) new
   unfolding closed
   closed-in (Ok x) (Ok y) read old new reads closes = ap closed reads ∙ ap (λ t. t >>= (λ c. Ok (view x, c.1))) closes.0 ∙ ap (λ z. Ok (view z, new)) (sym closes.1)
   closed-in (Ok x) (Err (Text m)) read old new reads closes = ap closed reads ∙ ap (λ t. t >>= (λ c. Ok (view x, c.1))) closes
@@ -105,13 +105,13 @@ module _ {A X : Type 0} (view : X → A) where
   closed-in (Err (Memory e)) (Err (Memory f)) read old new reads closes = tt
 
 module _ {A X : Type 0} (view : X → A) (empty : A) (body : List Lexeme → Reading A) where
-  pub framed-closed : (lexemes r old new : List Lexeme) (paren : Bool) (b res : Result X ParseError) → paren ≡ true → opening_at lexemes ≡ Ok (paren, r) → ReadsIn view b (body r) old → Closes b res old new → ReadsIn view res (framed empty body lexemes) new
+  pub framed-closed : (lexemes r old new : List Lexeme) (paren : Bool) (b res : Result X ReadError) → paren ≡ true → opening_at lexemes ≡ Ok (paren, r) → ReadsIn view b (body r) old → Closes b res old new → ReadsIn view res (framed empty body lexemes) new
   unfolding framed
   framed-closed lexemes r old new paren b res is e reads closes =
       subst (λ t. ReadsIn view res t new) (sym (ap (λ t. t >>= (λ o. cond o.0 (closed (body o.1)) (Ok (empty, o.1)))) e ∙ ap (λ b. cond b (closed (body r)) (Ok (empty, r))) is)) (closed-in view b res (body r) old new reads closes)
 
 -- an error of a callee that is passed on as it is
-pub reads-pass : {A B X Y : Type 0} (view : X → A) (other : Y → B) (e : ParseError) (r : Result X ParseError) (item : Reading B) (whole : Reading A) (rest : List Lexeme) → IsErrAnd r (λ y. y ≡ e) → ReadsIn other (Err e) item rest → (item ≡ Err rest → whole ≡ Err rest) → ReadsIn view r whole rest
+pub reads-pass : {A B X Y : Type 0} (view : X → A) (other : Y → B) (e : ReadError) (r : Result X ReadError) (item : Reading B) (whole : Reading A) (rest : List Lexeme) → IsErrAnd r (λ y. y ≡ e) → ReadsIn other (Err e) item rest → (item ≡ Err rest → whole ≡ Err rest) → ReadsIn view r whole rest
 reads-pass view other e (Ok x) item whole rest h reads f = absurd h
 reads-pass view other (Text m) (Err (Text k)) item whole rest h reads f = f reads
 reads-pass view other (Text m) (Err (Memory k)) item whole rest h reads f = tt
@@ -119,7 +119,7 @@ reads-pass view other (Memory m) (Err (Memory k)) item whole rest h reads f = tt
 reads-pass view other (Memory m) (Err (Text k)) item whole rest h reads f = cc
 
 -- an error of the reader that pushes a coordinate
-pub pushes-pass : {A T X : Type 0} (view : X → A) (number : List ℕ → Option T) (d : Dimension) (before after : List (Coord T)) (e : ParseError) (r : Result X ParseError) (whole : Reading A) (start rest : List Lexeme) → IsErrAnd r (λ y. y ≡ e) → Pushes {X = Unit {0}} number d start before (Err e) rest after → (coord_at number d start ≡ Err rest → whole ≡ Err rest) → ReadsIn view r whole rest
+pub pushes-pass : {A T X : Type 0} (view : X → A) (number : List ℕ → Option T) (d : Dimension) (before after : List (Coord T)) (e : ReadError) (r : Result X ReadError) (whole : Reading A) (start rest : List Lexeme) → IsErrAnd r (λ y. y ≡ e) → Pushes {X = Unit {0}} number d start before (Err e) rest after → (coord_at number d start ≡ Err rest → whole ≡ Err rest) → ReadsIn view r whole rest
 pushes-pass view number d before after e (Ok x) whole start rest h pushes f = absurd h
 pushes-pass view number d before after (Text m) (Err (Text k)) whole start rest h pushes f = f pushes
 pushes-pass view number d before after (Text m) (Err (Memory k)) whole start rest h pushes f = tt
@@ -127,7 +127,7 @@ pushes-pass view number d before after (Memory m) (Err (Memory k)) whole start r
 pushes-pass view number d before after (Memory m) (Err (Text k)) whole start rest h pushes f = cc
 
 -- what holds of a body holds of what is after its closing place
-pub closes-keeps : {X : Type 0} (P : X → Type 0) (b r : Result X ParseError) (old new : List Lexeme) → Closes b r old new → IfOk b P → IfOk r P
+pub closes-keeps : {X : Type 0} (P : X → Type 0) (b r : Result X ReadError) (old new : List Lexeme) → Closes b r old new → IfOk b P → IfOk r P
 closes-keeps P (Ok x) (Ok y) old new closes h = subst P (sym closes.1) h
 closes-keeps P (Ok x) (Err e) old new closes h = tt
 closes-keeps P (Err e) (Err f) old new closes h = tt

@@ -5,8 +5,8 @@ use Rattle.std.specs.Result.{IsErr, IsErrAnd}
 use Rattle.wkt_num.specs.Bytes.{Lexeme, Comma}
 use Rattle.wkt_access.specs.Values.{Value}
 use Rattle.wkt_types.specs.declared.geometry.Wkt.{Wkt}
-use Rattle.wkt_read.specs.declared.messages.ParseError.{ParseError}
-use Rattle.wkt_read.specs.declared.messages.ParseError.TheVariants.{Text, Memory}
+use Rattle.wkt_read.specs.declared.error.ReadError.{ReadError}
+use Rattle.wkt_read.specs.declared.error.ReadError.TheVariants.{Text, Memory}
 use Rattle.wkt_read.specs.declared.parser.geometries.Nest.{Nest}
 use Rattle.wkt_read.specs.declared.parser.geometries.Start.{Start}
 use Rattle.wkt_read.specs.declared.parser.geometries.Start.TheVariants.{Whole, Opened}
@@ -14,8 +14,8 @@ use Rattle.wkt_read.specs.Parser.Reading.{Reading, ◌>>=◌, with_front, many_a
 use Rattle.wkt_read.specs.Parser.Reads.{ReadsIn, wkt_value}
 use Rattle.wkt_read.proofs.ParserLemmas.Many.{err-ok, with_front-front, many-stop}
 use Rattle.wkt_read.specs.Parser.Walks.{BeginsWithoutComma}
-use Rattle.wkt_read.specs.Parser.Errors.{OnBadIn}
-use Rattle.wkt_read.specs.declared.messages.Message.TheVariants as message
+use Rattle.wkt_read.specs.Items.{bad_number}
+use Rattle.wkt_read.specs.Answered.{OnMessage}
 use Rattle.std.proofs.lemmas.List.{map-append}
 use Rattle.std.specs.List.{AllByRecursion}
 use Rattle.wkt_read.specs.Parser.Nests.{Starts, Wants, weight, shut_at, put_in, Nested}
@@ -38,33 +38,21 @@ pub all-pop : {A : Type 0} (P : A → Type 0) (xs : List A) (x : A) → AllByRec
 all-pop P [] x h = (tt, h.0)
 all-pop P (y ∷ xs) x h = let (a, b) = all-pop P xs x h.1 in ((h.0, a), b)
 
-pub weight-most : {T : Type 0} (r : Result (Start T) ParseError) → weight r ≤ 2
+pub weight-most : {T : Type 0} (r : Result (Start T) ReadError) → weight r ≤ 2
 weight-most (Ok (Whole w)) = omega arith
 weight-most (Ok (Opened d)) = omega arith
 weight-most (Err e) = omega arith
 
-pub wants : {T : Type 0} (r : Result (Start T) ParseError) (P : Type 0) → P → Wants r P
+pub wants : {T : Type 0} (r : Result (Start T) ReadError) (P : Type 0) → P → Wants r P
 wants (Ok (Whole w)) P p = tt
 wants (Ok (Opened d)) P p = p
 wants (Err (Text m)) P p = tt
 wants (Err (Memory e)) P p = p
 
 -- an error blames a number whatever was to be read
-pub bad-as : (X Y : Type 0) (e : ParseError) (P : Type 0) → OnBadIn {X = X} (Err e) P → OnBadIn {X = Y} (Err e) P
-bad-as X Y (Memory e) P h = tt
-bad-as X Y (Text message.BadNumber) P h = h
-bad-as X Y (Text message.Format) P h = tt
-bad-as X Y (Text message.NonAscii) P h = tt
-bad-as X Y (Text message.Kind) P h = tt
-bad-as X Y (Text message.Word) P h = tt
-bad-as X Y (Text message.End) P h = tt
-bad-as X Y (Text message.Open) P h = tt
-bad-as X Y (Text message.Close) P h = tt
-bad-as X Y (Text message.X) P h = tt
-bad-as X Y (Text message.Y) P h = tt
-bad-as X Y (Text message.Z) P h = tt
-bad-as X Y (Text message.M) P h = tt
-bad-as X Y (Text message.Member) P h = tt
+pub bad-as : (X Y : Type 0) (e : ReadError) (P : Type 0) → OnMessage {X = X} (Err e) bad_number P → OnMessage {X = Y} (Err e) bad_number P
+bad-as X Y (Text m) P h = h
+bad-as X Y (Memory f) P h = tt
 
 -- what stands before a first item and those after it
 front-then : {A : Type 0} (xs : List A) (t : Reading A) (f : List Lexeme → Reading (List A)) → with_front xs (t >>= (λ p. with_front (p.0 ∷ []) (f p.1))) ≡ t >>= (λ p. with_front (xs ++ (p.0 ∷ [])) (f p.1))
@@ -73,13 +61,13 @@ front-then xs (Err r) f = refl
 
 module _ {T : Type 0} (read : List ℕ → Option T) where
   -- an error that is passed on
-  pub starts-err : (r : Result (Start T) ParseError) (whole : Reading (Value T)) (left : List Lexeme) → IsErr r → whole ≡ Err left → Starts read r whole left
-  starts-err (Ok x) whole left h e = absurd (err-ok (Start T) ParseError x h)
+  pub starts-err : (r : Result (Start T) ReadError) (whole : Reading (Value T)) (left : List Lexeme) → IsErr r → whole ≡ Err left → Starts read r whole left
+  starts-err (Ok x) whole left h e = absurd (err-ok (Start T) ReadError x h)
   starts-err (Err (Text m)) whole left h e = e
   starts-err (Err (Memory m)) whole left h e = tt
 
   -- an error of a callee that is passed on as it is
-  pub starts-pass : {B Y : Type 0} (other : Y → B) (e : ParseError) (r : Result (Start T) ParseError) (item : Reading B) (whole : Reading (Value T)) (left : List Lexeme) → IsErrAnd r (λ y. y ≡ e) → ReadsIn other (Err e) item left → (item ≡ Err left → whole ≡ Err left) → Starts read r whole left
+  pub starts-pass : {B Y : Type 0} (other : Y → B) (e : ReadError) (r : Result (Start T) ReadError) (item : Reading B) (whole : Reading (Value T)) (left : List Lexeme) → IsErrAnd r (λ y. y ≡ e) → ReadsIn other (Err e) item left → (item ≡ Err left → whole ≡ Err left) → Starts read r whole left
   starts-pass other e (Ok x) item whole left h reads f = absurd h
   starts-pass other (Text m) (Err (Text k)) item whole left h reads f = f reads
   starts-pass other (Text m) (Err (Memory k)) item whole left h reads f = tt
@@ -104,7 +92,7 @@ module _ {T : Type 0} (read : List ℕ → Option T) where
       (n, m, a, b, (n2, m2, i, a2, b2, e2, p))
 
   -- what is read at a place
-  abbrev pub Inside : List (Nest T) → Result (Start T) ParseError → List Lexeme → Reading (Value T) → Type 0
+  abbrev pub Inside : List (Nest T) → Result (Start T) ReadError → List Lexeme → Reading (Value T) → Type 0
   Inside os s left whole = (now : Reading (Value T)) × Starts read s now left × Nested read os (length left) whole now
 
   -- a collection is opened
@@ -112,7 +100,7 @@ module _ {T : Type 0} (read : List ℕ → Option T) where
   unfolding many_at
   opened-put n o left e = ap (λ l. shut_at o.dim (value_at read n left >>= (λ p. with_front (map wkt_value l ++ (p.0 ∷ [])) (tail_at (value_at read n) n p.1)))) (sym e)
 
-  pub opened-next : (os os2 : List (Nest T)) (o : Nest T) (s s2 : Result (Start T) ParseError) (f : Start T) (left left2 : List Lexeme) (whole : Reading (Value T))
+  pub opened-next : (os os2 : List (Nest T)) (o : Nest T) (s s2 : Result (Start T) ReadError) (f : Start T) (left left2 : List Lexeme) (whole : Reading (Value T))
       → Inside os s left whole → s ≡ Ok f → f ≡ Opened o.dim → o.members.items ≡ [] → os2 ≡ os ++ o ∷ [] → length left2 ≤ length left
       → ((fuel : ℕ) → length left ≤ fuel → Starts read s2 (value_at read fuel left) left2) → Inside os2 s2 left2 whole
   opened-next os os2 o s s2 f left left2 whole (now, starts, nested) is fis empty more le exact =
@@ -138,14 +126,14 @@ module _ {T : Type 0} (read : List ℕ → Option T) where
   )
 
   -- the last collection, in which a geometry was read
-  read-in : (os all : List (Nest T)) (o : Nest T) (w : Wkt T) (s : Result (Start T) ParseError) (f : Start T) (left : List Lexeme) (whole : Reading (Value T))
+  read-in : (os all : List (Nest T)) (o : Nest T) (w : Wkt T) (s : Result (Start T) ReadError) (f : Start T) (left : List Lexeme) (whole : Reading (Value T))
       → Inside all s left whole → s ≡ Ok f → f ≡ Whole w → all ≡ os ++ o ∷ []
       → (n m : ℕ) × (length left ≤ n) × (length left ≤ m) × Nested read os (length left) whole (put_in read n m o (Ok (wkt_value w, left)))
   read-in os all o w s f left whole (now, starts, nested) is fis last =
       let e : now ≡ Ok (wkt_value w, left) = subst (λ r. Starts read r now left) (is ∙ ap (λ f. Ok f) fis) starts in
       nested-pop os o (length left) whole (Ok (wkt_value w, left)) (subst (λ t. Nested read (os ++ o ∷ []) (length left) whole t) e (subst (λ l. Nested read l (length left) whole now) last nested))
 
-  pub comma-next : (os os2 all : List (Nest T)) (o o2 : Nest T) (w : Wkt T) (s s2 : Result (Start T) ParseError) (f : Start T) (left r left2 : List Lexeme) (whole : Reading (Value T))
+  pub comma-next : (os os2 all : List (Nest T)) (o o2 : Nest T) (w : Wkt T) (s s2 : Result (Start T) ReadError) (f : Start T) (left r left2 : List Lexeme) (whole : Reading (Value T))
       → Inside all s left whole → s ≡ Ok f → f ≡ Whole w → all ≡ os ++ o ∷ [] → left ≡ Comma ∷ r → o2.members.items ≡ o.members.items ++ w ∷ [] → o2.dim ≡ o.dim → os2 ≡ os ++ o2 ∷ [] → length left2 ≤ length r
       → ((fuel : ℕ) → length r ≤ fuel → Starts read s2 (value_at read fuel r) left2) → Inside os2 s2 left2 whole
   comma-next os os2 all o o2 w s s2 f left r left2 whole inside is fis last comma e d more le exact =
@@ -160,7 +148,7 @@ module _ {T : Type 0} (read : List ℕ → Option T) where
       )
 
   -- no comma after a member: the closing place
-  pub shut-next : (os all : List (Nest T)) (o : Nest T) (w : Wkt T) (ms : List (Wkt T)) (s s2 : Result (Start T) ParseError) (f : Start T) (left left2 left3 : List Lexeme) (whole : Reading (Value T))
+  pub shut-next : (os all : List (Nest T)) (o : Nest T) (w : Wkt T) (ms : List (Wkt T)) (s s2 : Result (Start T) ReadError) (f : Start T) (left left2 left3 : List Lexeme) (whole : Reading (Value T))
       → Inside all s left whole → s ≡ Ok f → f ≡ Whole w → all ≡ os ++ o ∷ [] → BeginsWithoutComma left → left3 ≡ left → ms ≡ o.members.items ++ w ∷ [] → length left2 ≤ length left3
       → ((body : Reading (List (Value T))) → body ≡ Ok (map wkt_value ms, left3) → Starts read s2 (shut_at o.dim body) left2) → Inside os s2 left2 whole
   shut-next os all o w ms s s2 f left left2 left3 whole inside is fis last none stays e le exact =
@@ -174,11 +162,11 @@ module _ {T : Type 0} (read : List ℕ → Option T) where
       )
 
   -- an error inside a collection: its closing place
-  refusal-in : {A X : Type 0} (view : X → A) (e : ParseError) (now : Reading (Value T)) (left : List Lexeme) (then : Value T × List Lexeme → Reading A) → Starts read (Err e) now left → ReadsIn view (Err e) (now >>= then) left
+  refusal-in : {A X : Type 0} (view : X → A) (e : ReadError) (now : Reading (Value T)) (left : List Lexeme) (then : Value T × List Lexeme → Reading A) → Starts read (Err e) now left → ReadsIn view (Err e) (now >>= then) left
   refusal-in view (Text m) now left then h = ap (λ t. t >>= then) h
   refusal-in view (Memory m) now left then h = tt
 
-  pub error-next : {X : Type 0} (view : X → List (Value T)) (os all : List (Nest T)) (o : Nest T) (e : ParseError) (s s2 : Result (Start T) ParseError) (left left2 : List Lexeme) (whole : Reading (Value T))
+  pub error-next : {X : Type 0} (view : X → List (Value T)) (os all : List (Nest T)) (o : Nest T) (e : ReadError) (s s2 : Result (Start T) ReadError) (left left2 : List Lexeme) (whole : Reading (Value T))
       → Inside all s left whole → s ≡ Err e → all ≡ os ++ o ∷ [] → length left2 ≤ length left
       → ((body : Reading (List (Value T))) → ReadsIn view (Err e) body left → Starts read s2 (shut_at o.dim body) left2) → Inside os s2 left2 whole
   error-next view os all o e s s2 left left2 whole (now, starts, nested) is last le exact =
@@ -192,14 +180,14 @@ module _ {T : Type 0} (read : List ℕ → Option T) where
   outside : (os : List (Nest T)) (k : ℕ) (whole now : Reading (Value T)) → os ≡ [] → Nested read os k whole now → whole ≡ now
   outside os k whole now none h = subst (λ l. Nested read l k whole now) none h
 
-  pub done : (os : List (Nest T)) (w : Wkt T) (s : Result (Start T) ParseError) (f : Start T) (left : List Lexeme) (whole : Reading (Value T)) → Inside os s left whole → s ≡ Ok f → f ≡ Whole w → os ≡ [] → whole ≡ Ok (wkt_value w, left)
+  pub done : (os : List (Nest T)) (w : Wkt T) (s : Result (Start T) ReadError) (f : Start T) (left : List Lexeme) (whole : Reading (Value T)) → Inside os s left whole → s ≡ Ok f → f ≡ Whole w → os ≡ [] → whole ≡ Ok (wkt_value w, left)
   done os w s f left whole (now, starts, nested) is fis none =
       outside os (length left) whole now none nested ∙ subst (λ r. Starts read r now left) (is ∙ ap (λ f. Ok f) fis) starts
 
-  as-read : (e : ParseError) (whole now : Reading (Value T)) (left : List Lexeme) → whole ≡ now → Starts read (Err e) now left → ReadsIn {X = Wkt T} wkt_value (Err e) whole left
+  as-read : (e : ReadError) (whole now : Reading (Value T)) (left : List Lexeme) → whole ≡ now → Starts read (Err e) now left → ReadsIn {X = Wkt T} wkt_value (Err e) whole left
   as-read (Text m) whole now left same h = same ∙ h
   as-read (Memory m) whole now left same h = tt
 
-  pub error-now : (os : List (Nest T)) (e : ParseError) (s : Result (Start T) ParseError) (left : List Lexeme) (whole : Reading (Value T)) → Inside os s left whole → s ≡ Err e → os ≡ [] → ReadsIn {X = Wkt T} wkt_value (Err e) whole left
+  pub error-now : (os : List (Nest T)) (e : ReadError) (s : Result (Start T) ReadError) (left : List Lexeme) (whole : Reading (Value T)) → Inside os s left whole → s ≡ Err e → os ≡ [] → ReadsIn {X = Wkt T} wkt_value (Err e) whole left
   error-now os e s left whole (now, starts, nested) is none =
       as-read e whole now left (outside os (length left) whole now none nested) (subst (λ r. Starts read r now left) is starts)

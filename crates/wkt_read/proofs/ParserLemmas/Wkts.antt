@@ -9,7 +9,7 @@ use Rattle.wkt_types.specs.declared.geometry_type.GeometryType.{GeometryType}
 use Rattle.wkt_types.specs.declared.geometry.Wkt.{Wkt}
 use Rattle.wkt_types.specs.Tree.{tree, trees_of}
 use Rattle.wkt_types.specs.Values.{values_of, AreUniform}
-use Rattle.wkt_read.specs.declared.messages.ParseError.{ParseError}
+use Rattle.wkt_read.specs.declared.error.ReadError.{ReadError}
 use Rattle.wkt_read.specs.Parser.Reading.{◌>>=◌, header_at, body_at, value_at, members_read}
 use Rattle.wkt_read.specs.Parser.Reads.{ReadsIn, wkt_value, UniformWkt}
 use Rattle.wkt_read.specs.declared.parser.geometries.Start.{Start}
@@ -36,12 +36,12 @@ module _ {N : Type 0} (read : List ℕ → Option N) where
   value-is (suc n) ls r k l d e is short enough = (n, omega arith, ap (λ t. t >>= (λ h. body_at read (value_at read n) n h.0.0 h.0.1 h.1)) e ∙ ap (λ j. body_at read (value_at read n) n j d r) is)
 
 module _ {T : Type 0} (read : List ℕ → Option T) where
-  pub value-starts : (fuel : ℕ) (ls r left : List Lexeme) (k l : GeometryType) (d : Dimension) (res : Result (Start T) ParseError) → header_at read ls ≡ Ok ((k, d), r) → k ≡ l → length r < length ls → length ls ≤ fuel → ((n : ℕ) → length r ≤ n → Starts read res (body_at read (value_at read n) n l d r) left) → Starts read res (value_at read fuel ls) left
+  pub value-starts : (fuel : ℕ) (ls r left : List Lexeme) (k l : GeometryType) (d : Dimension) (res : Result (Start T) ReadError) → header_at read ls ≡ Ok ((k, d), r) → k ≡ l → length r < length ls → length ls ≤ fuel → ((n : ℕ) → length r ≤ n → Starts read res (body_at read (value_at read n) n l d r) left) → Starts read res (value_at read fuel ls) left
   value-starts fuel ls r left k l d res e is short enough f =
       let (n, le, same) = value-is read fuel ls r k l d e is short enough in
       subst (λ t. Starts read res t left) (sym same) (f n le)
 
-  pub value-in : (fuel : ℕ) (ls r left : List Lexeme) (k l : GeometryType) (d : Dimension) (res : Result (Wkt T) ParseError) → header_at read ls ≡ Ok ((k, d), r) → k ≡ l → length r < length ls → length ls ≤ fuel → ((n : ℕ) → length r ≤ n → ReadsIn wkt_value res (body_at read (value_at read n) n l d r) left) → ReadsIn wkt_value res (value_at read fuel ls) left
+  pub value-in : (fuel : ℕ) (ls r left : List Lexeme) (k l : GeometryType) (d : Dimension) (res : Result (Wkt T) ReadError) → header_at read ls ≡ Ok ((k, d), r) → k ≡ l → length r < length ls → length ls ≤ fuel → ((n : ℕ) → length r ≤ n → ReadsIn wkt_value res (body_at read (value_at read n) n l d r) left) → ReadsIn wkt_value res (value_at read fuel ls) left
   value-in fuel ls r left k l d res e is short enough f =
       let (n, le, same) = value-is read fuel ls r k l d e is short enough in
       subst (λ t. ReadsIn wkt_value res t left) (sym same) (f n le)

@@ -1,5 +1,5 @@
 -- The end of a text, and what stands behind its first byte.
-use Rattle.std.proofs.Common.{◌≡◌, ℕ, ◌-◌, ◌≤◌, ◌+◌, List, length, take, drop, get_or, ap, sym, ◌∙◌, add-one, refl, arith}
+use Rattle.std.proofs.Common.{◌≡◌, ℕ, ◌-◌, ◌≤◌, ◌+◌, List, length, take, drop, ap, ◌∙◌, add-one, refl, arith}
 use Rattle.std.proofs.lemmas.List.{take_rest, length-drop}
 use Rattle.std.proofs.Math.Seq.{drop-cons}
 use Rattle.wkt_read.specs.Tokenizer.Cursors.{taken_in}

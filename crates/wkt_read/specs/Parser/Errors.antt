@@ -1,17 +1,12 @@
 -- Errors of readers. Only private contracts cite this file.
 use Rattle.std.specs.Prelude.{Result, Ok, Err}
-use Rattle.wkt_read.specs.declared.messages.ParseError.{ParseError}
-use Rattle.wkt_read.specs.declared.messages.ParseError.TheVariants.{Text, Memory}
+use Rattle.wkt_read.specs.declared.error.ReadError.{ReadError}
+use Rattle.wkt_read.specs.declared.error.ReadError.TheVariants.{Text, Memory}
 use Rattle.wkt_read.specs.declared.messages.Message.{Message}
 use Rattle.wkt_read.specs.declared.messages.Message.TheVariants as message
 
--- memory ran out
-abbrev pub IsParseMemory : ParseError → Type 0
-IsParseMemory (Text message) = ⊥
-IsParseMemory (Memory e) = Unit {0}
-
 -- this holds where memory runs out
-abbrev pub OnMemory : {X : Type 0} → Result X ParseError → Type 0 → Type 0
+abbrev pub OnMemory : {X : Type 0} → Result X ReadError → Type 0 → Type 0
 OnMemory (Ok x) P = Unit {0}
 OnMemory (Err (Text message)) P = Unit {0}
 OnMemory (Err (Memory e)) P = P
@@ -32,9 +27,3 @@ OnBad (Err message.Y) P = Unit {0}
 OnBad (Err message.Z) P = Unit {0}
 OnBad (Err message.M) P = Unit {0}
 OnBad (Err message.Member) P = Unit {0}
-
--- the same, unless memory runs out
-abbrev pub OnBadIn : {X : Type 0} → Result X ParseError → Type 0 → Type 0
-OnBadIn (Ok x) P = Unit {0}
-OnBadIn {X} (Err (Text m)) P = OnBad {X = X} (Err m) P
-OnBadIn (Err (Memory e)) P = Unit {0}

@@ -10,40 +10,42 @@ use Rattle.wkt_types.specs.declared.coord.Coord.{Coord}
 use Rattle.wkt_access.specs.declared.dimensions.Dimension.{Dimension}
 use Rattle.wkt_types.specs.declared.geometry_type.GeometryType.{GeometryType}
 use Rattle.wkt_types.specs.declared.geometry.Wkt.{Wkt}
-use Rattle.wkt_read.specs.declared.messages.ParseError.{ParseError}
-use Rattle.wkt_read.specs.declared.messages.ParseError.TheVariants.{Text, Memory}
+use Rattle.wkt_read.specs.declared.error.ReadError.{ReadError}
+use Rattle.wkt_read.specs.declared.error.ReadError.TheVariants.{Text, Memory}
 use Rattle.wkt_read.specs.declared.messages.Message.{Message}
 use Rattle.wkt_read.specs.declared.tokenizer.peekable.PeekableTokens.{PeekableTokens}
 use Rattle.wkt_read.specs.Placed.{Placed, lexemes_of}
 use Rattle.wkt_read.specs.Ahead.{rest, IsAfter}
 use Rattle.wkt_read.specs.Parser.Reading.{Reading, coord_at, closing_at, left_by, body_at, value_at}
-use Rattle.wkt_read.specs.Parser.Errors.{OnBad, OnBadIn}
+use Rattle.wkt_read.specs.Items.{bad_number}
+use Rattle.wkt_read.specs.Answered.{OnMessage}
+use Rattle.wkt_read.specs.Parser.Errors.{OnBad}
 use Rattle.wkt_read.specs.Bad.{HasBad}
 
 -- A reader answers what is read, as its result shows it, and leaves the lexemes that the reading leaves, unless memory runs out.
-abbrev pub ReadsIn : {A X : Type 0} → (X → A) → Result X ParseError → Reading A → List Lexeme → Type 0
+abbrev pub ReadsIn : {A X : Type 0} → (X → A) → Result X ReadError → Reading A → List Lexeme → Type 0
 ReadsIn view (Ok x) read left = read ≡ Ok (view x, left)
 ReadsIn view (Err (Text message)) read left = read ≡ Err left
 ReadsIn view (Err (Memory e)) read left = Unit {0}
 
 -- The same, of all lexemes that are left, whatever fuel is enough for them.
-abbrev pub ReadsAll : {T A X : Type 0} → (X → A) → (ℕ → List Lexeme → Reading A) → PeekableTokens T → Result X ParseError → PeekableTokens T → Type 0
+abbrev pub ReadsAll : {T A X : Type 0} → (X → A) → (ℕ → List Lexeme → Reading A) → PeekableTokens T → Result X ReadError → PeekableTokens T → Type 0
 ReadsAll view reading old result new =
     (fuel : ℕ) → length (rest old) ≤ fuel → ReadsIn view result (reading fuel (rest old)) (rest new)
 
 -- The same of a list, by what its items show.
-abbrev pub ReadsList : {T A X : Type 0} → (X → A) → (ℕ → List Lexeme → Reading (List A)) → PeekableTokens T → Result (Vec X Global) ParseError → PeekableTokens T → Type 0
+abbrev pub ReadsList : {T A X : Type 0} → (X → A) → (ℕ → List Lexeme → Reading (List A)) → PeekableTokens T → Result (Vec X Global) ReadError → PeekableTokens T → Type 0
 ReadsList {X = X} view reading old result new = ReadsAll (λ (v : Vec X Global). map view v.items) reading old result new
 
 -- A coordinate is read and stands behind those before it, or none can be read, unless memory runs out.
-abbrev pub Pushes : {T X : Type 0} → (List ℕ → Option T) → Dimension → List Lexeme → List (Coord T) → Result X ParseError → List Lexeme → List (Coord T) → Type 0
+abbrev pub Pushes : {T X : Type 0} → (List ℕ → Option T) → Dimension → List Lexeme → List (Coord T) → Result X ReadError → List Lexeme → List (Coord T) → Type 0
 Pushes {T = T} read d start before (Ok x) left after =
     (c : Coord T) × (after ≡ before ++ c ∷ []) × HasDim d c × (coord_at read d start ≡ Ok (numbers_of c, left))
 Pushes read d start before (Err (Text m)) left after = coord_at read d start ≡ Err left
 Pushes read d start before (Err (Memory e)) left after = Unit {0}
 
 -- the closing place was taken after a body
-abbrev pub Closes : {X : Type 0} → Result X ParseError → Result X ParseError → List Lexeme → List Lexeme → Type 0
+abbrev pub Closes : {X : Type 0} → Result X ReadError → Result X ReadError → List Lexeme → List Lexeme → Type 0
 Closes (Ok x) (Ok y) old new = (closing_at old ≡ Ok (tt, new)) × (y ≡ x)
 Closes (Ok x) (Err (Text m)) old new = closing_at old ≡ Err new
 Closes (Ok x) (Err (Memory e)) old new = ⊥
@@ -59,13 +61,13 @@ abbrev pub Blames : {T X : Type 0} → (List ℕ → Option T) → PeekableToken
 Blames read s r = (start : List Placed) → IsAfter start s → OnBad r (HasBad read (lexemes_of start))
 
 -- the same, unless memory runs out
-abbrev pub BlamesIn : {T X : Type 0} → (List ℕ → Option T) → PeekableTokens T → Result X ParseError → Type 0
-BlamesIn read s r = (start : List Placed) → IsAfter start s → OnBadIn r (HasBad read (lexemes_of start))
+abbrev pub BlamesIn : {T X : Type 0} → (List ℕ → Option T) → PeekableTokens T → Result X ReadError → Type 0
+BlamesIn read s r = (start : List Placed) → IsAfter start s → OnMessage r bad_number (HasBad read (lexemes_of start))
 
 -- a bad number is blamed only where the body's reader blamed one, or there is one
-abbrev pub BlamesAs : {T X Y : Type 0} → (List ℕ → Option T) → PeekableTokens T → Result X ParseError → Result Y ParseError → Type 0
+abbrev pub BlamesAs : {T X Y : Type 0} → (List ℕ → Option T) → PeekableTokens T → Result X ReadError → Result Y ReadError → Type 0
 BlamesAs read s body r =
-    (start : List Placed) → IsAfter start s → OnBadIn body (HasBad read (lexemes_of start)) → OnBadIn r (HasBad read (lexemes_of start))
+    (start : List Placed) → IsAfter start s → OnMessage body bad_number (HasBad read (lexemes_of start)) → OnMessage r bad_number (HasBad read (lexemes_of start))
 
 -- the value of a geometry
 abbrev pub wkt_value : {T : Type 0} → Wkt T → Value T
@@ -76,5 +78,5 @@ abbrev pub UniformWkt : {T : Type 0} → Wkt T → Type 0
 UniformWkt w = IsUniform (tree w)
 
 -- What stands after a header of this kind and dimension is read.
-abbrev pub ReadsBody : {T : Type 0} → (List ℕ → Option T) → GeometryType → Dimension → PeekableTokens T → Result (Wkt T) ParseError → PeekableTokens T → Type 0
+abbrev pub ReadsBody : {T : Type 0} → (List ℕ → Option T) → GeometryType → Dimension → PeekableTokens T → Result (Wkt T) ReadError → PeekableTokens T → Type 0
 ReadsBody read kind d old result new = ReadsAll wkt_value (λ fuel. body_at read (value_at read fuel) fuel kind d) old result new

@@ -8,13 +8,13 @@ ghost use Rattle.wkt_read.specs.Parser.Walks.{GoesOn};
 ghost use Rattle.wkt_read.specs.Ahead.{IsNear, IsAfter};
 ghost use Rattle.wkt_read.specs.Parser.Reading.{Reads, number_at, coord_at, opening_at, closing_at, closed, framed, point_at};
 ghost use Rattle.wkt_read.specs.Parser.Reads.{Closes, Blames, BlamesAs};
-ghost use Rattle.wkt_read.specs.Parser.Errors.{OnBadIn};
 ghost use Rattle.wkt_read.specs.Bad.{HasBad};
 ghost use Rattle.wkt_access.specs.declared.dimensions.Dimension.TheVariants.{XY};
 ghost use Rattle.wkt_read.specs.declared.messages.Message.TheVariants.{BadNumber};
 
+use crate::error::ReadError;
 use crate::keywords::is_empty;
-use crate::messages::{Message, ParseError};
+use crate::messages::Message;
 use crate::tokenizer::peekable::PeekableTokens;
 use crate::tokenizer::token::Lexeme;
 use wkt_access::Dimension;
@@ -165,22 +165,22 @@ pub(crate) fn point<T: WktNum>(
 #[tactic(auto, unfolding(crate::specs::Parser::Reading::closing_at))]
 pub(crate) fn close<T: WktNum, X: Drop>(
     tokens: &mut PeekableTokens<'_, T>,
-    body: Result<X, ParseError>,
-) -> Result<X, ParseError>
+    body: Result<X, ReadError>,
+) -> Result<X, ReadError>
     ensures exact { Closes body result (rest tokens.old) (rest tokens.new) }
     ensures near { OnOk result (IsNear tokens.new) }
     ensures bad { BlamesAs T.read tokens.old body result }
     ensures goes_on { GoesOn tokens.old tokens.new }
 {
     match body {
-        Err(ParseError::Memory(error)) => Err(ParseError::Memory(error)),
-        Err(ParseError::Text(message)) => match closing(tokens) {
-            Ok(()) => Err(ParseError::Text(message)),
-            Err(missing) => Err(ParseError::Text(missing)),
-        },
-        Ok(value) => match closing(tokens) {
-            Ok(()) => Ok(value),
-            Err(missing) => Err(ParseError::Text(missing)),
-        },
+        Err(ReadError::Memory(error)) => Err(ReadError::Memory(error)),
+        Err(ReadError::Text(message)) => {
+            closing(tokens)?;
+            Err(ReadError::Text(message))
+        }
+        Ok(value) => {
+            closing(tokens)?;
+            Ok(value)
+        }
     }
 }

@@ -12,8 +12,9 @@ ghost use Rattle.wkt_read.specs.Parser.Reads.{ReadsAll, ReadsBody, Blames, Blame
 ghost use Rattle.wkt_read.specs.Parser.Errors.{OnMemory};
 ghost use Rattle.wkt_read.specs.Parser.Nests.{StartsAll, StartsBody, Shuts, IfWhole, OnWhole, Wants, weight, most_after};
 
+use crate::error::ReadError;
 use crate::keywords::{dimension_of, is_empty, kind_of};
-use crate::messages::{Message, ParseError};
+use crate::messages::Message;
 use crate::parser::coordinates::{close, opening, point};
 use crate::parser::lists::{coordinates, list};
 use crate::tokenizer::peekable::PeekableTokens;
@@ -142,7 +143,7 @@ fn collection_of<T>(geometries: Vec<Wkt<T>>, dim: Dimension) -> Wkt<T>
 fn read_point<T: WktNum>(
     tokens: &mut PeekableTokens<'_, T>,
     dim: Dimension,
-) -> Result<Wkt<T>, ParseError>
+) -> Result<Wkt<T>, ReadError>
     ensures exact { ReadsBody T.read GeometryType.Point dim tokens.old result tokens.new }
     ensures uniform { IfOk result UniformWkt }
     ensures memory { OnMemory result ⊥ }
@@ -159,7 +160,7 @@ fn read_line_string<T: WktNum>(
     alloc: Global,
     tokens: &mut PeekableTokens<'_, T>,
     dim: Dimension,
-) -> Result<Wkt<T>, ParseError>
+) -> Result<Wkt<T>, ReadError>
     ensures exact { ReadsBody T.read GeometryType.LineString dim tokens.old result tokens.new }
     ensures uniform { IfOk result UniformWkt }
     ensures memory { OnMemory result (IsOpened (rest tokens.old)) }
@@ -176,7 +177,7 @@ fn read_polygon<T: WktNum>(
     alloc: Global,
     tokens: &mut PeekableTokens<'_, T>,
     dim: Dimension,
-) -> Result<Wkt<T>, ParseError>
+) -> Result<Wkt<T>, ReadError>
     ensures exact { ReadsBody T.read GeometryType.Polygon dim tokens.old result tokens.new }
     ensures uniform { IfOk result UniformWkt }
     ensures memory { OnMemory result (IsOpened (rest tokens.old)) }
@@ -193,7 +194,7 @@ fn read_multi_point<T: WktNum>(
     alloc: Global,
     tokens: &mut PeekableTokens<'_, T>,
     dim: Dimension,
-) -> Result<Wkt<T>, ParseError>
+) -> Result<Wkt<T>, ReadError>
     ensures exact { ReadsBody T.read GeometryType.MultiPoint dim tokens.old result tokens.new }
     ensures uniform { IfOk result UniformWkt }
     ensures memory { OnMemory result (IsOpened (rest tokens.old)) }
@@ -210,7 +211,7 @@ fn read_multi_line_string<T: WktNum>(
     alloc: Global,
     tokens: &mut PeekableTokens<'_, T>,
     dim: Dimension,
-) -> Result<Wkt<T>, ParseError>
+) -> Result<Wkt<T>, ReadError>
     ensures exact { ReadsBody T.read GeometryType.MultiLineString dim tokens.old result tokens.new }
     ensures uniform { IfOk result UniformWkt }
     ensures memory { OnMemory result (IsOpened (rest tokens.old)) }
@@ -227,7 +228,7 @@ fn read_multi_polygon<T: WktNum>(
     alloc: Global,
     tokens: &mut PeekableTokens<'_, T>,
     dim: Dimension,
-) -> Result<Wkt<T>, ParseError>
+) -> Result<Wkt<T>, ReadError>
     ensures exact { ReadsBody T.read GeometryType.MultiPolygon dim tokens.old result tokens.new }
     ensures uniform { IfOk result UniformWkt }
     ensures memory { OnMemory result (IsOpened (rest tokens.old)) }
@@ -259,7 +260,7 @@ fn begin_collection<T: WktNum>(
     alloc: Global,
     tokens: &mut PeekableTokens<'_, T>,
     dim: Dimension,
-) -> Result<Start<T>, ParseError>
+) -> Result<Start<T>, ReadError>
     ensures exact { StartsBody T.read GeometryType.GeometryCollection dim tokens.old result tokens.new }
     ensures uniform { IfWhole result UniformWkt }
     ensures memory { Wants result (IsOpened (rest tokens.old)) }
@@ -279,7 +280,7 @@ fn begin<T: WktNum>(
     alloc: Global,
     tokens: &mut PeekableTokens<'_, T>,
     inside: bool,
-) -> Result<Start<T>, ParseError>
+) -> Result<Start<T>, ReadError>
     ensures exact { StartsAll T.read (value_at T.read) tokens.old result tokens.new }
     ensures uniform { IfWhole result UniformWkt }
     ensures memory { Wants result (HasMembers T.read (rest tokens.old)) }
@@ -305,9 +306,9 @@ fn begin<T: WktNum>(
 // The collection of these members, after its closing place.
 fn shut<T: WktNum>(
     tokens: &mut PeekableTokens<'_, T>,
-    body: Result<Vec<Wkt<T>>, ParseError>,
+    body: Result<Vec<Wkt<T>>, ReadError>,
     dim: Dimension,
-) -> Result<Start<T>, ParseError>
+) -> Result<Start<T>, ReadError>
     ensures exact { Shuts T.read dim tokens.old body result tokens.new }
     ensures uniform { IfOk body (λ v. AllByRecursion UniformWkt v.items) → IfWhole result UniformWkt }
     ensures lighter { weight result ≤ most_after body }
@@ -326,7 +327,7 @@ fn read_collection<T: WktNum>(
     alloc: Global,
     tokens: &mut PeekableTokens<'_, T>,
     dim: Dimension,
-) -> Result<Wkt<T>, ParseError>
+) -> Result<Wkt<T>, ReadError>
     ensures exact { ReadsBody T.read GeometryType.GeometryCollection dim tokens.old result tokens.new }
     ensures uniform { IfOk result UniformWkt }
     ensures memory { OnMemory result (IsOpened (rest tokens.old)) }
@@ -372,7 +373,7 @@ pub(crate) fn value<T: WktNum>(
     alloc: Global,
     tokens: &mut PeekableTokens<'_, T>,
     inside: bool,
-) -> Result<Wkt<T>, ParseError>
+) -> Result<Wkt<T>, ReadError>
     ensures exact { ReadsAll wkt_value (value_at T.read) tokens.old result tokens.new }
     ensures uniform { IfOk result UniformWkt }
     ensures memory { OnMemory result (HasMembers T.read (rest tokens.old)) }

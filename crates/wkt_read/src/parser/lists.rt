@@ -9,8 +9,9 @@ ghost use Rattle.wkt_read.specs.Parser.Reading.{Reads, coord_at, line_string_at,
 ghost use Rattle.wkt_read.specs.Parser.Reads.{ReadsAll, ReadsList, Pushes, Blames, BlamesIn};
 ghost use Rattle.wkt_read.specs.Parser.Errors.{OnMemory};
 
+use crate::error::ReadError;
 use crate::keywords::is_empty;
-use crate::messages::{Message, ParseError};
+use crate::messages::Message;
 use crate::parser::coordinates::{close, coord, coord_of_any, number, opening, point};
 use crate::tokenizer::peekable::PeekableTokens;
 use crate::tokenizer::token::Lexeme;
@@ -41,7 +42,7 @@ pub(crate) trait Item<T: WktNum>: Drop {
         alloc: Global,
         tokens: &mut PeekableTokens<'_, T>,
         dim: Dimension,
-    ) -> Result<Self, ParseError>
+    ) -> Result<Self, ReadError>
         ensures exact { ReadsAll view (item_at dim) tokens.old result tokens.new }
         ensures uniform { IfOk result (IsIn dim) }
         ensures bad { BlamesIn T.read tokens.old result }
@@ -53,7 +54,7 @@ fn many<T: WktNum, X: Item<T>>(
     alloc: Global,
     tokens: &mut PeekableTokens<'_, T>,
     dim: Dimension,
-) -> Result<Vec<X>, ParseError>
+) -> Result<Vec<X>, ReadError>
     ensures exact { ReadsList X.view (λ n. many_at (X.item_at dim n) n) tokens.old result tokens.new }
     ensures uniform { IfOk result (λ v. AllByRecursion (X.IsIn dim) v.items) }
     ensures bad { BlamesIn T.read tokens.old result }
@@ -75,7 +76,7 @@ pub(crate) fn list<T: WktNum, X: Item<T>>(
     alloc: Global,
     tokens: &mut PeekableTokens<'_, T>,
     dim: Dimension,
-) -> Result<Vec<X>, ParseError>
+) -> Result<Vec<X>, ReadError>
     ensures exact { ReadsList X.view (λ n. list_at (X.item_at dim n) n) tokens.old result tokens.new }
     ensures uniform { IfOk result (λ v. AllByRecursion (X.IsIn dim) v.items) }
     ensures memory { OnMemory result (IsOpened (rest tokens.old)) }
@@ -96,7 +97,7 @@ fn coords<T: WktNum>(
     alloc: Global,
     tokens: &mut PeekableTokens<'_, T>,
     dim: Dimension,
-) -> Result<Vec<Coord<T>>, ParseError>
+) -> Result<Vec<Coord<T>>, ReadError>
     ensures exact { ReadsList numbers_of (many_at (coord_at T.read dim)) tokens.old result tokens.new }
     ensures uniform { IfOk result (λ v. AllByRecursion (HasDim dim) v.items) }
     ensures bad { BlamesIn T.read tokens.old result }
@@ -118,7 +119,7 @@ fn push_coord<T: WktNum>(
     tokens: &mut PeekableTokens<'_, T>,
     dim: Dimension,
     items: &mut Vec<Coord<T>>,
-) -> Result<(), ParseError>
+) -> Result<(), ReadError>
     ensures exact { Pushes T.read dim (rest tokens.old) items.old.items result (rest tokens.new) items.new.items }
     ensures bad { BlamesIn T.read tokens.old result }
     ensures goes_on { GoesOn tokens.old tokens.new }
@@ -133,13 +134,14 @@ fn push_coord<T: WktNum>(
                 z: None,
                 m: None,
             })?;
+            Ok(())
         }
         _ => {
             let coord = coord_of_any(tokens, dim)?;
             items.push(coord)?;
+            Ok(())
         }
     }
-    Ok(())
 }
 
 /// What stands after the header of a line string: EMPTY, or coordinates in parentheses. They are no
@@ -149,7 +151,7 @@ pub(crate) fn coordinates<T: WktNum>(
     alloc: Global,
     tokens: &mut PeekableTokens<'_, T>,
     dim: Dimension,
-) -> Result<Vec<Coord<T>>, ParseError>
+) -> Result<Vec<Coord<T>>, ReadError>
     ensures exact { ReadsList numbers_of (line_string_at T.read dim) tokens.old result tokens.new }
     ensures uniform { IfOk result (λ v. AllByRecursion (HasDim dim) v.items) }
     ensures memory { OnMemory result (IsOpened (rest tokens.old)) }
@@ -183,7 +185,7 @@ impl<T: WktNum> Item<T> for LineString<T> {
         alloc: Global,
         tokens: &mut PeekableTokens<'_, T>,
         dim: Dimension,
-    ) -> Result<Self, ParseError> {
+    ) -> Result<Self, ReadError> {
         let coords = coordinates(alloc, tokens, dim)?;
         Ok(LineString::new(coords, dim))
     }
@@ -207,7 +209,7 @@ impl<T: WktNum> Item<T> for Polygon<T> {
         alloc: Global,
         tokens: &mut PeekableTokens<'_, T>,
         dim: Dimension,
-    ) -> Result<Self, ParseError> {
+    ) -> Result<Self, ReadError> {
         let rings = list(alloc, tokens, dim)?;
         Ok(Polygon::new(rings, dim))
     }
@@ -256,7 +258,7 @@ impl<T: WktNum> Item<T> for Point<T> {
         _alloc: Global,
         tokens: &mut PeekableTokens<'_, T>,
         dim: Dimension,
-    ) -> Result<Self, ParseError> {
+    ) -> Result<Self, ReadError> {
         Ok(member(tokens, dim)?)
     }
 }

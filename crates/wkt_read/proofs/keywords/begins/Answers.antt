@@ -1,5 +1,5 @@
-use Rattle.std.proofs.Common.{◌∙◌, sym, arith}
-use Rattle.wkt_read.proofs.LawLemmas.HeaderPlaces.{begins_short, begins_other, begins_next, capital_at}
+use Rattle.std.proofs.Common.{◌∙◌, sym}
+use Rattle.wkt_read.proofs.LawLemmas.HeaderPlaces.{begins_short}
 use Rattle.wkt_read.proofs.keywords.begins.Goals as goal
 
 pub returns-then-i-text : goal.returns-then-i-text

@@ -1,5 +1,5 @@
 use Rattle.std.proofs.Common.{take}
-use Rattle.wkt_num.specs.Sink.{Adds}
+use Rattle.wkt.specs.Sink.{Adds}
 use Rattle.wkt_uses.specs.Lined.{lined}
 use Rattle.wkt_uses.proofs.any_collection.write_members.Given as goal
 

@@ -1,7 +1,7 @@
 use Rattle.std.proofs.Common.{map, length}
 use denote.Text.{Utf8}
 use denote.Shadow.{shadow}
-use Rattle.wkt_types.specs.Tree.{tree}
+use Rattle.wkt.specs.Tree.{tree}
 use Rattle.wkt_uses.specs.Ordered.{BeginsWith}
 use Rattle.wkt_uses.proofs.every_geometry.every_geometry.Given as goal
 

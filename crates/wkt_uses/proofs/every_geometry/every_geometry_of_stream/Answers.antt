@@ -1,8 +1,8 @@
 use Rattle.std.proofs.Common.{[], ◌∷◌, sym, ◌∙◌}
 use Rattle.std.proofs.lemmas.List.{map-append}
 use Rattle.std.proofs.lemmas.Result.{err_from_is_err_and}
-use Rattle.wkt_types.specs.Tree.{tree}
-use Rattle.wkt_read.proofs.TokenizerLemmas.Peeked.{peeked_rest, none_left}
+use Rattle.wkt.specs.Tree.{tree}
+use Rattle.wkt.proofs.Peeked.{peeked_rest, none_left}
 use Rattle.wkt_uses.proofs.Ordering.{stream_more, stream_stops}
 use Rattle.wkt_uses.proofs.every_geometry.every_geometry_of_stream.Goals as goal
 

@@ -1,6 +1,6 @@
 use Rattle.std.proofs.Common.{string_bytes}
-use Rattle.wkt_flat.specs.Tree.{flat_tree}
-use Rattle.wkt_to_wkt.specs.Back.{wkt_text}
+use Rattle.wkt.specs.FlatTree.{flat_tree}
+use Rattle.wkt.specs.Back.{wkt_text}
 use Rattle.wkt_uses.specs.FlatKey.{NamesPlain}
 use Rattle.wkt_uses.proofs.FlatKeys.{named, names_plain}
 use Rattle.wkt_uses.proofs.flat_key.flat_key.Goals as goal

@@ -1,5 +1,5 @@
 use Rattle.std.proofs.Common.{string_bytes}
-use Rattle.wkt_access.specs.Shapes.{canon}
+use Rattle.wkt.specs.Shapes.{canon}
 use Rattle.wkt_uses.proofs.Shows.{front_of_text}
 use Rattle.wkt_uses.proofs.key.key.Goals as goal
 

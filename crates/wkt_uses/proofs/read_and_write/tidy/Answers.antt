@@ -1,6 +1,6 @@
 use Rattle.std.proofs.Common.{ap, ◌∙◌}
-use Rattle.wkt_access.specs.Texts.{shape_text}
-use Rattle.wkt_types.proofs.Displays.{shown_is}
+use Rattle.wkt.specs.Texts.{shape_text}
+use Rattle.wkt.proofs.Displays.{shown_is}
 use Rattle.wkt_uses.proofs.read_and_write.tidy.Goals as goal
 
 pub returns-clause-text : goal.returns-clause-text

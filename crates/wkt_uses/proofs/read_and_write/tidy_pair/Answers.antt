@@ -1,8 +1,8 @@
 use Rattle.std.proofs.Common.{ap, ◌∙◌}
-use Rattle.wkt_access.specs.Shapes.{shape_of}
-use Rattle.wkt_access.specs.Texts.{shape_text}
-use Rattle.wkt_types.specs.Tree.{tree}
-use Rattle.wkt_types.specs.Values.{tree_shape}
+use Rattle.wkt.specs.Shapes.{shape_of}
+use Rattle.wkt.specs.Texts.{shape_text}
+use Rattle.wkt.specs.Tree.{tree}
+use Rattle.wkt.specs.TreeValues.{tree_shape}
 use Rattle.wkt_uses.specs.Tidy.{pair}
 use Rattle.wkt_uses.proofs.Shows.{pair_shown}
 use Rattle.wkt_uses.proofs.read_and_write.tidy_pair.Goals as goal

@@ -1,4 +1,4 @@
-use Rattle.wkt_access.specs.Shapes.{shape_of}
+use Rattle.wkt.specs.Shapes.{shape_of}
 use Rattle.wkt_uses.proofs.Shows.{same_text}
 use Rattle.wkt_uses.proofs.same_place.same_place.Goals as goal
 

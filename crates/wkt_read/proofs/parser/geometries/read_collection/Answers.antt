@@ -10,7 +10,8 @@ use Rattle.wkt_read.specs.declared.parser.geometries.Nest.{Nest}
 use Rattle.wkt_read.specs.Ahead.{rest}
 use Rattle.wkt_read.specs.Placed.{lexemes_of}
 use Rattle.wkt_read.specs.Bad.{HasBad}
-use Rattle.wkt_read.specs.Parser.Errors.{OnBadIn}
+use Rattle.wkt_read.specs.Items.{bad_number}
+use Rattle.wkt_read.specs.Answered.{OnMessage}
 use Rattle.wkt_read.specs.Parser.Reads.{wkt_value, UniformWkt}
 use Rattle.wkt_read.specs.Parser.Reading.{value_at, body_at, IsOpened}
 use Rattle.wkt_read.specs.Parser.Nests.{Wants, IfWhole, Nested, weight}
@@ -107,6 +108,6 @@ levels-preserved g c =
       opened = any _ _ was;
       memory = wants _ _ was;
       near = c.shut-in-Some-pop.ensures.near;
-      bad = λ start b. c.shut-in-Some-pop.ensures.bad start (c.levels.invariant.goes_on.keeps start b) (bad-as (Start g.row.T.Denot) (Vec (Wkt g.row.T.Denot) Global) c.in-Err.error (HasBad g.T.WktNum.read (lexemes_of start)) (subst (λ s. OnBadIn s (HasBad g.T.WktNum.read (lexemes_of start))) c.in-Err.is (c.levels.invariant.bad start b)));
+      bad = λ start b. c.shut-in-Some-pop.ensures.bad start (c.levels.invariant.goes_on.keeps start b) (bad-as (Start g.row.T.Denot) (Vec (Wkt g.row.T.Denot) Global) c.in-Err.error (HasBad g.T.WktNum.read (lexemes_of start)) (subst (λ s. OnMessage s bad_number (HasBad g.T.WktNum.read (lexemes_of start))) c.in-Err.is (c.levels.invariant.bad start b)));
       exact = λ fuel h. error-next g.T.WktNum.read (λ (v : Vec (Wkt g.row.T.Denot) Global). map wkt_value v.items) _ _ c.in-Some-pop.nest _ _ _ _ _ _ (c.levels.invariant.exact fuel h) c.in-Err.is c.in-Some-pop.ensures.items c.shut-in-Some-pop.ensures.goes_on.fewer c.shut-in-Some-pop.ensures.exact;
     }

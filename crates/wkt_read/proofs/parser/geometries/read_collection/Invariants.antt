@@ -5,7 +5,8 @@ use Rattle.wkt_read.specs.Placed.{lexemes_of}
 use Rattle.wkt_read.specs.Ahead.{rest, IsAfter, IsNear}
 use Rattle.wkt_read.specs.Parser.Walks.{GoesOn}
 use Rattle.wkt_read.specs.Bad.{HasBad}
-use Rattle.wkt_read.specs.Parser.Errors.{OnBadIn}
+use Rattle.wkt_read.specs.Items.{bad_number}
+use Rattle.wkt_read.specs.Answered.{OnMessage}
 use Rattle.wkt_read.specs.Parser.Reads.{UniformWkt}
 use Rattle.wkt_read.specs.Parser.Reading.{value_at, body_at, IsOpened}
 use Rattle.wkt_read.specs.Parser.Nests.{IfWhole, OnWhole, Wants, weight}
@@ -22,7 +23,7 @@ invariant-levels g l =
       opened : IfAny l.open.items (IsOpened (rest l.fn.tokens));
       memory : Wants l.now (IsOpened (rest l.fn.tokens));
       near : OnWhole l.now (IsNear l.tokens);
-      bad : (start : _) → IsAfter start l.fn.tokens → OnBadIn l.now (HasBad read (lexemes_of start));
+      bad : (start : _) → IsAfter start l.fn.tokens → OnMessage l.now bad_number (HasBad read (lexemes_of start));
       exact : (fuel : ℕ) → length (rest l.fn.tokens) ≤ fuel → Inside read l.open.items l.now (rest l.tokens) (body_at read (value_at read fuel) fuel GeometryCollection l.fn.dim (rest l.fn.tokens));
     }
 

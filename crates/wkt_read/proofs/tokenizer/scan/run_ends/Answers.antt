@@ -1,4 +1,4 @@
-use Rattle.std.proofs.Common.{◌≡◌, ap, sym, refl, subst, length, ◌<◌, ◌∙◌, arith}
+use Rattle.std.proofs.Common.{ap, sym, refl, subst, length, ◌<◌, arith}
 use Rattle.wkt_read.proofs.TokenizerLemmas.Steps.{run-step, run-end, run-end-text, late-run}
 use Rattle.wkt_read.specs.declared.tokenizer.class.Class.TheVariants as class
 use Rattle.wkt_read.specs.Tokenizer.Cursors.{taken_in}

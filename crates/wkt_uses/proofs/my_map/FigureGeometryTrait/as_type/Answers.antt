@@ -1,5 +1,5 @@
 use Rattle.std.proofs.Common.{◌∙◌}
-use Rattle.wkt_access.proofs.Collections.{is_collection}
+use Rattle.wkt.proofs.Collections.{is_collection}
 use Rattle.wkt_uses.specs.Mine.{figure_shape}
 use Rattle.wkt_uses.proofs.Groups.{group_shape}
 use Rattle.wkt_uses.proofs.my_map.FigureGeometryTrait.as_type.Goals as goal

@@ -1,5 +1,5 @@
 use Rattle.std.proofs.Common.{arith}
-use Rattle.wkt_access.proofs.Collections.{count_is, member_at}
+use Rattle.wkt.proofs.Collections.{count_is, member_at}
 use Rattle.wkt_uses.specs.Mine.{figure_shape}
 use Rattle.wkt_uses.proofs.Groups.{group_shape}
 use Rattle.wkt_uses.proofs.my_map.FigureGeometryTrait.geometry.Goals as goal

@@ -1,0 +1,64 @@
+#!/usr/bin/env bash
+# Reads the table of texts by PostGIS: where a text is answered with a canonical text, both are the same bytes of EWKB there,
+# but for the sign of zero, if PostGIS takes the text at all.
+#
+# It needs PostgreSQL with PostGIS, and python3 (as the user postgres if it runs as root), and is no part of the gate.
+set -eu
+cd "$(dirname "$0")/.."
+dir=$(mktemp -d)
+trap 'rm -rf "$dir"' EXIT
+chmod 755 "$dir"
+# Rows that are read, as hexadecimal digits: a canonical text begins with two capitals, and no message does.
+python3 - crates/wkt_conformance/stdin > "$dir/rows" <<'PY'
+import re
+import sys
+
+with open(sys.argv[1], encoding="utf-8", newline="\n") as table:
+    for row in table.read().removesuffix("\n").split("\n"):
+        text, _, canonical = row.partition("\t")
+        if re.match("[A-Z][A-Z]", canonical):
+            print(text.encode().hex(), canonical.encode().hex())
+PY
+
+postgres=$(command -v pg_ctl || ls /usr/lib/postgresql/*/bin/pg_ctl 2> /dev/null | tail -n 1 || true)
+bin=$(dirname "$(readlink -f "$postgres")")
+as() { "$@"; }
+if [ "$(id -u)" = 0 ]; then
+    as() { setpriv --reuid postgres --regid postgres --clear-groups "$@"; }
+fi
+mkdir "$dir/base"
+[ "$(id -u)" = 0 ] && chown postgres "$dir/base"
+cd "$dir/base"
+as "$bin/initdb" -D "$dir/base/data" -A trust -U wkt -E UTF8 --locale C.UTF-8 > "$dir/base.log" 2>&1
+as "$bin/pg_ctl" -D "$dir/base/data" -w -o "-k $dir/base -h ''" -l "$dir/base/log" start > /dev/null
+trap 'as "$bin/pg_ctl" -D "$dir/base/data" -m immediate stop > /dev/null; rm -rf "$dir"' EXIT
+"$bin/psql" -q -h "$dir/base" -U wkt -d postgres -v ON_ERROR_STOP=1 > "$dir/told" <<SQL
+create extension postgis;
+create function taken(t text) returns geometry language plpgsql as
+    \$\$ begin return ST_GeomFromText(t); exception when others then return null; end \$\$;
+create function no_minus_zero(g geometry) returns text language sql as
+    \$\$ select regexp_replace(ST_AsEWKT(g, 15), '-0([ ,)])', '0\\1', 'g') \$\$;
+create table rows (text_hex text, canonical_hex text);
+copy rows from '$dir/rows' (format text, delimiter ' ');
+create table both_ways as
+    select text, canonical, taken(text) as one, taken(canonical) as other
+    from (select convert_from(decode(text_hex, 'hex'), 'UTF8') as text,
+                 convert_from(decode(canonical_hex, 'hex'), 'UTF8') as canonical from rows) r;
+\t on
+\pset format unaligned
+\pset fieldsep ' '
+select count(*), case
+    when one is null and other is null then 'refused in both forms'
+    when one is null then 'taken in canonical form alone'
+    when other is null then 'wrong: taken, but not in canonical form'
+    when ST_AsEWKB(one) = ST_AsEWKB(other) then 'the same bytes'
+    when no_minus_zero(one) = no_minus_zero(other) then 'the same but for the sign of zero'
+    else 'wrong: another geometry' end as how
+from both_ways group by how order by count(*) desc;
+select 'wrong:', text, '=>', canonical from both_ways
+where one is not null and (other is null or no_minus_zero(one) <> no_minus_zero(other)) limit 20;
+SQL
+cat "$dir/told"
+if grep -q wrong: "$dir/told" || ! grep -q "the same bytes" "$dir/told"; then
+    exit 1
+fi

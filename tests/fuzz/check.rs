@@ -1,0 +1,252 @@
+//! What is asked of the library for one input, and compared with the plain reader.
+use crate::reader::{self, infer, message, output, read_front, text as text_of, whole, NoKind, Numbers, Reader, Value};
+use std::sync::OnceLock;
+
+extern "C" {
+    // The function of program.txt: a slice is a pointer and a length.
+    fn wkt_fuzz(
+        op: u32,
+        text: *const u8,
+        text_len: usize,
+        out: *mut u8,
+        out_len: usize,
+        needed: *mut usize,
+        end: *mut usize,
+    ) -> u32;
+    static mut heap_held: i64;
+    static mut heap_calls: i64;
+    static mut heap_fail_at: i64;
+}
+
+const ROOM: usize = 1 << 20;
+const NO_END: usize = usize::MAX;
+/// The first and the last of the operations that read the front over a number type.
+const FRONTS: std::ops::RangeInclusive<u32> = 1..=14;
+const OPERATIONS: [u32; 26] =
+    [0, 1, 2, 3, 4, 5, 6, 7, 8, 9, 10, 11, 12, 13, 14, 15, 20, 21, 22, 30, 31, 32, 33, 34, 40, 41];
+
+#[derive(Clone, PartialEq, Eq)]
+pub struct Said {
+    status: u32,
+    answer: Vec<u8>,
+    end: usize,
+}
+
+impl std::fmt::Debug for Said {
+    fn fmt(&self, f: &mut std::fmt::Formatter) -> std::fmt::Result {
+        write!(f, "status {} end {} answer \"{}\"", self.status, self.end as isize, self.answer.escape_ascii())
+    }
+}
+
+fn said(status: u32, answer: &[u8], end: usize) -> Said {
+    Said { status, answer: answer.to_vec(), end }
+}
+
+fn refused(reason: usize) -> Said {
+    said(1, message(reason).as_bytes(), NO_END)
+}
+
+/// What the library says; no allocation is held after the call.
+fn library(op: u32, text: &[u8]) -> Said {
+    static mut OUT: [u8; ROOM] = [0; ROOM];
+    let mut needed = 0;
+    let mut end = NO_END;
+    unsafe {
+        heap_calls = 0;
+        let out = &raw mut OUT as *mut u8;
+        let status = wkt_fuzz(op, text.as_ptr(), text.len(), out, ROOM, &mut needed, &mut end);
+        assert!(status != 3 && needed <= ROOM, "no room at operation {op}");
+        let held = heap_held;
+        if held != 0 {
+            fail(op, text, &format!("{held} allocations are held after the call"));
+        }
+        Said { status, answer: std::slice::from_raw_parts(out, needed).to_vec(), end }
+    }
+}
+
+fn numbers(op: u32) -> Numbers {
+    match op {
+        1 => Numbers::Decimal(18),
+        2 => Numbers::Decimal(0),
+        3 => Numbers::Decimal(36),
+        4 => Numbers::Decimal(6),
+        5 => whole::<i8>(),
+        6 => whole::<i16>(),
+        7 => whole::<i32>(),
+        8 => whole::<i64>(),
+        9 => whole::<i128>(),
+        10 => whole::<u8>(),
+        11 => whole::<u16>(),
+        12 => whole::<u32>(),
+        13 => whole::<u64>(),
+        _ => whole::<u128>(),
+    }
+}
+
+fn front(text: &str, numbers: Numbers) -> Said {
+    match read_front(text, numbers) {
+        Ok((value, end)) => said(0, text_of(&value).as_bytes(), end),
+        Err(reason) => refused(reason),
+    }
+}
+
+fn header(text: &str) -> Said {
+    match infer(text) {
+        Ok((kind, dimension)) => said(0, b"", kind * 4 + dimension),
+        Err(NoKind::Prefix(prefix)) => said(1, prefix.as_bytes(), 1),
+        Err(NoKind::NoSpace) => said(1, b"", 2),
+        Err(NoKind::NoParenthesis) => said(1, b"", 3),
+    }
+}
+
+/// Every geometry of a text, one after the other, until one is refused or, of a stream of lexemes, none is left.
+fn fronts(text: &str, stream: bool) -> Said {
+    let mut out = vec![];
+    let mut reader = Reader::new(text, Numbers::Decimal(18));
+    while !(stream && reader.is_at_end()) {
+        match reader.geometry(false) {
+            Ok(value) => {
+                out.extend(text_of(&value).into_bytes());
+                out.push(b'\n');
+            }
+            Err(reason) => {
+                out.extend(message(reason).as_bytes());
+                return said(1, &out, NO_END);
+            }
+        }
+    }
+    said(0, &out, NO_END)
+}
+
+fn flat_path(path: &reader::Path) -> reader::Path {
+    path.iter().map(|coord| coord[..2].to_vec()).collect()
+}
+
+fn flat_rings(rings: &[reader::Path]) -> Vec<reader::Path> {
+    let closed = |ring: &reader::Path| {
+        let mut ring = flat_path(ring);
+        if ring.first() != ring.last() {
+            ring.push(ring[0].clone());
+        }
+        ring
+    };
+    rings.iter().map(closed).collect()
+}
+
+/// The two-dimensional value (docs/CALLING.md): z and m are dropped, rings are closed, an empty Point is an empty
+/// MultiPoint; none where a MultiPoint has an empty member.
+fn flat_value(value: &Value) -> Option<Value> {
+    Some(match value {
+        Value::Point(_, None) => Value::MultiPoint(0, vec![]),
+        Value::Point(_, Some(coord)) => Value::Point(0, Some(coord[..2].to_vec())),
+        Value::LineString(_, path) => Value::LineString(0, flat_path(path)),
+        Value::Polygon(_, rings) => Value::Polygon(0, flat_rings(rings)),
+        Value::MultiPoint(_, members) => {
+            let flat = |member: &Option<reader::Coord>| member.as_ref().map(|coord| Some(coord[..2].to_vec()));
+            Value::MultiPoint(0, members.iter().map(flat).collect::<Option<_>>()?)
+        }
+        Value::MultiLineString(_, paths) => Value::MultiLineString(0, paths.iter().map(flat_path).collect()),
+        Value::MultiPolygon(_, all) => Value::MultiPolygon(0, all.iter().map(|rings| flat_rings(rings)).collect()),
+        Value::Collection(_, members) => {
+            Value::Collection(0, members.iter().map(flat_value).collect::<Option<_>>()?)
+        }
+    })
+}
+
+fn flat(text: &str, numbers: Numbers) -> Said {
+    match read_front(text, numbers) {
+        Err(reason) => refused(reason),
+        Ok((value, _)) => match flat_value(&value) {
+            None => said(5, b"", NO_END),
+            Some(value) => said(0, text_of(&value).as_bytes(), NO_END),
+        },
+    }
+}
+
+fn wanted(op: u32, data: &[u8]) -> Said {
+    let Ok(text) = std::str::from_utf8(data) else {
+        return if op == 0 || op == 15 { said(0, &output(data), NO_END) } else { said(2, b"", NO_END) };
+    };
+    match op {
+        0 | 15 => said(0, &output(data), NO_END),
+        20 => header(text),
+        21 => fronts(text, true),
+        22 => fronts(text, false),
+        30 | 32 | 33 => flat(text, Numbers::Decimal(18)),
+        31 => flat(text, whole::<i64>()),
+        34 | 40 | 41 => Said { end: NO_END, ..front(text, Numbers::Decimal(18)) },
+        _ => front(text, numbers(op)),
+    }
+}
+
+fn fail(op: u32, text: &[u8], why: &str) -> ! {
+    eprintln!("DIFFERENCE operation {op}: {why}\n  text \"{}\"", text.escape_ascii());
+    std::process::abort()
+}
+
+fn same(op: u32, text: &[u8], library: &Said, wanted: &Said, what: &str) {
+    if library != wanted {
+        fail(op, text, &format!("{what}\n  library {library:?}\n  wanted  {wanted:?}"));
+    }
+}
+
+fn asked() -> &'static [u32] {
+    static ASKED: OnceLock<Vec<u32>> = OnceLock::new();
+    ASKED.get_or_init(|| match std::env::var("WKT_FUZZ_OPERATIONS") {
+        Ok(words) => words.split(',').map(|word| word.parse().expect("a number")).collect(),
+        Err(_) => OPERATIONS.to_vec(),
+    })
+}
+
+/// Some text of the data's own.
+fn junk(data: &[u8], salt: usize) -> String {
+    let from = data.len() * (salt % 7) / 7;
+    String::from_utf8_lossy(&data[from..]).chars().take(40).collect()
+}
+
+/// With one allocation that fails, the answer is that or out of memory, and nothing is held.
+fn with_little_memory(op: u32, data: &[u8], ours: &Said, salt: usize) {
+    library(op, data);
+    let calls = unsafe { heap_calls };
+    if calls == 0 {
+        return;
+    }
+    unsafe { heap_fail_at = (salt / 8) as i64 % calls };
+    let poor = library(op, data);
+    unsafe { heap_fail_at = -1 };
+    // 6: the text of what was read didn't fit into the string of the answer.
+    if poor.status != 4 && poor.status != 6 && poor != *ours {
+        fail(op, data, &format!("with an allocation that fails {poor:?}\n  wanted {ours:?}"));
+    }
+}
+
+/// What was read and written reads back as itself to its end, and is read so whatever follows it.
+fn at_a_front(op: u32, data: &[u8], ours: &Said, salt: usize) {
+    let fixed = said(0, &ours.answer, ours.answer.len());
+    same(op, &ours.answer, &library(op, &ours.answer), &fixed, "the answer isn't read back as itself");
+    let beginning = &data[..ours.end];
+    same(op, beginning, &library(op, beginning), ours, "the front alone is read otherwise");
+    let after_mark = ["", " ", "\0", ","];
+    let after_run = [" ", "\n", "\0", ")"];
+    let glue = if beginning.ends_with(b")") { after_mark[salt % 4] } else { after_run[salt % 4] };
+    let longer = [beginning, glue.as_bytes(), junk(data, salt / 4).as_bytes()].concat();
+    same(op, &longer, &library(op, &longer), ours, "what follows the front changes it");
+}
+
+pub fn all(data: &[u8]) {
+    let salt = data.iter().fold(0usize, |sum, byte| sum.wrapping_mul(31).wrapping_add(*byte as usize));
+    for &op in asked() {
+        // Each geometry of a text is read from a text of its own: many of them take long.
+        if op == 22 && data.len() > 512 {
+            continue;
+        }
+        let ours = library(op, data);
+        same(op, data, &ours, &wanted(op, data), "the library and the plain reader differ");
+        if ours.status == 0 && FRONTS.contains(&op) {
+            at_a_front(op, data, &ours, salt);
+        }
+        if salt % 8 == op as usize % 8 {
+            with_little_memory(op, data, &ours, salt);
+        }
+    }
+}

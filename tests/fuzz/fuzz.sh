@@ -1,0 +1,57 @@
+#!/usr/bin/env bash
+# fuzz.sh MINUTES: compares the library, as `rt try` compiles it, with a plain reader, guided by coverage, on one core.
+#
+# It takes three to five minutes of building first (FRESH=1: again). WORK is where all is built and the corpus grows.
+# Status 0: no difference. 1: one was found; its input is in WORK/found, and the log has both answers. 2: it failed.
+set -euo pipefail
+here=$(cd "$(dirname "$0")" && pwd)
+root=$(cd "$here/../.." && pwd)
+minutes=${1:?fuzz.sh MINUTES}
+WORK=${WORK:-${TMPDIR:-/tmp}/wkt-fuzz}
+kit=$(dirname "$(dirname "$(readlink -f "$(command -v rt)")")")
+clang=$(command -v clang-14 || command -v clang)
+mkdir -p "$WORK"/{corpus,found,seeds}
+ulimit -c 0
+
+build() {
+    # The project with the fuzzing program among its crates, and the LLVM module that rt try makes of it.
+    rm -rf "$WORK/wkt"
+    git clone -q "$root" "$WORK/wkt"
+    mkdir -p "$WORK/wkt/crates/wkt_fuzz/src"
+    cp "$here/program.txt" "$WORK/wkt/crates/wkt_fuzz/src/main.rt"
+    echo 'wkt_fuzz: wkt wkt_lines wkt_stream serde_json' >> "$WORK/wkt/crates.txt"
+    (cd "$WORK/wkt/crates/wkt_fuzz" && nice -n 10 python3 "$here/module.py" "$WORK/module.bc" < /dev/null > "$WORK/try.log" 2>&1) || true
+    [ -s "$WORK/module.bc" ] || { cat "$WORK/try.log"; echo "fuzz.sh: rt try left no module" >&2; exit 2; }
+    "$kit/toolchain/bin/clang" -x ir "$WORK/module.bc" -S -emit-llvm -Xclang -disable-llvm-passes -o "$WORK/whole.ll"
+    # The function gets its C name, and the program's main gives way to libFuzzer's.
+    sed -e 's/^define internal noundef i32 @"wkt_fuzz::wkt_fuzz"(/define i32 @"wkt_fuzz::wkt_fuzz"(/' \
+        -e 's/@"wkt_fuzz::wkt_fuzz"/@wkt_fuzz/g' -e 's/^define i32 @main()/define i32 @rattle_main()/' \
+        "$WORK/whole.ll" > "$WORK/wkt_fuzz.ll"
+    # The flags of rt try, with libFuzzer's counters in the place of its address sanitizer.
+    flags="--target=x86_64-unknown-linux-gnu -mllvm -no-trap-after-noreturn -ffunction-sections -fdata-sections
+        -mllvm -trap-unreachable -mllvm -no-x86-call-frame-opt -mllvm -disable-machine-licm
+        -mllvm -disable-postra-machine-licm -mllvm -sink-common-insts=false --no-default-config -c -x ir -fPIE"
+    nice -n 10 "$kit/toolchain/bin/clang" $flags "$WORK/wkt_fuzz.ll" -O2 \
+        -fsanitize-coverage=inline-8bit-counters,pc-table -o "$WORK/wkt_fuzz.o"
+    rustc --edition 2021 -O -Cpanic=abort -Coverflow-checks=on --crate-type staticlib --crate-name harness \
+        "$here/harness.rs" -o "$WORK/libharness.a"
+    "$clang" -O2 -c "$here/heap.c" -o "$WORK/heap.o"
+    "$clang" -o "$WORK/fuzz" -fsanitize=fuzzer "$WORK/wkt_fuzz.o" "$WORK/libharness.a" "$WORK/heap.o" \
+        "$kit"/c/libos_c.a "$kit"/c/liblibc_c.a -fuse-ld=lld -Wl,--gc-sections -Wl,--wrap=rattle_alloc \
+        -Wl,--wrap=rattle_realloc -Wl,--wrap=rattle_dealloc -lpthread -ldl -lm
+}
+
+[ -x "$WORK/fuzz" ] && [ -z "${FRESH:-}" ] || build
+python3 "$here/seeds.py" "$WORK/seeds" "$root/crates/wkt_conformance/stdin" "$root/crates/wktline/stdin"
+status=0
+# With no minutes it runs the corpus and the seeds once.
+how=(-runs=0)
+[ "$minutes" = 0 ] || how=(-max_total_time=$((minutes * 60)))
+nice -n 10 "$WORK/fuzz" "${how[@]}" -max_len="${MAX_LEN:-600}" -entropic=0 -dict="$here/wkt.dict" -timeout=30 \
+    -rss_limit_mb=3000 -print_final_stats=1 -artifact_prefix="$WORK/found/" "$WORK/corpus" "$WORK/seeds" \
+    > "$WORK/log" 2>&1 || status=1
+[ $status = 0 ] || [ -n "$(ls "$WORK/found")" ] || status=2
+grep -a -A4 DIFFERENCE "$WORK/log" || true
+grep -aE "Loaded .* modules|^Done|stat::|DONE|SUMMARY" "$WORK/log" || tail -n 20 "$WORK/log"
+echo "corpus: $(find "$WORK/corpus" -type f | wc -l) inputs; log: $WORK/log"
+exit $status

@@ -1,0 +1,26 @@
+/* Counts the allocations that are held, and fails one of them where it is told to. Linked with
+ * --wrap, so that the calls of the Rattle code come here, and from here go to the toolchain's functions. */
+#include <stdint.h>
+#include <stddef.h>
+typedef struct { uint64_t ok; void *at; } heap_answer;
+heap_answer __real_rattle_alloc(size_t size, size_t align);
+heap_answer __real_rattle_realloc(void *p, size_t old, size_t size, size_t align);
+void __real_rattle_dealloc(void *p, size_t size, size_t align);
+int64_t heap_held = 0, heap_calls = 0, heap_fail_at = -1;
+static int fails(void) { return heap_calls++ == heap_fail_at; }
+heap_answer __wrap_rattle_alloc(size_t size, size_t align) {
+    heap_answer none = {0, 0};
+    if (fails()) return none;
+    heap_answer a = __real_rattle_alloc(size, align);
+    if (a.ok) heap_held++;
+    return a;
+}
+heap_answer __wrap_rattle_realloc(void *p, size_t old, size_t size, size_t align) {
+    heap_answer none = {0, 0};
+    if (fails()) return none;
+    return __real_rattle_realloc(p, old, size, align);
+}
+void __wrap_rattle_dealloc(void *p, size_t size, size_t align) {
+    heap_held--;
+    __real_rattle_dealloc(p, size, align);
+}
