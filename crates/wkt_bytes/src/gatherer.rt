@@ -3,7 +3,7 @@ ghost use Rattle.std.specs.Prelude.{◌≡◌, ℕ, ◌≤◌, ◌<◌, ◌+◌,
 ghost use Rattle.wkt_num.specs.Sink.{Puts};
 
 use crate::sinks::ByteSink;
-use crate::wrapper::{State, put_all};
+use crate::wrapper::{State, copy_piece, put_all};
 use std::{fmt, io};
 use wkt_num::TextSink;
 
@@ -67,7 +67,7 @@ impl<W: ByteSink> Gatherer<W> {
         ensures failures { self.new.failures ≡ self.old.failures }
     {
         let end = self.len + bytes.len();
-        self.held[self.len..end].copy_from_slice(bytes);
+        copy_piece(bytes, &mut self.held[self.len..end]);
         self.len = end;
     }
 
@@ -120,7 +120,7 @@ impl<W: ByteSink> Gatherer<W> {
         let State::Well = self.state else {
             return Err(fmt::Error);
         };
-        // Half of the pieces are one byte, and a copy of more is a call.
+        // Half of the pieces are one byte.
         if bytes.len() < 65536 - self.len {
             if bytes.len() == 1 {
                 self.keep_one(bytes);

@@ -60,7 +60,7 @@ pub fn put_all<W: ByteSink>(writer: &mut W, bytes: &[u8]) -> Result<(), io::Erro
 
 /// Copies a piece to a place of its length. Most pieces are of some ten bytes, and a copy by `copy_from_slice` is a call.
 #[inline(always)]
-fn copy_piece(from: &[u8], to: &mut [u8])
+pub(crate) fn copy_piece(from: &[u8], to: &mut [u8])
     requires { length to.old ≡ length from.now }
     ensures { to.new ≡ from.now }
 {
@@ -188,7 +188,7 @@ impl<W: ByteSink> WriterWrapper<W> {
         let State::Well = self.state else {
             return Err(fmt::Error);
         };
-        // Most pieces just fit. Half of them are one byte, and a copy of more is a call.
+        // Most pieces just fit. Half of them are one byte.
         if bytes.len() < 256 - self.len {
             if bytes.len() == 1 {
                 self.keep_one(bytes);

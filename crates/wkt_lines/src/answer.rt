@@ -1,5 +1,6 @@
 //! The answer to one line.
-ghost use Rattle.std.specs.Prelude.{◌≡◌, None, OnOk, codes, IsUtf8};
+ghost use Rattle.std.specs.Prelude.{◌≡◌, None, OnOk, codes, IsUtf8, true};
+ghost use Rattle.std.specs.Str.{IsAscii};
 ghost use Rattle.wkt_access.specs.Faults.{fault};
 ghost use Rattle.wkt_access.specs.Texts.{shape_text};
 ghost use Rattle.wkt_types.specs.Tree.{tree};
@@ -26,18 +27,19 @@ pub enum AnswerError {
     Memory(AllocError),
 }
 
-/// Writes the answer to a line.
+/// Writes the answer to a line; `ascii` is true only where it is known to be ASCII.
 pub(crate) fn write_answer<T: WktNum, W: TextSink>(
     alloc: Global,
     line: &[u8],
+    ascii: bool,
     f: &mut W,
 ) -> Result<(), AnswerError>
+    requires { ascii ≡ true → IsAscii line.now }
     ensures ok { OnOk result (AddsAnswer T.read T.num W.sink f.old f.new line.now) }
     ensures sink { IfSink result (BreaksAnswer T.read T.num W.sink f.old f.new line.now) }
     ensures memory { IfAnswerMemory result (f.new ≡ f.old) }
 {
-    // Most lines are ASCII, which one look at eight bytes at a time tells.
-    if line.is_ascii() {
+    if ascii || line.is_ascii() {
         return write_front::<T, W>(alloc, unsafe { str::from_utf8_unchecked(line) }, f);
     }
     match str::from_utf8(line) {

@@ -1,5 +1,6 @@
 //! The answers to all lines of an input, as text.
-ghost use Rattle.std.specs.Prelude.{◌≡◌, OnOk};
+ghost use Rattle.std.specs.Prelude.{◌≡◌, OnOk, true};
+ghost use Rattle.std.specs.Str.{IsAscii};
 ghost use Rattle.wkt_lines.specs.Answer.{IfSink, IfAnswerMemory};
 ghost use Rattle.wkt_lines.specs.Added.{AddsLine, BreaksLine, AddsOutput, AddsFirst, BreaksOutput};
 
@@ -22,10 +23,12 @@ pub fn write_answers<T: WktNum, W: TextSink>(
     ensures sink { IfSink result (BreaksOutput T.read T.num W.sink f.old f.new input.now) }
     ensures memory { IfAnswerMemory result (AddsFirst T.read T.num W.sink f.old f.new input.now) }
 {
+    // Most inputs are ASCII, which is told faster of all lines at once than of each.
+    let ascii = input.is_ascii();
     let mut rest = input;
     'lines: while !rest.is_empty() {
         let end = line_end(rest);
-        match write_line::<T, W>(alloc, &rest[..end], f) {
+        match write_line::<T, W>(alloc, &rest[..end], ascii, f) {
             Ok(()) => rest = after_line(rest, end),
             Err(e) => return Err(e),
         }
@@ -33,17 +36,19 @@ pub fn write_answers<T: WktNum, W: TextSink>(
     Ok(())
 }
 
-/// Writes the answer to a line and a line feed.
+/// Writes the answer to a line and a line feed; `ascii` is true only where the line is known to be ASCII.
 fn write_line<T: WktNum, W: TextSink>(
     alloc: Global,
     line: &[u8],
+    ascii: bool,
     f: &mut W,
 ) -> Result<(), AnswerError>
+    requires { ascii ≡ true → IsAscii line.now }
     ensures ok { OnOk result (AddsLine T.read T.num W.sink f.old f.new line.now) }
     ensures sink { IfSink result (BreaksLine T.read T.num W.sink f.old f.new line.now) }
     ensures memory { IfAnswerMemory result (f.new ≡ f.old) }
 {
-    match write_answer::<T, W>(alloc, line, f) {
+    match write_answer::<T, W>(alloc, line, ascii, f) {
         Ok(()) => match f.write_str("\n") {
             Ok(()) => Ok(()),
             Err(e) => Err(AnswerError::Sink(e)),

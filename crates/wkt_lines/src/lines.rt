@@ -1,6 +1,7 @@
 //! Answers each line of a whole input.
 ghost use Rattle.std.specs.Prelude.{◌≡◌, ◌≤◌, ◌+◌, [], ◌∷◌, IfSome, OnOk, OnErr, true, not, ◌==◌, length, take, drop};
 ghost use Rattle.std.specs.List.{prefix_len};
+ghost use Rattle.std.specs.Str.{IsAscii};
 ghost use Rattle.std.specs.Simd.Lanes.{chunk};
 ghost use Rattle.std.specs.Io.KnownBytes.{IsAtEnd};
 ghost use Rattle.wkt_num.specs.Sink.{next_count};
@@ -99,10 +100,12 @@ fn answer_lines<T: WktNum, W: ByteSink>(
     ensures read { IfRunRead result ⊥ }
     ensures keeps { W.sink.keeps (wrapped_writer wrapper.old) (wrapped_writer wrapper.new) }
 {
+    // Most inputs are ASCII, which is told faster of all lines at once than of each.
+    let ascii = input.is_ascii();
     let mut rest = input;
     'lines: while !rest.is_empty() {
         let end = line_end(rest);
-        match answer_line::<T, W>(alloc, &rest[..end], wrapper) {
+        match answer_line::<T, W>(alloc, &rest[..end], ascii, wrapper) {
             Ok(()) => rest = after_line(rest, end),
             Err(e) => return Err(e),
         }
@@ -157,12 +160,14 @@ pub(crate) fn after_line(rest: &[u8], end: usize) -> &[u8]
     &rest[end + 1..]
 }
 
-/// Puts out the answer to a line and a line feed.
+/// Puts out the answer to a line and a line feed; `ascii` is true only where the line is known to be ASCII.
 fn answer_line<T: WktNum, W: ByteSink>(
     alloc: Global,
     line: &[u8],
+    ascii: bool,
     wrapper: &mut WriterWrapper<W>,
 ) -> Result<(), RunError>
+    requires ascii { ascii ≡ true → IsAscii line.now }
     requires well { is_well wrapper.old ≡ true }
     requires held { held_bytes wrapper.old ≡ [] }
     ensures ok { OnOk result
@@ -179,7 +184,7 @@ fn answer_line<T: WktNum, W: ByteSink>(
     ensures read { IfRunRead result ⊥ }
     ensures keeps { W.sink.keeps (wrapped_writer wrapper.old) (wrapped_writer wrapper.new) }
 {
-    match write_answer::<T, WriterWrapper<W>>(alloc, line, wrapper) {
+    match write_answer::<T, WriterWrapper<W>>(alloc, line, ascii, wrapper) {
         Err(AnswerError::Memory(e)) => Err(RunError::Memory(e)),
         Err(AnswerError::Sink(_)) => Err(RunError::Write(fault_of(wrapper))),
         Ok(()) => match end_line(wrapper) {

@@ -1,11 +1,12 @@
 use Rattle.std.proofs.Common.{◌≡◌, [], ◌∷◌, ◌++◌, ◌≢◌, ◌∙◌, ap, Err, length, refl, arith}
 use Rattle.std.proofs.lemmas.Grind.{common_steps}
+use Rattle.std.proofs.lemmas.Str.{IsAscii-take, IsAscii-drop}
 use Rattle.wkt_lines.proofs.Answering.{one_more, one_answer}
 use Rattle.wkt_lines.proofs.Adding.{sink_map, memory_map, adds_none, adds_more, breaks_next, adds_first}
 use Rattle.wkt_lines.proofs.answers.write_answers.Goals as goal
 
 pub lines-init : goal.lines-init
-lines-init g c = record { first = []; out = []; lines = refl; answers = refl; added = adds_none g.W.TextSink.sink c.args.f.now }
+lines-init g c = record { ascii = λ h. rw h at c.is_ascii-ascii.ensures.cases; first = []; out = []; lines = refl; answers = refl; added = adds_none g.W.TextSink.sink c.args.f.now }
 
 pub returns-in-Err-clause-sink : goal.returns-in-Err-clause-sink
 returns-in-Err-clause-sink g c =
@@ -26,6 +27,7 @@ lines-preserved g c =
     let a = c.in-Ok.ensures.ok in
     let some : c.lines.rest.now ≢ [] = λ e. let n : length c.lines.rest.now ≡ 0 = ap length e in grind (arith, common_steps, n) in
     record {
+      ascii = λ h. rw c.after_line-rest.ensures (IsAscii-drop c.lines.rest.now _ (i.ascii h));
       first = i.first ++ (_ ∷ []);
       out = i.out ++ (a.0 ++ 10 ∷ []);
       lines = one_more i.first c.lines.rest.now c.args.input.now _ _ i.lines some c.line_end-end.ensures.before (c.after_line-rest.ensures ∙ c.line_end-end.ensures.after);

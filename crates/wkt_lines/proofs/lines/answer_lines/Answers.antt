@@ -1,6 +1,7 @@
 use Rattle.std.proofs.Common.{◌≡◌, [], ◌∷◌, ◌++◌, ◌≢◌, ◌∙◌, ap, Err, length}
 use Rattle.std.proofs.Common.{arith}
 use Rattle.std.proofs.lemmas.Grind.{common_steps}
+use Rattle.std.proofs.lemmas.Str.{IsAscii-take, IsAscii-drop}
 use Rattle.wkt_bytes.specs.Wrapper.{appends_more}
 use Rattle.wkt_lines.proofs.Answering.{one_more, one_answer, write_map, begun}
 use Rattle.wkt_lines.proofs.lines.answer_lines.Goals as goal
@@ -17,6 +18,7 @@ lines-preserved g c =
     let a = c.in-Ok.ensures.ok in
     let some : c.lines.rest.now ≢ [] = λ e. let n : length c.lines.rest.now ≡ 0 = ap length e in grind (arith, common_steps, n) in
     record {
+      ascii = λ h. rw c.after_line-rest.ensures (IsAscii-drop c.lines.rest.now _ (i.ascii h));
       first = i.first ++ (_ ∷ []);
       out = i.out ++ (a.0 ++ 10 ∷ []);
       lines = one_more i.first c.lines.rest.now c.args.input.now _ _ i.lines some c.line_end-end.ensures.before (c.after_line-rest.ensures ∙ c.line_end-end.ensures.after);

@@ -1,5 +1,6 @@
 use Rattle.std.proofs.Common.{◌≡◌, ◌++◌, List, ℕ, [], true, length}
 use Rattle.std.specs.Io.KnownBytes.{Appends}
+use Rattle.std.specs.Str.{IsAscii}
 use Rattle.wkt_bytes.specs.Wrapper.{is_well, held_bytes}
 use Rattle.wkt_lines.specs.Lines.{input_lines}
 use Rattle.wkt_lines.specs.Output.{AreAnswers}
@@ -7,6 +8,7 @@ use Rattle.wkt_lines.proofs.lines.answer_lines.Given as goal
 
 abbrev pub invariant-lines : goal.invariant-lines
 invariant-lines g l = record {
+  ascii : l.ascii ≡ true → IsAscii l.rest;
   first : List (List ℕ);
   out : List ℕ;
   lines : first ++ input_lines l.rest ≡ input_lines l.fn.input;
