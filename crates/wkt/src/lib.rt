@@ -60,7 +60,9 @@ pub use json::{
 pub use wkt_num::{Decimal, WktNum};
 pub use wkt_read::{FromWktStr, InferError, ReadError, infer_type};
 pub use wkt_to_wkt::{ToWkt, ToWktError};
-pub use wkt_types::Wkt;
+
+/// A geometry as well-known text has it: with up to four numbers a coordinate, of any of the seven kinds.
+pub type Wkt<T> = wkt_types::Wkt<T>;
 
 /// The traits by which any representation of a geometry is accessed: a type of one's own that has them is
 /// written by the writers of [`to_wkt`].
@@ -79,9 +81,12 @@ pub mod geo_traits {
 /// ```
 pub mod geo_types {
     pub use wkt_flat::{
-        Coord, Geometry, GeometryCollection, Line, LineString, MultiLineString, MultiPoint,
-        MultiPolygon, Point, Polygon, Rect, Triangle,
+        Coord, GeometryCollection, Line, LineString, MultiLineString, MultiPoint, MultiPolygon,
+        Point, Polygon, Rect, Triangle,
     };
+
+    /// A two-dimensional geometry of any of the ten kinds.
+    pub type Geometry<T> = wkt_flat::Geometry<T>;
 }
 
 /// The types of well-known text: what a [`Wkt`] holds, with up to four numbers a coordinate, in the order x, y,

@@ -3,3 +3,4 @@ pub mod Lining
 pub mod Shows
 pub mod Ordering
 pub mod FlatKeys
+pub mod Counted
