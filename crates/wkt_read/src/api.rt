@@ -118,9 +118,10 @@ impl<T: WktNum> FromWktStr for Wkt<T> {
 
     ghost tree = { tree };
 
+    // Not by `read`: a geometry costs some instructions each time that it is handed on.
     fn from_str(alloc: Global, text: &str) -> Result<Self, ReadError> {
         let mut tokens = PeekableTokens::new(Tokens::from_str(text));
-        read(alloc, &mut tokens)
+        value(alloc, &mut tokens, false)
     }
 
     fn read_front(alloc: Global, text: &str) -> Result<(Self, usize), ReadError> {
