@@ -118,12 +118,16 @@ class Crate:
 
 
 def uses_of(lines):
-    """The `pub use` lines of a module with the modules in it, as (path of modules, crate or module, name, name here)."""
+    """The `pub use` lines of a module with the modules in it, and the types that are another's under a name of its own, as
+    (path of modules, crate or module, name, name here)."""
     path, found, text = [], [], ""
     for line in lines:
         module = re.match(r"\s*pub mod (\w+) \{", line)
+        named = re.match(r"\s*pub type (\w+)<\w+> = (\w+)::(\w+)<\w+>;", line)
         if module:
             path.append(module.group(1))
+        elif named:
+            found.append((tuple(path), named.group(2), named.group(3), named.group(1)))
         elif path and line == " " * (4 * len(path) - 4) + "}":
             path.pop()
         elif text or line.strip().startswith("pub use "):

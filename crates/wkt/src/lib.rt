@@ -62,6 +62,8 @@ pub use wkt_read::{FromWktStr, InferError, ReadError, infer_type};
 pub use wkt_to_wkt::{ToWkt, ToWktError};
 
 /// A geometry as well-known text has it: with up to four numbers a coordinate, of any of the seven kinds.
+// A name of this crate's own: of a recursive enum that is handed on by `pub use`, the checker asks each caller for the
+// crate that has it.
 pub type Wkt<T> = wkt_types::Wkt<T>;
 
 /// The traits by which any representation of a geometry is accessed: a type of one's own that has them is
