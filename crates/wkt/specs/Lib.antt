@@ -1,6 +1,7 @@
 pub mod FromText
 pub mod Laws
 pub mod Json
+pub mod Whole
 -- What public clauses cite of the crates below, so that a caller names this crate alone.
 
 -- values, shapes and their text

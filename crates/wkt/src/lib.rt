@@ -51,12 +51,14 @@ mod json;
 #[cfg(test)]
 mod macro_tests;
 mod macros;
+mod whole;
 
 pub use any_error::AnyError;
 pub use from_text::TryFromWkt;
 pub use json::{
     ValueError, deserialize_geometry, deserialize_point, deserialize_wkt, wkt_from_value,
 };
+pub use whole::{WholeError, read_whole};
 pub use wkt_num::{Decimal, WktNum};
 pub use wkt_read::{FromWktStr, InferError, ReadError, infer_type};
 pub use wkt_to_wkt::{ToWkt, ToWktError};
