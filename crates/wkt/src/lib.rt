@@ -51,6 +51,7 @@ mod json;
 #[cfg(test)]
 mod macro_tests;
 mod macros;
+mod same;
 mod whole;
 
 pub use any_error::AnyError;
@@ -58,6 +59,7 @@ pub use from_text::TryFromWkt;
 pub use json::{
     ValueError, deserialize_geometry, deserialize_point, deserialize_wkt, wkt_from_value,
 };
+pub use same::same_geometry;
 pub use whole::{WholeError, read_whole};
 pub use wkt_num::{Decimal, WktNum};
 pub use wkt_read::{FromWktStr, InferError, ReadError, infer_type};
