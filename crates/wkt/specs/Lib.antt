@@ -1,7 +1,7 @@
 pub mod FromText
 pub mod Laws
 pub mod Json
-pub mod Whole
+pub mod WholeText
 pub mod Alike
 pub mod Same
 -- What public clauses cite of the crates below, so that a caller names this crate alone.

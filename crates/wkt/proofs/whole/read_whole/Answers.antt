@@ -1,4 +1,4 @@
-use Rattle.std.proofs.Common.{◌≡◌, Bool, true, false}
+use Rattle.std.proofs.Common.{◌≡◌, true, false}
 use Rattle.wkt.proofs.whole.read_whole.Goals as goal
 
 pub returns-in-Err-clause-free : goal.returns-in-Err-clause-free
