@@ -12,6 +12,12 @@
 //! let geometry = Geometry::<Decimal<6>>::try_from_wkt_str(alloc, "POINT (10 20)")?;
 //! ```
 //!
+//! Both read the geometry at the front of the text; a text that has to be one geometry and no more is read by
+//! [`read_whole`].
+//!
+//! # Compare
+//! `==` compares what is held. Whether two geometries have one text says [`same_geometry`].
+//!
 //! # Infer
 //! The kind and the dimension, without reading the rest of the text:
 //!
