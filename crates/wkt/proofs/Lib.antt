@@ -1,6 +1,9 @@
 pub mod Texts
 pub mod BackValues
 mod JsonPoints
+mod Blanks
+mod Alikes
+mod Written
 -- Lemmas of the crates below that callers' proofs cite.
 pub use Rattle.wkt_access.proofs.Collections
 pub use Rattle.wkt_access.proofs.Lists

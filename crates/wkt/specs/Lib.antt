@@ -1,6 +1,9 @@
 pub mod FromText
 pub mod Laws
 pub mod Json
+pub mod WholeText
+pub mod Alike
+pub mod Same
 -- What public clauses cite of the crates below, so that a caller names this crate alone.
 
 -- values, shapes and their text

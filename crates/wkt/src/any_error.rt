@@ -1,6 +1,7 @@
 //! One error for functions that read, convert and write.
 ghost use Rattle.std.specs.Prelude.{◌≡◌};
 
+use crate::whole::WholeError;
 use std::alloc::{AllocError, AllocFailed};
 use thiserror::Error;
 use wkt_read::{InferError, ReadError};
@@ -21,6 +22,9 @@ pub enum AnyError {
     /// A text isn't read (`from_str`, `read_front`, `read_tokens`).
     #[error("{0}")]
     Read(#[from] ReadError),
+    /// A text isn't one geometry as a whole (`read_whole`).
+    #[error("{0}")]
+    Whole(#[from] WholeError),
     /// The header of a text names no kind (`infer_type`).
     #[error("{0}")]
     Infer(#[from] InferError),

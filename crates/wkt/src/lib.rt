@@ -12,6 +12,12 @@
 //! let geometry = Geometry::<Decimal<6>>::try_from_wkt_str(alloc, "POINT (10 20)")?;
 //! ```
 //!
+//! Both read the geometry at the front of the text; a text that has to be one geometry and no more is read by
+//! [`read_whole`].
+//!
+//! # Compare
+//! `==` compares what is held. Whether two geometries have one text says [`same_geometry`].
+//!
 //! # Infer
 //! The kind and the dimension, without reading the rest of the text:
 //!
@@ -51,12 +57,16 @@ mod json;
 #[cfg(test)]
 mod macro_tests;
 mod macros;
+mod same;
+mod whole;
 
 pub use any_error::AnyError;
 pub use from_text::TryFromWkt;
 pub use json::{
     ValueError, deserialize_geometry, deserialize_point, deserialize_wkt, wkt_from_value,
 };
+pub use same::same_geometry;
+pub use whole::{WholeError, read_whole};
 pub use wkt_num::{Decimal, WktNum};
 pub use wkt_read::{FromWktStr, InferError, ReadError, infer_type};
 pub use wkt_to_wkt::{ToWkt, ToWktError};

@@ -14,6 +14,10 @@ mod reading;
 #[cfg(test)]
 mod reference;
 #[cfg(test)]
+mod same;
+#[cfg(test)]
 mod types_by_hand;
+#[cfg(test)]
+mod whole;
 #[cfg(test)]
 mod worked_rows;

@@ -357,7 +357,8 @@ impl<T: WktNum> PartialEq for Wkt<T> {
 
     ghost laws = { on_per tree (exact_per (tree_exact (exact_by T.same))) };
 
-    /// True exactly if kind, dimension and parts are equal.
+    /// True exactly if kind, dimension and parts are equal. Two unequal geometries may have one text, as
+    /// `POLYGON(EMPTY)` and `POLYGON EMPTY`: `wkt::same_geometry` compares them by what is written.
     fn eq(&self, other: &Self) -> bool
         ensures eq { result ≡ tree_eq T.eq (tree self.now) (tree other.now) }
         ensures exact { IsTrue result ↔ (tree self.now ≡ tree other.now) }

@@ -4,10 +4,13 @@ use std::alloc::Global;
 use std::test::Fail;
 use wkt::deserialize::wkt_from_value;
 use wkt::geo_types::{Coord, Geometry, Rect};
-use wkt::geo_types_from_wkt::try_into_geometry;
+use wkt::geo_types_from_wkt::{ConvertFrom, try_into_geometry};
 use wkt::to_wkt::{Counted, push_geometry};
 use wkt::types::{Dimension, GeometryType};
-use wkt::{AnyError, Decimal, FromWktStr, ReadError, ToWkt, TryFromWkt, Wkt, infer_type};
+use wkt::{
+    AnyError, Decimal, FromWktStr, ReadError, ToWkt, TryFromWkt, WholeError, Wkt, infer_type,
+    read_whole, same_geometry,
+};
 
 #[test]
 fn reads(rt: HostRuntime) -> Result<(), Fail> {
@@ -20,6 +23,44 @@ fn reads(rt: HostRuntime) -> Result<(), Fail> {
     let (first, end) = Wkt::<i32>::read_front(alloc, "POINT(1 2) POINT(3 4)")?;
     assert_eq!(rt; first.to_string(alloc)?.as_str(), "POINT(1 2)");
     assert_eq!(rt; end, 10);
+    Ok(())
+}
+
+// The text of the flat geometry that a text is.
+fn flat_of_whole(alloc: Global, text: &str) -> Result<String, AnyError> {
+    let flat = Geometry::<i32>::convert_from(alloc, read_whole(alloc, text)?)?;
+    Ok(flat.wkt_string(alloc)?)
+}
+
+#[test]
+fn reads_whole(rt: HostRuntime) -> Result<(), Fail> {
+    let alloc = rt.alloc();
+    let geometry = read_whole::<i32>(alloc, " POINT(1 2)\n")?;
+    assert_eq!(rt; geometry.to_string(alloc)?.as_str(), "POINT(1 2)");
+    assert!(rt;
+        matches!(
+            read_whole::<i32>(alloc, "POINT(1 2) x"),
+            Err(WholeError::Rest(10))
+        )
+    );
+    assert_eq!(rt;
+        flat_of_whole(alloc, "POINT Z(1 2 3) ")?.as_str(),
+        "POINT(1 2)"
+    );
+    match flat_of_whole(alloc, "POINT(1 2) x") {
+        Err(AnyError::Whole(WholeError::Rest(at))) => assert_eq!(rt; at, 10),
+        _ => assert!(rt; false),
+    }
+    Ok(())
+}
+
+#[test]
+fn compares(rt: HostRuntime) -> Result<(), Fail> {
+    let alloc = rt.alloc();
+    let one = Wkt::<i32>::from_str(alloc, "POLYGON(EMPTY)")?;
+    let other = Wkt::<i32>::from_str(alloc, "POLYGON EMPTY")?;
+    assert!(rt; same_geometry(&one, &other));
+    assert!(rt; one != other);
     Ok(())
 }
 
