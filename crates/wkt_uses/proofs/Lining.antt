@@ -1,5 +1,5 @@
 -- Lines that are added to a sink one after the other.
-use Rattle.std.proofs.Common.{◌≡◌, ℕ, zero, suc, ◌+◌, List, [], ◌∷◌, ◌++◌, take, Some, None, refl, ap, sym, ◌∙◌, subst, append_assoc, slice_get}
+use Rattle.std.proofs.Common.{◌≡◌, ℕ, zero, suc, ◌+◌, List, [], ◌∷◌, ◌++◌, take, Some, None, Result, Ok, Err, refl, ap, sym, ◌∙◌, subst, append_assoc, slice_get}
 use Rattle.std.specs.List.{All}
 use Rattle.std.proofs.lemmas.List.Elements.{All-append, All-cons, All-nil}
 use Rattle.wkt.specs.Sink.{Sink, Adds, Breaks, next_count}
@@ -7,7 +7,10 @@ use Rattle.wkt.specs.Faults.{fault}
 use Rattle.wkt.specs.Shapes.{Shape}
 use Rattle.wkt.specs.Texts.{shape_text}
 use Rattle.wkt.proofs.Lists.{take_one_more}
-use Rattle.wkt_uses.specs.Lined.{lined}
+use Rattle.wkt.specs.WriteError.{Error}
+use Rattle.wkt.specs.WriteError.TheVariants.{FmtError, RectUnsupportedDimension, UnknownDimension, TooFewNumbers, Memory}
+use Rattle.wkt.specs.Writes.{BrokenOff, Fails}
+use Rattle.wkt_uses.specs.Lined.{lined, IfSink}
 
 module _ {N : Type 0} (num : N → List ℕ) where
   lined_more : (ss : List (Shape N)) (s : Shape N) → lined num (ss ++ s ∷ []) ≡ lined num ss ++ (shape_text num s ++ 10 ∷ [])
@@ -64,5 +67,15 @@ module _ {N : Type 0} (num : N → List ℕ) where
 -- the i-th shape has no fault either
 pub sound_more : {N : Type 0} (ss : List (Shape N)) (i : ℕ) (m : Shape N)
     → All (λ s. fault s ≡ None) (take i ss) → slice_get ss i ≡ Some m → fault m ≡ None → All (λ s. fault s ≡ None) (take (i + 1) ss)
-sound_more ss i m all e n =
-    subst (λ l. All (λ s. fault s ≡ None) l) (sym (take_one_more ss i m e)) (All-append _ (take i ss) (m ∷ []) all (All-cons _ m [] n (All-nil _)))
+sound_more {N} ss i m all e n =
+    let P : Shape N → Type 0 = λ s. fault s ≡ None in
+    subst (λ l. All P l) (sym (take_one_more ss i m e)) (All-append P (take i ss) (m ∷ []) all (All-cons P m [] n (All-nil P)))
+
+-- where a writer's error is handed on, what follows from a sink that failed holds of it
+pub handed_on : {S T N : Type 0} (P : Type 0) (sink : Sink S) (num : N → List ℕ) (s : S) (m : Shape N) (t : S) (e : Error) (r : Result T Error)
+    → r ≡ Err e → Fails sink num s m t e → (BrokenOff sink num s m t → P) → IfSink r P
+handed_on P sink num s m t (FmtError x) r is h f = subst (λ r. IfSink r P) (sym is) (f h)
+handed_on P sink num s m t RectUnsupportedDimension r is h f = subst (λ r. IfSink r P) (sym is) tt
+handed_on P sink num s m t UnknownDimension r is h f = subst (λ r. IfSink r P) (sym is) tt
+handed_on P sink num s m t TooFewNumbers r is h f = subst (λ r. IfSink r P) (sym is) tt
+handed_on P sink num s m t (Memory x) r is h f = subst (λ r. IfSink r P) (sym is) tt
