@@ -5,12 +5,17 @@ use Rattle.wkt_types.specs.Outcome.{Outcome, value, refused, empty_point, mismat
 use Rattle.wkt_types.specs.declared.convert.ConvertError.{ConvertError}
 use Rattle.wkt_types.specs.declared.convert.ConvertError.TheVariants.{PointConversionError, MismatchedGeometry, WrongNumberOfGeometries, InvalidWKT, Reader, Utf8, Memory}
 use Rattle.wkt_read.specs.Front.{HasNoFront}
-use Rattle.wkt_read.specs.Answered.{IsFront}
+use Rattle.wkt_read.specs.Answered.{IsFront, HasBadNumber}
+use Rattle.wkt_read.specs.Items.{bad_number}
 
 module _ {T : Type 0} (read : List ℕ → Option T) where
   -- The text has a front, and the geometry of it has this outcome.
   abbrev pub FrontGives : {X : Type 0} → (Tree T → Outcome X) → List ℕ → Outcome X → Type 0
   FrontGives turn text o = (t : Tree T) × IsFront read text t × (turn t ≡ o)
+
+  -- The text has no front, and the message on a bad number comes only where the number type refuses some number of it.
+  abbrev pub IsNoText : List ℕ → List ℕ → Type 0
+  IsNoText text message = HasNoFront read text × (message ≡ bad_number → HasBadNumber read text)
 
   -- A text without a front is refused, and any other has the outcome of its front, out of memory aside; `see` is what the answer holds.
   abbrev pub TextAnswers : {X R : Type 0} → (R → X) → (Tree T → Outcome X) → List ℕ → Result R ConvertError → Type 0
@@ -18,7 +23,7 @@ module _ {T : Type 0} (read : List ℕ → Option T) where
   TextAnswers see turn text (Err PointConversionError) = FrontGives turn text (refused empty_point)
   TextAnswers see turn text (Err (MismatchedGeometry e f)) = FrontGives turn text (refused (mismatched e.now f.now))
   TextAnswers see turn text (Err (WrongNumberOfGeometries n)) = ⊥
-  TextAnswers see turn text (Err (InvalidWKT m)) = HasNoFront read text
+  TextAnswers see turn text (Err (InvalidWKT m)) = IsNoText text m.now
   TextAnswers see turn text (Err (Reader e)) = ⊥
   TextAnswers see turn text (Err Utf8) = ⊥
   TextAnswers see turn text (Err (Memory e)) = Unit {0}
@@ -39,7 +44,7 @@ module _ {T : Type 0} (read : List ℕ → Option T) where
   IsUnread text PointConversionError = ⊥
   IsUnread text (MismatchedGeometry e f) = ⊥
   IsUnread text (WrongNumberOfGeometries n) = ⊥
-  IsUnread text (InvalidWKT m) = HasNoFront read text
+  IsUnread text (InvalidWKT m) = IsNoText text m.now
   IsUnread text (Reader e) = ⊥
   IsUnread text Utf8 = ⊥
   IsUnread text (Memory e) = Unit {0}

@@ -63,6 +63,7 @@ pub use Rattle.wkt_types.specs.Shown
 pub use Rattle.wkt_types.specs.Outcome
 pub use Rattle.wkt_types.specs.Flattened
 pub use Rattle.wkt_types.specs.declared.geometry.Wkt
+pub use Rattle.wkt_types.specs.declared.convert.ConvertError
 -- what a two-dimensional geometry holds
 pub use Rattle.wkt_flat.specs.Tree as FlatTree
 pub use Rattle.wkt_flat.specs.Trees as FlatTrees
@@ -80,4 +81,5 @@ pub use Rattle.wkt_convert.specs.Outcomes
 pub use Rattle.wkt_convert.specs.Kinds as FlatKinds
 pub use Rattle.wkt_to_wkt.specs.Back
 pub use Rattle.wkt_to_wkt.specs.Sent
+pub use Rattle.wkt_to_wkt.specs.declared.send.ToWktError
 pub use Rattle.wkt_to_wkt.specs.Laws as ConversionLaws

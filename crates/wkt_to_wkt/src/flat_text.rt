@@ -40,8 +40,11 @@ pub(crate) fn flat_string<G: FlatValue>(alloc: Global, g: &G) -> Result<String, 
 /// Puts the text of a flat value out. It takes no memory, and is refused for the writer alone.
 pub(crate) fn flat_send<G: FlatValue, W: ByteSink>(g: &G, writer: &mut W) -> Result<(), ToWktError>
     ensures ok { OnOk result (IsOut W.sink writer.old writer.new (wkt_text G.T.num (G.value g.now))) }
+    ensures sound { OnOk result (fault (tree_shape (back (G.value g.now))) ≡ None) }
+    ensures lawful { OnOk result (IsLawful G.T.is_value (tree_shape (back (G.value g.now)))) }
     ensures io { IfIo result (IsPartOut W.sink writer.old writer.new (wkt_text G.T.num (G.value g.now))) }
     ensures io_count { IfIo result (W.sink.failures writer.new ≡ next_count (W.sink.failures writer.old)) }
+    ensures io_sound { IfIo result (fault (tree_shape (back (G.value g.now))) ≡ None) }
     ensures shape { IfShape result (λ _. writer.new ≡ writer.old) }
     ensures cause { IfShape result (IsRefusal (tree_shape (back (G.value g.now)))) }
     ensures never { IfShape result (λ _. ⊥) }

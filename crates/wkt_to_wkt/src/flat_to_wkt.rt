@@ -52,8 +52,11 @@ impl<T: WktNum> ToWkt<T> for flat::Point<T> {
     /// out. `Shape` never comes.
     fn write_wkt<W: ByteSink>(&self, _alloc: Global, writer: &mut W) -> Result<(), ToWktError>
         ensures ok { OnOk result (IsOut W.sink writer.old writer.new (wkt_text T.num (Flat.point self.now))) }
+        ensures sound { OnOk result (fault (tree_shape (back (Flat.point self.now))) ≡ None) }
+        ensures lawful { OnOk result (IsLawful T.is_value (tree_shape (back (Flat.point self.now)))) }
         ensures io { IfIo result (IsPartOut W.sink writer.old writer.new (wkt_text T.num (Flat.point self.now))) }
         ensures io_count { IfIo result (W.sink.failures writer.new ≡ next_count (W.sink.failures writer.old)) }
+        ensures io_sound { IfIo result (fault (tree_shape (back (Flat.point self.now))) ≡ None) }
         ensures shape { IfShape result (λ _. writer.new ≡ writer.old) }
         ensures cause { IfShape result (IsRefusal (tree_shape (back (Flat.point self.now)))) }
         ensures never { IfShape result (λ _. ⊥) }
@@ -91,8 +94,11 @@ impl<T: WktNum> ToWkt<T> for flat::Line<T> {
     /// out. `Shape` never comes.
     fn write_wkt<W: ByteSink>(&self, _alloc: Global, writer: &mut W) -> Result<(), ToWktError>
         ensures ok { OnOk result (IsOut W.sink writer.old writer.new (wkt_text T.num (Flat.line self.now))) }
+        ensures sound { OnOk result (fault (tree_shape (back (Flat.line self.now))) ≡ None) }
+        ensures lawful { OnOk result (IsLawful T.is_value (tree_shape (back (Flat.line self.now)))) }
         ensures io { IfIo result (IsPartOut W.sink writer.old writer.new (wkt_text T.num (Flat.line self.now))) }
         ensures io_count { IfIo result (W.sink.failures writer.new ≡ next_count (W.sink.failures writer.old)) }
+        ensures io_sound { IfIo result (fault (tree_shape (back (Flat.line self.now))) ≡ None) }
         ensures shape { IfShape result (λ _. writer.new ≡ writer.old) }
         ensures cause { IfShape result (IsRefusal (tree_shape (back (Flat.line self.now)))) }
         ensures never { IfShape result (λ _. ⊥) }
@@ -130,9 +136,12 @@ impl<T: WktNum> ToWkt<T> for flat::LineString<T> {
     /// out. `Shape` never comes.
     fn write_wkt<W: ByteSink>(&self, _alloc: Global, writer: &mut W) -> Result<(), ToWktError>
         ensures ok { OnOk result (IsOut W.sink writer.old writer.new (wkt_text T.num (Flat.line_string self.now))) }
+        ensures sound { OnOk result (fault (tree_shape (back (Flat.line_string self.now))) ≡ None) }
+        ensures lawful { OnOk result (IsLawful T.is_value (tree_shape (back (Flat.line_string self.now)))) }
         ensures io { IfIo result
             (IsPartOut W.sink writer.old writer.new (wkt_text T.num (Flat.line_string self.now))) }
         ensures io_count { IfIo result (W.sink.failures writer.new ≡ next_count (W.sink.failures writer.old)) }
+        ensures io_sound { IfIo result (fault (tree_shape (back (Flat.line_string self.now))) ≡ None) }
         ensures shape { IfShape result (λ _. writer.new ≡ writer.old) }
         ensures cause { IfShape result (IsRefusal (tree_shape (back (Flat.line_string self.now)))) }
         ensures never { IfShape result (λ _. ⊥) }
@@ -170,8 +179,11 @@ impl<T: WktNum> ToWkt<T> for flat::Polygon<T> {
     /// out. `Shape` never comes.
     fn write_wkt<W: ByteSink>(&self, _alloc: Global, writer: &mut W) -> Result<(), ToWktError>
         ensures ok { OnOk result (IsOut W.sink writer.old writer.new (wkt_text T.num (Flat.polygon self.now))) }
+        ensures sound { OnOk result (fault (tree_shape (back (Flat.polygon self.now))) ≡ None) }
+        ensures lawful { OnOk result (IsLawful T.is_value (tree_shape (back (Flat.polygon self.now)))) }
         ensures io { IfIo result (IsPartOut W.sink writer.old writer.new (wkt_text T.num (Flat.polygon self.now))) }
         ensures io_count { IfIo result (W.sink.failures writer.new ≡ next_count (W.sink.failures writer.old)) }
+        ensures io_sound { IfIo result (fault (tree_shape (back (Flat.polygon self.now))) ≡ None) }
         ensures shape { IfShape result (λ _. writer.new ≡ writer.old) }
         ensures cause { IfShape result (IsRefusal (tree_shape (back (Flat.polygon self.now)))) }
         ensures never { IfShape result (λ _. ⊥) }
@@ -210,9 +222,12 @@ impl<T: WktNum> ToWkt<T> for flat::MultiPoint<T> {
     /// out. `Shape` never comes.
     fn write_wkt<W: ByteSink>(&self, _alloc: Global, writer: &mut W) -> Result<(), ToWktError>
         ensures ok { OnOk result (IsOut W.sink writer.old writer.new (wkt_text T.num (Flat.multi_point self.now))) }
+        ensures sound { OnOk result (fault (tree_shape (back (Flat.multi_point self.now))) ≡ None) }
+        ensures lawful { OnOk result (IsLawful T.is_value (tree_shape (back (Flat.multi_point self.now)))) }
         ensures io { IfIo result
             (IsPartOut W.sink writer.old writer.new (wkt_text T.num (Flat.multi_point self.now))) }
         ensures io_count { IfIo result (W.sink.failures writer.new ≡ next_count (W.sink.failures writer.old)) }
+        ensures io_sound { IfIo result (fault (tree_shape (back (Flat.multi_point self.now))) ≡ None) }
         ensures shape { IfShape result (λ _. writer.new ≡ writer.old) }
         ensures cause { IfShape result (IsRefusal (tree_shape (back (Flat.multi_point self.now)))) }
         ensures never { IfShape result (λ _. ⊥) }
@@ -252,9 +267,12 @@ impl<T: WktNum> ToWkt<T> for flat::MultiLineString<T> {
     fn write_wkt<W: ByteSink>(&self, _alloc: Global, writer: &mut W) -> Result<(), ToWktError>
         ensures ok { OnOk result
             (IsOut W.sink writer.old writer.new (wkt_text T.num (Flat.multi_line_string self.now))) }
+        ensures sound { OnOk result (fault (tree_shape (back (Flat.multi_line_string self.now))) ≡ None) }
+        ensures lawful { OnOk result (IsLawful T.is_value (tree_shape (back (Flat.multi_line_string self.now)))) }
         ensures io { IfIo result
             (IsPartOut W.sink writer.old writer.new (wkt_text T.num (Flat.multi_line_string self.now))) }
         ensures io_count { IfIo result (W.sink.failures writer.new ≡ next_count (W.sink.failures writer.old)) }
+        ensures io_sound { IfIo result (fault (tree_shape (back (Flat.multi_line_string self.now))) ≡ None) }
         ensures shape { IfShape result (λ _. writer.new ≡ writer.old) }
         ensures cause { IfShape result (IsRefusal (tree_shape (back (Flat.multi_line_string self.now)))) }
         ensures never { IfShape result (λ _. ⊥) }
@@ -293,9 +311,12 @@ impl<T: WktNum> ToWkt<T> for flat::MultiPolygon<T> {
     /// out. `Shape` never comes.
     fn write_wkt<W: ByteSink>(&self, _alloc: Global, writer: &mut W) -> Result<(), ToWktError>
         ensures ok { OnOk result (IsOut W.sink writer.old writer.new (wkt_text T.num (Flat.multi_polygon self.now))) }
+        ensures sound { OnOk result (fault (tree_shape (back (Flat.multi_polygon self.now))) ≡ None) }
+        ensures lawful { OnOk result (IsLawful T.is_value (tree_shape (back (Flat.multi_polygon self.now)))) }
         ensures io { IfIo result
             (IsPartOut W.sink writer.old writer.new (wkt_text T.num (Flat.multi_polygon self.now))) }
         ensures io_count { IfIo result (W.sink.failures writer.new ≡ next_count (W.sink.failures writer.old)) }
+        ensures io_sound { IfIo result (fault (tree_shape (back (Flat.multi_polygon self.now))) ≡ None) }
         ensures shape { IfShape result (λ _. writer.new ≡ writer.old) }
         ensures cause { IfShape result (IsRefusal (tree_shape (back (Flat.multi_polygon self.now)))) }
         ensures never { IfShape result (λ _. ⊥) }
@@ -335,9 +356,12 @@ impl<T: WktNum> ToWkt<T> for flat::GeometryCollection<T> {
     fn write_wkt<W: ByteSink>(&self, _alloc: Global, writer: &mut W) -> Result<(), ToWktError>
         ensures ok { OnOk result
             (IsOut W.sink writer.old writer.new (wkt_text T.num (Flat.collection (flat_trees self.now)))) }
+        ensures sound { OnOk result (fault (tree_shape (back (Flat.collection (flat_trees self.now)))) ≡ None) }
+        ensures lawful { OnOk result (IsLawful T.is_value (tree_shape (back (Flat.collection (flat_trees self.now))))) }
         ensures io { IfIo result
             (IsPartOut W.sink writer.old writer.new (wkt_text T.num (Flat.collection (flat_trees self.now)))) }
         ensures io_count { IfIo result (W.sink.failures writer.new ≡ next_count (W.sink.failures writer.old)) }
+        ensures io_sound { IfIo result (fault (tree_shape (back (Flat.collection (flat_trees self.now)))) ≡ None) }
         ensures shape { IfShape result (λ _. writer.new ≡ writer.old) }
         ensures cause { IfShape result (IsRefusal (tree_shape (back (Flat.collection (flat_trees self.now))))) }
         ensures never { IfShape result (λ _. ⊥) }
@@ -375,8 +399,11 @@ impl<T: WktNum> ToWkt<T> for flat::Rect<T> {
     /// out. `Shape` never comes.
     fn write_wkt<W: ByteSink>(&self, _alloc: Global, writer: &mut W) -> Result<(), ToWktError>
         ensures ok { OnOk result (IsOut W.sink writer.old writer.new (wkt_text T.num (Flat.rect self.now))) }
+        ensures sound { OnOk result (fault (tree_shape (back (Flat.rect self.now))) ≡ None) }
+        ensures lawful { OnOk result (IsLawful T.is_value (tree_shape (back (Flat.rect self.now)))) }
         ensures io { IfIo result (IsPartOut W.sink writer.old writer.new (wkt_text T.num (Flat.rect self.now))) }
         ensures io_count { IfIo result (W.sink.failures writer.new ≡ next_count (W.sink.failures writer.old)) }
+        ensures io_sound { IfIo result (fault (tree_shape (back (Flat.rect self.now))) ≡ None) }
         ensures shape { IfShape result (λ _. writer.new ≡ writer.old) }
         ensures cause { IfShape result (IsRefusal (tree_shape (back (Flat.rect self.now)))) }
         ensures never { IfShape result (λ _. ⊥) }
@@ -414,8 +441,11 @@ impl<T: WktNum> ToWkt<T> for flat::Triangle<T> {
     /// out. `Shape` never comes.
     fn write_wkt<W: ByteSink>(&self, _alloc: Global, writer: &mut W) -> Result<(), ToWktError>
         ensures ok { OnOk result (IsOut W.sink writer.old writer.new (wkt_text T.num (Flat.triangle self.now))) }
+        ensures sound { OnOk result (fault (tree_shape (back (Flat.triangle self.now))) ≡ None) }
+        ensures lawful { OnOk result (IsLawful T.is_value (tree_shape (back (Flat.triangle self.now)))) }
         ensures io { IfIo result (IsPartOut W.sink writer.old writer.new (wkt_text T.num (Flat.triangle self.now))) }
         ensures io_count { IfIo result (W.sink.failures writer.new ≡ next_count (W.sink.failures writer.old)) }
+        ensures io_sound { IfIo result (fault (tree_shape (back (Flat.triangle self.now))) ≡ None) }
         ensures shape { IfShape result (λ _. writer.new ≡ writer.old) }
         ensures cause { IfShape result (IsRefusal (tree_shape (back (Flat.triangle self.now)))) }
         ensures never { IfShape result (λ _. ⊥) }
@@ -453,8 +483,11 @@ impl<T: WktNum> ToWkt<T> for flat::Geometry<T> {
     /// out. `Shape` never comes.
     fn write_wkt<W: ByteSink>(&self, _alloc: Global, writer: &mut W) -> Result<(), ToWktError>
         ensures ok { OnOk result (IsOut W.sink writer.old writer.new (wkt_text T.num (flat_tree self.now))) }
+        ensures sound { OnOk result (fault (tree_shape (back (flat_tree self.now))) ≡ None) }
+        ensures lawful { OnOk result (IsLawful T.is_value (tree_shape (back (flat_tree self.now)))) }
         ensures io { IfIo result (IsPartOut W.sink writer.old writer.new (wkt_text T.num (flat_tree self.now))) }
         ensures io_count { IfIo result (W.sink.failures writer.new ≡ next_count (W.sink.failures writer.old)) }
+        ensures io_sound { IfIo result (fault (tree_shape (back (flat_tree self.now))) ≡ None) }
         ensures shape { IfShape result (λ _. writer.new ≡ writer.old) }
         ensures cause { IfShape result (IsRefusal (tree_shape (back (flat_tree self.now)))) }
         ensures never { IfShape result (λ _. ⊥) }

@@ -1,10 +1,11 @@
 //! Text out to byte sinks.
-ghost use Rattle.std.specs.Prelude.{◌≡◌, [], OnOk, Some, true};
+ghost use Rattle.std.specs.Prelude.{◌≡◌, [], OnOk, None, Some, true};
 ghost use Rattle.wkt_num.specs.Sink.{next_count};
 ghost use Rattle.wkt_bytes.specs.Sinks.{IsOut, IsPartOut};
 ghost use Rattle.wkt_bytes.specs.Wrapper.{is_untold, is_well, held_bytes, wrapped_writer};
 ghost use Rattle.wkt_access.specs.Shapes.{Shape};
 ghost use Rattle.wkt_access.specs.Faults.{fault};
+ghost use Rattle.wkt_access.specs.Lawful.{IsLawful};
 ghost use Rattle.wkt_access.specs.Texts.{shape_text};
 ghost use Rattle.wkt_write.specs.Writes.{Writes};
 ghost use Rattle.wkt_to_wkt.specs.Sent.{IsRefusal, IfIo, IfShape};
@@ -59,11 +60,14 @@ fn send_through<G: Written, W: ByteSink>(
     ensures ok { OnOk result
         (IsOut W.sink (wrapped_writer wrapper.old) (wrapped_writer wrapper.new)
         (shape_text G.T.num (G.shape g.now))) }
+    ensures sound { OnOk result (fault (G.shape g.now) ≡ None) }
+    ensures lawful { OnOk result (IsLawful G.T.is_value (G.shape g.now)) }
     ensures io { IfIo result
         (IsPartOut W.sink (wrapped_writer wrapper.old) (wrapped_writer wrapper.new)
         (shape_text G.T.num (G.shape g.now))) }
     ensures io_count { IfIo result
         (W.sink.failures (wrapped_writer wrapper.new) ≡ next_count (W.sink.failures (wrapped_writer wrapper.old))) }
+    ensures io_sound { IfIo result (fault (G.shape g.now) ≡ None) }
     ensures shape { IfShape result (λ _. wrapped_writer wrapper.new ≡ wrapped_writer wrapper.old) }
     ensures cause { IfShape result (λ e. fault (G.shape g.now) ≡ Some e) }
     ensures refused { IfShape result (IsRefusal (G.shape g.now)) }
@@ -82,8 +86,11 @@ fn send_through<G: Written, W: ByteSink>(
 /// Puts the text of a geometry out. It takes no memory.
 pub(crate) fn send<G: Written, W: ByteSink>(g: &G, writer: &mut W) -> Result<(), ToWktError>
     ensures ok { OnOk result (IsOut W.sink writer.old writer.new (shape_text G.T.num (G.shape g.now))) }
+    ensures sound { OnOk result (fault (G.shape g.now) ≡ None) }
+    ensures lawful { OnOk result (IsLawful G.T.is_value (G.shape g.now)) }
     ensures io { IfIo result (IsPartOut W.sink writer.old writer.new (shape_text G.T.num (G.shape g.now))) }
     ensures io_count { IfIo result (W.sink.failures writer.new ≡ next_count (W.sink.failures writer.old)) }
+    ensures io_sound { IfIo result (fault (G.shape g.now) ≡ None) }
     ensures shape { IfShape result (λ _. writer.new ≡ writer.old) }
     ensures cause { IfShape result (λ e. fault (G.shape g.now) ≡ Some e) }
     ensures refused { IfShape result (IsRefusal (G.shape g.now)) }

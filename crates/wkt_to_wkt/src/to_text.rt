@@ -60,9 +60,12 @@ pub trait ToWkt<T: WktNum> {
     fn write_wkt<W: ByteSink>(&self, alloc: Global, writer: &mut W) -> Result<(), ToWktError>
         ensures ok { OnOk result
             (IsOut W.sink writer.old writer.new (shape_text T.num (tree_shape (held self.now)))) }
+        ensures sound { OnOk result (fault (tree_shape (held self.now)) ≡ None) }
+        ensures lawful { OnOk result (IsLawful T.is_value (tree_shape (held self.now))) }
         ensures io { IfIo result
             (IsPartOut W.sink writer.old writer.new (shape_text T.num (tree_shape (held self.now)))) }
         ensures io_count { IfIo result (W.sink.failures writer.new ≡ next_count (W.sink.failures writer.old)) }
+        ensures io_sound { IfIo result (fault (tree_shape (held self.now)) ≡ None) }
         ensures shape { IfShape result (λ _. writer.new ≡ writer.old) }
         ensures cause { IfShape result (IsRefusal (tree_shape (held self.now))) }
     {

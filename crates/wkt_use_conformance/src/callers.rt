@@ -7,13 +7,14 @@ use wkt::geo_traits::{Dimensions, GeometryTrait};
 use wkt::geo_types::{Coord, Geometry, Line};
 use wkt::to_wkt::CountedText;
 use wkt::tokenizer::{PeekableTokens, Tokens};
-use wkt::{Decimal, ReadError, TryFromWkt};
+use wkt::{Decimal, ReadError, ToWktError, TryFromWkt};
 use wkt_lines::RunError;
 use wkt_uses::any_collection::{count_members, write_members};
 use wkt_uses::any_geometry::first_member;
 use wkt_uses::every_geometry::{every_geometry, every_geometry_of_stream};
 use wkt_uses::flat_from_reader::{CopyError, copy_polygon};
 use wkt_uses::flat_key::flat_key;
+use wkt_uses::flat_key_to_sink::write_flat_key;
 use wkt_uses::from_json::geometry_in;
 use wkt_uses::key::key;
 use wkt_uses::my_map::{Figure, Map};
@@ -143,6 +144,36 @@ fn flat_keys(rt: HostRuntime) -> Result<(), Fail> {
         let key = flat_key(alloc, &geometry)?;
         assert_eq!(rt; key.as_str(), *want);
         assert!(rt; Geometry::try_from_wkt_str(alloc, &key)? == geometry);
+    }
+    Ok(())
+}
+
+#[test]
+fn flat_keys_to_sinks(rt: HostRuntime) -> Result<(), Fail> {
+    let alloc = rt.alloc();
+    for (text, want) in &FLAT_KEYS {
+        let geometry = Geometry::<Decimal<6>>::try_from_wkt_str(alloc, text)?;
+        for room in [want.len(), want.len().saturating_sub(1), 0] {
+            let mut page = Page {
+                text: Vec::new(alloc),
+                room,
+                failures: 0,
+            };
+            let answer = write_flat_key(alloc, &geometry, &mut page);
+            assert_eq!(rt; page.text.as_slice(), &want.as_bytes()[..room]);
+            if room < want.len() {
+                assert!(rt; matches!(answer, Err(ToWktError::Io(_))));
+                assert_eq!(rt; page.failures, 1);
+                continue;
+            }
+            assert!(rt; answer.is_ok());
+            let mut source = Piecewise {
+                rest: page.text.as_slice(),
+                step: 7,
+            };
+            let read = Geometry::<Decimal<6>>::try_from_wkt_reader(alloc, &mut source)?;
+            assert!(rt; read == geometry);
+        }
     }
     Ok(())
 }

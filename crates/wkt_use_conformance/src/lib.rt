@@ -9,6 +9,10 @@ mod doc_examples;
 #[cfg(test)]
 mod flat_sinks;
 #[cfg(test)]
+mod handed_on;
+#[cfg(test)]
+mod own_to_wkt;
+#[cfg(test)]
 mod own_types;
 #[cfg(test)]
 mod program_sinks;

@@ -29,3 +29,8 @@ pub named : {A E L : Type 0} (bytes : A → List ℕ) (P : List ℕ → Type 0) 
     → IfOk r (λ s. bytes s ≡ bs) → OnOk r L → (L → P bs) → IfOk r (λ s. P (bytes s))
 named bytes P bs (Ok s) is holds f = subst P (sym is) (f holds)
 named bytes P bs (Err e) is holds f = tt
+
+-- What follows from a fact of an Ok holds after the Ok.
+pub after_ok : {A E L P : Type 0} (r : Result A E) → OnOk r L → (L → P) → OnOk r P
+after_ok (Ok x) h f = f h
+after_ok (Err e) h f = tt

@@ -1,6 +1,11 @@
 -- A polygon that is read as a flat one, and written.
-use Rattle.std.specs.Prelude.{ℕ, List, Option, Bool, IsUtf8, codes}
+use Rattle.std.specs.Prelude.{ℕ, List, Option, Result, Ok, Err, Bool, IsUtf8, codes}
 use Rattle.std.specs.Io.KnownBytes.{Appends}
+use Rattle.wkt.specs.Sinks.{BeginningOut}
+use Rattle.wkt.specs.ConvertError.{ConvertError}
+use Rattle.wkt.specs.ToWktError.TheVariants as send
+use Rattle.wkt_uses.specs.declared.flat_from_reader.CopyError.{CopyError}
+use Rattle.wkt_uses.specs.declared.flat_from_reader.CopyError.TheVariants as copy
 use Rattle.wkt.specs.Texts.{shape_text}
 use Rattle.wkt.specs.FlatEqual.{coord_eq}
 use Rattle.wkt.specs.Rings.{Rings}
@@ -19,3 +24,23 @@ pub record IsCopied {T : Type 0} (read : List ℕ → Option T) (num : T → Lis
   pub utf8 : IsUtf8 bytes
   pub front : FrontGives read (λ t. only (codes "Polygon") rings_in (flat (coord_eq E) t)) bytes (value rings)
   pub went : Appends old new (shape_text num (tree_shape (back (Flat.polygon rings))))
+
+-- The bytes are a text that has a polygon at its front, and a beginning of the text of its flat value went out.
+pub record IsPartCopied {T : Type 0} (read : List ℕ → Option T) (num : T → List ℕ) (E : T → T → Bool) (old new : Option (List ℕ)) (bytes : List ℕ) : Type 0 where
+  pub rings : Rings (Coord T)
+  pub utf8 : IsUtf8 bytes
+  pub front : FrontGives read (λ t. only (codes "Polygon") rings_in (flat (coord_eq E) t)) bytes (value rings)
+  pub went : BeginningOut old new (shape_text num (tree_shape (back (Flat.polygon rings))))
+
+-- The fact is claimed where no polygon was read.
+abbrev pub IfRead : {A : Type 0} → Result A CopyError → (ConvertError → Type 0) → Type 0
+IfRead (Ok x) P = Unit {0}
+IfRead (Err (copy.Read e)) P = P e
+IfRead (Err (copy.Write e)) P = Unit {0}
+
+-- The fact is claimed where the polygon wasn't written whole. The sink's fault alone comes then.
+abbrev pub IfWrite : {A : Type 0} → Result A CopyError → Type 0 → Type 0
+IfWrite (Ok x) P = Unit {0}
+IfWrite (Err (copy.Read e)) P = Unit {0}
+IfWrite (Err (copy.Write (send.Shape e))) P = ⊥
+IfWrite (Err (copy.Write (send.Io e))) P = P

@@ -1,6 +1,9 @@
 -- Texts on lines of their own.
-use Rattle.std.specs.Prelude.{◌≡◌, ℕ, List, [], ◌∷◌, ◌++◌, slice_get, Some}
+use Rattle.std.specs.Prelude.{◌≡◌, ℕ, List, [], ◌∷◌, ◌++◌, take, slice_get, Some, None, Result, Ok, Err}
+use Rattle.std.specs.List.{All}
+use Rattle.wkt.specs.Sink.{Sink, Adds}
 use Rattle.wkt.specs.WriteError.{Error}
+use Rattle.wkt.specs.WriteError.TheVariants.{FmtError, RectUnsupportedDimension, UnknownDimension, TooFewNumbers, Memory}
 use Rattle.wkt.specs.Faults.{fault}
 use Rattle.wkt.specs.Shapes.{Shape}
 use Rattle.wkt.specs.Texts.{shape_text}
@@ -10,6 +13,20 @@ abbrev pub lined : {N : Type 0} → (N → List ℕ) → List (Shape N) → List
 lined num [] = []
 lined num (s ∷ ss) = shape_text num s ++ (10 ∷ lined num ss)
 
--- One of the shapes has this fault.
-abbrev pub HasFault : {N : Type 0} → List (Shape N) → Error → Type 0
-HasFault {N} ss e = (i : ℕ) × (s : Shape N) × (slice_get ss i ≡ Some s) × (fault s ≡ Some e)
+-- One of the shapes has this fault, those before it have none, and exactly their lines were added.
+pub record StoppedAt {S N : Type 0} (sink : Sink S) (num : N → List ℕ) (s : S) (ss : List (Shape N)) (t : S) (e : Error) : Type 0 where
+  pub place : ℕ
+  pub shape : Shape N
+  pub found : slice_get ss place ≡ Some shape
+  pub faulty : fault shape ≡ Some e
+  pub sound : All (λ r. fault r ≡ None) (take place ss)
+  pub added : Adds sink s (lined num (take place ss)) t
+
+-- The fact is claimed where the sink failed.
+abbrev pub IfSink : {T : Type 0} → Result T Error → Type 0 → Type 0
+IfSink (Ok x) P = Unit {0}
+IfSink (Err (FmtError e)) P = P
+IfSink (Err RectUnsupportedDimension) P = Unit {0}
+IfSink (Err UnknownDimension) P = Unit {0}
+IfSink (Err TooFewNumbers) P = Unit {0}
+IfSink (Err (Memory e)) P = Unit {0}

@@ -1,8 +1,10 @@
 //! Functions over any collection, in whatever representation.
-ghost use Rattle.std.specs.Prelude.{◌≡◌, OnOk, length};
-ghost use Rattle.wkt.specs.Sink.{Adds};
+ghost use Rattle.std.specs.Prelude.{◌≡◌, None, OnOk, length};
+ghost use Rattle.std.specs.List.{All};
+ghost use Rattle.wkt.specs.Sink.{Adds, Breaks};
+ghost use Rattle.wkt.specs.Faults.{fault};
 ghost use Rattle.wkt.specs.Writes.{IfFault};
-ghost use Rattle.wkt_uses.specs.Lined.{lined, HasFault};
+ghost use Rattle.wkt_uses.specs.Lined.{lined, IfSink, StoppedAt};
 
 use wkt::error::Error;
 use wkt::geo_traits::GeometryCollectionTrait;
@@ -18,13 +20,16 @@ pub fn count_members<C: GeometryCollectionTrait>(collection: &C) -> usize
 /// Writes the members of a collection, each on a line of its own.
 ///
 /// # Errors
-/// The first fault of a member, or of the sink; the members before it are written then.
+/// The fault of the first member that has one: the members before it are written then, and nothing of it.
+/// `FmtError` where the sink fails: a beginning of the lines is written then.
 pub fn write_members<W: TextSink, C: GeometryCollectionTrait>(
     f: &mut W,
     collection: &C,
 ) -> Result<(), Error>
     ensures written { OnOk result (Adds W.sink f.old (lined C.T.num (C.geometries collection.now)) f.new) }
-    ensures fault { IfFault result (HasFault (C.geometries collection.now)) }
+    ensures sound { OnOk result (All (λ s. fault s ≡ None) (C.geometries collection.now)) }
+    ensures fault { IfFault result (StoppedAt W.sink C.T.num f.old (C.geometries collection.now) f.new) }
+    ensures sink { IfSink result (Breaks W.sink f.old (lined C.T.num (C.geometries collection.now)) f.new) }
 {
     for i in 0..collection.num_geometries() {
         write_geometry(f, collection.geometry(i))?;

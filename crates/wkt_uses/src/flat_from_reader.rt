@@ -1,6 +1,9 @@
 //! A flat polygon read from a source of bytes, and written to a sink of bytes.
-ghost use Rattle.std.specs.Prelude.{OnOk, IfSome};
-ghost use Rattle.wkt_uses.specs.Copied.{IsCopied};
+ghost use Rattle.std.specs.Prelude.{◌≡◌, OnOk, IfSome, Err, codes};
+ghost use Rattle.wkt.specs.Sink.{next_count};
+ghost use Rattle.wkt.specs.FromText.{BytesAnswer};
+ghost use Rattle.wkt.specs.FlatKinds.{only_flat, rings_in};
+ghost use Rattle.wkt_uses.specs.Copied.{IfRead, IfWrite, IsCopied, IsPartCopied};
 
 use std::alloc::Global;
 use thiserror::Error;
@@ -24,15 +27,21 @@ pub enum CopyError {
 /// closed.
 ///
 /// # Errors
-/// `Read` where the source failed, its bytes are no text, or the text doesn't begin with a polygon;
-/// `Write` where the sink failed.
+/// `Read` where the source failed, its bytes are no text, or the text doesn't begin with a polygon: then nothing
+/// is out. `Write` where the sink failed: then a beginning of the polygon's text is out.
 pub fn copy_polygon<T: WktNum, R: ByteSource, W: ByteSink>(
     alloc: Global,
     reader: &mut R,
     writer: &mut W,
 ) -> Result<(), CopyError>
-    ensures { OnOk result (IfSome (R.left reader.old)
+    ensures copied { OnOk result (IfSome (R.left reader.old)
         (IsCopied T.read T.num T.eq (W.sink.bytes writer.old) (W.sink.bytes writer.new))) }
+    ensures refused { IfSome (R.left reader.old) (λ bs. IfRead result
+        (λ e. BytesAnswer T.read (λ x. x) (only_flat (codes "Polygon") rings_in T.eq) bs (Err e))) }
+    ensures read { IfRead result (λ _. writer.new ≡ writer.old) }
+    ensures written { IfWrite result (IfSome (R.left reader.old)
+        (IsPartCopied T.read T.num T.eq (W.sink.bytes writer.old) (W.sink.bytes writer.new))) }
+    ensures write_count { IfWrite result (W.sink.failures writer.new ≡ next_count (W.sink.failures writer.old)) }
 {
     let polygon = match Polygon::<T>::try_from_wkt_reader(alloc, reader) {
         Ok(polygon) => polygon,

@@ -1,5 +1,5 @@
 //! A key for a table: the one text of a geometry, which reads back as the geometry.
-ghost use Rattle.std.specs.Prelude.{◌≡◌, IfOk, Some, length, string_bytes};
+ghost use Rattle.std.specs.Prelude.{◌≡◌, IfOk, None, OnOk, Some, length, string_bytes};
 ghost use Rattle.wkt.specs.Shapes.{canon};
 ghost use Rattle.wkt.specs.Faults.{fault};
 ghost use Rattle.wkt.specs.Texts.{shape_text};
@@ -21,6 +21,7 @@ pub fn key<G: GeometryTrait>(alloc: Global, geometry: &G) -> Result<String, Erro
     ensures text { IfOk result (λ s. string_bytes s ≡ shape_text G.T.num (G.shape geometry.now)) }
     ensures reads_back { IfOk result
         (λ s. Front G.T.read (string_bytes s) (canon (G.shape geometry.now)) (length (string_bytes s))) }
+    ensures sound { OnOk result (fault (G.shape geometry.now) ≡ None) }
     ensures fault { IfFault result (λ e. fault (G.shape geometry.now) ≡ Some e) }
 {
     let mut text = String::new(alloc);

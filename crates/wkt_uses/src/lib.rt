@@ -9,6 +9,7 @@ pub mod any_geometry;
 pub mod every_geometry;
 pub mod flat_from_reader;
 pub mod flat_key;
+pub mod flat_key_to_sink;
 pub mod from_json;
 pub mod key;
 pub mod my_areas;

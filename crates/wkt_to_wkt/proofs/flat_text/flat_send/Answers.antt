@@ -1,12 +1,14 @@
-use Rattle.std.proofs.Common.{ℕ, List, OnOk, subst, ap, ◌∙◌}
+use Rattle.std.proofs.Common.{ℕ, List, OnOk, subst, ap, ◌∙◌, true}
 use Rattle.std.specs.Io.KnownBytes.{Appends}
 use Rattle.wkt_bytes.specs.Sinks.{BeginningOut}
 use Rattle.wkt_access.specs.Faults.{fault}
+use Rattle.wkt_access.specs.Shapes.{canon}
 use Rattle.wkt_access.specs.Texts.{shape_text}
+use Rattle.wkt_access.specs.WellFormed.{IsWellFormed}
 use Rattle.wkt_flat.proofs.Writable.{writable}
 use Rattle.wkt_to_wkt.specs.Sent.{IfIo}
-use Rattle.wkt_to_wkt.proofs.Backs.{same_text}
-use Rattle.wkt_to_wkt.proofs.Sends.{never, whatever}
+use Rattle.wkt_to_wkt.proofs.Backs.{clear, same, same_text}
+use Rattle.wkt_to_wkt.proofs.Sends.{io_any, never, ok_any, whatever}
 use Rattle.wkt_to_wkt.proofs.flat_text.flat_send.Goals as goal
 
 pub returns-clause-ok : goal.returns-clause-ok
@@ -16,12 +18,23 @@ returns-clause-ok g c =
     let same = ap (shape_text num) (g.met.G.FlatValue.same c.args.g.now) ∙ same_text num (g.G.FlatValue.value c.args.g.now) in
     subst (λ (bs : List ℕ). OnOk c.send.result (Appends (sink.bytes c.args.writer.now) (sink.bytes c.send.new.writer) bs)) same c.send.ensures.ok
 
+pub returns-clause-sound : goal.returns-clause-sound
+returns-clause-sound g c = ok_any c.send.result (clear (g.G.FlatValue.value c.args.g.now))
+
+pub returns-clause-lawful : goal.returns-clause-lawful
+returns-clause-lawful g c =
+    let shown = ap canon (g.met.G.FlatValue.same c.args.g.now) ∙ same (g.G.FlatValue.value c.args.g.now) in
+    subst (λ s. OnOk c.send.result (IsWellFormed g.G.T.WktNum.is_value true s)) shown c.send.ensures.lawful
+
 pub returns-clause-io : goal.returns-clause-io
 returns-clause-io g c =
     let num = g.G.T.WktNum.num in
     let sink = g.W.ByteSink.sink in
     let same = ap (shape_text num) (g.met.G.FlatValue.same c.args.g.now) ∙ same_text num (g.G.FlatValue.value c.args.g.now) in
     subst (λ (bs : List ℕ). IfIo c.send.result (BeginningOut (sink.bytes c.args.writer.now) (sink.bytes c.send.new.writer) bs)) same c.send.ensures.io
+
+pub returns-clause-io_sound : goal.returns-clause-io_sound
+returns-clause-io_sound g c = io_any c.send.result (clear (g.G.FlatValue.value c.args.g.now))
 
 pub returns-clause-never : goal.returns-clause-never
 returns-clause-never g c =
