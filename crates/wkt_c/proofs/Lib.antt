@@ -1,3 +1,4 @@
+pub mod Large
 pub mod Growth
 pub mod Steps
 pub mod PartsOf
