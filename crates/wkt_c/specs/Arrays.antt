@@ -86,3 +86,13 @@ member_numbers p = option_to_list (point_numbers p)
 -- Why a text has no arrays: there are no numbers of so many places, its front is a collection, a number has more units than 64 bits hold, or the text is refused.
 abbrev pub IsNotFlat : ℕ → List ℕ → ℕ → Type 0
 IsNotFlat places text status = HasNoPlaces places status ⊎ (IsNoArrays places text status ⊎ Refuses (read_at places) text status)
+
+-- These are the arrays of some geometry, each of whose coordinates has as many numbers as its dimension says.
+abbrev pub AreOfSome : ℕ → ℕ → ℕ → List ℤ → List ℕ → List ℕ → Type 0
+AreOfSome places kind dimension numbers rings polygons =
+    (value : Value ℤ) × IsWellFormed (IsUnits places) true value × AreArrays value kind dimension numbers rings polygons
+
+-- Why arrays have no text: there are no numbers of so many places, memory ran out, or they are the arrays of no geometry.
+abbrev pub IsNoTextAt : ℕ → ℕ → ℕ → List ℤ → List ℕ → List ℕ → ℕ → Type 0
+IsNoTextAt places kind dimension numbers rings polygons status =
+    HasNoPlaces places status ⊎ ((status ≡ 22) ⊎ ((status ≡ 26) × (AreOfSome places kind dimension numbers rings polygons → ⊥)))
