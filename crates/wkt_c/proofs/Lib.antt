@@ -1,4 +1,8 @@
+pub mod Large
 pub mod Growth
+pub mod Offsets
+pub mod Refused
+pub mod Rebuilt
 pub mod Steps
 pub mod PartsOf
 pub mod Handing

@@ -131,14 +131,10 @@ pub record IsWritten {N : Type 0} (is_value : N → Type 0) (num : N → List �
   pub lawful : IsLawful is_value shape
   pub is : answer ≡ shape_text num shape
 
+-- Memory ran out, or what was asked for isn't there. Only private contracts cite this.
+abbrev pub IsRefused : Type 0 → ℕ → Type 0
+IsRefused There status = (status ≡ 22) ⊎ ((status ≡ 26) × (There → ⊥))
+
 -- Memory ran out, or the shape has a fault. Only private contracts cite this.
 abbrev pub IsUnwritten : {N : Type 0} → Shape N → ℕ → Type 0
-IsUnwritten shape status = (status ≡ 22) ⊎ ((status ≡ 26) × (fault shape ≡ None → ⊥))
-
--- Memory ran out, or the arrays are of no geometry. Only private contracts cite this.
-abbrev pub IsNoText : ℕ → Type 0
-IsNoText status = (status ≡ 22) ⊎ (status ≡ 26)
-
--- Why arrays have no text: 22, 23 or 26.
-abbrev pub IsNoTextAt : ℕ → ℕ → Type 0
-IsNoTextAt places status = HasNoPlaces places status ⊎ IsNoText status
+IsUnwritten shape status = IsRefused (fault shape ≡ None) status

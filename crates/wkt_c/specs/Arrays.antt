@@ -1,5 +1,7 @@
 -- A value as flat arrays.
 use Rattle.std.specs.Prelude.{◌≡◌, ◌+◌, ◌⊎◌, ℕ, ℤ, List, [], ◌∷◌, map, flat_map, length, Option, Some, None, option_to_list, IsUtf8, true}
+use Rattle.std.specs.List.{Contains}
+use Rattle.wkt_num.specs.Whole.{IsSigned}
 use Rattle.wkt_num.specs.Decimal.{IsUnits}
 use Rattle.wkt_access.specs.Values.{Value}
 use Rattle.wkt_access.specs.WellFormed.{IsWellFormed}
@@ -53,12 +55,22 @@ pub record AreOf (places : ℕ) (text : List ℕ) (end kind dimension : ℕ) (nu
   pub fits : IsWellFormed (IsUnits places) true value
   pub arrays : AreArrays value kind dimension numbers rings polygons
 
+-- One of these numbers has more units than 64 bits hold, one of them for the sign.
+pub record HasLarge (numbers : List ℤ) : Type 0 where
+  pub number : ℤ
+  pub held : Contains numbers number
+  pub large : IsSigned 63 number → ⊥
+
+-- So has one of all the numbers of this value.
+abbrev pub HasLargeNumber : Value ℤ → Type 0
+HasLargeNumber value = (parts : List (List (List (List ℤ)))) × (parts_of value ≡ Some parts) × HasLarge (numbers_in (joined parts))
+
 -- The front is a collection, or a number of it has more units than 64 bits hold.
 pub record IsNoArrays (places : ℕ) (text : List ℕ) (status : ℕ) : Type 0 where
   pub value : Value ℤ
   pub end : ℕ
   pub front : Front (read_at places) text value end
-  pub why : ((status ≡ 24) × (parts_of value ≡ None)) ⊎ (status ≡ 25)
+  pub why : ((status ≡ 24) × (parts_of value ≡ None)) ⊎ ((status ≡ 25) × HasLargeNumber value)
 
 -- The text is that of the value of these arrays, and reads back as its canonical value.
 pub record IsTextOf (places kind dimension : ℕ) (numbers : List ℤ) (rings polygons text : List ℕ) : Type 0 where
@@ -74,3 +86,13 @@ member_numbers p = option_to_list (point_numbers p)
 -- Why a text has no arrays: there are no numbers of so many places, its front is a collection, a number has more units than 64 bits hold, or the text is refused.
 abbrev pub IsNotFlat : ℕ → List ℕ → ℕ → Type 0
 IsNotFlat places text status = HasNoPlaces places status ⊎ (IsNoArrays places text status ⊎ Refuses (read_at places) text status)
+
+-- These are the arrays of some geometry, each of whose coordinates has as many numbers as its dimension says.
+abbrev pub AreOfSome : ℕ → ℕ → ℕ → List ℤ → List ℕ → List ℕ → Type 0
+AreOfSome places kind dimension numbers rings polygons =
+    (value : Value ℤ) × IsWellFormed (IsUnits places) true value × AreArrays value kind dimension numbers rings polygons
+
+-- Why arrays have no text: there are no numbers of so many places, memory ran out, or they are the arrays of no geometry.
+abbrev pub IsNoTextAt : ℕ → ℕ → ℕ → List ℤ → List ℕ → List ℕ → ℕ → Type 0
+IsNoTextAt places kind dimension numbers rings polygons status =
+    HasNoPlaces places status ⊎ ((status ≡ 22) ⊎ ((status ≡ 26) × (AreOfSome places kind dimension numbers rings polygons → ⊥)))

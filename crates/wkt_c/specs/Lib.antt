@@ -6,3 +6,4 @@ pub mod Sizes
 pub mod Flat
 pub mod Column
 pub mod Rows
+pub mod Rebuilding

@@ -4,7 +4,7 @@ ghost use Rattle.wkt_types.specs.Coords.{numbers_of};
 ghost use Rattle.wkt_types.specs.Tree.{tree};
 ghost use Rattle.wkt_types.specs.Values.{value_of, line_string_numbers, polygon_numbers, point_numbers};
 ghost use Rattle.wkt_c.specs.Growing.{Begins, AddsRings, Closes, AddsPolygons, HoldsAll, IsFull, IsUnheld};
-ghost use Rattle.wkt_c.specs.Arrays.{member_numbers};
+ghost use Rattle.wkt_c.specs.Arrays.{member_numbers, joined, numbers_in};
 
 use crate::status::{MEMORY, NOT_FLAT, TOO_LARGE};
 use std::alloc::Global;
@@ -23,7 +23,7 @@ pub(crate) struct Arrays {
 
 fn push_number<const D: u32>(numbers: &mut Vec<i64>, x: &Decimal<D>) -> Result<(), u32>
     ensures ok { OnOk result (numbers.new.items ≡ numbers.old.items ++ x.now ∷ []) }
-    ensures err { IfErr result IsFull }
+    ensures err { IfErr result (IsFull (x.now ∷ [])) }
 {
     let Ok(units) = i64::try_from(x.units()) else {
         return Err(TOO_LARGE);
@@ -36,7 +36,7 @@ fn push_number<const D: u32>(numbers: &mut Vec<i64>, x: &Decimal<D>) -> Result<(
 
 fn push_if_any<const D: u32>(numbers: &mut Vec<i64>, x: &Option<Decimal<D>>) -> Result<(), u32>
     ensures ok { OnOk result (numbers.new.items ≡ numbers.old.items ++ option_to_list x.now) }
-    ensures err { IfErr result IsFull }
+    ensures err { IfErr result (IsFull (option_to_list x.now)) }
 {
     match x {
         Some(x) => push_number(numbers, x),
@@ -46,7 +46,7 @@ fn push_if_any<const D: u32>(numbers: &mut Vec<i64>, x: &Option<Decimal<D>>) -> 
 
 fn push_coord<const D: u32>(numbers: &mut Vec<i64>, c: &Coord<Decimal<D>>) -> Result<(), u32>
     ensures ok { OnOk result (numbers.new.items ≡ numbers.old.items ++ numbers_of c.now) }
-    ensures err { IfErr result IsFull }
+    ensures err { IfErr result (IsFull (numbers_of c.now)) }
 {
     push_number(numbers, &c.x)?;
     push_number(numbers, &c.y)?;
@@ -59,7 +59,7 @@ fn push_coords<const D: u32>(
     coords: &[Coord<Decimal<D>>],
 ) -> Result<(), u32>
     ensures ok { OnOk result (numbers.new.items ≡ numbers.old.items ++ flat_map numbers_of coords.now) }
-    ensures err { IfErr result IsFull }
+    ensures err { IfErr result (IsFull (flat_map numbers_of coords.now)) }
 {
     for c in coords {
         push_coord(numbers, c)?;
@@ -69,7 +69,7 @@ fn push_coords<const D: u32>(
 
 fn push_offset(offsets: &mut Vec<usize>, offset: usize) -> Result<(), u32>
     ensures ok { OnOk result (offsets.new.items ≡ offsets.old.items ++ offset ∷ []) }
-    ensures err { IfErr result IsFull }
+    ensures err { IfErr result (λ s. s ≡ 22) }
 {
     match offsets.push(offset) {
         Ok(_) => Ok(()),
@@ -81,7 +81,7 @@ impl Arrays {
     /// Arrays of nothing: each list of offsets begins with 0.
     fn new(alloc: Global) -> Result<Arrays, u32>
         ensures ok { IfOk result Begins }
-        ensures err { IfErr result IsFull }
+        ensures err { IfErr result (λ s. s ≡ 22) }
     {
         let mut rings = Vec::new(alloc);
         push_offset(&mut rings, 0)?;
@@ -99,7 +99,7 @@ impl Arrays {
     /// Adds a ring, or a line, of those coordinates.
     fn ring<const D: u32>(&mut self, coords: &[Coord<Decimal<D>>]) -> Result<(), u32>
         ensures ok { OnOk result (AddsRings self.old (map numbers_of coords.now ∷ []) self.new) }
-        ensures err { IfErr result IsFull }
+        ensures err { IfErr result (IsFull (joined (map numbers_of coords.now))) }
     {
         push_coords(&mut self.numbers, coords)?;
         let Some(coordinate_count) = self.coordinate_count.checked_add(coords.len()) else {
@@ -117,7 +117,7 @@ impl Arrays {
     /// Ends a polygon: the rings that were added since the last one are its rings.
     fn close(&mut self) -> Result<(), u32>
         ensures ok { OnOk result (Closes self.old self.new) }
-        ensures err { IfErr result IsFull }
+        ensures err { IfErr result (λ s. s ≡ 22) }
     {
         let ring_count = self.ring_count;
         push_offset(&mut self.polygons, ring_count)
@@ -126,7 +126,7 @@ impl Arrays {
     /// Adds the coordinate of a point, or none, as a ring.
     fn point<const D: u32>(&mut self, point: &Point<Decimal<D>>) -> Result<(), u32>
         ensures ok { OnOk result (AddsRings self.old (member_numbers point.now ∷ []) self.new) }
-        ensures err { IfErr result IsFull }
+        ensures err { IfErr result (IsFull (joined (member_numbers point.now))) }
     {
         match point.coord() {
             Some(c) => self.ring(&[*c]),
@@ -136,7 +136,7 @@ impl Arrays {
 
     fn points<const D: u32>(&mut self, points: &[Point<Decimal<D>>]) -> Result<(), u32>
         ensures ok { OnOk result (AddsRings self.old (map member_numbers points.now) self.new) }
-        ensures err { IfErr result IsFull }
+        ensures err { IfErr result (IsFull (numbers_in (map member_numbers points.now))) }
     {
         for p in points {
             self.point(p)?;
@@ -146,7 +146,7 @@ impl Arrays {
 
     fn lines<const D: u32>(&mut self, lines: &[LineString<Decimal<D>>]) -> Result<(), u32>
         ensures ok { OnOk result (AddsRings self.old (map line_string_numbers lines.now) self.new) }
-        ensures err { IfErr result IsFull }
+        ensures err { IfErr result (IsFull (numbers_in (map line_string_numbers lines.now))) }
     {
         for l in lines {
             self.ring(l.coords())?;
@@ -156,7 +156,7 @@ impl Arrays {
 
     fn polygons<const D: u32>(&mut self, polygons: &[Polygon<Decimal<D>>]) -> Result<(), u32>
         ensures ok { OnOk result (AddsPolygons self.old (map polygon_numbers polygons.now) self.new) }
-        ensures err { IfErr result IsFull }
+        ensures err { IfErr result (IsFull (numbers_in (joined (map polygon_numbers polygons.now)))) }
     {
         for y in polygons {
             self.lines(y.rings())?;

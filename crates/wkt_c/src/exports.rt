@@ -1,9 +1,9 @@
 //! The functions that C calls.
 ghost use Rattle.std.specs.Prelude.{◌≡◌, ◌≤◌, ◌≢◌, ◌⊎◌, ℕ, List, Bool, length};
 ghost use Rattle.wkt_lines.specs.Output.{IsOutput};
-ghost use Rattle.wkt_c.specs.Answer.{read_at, print_at, IsCanonical, Compares, RefusesAt, RefusesOneAt, IsNamed, NamesNone, HasNoPlaces, IsNoTextAt, IsHandedOut, HasNoRoom, same_number};
+ghost use Rattle.wkt_c.specs.Answer.{read_at, print_at, IsCanonical, Compares, RefusesAt, RefusesOneAt, IsNamed, NamesNone, HasNoPlaces, IsHandedOut, HasNoRoom, same_number};
 ghost use Rattle.wkt_c.specs.Column.{AreColumnAnswers, IsNoColumn};
-ghost use Rattle.wkt_c.specs.Arrays.{IsTextOf, IsNotFlat};
+ghost use Rattle.wkt_c.specs.Arrays.{IsTextOf, IsNoTextAt, IsNotFlat};
 ghost use Rattle.wkt_c.specs.Sizes.{AreHandedOut, HaveNoRoom};
 
 use crate::canonical::{canonical_at, same_at};
@@ -252,7 +252,7 @@ pub extern "C" fn wkt_from_arrays(
         × IsTextOf places kind dimension numbers.now rings.now polygons.now answer × IsHandedOut answer needed.new out.old out.new }
     ensures small { result ≡ SMALL → (answer : List ℕ)
         × IsTextOf places kind dimension numbers.now rings.now polygons.now answer × HasNoRoom answer needed.new out.old }
-    ensures others { 1 ≤ result → result ≢ SMALL → IsNoTextAt places result }
+    ensures others { 1 ≤ result → result ≢ SMALL → IsNoTextAt places kind dimension numbers.now rings.now polygons.now result }
     ensures kept { 1 ≤ result → out.new ≡ out.old }
 {
     let given = GivenArrays {

@@ -1,10 +1,17 @@
 //! A geometry out of flat arrays. What is made is turned into arrays again and compared, so that a wrong one is
 //! never written.
-ghost use Rattle.std.specs.Prelude.{◌≡◌, ◌≤◌, true, IfErr, MatchResult};
-ghost use Rattle.wkt_access.specs.Values.{size};
-ghost use Rattle.wkt_c.specs.Arrays.{IsTextOf};
+ghost use Rattle.std.specs.Prelude.{◌≡◌, ◌≤◌, ◌<◌, ◌+◌, ◌*◌, ◌↔◌, ℕ, ℤ, pos, List, IsTrue, true, IfOk, IfErr, MatchResult, map, take, drop, length, slice_index, ◌∷◌, ◌++◌, option_to_list};
+ghost use Rattle.std.specs.List.{All, slice_index_or};
+ghost use Rattle.wkt_num.specs.Decimal.{IsUnits};
+ghost use Rattle.wkt_access.specs.Values.{Value, size};
+ghost use Rattle.wkt_access.specs.WellFormed.{IsWellFormed};
+ghost use Rattle.wkt_types.specs.Coords.{numbers_of};
+ghost use Rattle.wkt_types.specs.Tree.{tree};
+ghost use Rattle.wkt_types.specs.Values.{value_of, line_string_numbers, polygon_numbers};
+ghost use Rattle.wkt_c.specs.Arrays.{IsTextOf, IsNoTextAt, AreArrays, AreOfSome, member_numbers};
 ghost use Rattle.wkt_c.specs.Growing.{AreSame};
-ghost use Rattle.wkt_c.specs.Answer.{IsNoText, IsNoTextAt};
+ghost use Rattle.wkt_c.specs.Rebuilding.{IsRing, IsPolygon, ArePolygons};
+ghost use Rattle.wkt_c.specs.Answer.{IsRefused, dimension_number};
 
 use crate::arrays::Arrays;
 use crate::canonical::write_any;
@@ -29,7 +36,8 @@ pub(crate) struct GivenArrays<'a> {
 }
 
 fn dimension_of(number: u32) -> Result<Dimension, u32>
-    ensures { IfErr result IsNoText }
+    ensures ok { IfOk result (λ d. number ≡ dimension_number d) }
+    ensures err { IfErr result (λ s. (s ≡ 26) × ((d : Dimension) → number ≡ dimension_number d → ⊥)) }
 {
     match number {
         0 => Ok(Dimension::XY),
@@ -47,25 +55,25 @@ fn coord<const D: u32>(
     dimension: Dimension,
 ) -> Result<Coord<Decimal<D>>, u32>
     requires { D ≤ 36 }
-    ensures { IfErr result IsNoText }
+    ensures ok { IfOk result (λ c. numbers_of c ≡ take (size dimension) (drop (index * size dimension) numbers.now)) }
+    ensures err { IfErr result (λ s. (s ≡ 26) × (length numbers.now < index * size dimension + size dimension)) }
 {
-    let size = numbers_of(dimension);
+    let size = size_of(dimension);
     let Some(at) = index.checked_mul(size) else {
         return Err(NOT_ARRAYS);
     };
     if at > numbers.len() || numbers.len() - at < size {
         return Err(NOT_ARRAYS);
     }
-    let numbers = &numbers[at..];
-    let x = number::<D>(numbers[0]);
-    let y = number::<D>(numbers[1]);
+    let x = number::<D>(numbers, at);
+    let y = number::<D>(numbers, at + 1);
     match dimension {
         Dimension::XY => Ok(made(x, y, None, None)),
-        Dimension::XYZ => Ok(made(x, y, Some(number::<D>(numbers[2])), None)),
-        Dimension::XYM => Ok(made(x, y, None, Some(number::<D>(numbers[2])))),
+        Dimension::XYZ => Ok(made(x, y, Some(number::<D>(numbers, at + 2)), None)),
+        Dimension::XYM => Ok(made(x, y, None, Some(number::<D>(numbers, at + 2)))),
         Dimension::XYZM => {
-            let z = number::<D>(numbers[2]);
-            let m = number::<D>(numbers[3]);
+            let z = number::<D>(numbers, at + 2);
+            let m = number::<D>(numbers, at + 3);
             Ok(made(x, y, Some(z), Some(m)))
         }
     }
@@ -76,12 +84,14 @@ fn made<const D: u32>(
     y: Decimal<D>,
     z: Option<Decimal<D>>,
     m: Option<Decimal<D>>,
-) -> Coord<Decimal<D>> {
+) -> Coord<Decimal<D>>
+    ensures { numbers_of result ≡ x.entry ∷ y.entry ∷ (option_to_list z.entry ++ option_to_list m.entry) }
+{
     Coord { x, y, z, m }
 }
 
 /// How many numbers a coordinate has.
-fn numbers_of(dimension: Dimension) -> usize
+fn size_of(dimension: Dimension) -> usize
     ensures { result ≡ size dimension }
 {
     match dimension {
@@ -92,10 +102,13 @@ fn numbers_of(dimension: Dimension) -> usize
     }
 }
 
-fn number<const D: u32>(units: i64) -> Decimal<D>
-    requires { D ≤ 36 }
+/// The number of that index.
+fn number<const D: u32>(numbers: &[i64], index: usize) -> Decimal<D>
+    requires places { D ≤ 36 }
+    requires within { index < length numbers.now }
+    ensures { result ≡ slice_index_or numbers.now index (pos 0) }
 {
-    Decimal::from_units(i128::from(units))
+    Decimal::from_units(i128::from(numbers[index]))
 }
 
 /// The coordinates of the ring of that index.
@@ -106,7 +119,8 @@ fn ring<const D: u32>(
     index: usize,
 ) -> Result<Vec<Coord<Decimal<D>>>, u32>
     requires { D ≤ 36 }
-    ensures { IfErr result IsNoText }
+    ensures ok { IfOk result (λ v. (r : List (List ℤ)) → IsRing dimension given.entry.numbers.now given.entry.rings.now index r → map numbers_of v.items ≡ r) }
+    ensures err { IfErr result (IsRefused ((r : List (List ℤ)) × IsRing dimension given.entry.numbers.now given.entry.rings.now index r)) }
 {
     let mut coords = Vec::new(alloc);
     let (from, to) = bounds(given.rings, index)?;
@@ -121,7 +135,8 @@ fn ring<const D: u32>(
 
 /// The offsets of that index and the next.
 fn bounds(offsets: &[usize], index: usize) -> Result<(usize, usize), u32>
-    ensures { IfErr result IsNoText }
+    ensures ok { IfOk result (λ b. (b.0 ≡ slice_index offsets.now index) × (b.1 ≡ slice_index offsets.now (index + 1))) }
+    ensures err { IfErr result (λ s. (s ≡ 26) × (length offsets.now < index + 2)) }
 {
     if index >= offsets.len() || offsets.len() - index < 2 {
         return Err(NOT_ARRAYS);
@@ -136,7 +151,9 @@ fn point<const D: u32>(
     index: usize,
 ) -> Result<Point<Decimal<D>>, u32>
     requires { D ≤ 36 }
-    ensures { IfErr result IsNoText }
+    ensures ok { IfOk result (λ p. (r : List (List ℤ)) → IsRing dimension given.entry.numbers.now given.entry.rings.now index r → member_numbers p ≡ r) }
+    ensures dim { IfOk result (λ p. p.dim ≡ dimension) }
+    ensures err { IfErr result (IsRefused ((r : List (List ℤ)) × IsRing dimension given.entry.numbers.now given.entry.rings.now index r × (length r ≤ 1))) }
 {
     let coords = ring::<D>(alloc, given, dimension, index)?;
     match coords.as_slice() {
@@ -153,7 +170,9 @@ fn line<const D: u32>(
     index: usize,
 ) -> Result<LineString<Decimal<D>>, u32>
     requires { D ≤ 36 }
-    ensures { IfErr result IsNoText }
+    ensures ok { IfOk result (λ l. (r : List (List ℤ)) → IsRing dimension given.entry.numbers.now given.entry.rings.now index r → line_string_numbers l ≡ r) }
+    ensures dim { IfOk result (λ l. l.dim ≡ dimension) }
+    ensures err { IfErr result (IsRefused ((r : List (List ℤ)) × IsRing dimension given.entry.numbers.now given.entry.rings.now index r)) }
 {
     let coords = ring::<D>(alloc, given, dimension, index)?;
     Ok(LineString::new(coords, dimension))
@@ -165,7 +184,8 @@ fn points<const D: u32>(
     dimension: Dimension,
 ) -> Result<Vec<Point<Decimal<D>>>, u32>
     requires { D ≤ 36 }
-    ensures { IfErr result IsNoText }
+    ensures ok { IfOk result (λ v. (rs : List (List (List ℤ))) → IsPolygon dimension given.entry.numbers.now given.entry.rings.now given.entry.polygons.now 0 rs → map member_numbers v.items ≡ rs) }
+    ensures err { IfErr result (IsRefused ((rs : List (List (List ℤ))) × IsPolygon dimension given.entry.numbers.now given.entry.rings.now given.entry.polygons.now 0 rs × All (λ r. length r ≤ 1) rs)) }
 {
     let mut points = Vec::new(alloc);
     let (from, to) = bounds(given.polygons, 0)?;
@@ -185,7 +205,8 @@ fn lines<const D: u32>(
     polygon: usize,
 ) -> Result<Vec<LineString<Decimal<D>>>, u32>
     requires { D ≤ 36 }
-    ensures { IfErr result IsNoText }
+    ensures ok { IfOk result (λ v. (rs : List (List (List ℤ))) → IsPolygon dimension given.entry.numbers.now given.entry.rings.now given.entry.polygons.now polygon rs → map line_string_numbers v.items ≡ rs) }
+    ensures err { IfErr result (IsRefused ((rs : List (List (List ℤ))) × IsPolygon dimension given.entry.numbers.now given.entry.rings.now given.entry.polygons.now polygon rs)) }
 {
     let mut lines = Vec::new(alloc);
     let (from, to) = bounds(given.polygons, polygon)?;
@@ -204,7 +225,8 @@ fn polygons<const D: u32>(
     dimension: Dimension,
 ) -> Result<Vec<Polygon<Decimal<D>>>, u32>
     requires { D ≤ 36 }
-    ensures { IfErr result IsNoText }
+    ensures ok { IfOk result (λ v. (ps : List (List (List (List ℤ)))) → ArePolygons dimension given.entry.numbers.now given.entry.rings.now given.entry.polygons.now ps → map polygon_numbers v.items ≡ ps) }
+    ensures err { IfErr result (IsRefused ((ps : List (List (List (List ℤ)))) × ArePolygons dimension given.entry.numbers.now given.entry.rings.now given.entry.polygons.now ps)) }
 {
     let mut polygons = Vec::new(alloc);
     let count = given.polygons.len().saturating_sub(1);
@@ -219,7 +241,8 @@ fn polygons<const D: u32>(
 
 fn rebuilt<const D: u32>(alloc: Global, given: GivenArrays<'_>) -> Result<Wkt<Decimal<D>>, u32>
     requires { D ≤ 36 }
-    ensures { IfErr result IsNoText }
+    ensures ok { IfOk result (λ w. (value : Value ℤ) → IsWellFormed (IsUnits D) true value → AreArrays value given.entry.kind given.entry.dimension given.entry.numbers.now given.entry.rings.now given.entry.polygons.now → value_of (tree w) ≡ value) }
+    ensures err { IfErr result (IsRefused (AreOfSome D given.entry.kind given.entry.dimension given.entry.numbers.now given.entry.rings.now given.entry.polygons.now)) }
 {
     let d = dimension_of(given.dimension)?;
     match given.kind {
@@ -234,20 +257,20 @@ fn rebuilt<const D: u32>(alloc: Global, given: GivenArrays<'_>) -> Result<Wkt<De
 }
 
 fn same_numbers(one: &Vec<i64>, other: &[i64]) -> bool
-    ensures { result ≡ true → one.now.items ≡ other.now }
+    ensures { IsTrue result ↔ (one.now.items ≡ other.now) }
 {
     one.as_slice() == other
 }
 
 fn same_offsets(one: &Vec<usize>, other: &[usize]) -> bool
-    ensures { result ≡ true → one.now.items ≡ other.now }
+    ensures { IsTrue result ↔ (one.now.items ≡ other.now) }
 {
     one.as_slice() == other
 }
 
 /// Whether the arrays are those that were given.
 fn are_same(arrays: &Arrays, given: GivenArrays<'_>) -> bool
-    ensures { result ≡ true → AreSame arrays.now given.entry.numbers.now given.entry.rings.now given.entry.polygons.now }
+    ensures { IsTrue result ↔ AreSame arrays.now given.entry.numbers.now given.entry.rings.now given.entry.polygons.now }
 {
     if !same_numbers(&arrays.numbers, given.numbers) {
         return false;
@@ -265,9 +288,8 @@ fn text_if_same<const D: u32>(
     given: GivenArrays<'_>,
 ) -> Result<Vec<u8>, u32>
     requires { D ≤ 36 }
-    ensures { MatchResult result
-        (λ v. IsTextOf D given.entry.kind given.entry.dimension given.entry.numbers.now given.entry.rings.now given.entry.polygons.now v.items)
-        IsNoText }
+    ensures ok { IfOk result (λ v. IsTextOf D given.entry.kind given.entry.dimension given.entry.numbers.now given.entry.rings.now given.entry.polygons.now v.items) }
+    ensures err { IfErr result (IsRefused ((value : Value ℤ) × IsWellFormed (IsUnits D) true value × AreArrays value given.entry.kind given.entry.dimension given.entry.numbers.now given.entry.rings.now given.entry.polygons.now × (value_of (tree wkt.now) ≡ value))) }
 {
     let arrays = match Arrays::of(alloc, wkt) {
         Ok(arrays) => arrays,
@@ -284,13 +306,13 @@ fn text_if_same<const D: u32>(
 }
 
 /// Whether no offset is less than the one before it.
-fn ascend(offsets: &[usize]) -> bool {
-    let mut last = 0;
-    for offset in offsets {
-        if *offset < last {
+fn ascend(offsets: &[usize]) -> bool
+    ensures { ((i : ℕ) → i + 1 < length offsets.now → slice_index offsets.now i ≤ slice_index offsets.now (i + 1)) → result ≡ true }
+{
+    for i in 0..offsets.len().saturating_sub(1) {
+        if offsets[i] > offsets[i + 1] {
             return false;
         }
-        last = *offset;
     }
     true
 }
@@ -300,7 +322,7 @@ pub(crate) fn text_of<const D: u32>(alloc: Global, given: GivenArrays<'_>) -> Re
     requires { D ≤ 36 }
     ensures { MatchResult result
         (λ v. IsTextOf D given.entry.kind given.entry.dimension given.entry.numbers.now given.entry.rings.now given.entry.polygons.now v.items)
-        IsNoText }
+        (IsRefused (AreOfSome D given.entry.kind given.entry.dimension given.entry.numbers.now given.entry.rings.now given.entry.polygons.now)) }
 {
     // Else offsets that go back could have one ring made again and again before it is refused.
     if !ascend(given.rings) || !ascend(given.polygons) {
@@ -315,7 +337,7 @@ pub(crate) fn text_of<const D: u32>(alloc: Global, given: GivenArrays<'_>) -> Re
 /// The same, with decimals of so many places.
 pub(crate) fn text_at(alloc: Global, given: GivenArrays<'_>, places: u32) -> Result<Vec<u8>, u32>
     ensures { MatchResult result (λ v. IsTextOf places given.entry.kind given.entry.dimension given.entry.numbers.now given.entry.rings.now given.entry.polygons.now v.items)
-        (IsNoTextAt places) }
+        (IsNoTextAt places given.entry.kind given.entry.dimension given.entry.numbers.now given.entry.rings.now given.entry.polygons.now) }
 {
     match places {
         0 => text_of::<0>(alloc, given),

@@ -4,4 +4,6 @@ use Rattle.std.proofs.lemmas.Slice.Eq.{slice_eq-Decides}
 use Rattle.wkt_c.proofs.rebuild.same_numbers.Goals as goal
 
 pub returns : goal.returns
-returns c = λ h. sym c.as_slice.ensures.value ∙ (slice_eq-Decides Decides-int_eq _ _ _ c.eq.ensures).0 h
+returns c =
+    let decides = slice_eq-Decides Decides-int_eq _ _ _ c.eq.ensures in
+    (λ h. sym c.as_slice.ensures.value ∙ decides.0 h, λ e. decides.1 (c.as_slice.ensures.value ∙ e))

@@ -1,5 +1,8 @@
-use Rattle.std.proofs.Common.{arith}
+use Rattle.std.proofs.Common.{rules, map, arith}
 use Rattle.wkt_types.specs.Values.{line_string_numbers}
+use Rattle.wkt_types.specs.Coords.{numbers_of}
+use Rattle.wkt_c.specs.Arrays.{joined}
+use Rattle.wkt_c.proofs.Large.{full-in, err-map, in-mapped}
 use Rattle.wkt_c.proofs.Steps.{rings-more, all-rings}
 use Rattle.wkt_c.proofs.arrays.Arrays.lines.Goals as goal
 
@@ -9,3 +12,10 @@ loop-l-preserved g c =
 
 pub returns-clause-ok : goal.returns-clause-ok
 returns-clause-ok g c = all-rings line_string_numbers c.args.lines.now c.loop-l.l-index _ _ (omega arith) c.loop-l.invariant
+
+pub returns-in_err-ring-clause-err : goal.returns-in_err-ring-clause-err
+returns-in_err-ring-clause-err g c =
+    err-map _
+    (λ s. full-in (joined (map numbers_of c.coords.result.now)) _ s
+    (λ v h. in-mapped joined line_string_numbers c.args.lines.now c.loop-l.l-index c.l-item.result (omega arith) c.l-item.is v (rw c.coords.ensures at h)))
+    (search rules)

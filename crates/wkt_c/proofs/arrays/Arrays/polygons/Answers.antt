@@ -1,5 +1,7 @@
-use Rattle.std.proofs.Common.{arith}
-use Rattle.wkt_types.specs.Values.{polygon_numbers}
+use Rattle.std.proofs.Common.{rules, map, arith}
+use Rattle.wkt_types.specs.Values.{line_string_numbers, polygon_numbers}
+use Rattle.wkt_c.specs.Arrays.{numbers_in}
+use Rattle.wkt_c.proofs.Large.{full-in, err-map, in-polygons}
 use Rattle.wkt_c.proofs.Steps.{polygons-more, all-polygons}
 use Rattle.wkt_c.proofs.arrays.Arrays.polygons.Goals as goal
 
@@ -9,3 +11,10 @@ loop-y-preserved g c =
 
 pub returns-clause-ok : goal.returns-clause-ok
 returns-clause-ok g c = all-polygons polygon_numbers c.args.polygons.now c.loop-y.y-index _ _ (omega arith) c.loop-y.invariant
+
+pub returns-in_err-lines-clause-err : goal.returns-in_err-lines-clause-err
+returns-in_err-lines-clause-err g c =
+    err-map _
+    (λ s. full-in (numbers_in (map line_string_numbers c.rings.result.now)) _ s
+    (λ v h. in-polygons polygon_numbers c.args.polygons.now c.loop-y.y-index c.y-item.result (omega arith) c.y-item.is v (rw c.rings.ensures at h)))
+    (search rules)

@@ -1,7 +1,9 @@
-use Rattle.std.proofs.Common.{refl, map, []}
+use Rattle.std.proofs.Common.{rules, refl, map, [], IfErr}
 use Rattle.wkt_types.specs.Coords.{numbers_of}
 use Rattle.wkt_types.specs.Values.{line_string_numbers, polygon_numbers}
-use Rattle.wkt_c.specs.Arrays.{member_numbers}
+use Rattle.wkt_c.specs.Arrays.{member_numbers, numbers_in}
+use Rattle.wkt_c.specs.Growing.{IsFull}
+use Rattle.wkt_c.proofs.Large.{err-map, one-unheld}
 use Rattle.wkt_c.proofs.Steps.{ok-map, whole-one}
 use Rattle.wkt_c.proofs.PartsOf.{point-parts, line_string-parts, polygon-parts, multi_point-parts, multi_line_string-parts, multi_polygon-parts}
 use Rattle.wkt_c.proofs.arrays.Arrays.whole.Goals as goal
@@ -21,3 +23,8 @@ returns-clause-ok g c = elim c.match-wkt.branch [
   | in-MultiPoint+in_ok-points-in-MultiPoint w ↦ whole-one _ _ _ _ c.close.result _ _ (multi_point-parts _ _ w.in-MultiPoint.is) w.self-is (rw w.points.ensures at w.in_ok-points-in-MultiPoint.ensures.ok) c.close.ensures.ok
   | in-MultiLineString+in_ok-lines-in-MultiLineString w ↦ whole-one _ _ _ _ c.close.result _ _ (multi_line_string-parts _ _ w.in-MultiLineString.is) w.self-is (rw w.line_strings.ensures at w.in_ok-lines-in-MultiLineString.ensures.ok) c.close.ensures.ok
 ]
+
+pub returns-in_err-points-in-MultiPoint-clause-err : goal.returns-in_err-points-in-MultiPoint-clause-err
+returns-in_err-points-in-MultiPoint-clause-err g c =
+    let full : IfErr c.from_residual-in_err-points-in-MultiPoint.result (IsFull (numbers_in (map member_numbers c.points.result.now))) = search rules in
+    err-map _ (λ s k. one-unheld _ _ s (multi_point-parts _ _ c.in-MultiPoint.is) (rw c.points.ensures at k)) full

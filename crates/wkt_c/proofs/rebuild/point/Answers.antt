@@ -1,0 +1,20 @@
+use Rattle.std.proofs.Common.{◌∙◌, ◌<◌, ◌≤◌, length, inr, refl, sym, ap, arith}
+use Rattle.std.proofs.lemmas.List.{length-map}
+use Rattle.wkt_types.specs.Coords.{numbers_of}
+use Rattle.wkt_c.proofs.Refused.{empty-point, one-point}
+use Rattle.wkt_c.proofs.rebuild.point.Goals as goal
+
+pub returns-in-empty-clause-ok : goal.returns-in-empty-clause-ok
+returns-in-empty-clause-ok g c = λ r h.
+    let same = ap length c.as_slice.ensures.value in
+    empty-point c.empty.result c.in_ok-coords.coords.items r c.empty.ensures.coord (omega (arith, same)) (c.in_ok-coords.ensures.ok r h)
+
+pub returns-in-len1-clause-ok : goal.returns-in-len1-clause-ok
+returns-in-len1-clause-ok g c = λ r h.
+    let same = ap length c.as_slice.ensures.value in
+    one-point c.new.result c.in_ok-coords.coords.items c.c-item.result r c.new.ensures.coord (rw c.as_slice.ensures.value at c.c-item.is) (omega (arith, same)) (omega (arith, same))
+    (c.in_ok-coords.ensures.ok r h)
+
+pub returns-clause-err : goal.returns-clause-err
+returns-clause-err g c =
+    inr (refl, λ w. omega (arith, ap length c.as_slice.ensures.value, ap length (c.in_ok-coords.ensures.ok w.0 w.1), length-map c.in_ok-coords.coords.items numbers_of, w.2))
