@@ -1,7 +1,8 @@
 //! Geometries written as in well-known text, for functions and tests of this crate.
 //!
 //! Numbers are whole and without a sign. A dimension, where it is written, is `Z`, `M` or `ZM`, and
-//! a list has at least one member. Anything else matches no arm. What a macro gives has the
+//! a list has at least one member. Anything else matches no arm, but for a literal of another kind,
+//! as `1.5` or `"a"`, which the types refuse where it is used. What a macro gives has the
 //! dimension that is written, else XY, and so has each of its parts: it is what the `from_..` calls
 //! give for the members. `$alloc` is evaluated once.
 ghost use Rattle.std.specs.Prelude.{◌≡◌, ◌++◌, ◌∷◌, [], IfOk, Ok};

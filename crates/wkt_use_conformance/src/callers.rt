@@ -160,7 +160,8 @@ fn flat_keys_to_sinks(rt: HostRuntime) -> Result<(), Fail> {
                 failures: 0,
             };
             let answer = write_flat_key(alloc, &geometry, &mut page);
-            assert_eq!(rt; page.text.as_slice(), &want.as_bytes()[..room]);
+            assert_eq!(rt; page.text.len(), room);
+            assert!(rt; want.as_bytes().starts_with(page.text.as_slice()));
             if room < want.len() {
                 assert!(rt; matches!(answer, Err(ToWktError::Io(_))));
                 assert_eq!(rt; page.failures, 1);
