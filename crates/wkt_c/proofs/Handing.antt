@@ -1,7 +1,12 @@
 -- What is handed out of what was read and written.
-use Rattle.std.proofs.Common.{◌≡◌, ◌↔◌, ◌⊎◌, ◌≤◌, ◌++◌, inl, inr, refl, sym, ap, ◌∙◌, subst, arith, ℕ, ℤ, List, [], Option, Result, Ok, Err, MatchResult, Bool, length}
+use Rattle.std.proofs.Common.{◌≡◌, ◌↔◌, ◌⊎◌, ◌≤◌, ◌++◌, inl, inr, refl, sym, ap, ◌∙◌, subst, arith, ℕ, ℤ, List, [], Option, Result, Ok, Err, MatchResult, IfOk, IfErr, Bool, length, true}
 use Rattle.std.specs.Prelude.{IsTrue, Some, None}
 use Rattle.std.proofs.lemmas.List.{append-nil}
+use Rattle.std.specs.List.{All, Contains}
+use Rattle.std.proofs.lemmas.List.Elements.{All-contains}
+use Rattle.wkt_num.specs.Whole.{IsSigned}
+use Rattle.wkt_access.specs.WellFormed.{IsWellFormed}
+use Rattle.wkt_write.proofs.Writable.{writable}
 use Rattle.wkt_num.specs.Decimal.{IsUnits, read_decimal, decimal_text}
 use Rattle.wkt_access.specs.Values.{Value}
 use Rattle.wkt_access.specs.Shapes.{shape_of, canon}
@@ -13,8 +18,8 @@ use Rattle.wkt_types.specs.Values.{value_of, tree_shape, IsWktOf}
 use Rattle.wkt_read.specs.Kinds.{kind_of, dim_of}
 use Rattle.wkt_read.specs.Front.{Front}
 use Rattle.wkt_read.specs.Laws.{ReadsBack}
-use Rattle.wkt_c.specs.Answer.{Refuses, IsWritten, IsUnwritten, kind_number, dimension_number, read_at, IsNoText}
-use Rattle.wkt_c.specs.Arrays.{parts_of, joined, numbers_in, offsets, AreArrays, IsTextOf, IsNoArrays, IsNotFlat, HasLargeNumber}
+use Rattle.wkt_c.specs.Answer.{Refuses, IsWritten, IsUnwritten, kind_number, dimension_number, read_at}
+use Rattle.wkt_c.specs.Arrays.{parts_of, joined, numbers_in, offsets, AreArrays, IsTextOf, IsNoArrays, IsNotFlat, HasLarge, HasLargeNumber}
 use Rattle.wkt_c.specs.Growing.{Holds, HoldsAll, IsUnheld, AreSame}
 use Rattle.wkt_c.specs.declared.arrays.Arrays.{Arrays}
 
@@ -38,7 +43,7 @@ same_lists x y a b h e f = (λ t. sym e ∙ h.0 t ∙ f, λ k. h.1 (e ∙ k ∙ 
 pub iff-more : {A B C : Type 0} → A ↔ B → B ↔ C → A ↔ C
 iff-more h k = (λ a. k.0 (h.0 a), λ c. h.1 (k.1 c))
 
-dims : {T : Type 0} (t : Tree T) → dim_of (value_of t) ≡ tree_dim t
+pub dims : {T : Type 0} (t : Tree T) → dim_of (value_of t) ≡ tree_dim t
 dims (Tree.point p) = refl
 dims (Tree.line_string l) = refl
 dims (Tree.polygon y) = refl
@@ -89,5 +94,49 @@ text-of D kind dimension a t numbers rings polygons text is_value are same back 
   reads = subst (λ bs. Front (read_decimal 127 36 D) bs (canon (tree_shape t)) (length bs)) (sym w.is) (back (tree_shape t) w.sound w.lawful);
 }
 
-pub unwritten : (status : ℕ) (P : Type 0) → ((status ≡ 22) ⊎ ((status ≡ 26) × (P → ⊥))) → IsNoText status
-unwritten status P h = elim h [ inl e ↦ inl e | inr k ↦ inr k.0 ]
+pub ok-of : {T E : Type 0} (P : T → Type 0) (Q : E → Type 0) (r : Result T E) → MatchResult r P Q → IfOk r P
+ok-of P Q (Ok x) h = h
+ok-of P Q (Err e) h = tt
+
+pub err-of : {T E : Type 0} (P : T → Type 0) (Q : E → Type 0) (r : Result T E) → MatchResult r P Q → IfErr r Q
+err-of P Q (Ok x) h = tt
+err-of P Q (Err e) h = h
+
+pub sound : (places : ℕ) (t : Tree ℤ) (v : Value ℤ) → value_of t ≡ v → IsWellFormed (IsUnits places) true v → fault (tree_shape t) ≡ None
+sound places t v e fits = ap (λ w. fault (shape_of w)) e ∙ (writable (IsUnits places) v fits).0
+
+-- a value of the given arrays has the arrays that were made
+module _ (t : Tree ℤ) (v : Value ℤ) (kind dimension : ℕ) (numbers : List ℤ) (rings polygons : List ℕ) (e : value_of t ≡ v) (are : AreArrays v kind dimension numbers rings polygons) where
+  pub same-arrays : (a : Arrays) → HoldsAll a (value_of t) → AreSame a numbers rings polygons
+  same-arrays a (parts, flat, holds) =
+      let both : Some parts ≡ Some are.parts = sym flat ∙ ap parts_of e ∙ are.flat in
+      let same : parts ≡ are.parts = cc in
+      record {
+        numbers_same = holds.numbers ∙ ap numbers_in (append-nil (joined parts)) ∙ ap (λ q. numbers_in (joined q)) same ∙ sym are.numbers_are;
+        rings_same = holds.rings ∙ ap (offsets 0) (append-nil (joined parts)) ∙ ap (λ q. offsets 0 (joined q)) same ∙ sym are.rings_are;
+        polygons_same = holds.polygons ∙ ap (offsets 0) same ∙ sym are.polygons_are;
+      }
+
+  has-large : (parts : List (List (List (List ℤ)))) → Some parts ≡ Some are.parts → HasLarge (numbers_in (joined parts)) → All (IsSigned 63) numbers → ⊥
+  has-large parts both l small =
+      let same : parts ≡ are.parts = cc in
+      l.large (All-contains (IsSigned 63) numbers l.number small (subst (λ xs. Contains xs l.number) (ap (λ q. numbers_in (joined q)) same ∙ sym are.numbers_are) l.held))
+
+  pub held : (status : ℕ) → All (IsSigned 63) numbers → (status ≡ 22 → ⊥) → IsUnheld (value_of t) status → ⊥
+  held status small some h = elim h [
+    | inl m ↦ some m
+    | inr k ↦ elim k [
+      | inl c ↦ let both : None ≡ Some are.parts = sym c.1 ∙ ap parts_of e ∙ are.flat in absurd (cc)
+      | inr l ↦ has-large l.1.0 (sym l.1.1 ∙ ap parts_of e ∙ are.flat) l.1.2 small
+    ]
+  ]
+
+  pub same-kind : kind_number (kind_of (value_of t)) ≡ kind
+  same-kind = ap (λ w. kind_number (kind_of w)) e ∙ sym are.kind_is
+
+  pub same-dimension : dimension_number (tree_dim t) ≡ dimension
+  same-dimension = ap dimension_number (sym (dims t)) ∙ ap (λ w. dimension_number (dim_of w)) e ∙ sym are.dimension_is
+
+pub match-of : {T E : Type 0} (P : T → Type 0) (Q : E → Type 0) (r : Result T E) → IfOk r P → IfErr r Q → MatchResult r P Q
+match-of P Q (Ok x) h k = h
+match-of P Q (Err e) h k = k

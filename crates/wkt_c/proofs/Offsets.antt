@@ -171,3 +171,14 @@ module _ (d : Dimension) (numbers : List ℤ) (rings polygons : List ℕ) (index
     ring-of P all i le lt =
         let own = element [] h.all polygons h.are.polygons_are index h.within part h.is from to f t i le lt in
         subst P own.1 (all (i - from) [] own.0)
+
+-- ---- offsets never go back
+
+ascending : {A : Type 0} (n : ℕ) (xss : List (List A)) (i : ℕ) → i + 1 < length (offsets n xss) → slice_index (offsets n xss) i ≤ slice_index (offsets n xss) (i + 1)
+ascending n xss i lt =
+    let within : i < length xss = omega (arith, lt, offsets-length n xss) in
+    let more = ap (λ yss. length (joined yss)) (take_more xss i [] within) ∙ ap length (joined-push (take i xss) (slice_index_or xss i [])) ∙ length-append (joined (take i xss)) (slice_index_or xss i []) in
+    omega (arith, more, offset-at n xss i (omega (arith, within)), offset-at n xss (i + 1) (omega (arith, within)))
+
+pub goes-up : {A : Type 0} (xss : List (List A)) (os : List ℕ) → os ≡ offsets 0 xss → (i : ℕ) → i + 1 < length os → slice_index os i ≤ slice_index os (i + 1)
+goes-up xss os e = subst (λ ps. (i : ℕ) → i + 1 < length ps → slice_index ps i ≤ slice_index ps (i + 1)) (sym e) (ascending 0 xss)

@@ -10,10 +10,17 @@ use Rattle.wkt_access.specs.declared.dimensions.Dimension.{Dimension}
 use Rattle.wkt_access.specs.declared.dimensions.Dimension.TheVariants.{XY, XYZ, XYM, XYZM}
 use Rattle.wkt_types.specs.declared.geometry_type.GeometryType.{GeometryType}
 use Rattle.wkt_types.specs.declared.geometry_type.GeometryType.TheVariants as kind
+use Rattle.std.proofs.lemmas.Simd.{map-map}
+use Rattle.wkt_types.specs.Held.{Held, HeldPoint}
+use Rattle.wkt_types.specs.Tree.{tree}
+use Rattle.wkt_types.specs.Values.{value_of, point_numbers, line_string_numbers, polygon_numbers}
+use Rattle.wkt_types.specs.declared.coord.Coord.{Coord}
+use Rattle.wkt_types.specs.declared.geometry.Wkt.TheVariants as variants
 use Rattle.wkt_read.specs.Kinds.{kind_of, dim_of}
 use Rattle.wkt_c.specs.Answer.{kind_number, dimension_number}
-use Rattle.wkt_c.specs.Arrays.{parts_of, joined, AreArrays, AreOfSome}
+use Rattle.wkt_c.specs.Arrays.{parts_of, joined, AreArrays, AreOfSome, member_numbers}
 use Rattle.wkt_c.specs.Rebuilding.{HasSize, IsRing, ArePolygons, IsPolygon}
+use Rattle.wkt_c.proofs.PartsOf.{tree-point, tree-line_string, tree-polygon, tree-multi_point, tree-multi_line_string, tree-multi_polygon}
 
 -- ---- kinds and dimensions by their numbers
 
@@ -52,14 +59,14 @@ one-option None (Some b) e = absurd (cc)
 one-option (Some a) None e = absurd (cc)
 one-option (Some a) (Some b) e = ap Some {x = a} {y = b} (cc)
 
-pub one-options : {A : Type 0} (as bs : List (Option A)) → map option_to_list as ≡ map option_to_list bs → as ≡ bs
+pub one-options : {A : Type 0} (os bs : List (Option A)) → map option_to_list os ≡ map option_to_list bs → os ≡ bs
 one-options [] [] e = refl
 one-options [] (b ∷ bs) e = absurd (cc)
-one-options (a ∷ as) [] e = absurd (cc)
-one-options (a ∷ as) (b ∷ bs) e =
+one-options (a ∷ os) [] e = absurd (cc)
+one-options (a ∷ os) (b ∷ bs) e =
     let h : option_to_list a ≡ option_to_list b = cc in
-    let t : map option_to_list as ≡ map option_to_list bs = cc in
-    ap (λ x. x ∷ as) (one-option a b h) ∙ ap (λ xs. b ∷ xs) (one-options as bs t)
+    let t : map option_to_list os ≡ map option_to_list bs = cc in
+    ap (λ x. x ∷ os) (one-option a b h) ∙ ap (λ xs. b ∷ xs) (one-options os bs t)
 
 -- ---- the value of some parts, by its kind
 
@@ -154,3 +161,86 @@ module _ (places kind-is dimension : ℕ) (numbers : List ℤ) (rings polygons :
     within = omega (arith, ap (λ ps. length (joined ps)) e);
     is = sym (ap (λ ps. slice_index_or (joined ps) 0 []) e);
   }
+
+  -- what is built of the parts that are there is the value
+  module _ (dim : Dimension) (same : dim ≡ d) where
+    pub built-point : kind-is ≡ 0 → (p : HeldPoint (Coord ℤ)) → p.dim ≡ dim → ((r : List (List ℤ)) → IsRing d numbers rings 0 r → member_numbers p ≡ r) → value_of (tree (variants.Point p)) ≡ v
+    built-point e p h f =
+        let i = inverted kind.Point e in
+        ap value_of (tree-point p) ∙ ap (λ x. Value.point x (point_numbers p)) (h ∙ same ∙ sym same-dim)
+        ∙ ap (Value.point (dim_of v)) (one-option (point_numbers p) i.0 (f (option_to_list i.0) (first-ring _ i.2))) ∙ sym i.1
+
+    pub built-line : kind-is ≡ 1 → (l : Held (Coord ℤ)) → l.dim ≡ dim → ((r : List (List ℤ)) → IsRing d numbers rings 0 r → line_string_numbers l ≡ r) → value_of (tree (variants.LineString l)) ≡ v
+    built-line e l h f =
+        let i = inverted kind.LineString e in
+        ap value_of (tree-line_string l) ∙ ap (λ x. Value.line_string x (line_string_numbers l)) (h ∙ same ∙ sym same-dim)
+        ∙ ap (Value.line_string (dim_of v)) (f i.0 (first-ring i.0 i.2)) ∙ sym i.1
+
+    pub built-polygon : kind-is ≡ 2 → (y : Held (Held (Coord ℤ))) → y.dim ≡ dim → (xs : List (Held (Coord ℤ))) → y.parts ≡ xs →
+        ((rs : List (List (List ℤ))) → IsPolygon d numbers rings polygons 0 rs → map line_string_numbers xs ≡ rs) → value_of (tree (variants.Polygon y)) ≡ v
+    built-polygon e y h xs k f =
+        let i = inverted kind.Polygon e in
+        ap value_of (tree-polygon y) ∙ ap (λ x. Value.polygon x (map line_string_numbers y.parts)) (h ∙ same ∙ sym same-dim)
+        ∙ ap (Value.polygon (dim_of v)) (ap (λ ls. map line_string_numbers ls) k ∙ f i.0 (first-polygon i.0 i.2)) ∙ sym i.1
+
+    pub built-multi_point : kind-is ≡ 3 → (m : Held (HeldPoint (Coord ℤ))) → m.dim ≡ dim → (xs : List (HeldPoint (Coord ℤ))) → m.parts ≡ xs →
+        ((rs : List (List (List ℤ))) → IsPolygon d numbers rings polygons 0 rs → map member_numbers xs ≡ rs) → value_of (tree (variants.MultiPoint m)) ≡ v
+    built-multi_point e m h xs k f =
+        let i = inverted kind.MultiPoint e in
+        ap value_of (tree-multi_point m) ∙ ap (λ x. Value.multi_point x (map point_numbers m.parts)) (h ∙ same ∙ sym same-dim)
+        ∙ ap (Value.multi_point (dim_of v))
+        (ap (λ ps. map point_numbers ps) k ∙ one-options (map point_numbers xs) i.0 (map-map option_to_list point_numbers xs ∙ f (map option_to_list i.0) (first-polygon _ i.2)))
+        ∙ sym i.1
+
+    pub built-multi_line_string : kind-is ≡ 4 → (m : Held (Held (Coord ℤ))) → m.dim ≡ dim → (xs : List (Held (Coord ℤ))) → m.parts ≡ xs →
+        ((rs : List (List (List ℤ))) → IsPolygon d numbers rings polygons 0 rs → map line_string_numbers xs ≡ rs) → value_of (tree (variants.MultiLineString m)) ≡ v
+    built-multi_line_string e m h xs k f =
+        let i = inverted kind.MultiLineString e in
+        ap value_of (tree-multi_line_string m) ∙ ap (λ x. Value.multi_line_string x (map line_string_numbers m.parts)) (h ∙ same ∙ sym same-dim)
+        ∙ ap (Value.multi_line_string (dim_of v)) (ap (λ ls. map line_string_numbers ls) k ∙ f i.0 (first-polygon i.0 i.2)) ∙ sym i.1
+
+    pub built-multi_polygon : kind-is ≡ 5 → (m : Held (Held (Held (Coord ℤ)))) → m.dim ≡ dim → (xs : List (Held (Held (Coord ℤ)))) → m.parts ≡ xs →
+        ((ps : List (List (List (List ℤ)))) → ArePolygons d numbers rings polygons ps → map polygon_numbers xs ≡ ps) → value_of (tree (variants.MultiPolygon m)) ≡ v
+    built-multi_polygon e m h xs k f =
+        ap value_of (tree-multi_polygon m) ∙ ap (λ x. Value.multi_polygon x (map polygon_numbers m.parts)) (h ∙ same ∙ sym same-dim)
+        ∙ ap (Value.multi_polygon (dim_of v)) (ap (λ ps. map polygon_numbers ps) k ∙ f are.parts all-polygons) ∙ sym (inverted kind.MultiPolygon e)
+
+short : (c : Option (List ℤ)) → length (option_to_list c) ≤ 1
+short None = omega arith
+short (Some c) = omega arith
+
+shorts : (os : List (Option (List ℤ))) → AllByRecursion (λ r. length r ≤ 1) (map option_to_list os)
+shorts [] = tt
+shorts (c ∷ os) = (short c, shorts os)
+
+-- ---- what is there, where some value has the arrays
+
+module _ (places kind-is dimension : ℕ) (numbers : List ℤ) (rings polygons : List ℕ) (d : Dimension) (d-is : dimension ≡ dimension_number d) where
+  pub some-point : kind-is ≡ 0 → AreOfSome places kind-is dimension numbers rings polygons → (r : List (List ℤ)) × IsRing d numbers rings 0 r × (length r ≤ 1)
+  some-point e w =
+      let i = inverted places kind-is dimension numbers rings polygons d d-is w.0 w.1 w.2 kind.Point e in
+      (option_to_list i.0, first-ring places kind-is dimension numbers rings polygons d d-is w.0 w.1 w.2 _ i.2, short i.0)
+
+  pub some-line : kind-is ≡ 1 → AreOfSome places kind-is dimension numbers rings polygons → (r : List (List ℤ)) × IsRing d numbers rings 0 r
+  some-line e w =
+      let i = inverted places kind-is dimension numbers rings polygons d d-is w.0 w.1 w.2 kind.LineString e in
+      (i.0, first-ring places kind-is dimension numbers rings polygons d d-is w.0 w.1 w.2 _ i.2)
+
+  pub some-polygon : kind-is ≡ 2 → AreOfSome places kind-is dimension numbers rings polygons → (rs : List (List (List ℤ))) × IsPolygon d numbers rings polygons 0 rs
+  some-polygon e w =
+      let i = inverted places kind-is dimension numbers rings polygons d d-is w.0 w.1 w.2 kind.Polygon e in
+      (i.0, first-polygon places kind-is dimension numbers rings polygons d d-is w.0 w.1 w.2 _ i.2)
+
+  pub some-multi_point : kind-is ≡ 3 → AreOfSome places kind-is dimension numbers rings polygons →
+      (rs : List (List (List ℤ))) × IsPolygon d numbers rings polygons 0 rs × All (λ r. length r ≤ 1) rs
+  some-multi_point e w =
+      let i = inverted places kind-is dimension numbers rings polygons d d-is w.0 w.1 w.2 kind.MultiPoint e in
+      (map option_to_list i.0, first-polygon places kind-is dimension numbers rings polygons d d-is w.0 w.1 w.2 _ i.2, All-from_recursion (λ r. length r ≤ 1) (map option_to_list i.0) (shorts i.0))
+
+  pub some-multi_line_string : kind-is ≡ 4 → AreOfSome places kind-is dimension numbers rings polygons → (rs : List (List (List ℤ))) × IsPolygon d numbers rings polygons 0 rs
+  some-multi_line_string e w =
+      let i = inverted places kind-is dimension numbers rings polygons d d-is w.0 w.1 w.2 kind.MultiLineString e in
+      (i.0, first-polygon places kind-is dimension numbers rings polygons d d-is w.0 w.1 w.2 _ i.2)
+
+  pub some-polygons : AreOfSome places kind-is dimension numbers rings polygons → (ps : List (List (List (List ℤ)))) × ArePolygons d numbers rings polygons ps
+  some-polygons w = (w.2.parts, all-polygons places kind-is dimension numbers rings polygons d d-is w.0 w.1 w.2)

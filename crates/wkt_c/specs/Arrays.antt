@@ -1,6 +1,6 @@
 -- A value as flat arrays.
 use Rattle.std.specs.Prelude.{◌≡◌, ◌+◌, ◌⊎◌, ℕ, ℤ, List, [], ◌∷◌, map, flat_map, length, Option, Some, None, option_to_list, IsUtf8, true}
-use Rattle.std.specs.List.{Contains}
+use Rattle.std.specs.List.{All, Contains}
 use Rattle.wkt_num.specs.Whole.{IsSigned}
 use Rattle.wkt_num.specs.Decimal.{IsUnits}
 use Rattle.wkt_access.specs.Values.{Value}
@@ -87,10 +87,10 @@ member_numbers p = option_to_list (point_numbers p)
 abbrev pub IsNotFlat : ℕ → List ℕ → ℕ → Type 0
 IsNotFlat places text status = HasNoPlaces places status ⊎ (IsNoArrays places text status ⊎ Refuses (read_at places) text status)
 
--- These are the arrays of some geometry, each of whose coordinates has as many numbers as its dimension says.
+-- These are the arrays of some geometry, each of whose coordinates has as many numbers as its dimension says, and the numbers are of 64 bits, as those of a call are.
 abbrev pub AreOfSome : ℕ → ℕ → ℕ → List ℤ → List ℕ → List ℕ → Type 0
 AreOfSome places kind dimension numbers rings polygons =
-    (value : Value ℤ) × IsWellFormed (IsUnits places) true value × AreArrays value kind dimension numbers rings polygons
+    (value : Value ℤ) × IsWellFormed (IsUnits places) true value × AreArrays value kind dimension numbers rings polygons × All (IsSigned 63) numbers
 
 -- Why arrays have no text: there are no numbers of so many places, memory ran out, or they are the arrays of no geometry.
 abbrev pub IsNoTextAt : ℕ → ℕ → ℕ → List ℤ → List ℕ → List ℕ → ℕ → Type 0

@@ -3,6 +3,7 @@
 ghost use Rattle.std.specs.Prelude.{◌≡◌, ◌≤◌, ◌<◌, ◌+◌, ◌*◌, ◌↔◌, ℕ, ℤ, pos, List, IsTrue, true, IfOk, IfErr, MatchResult, map, take, drop, length, slice_index, ◌∷◌, ◌++◌, option_to_list};
 ghost use Rattle.std.specs.List.{All, slice_index_or};
 ghost use Rattle.wkt_num.specs.Decimal.{IsUnits};
+ghost use Rattle.wkt_num.specs.Whole.{IsSigned};
 ghost use Rattle.wkt_access.specs.Values.{Value, size};
 ghost use Rattle.wkt_access.specs.WellFormed.{IsWellFormed};
 ghost use Rattle.wkt_types.specs.Coords.{numbers_of};
@@ -289,20 +290,27 @@ fn text_if_same<const D: u32>(
 ) -> Result<Vec<u8>, u32>
     requires { D ≤ 36 }
     ensures ok { IfOk result (λ v. IsTextOf D given.entry.kind given.entry.dimension given.entry.numbers.now given.entry.rings.now given.entry.polygons.now v.items) }
-    ensures err { IfErr result (IsRefused ((value : Value ℤ) × IsWellFormed (IsUnits D) true value × AreArrays value given.entry.kind given.entry.dimension given.entry.numbers.now given.entry.rings.now given.entry.polygons.now × (value_of (tree wkt.now) ≡ value))) }
+    ensures err { IfErr result (IsRefused ((value : Value ℤ) × IsWellFormed (IsUnits D) true value × AreArrays value given.entry.kind given.entry.dimension given.entry.numbers.now given.entry.rings.now given.entry.polygons.now × (value_of (tree wkt.now) ≡ value) × All (IsSigned 63) given.entry.numbers.now)) }
 {
     let arrays = match Arrays::of(alloc, wkt) {
         Ok(arrays) => arrays,
-        Err(status) => return Err(if status == MEMORY { MEMORY } else { NOT_ARRAYS }),
+        Err(MEMORY) => return Err(MEMORY),
+        Err(_) => return Err(NOT_ARRAYS),
     };
     let kind = number_of_kind(kind_of(wkt));
     let dimension = number_of_dimension(wkt.dimension());
-    if kind == given.kind && dimension == given.dimension && are_same(&arrays, given) {
-        // No effect at run time. The proof reads that the text is read as that geometry.
-        reads_back::<Decimal<D>>();
-        return write_any(alloc, wkt, given.numbers.len());
+    if kind != given.kind {
+        return Err(NOT_ARRAYS);
     }
-    Err(NOT_ARRAYS)
+    if dimension != given.dimension {
+        return Err(NOT_ARRAYS);
+    }
+    if !are_same(&arrays, given) {
+        return Err(NOT_ARRAYS);
+    }
+    // No effect at run time. The proof reads that the text is read as that geometry.
+    reads_back::<Decimal<D>>();
+    write_any(alloc, wkt, given.numbers.len())
 }
 
 /// Whether no offset is less than the one before it.
@@ -325,7 +333,12 @@ pub(crate) fn text_of<const D: u32>(alloc: Global, given: GivenArrays<'_>) -> Re
         (IsRefused (AreOfSome D given.entry.kind given.entry.dimension given.entry.numbers.now given.entry.rings.now given.entry.polygons.now)) }
 {
     // Else offsets that go back could have one ring made again and again before it is refused.
-    if !ascend(given.rings) || !ascend(given.polygons) {
+    let rings_ascend = ascend(given.rings);
+    if !rings_ascend {
+        return Err(NOT_ARRAYS);
+    }
+    let polygons_ascend = ascend(given.polygons);
+    if !polygons_ascend {
         return Err(NOT_ARRAYS);
     }
     match rebuilt::<D>(alloc, given) {

@@ -1,5 +1,68 @@
-use Rattle.wkt_c.proofs.Rebuilt.{first-ring}
+use Rattle.std.proofs.Common.{rules, ◌≡◌, ◌≤◌, ℕ, ℤ, List, IfErr, length, refl}
+use Rattle.std.specs.List.{All}
+use Rattle.wkt_access.specs.declared.dimensions.Dimension.{Dimension}
+use Rattle.wkt_read.specs.Kinds.{dim_of}
+use Rattle.wkt_c.specs.Answer.{IsRefused, dimension_number}
+use Rattle.wkt_c.specs.Rebuilding.{IsRing, ArePolygons, IsPolygon}
+use Rattle.wkt_c.proofs.Refused.{not-there, passed-on}
+use Rattle.wkt_c.proofs.Rebuilt.{built-point, built-line, built-polygon, built-multi_point, built-multi_line_string, built-multi_polygon, some-point, some-line, some-polygon, some-multi_point, some-multi_line_string, some-polygons}
 use Rattle.wkt_c.proofs.rebuild.rebuilt.Goals as goal
 
-pub returns : goal.returns
-returns g c = ?
+pub returns-in_err-d-clause-err : goal.returns-in_err-d-clause-err
+returns-in_err-d-clause-err g c =
+    let h : IfErr c.from_residual.result (λ s. (s ≡ 26) × ((d : Dimension) → c.args.given.dimension ≡ dimension_number d → ⊥)) = search rules in
+    not-there _ (λ none w. none (dim_of w.0) w.2.dimension_is) h
+
+pub returns-in_err-point-in-0-clause-err : goal.returns-in_err-point-in-0-clause-err
+returns-in_err-point-in-0-clause-err g c =
+    let given = c.args.given in
+    let h : IfErr c.from_residual-in_err-point-in-0.result (IsRefused ((r : List (List ℤ)) × IsRing c.in_ok-d.d given.numbers.now given.rings.now 0 r × (length r ≤ 1))) = search rules in
+    passed-on _ (some-point g.row.D given.kind given.dimension given.numbers.now given.rings.now given.polygons.now c.in_ok-d.d c.in_ok-d.ensures.ok c.in-0.is) h
+
+pub returns-in_err-line-in-1-clause-err : goal.returns-in_err-line-in-1-clause-err
+returns-in_err-line-in-1-clause-err g c =
+    let given = c.args.given in
+    let h : IfErr c.from_residual-in_err-line-in-1.result (IsRefused ((r : List (List ℤ)) × IsRing c.in_ok-d.d given.numbers.now given.rings.now 0 r)) = search rules in
+    passed-on _ (some-line g.row.D given.kind given.dimension given.numbers.now given.rings.now given.polygons.now c.in_ok-d.d c.in_ok-d.ensures.ok c.in-1.is) h
+
+pub returns-in_err-lines-in-2-clause-err : goal.returns-in_err-lines-in-2-clause-err
+returns-in_err-lines-in-2-clause-err g c =
+    let given = c.args.given in
+    let h : IfErr c.from_residual-in_err-lines-in-2.result (IsRefused ((rs : List (List (List ℤ))) × IsPolygon c.in_ok-d.d given.numbers.now given.rings.now given.polygons.now 0 rs)) = search rules in
+    passed-on _ (some-polygon g.row.D given.kind given.dimension given.numbers.now given.rings.now given.polygons.now c.in_ok-d.d c.in_ok-d.ensures.ok c.in-2.is) h
+
+pub returns-in_err-points-in-3-clause-err : goal.returns-in_err-points-in-3-clause-err
+returns-in_err-points-in-3-clause-err g c =
+    let given = c.args.given in
+    let h : IfErr c.from_residual-in_err-points-in-3.result (IsRefused ((rs : List (List (List ℤ))) × IsPolygon c.in_ok-d.d given.numbers.now given.rings.now given.polygons.now 0 rs × All (λ r. length r ≤ 1) rs)) = search rules in
+    passed-on _ (some-multi_point g.row.D given.kind given.dimension given.numbers.now given.rings.now given.polygons.now c.in_ok-d.d c.in_ok-d.ensures.ok c.in-3.is) h
+
+pub returns-in_err-lines-in-4-clause-err : goal.returns-in_err-lines-in-4-clause-err
+returns-in_err-lines-in-4-clause-err g c =
+    let given = c.args.given in
+    let h : IfErr c.from_residual-in_err-lines-in-4.result (IsRefused ((rs : List (List (List ℤ))) × IsPolygon c.in_ok-d.d given.numbers.now given.rings.now given.polygons.now 0 rs)) = search rules in
+    passed-on _ (some-multi_line_string g.row.D given.kind given.dimension given.numbers.now given.rings.now given.polygons.now c.in_ok-d.d c.in_ok-d.ensures.ok c.in-4.is) h
+
+pub returns-in_err-polygons-in-5-clause-err : goal.returns-in_err-polygons-in-5-clause-err
+returns-in_err-polygons-in-5-clause-err g c =
+    let given = c.args.given in
+    let h : IfErr c.from_residual-in_err-polygons-in-5.result (IsRefused ((ps : List (List (List (List ℤ)))) × ArePolygons c.in_ok-d.d given.numbers.now given.rings.now given.polygons.now ps)) = search rules in
+    passed-on _ (some-polygons g.row.D given.kind given.dimension given.numbers.now given.rings.now given.polygons.now c.in_ok-d.d c.in_ok-d.ensures.ok) h
+
+pub returns-in_ok-point-in-0-clause-ok : goal.returns-in_ok-point-in-0-clause-ok
+returns-in_ok-point-in-0-clause-ok g c = λ v fits are. let given = c.args.given in built-point g.row.D given.kind given.dimension given.numbers.now given.rings.now given.polygons.now c.in_ok-d.d c.in_ok-d.ensures.ok v fits are c.in_ok-d.d refl c.in-0.is c.in_ok-point-in-0.field-0 c.in_ok-point-in-0.ensures.dim c.in_ok-point-in-0.ensures.ok
+
+pub returns-in_ok-line-in-1-clause-ok : goal.returns-in_ok-line-in-1-clause-ok
+returns-in_ok-line-in-1-clause-ok g c = λ v fits are. let given = c.args.given in built-line g.row.D given.kind given.dimension given.numbers.now given.rings.now given.polygons.now c.in_ok-d.d c.in_ok-d.ensures.ok v fits are c.in_ok-d.d refl c.in-1.is c.in_ok-line-in-1.field-0 c.in_ok-line-in-1.ensures.dim c.in_ok-line-in-1.ensures.ok
+
+pub returns-in_ok-lines-in-2-clause-ok : goal.returns-in_ok-lines-in-2-clause-ok
+returns-in_ok-lines-in-2-clause-ok g c = λ v fits are. let given = c.args.given in built-polygon g.row.D given.kind given.dimension given.numbers.now given.rings.now given.polygons.now c.in_ok-d.d c.in_ok-d.ensures.ok v fits are c.in_ok-d.d refl c.in-2.is c.new.result c.new.ensures.dim _ c.new.ensures.rings c.in_ok-lines-in-2.ensures.ok
+
+pub returns-in_ok-points-in-3-clause-ok : goal.returns-in_ok-points-in-3-clause-ok
+returns-in_ok-points-in-3-clause-ok g c = λ v fits are. let given = c.args.given in built-multi_point g.row.D given.kind given.dimension given.numbers.now given.rings.now given.polygons.now c.in_ok-d.d c.in_ok-d.ensures.ok v fits are c.in_ok-d.d refl c.in-3.is c.new-in-3.result c.new-in-3.ensures.dim _ c.new-in-3.ensures.points c.in_ok-points-in-3.ensures.ok
+
+pub returns-in_ok-lines-in-4-clause-ok : goal.returns-in_ok-lines-in-4-clause-ok
+returns-in_ok-lines-in-4-clause-ok g c = λ v fits are. let given = c.args.given in built-multi_line_string g.row.D given.kind given.dimension given.numbers.now given.rings.now given.polygons.now c.in_ok-d.d c.in_ok-d.ensures.ok v fits are c.in_ok-d.d refl c.in-4.is c.new-in-4.result c.new-in-4.ensures.dim _ c.new-in-4.ensures.line_strings c.in_ok-lines-in-4.ensures.ok
+
+pub returns-in_ok-polygons-in-5-clause-ok : goal.returns-in_ok-polygons-in-5-clause-ok
+returns-in_ok-polygons-in-5-clause-ok g c = λ v fits are. let given = c.args.given in built-multi_polygon g.row.D given.kind given.dimension given.numbers.now given.rings.now given.polygons.now c.in_ok-d.d c.in_ok-d.ensures.ok v fits are c.in_ok-d.d refl c.in-5.is c.new-in-5.result c.new-in-5.ensures.dim _ c.new-in-5.ensures.polygons c.in_ok-polygons-in-5.ensures.ok
