@@ -75,33 +75,63 @@ fn line(
     Ok(Wkt::from(LineString::new(vec![in alloc; coord]?, dim)))
 }
 
+// z, m and the header's dimension of one line string and of another, and whether they are one: what is written is the
+// first numbers that are there, as many as the header has. The last three can't both be written.
+const SPARE: [(
+    (Option<i32>, Option<i32>, Dimension),
+    (Option<i32>, Option<i32>, Dimension),
+    bool,
+); 8] = [
+    (
+        (Some(3), Some(4), Dimension::XYM),
+        (None, Some(3), Dimension::XYM),
+        true,
+    ),
+    (
+        (Some(3), Some(4), Dimension::XYM),
+        (Some(3), None, Dimension::XYM),
+        true,
+    ),
+    (
+        (Some(3), Some(4), Dimension::XYM),
+        (None, Some(4), Dimension::XYM),
+        false,
+    ),
+    (
+        (Some(3), Some(4), Dimension::XYM),
+        (Some(3), Some(4), Dimension::XYZM),
+        false,
+    ),
+    (
+        (None, None, Dimension::XY),
+        (Some(3), Some(4), Dimension::XY),
+        true,
+    ),
+    (
+        (None, None, Dimension::XYZ),
+        (None, None, Dimension::XYZ),
+        true,
+    ),
+    (
+        (None, None, Dimension::XYZ),
+        (Some(3), None, Dimension::XYZ),
+        false,
+    ),
+    (
+        (Some(3), None, Dimension::XYZM),
+        (Some(3), Some(4), Dimension::XYZM),
+        false,
+    ),
+];
+
 #[test]
 fn spare_numbers(rt: HostRuntime) -> Result<(), Fail> {
     let alloc = rt.alloc();
-    let (plain, z, m, both) = (
-        Dimension::XY,
-        Dimension::XYZ,
-        Dimension::XYM,
-        Dimension::XYZM,
-    );
-    // What is written is the first numbers that are there, as many as the header has.
-    let spare = line(alloc, Some(3), Some(4), m)?;
-    assert!(rt; same_geometry(&spare, &line(alloc, None, Some(3), m)?));
-    assert!(rt; same_geometry(&spare, &line(alloc, Some(3), None, m)?));
-    assert!(rt; !same_geometry(&spare, &line(alloc, None, Some(4), m)?));
-    assert!(rt; !same_geometry(&spare, &line(alloc, Some(3), Some(4), both)?));
-    let flat = line(alloc, None, None, plain)?;
-    assert!(rt; same_geometry(&flat, &line(alloc, Some(3), Some(4), plain)?));
-    // These can't be written.
-    let short = line(alloc, None, None, z)?;
-    assert!(rt; same_geometry(&short, &short));
-    assert!(rt; !same_geometry(&short, &line(alloc, Some(3), None, z)?));
-    assert!(rt;
-        !same_geometry(
-            &line(alloc, Some(3), None, both)?,
-            &line(alloc, Some(3), Some(4), both)?
-        )
-    );
+    for ((z, m, dim), (other_z, other_m, other_dim), same) in SPARE {
+        let one = line(alloc, z, m, dim)?;
+        let other = line(alloc, other_z, other_m, other_dim)?;
+        assert_eq!(rt; same_geometry(&one, &other), same);
+    }
     Ok(())
 }
 
