@@ -20,6 +20,6 @@ returns-in-Err-clause-memory g c = answer_memory g.W.TextSink.sink _ c.args.f.no
 pub from_utf8_unchecked-requires : goal.from_utf8_unchecked-requires
 from_utf8_unchecked-requires g c =
     elim c.then-ascii.branch [
-      then-ascii-via-then-ascii w ↦ IsUtf8-from_ascii _ (c.requires w.if-ascii.true)
-    | then-ascii-via-else-ascii+then-is_ascii w ↦ IsUtf8-from_ascii _ w.if-is_ascii.ensures.cases
+      | then-ascii-via-then-ascii w ↦ IsUtf8-from_ascii _ (c.requires w.if-ascii.true)
+      | then-ascii-via-else-ascii+then-is_ascii w ↦ IsUtf8-from_ascii _ w.if-is_ascii.ensures.cases
     ]

@@ -10,9 +10,10 @@ loop-i-init g c = (All-nil _, record { given = g.W.TextSink.sink.none _; unfaile
 
 pub loop-i-preserved : goal.loop-i-preserved
 loop-i-preserved g c =
-    let w = c.in_ok-write_geometry.ensures in
-    (sound_more _ _ _ c.loop-i.invariant.0 c.geometry.ensures w.sound,
-      line_added _ g.W.TextSink.sink _ _ _ _ _ _ _ c.loop-i.invariant.1 c.geometry.ensures w.added c.in_default.ensures)
+    let w = c.in_ok-write_geometry.ensures in (
+      sound_more _ _ _ c.loop-i.invariant.0 c.geometry.ensures w.sound,
+      line_added _ g.W.TextSink.sink _ _ _ _ _ _ _ c.loop-i.invariant.1 c.geometry.ensures w.added c.in_default.ensures,
+    )
 
 pub returns-clause-written : goal.returns-clause-written
 returns-clause-written g c = rw (take_all c.loop-i.i (g.C.GeometryCollectionTrait.geometries c.args.collection.now) (rw (c.num_geometries-i-end.ensures) at c.loop-i-test.false)) at c.loop-i.invariant.1
