@@ -7,7 +7,9 @@ use Rattle.wkt_flat.specs.Equal.{coord_eq}
 use Rattle.wkt_flat.specs.Shape.{flat_shape}
 use Rattle.wkt_flat.specs.Tree.{Flat}
 use Rattle.wkt_types.specs.Outcome.{Outcome, value}
+use Rattle.wkt_read.specs.Answered.{IsFront}
 use Rattle.wkt_convert.specs.Flatten.{flat}
+use Rattle.wkt_to_wkt.specs.Back.{back}
 use Rattle.wkt_to_wkt.specs.Laws.{IsPlain}
 use Rattle.wkt.specs.FromText.{FrontGives}
 
@@ -20,3 +22,8 @@ FlatReadsBack {T} is_value num read E t =
 -- Each tree whose rings are closed is read back from its text, if it is plain.
 abbrev pub PlainReadsBack : {T : Type 0} → (T → Type 0) → (T → List ℕ) → (List ℕ → Option T) → (T → T → Bool) → Type 0
 PlainReadsBack {T} is_value num read E = (t : Flat T) → HasClosedRings t → FlatReadsBack is_value num read E t
+
+-- The text of each tree, if its numbers are values, is read as the `Wkt` that the tree is turned into.
+abbrev pub BackIsRead : {T : Type 0} → (T → Type 0) → (T → List ℕ) → (List ℕ → Option T) → Type 0
+BackIsRead {T} is_value num read =
+    (t : Flat T) → IsLawful is_value (flat_shape t) → IsFront read (shape_text num (flat_shape t)) (back t)

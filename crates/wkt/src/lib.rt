@@ -169,7 +169,7 @@ pub mod deserialize {
 /// The laws of the definitions that the contracts cite: public functions that change nothing, whose
 /// contracts are the laws.
 pub mod laws {
-    pub use crate::flat_laws::{geometry_comes_back, plain_reads_back};
+    pub use crate::flat_laws::{back_is_read, geometry_comes_back, plain_reads_back};
     pub use wkt_flat::laws::{flat_is_writable, rings_are_closed};
     pub use wkt_num::laws::{finer_keeps, reading_is_equation, wider_keeps};
     pub use wkt_read::laws::{
