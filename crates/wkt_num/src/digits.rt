@@ -7,6 +7,9 @@ use crate::sink::TextSink;
 use std::fmt;
 
 /// Writes a minus if `negative`, and then `n`.
+///
+/// # Errors
+/// The sink's; a beginning is written then.
 pub fn write_whole<W: TextSink>(negative: bool, n: u128, f: &mut W) -> fmt::Result
     ensures { Puts W.sink f.old (sign_text negative ++ decimal n) f.new result }
 {

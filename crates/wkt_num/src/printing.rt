@@ -14,6 +14,9 @@ use std::fmt;
 use std::simd::prelude::*;
 
 /// Writes a minus if `negative`, and `units` of ten to the minus `places`.
+///
+/// # Errors
+/// The sink's; a beginning is written then.
 #[inline(always)]
 pub fn write_units<W: TextSink>(places: u32, negative: bool, units: u128, f: &mut W) -> fmt::Result
     requires { places ≤ 36 }

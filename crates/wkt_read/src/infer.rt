@@ -127,11 +127,6 @@ fn named(
 /// A text that can be read as a geometry is answered with that geometry's kind and dimension,
 /// whatever memory is there. Much else is answered too, since the text is not read.
 ///
-/// - `NoOpenParen`: there is neither `(` nor EMPTY.
-/// - `NoSpaceBeforeEmpty`: EMPTY comes first and no space, LF, CR or TAB stands before it.
-/// - `UnsupportedPrefix`: the header begins with no kind word.
-/// - `Memory`: the unsupported prefix could not be kept.
-///
 /// The upstream crate has this call with a `String` for its errors; where the header ends is this
 /// project's own choice. ` POINT (10 20.1)` is a Point of XY, `LINEARRING Z(1 2 3)` a LineString
 /// of XYZ.
@@ -140,6 +135,12 @@ fn named(
 /// let (kind, dimension) = infer_type(alloc, "POINT Z EMPTY")?;
 /// // a Point of XYZ
 /// ```
+///
+/// # Errors
+/// - `NoOpenParen`: there is neither `(` nor EMPTY.
+/// - `NoSpaceBeforeEmpty`: EMPTY comes first and no space, LF, CR or TAB stands before it.
+/// - `UnsupportedPrefix`: the header begins with no kind word.
+/// - `Memory`: the unsupported prefix could not be kept.
 pub fn infer_type(alloc: Global, text: &str) -> Result<(GeometryType, Dimension), InferError>
     ensures exact { Infers result (header_rule text.now) }
 {

@@ -9,9 +9,13 @@ use wkt_num::WktNum;
 /// One coordinate: x and y, and z and m where they are there.
 #[derive(Clone, Copy, Debug, Default, Drop)]
 pub struct Coord<T> {
+    /// The first number.
     pub x: T,
+    /// The second number.
     pub y: T,
+    /// The height, of XYZ and XYZM.
     pub z: Option<T>,
+    /// The measure, the last number of XYM and XYZM.
     pub m: Option<T>,
 }
 

@@ -33,12 +33,19 @@ pub struct GeometryCollection<T> {
 #[cycle(wkt)]
 #[derive(Debug, Drop)]
 pub enum Wkt<T> {
+    /// A coordinate, or none: `POINT`.
     Point(Point<T>),
+    /// Coordinates in order: `LINESTRING`.
     LineString(LineString<T>),
+    /// Rings, the exterior first: `POLYGON`.
     Polygon(Polygon<T>),
+    /// Points in order: `MULTIPOINT`.
     MultiPoint(MultiPoint<T>),
+    /// Line strings in order: `MULTILINESTRING`.
     MultiLineString(MultiLineString<T>),
+    /// Polygons in order: `MULTIPOLYGON`.
     MultiPolygon(MultiPolygon<T>),
+    /// Geometries in order, each with a header of its own: `GEOMETRYCOLLECTION`.
     GeometryCollection(GeometryCollection<T>),
 }
 

@@ -3,11 +3,18 @@
 /// The kind of a geometry, as the word that a text begins with names it.
 #[derive(Clone, Copy, PartialEq, Eq, Hash, Debug)]
 pub enum GeometryType {
+    /// `POINT`.
     Point,
+    /// `LINESTRING`, and `LINEARRING`.
     LineString,
+    /// `POLYGON`.
     Polygon,
+    /// `MULTIPOINT`.
     MultiPoint,
+    /// `MULTILINESTRING`.
     MultiLineString,
+    /// `MULTIPOLYGON`.
     MultiPolygon,
+    /// `GEOMETRYCOLLECTION`.
     GeometryCollection,
 }

@@ -26,7 +26,8 @@ use wkt_num::{CountedText, TextSink, WktNum};
 
 /// Writes a point, as `POINT Z(1 2 3)` or `POINT EMPTY`.
 ///
-/// Errors: [`Error::UnknownDimension`] where its dimension is `Unknown(n)` for another n than 2, 3
+/// # Errors
+/// [`Error::UnknownDimension`] where its dimension is `Unknown(n)` for another n than 2, 3
 /// and 4; then [`Error::TooFewNumbers`] where its coordinate has fewer numbers than its dimension;
 /// nothing is written then. [`Error::FmtError`] where the sink fails: a beginning is written then.
 pub fn write_point<W: TextSink, P: PointTrait>(f: &mut W, g: &P) -> Result<(), Error>
@@ -40,7 +41,8 @@ pub fn write_point<W: TextSink, P: PointTrait>(f: &mut W, g: &P) -> Result<(), E
 
 /// Writes a line string, as `LINESTRING(1 2,3 4)` or `LINESTRING M EMPTY`.
 ///
-/// Errors: as [`write_point`], with the first coordinate that is too short.
+/// # Errors
+/// As of [`write_point`], with the first coordinate that is too short.
 pub fn write_linestring<W: TextSink, L: LineStringTrait>(f: &mut W, g: &L) -> Result<(), Error>
     ensures { Writes W.sink L.T.is_value L.T.num f.old (Shape.line_string (L.dimension g.now) (L.coordinates g.now))
         f.new result }
@@ -55,7 +57,8 @@ pub fn write_linestring<W: TextSink, L: LineStringTrait>(f: &mut W, g: &L) -> Re
 /// A polygon without exterior, or with an empty one, is written `POLYGON EMPTY`, and nothing of
 /// its interiors is looked at. An empty interior is written `EMPTY`.
 ///
-/// Errors: as [`write_point`], with the first coordinate that is too short.
+/// # Errors
+/// As of [`write_point`], with the first coordinate that is too short.
 pub fn write_polygon<W: TextSink, Y: PolygonTrait>(f: &mut W, g: &Y) -> Result<(), Error>
     ensures { Writes W.sink Y.T.is_value Y.T.num f.old (Shape.polygon (Y.dimension g.now) (Y.polygon g.now))
         f.new result }
@@ -69,7 +72,8 @@ pub fn write_polygon<W: TextSink, Y: PolygonTrait>(f: &mut W, g: &Y) -> Result<(
 ///
 /// The dimensions of its members aren't looked at.
 ///
-/// Errors: as [`write_point`], with the first coordinate that is too short.
+/// # Errors
+/// As of [`write_point`], with the first coordinate that is too short.
 pub fn write_multi_point<W: TextSink, M: MultiPointTrait>(f: &mut W, g: &M) -> Result<(), Error>
     ensures { Writes W.sink M.T.is_value M.T.num f.old (Shape.multi_point (M.dimension g.now) (M.points g.now))
         f.new result }
@@ -83,7 +87,8 @@ pub fn write_multi_point<W: TextSink, M: MultiPointTrait>(f: &mut W, g: &M) -> R
 ///
 /// The dimensions of its members aren't looked at.
 ///
-/// Errors: as [`write_point`], with the first coordinate that is too short.
+/// # Errors
+/// As of [`write_point`], with the first coordinate that is too short.
 pub fn write_multi_linestring<W: TextSink, M: MultiLineStringTrait>(
     f: &mut W,
     g: &M,
@@ -100,7 +105,8 @@ pub fn write_multi_linestring<W: TextSink, M: MultiLineStringTrait>(
 ///
 /// The dimensions of its members aren't looked at.
 ///
-/// Errors: as [`write_point`], with the first coordinate that is too short.
+/// # Errors
+/// As of [`write_point`], with the first coordinate that is too short.
 pub fn write_multi_polygon<W: TextSink, M: MultiPolygonTrait>(f: &mut W, g: &M) -> Result<(), Error>
     ensures { Writes W.sink M.T.is_value M.T.num f.old (Shape.multi_polygon (M.dimension g.now) (M.polygons g.now))
         f.new result }
@@ -120,7 +126,8 @@ pub fn write_multi_polygon<W: TextSink, M: MultiPolygonTrait>(f: &mut W, g: &M) 
 ///
 /// Members of a collection have headers of their own: `GEOMETRYCOLLECTION(POINT Z(1 2 3),LINESTRING EMPTY)`.
 ///
-/// Errors: those of the writer of its kind; for a collection, the first in the order of its text,
+/// # Errors
+/// Those of the writer of its kind; for a collection, the first in the order of its text,
 /// where its own header comes before its members.
 pub fn write_geometry<W: TextSink, G: GeometryTrait>(f: &mut W, g: &G) -> Result<(), Error>
     ensures { Writes W.sink G.T.is_value G.T.num f.old (G.shape g.now) f.new result }
@@ -155,7 +162,8 @@ pub fn push_geometry<G: GeometryTrait>(out: &mut String, g: &G) -> Result<(), Er
 
 /// Writes a collection, as `GEOMETRYCOLLECTION(POINT(1 2))` or `GEOMETRYCOLLECTION EMPTY`.
 ///
-/// Errors: as [`write_geometry`].
+/// # Errors
+/// As of [`write_geometry`].
 pub fn write_geometry_collection<W: TextSink, C: GeometryCollectionTrait>(
     f: &mut W,
     g: &C,
@@ -172,7 +180,8 @@ pub fn write_geometry_collection<W: TextSink, C: GeometryCollectionTrait>(
 ///
 /// `POLYGON((max.x min.y,max.x max.y,min.x max.y,min.x min.y,max.x min.y))` is their order.
 ///
-/// Errors: [`Error::RectUnsupportedDimension`] where its dimension is neither `Xy` nor
+/// # Errors
+/// [`Error::RectUnsupportedDimension`] where its dimension is neither `Xy` nor
 /// `Unknown(2)`; nothing is written then. [`Error::FmtError`] as in [`write_point`].
 pub fn write_rect<W: TextSink, R: RectTrait>(f: &mut W, g: &R) -> Result<(), Error>
     ensures { Writes W.sink R.T.is_value R.T.num f.old
@@ -185,7 +194,8 @@ pub fn write_rect<W: TextSink, R: RectTrait>(f: &mut W, g: &R) -> Result<(), Err
 
 /// Writes a triangle as a polygon of its three corners and the first again.
 ///
-/// Errors: as [`write_point`], with the first corner that is too short.
+/// # Errors
+/// As of [`write_point`], with the first corner that is too short.
 pub fn write_triangle<W: TextSink, Y: TriangleTrait>(f: &mut W, g: &Y) -> Result<(), Error>
     ensures { Writes W.sink Y.T.is_value Y.T.num f.old
         (Shape.triangle (Y.dimension g.now) (Y.first_corner g.now) (Y.second_corner g.now) (Y.third_corner g.now))
@@ -198,7 +208,8 @@ pub fn write_triangle<W: TextSink, Y: TriangleTrait>(f: &mut W, g: &Y) -> Result
 
 /// Writes a line as a line string of its two ends.
 ///
-/// Errors: as [`write_point`], with the first end that is too short.
+/// # Errors
+/// As of [`write_point`], with the first end that is too short.
 pub fn write_line<W: TextSink, L: LineTrait>(f: &mut W, g: &L) -> Result<(), Error>
     ensures { Writes W.sink L.T.is_value L.T.num f.old (Shape.line (L.dimension g.now) (L.from g.now) (L.to g.now))
         f.new result }

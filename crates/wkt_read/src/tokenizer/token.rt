@@ -10,10 +10,15 @@ use wkt_num::WktNum;
 /// A lexeme of well-known text, its number read as `T`.
 #[derive(Clone, Copy, PartialEq, Eq, Debug)]
 pub enum Token<'a, T> {
+    /// `,`.
     Comma,
+    /// A number, as its type reads it.
     Number(T),
+    /// `)`.
     ParenClose,
+    /// `(`.
     ParenOpen,
+    /// Letters, in the case in which they stand.
     Word(&'a str),
 }
 
