@@ -87,9 +87,9 @@ refused('open_but_one', opened * many + 'POINT(1 2)' + ')' * (many - 1))
 refused('points_before', (opened + 'POINT(1 2),') * many + 'POINT(1 2)' + ')' * (many - 1))
 refused('points_behind', opened * many + 'POINT EMPTY' + '),POINT EMPTY' * (many - 1))
 refused('side_by_side', opened + 'POINT EMPTY,' * many)
-# line feeds as the last byte of a block of 256 KiB, the one before it and the first of the next
+# line feeds as the last byte of a block of 128 KiB, the one before it and the first of the next
 edges = []
-for last in (262144, 524287, 786433):
+for last in (131072, 262143, 393217):
     at = sum(len(line) for line in edges)
     edges.append('POINT(5 6)' + ' ' * (last - at - 11) + '\n')
     edges.append('POINT(7 8)\n')
@@ -234,6 +234,6 @@ exec 3>&-
 wait $child
 echo $? > "$dir/status"
 [ "$peak" -lt 2500 ] && : > "$dir/out" || echo "$peak kB" > "$dir/out"
-says "80 MB of lines of up to 262 kB: a peak of less than 2.5 MB" "0 |  | "
+says "40 MB of lines of up to 131 kB: a peak of less than 2.5 MB" "0 |  | "
 
 exit $wrong

@@ -10,7 +10,7 @@ use std::io;
 use wkt::to_wkt::ByteSource;
 
 // How many bytes of room are made at once.
-const BLOCK: usize = 262144;
+const BLOCK: usize = 131072;
 
 /// A buffer at whose front stands what was read and not answered yet.
 #[derive(Drop)]
@@ -47,7 +47,7 @@ impl Block {
         self.len
     }
 
-    /// Makes room for 256 KiB more where there is none, as at the begin, and where a line is longer than the buffer.
+    /// Makes room for 128 KiB more where there is none, as at the begin, and where a line is longer than the buffer.
     ///
     /// # Errors
     /// Out of memory.

@@ -17,7 +17,7 @@ use wkt_lines::{AnswerError, RunError, write_answers};
 
 /// Writes the answers to all lines of the source, as [`run`](wkt_lines::run) does, in the memory of the longest line.
 ///
-/// The source is asked for a block of 256 KiB at a time. Answers are gathered, and put out when there are 64 KiB of
+/// The source is asked for a block of 128 KiB at a time. Answers are gathered, and put out when there are 64 KiB of
 /// them; those to all whole lines that were read are out before the source is asked again.
 ///
 /// # Errors
