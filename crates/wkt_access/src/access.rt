@@ -3,7 +3,7 @@
 
 ghost use Rattle.std.specs.Prelude.{◌≡◌, ◌<◌, ◌≤◌, List, length, slice_get, Option, MatchOption};
 ghost use Rattle.wkt_access.specs.declared.dimensions.Dimensions.{Dimensions};
-ghost use Rattle.wkt_access.specs.Parts.{IsPart, IsCollectionOf, dimension_of, members_of};
+ghost use Rattle.wkt_access.specs.Parts.{IfPoint, IfLineString, IfPolygon, IfMultiPoint, IfMultiLineString, IfMultiPolygon, IfRect, IfTriangle, IfLine, IfCollection, IsCollectionOf, dimension_of, members_of};
 ghost use Rattle.wkt_access.specs.Shapes.{size_of, PolygonShape, Shape};
 
 use crate::dimensions::Dimensions;
@@ -390,22 +390,26 @@ pub trait GeometryTrait {
         Self::TriangleType,
         Self::LineType,
     >
-        ensures { IsPart result
-            (λ p. shape self.now ≡ Shape.point (Self.PointType.dimension p) (Self.PointType.coordinate p))
-            (λ p. shape self.now ≡ Shape.line_string (Self.LineStringType.dimension p)
-            (Self.LineStringType.coordinates p))
-            (λ p. shape self.now ≡ Shape.polygon (Self.PolygonType.dimension p) (Self.PolygonType.polygon p))
-            (λ p. shape self.now ≡ Shape.multi_point (Self.MultiPointType.dimension p) (Self.MultiPointType.points p))
-            (λ p. shape self.now ≡ Shape.multi_line_string (Self.MultiLineStringType.dimension p)
-            (Self.MultiLineStringType.line_strings p))
-            (λ p. shape self.now ≡ Shape.multi_polygon (Self.MultiPolygonType.dimension p)
-            (Self.MultiPolygonType.polygons p))
-            (λ p. shape self.now ≡ Shape.rect (Self.RectType.dimension p) (Self.RectType.least_corner p)
-            (Self.RectType.greatest_corner p))
-            (λ p. shape self.now ≡ Shape.triangle (Self.TriangleType.dimension p) (Self.TriangleType.first_corner p)
-            (Self.TriangleType.second_corner p) (Self.TriangleType.third_corner p))
-            (λ p. shape self.now ≡ Shape.line (Self.LineType.dimension p) (Self.LineType.from p) (Self.LineType.to p))
-            (λ n. IsCollectionOf n (shape self.now)) };
+        ensures point { IfPoint result
+            (λ p. shape self.now ≡ Shape.point (Self.PointType.dimension p) (Self.PointType.coordinate p)) }
+        ensures line_string { IfLineString result (λ p. shape self.now
+            ≡ Shape.line_string (Self.LineStringType.dimension p) (Self.LineStringType.coordinates p)) }
+        ensures polygon { IfPolygon result
+            (λ p. shape self.now ≡ Shape.polygon (Self.PolygonType.dimension p) (Self.PolygonType.polygon p)) }
+        ensures multi_point { IfMultiPoint result
+            (λ p. shape self.now ≡ Shape.multi_point (Self.MultiPointType.dimension p) (Self.MultiPointType.points p)) }
+        ensures multi_line_string { IfMultiLineString result (λ p. shape self.now
+            ≡ Shape.multi_line_string (Self.MultiLineStringType.dimension p) (Self.MultiLineStringType.line_strings p)) }
+        ensures multi_polygon { IfMultiPolygon result (λ p. shape self.now
+            ≡ Shape.multi_polygon (Self.MultiPolygonType.dimension p) (Self.MultiPolygonType.polygons p)) }
+        ensures rect { IfRect result (λ p. shape self.now
+            ≡ Shape.rect (Self.RectType.dimension p) (Self.RectType.least_corner p) (Self.RectType.greatest_corner p)) }
+        ensures triangle { IfTriangle result (λ p. shape self.now
+            ≡ Shape.triangle (Self.TriangleType.dimension p) (Self.TriangleType.first_corner p)
+            (Self.TriangleType.second_corner p) (Self.TriangleType.third_corner p)) }
+        ensures line { IfLine result
+            (λ p. shape self.now ≡ Shape.line (Self.LineType.dimension p) (Self.LineType.from p) (Self.LineType.to p)) }
+        ensures collection { IfCollection result (λ count. IsCollectionOf count (shape self.now)) };
 
     /// The member of a collection at place `i`, which is below the count. Other kinds have no members.
     ///

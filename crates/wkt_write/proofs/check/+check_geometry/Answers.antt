@@ -10,7 +10,7 @@ pub returns-in_err-check_header-in-GeometryCollection :
 returns-in_err-check_header-in-GeometryCollection g t c =
     let p = err_from_is_err_and c.from_residual.result c.from_residual.ensures.1 in
     rw (p.1, p.2)
-    (collection_refused _ _ _ _ c.in-GeometryCollection.ensures c.dim.ensures c.in_err-check_header-in-GeometryCollection.ensures.err)
+    (collection_refused _ _ _ _ c.in-GeometryCollection.ensures.collection c.dim.ensures c.in_err-check_header-in-GeometryCollection.ensures.err)
 
 pub check_geometry-requires : goal.check_geometry-requires
 check_geometry-requires g t c κs within =
@@ -22,15 +22,15 @@ pub returns-in_err-check_geometry-in-GeometryCollection :
 returns-in_err-check_geometry-in-GeometryCollection g t c =
     let p = err_from_is_err_and c.from_residual-in_err-check_geometry-in-GeometryCollection.result c.from_residual-in_err-check_geometry-in-GeometryCollection.ensures.1 in
     rw (p.1, p.2)
-    (collection_checked _ _ _ _ c.in-GeometryCollection.ensures c.dim.ensures c.in_ok-check_header-in-GeometryCollection.ensures.ok
+    (collection_checked _ _ _ _ c.in-GeometryCollection.ensures.collection c.dim.ensures c.in_ok-check_header-in-GeometryCollection.ensures.ok
     ∙ clean_fault c.loop-i.invariant c.geometry.ensures c.in_err-check_geometry-in-GeometryCollection.ensures)
 
 pub returns-after-loop-i : goal.returns-after-loop-i
 returns-after-loop-i g t c =
     let e = clean_end c.loop-i.invariant c.loop-i-test.false in
     record {
-      none = collection_checked _ _ _ _ c.in-GeometryCollection.ensures c.dim.ensures c.in_ok-check_header-in-GeometryCollection.ensures.ok ∙ e.none;
-      holds = collection_known _ _ _ c.in-GeometryCollection.ensures e.holds;
+      none = collection_checked _ _ _ _ c.in-GeometryCollection.ensures.collection c.dim.ensures c.in_ok-check_header-in-GeometryCollection.ensures.ok ∙ e.none;
+      holds = collection_known _ _ _ c.in-GeometryCollection.ensures.collection e.holds;
     }
 
 pub loop-i-preserved : goal.loop-i-preserved

@@ -4,5 +4,5 @@ use Rattle.wkt_uses.specs.Mine.{figure_shape}
 use Rattle.wkt_uses.proofs.Groups.{group_shape}
 use Rattle.wkt_uses.proofs.my_map.FigureGeometryTrait.as_type.Goals as goal
 
-pub returns-in-Group : goal.returns-in-Group
-returns-in-Group c = is_collection figure_shape _ _ _ (group_shape _ _ _ c.in-Group.is) _ (c.len.ensures ∙ c.in-Group.members.ok.0)
+pub returns-in-Group-clause-collection : goal.returns-in-Group-clause-collection
+returns-in-Group-clause-collection c = is_collection figure_shape _ _ _ (group_shape _ _ _ c.in-Group.is) _ (c.len.ensures ∙ c.in-Group.members.ok.0)
