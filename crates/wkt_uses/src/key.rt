@@ -3,7 +3,7 @@ ghost use Rattle.std.specs.Prelude.{◌≡◌, IfOk, None, OnOk, Some, length, s
 ghost use Rattle.wkt.specs.Shapes.{canon};
 ghost use Rattle.wkt.specs.Faults.{fault};
 ghost use Rattle.wkt.specs.Texts.{shape_text};
-ghost use Rattle.wkt.specs.Writes.{IfFault};
+ghost use Rattle.wkt.specs.Writes.{IfFault, OnFmtError};
 ghost use Rattle.wkt.specs.Front.{Front};
 
 use std::alloc::Global;
@@ -23,6 +23,7 @@ pub fn key<G: GeometryTrait>(alloc: Global, geometry: &G) -> Result<String, Erro
         (λ s. Front G.T.read (string_bytes s) (canon (G.shape geometry.now)) (length (string_bytes s))) }
     ensures sound { OnOk result (fault (G.shape geometry.now) ≡ None) }
     ensures fault { IfFault result (λ e. fault (G.shape geometry.now) ≡ Some e) }
+    ensures memory { OnFmtError result (fault (G.shape geometry.now) ≡ None) }
 {
     let mut text = String::new(alloc);
     push_geometry(&mut text, geometry)?;

@@ -45,3 +45,12 @@ IfFault (Err RectUnsupportedDimension) P = P RectUnsupportedDimension
 IfFault (Err UnknownDimension) P = P UnknownDimension
 IfFault (Err TooFewNumbers) P = P TooFewNumbers
 IfFault (Err (Memory e)) P = P (Memory e)
+
+-- The fact is claimed where the sink failed.
+abbrev pub OnFmtError : {T : Type 0} → Result T Error → Type 0 → Type 0
+OnFmtError (Ok x) P = Unit {0}
+OnFmtError (Err (FmtError e)) P = P
+OnFmtError (Err RectUnsupportedDimension) P = Unit {0}
+OnFmtError (Err UnknownDimension) P = Unit {0}
+OnFmtError (Err TooFewNumbers) P = Unit {0}
+OnFmtError (Err (Memory e)) P = Unit {0}

@@ -7,7 +7,7 @@ ghost use Rattle.wkt_access.specs.Lawful.{IsLawful};
 ghost use Rattle.wkt_access.specs.Parts.{collection_of};
 ghost use Rattle.wkt_access.specs.Shapes.{Shape};
 ghost use Rattle.wkt_access.specs.Texts.{shape_text};
-ghost use Rattle.wkt_write.specs.Writes.{Writes, IfFault};
+ghost use Rattle.wkt_write.specs.Writes.{Writes, IfFault, OnFmtError};
 
 use crate::check::{
     check_collection, check_geometry, check_line, check_linestring, check_multi_linestring,
@@ -146,13 +146,14 @@ pub fn write_geometry<W: TextSink, G: GeometryTrait>(f: &mut W, g: &G) -> Result
 ///
 /// # Errors
 /// As [`write_geometry`]: the geometry's first error in the order of its text, and then the string is as it was;
-/// [`Error::FmtError`] where the string has no memory to grow into.
+/// [`Error::FmtError`] where the string has no memory to grow into; then the geometry has no fault.
 pub fn push_geometry<G: GeometryTrait>(out: &mut String, g: &G) -> Result<(), Error>
     ensures added { OnOk result (string_bytes out.new ≡ string_bytes out.old ++ shape_text G.T.num (G.shape g.now)) }
     ensures sound { OnOk result (fault (G.shape g.now) ≡ None) }
     ensures lawful { OnOk result (IsLawful G.T.is_value (G.shape g.now)) }
     ensures fault { IfFault result (λ e. fault (G.shape g.now) ≡ Some e) }
     ensures untouched { IfFault result (λ e. string_bytes out.new ≡ string_bytes out.old) }
+    ensures memory { OnFmtError result (fault (G.shape g.now) ≡ None) }
 {
     let mut sink = CountedText::new(out);
     let result = write_geometry(&mut sink, g);
