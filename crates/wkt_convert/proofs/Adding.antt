@@ -3,7 +3,7 @@ use Rattle.std.proofs.Common.{◌≡◌, ℕ, ◌+◌, ◌<◌, refl, ap, sym, �
 use Rattle.std.specs.Prelude.{MatchResult}
 use Rattle.wkt_types.specs.Outcome.{Outcome, Fault, value, refused}
 use Rattle.wkt_types.specs.Tree.{Tree, tree, members}
-use Rattle.wkt_types.specs.declared.convert.ConvertError.{ConvertError}
+use Rattle.wkt_convert.specs.declared.flatten.Stop.{Stop}
 use Rattle.wkt_types.specs.declared.geometry.Wkt.{Wkt}
 use Rattle.wkt_access.specs.declared.dimensions.Dimension.{Dimension}
 use Rattle.wkt_flat.specs.Tree.{Flat, flats_of, flat_tree, flat_members}
@@ -49,7 +49,7 @@ module _ {T : Type 0} (E : flat_coord.Coord T → flat_coord.Coord T → Bool) (
   gathered = ap (flat E) is ∙ ap (outcome_map Flat.collection) (flatten_members E ws)
 
   -- a collection is added where its members were filled in
-  pub collected : (filled r : Result (Unit {0}) ConvertError) (start all olds news : List (Geometry T)) → start ≡ [] →
+  pub collected : (filled r : Result (Unit {0}) Stop) (start all olds news : List (Geometry T)) → start ≡ [] →
       AddsFlats filled start all (outcomes (λ w. flat E (tree w)) ws) →
       MatchResult filled (λ _. AddsFlat r olds news (value (Flat.collection (flat_members all)))) (λ e. r ≡ Err e) → AddsFlat r olds news (flat E t)
   collected (Ok u) r start all olds news e h g =
@@ -60,4 +60,4 @@ module _ {T : Type 0} (E : flat_coord.Coord T → flat_coord.Coord T → Bool) (
       let add : Flat T → List (Flat T) = λ t. map flat_tree olds ++ t ∷ [] in
       let p = passes (λ (u : Unit {0}). map flat_tree all) (λ (u : Unit {0}). map flat_tree news) _ (outcome_map add (flat E t))
       (λ k q. ap (outcome_map add) (gathered ∙ ap (λ o. outcome_map Flat.collection (outcome_map flats_of o)) (map_refuses (λ ts. map flat_tree start ++ ts) (outcomes (λ w. flat E (tree w)) ws) k q))) x h in
-      subst (λ (z : Result (Unit {0}) ConvertError). AddsFlat z olds news (flat E t)) (sym g) p
+      subst (λ (z : Result (Unit {0}) Stop). AddsFlat z olds news (flat E t)) (sym g) p

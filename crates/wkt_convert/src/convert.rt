@@ -91,7 +91,7 @@ impl<T: WktNum> ConvertFrom<types::MultiPoint<T>> for flat::MultiPoint<T> {
     ghost converts = { λ m r. Answers (λ x. x) (points m.parts) r };
 
     fn convert_from(alloc: Global, source: types::MultiPoint<T>) -> Result<Self, ConvertError> {
-        all_points(alloc, source.points())
+        Ok(all_points(alloc, source.points())?)
     }
 }
 

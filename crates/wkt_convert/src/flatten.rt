@@ -4,7 +4,7 @@ ghost use Rattle.wkt_types.specs.Tree.{tree, members};
 ghost use Rattle.wkt_flat.specs.Tree.{Flat, flat_tree, flat_trees, flat_members};
 ghost use Rattle.wkt_flat.specs.Equal.{coord_eq};
 ghost use Rattle.wkt_types.specs.Outcome.{Answers, value};
-ghost use Rattle.wkt_convert.specs.Adds.{AddsFlat, AddsFlats};
+ghost use Rattle.wkt_convert.specs.Adds.{StopsAs, AddsFlat, AddsFlats};
 ghost use Rattle.wkt_convert.specs.Outcomes.{outcome_map, outcomes};
 ghost use Rattle.wkt_convert.specs.Flatten.{path, rings, points, point_or_none, flat, flat_all};
 
@@ -15,6 +15,36 @@ use wkt_num::WktNum;
 use wkt_types::{
     ConvertError, LineString, MultiLineString, MultiPoint, MultiPolygon, Point, Polygon, Wkt,
 };
+
+/// Why the recursion stops, in a byte: each level of collections holds some of these.
+#[derive(Drop)]
+pub(crate) enum Stop {
+    EmptyPoint,
+    Memory,
+}
+
+impl From<AllocError> for Stop {
+    ghost use Rattle.wkt_convert.specs.declared.flatten.Stop.TheVariants.{Memory};
+
+    ghost from_gives = { λ _ result. result ≡ Memory };
+
+    fn from(_: AllocError) -> Stop {
+        Stop::Memory
+    }
+}
+
+impl From<Stop> for ConvertError {
+    ghost use Rattle.wkt_convert.specs.Adds.{error_of};
+
+    ghost from_gives = { λ stop result. result ≡ error_of stop };
+
+    fn from(stop: Stop) -> ConvertError {
+        match stop {
+            Stop::EmptyPoint => ConvertError::PointConversionError,
+            Stop::Memory => ConvertError::Memory(AllocError),
+        }
+    }
+}
 
 /// The path of a line.
 pub(crate) fn line_string<T: WktNum>(
@@ -80,16 +110,16 @@ pub(crate) fn polygons<T: WktNum>(
 pub(crate) fn all_points<T: WktNum>(
     alloc: Global,
     ps: &[Point<T>],
-) -> Result<flat::MultiPoint<T>, ConvertError>
-    ensures { Answers (λ m. m) (points ps.now) result }
+) -> Result<flat::MultiPoint<T>, Stop>
+    ensures { StopsAs (λ m. m) (points ps.now) result }
 {
     let mut all = Vec::with_capacity(alloc, ps.len())?;
     for p in ps {
         match p.coord() {
-            None => return Err(ConvertError::PointConversionError),
+            None => return Err(Stop::EmptyPoint),
             Some(c) => {
-                if let Err(e) = all.push(flat::Point(flat::Coord::from(*c))) {
-                    return Err(ConvertError::Memory(AllocError::from(e)));
+                if let Err(_) = all.push(flat::Point(flat::Coord::from(*c))) {
+                    return Err(Stop::Memory);
                 }
             }
         }
@@ -108,12 +138,12 @@ pub(crate) fn point<T: WktNum>(alloc: Global, p: &Point<T>) -> Geometry<T>
 }
 
 /// Adds a flat geometry to others.
-fn push<T: Drop>(g: Geometry<T>, all: &mut Vec<Geometry<T>>) -> Result<(), ConvertError>
+fn push<T: Drop>(g: Geometry<T>, all: &mut Vec<Geometry<T>>) -> Result<(), Stop>
     ensures { AddsFlat result all.old.items all.new.items (value (flat_tree g)) }
 {
     match all.push(g) {
         Ok(()) => Ok(()),
-        Err(e) => Err(ConvertError::Memory(AllocError::from(e))),
+        Err(_) => Err(Stop::Memory),
     }
 }
 
@@ -122,7 +152,7 @@ fn push_point<T: WktNum>(
     alloc: Global,
     p: &Point<T>,
     all: &mut Vec<Geometry<T>>,
-) -> Result<(), ConvertError>
+) -> Result<(), Stop>
     ensures { AddsFlat result all.old.items all.new.items (value (point_or_none p.now.coord)) }
 {
     push(point(alloc, p), all)
@@ -133,7 +163,7 @@ fn push_line_string<T: WktNum>(
     alloc: Global,
     l: &LineString<T>,
     all: &mut Vec<Geometry<T>>,
-) -> Result<(), ConvertError>
+) -> Result<(), Stop>
     ensures { AddsFlat result all.old.items all.new.items (value (Flat.line_string (path l.now))) }
 {
     push(Geometry::LineString(line_string(alloc, l)?), all)
@@ -144,7 +174,7 @@ fn push_polygon<T: WktNum>(
     alloc: Global,
     y: &Polygon<T>,
     all: &mut Vec<Geometry<T>>,
-) -> Result<(), ConvertError>
+) -> Result<(), Stop>
     ensures { AddsFlat result all.old.items all.new.items (value (Flat.polygon (rings (coord_eq T.eq) y.now))) }
 {
     push(Geometry::Polygon(polygon(alloc, y)?), all)
@@ -155,7 +185,7 @@ fn push_multi_point<T: WktNum>(
     alloc: Global,
     m: &MultiPoint<T>,
     all: &mut Vec<Geometry<T>>,
-) -> Result<(), ConvertError>
+) -> Result<(), Stop>
     ensures { AddsFlat result all.old.items all.new.items (outcome_map Flat.multi_point (points m.now.parts)) }
 {
     push(Geometry::MultiPoint(all_points(alloc, m.points())?), all)
@@ -166,7 +196,7 @@ fn push_multi_line_string<T: WktNum>(
     alloc: Global,
     m: &MultiLineString<T>,
     all: &mut Vec<Geometry<T>>,
-) -> Result<(), ConvertError>
+) -> Result<(), Stop>
     ensures { AddsFlat result all.old.items all.new.items (value (Flat.multi_line_string (map path m.now.parts))) }
 {
     let lines = line_strings(alloc, m.line_strings())?;
@@ -178,7 +208,7 @@ fn push_multi_polygon<T: WktNum>(
     alloc: Global,
     m: &MultiPolygon<T>,
     all: &mut Vec<Geometry<T>>,
-) -> Result<(), ConvertError>
+) -> Result<(), Stop>
     ensures { AddsFlat result all.old.items all.new.items
         (value (Flat.multi_polygon (map (rings (coord_eq T.eq)) m.now.parts))) }
 {
@@ -190,10 +220,10 @@ fn push_multi_polygon<T: WktNum>(
 // since that takes stack.
 #[inline(never)]
 fn push_collection<T: Drop>(
-    filled: Result<(), ConvertError>,
+    filled: Result<(), Stop>,
     members: Vec<Geometry<T>>,
     all: &mut Vec<Geometry<T>>,
-) -> Result<(), ConvertError>
+) -> Result<(), Stop>
     ensures { MatchResult filled
         (λ _. AddsFlat result all.old.items all.new.items (value (Flat.collection (flat_members members.items))))
         (λ e. result ≡ Err e) }
@@ -213,7 +243,7 @@ fn push_geometry<T: WktNum>(
     alloc: Global,
     w: &Wkt<T>,
     all: &mut Vec<Geometry<T>>,
-) -> Result<(), ConvertError>
+) -> Result<(), Stop>
     ensures { AddsFlat result all.old.items all.new.items (flat (coord_eq T.eq) (tree w.now)) }
 {
     match w {
@@ -237,7 +267,7 @@ fn push_geometries<T: WktNum>(
     alloc: Global,
     ws: &[Wkt<T>],
     all: &mut Vec<Geometry<T>>,
-) -> Result<(), ConvertError>
+) -> Result<(), Stop>
     ensures { AddsFlats result all.old.items all.new.items (outcomes (λ w. flat (coord_eq T.eq) (tree w)) ws.now) }
 {
     for w in ws {

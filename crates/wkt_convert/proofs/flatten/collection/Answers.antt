@@ -8,7 +8,7 @@ use Rattle.wkt_convert.specs.Flatten.{flat}
 use Rattle.wkt_convert.specs.Outcomes.{outcome_map, outcomes}
 use Rattle.wkt_convert.proofs.Adding.{all_added, map_refuses}
 use Rattle.wkt_convert.proofs.Members.{flatten_members}
-use Rattle.wkt_convert.proofs.Outcomes.{passes}
+use Rattle.wkt_convert.proofs.Outcomes.{tells}
 use Rattle.wkt_convert.proofs.flatten.collection.Goals as goal
 
 pub returns-in_err-push_geometries : goal.returns-in_err-push_geometries
@@ -16,7 +16,7 @@ returns-in_err-push_geometries g c =
     let E = coord_eq g.T.PartialEq.eq in
     let p = err_from_is_err_and c.from_residual-in_err-push_geometries.result c.from_residual-in_err-push_geometries.ensures.1 in
     rw (p.1, p.2)
-    (passes (λ (u : Unit {0}). map flat_tree c.push_geometries.new.all.items) flat_trees _ _ (λ k r. flatten_members E c.args.ws.now ∙ ap (outcome_map flats_of) (map_refuses _ (outcomes (λ w. flat E (tree w)) c.args.ws.now) k r)) _ c.in_err-push_geometries.ensures)
+    (tells (λ (u : Unit {0}). map flat_tree c.push_geometries.new.all.items) flat_trees _ _ (λ k r. flatten_members E c.args.ws.now ∙ ap (outcome_map flats_of) (map_refuses _ (outcomes (λ w. flat E (tree w)) c.args.ws.now) k r)) _ c.in_err-push_geometries.ensures)
 
 pub returns : goal.returns
 returns g c =

@@ -10,7 +10,7 @@ use Rattle.wkt_convert.specs.Flatten.{flat, points}
 use Rattle.wkt_convert.specs.Outcomes.{outcome_map}
 use Rattle.wkt_convert.proofs.FlatKinds.{flat-multi_point}
 use Rattle.wkt_convert.proofs.Members.{tree-multi_point}
-use Rattle.wkt_convert.proofs.Outcomes.{passes, map_refused}
+use Rattle.wkt_convert.proofs.Outcomes.{passes_on, tells, map_refused}
 use Rattle.wkt_convert.proofs.flatten.geometry.Goals as goal
 
 pub returns-in_err-all_points-in-MultiPoint : goal.returns-in_err-all_points-in-MultiPoint
@@ -18,7 +18,7 @@ returns-in_err-all_points-in-MultiPoint g c =
     let E = coord_eq g.T.PartialEq.eq in
     let p = err_from_is_err_and c.from_residual-in_err-all_points-in-MultiPoint.result c.from_residual-in_err-all_points-in-MultiPoint.ensures.1 in
     rw (p.1, p.2)
-    (passes (λ m. m) flat_tree _ _ (λ k r.
+    (tells (λ m. m) flat_tree _ _ (λ k r.
     ap (λ w. flat E (tree w)) c.in-MultiPoint.is
     ∙ (ap (flat E) (tree-multi_point c.in-MultiPoint.m) ∙ map_refused Flat.multi_point _ k (ap points (sym c.points.ensures) ∙ r))) _ c.in_err-all_points-in-MultiPoint.ensures)
 
@@ -27,7 +27,7 @@ returns-in_err-collection-in-GeometryCollection g c =
     let E = coord_eq g.T.PartialEq.eq in
     let p = err_from_is_err_and c.from_residual-in_err-collection-in-GeometryCollection.result c.from_residual-in_err-collection-in-GeometryCollection.ensures.1 in
     rw (p.1, p.2)
-    (passes flat_trees flat_tree _ _ (λ k r.
+    (passes_on flat_trees flat_tree _ _ (λ k r.
     ap (λ w. flat E (tree w)) c.in-GeometryCollection.is
     ∙ (ap (flat E) (tree-collection c.in-GeometryCollection.c ∙ c.geometries.ensures) ∙ map_refused Flat.collection _ k r)) _ c.in_err-collection-in-GeometryCollection.ensures)
 
