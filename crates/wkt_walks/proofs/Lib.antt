@@ -1,0 +1,3 @@
+pub mod Visiting
+pub mod Counting
+pub mod Bounding

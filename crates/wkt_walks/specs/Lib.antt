@@ -1,0 +1,4 @@
+pub mod Coords
+pub mod Visits
+pub mod Bounds
+pub mod Grown

@@ -1,0 +1,13 @@
+//! Walks over the coordinates of two-dimensional geometries, as the crate `geo` has them.
+//!
+//! [`visit_coords`] hands each coordinate of a geometry to a [`Visitor`] in turn; [`num_coords`] and
+//! [`bounding_rect`] are two such walks. None of them takes memory. Collections are walked on the stack.
+#![tactic(auto)]
+
+mod bounds;
+mod count;
+mod visit;
+
+pub use bounds::bounding_rect;
+pub use count::num_coords;
+pub use visit::{Visitor, visit_coords};
