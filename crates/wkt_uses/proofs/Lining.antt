@@ -9,8 +9,8 @@ use Rattle.wkt.specs.Texts.{shape_text}
 use Rattle.wkt.proofs.Lists.{take_one_more}
 use Rattle.wkt.specs.WriteError.{Error}
 use Rattle.wkt.specs.WriteError.TheVariants.{FmtError, RectUnsupportedDimension, UnknownDimension, TooFewNumbers, Memory}
-use Rattle.wkt.specs.Writes.{BrokenOff, Fails}
-use Rattle.wkt_uses.specs.Lined.{lined, IfSink}
+use Rattle.wkt.specs.Writes.{BrokenOff, Fails, OnFmtError}
+use Rattle.wkt_uses.specs.Lined.{lined}
 
 module _ {N : Type 0} (num : N → List ℕ) where
   lined_more : (ss : List (Shape N)) (s : Shape N) → lined num (ss ++ s ∷ []) ≡ lined num ss ++ (shape_text num s ++ 10 ∷ [])
@@ -73,9 +73,9 @@ sound_more {N} ss i m all e n =
 
 -- where a writer's error is handed on, what follows from a sink that failed holds of it
 pub handed_on : {S T N : Type 0} (P : Type 0) (sink : Sink S) (num : N → List ℕ) (s : S) (m : Shape N) (t : S) (e : Error) (r : Result T Error)
-    → r ≡ Err e → Fails sink num s m t e → (BrokenOff sink num s m t → P) → IfSink r P
-handed_on P sink num s m t (FmtError x) r is h f = subst (λ r. IfSink r P) (sym is) (f h)
-handed_on P sink num s m t RectUnsupportedDimension r is h f = subst (λ r. IfSink r P) (sym is) tt
-handed_on P sink num s m t UnknownDimension r is h f = subst (λ r. IfSink r P) (sym is) tt
-handed_on P sink num s m t TooFewNumbers r is h f = subst (λ r. IfSink r P) (sym is) tt
-handed_on P sink num s m t (Memory x) r is h f = subst (λ r. IfSink r P) (sym is) tt
+    → r ≡ Err e → Fails sink num s m t e → (BrokenOff sink num s m t → P) → OnFmtError r P
+handed_on P sink num s m t (FmtError x) r is h f = subst (λ r. OnFmtError r P) (sym is) (f h)
+handed_on P sink num s m t RectUnsupportedDimension r is h f = subst (λ r. OnFmtError r P) (sym is) tt
+handed_on P sink num s m t UnknownDimension r is h f = subst (λ r. OnFmtError r P) (sym is) tt
+handed_on P sink num s m t TooFewNumbers r is h f = subst (λ r. OnFmtError r P) (sym is) tt
+handed_on P sink num s m t (Memory x) r is h f = subst (λ r. OnFmtError r P) (sym is) tt

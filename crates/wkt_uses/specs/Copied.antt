@@ -39,8 +39,8 @@ IfRead (Err (copy.Read e)) P = P e
 IfRead (Err (copy.Write e)) P = Unit {0}
 
 -- The fact is claimed where the polygon wasn't written whole. The sink's fault alone comes then.
-abbrev pub IfWrite : {A : Type 0} → Result A CopyError → Type 0 → Type 0
-IfWrite (Ok x) P = Unit {0}
-IfWrite (Err (copy.Read e)) P = Unit {0}
-IfWrite (Err (copy.Write (send.Shape e))) P = ⊥
-IfWrite (Err (copy.Write (send.Io e))) P = P
+abbrev pub OnWrite : {A : Type 0} → Result A CopyError → Type 0 → Type 0
+OnWrite (Ok x) P = Unit {0}
+OnWrite (Err (copy.Read e)) P = Unit {0}
+OnWrite (Err (copy.Write (send.Shape e))) P = ⊥
+OnWrite (Err (copy.Write (send.Io e))) P = P

@@ -1,9 +1,8 @@
 -- Texts on lines of their own.
-use Rattle.std.specs.Prelude.{◌≡◌, ℕ, List, [], ◌∷◌, ◌++◌, take, slice_get, Some, None, Result, Ok, Err}
+use Rattle.std.specs.Prelude.{◌≡◌, ℕ, List, [], ◌∷◌, ◌++◌, take, slice_get, Some, None}
 use Rattle.std.specs.List.{All}
 use Rattle.wkt.specs.Sink.{Sink, Adds}
 use Rattle.wkt.specs.WriteError.{Error}
-use Rattle.wkt.specs.WriteError.TheVariants.{FmtError, RectUnsupportedDimension, UnknownDimension, TooFewNumbers, Memory}
 use Rattle.wkt.specs.Faults.{fault}
 use Rattle.wkt.specs.Shapes.{Shape}
 use Rattle.wkt.specs.Texts.{shape_text}
@@ -21,12 +20,3 @@ pub record StoppedAt {S N : Type 0} (sink : Sink S) (num : N → List ℕ) (s : 
   pub faulty : fault shape ≡ Some e
   pub sound : All (λ r. fault r ≡ None) (take place ss)
   pub added : Adds sink s (lined num (take place ss)) t
-
--- The fact is claimed where the sink failed.
-abbrev pub IfSink : {T : Type 0} → Result T Error → Type 0 → Type 0
-IfSink (Ok x) P = Unit {0}
-IfSink (Err (FmtError e)) P = P
-IfSink (Err RectUnsupportedDimension) P = Unit {0}
-IfSink (Err UnknownDimension) P = Unit {0}
-IfSink (Err TooFewNumbers) P = Unit {0}
-IfSink (Err (Memory e)) P = Unit {0}

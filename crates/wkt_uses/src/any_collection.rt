@@ -3,8 +3,8 @@ ghost use Rattle.std.specs.Prelude.{◌≡◌, None, OnOk, length};
 ghost use Rattle.std.specs.List.{All};
 ghost use Rattle.wkt.specs.Sink.{Adds, Breaks};
 ghost use Rattle.wkt.specs.Faults.{fault};
-ghost use Rattle.wkt.specs.Writes.{IfFault};
-ghost use Rattle.wkt_uses.specs.Lined.{lined, IfSink, StoppedAt};
+ghost use Rattle.wkt.specs.Writes.{IfFault, OnFmtError};
+ghost use Rattle.wkt_uses.specs.Lined.{lined, StoppedAt};
 
 use wkt::error::Error;
 use wkt::geo_traits::GeometryCollectionTrait;
@@ -29,7 +29,7 @@ pub fn write_members<W: TextSink, C: GeometryCollectionTrait>(
     ensures written { OnOk result (Adds W.sink f.old (lined C.T.num (C.geometries collection.now)) f.new) }
     ensures sound { OnOk result (All (λ s. fault s ≡ None) (C.geometries collection.now)) }
     ensures fault { IfFault result (StoppedAt W.sink C.T.num f.old (C.geometries collection.now) f.new) }
-    ensures sink { IfSink result (Breaks W.sink f.old (lined C.T.num (C.geometries collection.now)) f.new) }
+    ensures sink { OnFmtError result (Breaks W.sink f.old (lined C.T.num (C.geometries collection.now)) f.new) }
 {
     for i in 0..collection.num_geometries() {
         write_geometry(f, collection.geometry(i))?;

@@ -3,7 +3,7 @@ ghost use Rattle.std.specs.Prelude.{◌≡◌, OnOk, IfSome, Err, codes};
 ghost use Rattle.wkt.specs.Sink.{next_count};
 ghost use Rattle.wkt.specs.FromText.{BytesAnswer};
 ghost use Rattle.wkt.specs.FlatKinds.{only_flat, rings_in};
-ghost use Rattle.wkt_uses.specs.Copied.{IfRead, IfWrite, IsCopied, IsPartCopied};
+ghost use Rattle.wkt_uses.specs.Copied.{IfRead, OnWrite, IsCopied, IsPartCopied};
 
 use std::alloc::Global;
 use thiserror::Error;
@@ -39,9 +39,9 @@ pub fn copy_polygon<T: WktNum, R: ByteSource, W: ByteSink>(
     ensures refused { IfSome (R.left reader.old) (λ bs. IfRead result
         (λ e. BytesAnswer T.read (λ x. x) (only_flat (codes "Polygon") rings_in T.eq) bs (Err e))) }
     ensures read { IfRead result (λ _. writer.new ≡ writer.old) }
-    ensures written { IfWrite result (IfSome (R.left reader.old)
+    ensures written { OnWrite result (IfSome (R.left reader.old)
         (IsPartCopied T.read T.num T.eq (W.sink.bytes writer.old) (W.sink.bytes writer.new))) }
-    ensures write_count { IfWrite result (W.sink.failures writer.new ≡ next_count (W.sink.failures writer.old)) }
+    ensures write_count { OnWrite result (W.sink.failures writer.new ≡ next_count (W.sink.failures writer.old)) }
 {
     let polygon = match Polygon::<T>::try_from_wkt_reader(alloc, reader) {
         Ok(polygon) => polygon,
