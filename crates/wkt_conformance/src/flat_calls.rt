@@ -104,6 +104,7 @@ fn both(
 fn shown(alloc: Global, answer: Result<Geometry<Number>, Error>) -> Result<String, AnyError> {
     match answer {
         Ok(flat) => Ok(flat.wkt_string(alloc)?),
+        Err(Error::Memory(e)) => Err(AnyError::Memory(e)),
         Err(error) => Ok(error.to_string(alloc)?),
     }
 }
@@ -137,5 +138,9 @@ pub(crate) fn becomes(alloc: Global, text: &str) -> Result<String, AnyError> {
 }
 
 fn is<G: ConvertFrom<Wkt<Number>> + Drop>(alloc: Global, text: &str) -> Result<bool, AnyError> {
-    Ok(G::convert_from(alloc, Wkt::from_str(alloc, text)?).is_ok())
+    match G::convert_from(alloc, Wkt::from_str(alloc, text)?) {
+        Ok(_) => Ok(true),
+        Err(Error::Memory(e)) => Err(AnyError::Memory(e)),
+        Err(_) => Ok(false),
+    }
 }

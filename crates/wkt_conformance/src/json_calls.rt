@@ -1,6 +1,6 @@
 //! Calls over JSON values, by their names.
 use crate::calls::Number;
-use serde_json::Value;
+use crate::rows::value_of;
 use std::alloc::Global;
 use wkt::deserialize::geo_types::{deserialize_geometry, deserialize_point};
 use wkt::deserialize::{ValueError, deserialize_wkt, wkt_from_value};
@@ -15,7 +15,7 @@ pub(crate) fn json_given(
     of: &str,
     json: &str,
 ) -> Result<String, AnyError> {
-    let Ok(value) = Value::from_str(alloc, json) else {
+    let Some(value) = value_of(alloc, json)? else {
         return Ok(String::from_str(alloc, "no JSON")?);
     };
     match (call, of) {

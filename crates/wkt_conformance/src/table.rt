@@ -1,4 +1,6 @@
 //! The table of texts on standard input, and the files of rows that the arguments name.
+ghost use Rattle.std.specs.Prelude.{◌≡◌, ◌↔◌, IfOk, IsTrue};
+
 use crate::rows::{Row, row_of};
 use std::alloc::{AllocError, Global};
 use std::io::{self, Read};
@@ -94,7 +96,9 @@ fn check_line(rt: &impl Print, alloc: Global, line: &str) -> Result<bool, TableE
 }
 
 /// Whether what was given is what is wanted; else both are told.
-fn is_right(rt: &impl Print, row: &str, given: &str, want: &str) -> Result<bool, TableError> {
+fn is_right(rt: &impl Print, row: &str, given: &str, want: &str) -> Result<bool, TableError>
+    ensures { IfOk result (λ right. IsTrue right ↔ (given.now ≡ want.now)) }
+{
     if given == want {
         return Ok(true);
     }
