@@ -46,12 +46,13 @@ run() {
     REFUSE=$n REFUSED="$dir/refused" LD_PRELOAD="$dir/refuse.so" "$@" > "$dir/out" 2> "$dir/err"
 }
 
-# each PROGRAM INPUT STATUS STEP: every growth in turn, or one of so many
+# each PROGRAM INPUT STATUS STEP ARGUMENT..: every growth in turn, or one of so many
 each() {
     local program=$1 input=$2 want=$3 step=$4 n=1 tried=0 ended=0 status
-    "crates/$program/out/$program" < "$input" > "$dir/whole" || exit 2
+    shift 4
+    "crates/$program/out/$program" "$@" < "$input" > "$dir/whole" || exit 2
     while true; do
-        run "$n" "crates/$program/out/$program" < "$input"
+        run "$n" "crates/$program/out/$program" "$@" < "$input"
         status=$?
         if [ "$status" = 0 ]; then
             cmp -s "$dir/out" "$dir/whole" || fail "$program" "$n" "another output"
@@ -93,6 +94,7 @@ cut -f 1 tests/growth.tsv > "$dir/lines"
 each wktline "$dir/lines" 1 1
 each wktstream "$dir/lines" 1 1
 each wkt_conformance tests/growth.tsv 2 1
+each wkt_conformance /dev/null 2 1 tests/growth.jsonl
 each_test wkt
 
 # nested N: a point in so many collections

@@ -1,6 +1,10 @@
-//! A table of texts and what reading each gives.
+//! The table of texts on standard input, and the files of rows that the arguments name.
+ghost use Rattle.std.specs.Prelude.{◌≡◌, ◌↔◌, IfOk, IsTrue};
+
+use crate::rows::{Row, row_of};
 use std::alloc::{AllocError, Global};
-use std::io;
+use std::io::{self, Read};
+use std::{env, fs};
 use thiserror::Error;
 use wkt::Decimal;
 use wkt::to_wkt::{Counted, ReadAllError, read_all};
@@ -19,52 +23,89 @@ pub enum TableError {
     Memory(AllocError),
 }
 
-/// Checks the table on standard input, and answers how many of its rows are wrong.
-pub fn check_input(rt: &HostRuntime) -> Result<u64, TableError> {
+/// Checks the table on standard input, and each file that an argument names, and answers how many rows are wrong.
+pub fn check_all(rt: &HostRuntime) -> Result<u64, TableError> {
     let alloc = rt.alloc();
-    let mut reader = Counted::new(rt.stdin());
-    let bytes = match read_all(alloc, &mut reader) {
-        Ok(bytes) => bytes,
-        Err(ReadAllError::Read(e)) => return Err(TableError::Read(e)),
-        Err(ReadAllError::Memory(e)) => return Err(TableError::Memory(e)),
-    };
-    match str::from_utf8(&bytes) {
-        Ok(table) => check_rows(rt, alloc, table),
+    let bytes = bytes_of(alloc, rt.stdin())?;
+    let mut wrong = check_table(rt, alloc, text_of(&bytes)?)?;
+    for name in env::args(rt).map_err(TableError::Read)?.skip(1) {
+        wrong = wrong.wrapping_add(check_file(rt, alloc, &name)?);
+    }
+    Ok(wrong)
+}
+
+/// All bytes of an input.
+fn bytes_of<R: Read + Drop>(alloc: Global, input: R) -> Result<Vec<u8>, TableError> {
+    match read_all(alloc, &mut Counted::new(input)) {
+        Ok(bytes) => Ok(bytes),
+        Err(ReadAllError::Read(e)) => Err(TableError::Read(e)),
+        Err(ReadAllError::Memory(e)) => Err(TableError::Memory(e)),
+    }
+}
+
+fn text_of(bytes: &[u8]) -> Result<&str, TableError> {
+    match str::from_utf8(bytes) {
+        Ok(text) => Ok(text),
         Err(_) => Err(TableError::NotText),
     }
 }
 
-/// Checks each row, and tells which are wrong, and how many.
-fn check_rows(rt: &impl Print, alloc: Global, table: &str) -> Result<u64, TableError> {
+/// Checks each row of a table of texts, and tells which are wrong, and how many.
+fn check_table(rt: &impl Print, alloc: Global, table: &str) -> Result<u64, TableError> {
     let mut rows = 0u64;
     let mut wrong = 0u64;
     for row in table.lines() {
+        let (text, want) = row.split_once('\t').unwrap_or((row, ""));
+        let given = match told(alloc, answer::<Decimal<18>>(alloc, text)) {
+            Ok(given) => given,
+            Err(e) => return Err(TableError::Memory(e)),
+        };
         rows = rows.wrapping_add(1);
-        if !check_row(rt, alloc, row)? {
+        if !is_right(rt, text, &given, want)? {
             wrong = wrong.wrapping_add(1);
         }
     }
-    match println!(rt; "{rows} rows, {wrong} wrong") {
-        Ok(()) => Ok(wrong),
-        Err(e) => Err(TableError::Print(e)),
+    tell(println!(rt; "{rows} rows, {wrong} wrong"))?;
+    Ok(wrong)
+}
+
+/// Checks each row of a file, but for its head, and tells which are wrong, and how many.
+fn check_file(rt: &HostRuntime, alloc: Global, name: &str) -> Result<u64, TableError> {
+    let bytes = bytes_of(alloc, fs::open(rt, name).map_err(TableError::Read)?)?;
+    let mut rows = 0u64;
+    let mut wrong = 0u64;
+    for line in text_of(&bytes)?.lines() {
+        if line.starts_with('#') {
+            continue;
+        }
+        rows = rows.wrapping_add(1);
+        if !check_line(rt, alloc, line)? {
+            wrong = wrong.wrapping_add(1);
+        }
+    }
+    tell(println!(rt; "{name}: {rows} rows, {wrong} wrong"))?;
+    Ok(wrong)
+}
+
+/// Whether the row of a line is right; one that isn't is told.
+fn check_line(rt: &impl Print, alloc: Global, line: &str) -> Result<bool, TableError> {
+    match row_of(alloc, line) {
+        Ok(Row { given, want }) => is_right(rt, line, &given, &want),
+        Err(e) => Err(TableError::Memory(e)),
     }
 }
 
-/// Whether a row is right; one that isn't is told.
-fn check_row(rt: &impl Print, alloc: Global, row: &str) -> Result<bool, TableError> {
-    let (text, want) = match row.split_once('\t') {
-        Some(pair) => pair,
-        None => (row, ""),
-    };
-    let answer = match told(alloc, answer::<Decimal<18>>(alloc, text)) {
-        Ok(answer) => answer,
-        Err(e) => return Err(TableError::Memory(e)),
-    };
-    if answer.as_str() == want {
+/// Whether what was given is what is wanted; else both are told.
+fn is_right(rt: &impl Print, row: &str, given: &str, want: &str) -> Result<bool, TableError>
+    ensures { IfOk result (λ right. IsTrue right ↔ (given.now ≡ want.now)) }
+{
+    if given == want {
         return Ok(true);
     }
-    match println!(rt; "{text}: {answer}, but wanted {want}") {
-        Ok(()) => Ok(false),
-        Err(e) => Err(TableError::Print(e)),
-    }
+    tell(println!(rt; "{row}: {given}, but wanted {want}"))?;
+    Ok(false)
+}
+
+fn tell(printed: io::Result<()>) -> Result<(), TableError> {
+    printed.map_err(TableError::Print)
 }

@@ -1,28 +1,49 @@
-//! Flat values to text and back.
+//! The text of a value of each two-dimensional type, by each call that writes it, and the texts of the errors.
 use std::alloc::{AllocError, Global};
 use std::process::Abort;
 use std::test::Fail;
+use wkt::error::Error as WriteError;
+use wkt::geo_traits::GeometryTrait;
 use wkt::geo_types::{
     Coord, Geometry, GeometryCollection, Line, LineString, MultiLineString, MultiPoint,
     MultiPolygon, Point, Polygon, Rect, Triangle,
 };
 use wkt::geo_types_from_wkt::Error;
-use wkt::to_wkt::Counted;
-use wkt::{Decimal, ToWkt, TryFromWkt};
+use wkt::to_wkt::{
+    Counted, CountedText, write_geometry, write_geometry_collection, write_line, write_linestring,
+    write_multi_linestring, write_multi_point, write_multi_polygon, write_point, write_polygon,
+    write_rect, write_triangle,
+};
+use wkt::{Decimal, ToWkt, TryFromWkt, types};
 
-type Number = Decimal<6>;
-
-fn at(x: i32, y: i32) -> Coord<i32> {
+pub(crate) fn at(x: i32, y: i32) -> Coord<i32> {
     Coord { x, y }
 }
 
-/// The three calls of `ToWkt` give one text.
-fn gives<G: ToWkt<i32> + Drop>(
-    rt: &impl Abort,
+/// Three corners.
+pub(crate) const TRIANGLE: [(i32, i32); 3] = [(0, 0), (4, 0), (2, 4)];
+
+/// The line string through those coordinates.
+pub(crate) fn path(alloc: Global, coords: &[(i32, i32)]) -> Result<LineString<i32>, AllocError> {
+    let mut all = Vec::new(alloc);
+    for (x, y) in coords {
+        all.push(at(*x, *y))?;
+    }
+    Ok(LineString::new(all))
+}
+
+/// The polygon of an exterior and one interior.
+pub(crate) fn holed(
     alloc: Global,
-    value: G,
-    want: &str,
-) -> Result<(), Fail> {
+    exterior: &[(i32, i32)],
+    interior: &[(i32, i32)],
+) -> Result<Polygon<i32>, AllocError> {
+    let interiors = vec![in alloc; path(alloc, interior)?]?;
+    Polygon::new(alloc, path(alloc, exterior)?, interiors)
+}
+
+/// The three calls of `ToWkt` give that text.
+fn gives<G: ToWkt<i32>>(rt: &impl Abort, alloc: Global, value: &G, want: &str) -> Result<(), Fail> {
     let displayed = format!(in alloc; "{}", value.to_wkt(alloc)?)?;
     assert_eq!(rt; displayed.as_str(), want);
     assert_eq!(rt; value.wkt_string(alloc)?.as_str(), want);
@@ -32,270 +53,167 @@ fn gives<G: ToWkt<i32> + Drop>(
     Ok(())
 }
 
-fn path(alloc: Global, coords: &[Coord<i32>]) -> Result<LineString<i32>, AllocError> {
-    Ok(LineString(coords.to_vec(alloc)?))
-}
-
-/// The polygon without an exterior around the interior (1 2).
-fn hollow(alloc: Global) -> Result<Polygon<i32>, Fail> {
-    let interiors = vec![in alloc; path(alloc, &[at(1, 2)])?]?;
-    Ok(Polygon::new(alloc, path(alloc, &[])?, interiors)?)
-}
-
-/// The polygon (0 0), (4 0), (2 4) with one empty interior.
-fn holed(alloc: Global) -> Result<Polygon<i32>, Fail> {
-    let ring = path(alloc, &[at(0, 0), at(4, 0), at(2, 4)])?;
-    let interiors = vec![in alloc; path(alloc, &[])?]?;
-    Ok(Polygon::new(alloc, ring, interiors)?)
-}
-
-#[test]
-fn single_values_are_written(rt: HostRuntime) -> Result<(), Fail> {
-    let alloc = rt.alloc();
-    let rect = Rect::new(at(4, 4), at(8, 8));
-    let triangle = Triangle::new(at(0, 0), at(4, 0), at(2, 4));
-    let line = Line::new(at(1, 2), at(3, 4));
-    gives(&rt, alloc, Point::new(1, 2), "POINT(1 2)")?;
-    gives(&rt, alloc, line, "LINESTRING(1 2,3 4)")?;
-    gives(&rt, alloc, rect, "POLYGON((8 4,8 8,4 8,4 4,8 4))")?;
-    gives(&rt, alloc, triangle, "POLYGON((0 0,4 0,2 4,0 0))")?;
-    let rect = Geometry::from(rect);
-    gives(&rt, alloc, rect, "POLYGON((8 4,8 8,4 8,4 4,8 4))")?;
-    let triangle = Geometry::from(triangle);
-    gives(&rt, alloc, triangle, "POLYGON((0 0,4 0,2 4,0 0))")
-}
-
-#[test]
-fn line_strings_and_polygons_are_written(rt: HostRuntime) -> Result<(), Fail> {
-    let alloc = rt.alloc();
-    let line = path(alloc, &[at(10, -20), at(0, 5)])?;
-    gives(&rt, alloc, line, "LINESTRING(10 -20,0 5)")?;
-    gives(&rt, alloc, path(alloc, &[])?, "LINESTRING EMPTY")?;
-    let holed = holed(alloc)?;
-    gives(&rt, alloc, holed, "POLYGON((0 0,4 0,2 4,0 0),EMPTY)")?;
-    gives(&rt, alloc, hollow(alloc)?, "POLYGON EMPTY")?;
-    gives(&rt, alloc, Geometry::from(hollow(alloc)?), "POLYGON EMPTY")
-}
-
-#[test]
-fn lists_are_written(rt: HostRuntime) -> Result<(), Fail> {
-    let alloc = rt.alloc();
-    let points = MultiPoint(vec![in alloc; Point::new(8, 4), Point::new(4, 0)]?);
-    gives(&rt, alloc, points, "MULTIPOINT((8 4),(4 0))")?;
-    let lines = vec![in alloc; path(alloc, &[at(8, 4), at(-3, 0)])?, path(alloc, &[])?]?;
-    let want = "MULTILINESTRING((8 4,-3 0),EMPTY)";
-    gives(&rt, alloc, MultiLineString(lines), want)?;
-    let polygons = vec![in alloc; hollow(alloc)?, holed(alloc)?]?;
-    let want = "MULTIPOLYGON(EMPTY,((0 0,4 0,2 4,0 0),EMPTY))";
-    gives(&rt, alloc, MultiPolygon(polygons), want)
-}
-
-#[test]
-fn empty_lists_are_written(rt: HostRuntime) -> Result<(), Fail> {
-    let alloc = rt.alloc();
-    let points = MultiPoint(Vec::new(alloc));
-    gives(&rt, alloc, points, "MULTIPOINT EMPTY")?;
-    let lines = MultiLineString(Vec::new(alloc));
-    gives(&rt, alloc, lines, "MULTILINESTRING EMPTY")?;
-    let polygons = MultiPolygon(Vec::new(alloc));
-    gives(&rt, alloc, polygons, "MULTIPOLYGON EMPTY")?;
-    let all = GeometryCollection(Vec::new(alloc));
-    gives(&rt, alloc, all, "GEOMETRYCOLLECTION EMPTY")
-}
-
-/// The rectangle from 4 4 to 8 8, and the line from 1 2 to 3 4.
-fn rect_and_line(alloc: Global) -> Result<GeometryCollection<i32>, AllocError> {
-    let rect = Geometry::from(Rect::new(at(4, 4), at(8, 8)));
-    let line = Geometry::from(Line::new(at(1, 2), at(3, 4)));
-    Ok(GeometryCollection(vec![in alloc; rect, line]?))
-}
-
-#[test]
-fn collections_are_written(rt: HostRuntime) -> Result<(), Fail> {
-    let alloc = rt.alloc();
-    let want = "GEOMETRYCOLLECTION(POLYGON((8 4,8 8,4 8,4 4,8 4)),LINESTRING(1 2,3 4))";
-    gives(&rt, alloc, rect_and_line(alloc)?, want)?;
-    gives(&rt, alloc, Geometry::from(rect_and_line(alloc)?), want)
-}
-
-/// What a text is read as, and the text of it again; or the text of the error.
-fn again<G: TryFromWkt<Number, Error = Error> + ToWkt<Number> + Drop>(
-    alloc: Global,
-    text: &str,
-) -> Result<String, Fail> {
-    match G::try_from_wkt_str(alloc, text) {
-        Ok(value) => Ok(value.wkt_string(alloc)?),
-        Err(error) => Ok(format!(in alloc; "{error}")?),
-    }
-}
-
-const EMPTY_POINT: &str = "The WKT Point was empty, but geo_type::Points cannot be empty";
-
-const READ: [(&str, &str); 16] = [
-    ("POINT Z(1 2 3)", "POINT(1 2)"),
-    ("POINT EMPTY", "MULTIPOINT EMPTY"),
-    (
-        "LINEARRING ZM(1.50 2 3 4,5 6 7 8)x",
-        "LINESTRING(1.5 2,5 6)",
-    ),
-    (
-        "POLYGON((0 0,4 0,2 4),EMPTY,(1 1,2 2))",
-        "POLYGON((0 0,4 0,2 4,0 0),EMPTY,(1 1,2 2,1 1))",
-    ),
-    ("POLYGON((1 2))", "POLYGON((1 2))"),
-    ("POLYGON(EMPTY,(1 1,2 2))", "POLYGON EMPTY"),
-    ("POLYGON M EMPTY", "POLYGON EMPTY"),
-    ("MULTIPOINT M(8 4 1,(4 0 2))", "MULTIPOINT((8 4),(4 0))"),
-    ("MULTIPOINT(1 2,EMPTY)", EMPTY_POINT),
-    (
-        "MULTILINESTRING Z((8 4 0,-3 0 0),EMPTY)",
-        "MULTILINESTRING((8 4,-3 0),EMPTY)",
-    ),
-    (
-        "MULTIPOLYGON(((0 0,4 0,2 4)),EMPTY)",
-        "MULTIPOLYGON(((0 0,4 0,2 4,0 0)),EMPTY)",
-    ),
-    (
-        "GEOMETRYCOLLECTION ZM(GEOMETRYCOLLECTION M(POINT(1 2)),POINT EMPTY)",
-        "GEOMETRYCOLLECTION(GEOMETRYCOLLECTION(POINT(1 2)),MULTIPOINT EMPTY)",
-    ),
-    (
-        "GEOMETRYCOLLECTION(POINT(1 2),MULTIPOINT(EMPTY))",
-        EMPTY_POINT,
-    ),
-    ("", "Invalid WKT: Invalid WKT format"),
-    (
-        "LINEARRINGZ(1 2 3)",
-        "Invalid WKT: Invalid type encountered",
-    ),
-    (
-        "POINT EMPTYX",
-        "Invalid WKT: Unexpected word before open paren",
-    ),
-];
-
-#[test]
-fn geometries_are_read(rt: HostRuntime) -> Result<(), Fail> {
-    let alloc = rt.alloc();
-    for (text, want) in READ {
-        assert_eq!(rt; again::<Geometry<Number>>(alloc, text)?.as_str(), want);
-    }
-    Ok(())
-}
-
-/// The text is read as a value of that type, whose text is the other.
-fn reads<G: TryFromWkt<Number, Error = Error> + ToWkt<Number> + Drop>(
+/// So they do, and so does `write_geometry`.
+fn writes<G: ToWkt<i32> + GeometryTrait>(
     rt: &impl Abort,
     alloc: Global,
-    text: &str,
+    value: &G,
     want: &str,
 ) -> Result<(), Fail> {
-    let text = again::<G>(alloc, text)?;
+    let mut text = String::new(alloc);
+    write_geometry(&mut CountedText::new(&mut text), value)?;
+    assert_eq!(rt; text.as_str(), want);
+    gives(rt, alloc, value, want)
+}
+
+/// The value as what it is gives that text.
+fn writes_by_kind(
+    rt: &impl Abort,
+    alloc: Global,
+    value: &Geometry<i32>,
+    want: &str,
+) -> Result<(), Fail> {
+    match value {
+        Geometry::Point(x) => writes(rt, alloc, x, want),
+        Geometry::Line(x) => writes(rt, alloc, x, want),
+        Geometry::LineString(x) => writes(rt, alloc, x, want),
+        Geometry::Polygon(x) => writes(rt, alloc, x, want),
+        Geometry::MultiPoint(x) => writes(rt, alloc, x, want),
+        Geometry::MultiLineString(x) => writes(rt, alloc, x, want),
+        Geometry::MultiPolygon(x) => writes(rt, alloc, x, want),
+        Geometry::GeometryCollection(x) => gives(rt, alloc, x, want),
+        Geometry::Rect(x) => writes(rt, alloc, x, want),
+        Geometry::Triangle(x) => writes(rt, alloc, x, want),
+    }
+}
+
+/// Writes the value by the writer of its kind.
+fn write_by_kind(text: &mut String, value: &Geometry<i32>) -> Result<(), WriteError> {
+    let mut sink = CountedText::new(text);
+    match value {
+        Geometry::Point(x) => write_point(&mut sink, x),
+        Geometry::Line(x) => write_line(&mut sink, x),
+        Geometry::LineString(x) => write_linestring(&mut sink, x),
+        Geometry::Polygon(x) => write_polygon(&mut sink, x),
+        Geometry::MultiPoint(x) => write_multi_point(&mut sink, x),
+        Geometry::MultiLineString(x) => write_multi_linestring(&mut sink, x),
+        Geometry::MultiPolygon(x) => write_multi_polygon(&mut sink, x),
+        Geometry::GeometryCollection(x) => write_geometry_collection(&mut sink, x),
+        Geometry::Rect(x) => write_rect(&mut sink, x),
+        Geometry::Triangle(x) => write_triangle(&mut sink, x),
+    }
+}
+
+/// The value, its copy and what it is are written so, by every call.
+fn is_written(
+    rt: &impl Abort,
+    alloc: Global,
+    value: Geometry<i32>,
+    want: &str,
+) -> Result<(), Fail> {
+    writes(rt, alloc, &value, want)?;
+    writes_by_kind(rt, alloc, &value, want)?;
+    let copy = value.try_clone(alloc)?;
+    let same = copy == value;
+    assert!(rt; same);
+    let mut text = String::new(alloc);
+    write_by_kind(&mut text, &copy)?;
     assert_eq!(rt; text.as_str(), want);
     Ok(())
 }
 
-const READ_AS_POINTS: [(&str, &str); 3] = [
-    ("POINT EMPTY", "MULTIPOINT EMPTY"),
-    ("MULTIPOINT Z EMPTY", "MULTIPOINT EMPTY"),
-    ("MULTIPOINT(8 4,4 0)", "MULTIPOINT((8 4),(4 0))"),
-];
+#[test]
+fn single_values(rt: HostRuntime) -> Result<(), Fail> {
+    let alloc = rt.alloc();
+    let line = Line::new(at(1, 2), at(3, 4));
+    let rect = Rect::new(at(8, 1), at(4, 6));
+    let triangle = Triangle::new(at(0, 0), at(4, 0), at(2, 4));
+    is_written(&rt, alloc, Geometry::from(Point::new(1, 2)), "POINT(1 2)")?;
+    is_written(&rt, alloc, Geometry::from(line), "LINESTRING(1 2,3 4)")?;
+    let want = "POLYGON((8 1,8 6,4 6,4 1,8 1))";
+    writes(&rt, alloc, &rect.to_polygon(alloc)?, want)?;
+    is_written(&rt, alloc, Geometry::from(rect), want)?;
+    let want = "POLYGON((0 0,4 0,2 4,0 0))";
+    writes(&rt, alloc, &triangle.to_polygon(alloc)?, want)?;
+    is_written(&rt, alloc, Geometry::from(triangle), want)
+}
 
 #[test]
-fn points_are_read(rt: HostRuntime) -> Result<(), Fail> {
+fn polygons(rt: HostRuntime) -> Result<(), Fail> {
     let alloc = rt.alloc();
-    let Ok(point) = Point::<Number>::try_from_wkt_str(alloc, "POINT(10 20)") else {
+    let open = Geometry::from(holed(alloc, &TRIANGLE, &[])?);
+    is_written(&rt, alloc, open, "POLYGON((0 0,4 0,2 4,0 0),EMPTY)")?;
+    let closed = holed(alloc, &[(0, 0), (4, 0), (2, 4), (0, 0)], &[(1, 2)])?;
+    let want = "POLYGON((0 0,4 0,2 4,0 0),(1 2))";
+    is_written(&rt, alloc, Geometry::from(closed), want)?;
+    let open = holed(alloc, &[(1, 2)], &[(7, 3), (4, 1), (1, 4)])?;
+    let want = "POLYGON((1 2),(7 3,4 1,1 4,7 3))";
+    is_written(&rt, alloc, Geometry::from(open), want)?;
+    let hollow = holed(alloc, &[], &[(1, 2)])?;
+    assert_eq!(rt; hollow.exterior().0.len(), 0);
+    assert_eq!(rt; hollow.interiors().len(), 1);
+    is_written(&rt, alloc, Geometry::from(hollow), "POLYGON EMPTY")
+}
+
+#[test]
+fn lists(rt: HostRuntime) -> Result<(), Fail> {
+    let alloc = rt.alloc();
+    let line = Geometry::from(path(alloc, &[(10, -20), (0, 5)])?);
+    is_written(&rt, alloc, line, "LINESTRING(10 -20,0 5)")?;
+    let points = MultiPoint::new(vec![in alloc; Point::new(8, 4), Point::new(4, 0)]?);
+    is_written(
+        &rt,
+        alloc,
+        Geometry::from(points),
+        "MULTIPOINT((8 4),(4 0))",
+    )?;
+    let lines = vec![in alloc; path(alloc, &[(8, 4), (-3, 0)])?, path(alloc, &[])?]?;
+    let lines = Geometry::from(MultiLineString::new(lines));
+    is_written(&rt, alloc, lines, "MULTILINESTRING((8 4,-3 0),EMPTY)")?;
+    let polygons = vec![in alloc;
+        holed(alloc, &[], &[(1, 2)])?,
+        holed(alloc, &TRIANGLE, &[])?,
+    ]?;
+    let polygons = Geometry::from(MultiPolygon::new(polygons));
+    let want = "MULTIPOLYGON(EMPTY,((0 0,4 0,2 4,0 0),EMPTY))";
+    is_written(&rt, alloc, polygons, want)?;
+    let rect = Geometry::from(Rect::new(at(4, 4), at(8, 8)));
+    let line = Geometry::from(Line::new(at(1, 2), at(3, 4)));
+    let all = GeometryCollection::new_from(vec![in alloc; rect, line]?);
+    let want = "GEOMETRYCOLLECTION(POLYGON((8 4,8 8,4 8,4 4,8 4)),LINESTRING(1 2,3 4))";
+    is_written(&rt, alloc, Geometry::from(all), want)
+}
+
+#[test]
+fn empty_lists(rt: HostRuntime) -> Result<(), Fail> {
+    let alloc = rt.alloc();
+    let line = Geometry::from(path(alloc, &[])?);
+    is_written(&rt, alloc, line, "LINESTRING EMPTY")?;
+    let points = Geometry::from(MultiPoint::new(Vec::new(alloc)));
+    is_written(&rt, alloc, points, "MULTIPOINT EMPTY")?;
+    let lines = Geometry::from(MultiLineString::new(Vec::new(alloc)));
+    is_written(&rt, alloc, lines, "MULTILINESTRING EMPTY")?;
+    let polygons = Geometry::from(MultiPolygon::new(Vec::new(alloc)));
+    is_written(&rt, alloc, polygons, "MULTIPOLYGON EMPTY")?;
+    let all = Geometry::from(GeometryCollection::new_from(Vec::new(alloc)));
+    is_written(&rt, alloc, all, "GEOMETRYCOLLECTION EMPTY")
+}
+
+#[test]
+fn a_point_is_read(rt: HostRuntime) -> Result<(), Fail> {
+    let Ok(point) = Point::<Decimal<6>>::try_from_wkt_str(rt.alloc(), "POINT(10 20)") else {
         panic!(rt; "a point wasn't read");
     };
-    assert_eq!(rt; point.y().units(), 20_000_000);
     assert_eq!(rt; point.x().units(), 10_000_000);
-    for (text, want) in READ_AS_POINTS {
-        reads::<MultiPoint<Number>>(&rt, alloc, text, want)?;
-    }
+    assert_eq!(rt; point.y().units(), 20_000_000);
     Ok(())
 }
 
+/// A point that has no coordinate has no flat value.
 #[test]
-fn each_kind_is_read(rt: HostRuntime) -> Result<(), Fail> {
-    let alloc = rt.alloc();
-    let (text, want) = ("LINESTRING Z(1 2 3,4 5 6)", "LINESTRING(1 2,4 5)");
-    reads::<LineString<Number>>(&rt, alloc, text, want)?;
-    let (text, want) = ("POLYGON((0 0,4 0,2 4))", "POLYGON((0 0,4 0,2 4,0 0))");
-    reads::<Polygon<Number>>(&rt, alloc, text, want)?;
-    let text = "MULTILINESTRING M((1 2 3),EMPTY)";
-    reads::<MultiLineString<Number>>(&rt, alloc, text, "MULTILINESTRING((1 2),EMPTY)")?;
-    let text = "MULTIPOLYGON(((0 0,4 0,2 4)))";
-    reads::<MultiPolygon<Number>>(&rt, alloc, text, "MULTIPOLYGON(((0 0,4 0,2 4,0 0)))")?;
-    let text = "GEOMETRYCOLLECTION(POINT(8 4),LINESTRING(4 6,7 10))";
-    reads::<GeometryCollection<Number>>(&rt, alloc, text, text)
-}
-
-/// The text is refused for its kind, with these names.
-fn mismatches<G: TryFromWkt<Number, Error = Error> + Drop>(
-    alloc: Global,
-    text: &str,
-    want: &str,
-    kind: &str,
-) -> bool {
-    match G::try_from_wkt_str(alloc, text) {
-        Err(Error::MismatchedGeometry { expected, found }) => expected == want && found == kind,
-        _ => false,
-    }
-}
-
-const OTHER_THAN_SINGLE: [(&str, &str); 6] = [
-    ("POINT EMPTY", "MultiPoint"),
-    ("LINESTRING(1 2,3 4)", "LineString"),
-    ("POLYGON((8 4,8 8,4 8,4 4,8 4))", "Polygon"),
-    ("MULTILINESTRING EMPTY", "MultiLineString"),
-    ("MULTIPOLYGON EMPTY", "MultiPolygon"),
-    ("GEOMETRYCOLLECTION EMPTY", "GeometryCollection"),
-];
-
-#[test]
-fn single_values_of_other_kinds_are_refused(rt: HostRuntime) {
-    let alloc = rt.alloc();
-    for (text, kind) in OTHER_THAN_SINGLE {
-        assert!(rt; mismatches::<Point<Number>>(alloc, text, "Point", kind));
-        assert!(rt; mismatches::<Line<Number>>(alloc, text, "Line", kind));
-        assert!(rt; mismatches::<Rect<Number>>(alloc, text, "Rect", kind));
-        assert!(rt; mismatches::<Triangle<Number>>(alloc, text, "Triangle", kind));
-    }
-}
-
-#[test]
-fn lists_of_other_kinds_are_refused(rt: HostRuntime) {
-    let alloc = rt.alloc();
-    for (text, kind) in [("POINT (1 2)", "Point"), ("POINT EMPTY", "MultiPoint")] {
-        assert!(rt; mismatches::<LineString<Number>>(alloc, text, "LineString", kind));
-        assert!(rt; mismatches::<Polygon<Number>>(alloc, text, "Polygon", kind));
-        assert!(rt; mismatches::<MultiLineString<Number>>(alloc, text, "MultiLineString", kind));
-        assert!(rt; mismatches::<MultiPolygon<Number>>(alloc, text, "MultiPolygon", kind));
-    }
-    let ring = "POLYGON((8 4,8 8,4 8,4 4,8 4))";
-    assert!(rt; mismatches::<MultiPoint<Number>>(alloc, ring, "MultiPoint", "Polygon"));
-}
-
-const OTHER_THAN_A_COLLECTION: [(&str, &str); 6] = [
-    ("POINT EMPTY", "Point"),
-    ("LINESTRING EMPTY", "LineString"),
-    ("POLYGON((8 4,8 8,4 8,4 4,8 4))", "Polygon"),
-    ("MULTIPOINT(EMPTY)", "MultiPoint"),
-    ("MULTILINESTRING EMPTY", "MultiLineString"),
-    ("MULTIPOLYGON EMPTY", "MultiPolygon"),
-];
-
-#[test]
-fn other_kinds_than_a_collection_are_refused(rt: HostRuntime) {
-    let alloc = rt.alloc();
-    // A collection asked of another kind is refused at once, by the kind of the `Wkt`.
-    for (text, kind) in OTHER_THAN_A_COLLECTION {
-        let want = "GeometryCollection";
-        assert!(rt; mismatches::<GeometryCollection<Number>>(alloc, text, want, kind));
-    }
-    // Every other kind is asked of the geometry, whose error comes first.
-    let rect = Rect::<Number>::try_from_wkt_str(alloc, "MULTIPOINT(EMPTY)");
-    assert!(rt; matches!(rect, Err(Error::PointConversionError)));
+fn an_empty_point_is_refused(rt: HostRuntime) {
+    let empty = types::Point::<Decimal<6>>::empty(types::Dimension::XYZ);
+    assert!(rt; matches!(Point::try_from(empty), Err(Error::PointConversionError)));
 }
 
 #[test]

@@ -8,16 +8,12 @@ mod errors;
 #[cfg(test)]
 mod headers;
 #[cfg(test)]
-mod odd_tests;
-#[cfg(test)]
 mod reading;
 #[cfg(test)]
 mod reference;
 #[cfg(test)]
 mod same;
 #[cfg(test)]
+mod sizes;
+#[cfg(test)]
 mod types_by_hand;
-#[cfg(test)]
-mod whole;
-#[cfg(test)]
-mod worked_rows;

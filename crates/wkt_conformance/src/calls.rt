@@ -1,0 +1,57 @@
+//! The calls of the rows, by their names.
+use crate::flat_calls::{becomes, converted, flat_of};
+use crate::json_calls::json_given;
+use crate::numbers::{answer_of, number_of};
+use std::alloc::Global;
+use wkt::{AnyError, Decimal, FromWktStr, Wkt, infer_type, read_whole, same_geometry};
+
+/// The number type of the rows that name none.
+pub(crate) type Number = Decimal<6>;
+
+/// What the call of that name gives of a text, in words; `of` is the type or the other text that it is asked for.
+///
+/// # Errors
+/// That of the call.
+pub(crate) fn given(alloc: Global, call: &str, of: &str, text: &str) -> Result<String, AnyError> {
+    match call {
+        "answer" => answer_of(alloc, of, text),
+        "read_number" => number_of(alloc, of, text),
+        "read_front" => front(alloc, text),
+        "read_whole" => whole(alloc, text),
+        "infer_type" => header(alloc, text),
+        "same_geometry" => same(alloc, of, text),
+        "try_from_wkt_str" => flat_of(alloc, of, text),
+        "convert_from" => converted(alloc, text),
+        "kinds" => becomes(alloc, text),
+        _ => json_given(alloc, call, of, text),
+    }
+}
+
+/// The geometry at the front of a text, and where it ends.
+fn front(alloc: Global, text: &str) -> Result<String, AnyError> {
+    let (geometry, end) = Wkt::<Number>::read_front(alloc, text)?;
+    Ok(format!(in alloc; "{geometry} {end}")?)
+}
+
+/// The geometry that a text is.
+fn whole(alloc: Global, text: &str) -> Result<String, AnyError> {
+    Ok(read_whole::<Number>(alloc, text)?.to_string(alloc)?)
+}
+
+/// The kind and the dimension that the header of a text names.
+fn header(alloc: Global, text: &str) -> Result<String, AnyError> {
+    let (kind, dimension) = infer_type(alloc, text)?;
+    Ok(format!(in alloc; "{kind:?} {dimension:?}")?)
+}
+
+/// Whether two texts name one geometry, if both ways round it is said so, and by their texts too.
+fn same(alloc: Global, one: &str, other: &str) -> Result<String, AnyError> {
+    let one = Wkt::<Number>::from_str(alloc, one)?;
+    let other = Wkt::<Number>::from_str(alloc, other)?;
+    let same = same_geometry(&one, &other);
+    let texts = one.to_string(alloc)? == other.to_string(alloc)?;
+    if same_geometry(&other, &one) != same || texts != same {
+        return Ok(String::from_str(alloc, "the calls differ")?);
+    }
+    Ok(format!(in alloc; "{same}")?)
+}

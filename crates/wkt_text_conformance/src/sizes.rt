@@ -1,0 +1,189 @@
+//! Texts that are deep or long.
+use std::alloc::{AllocError, Global};
+use std::process::Abort;
+use std::test::Fail;
+use wkt::geo_types::Geometry;
+use wkt::tokenizer::Tokens;
+use wkt::{Decimal, FromWktStr, ToWkt, TryFromWkt, Wkt, infer_type};
+use wkt_answers::{answer, told};
+
+const NO_KIND: &str = "Invalid type encountered";
+
+const NO_CLOSING: &str = "Missing closing parenthesis for type";
+
+// What a text over decimals of six places gives.
+fn gives(alloc: Global, text: &str) -> Result<String, AllocError> {
+    told(alloc, answer::<Decimal<6>>(alloc, text))
+}
+
+// A point in so many collections, with so many closing parentheses after it.
+fn nested(alloc: Global, opened: usize, closed: usize) -> Result<String, AllocError> {
+    let mut text = String::new(alloc);
+    for _ in 0..opened {
+        text.push_str("GEOMETRYCOLLECTION(")?;
+    }
+    text.push_str("POINT(1 2)")?;
+    for _ in 0..closed {
+        text.push(')')?;
+    }
+    Ok(text)
+}
+
+#[test]
+fn depth(rt: HostRuntime) -> Result<(), Fail> {
+    let alloc = rt.alloc();
+    let text = nested(alloc, 300, 300)?;
+    assert_eq!(rt; text.len(), 6010);
+    assert!(rt; gives(alloc, &text)?.as_str() == text.as_str());
+    let open = nested(alloc, 300, 299)?;
+    assert_eq!(rt; gives(alloc, &open)?.as_str(), NO_CLOSING);
+    for text in [text.as_str(), open.as_str()] {
+        let (kind, dimension) = infer_type(alloc, text)?;
+        assert_eq!(rt;
+            format!(in alloc; "{kind:?} {dimension:?}")?.as_str(),
+            "GeometryCollection XY"
+        );
+    }
+    Ok(())
+}
+
+// The text of a copy of the geometry, if the copy is equal.
+fn copied(alloc: Global, text: &str) -> Result<String, Fail> {
+    let geometry = Wkt::<Decimal<6>>::from_str(alloc, text)?;
+    let copy = geometry.try_clone(alloc)?;
+    if copy == geometry {
+        Ok(copy.to_string(alloc)?)
+    } else {
+        Err(Fail::from("a copy that is equal"))
+    }
+}
+
+// The text of the two-dimensional geometry of the text, if its `Wkt` has the same.
+fn converted(alloc: Global, text: &str) -> Result<String, Fail> {
+    let geometry = Geometry::<Decimal<6>>::try_from_wkt_str(alloc, text)?;
+    let back = geometry.to_wkt(alloc)?.to_string(alloc)?;
+    if geometry.wkt_string(alloc)?.as_str() == back.as_str() {
+        Ok(back)
+    } else {
+        Err(Fail::from("a text that is the same"))
+    }
+}
+
+#[test]
+fn great_depth(rt: HostRuntime) -> Result<(), Fail> {
+    let alloc = rt.alloc();
+    let text = nested(alloc, 10000, 10000)?;
+    assert!(rt; copied(alloc, &text)?.as_str() == text.as_str());
+    assert!(rt; converted(alloc, &text)?.as_str() == text.as_str());
+    let open = nested(alloc, 10000, 9999)?;
+    assert!(rt; Wkt::<Decimal<6>>::from_str(alloc, &open).is_err());
+    Ok(())
+}
+
+// The canonical text of a kind word and so many members.
+fn members(alloc: Global, word: &str, member: &str, n: usize) -> Result<String, AllocError> {
+    let mut text = String::from_str(alloc, word)?;
+    text.push('(')?;
+    for i in 0..n {
+        if i > 0 {
+            text.push(',')?;
+        }
+        text.push_str(member)?;
+    }
+    text.push(')')?;
+    Ok(text)
+}
+
+const LISTS: [(&str, &str); 6] = [
+    ("LINESTRING", "1 2"),
+    ("POLYGON", "(1 2)"),
+    ("MULTIPOINT", "(1 2)"),
+    ("MULTILINESTRING", "(1 2)"),
+    ("MULTIPOLYGON", "((1 2))"),
+    ("GEOMETRYCOLLECTION", "POINT(1 2)"),
+];
+
+// Lists of so many members give themselves, as two-dimensional geometries too.
+fn lists_of(rt: &impl Abort, alloc: Global, n: usize) -> Result<(), Fail> {
+    for (word, member) in LISTS {
+        let text = members(alloc, word, member, n)?;
+        let given = gives(alloc, &text)?;
+        assert!(rt; given == text, "{n} of {word}");
+        let flat = converted(alloc, &text)?;
+        assert!(rt; flat == text, "{n} of {word} without z and m");
+    }
+    Ok(())
+}
+
+// A reader, a copy or a constructor that gives up above a size fails here.
+#[test]
+fn ample_memory(rt: HostRuntime) -> Result<(), Fail> {
+    for n in 1..=300 {
+        lists_of(&rt, rt.alloc(), n)?;
+    }
+    lists_of(&rt, rt.alloc(), 100000)
+}
+
+#[test]
+fn multi_polygons_of_many_rings(rt: HostRuntime) -> Result<(), Fail> {
+    let alloc = rt.alloc();
+    for n in [1, 2, 300, 100_000] {
+        let mut text = members(alloc, "MULTIPOLYGON(", "(1 2)", n)?;
+        text.push(')')?;
+        let given = gives(alloc, &text)?;
+        assert!(rt; given == text, "{n} rings");
+        let flat = converted(alloc, &text)?;
+        assert!(rt; flat == text, "{n} rings without z and m");
+    }
+    Ok(())
+}
+
+#[test]
+fn long_numbers(rt: HostRuntime) -> Result<(), Fail> {
+    let alloc = rt.alloc();
+    let zeros = "0".repeat(alloc, 100000)?;
+    let text = format!(in alloc; "POINT({zeros}1 0.5{zeros})")?;
+    assert_eq!(rt; gives(alloc, &text)?.as_str(), "POINT(1 0.5)");
+    let word = "A".repeat(alloc, 100000)?;
+    assert_eq!(rt; gives(alloc, &word)?.as_str(), NO_KIND);
+    Ok(())
+}
+
+// Whether a text has just so many lexemes.
+fn has_lexemes(text: &str, count: usize) -> bool {
+    let mut tokens = Tokens::<Decimal<6>>::from_str(text);
+    for _ in 0..count {
+        if tokens.next().is_none() {
+            return false;
+        }
+    }
+    tokens.next().is_none() && tokens.next().is_none()
+}
+
+const CLASSES: [(&str, usize); 15] = [
+    (" ", 0),
+    ("\n", 0),
+    ("\r", 0),
+    ("\t", 0),
+    ("\0", 0),
+    ("0", 1),
+    ("9", 1),
+    ("-", 1),
+    (".", 1),
+    ("A", 1),
+    ("z", 1),
+    ("¾", 1),
+    ("(", 100000),
+    (")", 100000),
+    (",", 100000),
+];
+
+#[test]
+fn long_runs_of_each_class(rt: HostRuntime) -> Result<(), Fail> {
+    let alloc = rt.alloc();
+    for (piece, lexemes) in CLASSES {
+        let text = piece.repeat(alloc, 100000)?;
+        assert!(rt; has_lexemes(&text, lexemes), "of {piece}");
+    }
+    Ok(())
+}

@@ -1,0 +1,59 @@
+#!/usr/bin/env bash
+# Plants wrong bodies under the functions of each library (rt plant --all), or of those that are named, and tells how many
+# of them the contracts refuse and how many they let through. Each that they let through has to be one of those listed
+# here, which are right, with the reason; any other fails.
+#
+# It isn't part of the gate: over all libraries it takes hours. What a plant is, `rt plant --help` says.
+set -u
+cd "$(dirname "$0")/.."
+dir=$(mktemp -d)
+trap 'rm -rf "$dir"' EXIT
+
+# The plants that are right: a crate, and a pattern of what rt plant prints of the plant behind its line number.
+cat > "$dir/right" <<'RIGHT'
+# A fast way of reading digits: its None says nothing of them, and they are then read in the plain way.
+wkt_num last_digits: \{ None \}
+# Which of two texts stands first makes no difference.
+wkt_uses same_place: \{ .*\(alloc, other, one\) \}
+# The sink that it makes may have no room, and memory may run out: both are answers that its contract allows at any time.
+wkt_uses answers: \{ Err\(RunError::(Write|Memory)\(.*\)\) \}
+wkt_uses answers: \{ .*\(alloc, input, 0\) \}
+# That two calls differ says nothing of the text: the tables take it for wrong.
+wkt_answers answer: \{ Err\(AnswerError::Differ\) \}
+# Which fault a source gives is no part of a contract.
+wkt_stream Block::fill: \{ .*Err\(.*\).* \}
+# The lines that ended within what was seen before are none, so to look from the start finds the same.
+wkt_stream Block::whole: \{ .*whole\(self, 0\) \}
+RIGHT
+
+crates=("$@")
+if [ "${#crates[@]}" = 0 ]; then
+    # The crates of tests have no function of their own.
+    while read -r name _; do
+        case $name in '' | '#'* | *_conformance*) continue ;; esac
+        name=${name%:}
+        [ -e "crates/$name/src/lib.rt" ] && crates+=("$name")
+    done < crates.txt
+fi
+
+status=0
+for crate in "${crates[@]}"; do
+    (cd "crates/$crate" && rt plant --all --max 100000 --minutes 600) > "$dir/said" 2> "$dir/err"
+    last=$(tail -n 1 "$dir/said")
+    case $last in
+        "plants crate=$crate "*) ;;
+        *) echo "$crate: no verdict"; cat "$dir/err" "$dir/said"; status=1; continue ;;
+    esac
+    count() { sed "s/.* $1=\([0-9]*\).*/\1/" <<< "$last"; }
+    echo "$crate: $(count refused) wrong bodies refused, $(count proves) proved, $(count not-run) not tried"
+    [ "$(count not-run)" = 0 ] || status=1
+    sed -n "s/^$crate //p" "$dir/right" > "$dir/patterns"
+    sed -n 's/^proves  *[^ ]* *//p' "$dir/said" | while IFS= read -r plant; do
+        if ! grep -qE -f "$dir/patterns" <<< "$plant"; then
+            echo "$crate: proved, and not listed as right: $plant"
+            touch "$dir/other"
+        fi
+    done
+done
+[ -e "$dir/other" ] && status=1
+exit "$status"
