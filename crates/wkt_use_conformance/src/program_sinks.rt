@@ -8,7 +8,7 @@ const INPUT: &[u8] = b"point ( 10 -20.50 )\nPOINT ZM EMPTY\nPOINTZ(-117 33 10)\n
 
 const OUTPUT: &[u8] = b"POINT(10 -20.5)\nPOINT ZM EMPTY\nPOINT Z(-117 33 10)\nrefused\nrefused\n";
 
-const LINES: [(&[u8], &[u8]); 10] = [
+const LINES: [(&[u8], &[u8]); 13] = [
     (b"", b""),
     (b"\n", b"refused\n"),
     (INPUT, OUTPUT),
@@ -30,6 +30,18 @@ const LINES: [(&[u8], &[u8]); 10] = [
     (
         b"POINT(0 170141183460469231731.687303715884105728)\nPOINT(0 0.0000000000000000001)\n",
         b"refused\nrefused\n",
+    ),
+    (
+        b"geometrycollection(point(1 2),geometrycollection z(geometrycollection empty,point m(1 2 3),geometrycollection zm(linestring zm empty,geometrycollection(point(5 5)))),point(3 4))\n",
+        b"GEOMETRYCOLLECTION(POINT(1 2),GEOMETRYCOLLECTION Z(GEOMETRYCOLLECTION EMPTY,POINT M(1 2 3),GEOMETRYCOLLECTION ZM(LINESTRING ZM EMPTY,GEOMETRYCOLLECTION(POINT(5 5)))),POINT(3 4))\n",
+    ),
+    (
+        b"GeometryCollection M ( GeometryCollection ( GeometryCollection ( Point ( 1 2 ) ) ) )\n",
+        b"GEOMETRYCOLLECTION M(GEOMETRYCOLLECTION(GEOMETRYCOLLECTION(POINT(1 2))))\n",
+    ),
+    (
+        b"geometrycollection(geometrycollection z empty,geometrycollection(point(1 1),point(2 2)),geometrycollection(geometrycollection(point(1 1)),point(2 2)),linestring(1 2,3 4))\n",
+        b"GEOMETRYCOLLECTION(GEOMETRYCOLLECTION Z EMPTY,GEOMETRYCOLLECTION(POINT(1 1),POINT(2 2)),GEOMETRYCOLLECTION(GEOMETRYCOLLECTION(POINT(1 1)),POINT(2 2)),LINESTRING(1 2,3 4))\n",
     ),
 ];
 
