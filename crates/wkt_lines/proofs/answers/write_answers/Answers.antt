@@ -1,6 +1,6 @@
 use Rattle.std.proofs.Common.{◌≡◌, [], ◌∷◌, ◌++◌, ◌≢◌, ◌∙◌, ap, Err, length, refl, arith}
 use Rattle.std.proofs.lemmas.Grind.{common_steps}
-use Rattle.std.proofs.lemmas.Str.{IsAscii-drop}
+use Rattle.std.proofs.lemmas.Str.{IsAscii-take, IsAscii-drop}
 use Rattle.wkt_lines.proofs.Answering.{one_more, one_answer}
 use Rattle.wkt_lines.proofs.Adding.{sink_map, memory_map, adds_none, adds_more, breaks_next, adds_first}
 use Rattle.wkt_lines.proofs.answers.write_answers.Goals as goal

@@ -1,7 +1,7 @@
 use Rattle.std.proofs.Common.{◌≡◌, [], ◌∷◌, ◌++◌, ◌≢◌, ◌∙◌, ap, Err, length}
 use Rattle.std.proofs.Common.{arith}
 use Rattle.std.proofs.lemmas.Grind.{common_steps}
-use Rattle.std.proofs.lemmas.Str.{IsAscii-drop}
+use Rattle.std.proofs.lemmas.Str.{IsAscii-take, IsAscii-drop}
 use Rattle.wkt_bytes.specs.Wrapper.{appends_more}
 use Rattle.wkt_lines.proofs.Answering.{one_more, one_answer, write_map, begun}
 use Rattle.wkt_lines.proofs.lines.answer_lines.Goals as goal

@@ -1,4 +1,4 @@
-use Rattle.std.proofs.Common.{arith}
+use Rattle.std.proofs.Common.{◌+◌, arith}
 use Rattle.wkt_lines.proofs.Feeds.{none-more, no-more, found, found-one, found-none}
 use Rattle.wkt_lines.proofs.lines.line_end.Goals as goal
 
