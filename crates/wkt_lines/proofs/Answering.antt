@@ -79,7 +79,7 @@ module _ {S A : Type 0} (sink : Sink S) where
   answer_sink read num s t line answer (Err (answered.Sink e)) is h = (answer, is, h)
   answer_sink read num s t line answer (Err (answered.Memory e)) is h = tt
 
-  pub answer_memory : (P : Type 0) (s t : S) (answer : List ℕ) (r : Result A AnswerError) → AnswersLine sink s answer t r → IfAnswerMemory r P
-  answer_memory P s t answer (Ok x) h = tt
-  answer_memory P s t answer (Err (answered.Sink e)) h = tt
-  answer_memory P s t answer (Err (answered.Memory e)) h = absurd h
+  pub answer_memory : (s t : S) (answer : List ℕ) (r : Result A AnswerError) → AnswersLine sink s answer t r → IfAnswerMemory r (t ≡ s)
+  answer_memory s t answer (Ok x) h = tt
+  answer_memory s t answer (Err (answered.Sink e)) h = tt
+  answer_memory s t answer (Err (answered.Memory e)) h = h

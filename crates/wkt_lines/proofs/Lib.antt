@@ -3,3 +3,4 @@ pub mod Adding
 mod Feeds
 pub mod Parts
 pub mod Ones
+mod Nesting

@@ -1,5 +1,5 @@
 -- A fact for one fault of an answer. Only private contracts cite these words.
-use Rattle.std.specs.Prelude.{ℕ, List, Result, Ok, Err}
+use Rattle.std.specs.Prelude.{◌≡◌, ℕ, List, Result, Ok, Err}
 use Rattle.wkt_num.specs.Sink.{Sink, Adds, Breaks}
 use Rattle.wkt_lines.specs.declared.answer.AnswerError.{AnswerError}
 use Rattle.wkt_lines.specs.declared.answer.AnswerError.TheVariants as answered
@@ -16,8 +16,8 @@ IfAnswerMemory (Ok x) P = Unit {0}
 IfAnswerMemory (Err (answered.Sink e)) P = Unit {0}
 IfAnswerMemory (Err (answered.Memory e)) P = P
 
--- The text was added, or the sink broke off when a beginning of it was.
+-- The text was added, or the sink broke off when a beginning of it was, or the call was out of memory and added nothing.
 abbrev pub AnswersLine : {S A : Type 0} → Sink S → S → List ℕ → S → Result A AnswerError → Type 0
 AnswersLine sink s bs t (Ok x) = Adds sink s bs t
 AnswersLine sink s bs t (Err (answered.Sink e)) = Breaks sink s bs t
-AnswersLine sink s bs t (Err (answered.Memory e)) = ⊥
+AnswersLine sink s bs t (Err (answered.Memory e)) = t ≡ s

@@ -8,12 +8,12 @@ ghost use Rattle.wkt_types.specs.Values.{tree_shape};
 ghost use Rattle.wkt_lines.specs.Answer.{AnswersLine, IfSink, IfAnswerMemory};
 ghost use Rattle.wkt_lines.specs.Output.{AddsAnswer, BreaksAnswer};
 
+use crate::nested::{is_nested, put_nested, put_whole, room_for};
 use std::alloc::{AllocError, Global};
 use std::fmt;
 use thiserror::Error;
-use wkt::error::Error as WriteError;
 use wkt::laws::read_values_are_writable;
-use wkt::to_wkt::{TextSink, write_geometry};
+use wkt::to_wkt::TextSink;
 use wkt::{FromWktStr, ReadError, Wkt, WktNum};
 
 /// Why lines weren't answered.
@@ -63,22 +63,34 @@ fn write_front<T: WktNum, W: TextSink>(
         Ok(wkt) => {
             // No effect at run time. The proof reads that what was read can be written.
             read_values_are_writable::<T>();
-            write_value(&wkt, f)
+            write_value(alloc, &wkt, f)
         }
         Err(ReadError::Text(_)) => refuse(f),
         Err(ReadError::Memory(e)) => Err(AnswerError::Memory(e)),
     }
 }
 
-/// Writes the text of a geometry that can be written.
-fn write_value<T: WktNum, W: TextSink>(wkt: &Wkt<T>, f: &mut W) -> Result<(), AnswerError>
+/// Writes the text of a geometry that can be written. Memory is asked for before anything is added, and only where
+/// collections hold others.
+fn write_value<T: WktNum, W: TextSink>(
+    alloc: Global,
+    wkt: &Wkt<T>,
+    f: &mut W,
+) -> Result<(), AnswerError>
     requires { fault (tree_shape (tree wkt.now)) ≡ None }
     ensures { AnswersLine W.sink f.old (shape_text T.num (tree_shape (tree wkt.now))) f.new result }
 {
-    match write_geometry(f, wkt) {
+    let written = if is_nested(wkt) {
+        match room_for(alloc, wkt) {
+            Ok(opened) => put_nested(wkt, opened, f),
+            Err(e) => return Err(AnswerError::Memory(e)),
+        }
+    } else {
+        put_whole(wkt, f)
+    };
+    match written {
         Ok(()) => Ok(()),
-        Err(WriteError::FmtError(e)) => Err(AnswerError::Sink(e)),
-        Err(_) => unreachable!(),
+        Err(e) => Err(AnswerError::Sink(e)),
     }
 }
 

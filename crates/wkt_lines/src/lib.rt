@@ -14,6 +14,7 @@ mod answer;
 mod answers;
 pub mod laws;
 mod lines;
+mod nested;
 
 pub use answer::AnswerError;
 pub use answers::write_answers;

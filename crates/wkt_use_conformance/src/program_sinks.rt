@@ -8,11 +8,15 @@ const INPUT: &[u8] = b"point ( 10 -20.50 )\nPOINT ZM EMPTY\nPOINTZ(-117 33 10)\n
 
 const OUTPUT: &[u8] = b"POINT(10 -20.5)\nPOINT ZM EMPTY\nPOINT Z(-117 33 10)\nrefused\nrefused\n";
 
-const LINES: [(&[u8], &[u8]); 4] = [
+const LINES: [(&[u8], &[u8]); 5] = [
     (b"", b""),
     (b"\n", b"refused\n"),
     (INPUT, OUTPUT),
     (b"POINT(1 2)", b"POINT(1 2)\n"),
+    (
+        b"GeometryCollection M ( GeometryCollection ( GeometryCollection ( Point ( 1 2 ) ) ) )\n",
+        b"GEOMETRYCOLLECTION M(GEOMETRYCOLLECTION(GEOMETRYCOLLECTION(POINT(1 2))))\n",
+    ),
 ];
 
 // A program that gives up on every input fails here.

@@ -15,7 +15,7 @@ returns-in-Err-clause-sink g c =
     (inr (record { cause = inl c.in-Err.ensures.cases.0; refused = refl })) c.refuse.ensures
 
 pub returns-in-Err-clause-memory : goal.returns-in-Err-clause-memory
-returns-in-Err-clause-memory g c = answer_memory g.W.TextSink.sink _ c.args.f.now c.refuse.new.f (codes "refused") c.refuse.result c.refuse.ensures
+returns-in-Err-clause-memory g c = answer_memory g.W.TextSink.sink c.args.f.now c.refuse.new.f (codes "refused") c.refuse.result c.refuse.ensures
 
 pub from_utf8_unchecked-requires : goal.from_utf8_unchecked-requires
 from_utf8_unchecked-requires g c =

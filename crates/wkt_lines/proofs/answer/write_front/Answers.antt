@@ -25,7 +25,7 @@ returns-in-Ok-clause-sink g c =
     (inl (record { utf8 = c.requires; value = value; end = end; front = front; text = ap (shape_text g.T.WktNum.num) same })) c.write_value.ensures
 
 pub returns-in-Ok-clause-memory : goal.returns-in-Ok-clause-memory
-returns-in-Ok-clause-memory g c = answer_memory g.W.TextSink.sink _ c.args.f.now c.write_value.new.f (shape_text g.T.WktNum.num (tree_shape (tree c.in-Ok.wkt))) c.write_value.result c.write_value.ensures
+returns-in-Ok-clause-memory g c = answer_memory g.W.TextSink.sink c.args.f.now c.write_value.new.f (shape_text g.T.WktNum.num (tree_shape (tree c.in-Ok.wkt))) c.write_value.result c.write_value.ensures
 
 pub returns-in-Err-Text-clause-ok : goal.returns-in-Err-Text-clause-ok
 returns-in-Err-Text-clause-ok g c =
@@ -40,4 +40,4 @@ returns-in-Err-Text-clause-sink g c =
     (inr (record { cause = inr none; refused = refl })) c.refuse.ensures
 
 pub returns-in-Err-Text-clause-memory : goal.returns-in-Err-Text-clause-memory
-returns-in-Err-Text-clause-memory g c = answer_memory g.W.TextSink.sink _ c.args.f.now c.refuse.new.f (codes "refused") c.refuse.result c.refuse.ensures
+returns-in-Err-Text-clause-memory g c = answer_memory g.W.TextSink.sink c.args.f.now c.refuse.new.f (codes "refused") c.refuse.result c.refuse.ensures
