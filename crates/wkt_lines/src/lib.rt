@@ -17,4 +17,4 @@ mod lines;
 
 pub use answer::AnswerError;
 pub use answers::write_answers;
-pub use lines::{RunError, run};
+pub use lines::{RunError, run, run_over};
