@@ -75,6 +75,10 @@ pub use Rattle.wkt_flat.specs.Closed
 pub use Rattle.wkt_flat.specs.Equal as FlatEqual
 pub use Rattle.wkt_flat.specs.Exact as FlatExact
 pub use Rattle.wkt_flat.specs.declared.coord.Coord as FlatCoord
+-- walks over its coordinates
+pub use Rattle.wkt_walks.specs.Coords as FlatCoords
+pub use Rattle.wkt_walks.specs.Visits
+pub use Rattle.wkt_walks.specs.Bounds
 -- conversions between the two
 pub use Rattle.wkt_convert.specs.Flatten
 pub use Rattle.wkt_convert.specs.Outcomes

@@ -18,4 +18,4 @@ mod nested;
 
 pub use answer::AnswerError;
 pub use answers::write_answers;
-pub use lines::{RunError, run};
+pub use lines::{RunError, run, run_over};

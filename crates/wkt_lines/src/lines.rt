@@ -32,11 +32,11 @@ pub enum RunError {
     Memory(AllocError),
 }
 
-/// Writes the answers to all lines of the source.
+/// Writes the answers to all lines of the source, with numbers that are decimals of eighteen places.
 ///
 /// The whole input is read first. Lines are the pieces between line feeds; a last empty piece is
 /// dropped. Each line is answered with the text of the geometry that it begins with, or with
-/// `refused` where it has none or isn't UTF-8, and a line feed. Numbers are decimals of eighteen places.
+/// `refused` where it has none or isn't UTF-8, and a line feed.
 ///
 /// # Errors
 /// [`RunError`] tells when each comes, and what is out then. No fault is tried again.
@@ -56,8 +56,34 @@ pub fn run<R: ByteSource, W: ByteSink>(
     ensures memory { IfRunMemory result
         (IfSome (R.left reader.old) (IsFirstOut read_line print_line W.sink writer.old writer.new)) }
 {
+    run_over::<Decimal<18>, R, W>(alloc, reader, writer)
+}
+
+/// Writes the answers to all lines of the source, as [`run`] does, with numbers of any type.
+///
+/// ```text
+/// run_over::<i64, _, _>(alloc, &mut reader, &mut writer)?;
+/// ```
+///
+/// # Errors
+/// Those of [`run`].
+pub fn run_over<T: WktNum, R: ByteSource, W: ByteSink>(
+    alloc: Global,
+    reader: &mut R,
+    writer: &mut W,
+) -> Result<(), RunError>
+    ensures ok { OnOk result (IfSome (R.left reader.old) (IsAllOut T.read T.num W.sink writer.old writer.new)) }
+    ensures end { OnOk result (IsAtEnd (R.left reader.new)) }
+    ensures read { IfRunRead result (writer.new ≡ writer.old) }
+    ensures read_count { IfRunRead result (R.failures reader.new ≡ next_count (R.failures reader.old)) }
+    ensures write { IfRunWrite result
+        (IfSome (R.left reader.old) (IsSomeOut T.read T.num W.sink writer.old writer.new)) }
+    ensures write_count { IfRunWrite result (W.sink.failures writer.new ≡ next_count (W.sink.failures writer.old)) }
+    ensures memory { IfRunMemory result
+        (IfSome (R.left reader.old) (IsFirstOut T.read T.num W.sink writer.old writer.new)) }
+{
     match read_all(alloc, reader) {
-        Ok(bytes) => answer_all::<Decimal<18>, W>(alloc, &bytes, writer),
+        Ok(bytes) => answer_all::<T, W>(alloc, &bytes, writer),
         Err(ReadAllError::Read(e)) => Err(RunError::Read(e)),
         Err(ReadAllError::Memory(e)) => Err(RunError::Memory(e)),
     }

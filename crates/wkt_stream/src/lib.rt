@@ -14,4 +14,4 @@ mod streaming;
 #[cfg(test)]
 mod tests;
 
-pub use streaming::stream;
+pub use streaming::{stream, stream_over};

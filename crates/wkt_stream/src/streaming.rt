@@ -42,8 +42,33 @@ pub fn stream<R: ByteSource, W: ByteSink>(
     ensures memory { IfRunMemory result
         (IfSome (R.left reader.old) (IsFirstOut read_line print_line W.sink writer.old writer.new)) }
 {
+    stream_over::<Decimal<18>, R, W>(alloc, reader, writer)
+}
+
+/// Writes the answers to all lines of the source, as [`stream`] does, with numbers of any type.
+///
+/// # Errors
+/// Those of [`stream`].
+pub fn stream_over<T: WktNum, R: ByteSource, W: ByteSink>(
+    alloc: Global,
+    reader: &mut R,
+    writer: &mut W,
+) -> Result<(), RunError>
+    ensures ok { OnOk result (IfSome (R.left reader.old) (IsAllOut T.read T.num W.sink writer.old writer.new)) }
+    ensures end { OnOk result (IsAtEnd (R.left reader.new)) }
+    ensures read { IfRunRead result
+        (IsTakenOut T.read T.num W.sink (R.left reader.old) (R.left reader.new) writer.old writer.new) }
+    ensures read_first { IfRunRead result
+        (IfSome (R.left reader.old) (IsFirstOut T.read T.num W.sink writer.old writer.new)) }
+    ensures read_count { IfRunRead result (R.failures reader.new ≡ next_count (R.failures reader.old)) }
+    ensures write { IfRunWrite result
+        (IfSome (R.left reader.old) (IsSomeOut T.read T.num W.sink writer.old writer.new)) }
+    ensures write_count { IfRunWrite result (W.sink.failures writer.new ≡ next_count (W.sink.failures writer.old)) }
+    ensures memory { IfRunMemory result
+        (IfSome (R.left reader.old) (IsFirstOut T.read T.num W.sink writer.old writer.new)) }
+{
     let mut gatherer = Gatherer::new(writer);
-    let answer = answer_source::<Decimal<18>, R, &mut W>(alloc, reader, &mut gatherer);
+    let answer = answer_source::<T, R, &mut W>(alloc, reader, &mut gatherer);
     gatherer.into_writer();
     answer
 }

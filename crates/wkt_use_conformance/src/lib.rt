@@ -18,3 +18,5 @@ mod own_types;
 mod program_sinks;
 #[cfg(test)]
 mod slow_sinks;
+#[cfg(test)]
+mod walks;

@@ -2,7 +2,8 @@
 use crate::slow_sinks::{Slow, source};
 use std::io::ErrorKind;
 use std::test::Fail;
-use wkt_lines::{RunError, run};
+use wkt_lines::{RunError, run, run_over};
+use wkt_stream::stream_over;
 
 const INPUT: &[u8] = b"point ( 10 -20.50 )\nPOINT ZM EMPTY\nPOINTZ(-117 33 10)\nPOINT (10)\n\n";
 
@@ -83,4 +84,20 @@ fn faults_of_the_reader(rt: HostRuntime) {
         assert_eq!(rt; writer.calls, 1000);
         assert_eq!(rt; reader.failures, 1);
     }
+}
+
+#[test]
+fn over_whole_numbers(rt: HostRuntime) -> Result<(), Fail> {
+    let input =
+        b"point(+1 2)\nPOINT(1.5 2)\nPOINT(1 9223372036854775808)\nPOINT(1 -9223372036854775808)";
+    let want: &[u8] = b"POINT(1 2)\nrefused\nrefused\nPOINT(1 -9223372036854775808)\n";
+    let mut reader = source(input, 1000, 1000);
+    let mut writer = Slow::new(1000, 1000);
+    run_over::<i64, _, _>(rt.alloc(), &mut reader, &mut writer)?;
+    assert_eq!(rt; writer.taken(), want);
+    let mut reader = source(input, 7, 1000);
+    let mut writer = Slow::new(1000, 1000);
+    stream_over::<i64, _, _>(rt.alloc(), &mut reader, &mut writer)?;
+    assert_eq!(rt; writer.taken(), want);
+    Ok(())
 }

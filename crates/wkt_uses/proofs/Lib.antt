@@ -4,3 +4,4 @@ pub mod Shows
 pub mod Ordering
 pub mod FlatKeys
 pub mod Counted
+pub mod KeyLists

@@ -7,3 +7,5 @@ pub mod Lined
 pub mod Fields
 pub mod Copied
 pub mod FlatKey
+pub mod Keys
+pub mod Boxed

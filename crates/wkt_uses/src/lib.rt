@@ -6,12 +6,14 @@
 
 pub mod any_collection;
 pub mod any_geometry;
+pub mod bounding_box;
 pub mod every_geometry;
 pub mod flat_from_reader;
 pub mod flat_key;
 pub mod flat_key_to_sink;
 pub mod from_json;
 pub mod key;
+pub mod key_counts;
 pub mod my_areas;
 pub mod my_lines;
 pub mod my_map;
