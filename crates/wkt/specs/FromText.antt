@@ -50,26 +50,26 @@ module _ {T : Type 0} (read : List ℕ → Option T) where
   IsUnread text (Memory e) = Unit {0}
 
 -- The fact is claimed of each answer that comes after all bytes were read.
-abbrev pub IfAllRead : {R : Type 0} → Result R ConvertError → Type 0 → Type 0
-IfAllRead (Ok r) P = P
-IfAllRead (Err PointConversionError) P = P
-IfAllRead (Err (MismatchedGeometry e f)) P = P
-IfAllRead (Err (WrongNumberOfGeometries n)) P = P
-IfAllRead (Err (InvalidWKT m)) P = P
-IfAllRead (Err (Reader e)) P = Unit {0}
-IfAllRead (Err Utf8) P = P
-IfAllRead (Err (Memory e)) P = Unit {0}
+abbrev pub OnAllRead : {R : Type 0} → Result R ConvertError → Type 0 → Type 0
+OnAllRead (Ok r) P = P
+OnAllRead (Err PointConversionError) P = P
+OnAllRead (Err (MismatchedGeometry e f)) P = P
+OnAllRead (Err (WrongNumberOfGeometries n)) P = P
+OnAllRead (Err (InvalidWKT m)) P = P
+OnAllRead (Err (Reader e)) P = Unit {0}
+OnAllRead (Err Utf8) P = P
+OnAllRead (Err (Memory e)) P = Unit {0}
 
 -- The fact is claimed where the source failed.
-abbrev pub IfReader : {R : Type 0} → Result R ConvertError → Type 0 → Type 0
-IfReader (Ok r) P = Unit {0}
-IfReader (Err PointConversionError) P = Unit {0}
-IfReader (Err (MismatchedGeometry e f)) P = Unit {0}
-IfReader (Err (WrongNumberOfGeometries n)) P = Unit {0}
-IfReader (Err (InvalidWKT m)) P = Unit {0}
-IfReader (Err (Reader e)) P = P
-IfReader (Err Utf8) P = Unit {0}
-IfReader (Err (Memory e)) P = Unit {0}
+abbrev pub OnReader : {R : Type 0} → Result R ConvertError → Type 0 → Type 0
+OnReader (Ok r) P = Unit {0}
+OnReader (Err PointConversionError) P = Unit {0}
+OnReader (Err (MismatchedGeometry e f)) P = Unit {0}
+OnReader (Err (WrongNumberOfGeometries n)) P = Unit {0}
+OnReader (Err (InvalidWKT m)) P = Unit {0}
+OnReader (Err (Reader e)) P = P
+OnReader (Err Utf8) P = Unit {0}
+OnReader (Err (Memory e)) P = Unit {0}
 
 -- Why the bytes of a source are no text.
 abbrev pub IsUntold : List ℕ → ConvertError → Type 0

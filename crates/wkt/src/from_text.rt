@@ -8,7 +8,7 @@ ghost use Rattle.wkt_flat.specs.Tree.{flat_tree, flat_trees};
 ghost use Rattle.wkt_flat.specs.Equal.{coord_eq};
 ghost use Rattle.wkt_read.specs.Answered.{IsFront};
 ghost use Rattle.wkt_convert.specs.Flatten.{flat, flat_collection};
-ghost use Rattle.wkt.specs.FromText.{TextAnswers, BytesAnswer, IfAllRead, IfReader, IsUnread, IsUntold};
+ghost use Rattle.wkt.specs.FromText.{TextAnswers, BytesAnswer, OnAllRead, OnReader, IsUnread, IsUntold};
 ghost use Rattle.wkt_convert.specs.Kinds.{only_flat, point_in, line_in, path_in, rings_in, points_in, paths_in, polygons_in, corners_in, triangle_in};
 
 use std::alloc::Global;
@@ -78,8 +78,8 @@ fn read_text<T: WktNum>(alloc: Global, text: &str) -> Result<Wkt<T>, ConvertErro
 /// The text that the source holds.
 fn text_from<R: ByteSource>(alloc: Global, reader: &mut R) -> Result<String, ConvertError>
     ensures text { IfSome (R.left reader.old) (λ bs. MatchResult result (λ s. string_bytes s ≡ bs) (IsUntold bs)) }
-    ensures end { IfAllRead result (IsAtEnd (R.left reader.new)) }
-    ensures failed { IfReader result (R.failures reader.new ≡ next_count (R.failures reader.old)) }
+    ensures end { OnAllRead result (IsAtEnd (R.left reader.new)) }
+    ensures failed { OnReader result (R.failures reader.new ≡ next_count (R.failures reader.old)) }
 {
     match read_all(alloc, reader) {
         Ok(bytes) => match String::from_utf8(bytes) {
@@ -98,9 +98,9 @@ impl<T: WktNum> TryFromWkt<T> for flat::Point<T> {
 
     ghost bytes_answers = { λ bytes r. BytesAnswer T.read (λ x. x) (only_flat (codes "Point") point_in T.eq) bytes r };
 
-    ghost if_all_read = { IfAllRead };
+    ghost if_all_read = { OnAllRead };
 
-    ghost if_failed = { IfReader };
+    ghost if_failed = { OnReader };
 
     fn try_from_wkt_str(alloc: Global, text: &str) -> Result<Self, ConvertError> {
         match read_text(alloc, text) {
@@ -127,9 +127,9 @@ impl<T: WktNum> TryFromWkt<T> for flat::Line<T> {
 
     ghost bytes_answers = { λ bytes r. BytesAnswer T.read (λ x. x) (only_flat (codes "Line") line_in T.eq) bytes r };
 
-    ghost if_all_read = { IfAllRead };
+    ghost if_all_read = { OnAllRead };
 
-    ghost if_failed = { IfReader };
+    ghost if_failed = { OnReader };
 
     fn try_from_wkt_str(alloc: Global, text: &str) -> Result<Self, ConvertError> {
         match read_text(alloc, text) {
@@ -157,9 +157,9 @@ impl<T: WktNum> TryFromWkt<T> for flat::LineString<T> {
     ghost bytes_answers = { λ bytes r. BytesAnswer T.read (λ x. x) (only_flat (codes "LineString") path_in T.eq)
         bytes r };
 
-    ghost if_all_read = { IfAllRead };
+    ghost if_all_read = { OnAllRead };
 
-    ghost if_failed = { IfReader };
+    ghost if_failed = { OnReader };
 
     fn try_from_wkt_str(alloc: Global, text: &str) -> Result<Self, ConvertError> {
         match read_text(alloc, text) {
@@ -187,9 +187,9 @@ impl<T: WktNum> TryFromWkt<T> for flat::Polygon<T> {
     ghost bytes_answers = { λ bytes r. BytesAnswer T.read (λ x. x) (only_flat (codes "Polygon") rings_in T.eq)
         bytes r };
 
-    ghost if_all_read = { IfAllRead };
+    ghost if_all_read = { OnAllRead };
 
-    ghost if_failed = { IfReader };
+    ghost if_failed = { OnReader };
 
     fn try_from_wkt_str(alloc: Global, text: &str) -> Result<Self, ConvertError> {
         match read_text(alloc, text) {
@@ -217,9 +217,9 @@ impl<T: WktNum> TryFromWkt<T> for flat::MultiPoint<T> {
     ghost bytes_answers = { λ bytes r. BytesAnswer T.read (λ x. x) (only_flat (codes "MultiPoint") points_in T.eq)
         bytes r };
 
-    ghost if_all_read = { IfAllRead };
+    ghost if_all_read = { OnAllRead };
 
-    ghost if_failed = { IfReader };
+    ghost if_failed = { OnReader };
 
     fn try_from_wkt_str(alloc: Global, text: &str) -> Result<Self, ConvertError> {
         match read_text(alloc, text) {
@@ -248,9 +248,9 @@ impl<T: WktNum> TryFromWkt<T> for flat::MultiLineString<T> {
     ghost bytes_answers = { λ bytes r. BytesAnswer T.read (λ x. x)
         (only_flat (codes "MultiLineString") paths_in T.eq) bytes r };
 
-    ghost if_all_read = { IfAllRead };
+    ghost if_all_read = { OnAllRead };
 
-    ghost if_failed = { IfReader };
+    ghost if_failed = { OnReader };
 
     fn try_from_wkt_str(alloc: Global, text: &str) -> Result<Self, ConvertError> {
         match read_text(alloc, text) {
@@ -279,9 +279,9 @@ impl<T: WktNum> TryFromWkt<T> for flat::MultiPolygon<T> {
     ghost bytes_answers = { λ bytes r. BytesAnswer T.read (λ x. x)
         (only_flat (codes "MultiPolygon") polygons_in T.eq) bytes r };
 
-    ghost if_all_read = { IfAllRead };
+    ghost if_all_read = { OnAllRead };
 
-    ghost if_failed = { IfReader };
+    ghost if_failed = { OnReader };
 
     fn try_from_wkt_str(alloc: Global, text: &str) -> Result<Self, ConvertError> {
         match read_text(alloc, text) {
@@ -308,9 +308,9 @@ impl<T: WktNum> TryFromWkt<T> for flat::Rect<T> {
 
     ghost bytes_answers = { λ bytes r. BytesAnswer T.read (λ x. x) (only_flat (codes "Rect") corners_in T.eq) bytes r };
 
-    ghost if_all_read = { IfAllRead };
+    ghost if_all_read = { OnAllRead };
 
-    ghost if_failed = { IfReader };
+    ghost if_failed = { OnReader };
 
     fn try_from_wkt_str(alloc: Global, text: &str) -> Result<Self, ConvertError> {
         match read_text(alloc, text) {
@@ -338,9 +338,9 @@ impl<T: WktNum> TryFromWkt<T> for flat::Triangle<T> {
     ghost bytes_answers = { λ bytes r. BytesAnswer T.read (λ x. x) (only_flat (codes "Triangle") triangle_in T.eq)
         bytes r };
 
-    ghost if_all_read = { IfAllRead };
+    ghost if_all_read = { OnAllRead };
 
-    ghost if_failed = { IfReader };
+    ghost if_failed = { OnReader };
 
     fn try_from_wkt_str(alloc: Global, text: &str) -> Result<Self, ConvertError> {
         match read_text(alloc, text) {
@@ -367,9 +367,9 @@ impl<T: WktNum> TryFromWkt<T> for flat::GeometryCollection<T> {
 
     ghost bytes_answers = { λ bytes r. BytesAnswer T.read flat_trees (flat_collection (coord_eq T.eq)) bytes r };
 
-    ghost if_all_read = { IfAllRead };
+    ghost if_all_read = { OnAllRead };
 
-    ghost if_failed = { IfReader };
+    ghost if_failed = { OnReader };
 
     fn try_from_wkt_str(alloc: Global, text: &str) -> Result<Self, ConvertError> {
         match read_text(alloc, text) {
@@ -396,9 +396,9 @@ impl<T: WktNum> TryFromWkt<T> for flat::Geometry<T> {
 
     ghost bytes_answers = { λ bytes r. BytesAnswer T.read flat_tree (flat (coord_eq T.eq)) bytes r };
 
-    ghost if_all_read = { IfAllRead };
+    ghost if_all_read = { OnAllRead };
 
-    ghost if_failed = { IfReader };
+    ghost if_failed = { OnReader };
 
     fn try_from_wkt_str(alloc: Global, text: &str) -> Result<Self, ConvertError> {
         match read_text(alloc, text) {

@@ -4,7 +4,7 @@ use Rattle.wkt_bytes.specs.declared.read.ReadAllError.{ReadAllError}
 use Rattle.wkt_bytes.specs.declared.read.ReadAllError.TheVariants.{Read, Memory}
 
 -- The fact is claimed where the source failed.
-abbrev pub IfRead : {A : Type 0} → Result A ReadAllError → Type 0 → Type 0
-IfRead (Ok x) P = Unit {0}
-IfRead (Err (Read e)) P = P
-IfRead (Err (Memory e)) P = Unit {0}
+abbrev pub OnRead : {A : Type 0} → Result A ReadAllError → Type 0 → Type 0
+OnRead (Ok x) P = Unit {0}
+OnRead (Err (Read e)) P = P
+OnRead (Err (Memory e)) P = Unit {0}

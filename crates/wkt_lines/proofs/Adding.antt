@@ -4,18 +4,18 @@ use Rattle.wkt_num.specs.Sink.{next_count, Sink, Adds, Breaks}
 use Rattle.wkt_lines.specs.Lines.{input_lines}
 use Rattle.wkt_lines.specs.Splitting.{before_feed, after_feed}
 use Rattle.wkt_lines.specs.Output.{AreAnswers}
-use Rattle.wkt_lines.specs.Answer.{IfSink, IfAnswerMemory}
+use Rattle.wkt_lines.specs.Answer.{OnSink, OnAnswerMemory}
 use Rattle.wkt_lines.specs.Added.{AddsFirst, BreaksLine, BreaksOutput}
 use Rattle.wkt_lines.specs.declared.answer.AnswerError.{AnswerError}
 use Rattle.wkt_lines.specs.declared.answer.AnswerError.TheVariants as answered
 use Rattle.wkt_lines.proofs.Answering.{next_line}
 
-pub sink_map : {A P Q : Type 0} (r : Result A AnswerError) → (P → Q) → IfSink r P → IfSink r Q
+pub sink_map : {A P Q : Type 0} (r : Result A AnswerError) → (P → Q) → OnSink r P → OnSink r Q
 sink_map (Ok x) f h = tt
 sink_map (Err (answered.Sink e)) f h = f h
 sink_map (Err (answered.Memory e)) f h = tt
 
-pub memory_map : {A P Q : Type 0} (r : Result A AnswerError) → (P → Q) → IfAnswerMemory r P → IfAnswerMemory r Q
+pub memory_map : {A P Q : Type 0} (r : Result A AnswerError) → (P → Q) → OnAnswerMemory r P → OnAnswerMemory r Q
 memory_map (Ok x) f h = tt
 memory_map (Err (answered.Sink e)) f h = tt
 memory_map (Err (answered.Memory e)) f h = f h

@@ -4,14 +4,14 @@ use Rattle.std.specs.Io.KnownBytes.{Appends}
 use Rattle.std.proofs.lemmas.List.{append-nil}
 use Rattle.wkt_bytes.specs.Sinks.{BeginningOut}
 use Rattle.wkt_lines.specs.Lines.{input_lines}
-use Rattle.wkt_lines.specs.Output.{IsAnswer, AreAnswers, PartOut, IfRunWrite}
+use Rattle.wkt_lines.specs.Output.{IsAnswer, AreAnswers, PartOut, OnRunWrite}
 use Rattle.wkt_lines.specs.declared.lines.RunError.{RunError}
 use Rattle.wkt_lines.specs.declared.lines.RunError.TheVariants as run
 use Rattle.wkt_bytes.specs.Wrapper.{appends_more}
 use Rattle.wkt_num.specs.Sink.{Sink, Adds, Breaks}
 use Rattle.wkt_lines.specs.declared.answer.AnswerError.{AnswerError}
 use Rattle.wkt_lines.specs.declared.answer.AnswerError.TheVariants as answered
-use Rattle.wkt_lines.specs.Answer.{AnswersLine, IfSink, IfAnswerMemory}
+use Rattle.wkt_lines.specs.Answer.{AnswersLine, OnSink, OnAnswerMemory}
 use Rattle.wkt_lines.specs.Splitting.{lines_step, before_feed, after_feed}
 
 lines_on : (xs : List ℕ) → (xs ≢ []) → input_lines xs ≡ before_feed xs ∷ input_lines (after_feed xs)
@@ -44,7 +44,7 @@ pub err_map : {T E : Type 0} {P Q : Type 0} (r : Result T E) → (P → Q) → O
 err_map (Ok x) f p = tt
 err_map (Err e) f p = f p
 
-pub write_map : {A P Q : Type 0} (r : Result A RunError) → (P → Q) → IfRunWrite r P → IfRunWrite r Q
+pub write_map : {A P Q : Type 0} (r : Result A RunError) → (P → Q) → OnRunWrite r P → OnRunWrite r Q
 write_map (Ok x) f h = tt
 write_map (Err (run.Read e)) f h = tt
 write_map (Err (run.Write e)) f h = f h
@@ -74,12 +74,12 @@ module _ {S A : Type 0} (sink : Sink S) where
   answer_ok read num s t line answer (Ok x) is h = (answer, is, h)
   answer_ok read num s t line answer (Err e) is h = tt
 
-  pub answer_sink : {N : Type 0} (read : List ℕ → Option N) (num : N → List ℕ) (s t : S) (line answer : List ℕ) (r : Result A AnswerError) → IsAnswer read num line answer → AnswersLine sink s answer t r → IfSink r ((a : List ℕ) × IsAnswer read num line a × Breaks sink s a t)
+  pub answer_sink : {N : Type 0} (read : List ℕ → Option N) (num : N → List ℕ) (s t : S) (line answer : List ℕ) (r : Result A AnswerError) → IsAnswer read num line answer → AnswersLine sink s answer t r → OnSink r ((a : List ℕ) × IsAnswer read num line a × Breaks sink s a t)
   answer_sink read num s t line answer (Ok x) is h = tt
   answer_sink read num s t line answer (Err (answered.Sink e)) is h = (answer, is, h)
   answer_sink read num s t line answer (Err (answered.Memory e)) is h = tt
 
-  pub answer_memory : (s t : S) (answer : List ℕ) (r : Result A AnswerError) → AnswersLine sink s answer t r → IfAnswerMemory r (t ≡ s)
+  pub answer_memory : (s t : S) (answer : List ℕ) (r : Result A AnswerError) → AnswersLine sink s answer t r → OnAnswerMemory r (t ≡ s)
   answer_memory s t answer (Ok x) h = tt
   answer_memory s t answer (Err (answered.Sink e)) h = tt
   answer_memory s t answer (Err (answered.Memory e)) h = h

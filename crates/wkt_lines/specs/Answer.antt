@@ -5,16 +5,16 @@ use Rattle.wkt_lines.specs.declared.answer.AnswerError.{AnswerError}
 use Rattle.wkt_lines.specs.declared.answer.AnswerError.TheVariants as answered
 
 -- The fact is claimed where the sink failed.
-abbrev pub IfSink : {A : Type 0} → Result A AnswerError → Type 0 → Type 0
-IfSink (Ok x) P = Unit {0}
-IfSink (Err (answered.Sink e)) P = P
-IfSink (Err (answered.Memory e)) P = Unit {0}
+abbrev pub OnSink : {A : Type 0} → Result A AnswerError → Type 0 → Type 0
+OnSink (Ok x) P = Unit {0}
+OnSink (Err (answered.Sink e)) P = P
+OnSink (Err (answered.Memory e)) P = Unit {0}
 
 -- The fact is claimed where the call was out of memory.
-abbrev pub IfAnswerMemory : {A : Type 0} → Result A AnswerError → Type 0 → Type 0
-IfAnswerMemory (Ok x) P = Unit {0}
-IfAnswerMemory (Err (answered.Sink e)) P = Unit {0}
-IfAnswerMemory (Err (answered.Memory e)) P = P
+abbrev pub OnAnswerMemory : {A : Type 0} → Result A AnswerError → Type 0 → Type 0
+OnAnswerMemory (Ok x) P = Unit {0}
+OnAnswerMemory (Err (answered.Sink e)) P = Unit {0}
+OnAnswerMemory (Err (answered.Memory e)) P = P
 
 -- The text was added, or the sink broke off when a beginning of it was, or the call was out of memory and added nothing.
 abbrev pub AnswersLine : {S A : Type 0} → Sink S → S → List ℕ → S → Result A AnswerError → Type 0

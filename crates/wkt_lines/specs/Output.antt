@@ -98,22 +98,22 @@ module _ {N : Type 0} (read : List ℕ → Option N) (num : N → List ℕ) wher
     BreaksAnswer old new line = (answer : List ℕ) × IsAnswer line answer × Breaks sink old answer new
 
 -- The fact is claimed where the reader failed.
-abbrev pub IfRunRead : {A : Type 0} → Result A RunError → Type 0 → Type 0
-IfRunRead (Ok x) P = Unit {0}
-IfRunRead (Err (run.Read e)) P = P
-IfRunRead (Err (run.Write e)) P = Unit {0}
-IfRunRead (Err (run.Memory e)) P = Unit {0}
+abbrev pub OnRunRead : {A : Type 0} → Result A RunError → Type 0 → Type 0
+OnRunRead (Ok x) P = Unit {0}
+OnRunRead (Err (run.Read e)) P = P
+OnRunRead (Err (run.Write e)) P = Unit {0}
+OnRunRead (Err (run.Memory e)) P = Unit {0}
 
 -- The fact is claimed where the writer failed.
-abbrev pub IfRunWrite : {A : Type 0} → Result A RunError → Type 0 → Type 0
-IfRunWrite (Ok x) P = Unit {0}
-IfRunWrite (Err (run.Read e)) P = Unit {0}
-IfRunWrite (Err (run.Write e)) P = P
-IfRunWrite (Err (run.Memory e)) P = Unit {0}
+abbrev pub OnRunWrite : {A : Type 0} → Result A RunError → Type 0 → Type 0
+OnRunWrite (Ok x) P = Unit {0}
+OnRunWrite (Err (run.Read e)) P = Unit {0}
+OnRunWrite (Err (run.Write e)) P = P
+OnRunWrite (Err (run.Memory e)) P = Unit {0}
 
 -- The fact is claimed where the call was out of memory.
-abbrev pub IfRunMemory : {A : Type 0} → Result A RunError → Type 0 → Type 0
-IfRunMemory (Ok x) P = Unit {0}
-IfRunMemory (Err (run.Read e)) P = Unit {0}
-IfRunMemory (Err (run.Write e)) P = Unit {0}
-IfRunMemory (Err (run.Memory e)) P = P
+abbrev pub OnRunMemory : {A : Type 0} → Result A RunError → Type 0 → Type 0
+OnRunMemory (Ok x) P = Unit {0}
+OnRunMemory (Err (run.Read e)) P = Unit {0}
+OnRunMemory (Err (run.Write e)) P = Unit {0}
+OnRunMemory (Err (run.Memory e)) P = P

@@ -5,7 +5,7 @@ ghost use Rattle.wkt_access.specs.Faults.{fault};
 ghost use Rattle.wkt_access.specs.Texts.{shape_text};
 ghost use Rattle.wkt_types.specs.Tree.{tree};
 ghost use Rattle.wkt_types.specs.Values.{tree_shape};
-ghost use Rattle.wkt_lines.specs.Answer.{AnswersLine, IfSink, IfAnswerMemory};
+ghost use Rattle.wkt_lines.specs.Answer.{AnswersLine, OnSink, OnAnswerMemory};
 ghost use Rattle.wkt_lines.specs.Output.{AddsAnswer, BreaksAnswer};
 
 use crate::nested::{is_nested, put_nested, put_whole, room_for};
@@ -36,8 +36,8 @@ pub(crate) fn write_answer<T: WktNum, W: TextSink>(
 ) -> Result<(), AnswerError>
     requires { ascii ≡ true → IsAscii line.now }
     ensures ok { OnOk result (AddsAnswer T.read T.num W.sink f.old f.new line.now) }
-    ensures sink { IfSink result (BreaksAnswer T.read T.num W.sink f.old f.new line.now) }
-    ensures memory { IfAnswerMemory result (f.new ≡ f.old) }
+    ensures sink { OnSink result (BreaksAnswer T.read T.num W.sink f.old f.new line.now) }
+    ensures memory { OnAnswerMemory result (f.new ≡ f.old) }
 {
     if ascii || line.is_ascii() {
         return write_front::<T, W>(alloc, unsafe { str::from_utf8_unchecked(line) }, f);
@@ -56,8 +56,8 @@ fn write_front<T: WktNum, W: TextSink>(
 ) -> Result<(), AnswerError>
     requires { IsUtf8 text.now }
     ensures ok { OnOk result (AddsAnswer T.read T.num W.sink f.old f.new text.now) }
-    ensures sink { IfSink result (BreaksAnswer T.read T.num W.sink f.old f.new text.now) }
-    ensures memory { IfAnswerMemory result (f.new ≡ f.old) }
+    ensures sink { OnSink result (BreaksAnswer T.read T.num W.sink f.old f.new text.now) }
+    ensures memory { OnAnswerMemory result (f.new ≡ f.old) }
 {
     match Wkt::<T>::from_str(alloc, text) {
         Ok(wkt) => {

@@ -1,7 +1,7 @@
 //! The answers to all lines of an input, as text.
 ghost use Rattle.std.specs.Prelude.{◌≡◌, OnOk, true};
 ghost use Rattle.std.specs.Str.{IsAscii};
-ghost use Rattle.wkt_lines.specs.Answer.{IfSink, IfAnswerMemory};
+ghost use Rattle.wkt_lines.specs.Answer.{OnSink, OnAnswerMemory};
 ghost use Rattle.wkt_lines.specs.Added.{AddsLine, BreaksLine, AddsOutput, AddsFirst, BreaksOutput};
 
 use crate::answer::{AnswerError, write_answer};
@@ -20,8 +20,8 @@ pub fn write_answers<T: WktNum, W: TextSink>(
     f: &mut W,
 ) -> Result<(), AnswerError>
     ensures ok { OnOk result (AddsOutput T.read T.num W.sink f.old f.new input.now) }
-    ensures sink { IfSink result (BreaksOutput T.read T.num W.sink f.old f.new input.now) }
-    ensures memory { IfAnswerMemory result (AddsFirst T.read T.num W.sink f.old f.new input.now) }
+    ensures sink { OnSink result (BreaksOutput T.read T.num W.sink f.old f.new input.now) }
+    ensures memory { OnAnswerMemory result (AddsFirst T.read T.num W.sink f.old f.new input.now) }
 {
     // Most inputs are ASCII, which is told faster of all lines at once than of each.
     let ascii = input.is_ascii();
@@ -45,8 +45,8 @@ fn write_line<T: WktNum, W: TextSink>(
 ) -> Result<(), AnswerError>
     requires { ascii ≡ true → IsAscii line.now }
     ensures ok { OnOk result (AddsLine T.read T.num W.sink f.old f.new line.now) }
-    ensures sink { IfSink result (BreaksLine T.read T.num W.sink f.old f.new line.now) }
-    ensures memory { IfAnswerMemory result (f.new ≡ f.old) }
+    ensures sink { OnSink result (BreaksLine T.read T.num W.sink f.old f.new line.now) }
+    ensures memory { OnAnswerMemory result (f.new ≡ f.old) }
 {
     match write_answer::<T, W>(alloc, line, ascii, f) {
         Ok(()) => match f.write_str("\n") {

@@ -7,7 +7,7 @@ ghost use Rattle.std.specs.Io.KnownBytes.{IsAtEnd};
 ghost use Rattle.wkt_num.specs.Sink.{next_count};
 ghost use Rattle.wkt_bytes.specs.Wrapper.{is_well, is_untold, held_bytes, wrapped_writer, Gathers, BreaksOff};
 ghost use Rattle.wkt_lines.specs.Numbers.{read_line, print_line};
-ghost use Rattle.wkt_lines.specs.Output.{IsAllOut, IsFirstOut, IsSomeOut, IsLineOut, IsLinePartOut, IfRunRead, IfRunWrite, IfRunMemory};
+ghost use Rattle.wkt_lines.specs.Output.{IsAllOut, IsFirstOut, IsSomeOut, IsLineOut, IsLinePartOut, OnRunRead, OnRunWrite, OnRunMemory};
 ghost use Rattle.wkt_lines.specs.Splitting.{before_feed, after_feed};
 
 use crate::answer::{AnswerError, write_answer};
@@ -48,12 +48,12 @@ pub fn run<R: ByteSource, W: ByteSink>(
     ensures ok { OnOk result
         (IfSome (R.left reader.old) (IsAllOut read_line print_line W.sink writer.old writer.new)) }
     ensures end { OnOk result (IsAtEnd (R.left reader.new)) }
-    ensures read { IfRunRead result (writer.new ≡ writer.old) }
-    ensures read_count { IfRunRead result (R.failures reader.new ≡ next_count (R.failures reader.old)) }
-    ensures write { IfRunWrite result
+    ensures read { OnRunRead result (writer.new ≡ writer.old) }
+    ensures read_count { OnRunRead result (R.failures reader.new ≡ next_count (R.failures reader.old)) }
+    ensures write { OnRunWrite result
         (IfSome (R.left reader.old) (IsSomeOut read_line print_line W.sink writer.old writer.new)) }
-    ensures write_count { IfRunWrite result (W.sink.failures writer.new ≡ next_count (W.sink.failures writer.old)) }
-    ensures memory { IfRunMemory result
+    ensures write_count { OnRunWrite result (W.sink.failures writer.new ≡ next_count (W.sink.failures writer.old)) }
+    ensures memory { OnRunMemory result
         (IfSome (R.left reader.old) (IsFirstOut read_line print_line W.sink writer.old writer.new)) }
 {
     run_over::<Decimal<18>, R, W>(alloc, reader, writer)
@@ -74,12 +74,12 @@ pub fn run_over<T: WktNum, R: ByteSource, W: ByteSink>(
 ) -> Result<(), RunError>
     ensures ok { OnOk result (IfSome (R.left reader.old) (IsAllOut T.read T.num W.sink writer.old writer.new)) }
     ensures end { OnOk result (IsAtEnd (R.left reader.new)) }
-    ensures read { IfRunRead result (writer.new ≡ writer.old) }
-    ensures read_count { IfRunRead result (R.failures reader.new ≡ next_count (R.failures reader.old)) }
-    ensures write { IfRunWrite result
+    ensures read { OnRunRead result (writer.new ≡ writer.old) }
+    ensures read_count { OnRunRead result (R.failures reader.new ≡ next_count (R.failures reader.old)) }
+    ensures write { OnRunWrite result
         (IfSome (R.left reader.old) (IsSomeOut T.read T.num W.sink writer.old writer.new)) }
-    ensures write_count { IfRunWrite result (W.sink.failures writer.new ≡ next_count (W.sink.failures writer.old)) }
-    ensures memory { IfRunMemory result
+    ensures write_count { OnRunWrite result (W.sink.failures writer.new ≡ next_count (W.sink.failures writer.old)) }
+    ensures memory { OnRunMemory result
         (IfSome (R.left reader.old) (IsFirstOut T.read T.num W.sink writer.old writer.new)) }
 {
     match read_all(alloc, reader) {
@@ -96,10 +96,10 @@ fn answer_all<T: WktNum, W: ByteSink>(
     writer: &mut W,
 ) -> Result<(), RunError>
     ensures ok { OnOk result (IsAllOut T.read T.num W.sink writer.old writer.new input.now) }
-    ensures write { IfRunWrite result (IsSomeOut T.read T.num W.sink writer.old writer.new input.now) }
-    ensures write_count { IfRunWrite result (W.sink.failures writer.new ≡ next_count (W.sink.failures writer.old)) }
-    ensures memory { IfRunMemory result (IsFirstOut T.read T.num W.sink writer.old writer.new input.now) }
-    ensures read { IfRunRead result ⊥ }
+    ensures write { OnRunWrite result (IsSomeOut T.read T.num W.sink writer.old writer.new input.now) }
+    ensures write_count { OnRunWrite result (W.sink.failures writer.new ≡ next_count (W.sink.failures writer.old)) }
+    ensures memory { OnRunMemory result (IsFirstOut T.read T.num W.sink writer.old writer.new input.now) }
+    ensures read { OnRunRead result ⊥ }
 {
     let mut wrapper = WriterWrapper::new(writer);
     let answer = answer_lines::<T, &mut W>(alloc, input, &mut wrapper);
@@ -117,13 +117,13 @@ fn answer_lines<T: WktNum, W: ByteSink>(
     requires held { held_bytes wrapper.old ≡ [] }
     ensures ok { OnOk result
         (IsAllOut T.read T.num W.sink (wrapped_writer wrapper.old) (wrapped_writer wrapper.new) input.now) }
-    ensures write { IfRunWrite result
+    ensures write { OnRunWrite result
         (IsSomeOut T.read T.num W.sink (wrapped_writer wrapper.old) (wrapped_writer wrapper.new) input.now) }
-    ensures write_count { IfRunWrite result
+    ensures write_count { OnRunWrite result
         (W.sink.failures (wrapped_writer wrapper.new) ≡ next_count (W.sink.failures (wrapped_writer wrapper.old))) }
-    ensures memory { IfRunMemory result
+    ensures memory { OnRunMemory result
         (IsFirstOut T.read T.num W.sink (wrapped_writer wrapper.old) (wrapped_writer wrapper.new) input.now) }
-    ensures read { IfRunRead result ⊥ }
+    ensures read { OnRunRead result ⊥ }
     ensures keeps { W.sink.keeps (wrapped_writer wrapper.old) (wrapped_writer wrapper.new) }
 {
     // Most inputs are ASCII, which is told faster of all lines at once than of each.
@@ -202,12 +202,12 @@ fn answer_line<T: WktNum, W: ByteSink>(
     ensures held { OnOk result (held_bytes wrapper.new ≡ []) }
     ensures count { OnOk result
         (W.sink.failures (wrapped_writer wrapper.new) ≡ W.sink.failures (wrapped_writer wrapper.old)) }
-    ensures write { IfRunWrite result
+    ensures write { OnRunWrite result
         (IsLinePartOut T.read T.num W.sink (wrapped_writer wrapper.old) (wrapped_writer wrapper.new) line.now) }
-    ensures write_count { IfRunWrite result
+    ensures write_count { OnRunWrite result
         (W.sink.failures (wrapped_writer wrapper.new) ≡ next_count (W.sink.failures (wrapped_writer wrapper.old))) }
-    ensures memory { IfRunMemory result (wrapper.new ≡ wrapper.old) }
-    ensures read { IfRunRead result ⊥ }
+    ensures memory { OnRunMemory result (wrapper.new ≡ wrapper.old) }
+    ensures read { OnRunRead result ⊥ }
     ensures keeps { W.sink.keeps (wrapped_writer wrapper.old) (wrapped_writer wrapper.new) }
 {
     match write_answer::<T, WriterWrapper<W>>(alloc, line, ascii, wrapper) {

@@ -6,7 +6,7 @@ use Rattle.std.proofs.KnownBytes.{Appends-nil, Appends-trans, Consumes-nil, Cons
 use Rattle.wkt_bytes.specs.Sinks.{SinkOfBytes}
 use Rattle.wkt_lines.specs.Lines.{input_lines}
 use Rattle.wkt_lines.specs.Laws.{IsWhole}
-use Rattle.wkt_lines.specs.Output.{AllOut, FirstOut, PartOut, IfRunRead, IfRunWrite, IfRunMemory}
+use Rattle.wkt_lines.specs.Output.{AllOut, FirstOut, PartOut, OnRunRead, OnRunWrite, OnRunMemory}
 use Rattle.wkt_lines.specs.declared.lines.RunError.{RunError}
 use Rattle.wkt_lines.specs.declared.lines.RunError.TheVariants as run
 use Rattle.wkt_lines.proofs.Parts.{lines_of_parts, answers_append, output_append}
@@ -17,13 +17,13 @@ pub ok_map : {A P Q : Type 0} (r : Result A RunError) → (P → Q) → OnOk r P
 ok_map (Ok x) f h = f h
 ok_map (Err e) f h = tt
 
-pub read_none : {A : Type 0} (P : Type 0) (r : Result A RunError) → IfRunRead r ⊥ → IfRunRead r P
+pub read_none : {A : Type 0} (P : Type 0) (r : Result A RunError) → OnRunRead r ⊥ → OnRunRead r P
 read_none P (Ok x) h = tt
 read_none P (Err (run.Read e)) h = absurd h
 read_none P (Err (run.Write e)) h = tt
 read_none P (Err (run.Memory e)) h = tt
 
-pub memory_map : {A P Q : Type 0} (r : Result A RunError) → (P → Q) → IfRunMemory r P → IfRunMemory r Q
+pub memory_map : {A P Q : Type 0} (r : Result A RunError) → (P → Q) → OnRunMemory r P → OnRunMemory r Q
 memory_map (Ok x) f h = tt
 memory_map (Err (run.Read e)) f h = tt
 memory_map (Err (run.Write e)) f h = tt

@@ -4,7 +4,7 @@ ghost use Rattle.std.specs.Io.KnownBytes.{IsAtEnd};
 ghost use Rattle.wkt_num.specs.Sink.{next_count};
 ghost use Rattle.wkt_bytes.specs.Gatherer.{gathering_writer, gathered_bytes, is_sound, is_unasked};
 ghost use Rattle.wkt_lines.specs.Numbers.{read_line, print_line};
-ghost use Rattle.wkt_lines.specs.Output.{IsAllOut, IsFirstOut, IsSomeOut, IfRunRead, IfRunWrite, IfRunMemory};
+ghost use Rattle.wkt_lines.specs.Output.{IsAllOut, IsFirstOut, IsSomeOut, OnRunRead, OnRunWrite, OnRunMemory};
 ghost use Rattle.wkt_stream.specs.Streaming.{IsTakenOut};
 
 use crate::block::Block;
@@ -31,15 +31,15 @@ pub fn stream<R: ByteSource, W: ByteSink>(
     ensures ok { OnOk result
         (IfSome (R.left reader.old) (IsAllOut read_line print_line W.sink writer.old writer.new)) }
     ensures end { OnOk result (IsAtEnd (R.left reader.new)) }
-    ensures read { IfRunRead result
+    ensures read { OnRunRead result
         (IsTakenOut read_line print_line W.sink (R.left reader.old) (R.left reader.new) writer.old writer.new) }
-    ensures read_first { IfRunRead result
+    ensures read_first { OnRunRead result
         (IfSome (R.left reader.old) (IsFirstOut read_line print_line W.sink writer.old writer.new)) }
-    ensures read_count { IfRunRead result (R.failures reader.new ≡ next_count (R.failures reader.old)) }
-    ensures write { IfRunWrite result
+    ensures read_count { OnRunRead result (R.failures reader.new ≡ next_count (R.failures reader.old)) }
+    ensures write { OnRunWrite result
         (IfSome (R.left reader.old) (IsSomeOut read_line print_line W.sink writer.old writer.new)) }
-    ensures write_count { IfRunWrite result (W.sink.failures writer.new ≡ next_count (W.sink.failures writer.old)) }
-    ensures memory { IfRunMemory result
+    ensures write_count { OnRunWrite result (W.sink.failures writer.new ≡ next_count (W.sink.failures writer.old)) }
+    ensures memory { OnRunMemory result
         (IfSome (R.left reader.old) (IsFirstOut read_line print_line W.sink writer.old writer.new)) }
 {
     stream_over::<Decimal<18>, R, W>(alloc, reader, writer)
@@ -56,15 +56,15 @@ pub fn stream_over<T: WktNum, R: ByteSource, W: ByteSink>(
 ) -> Result<(), RunError>
     ensures ok { OnOk result (IfSome (R.left reader.old) (IsAllOut T.read T.num W.sink writer.old writer.new)) }
     ensures end { OnOk result (IsAtEnd (R.left reader.new)) }
-    ensures read { IfRunRead result
+    ensures read { OnRunRead result
         (IsTakenOut T.read T.num W.sink (R.left reader.old) (R.left reader.new) writer.old writer.new) }
-    ensures read_first { IfRunRead result
+    ensures read_first { OnRunRead result
         (IfSome (R.left reader.old) (IsFirstOut T.read T.num W.sink writer.old writer.new)) }
-    ensures read_count { IfRunRead result (R.failures reader.new ≡ next_count (R.failures reader.old)) }
-    ensures write { IfRunWrite result
+    ensures read_count { OnRunRead result (R.failures reader.new ≡ next_count (R.failures reader.old)) }
+    ensures write { OnRunWrite result
         (IfSome (R.left reader.old) (IsSomeOut T.read T.num W.sink writer.old writer.new)) }
-    ensures write_count { IfRunWrite result (W.sink.failures writer.new ≡ next_count (W.sink.failures writer.old)) }
-    ensures memory { IfRunMemory result
+    ensures write_count { OnRunWrite result (W.sink.failures writer.new ≡ next_count (W.sink.failures writer.old)) }
+    ensures memory { OnRunMemory result
         (IfSome (R.left reader.old) (IsFirstOut T.read T.num W.sink writer.old writer.new)) }
 {
     let mut gatherer = Gatherer::new(writer);
@@ -84,16 +84,16 @@ fn answer_source<T: WktNum, R: ByteSource, W: ByteSink>(
     ensures ok { OnOk result (IfSome (R.left reader.old)
         (IsAllOut T.read T.num W.sink (gathering_writer gatherer.old) (gathering_writer gatherer.new))) }
     ensures end { OnOk result (IsAtEnd (R.left reader.new)) }
-    ensures read { IfRunRead result (IsTakenOut T.read T.num W.sink (R.left reader.old) (R.left reader.new)
+    ensures read { OnRunRead result (IsTakenOut T.read T.num W.sink (R.left reader.old) (R.left reader.new)
         (gathering_writer gatherer.old) (gathering_writer gatherer.new)) }
-    ensures read_first { IfRunRead result (IfSome (R.left reader.old)
+    ensures read_first { OnRunRead result (IfSome (R.left reader.old)
         (IsFirstOut T.read T.num W.sink (gathering_writer gatherer.old) (gathering_writer gatherer.new))) }
-    ensures read_count { IfRunRead result (R.failures reader.new ≡ next_count (R.failures reader.old)) }
-    ensures write { IfRunWrite result (IfSome (R.left reader.old)
+    ensures read_count { OnRunRead result (R.failures reader.new ≡ next_count (R.failures reader.old)) }
+    ensures write { OnRunWrite result (IfSome (R.left reader.old)
         (IsSomeOut T.read T.num W.sink (gathering_writer gatherer.old) (gathering_writer gatherer.new))) }
-    ensures write_count { IfRunWrite result
+    ensures write_count { OnRunWrite result
         (W.sink.failures (gathering_writer gatherer.new) ≡ next_count (W.sink.failures (gathering_writer gatherer.old))) }
-    ensures memory { IfRunMemory result (IfSome (R.left reader.old)
+    ensures memory { OnRunMemory result (IfSome (R.left reader.old)
         (IsFirstOut T.read T.num W.sink (gathering_writer gatherer.old) (gathering_writer gatherer.new))) }
     ensures keeps { W.sink.keeps (gathering_writer gatherer.old) (gathering_writer gatherer.new) }
 {
@@ -133,13 +133,13 @@ fn answer_block<T: WktNum, W: ByteSink>(
     ensures held { OnOk result (gathered_bytes gatherer.new ≡ []) }
     ensures count { OnOk result
         (W.sink.failures (gathering_writer gatherer.new) ≡ W.sink.failures (gathering_writer gatherer.old)) }
-    ensures write { IfRunWrite result
+    ensures write { OnRunWrite result
         (IsSomeOut T.read T.num W.sink (gathering_writer gatherer.old) (gathering_writer gatherer.new) input.now) }
-    ensures write_count { IfRunWrite result
+    ensures write_count { OnRunWrite result
         (W.sink.failures (gathering_writer gatherer.new) ≡ next_count (W.sink.failures (gathering_writer gatherer.old))) }
-    ensures memory { IfRunMemory result
+    ensures memory { OnRunMemory result
         (IsFirstOut T.read T.num W.sink (gathering_writer gatherer.old) (gathering_writer gatherer.new) input.now) }
-    ensures read { IfRunRead result ⊥ }
+    ensures read { OnRunRead result ⊥ }
     ensures keeps { W.sink.keeps (gathering_writer gatherer.old) (gathering_writer gatherer.new) }
 {
     match write_answers::<T, Gatherer<W>>(alloc, input, gatherer) {

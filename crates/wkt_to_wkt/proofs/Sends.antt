@@ -5,7 +5,7 @@ use Rattle.wkt_access.specs.declared.error.Error.{Error}
 use Rattle.wkt_access.specs.declared.error.Error.TheVariants.{FmtError, RectUnsupportedDimension, UnknownDimension, TooFewNumbers, Memory}
 use Rattle.wkt_access.specs.Shapes.{Shape}
 use Rattle.wkt_access.specs.Faults.{fault}
-use Rattle.wkt_to_wkt.specs.Sent.{IfIo, IfShape, IsRefusal, IsMemory}
+use Rattle.wkt_to_wkt.specs.Sent.{OnIo, IfShape, IsRefusal, IsMemory}
 use Rattle.wkt_to_wkt.specs.declared.send.ToWktError.{ToWktError}
 use Rattle.wkt_to_wkt.specs.declared.send.ToWktError.TheVariants as send
 
@@ -48,7 +48,7 @@ pub ok_any : {A E P : Type 0} (r : Result A E) → P → OnOk r P
 ok_any (Ok x) p = p
 ok_any (Err e) p = tt
 
-pub io_any : {A P : Type 0} (r : Result A ToWktError) → P → IfIo r P
+pub io_any : {A P : Type 0} (r : Result A ToWktError) → P → OnIo r P
 io_any (Ok x) p = tt
 io_any (Err (send.Shape e)) p = tt
 io_any (Err (send.Io e)) p = p

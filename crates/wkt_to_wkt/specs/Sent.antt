@@ -24,10 +24,10 @@ IsMemory TooFewNumbers = ⊥
 IsMemory (Memory e) = Unit {0}
 
 -- The fact is claimed where the writer failed.
-abbrev pub IfIo : {A : Type 0} → Result A ToWktError → Type 0 → Type 0
-IfIo (Ok x) P = Unit {0}
-IfIo (Err (send.Shape e)) P = Unit {0}
-IfIo (Err (send.Io e)) P = P
+abbrev pub OnIo : {A : Type 0} → Result A ToWktError → Type 0 → Type 0
+OnIo (Ok x) P = Unit {0}
+OnIo (Err (send.Shape e)) P = Unit {0}
+OnIo (Err (send.Io e)) P = P
 
 -- The fact is claimed where the shape was refused.
 abbrev pub IfShape : {A : Type 0} → Result A ToWktError → (Error → Type 0) → Type 0

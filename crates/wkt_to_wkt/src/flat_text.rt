@@ -9,7 +9,7 @@ ghost use Rattle.wkt_types.specs.Values.{tree_shape};
 ghost use Rattle.wkt_flat.specs.Shape.{flat_shape};
 ghost use Rattle.wkt_flat.specs.Tree.{Flat};
 ghost use Rattle.wkt_to_wkt.specs.Back.{back, wkt_text};
-ghost use Rattle.wkt_to_wkt.specs.Sent.{IsMemory, IsRefusal, IfIo, IfShape};
+ghost use Rattle.wkt_to_wkt.specs.Sent.{IsMemory, IsRefusal, OnIo, IfShape};
 
 use crate::send::{ToWktError, Written, send};
 use crate::string_text::string_of;
@@ -42,9 +42,9 @@ pub(crate) fn flat_send<G: FlatValue, W: ByteSink>(g: &G, writer: &mut W) -> Res
     ensures ok { OnOk result (IsOut W.sink writer.old writer.new (wkt_text G.T.num (G.value g.now))) }
     ensures sound { OnOk result (fault (tree_shape (back (G.value g.now))) ≡ None) }
     ensures lawful { OnOk result (IsLawful G.T.is_value (tree_shape (back (G.value g.now)))) }
-    ensures io { IfIo result (IsPartOut W.sink writer.old writer.new (wkt_text G.T.num (G.value g.now))) }
-    ensures io_count { IfIo result (W.sink.failures writer.new ≡ next_count (W.sink.failures writer.old)) }
-    ensures io_sound { IfIo result (fault (tree_shape (back (G.value g.now))) ≡ None) }
+    ensures io { OnIo result (IsPartOut W.sink writer.old writer.new (wkt_text G.T.num (G.value g.now))) }
+    ensures io_count { OnIo result (W.sink.failures writer.new ≡ next_count (W.sink.failures writer.old)) }
+    ensures io_sound { OnIo result (fault (tree_shape (back (G.value g.now))) ≡ None) }
     ensures shape { IfShape result (λ _. writer.new ≡ writer.old) }
     ensures cause { IfShape result (IsRefusal (tree_shape (back (G.value g.now)))) }
     ensures never { IfShape result (λ _. ⊥) }

@@ -8,7 +8,7 @@ ghost use Rattle.wkt_access.specs.Lawful.{IsLawful};
 ghost use Rattle.wkt_types.specs.Values.{tree_shape};
 ghost use Rattle.wkt_flat.specs.Tree.{Flat, flat_tree, flat_trees};
 ghost use Rattle.wkt_to_wkt.specs.Back.{back, wkt_text};
-ghost use Rattle.wkt_to_wkt.specs.Sent.{IsMemory, IsRefusal, IfIo, IfShape};
+ghost use Rattle.wkt_to_wkt.specs.Sent.{IsMemory, IsRefusal, OnIo, IfShape};
 
 use crate::back::{
     geometries, geometry, line_string, point, points, polygon, polygons, push_line_strings, two,
@@ -54,9 +54,9 @@ impl<T: WktNum> ToWkt<T> for flat::Point<T> {
         ensures ok { OnOk result (IsOut W.sink writer.old writer.new (wkt_text T.num (Flat.point self.now))) }
         ensures sound { OnOk result (fault (tree_shape (back (Flat.point self.now))) ≡ None) }
         ensures lawful { OnOk result (IsLawful T.is_value (tree_shape (back (Flat.point self.now)))) }
-        ensures io { IfIo result (IsPartOut W.sink writer.old writer.new (wkt_text T.num (Flat.point self.now))) }
-        ensures io_count { IfIo result (W.sink.failures writer.new ≡ next_count (W.sink.failures writer.old)) }
-        ensures io_sound { IfIo result (fault (tree_shape (back (Flat.point self.now))) ≡ None) }
+        ensures io { OnIo result (IsPartOut W.sink writer.old writer.new (wkt_text T.num (Flat.point self.now))) }
+        ensures io_count { OnIo result (W.sink.failures writer.new ≡ next_count (W.sink.failures writer.old)) }
+        ensures io_sound { OnIo result (fault (tree_shape (back (Flat.point self.now))) ≡ None) }
         ensures shape { IfShape result (λ _. writer.new ≡ writer.old) }
         ensures cause { IfShape result (IsRefusal (tree_shape (back (Flat.point self.now)))) }
         ensures never { IfShape result (λ _. ⊥) }
@@ -96,9 +96,9 @@ impl<T: WktNum> ToWkt<T> for flat::Line<T> {
         ensures ok { OnOk result (IsOut W.sink writer.old writer.new (wkt_text T.num (Flat.line self.now))) }
         ensures sound { OnOk result (fault (tree_shape (back (Flat.line self.now))) ≡ None) }
         ensures lawful { OnOk result (IsLawful T.is_value (tree_shape (back (Flat.line self.now)))) }
-        ensures io { IfIo result (IsPartOut W.sink writer.old writer.new (wkt_text T.num (Flat.line self.now))) }
-        ensures io_count { IfIo result (W.sink.failures writer.new ≡ next_count (W.sink.failures writer.old)) }
-        ensures io_sound { IfIo result (fault (tree_shape (back (Flat.line self.now))) ≡ None) }
+        ensures io { OnIo result (IsPartOut W.sink writer.old writer.new (wkt_text T.num (Flat.line self.now))) }
+        ensures io_count { OnIo result (W.sink.failures writer.new ≡ next_count (W.sink.failures writer.old)) }
+        ensures io_sound { OnIo result (fault (tree_shape (back (Flat.line self.now))) ≡ None) }
         ensures shape { IfShape result (λ _. writer.new ≡ writer.old) }
         ensures cause { IfShape result (IsRefusal (tree_shape (back (Flat.line self.now)))) }
         ensures never { IfShape result (λ _. ⊥) }
@@ -138,10 +138,10 @@ impl<T: WktNum> ToWkt<T> for flat::LineString<T> {
         ensures ok { OnOk result (IsOut W.sink writer.old writer.new (wkt_text T.num (Flat.line_string self.now))) }
         ensures sound { OnOk result (fault (tree_shape (back (Flat.line_string self.now))) ≡ None) }
         ensures lawful { OnOk result (IsLawful T.is_value (tree_shape (back (Flat.line_string self.now)))) }
-        ensures io { IfIo result
+        ensures io { OnIo result
             (IsPartOut W.sink writer.old writer.new (wkt_text T.num (Flat.line_string self.now))) }
-        ensures io_count { IfIo result (W.sink.failures writer.new ≡ next_count (W.sink.failures writer.old)) }
-        ensures io_sound { IfIo result (fault (tree_shape (back (Flat.line_string self.now))) ≡ None) }
+        ensures io_count { OnIo result (W.sink.failures writer.new ≡ next_count (W.sink.failures writer.old)) }
+        ensures io_sound { OnIo result (fault (tree_shape (back (Flat.line_string self.now))) ≡ None) }
         ensures shape { IfShape result (λ _. writer.new ≡ writer.old) }
         ensures cause { IfShape result (IsRefusal (tree_shape (back (Flat.line_string self.now)))) }
         ensures never { IfShape result (λ _. ⊥) }
@@ -181,9 +181,9 @@ impl<T: WktNum> ToWkt<T> for flat::Polygon<T> {
         ensures ok { OnOk result (IsOut W.sink writer.old writer.new (wkt_text T.num (Flat.polygon self.now))) }
         ensures sound { OnOk result (fault (tree_shape (back (Flat.polygon self.now))) ≡ None) }
         ensures lawful { OnOk result (IsLawful T.is_value (tree_shape (back (Flat.polygon self.now)))) }
-        ensures io { IfIo result (IsPartOut W.sink writer.old writer.new (wkt_text T.num (Flat.polygon self.now))) }
-        ensures io_count { IfIo result (W.sink.failures writer.new ≡ next_count (W.sink.failures writer.old)) }
-        ensures io_sound { IfIo result (fault (tree_shape (back (Flat.polygon self.now))) ≡ None) }
+        ensures io { OnIo result (IsPartOut W.sink writer.old writer.new (wkt_text T.num (Flat.polygon self.now))) }
+        ensures io_count { OnIo result (W.sink.failures writer.new ≡ next_count (W.sink.failures writer.old)) }
+        ensures io_sound { OnIo result (fault (tree_shape (back (Flat.polygon self.now))) ≡ None) }
         ensures shape { IfShape result (λ _. writer.new ≡ writer.old) }
         ensures cause { IfShape result (IsRefusal (tree_shape (back (Flat.polygon self.now)))) }
         ensures never { IfShape result (λ _. ⊥) }
@@ -224,10 +224,10 @@ impl<T: WktNum> ToWkt<T> for flat::MultiPoint<T> {
         ensures ok { OnOk result (IsOut W.sink writer.old writer.new (wkt_text T.num (Flat.multi_point self.now))) }
         ensures sound { OnOk result (fault (tree_shape (back (Flat.multi_point self.now))) ≡ None) }
         ensures lawful { OnOk result (IsLawful T.is_value (tree_shape (back (Flat.multi_point self.now)))) }
-        ensures io { IfIo result
+        ensures io { OnIo result
             (IsPartOut W.sink writer.old writer.new (wkt_text T.num (Flat.multi_point self.now))) }
-        ensures io_count { IfIo result (W.sink.failures writer.new ≡ next_count (W.sink.failures writer.old)) }
-        ensures io_sound { IfIo result (fault (tree_shape (back (Flat.multi_point self.now))) ≡ None) }
+        ensures io_count { OnIo result (W.sink.failures writer.new ≡ next_count (W.sink.failures writer.old)) }
+        ensures io_sound { OnIo result (fault (tree_shape (back (Flat.multi_point self.now))) ≡ None) }
         ensures shape { IfShape result (λ _. writer.new ≡ writer.old) }
         ensures cause { IfShape result (IsRefusal (tree_shape (back (Flat.multi_point self.now)))) }
         ensures never { IfShape result (λ _. ⊥) }
@@ -269,10 +269,10 @@ impl<T: WktNum> ToWkt<T> for flat::MultiLineString<T> {
             (IsOut W.sink writer.old writer.new (wkt_text T.num (Flat.multi_line_string self.now))) }
         ensures sound { OnOk result (fault (tree_shape (back (Flat.multi_line_string self.now))) ≡ None) }
         ensures lawful { OnOk result (IsLawful T.is_value (tree_shape (back (Flat.multi_line_string self.now)))) }
-        ensures io { IfIo result
+        ensures io { OnIo result
             (IsPartOut W.sink writer.old writer.new (wkt_text T.num (Flat.multi_line_string self.now))) }
-        ensures io_count { IfIo result (W.sink.failures writer.new ≡ next_count (W.sink.failures writer.old)) }
-        ensures io_sound { IfIo result (fault (tree_shape (back (Flat.multi_line_string self.now))) ≡ None) }
+        ensures io_count { OnIo result (W.sink.failures writer.new ≡ next_count (W.sink.failures writer.old)) }
+        ensures io_sound { OnIo result (fault (tree_shape (back (Flat.multi_line_string self.now))) ≡ None) }
         ensures shape { IfShape result (λ _. writer.new ≡ writer.old) }
         ensures cause { IfShape result (IsRefusal (tree_shape (back (Flat.multi_line_string self.now)))) }
         ensures never { IfShape result (λ _. ⊥) }
@@ -313,10 +313,10 @@ impl<T: WktNum> ToWkt<T> for flat::MultiPolygon<T> {
         ensures ok { OnOk result (IsOut W.sink writer.old writer.new (wkt_text T.num (Flat.multi_polygon self.now))) }
         ensures sound { OnOk result (fault (tree_shape (back (Flat.multi_polygon self.now))) ≡ None) }
         ensures lawful { OnOk result (IsLawful T.is_value (tree_shape (back (Flat.multi_polygon self.now)))) }
-        ensures io { IfIo result
+        ensures io { OnIo result
             (IsPartOut W.sink writer.old writer.new (wkt_text T.num (Flat.multi_polygon self.now))) }
-        ensures io_count { IfIo result (W.sink.failures writer.new ≡ next_count (W.sink.failures writer.old)) }
-        ensures io_sound { IfIo result (fault (tree_shape (back (Flat.multi_polygon self.now))) ≡ None) }
+        ensures io_count { OnIo result (W.sink.failures writer.new ≡ next_count (W.sink.failures writer.old)) }
+        ensures io_sound { OnIo result (fault (tree_shape (back (Flat.multi_polygon self.now))) ≡ None) }
         ensures shape { IfShape result (λ _. writer.new ≡ writer.old) }
         ensures cause { IfShape result (IsRefusal (tree_shape (back (Flat.multi_polygon self.now)))) }
         ensures never { IfShape result (λ _. ⊥) }
@@ -358,10 +358,10 @@ impl<T: WktNum> ToWkt<T> for flat::GeometryCollection<T> {
             (IsOut W.sink writer.old writer.new (wkt_text T.num (Flat.collection (flat_trees self.now)))) }
         ensures sound { OnOk result (fault (tree_shape (back (Flat.collection (flat_trees self.now)))) ≡ None) }
         ensures lawful { OnOk result (IsLawful T.is_value (tree_shape (back (Flat.collection (flat_trees self.now))))) }
-        ensures io { IfIo result
+        ensures io { OnIo result
             (IsPartOut W.sink writer.old writer.new (wkt_text T.num (Flat.collection (flat_trees self.now)))) }
-        ensures io_count { IfIo result (W.sink.failures writer.new ≡ next_count (W.sink.failures writer.old)) }
-        ensures io_sound { IfIo result (fault (tree_shape (back (Flat.collection (flat_trees self.now)))) ≡ None) }
+        ensures io_count { OnIo result (W.sink.failures writer.new ≡ next_count (W.sink.failures writer.old)) }
+        ensures io_sound { OnIo result (fault (tree_shape (back (Flat.collection (flat_trees self.now)))) ≡ None) }
         ensures shape { IfShape result (λ _. writer.new ≡ writer.old) }
         ensures cause { IfShape result (IsRefusal (tree_shape (back (Flat.collection (flat_trees self.now))))) }
         ensures never { IfShape result (λ _. ⊥) }
@@ -401,9 +401,9 @@ impl<T: WktNum> ToWkt<T> for flat::Rect<T> {
         ensures ok { OnOk result (IsOut W.sink writer.old writer.new (wkt_text T.num (Flat.rect self.now))) }
         ensures sound { OnOk result (fault (tree_shape (back (Flat.rect self.now))) ≡ None) }
         ensures lawful { OnOk result (IsLawful T.is_value (tree_shape (back (Flat.rect self.now)))) }
-        ensures io { IfIo result (IsPartOut W.sink writer.old writer.new (wkt_text T.num (Flat.rect self.now))) }
-        ensures io_count { IfIo result (W.sink.failures writer.new ≡ next_count (W.sink.failures writer.old)) }
-        ensures io_sound { IfIo result (fault (tree_shape (back (Flat.rect self.now))) ≡ None) }
+        ensures io { OnIo result (IsPartOut W.sink writer.old writer.new (wkt_text T.num (Flat.rect self.now))) }
+        ensures io_count { OnIo result (W.sink.failures writer.new ≡ next_count (W.sink.failures writer.old)) }
+        ensures io_sound { OnIo result (fault (tree_shape (back (Flat.rect self.now))) ≡ None) }
         ensures shape { IfShape result (λ _. writer.new ≡ writer.old) }
         ensures cause { IfShape result (IsRefusal (tree_shape (back (Flat.rect self.now)))) }
         ensures never { IfShape result (λ _. ⊥) }
@@ -443,9 +443,9 @@ impl<T: WktNum> ToWkt<T> for flat::Triangle<T> {
         ensures ok { OnOk result (IsOut W.sink writer.old writer.new (wkt_text T.num (Flat.triangle self.now))) }
         ensures sound { OnOk result (fault (tree_shape (back (Flat.triangle self.now))) ≡ None) }
         ensures lawful { OnOk result (IsLawful T.is_value (tree_shape (back (Flat.triangle self.now)))) }
-        ensures io { IfIo result (IsPartOut W.sink writer.old writer.new (wkt_text T.num (Flat.triangle self.now))) }
-        ensures io_count { IfIo result (W.sink.failures writer.new ≡ next_count (W.sink.failures writer.old)) }
-        ensures io_sound { IfIo result (fault (tree_shape (back (Flat.triangle self.now))) ≡ None) }
+        ensures io { OnIo result (IsPartOut W.sink writer.old writer.new (wkt_text T.num (Flat.triangle self.now))) }
+        ensures io_count { OnIo result (W.sink.failures writer.new ≡ next_count (W.sink.failures writer.old)) }
+        ensures io_sound { OnIo result (fault (tree_shape (back (Flat.triangle self.now))) ≡ None) }
         ensures shape { IfShape result (λ _. writer.new ≡ writer.old) }
         ensures cause { IfShape result (IsRefusal (tree_shape (back (Flat.triangle self.now)))) }
         ensures never { IfShape result (λ _. ⊥) }
@@ -485,9 +485,9 @@ impl<T: WktNum> ToWkt<T> for flat::Geometry<T> {
         ensures ok { OnOk result (IsOut W.sink writer.old writer.new (wkt_text T.num (flat_tree self.now))) }
         ensures sound { OnOk result (fault (tree_shape (back (flat_tree self.now))) ≡ None) }
         ensures lawful { OnOk result (IsLawful T.is_value (tree_shape (back (flat_tree self.now)))) }
-        ensures io { IfIo result (IsPartOut W.sink writer.old writer.new (wkt_text T.num (flat_tree self.now))) }
-        ensures io_count { IfIo result (W.sink.failures writer.new ≡ next_count (W.sink.failures writer.old)) }
-        ensures io_sound { IfIo result (fault (tree_shape (back (flat_tree self.now))) ≡ None) }
+        ensures io { OnIo result (IsPartOut W.sink writer.old writer.new (wkt_text T.num (flat_tree self.now))) }
+        ensures io_count { OnIo result (W.sink.failures writer.new ≡ next_count (W.sink.failures writer.old)) }
+        ensures io_sound { OnIo result (fault (tree_shape (back (flat_tree self.now))) ≡ None) }
         ensures shape { IfShape result (λ _. writer.new ≡ writer.old) }
         ensures cause { IfShape result (IsRefusal (tree_shape (back (flat_tree self.now)))) }
         ensures never { IfShape result (λ _. ⊥) }

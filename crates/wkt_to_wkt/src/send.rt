@@ -8,7 +8,7 @@ ghost use Rattle.wkt_access.specs.Faults.{fault};
 ghost use Rattle.wkt_access.specs.Lawful.{IsLawful};
 ghost use Rattle.wkt_access.specs.Texts.{shape_text};
 ghost use Rattle.wkt_write.specs.Writes.{Writes};
-ghost use Rattle.wkt_to_wkt.specs.Sent.{IsRefusal, IfIo, IfShape};
+ghost use Rattle.wkt_to_wkt.specs.Sent.{IsRefusal, OnIo, IfShape};
 
 use std::io;
 use thiserror::Error;
@@ -62,12 +62,12 @@ fn send_through<G: Written, W: ByteSink>(
         (shape_text G.T.num (G.shape g.now))) }
     ensures sound { OnOk result (fault (G.shape g.now) ≡ None) }
     ensures lawful { OnOk result (IsLawful G.T.is_value (G.shape g.now)) }
-    ensures io { IfIo result
+    ensures io { OnIo result
         (IsPartOut W.sink (wrapped_writer wrapper.old) (wrapped_writer wrapper.new)
         (shape_text G.T.num (G.shape g.now))) }
-    ensures io_count { IfIo result
+    ensures io_count { OnIo result
         (W.sink.failures (wrapped_writer wrapper.new) ≡ next_count (W.sink.failures (wrapped_writer wrapper.old))) }
-    ensures io_sound { IfIo result (fault (G.shape g.now) ≡ None) }
+    ensures io_sound { OnIo result (fault (G.shape g.now) ≡ None) }
     ensures shape { IfShape result (λ _. wrapped_writer wrapper.new ≡ wrapped_writer wrapper.old) }
     ensures cause { IfShape result (λ e. fault (G.shape g.now) ≡ Some e) }
     ensures refused { IfShape result (IsRefusal (G.shape g.now)) }
@@ -88,9 +88,9 @@ pub(crate) fn send<G: Written, W: ByteSink>(g: &G, writer: &mut W) -> Result<(),
     ensures ok { OnOk result (IsOut W.sink writer.old writer.new (shape_text G.T.num (G.shape g.now))) }
     ensures sound { OnOk result (fault (G.shape g.now) ≡ None) }
     ensures lawful { OnOk result (IsLawful G.T.is_value (G.shape g.now)) }
-    ensures io { IfIo result (IsPartOut W.sink writer.old writer.new (shape_text G.T.num (G.shape g.now))) }
-    ensures io_count { IfIo result (W.sink.failures writer.new ≡ next_count (W.sink.failures writer.old)) }
-    ensures io_sound { IfIo result (fault (G.shape g.now) ≡ None) }
+    ensures io { OnIo result (IsPartOut W.sink writer.old writer.new (shape_text G.T.num (G.shape g.now))) }
+    ensures io_count { OnIo result (W.sink.failures writer.new ≡ next_count (W.sink.failures writer.old)) }
+    ensures io_sound { OnIo result (fault (G.shape g.now) ≡ None) }
     ensures shape { IfShape result (λ _. writer.new ≡ writer.old) }
     ensures cause { IfShape result (λ e. fault (G.shape g.now) ≡ Some e) }
     ensures refused { IfShape result (IsRefusal (G.shape g.now)) }

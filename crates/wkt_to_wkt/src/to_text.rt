@@ -8,7 +8,7 @@ ghost use Rattle.wkt_access.specs.Lawful.{IsLawful};
 ghost use Rattle.wkt_access.specs.Texts.{shape_text};
 ghost use Rattle.wkt_types.specs.Tree.{Tree, tree};
 ghost use Rattle.wkt_types.specs.Values.{tree_shape};
-ghost use Rattle.wkt_to_wkt.specs.Sent.{IsRefusal, IfIo, IfShape};
+ghost use Rattle.wkt_to_wkt.specs.Sent.{IsRefusal, OnIo, IfShape};
 
 use crate::send::{ToWktError, Written, send};
 use crate::string_text::string_of;
@@ -62,10 +62,10 @@ pub trait ToWkt<T: WktNum> {
             (IsOut W.sink writer.old writer.new (shape_text T.num (tree_shape (held self.now)))) }
         ensures sound { OnOk result (fault (tree_shape (held self.now)) ≡ None) }
         ensures lawful { OnOk result (IsLawful T.is_value (tree_shape (held self.now))) }
-        ensures io { IfIo result
+        ensures io { OnIo result
             (IsPartOut W.sink writer.old writer.new (shape_text T.num (tree_shape (held self.now)))) }
-        ensures io_count { IfIo result (W.sink.failures writer.new ≡ next_count (W.sink.failures writer.old)) }
-        ensures io_sound { IfIo result (fault (tree_shape (held self.now)) ≡ None) }
+        ensures io_count { OnIo result (W.sink.failures writer.new ≡ next_count (W.sink.failures writer.old)) }
+        ensures io_sound { OnIo result (fault (tree_shape (held self.now)) ≡ None) }
         ensures shape { IfShape result (λ _. writer.new ≡ writer.old) }
         ensures cause { IfShape result (IsRefusal (tree_shape (held self.now))) }
     {

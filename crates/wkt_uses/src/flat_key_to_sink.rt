@@ -2,7 +2,7 @@
 ghost use Rattle.std.specs.Prelude.{◌≡◌, OnOk};
 ghost use Rattle.wkt.specs.FlatTree.{flat_tree};
 ghost use Rattle.wkt.specs.Back.{wkt_text};
-ghost use Rattle.wkt.specs.Sent.{IfIo, IfShape};
+ghost use Rattle.wkt.specs.Sent.{OnIo, IfShape};
 ghost use Rattle.wkt.specs.Sink.{next_count};
 ghost use Rattle.wkt.specs.Sinks.{IsOut, IsPartOut};
 ghost use Rattle.wkt_uses.specs.FlatKey.{NamesPlain};
@@ -26,8 +26,8 @@ pub fn write_flat_key<T: WktNum, W: ByteSink>(
     ensures out { OnOk result (IsOut W.sink writer.old writer.new (wkt_text T.num (flat_tree geometry.now))) }
     ensures reads_back { OnOk result
         (NamesPlain T.read T.eq (flat_tree geometry.now) (wkt_text T.num (flat_tree geometry.now))) }
-    ensures part { IfIo result (IsPartOut W.sink writer.old writer.new (wkt_text T.num (flat_tree geometry.now))) }
-    ensures failed { IfIo result (W.sink.failures writer.new ≡ next_count (W.sink.failures writer.old)) }
+    ensures part { OnIo result (IsPartOut W.sink writer.old writer.new (wkt_text T.num (flat_tree geometry.now))) }
+    ensures failed { OnIo result (W.sink.failures writer.new ≡ next_count (W.sink.failures writer.old)) }
     ensures never { IfShape result (λ _. ⊥) }
 {
     // No effect at run time. The proof reads that a plain geometry comes back.

@@ -1,7 +1,7 @@
 //! A source and a sink of one's own, and the program's `run` over them.
 ghost use Rattle.std.specs.Prelude.{◌≡◌, ◌<◌, IfOk};
 ghost use Rattle.wkt_lines.specs.Numbers.{read_line, print_line};
-ghost use Rattle.wkt_lines.specs.Output.{IfRunRead, IsOutput};
+ghost use Rattle.wkt_lines.specs.Output.{OnRunRead, IsOutput};
 
 use std::alloc::Global;
 use std::io;
@@ -63,7 +63,7 @@ impl ByteSink for Page {
 /// `Write` where the answers are longer than the room, or out of memory for them; `Memory`. `Read` never comes.
 pub fn answers(alloc: Global, input: &[u8], room: usize) -> Result<Vec<u8>, RunError>
     ensures output { IfOk result (λ v. IsOutput read_line print_line input.now v.items) }
-    ensures never_read { IfRunRead result ⊥ }
+    ensures never_read { OnRunRead result ⊥ }
 {
     let mut source = Piecewise {
         rest: input,

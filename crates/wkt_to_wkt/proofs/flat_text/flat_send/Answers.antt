@@ -6,7 +6,7 @@ use Rattle.wkt_access.specs.Shapes.{canon}
 use Rattle.wkt_access.specs.Texts.{shape_text}
 use Rattle.wkt_access.specs.WellFormed.{IsWellFormed}
 use Rattle.wkt_flat.proofs.Writable.{writable}
-use Rattle.wkt_to_wkt.specs.Sent.{IfIo}
+use Rattle.wkt_to_wkt.specs.Sent.{OnIo}
 use Rattle.wkt_to_wkt.proofs.Backs.{clear, same, same_text}
 use Rattle.wkt_to_wkt.proofs.Sends.{io_any, never, ok_any, whatever}
 use Rattle.wkt_to_wkt.proofs.flat_text.flat_send.Goals as goal
@@ -31,7 +31,7 @@ returns-clause-io g c =
     let num = g.G.T.WktNum.num in
     let sink = g.W.ByteSink.sink in
     let same = ap (shape_text num) (g.met.G.FlatValue.same c.args.g.now) ∙ same_text num (g.G.FlatValue.value c.args.g.now) in
-    subst (λ (bs : List ℕ). IfIo c.send.result (BeginningOut (sink.bytes c.args.writer.now) (sink.bytes c.send.new.writer) bs)) same c.send.ensures.io
+    subst (λ (bs : List ℕ). OnIo c.send.result (BeginningOut (sink.bytes c.args.writer.now) (sink.bytes c.send.new.writer) bs)) same c.send.ensures.io
 
 pub returns-clause-io_sound : goal.returns-clause-io_sound
 returns-clause-io_sound g c = io_any c.send.result (clear (g.G.FlatValue.value c.args.g.now))
