@@ -1,4 +1,4 @@
--- What the code finds of a kind word. Only private contracts cite this file.
+-- What is found of a kind word.
 use Rattle.std.specs.Prelude.{◌≡◌, ◌≤◌, ℕ, Option, Some, None}
 use Rattle.wkt_access.specs.declared.Dimension.{Dimension}
 use Rattle.wkt_types.specs.declared.geometry_type.GeometryType.{GeometryType}

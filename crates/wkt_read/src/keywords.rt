@@ -71,7 +71,7 @@ pub(crate) fn kind(header: &[u8]) -> Option<(GeometryType, &[u8])>
 }
 
 /// The kind that the word names, and the dimension if it is joined to the word.
-pub(crate) fn kind_of(word: &str) -> Option<(GeometryType, Option<Dimension>)>
+pub fn kind_of(word: &str) -> Option<(GeometryType, Option<Dimension>)>
     ensures { Names result (kind_word word.now) }
 {
     let word = word.as_bytes();
@@ -88,7 +88,7 @@ pub(crate) fn kind_of(word: &str) -> Option<(GeometryType, Option<Dimension>)>
 }
 
 /// The dimension that the word names after a kind word alone.
-pub(crate) fn dimension_of(word: &str) -> Option<Dimension>
+pub fn dimension_of(word: &str) -> Option<Dimension>
     ensures { result ≡ dim_word word.now }
 {
     dimension_in(word.as_bytes())
@@ -108,7 +108,7 @@ fn dimension_in(letters: &[u8]) -> Option<Dimension>
 }
 
 /// Whether the word is EMPTY.
-pub(crate) fn is_empty(word: &str) -> bool
+pub fn is_empty(word: &str) -> bool
     ensures { result ≡ is_empty_word word.now }
 {
     word.eq_ignore_ascii_case("EMPTY")
