@@ -1,5 +1,5 @@
 -- Collections that are open while their members are written: what is left of them, and how many there are.
-use Rattle.std.proofs.Common.{◌≡◌, ℕ, suc, ◌+◌, ◌-◌, ◌*◌, ◌<◌, ◌≤◌, max, List, [], ◌∷◌, ◌++◌, length, get_or, take, drop, flat_map, refl, ap, sym, subst, ◌∙◌, append_assoc, arith, Option, Some, None, Result, Ok, Err}
+use Rattle.std.proofs.Common.{◌≡◌, ℕ, zero, suc, add-one, ◌+◌, ◌-◌, ◌*◌, ◌<◌, ◌≤◌, max, List, [], ◌∷◌, ◌++◌, length, get_or, take, drop, flat_map, refl, ap, sym, subst, ◌∙◌, append_assoc, arith, Option, Some, None, Result, Ok, Err}
 use Rattle.std.specs.Prelude.{codes, OnOk}
 use Rattle.std.specs.Result.{IsErrAnd}
 use Rattle.std.specs.Borrow.{Bor}
@@ -21,7 +21,7 @@ use Rattle.wkt_types.specs.declared.geometry.GeometryCollection.{GeometryCollect
 use Rattle.wkt_types.specs.declared.geometry.Wkt.{Wkt}
 use Rattle.wkt_types.specs.declared.geometry.Wkt.TheViews as views
 use Rattle.wkt_types.proofs.TreeLemmas.{tree-collection}
-use Rattle.wkt_lines.specs.Nested.{Open, left_text, owed, heights, needs, pending, AreClean, Begun, GoesOn}
+use Rattle.wkt_lines.specs.Nested.{Open, left_text, owed, height, heights, needs, pending, AreClean, Begun, GoesOn}
 
 owed-last : {T : Type 0} (num : T → List ℕ) (rs : Open T) (r : Bor (List (Wkt T))) → owed num (rs ++ r ∷ []) ≡ left_text num (members r.now) ++ owed num rs
 owed-last num [] r = sym (append-nil (left_text num (members r.now)))
@@ -180,3 +180,16 @@ none-left num (w ∷ ws) h = absurd (omega arith)
 pub tree-opened : {T : Type 0} (w : Wkt T) (c : GeometryCollection T) (ws : List (Wkt T)) (d : Dimension) →
     w ≡ views.GeometryCollection c → collection_tree c ≡ collection (members ws) d → tree w ≡ collection (members ws) d
 tree-opened w c ws d is holds = ap (λ w. tree w) is ∙ (tree-collection c ∙ holds)
+
+flat-next : {T : Type 0} (ws : List (Wkt T)) (i : ℕ) (w : Wkt T) → i < length ws → w ≡ get_or ws i w → heights (members (take i ws)) ≡ 0 → height (tree w) ≡ 0 →
+    heights (members (take (suc i) ws)) ≡ 0
+flat-next [] i w h is before one = absurd (omega arith)
+flat-next {T = T} (v ∷ vs) zero w h is before one = let e : height (tree v) ≡ 0 = ap (λ (x : Wkt T). height (tree x)) (sym is) ∙ one in omega (arith, e)
+flat-next (v ∷ vs) (suc i) w h is before one =
+    let k : heights (members (take (suc i) vs)) ≡ 0 = flat-next vs i w (omega arith) is (omega arith) one in
+    omega (arith, k)
+
+-- one more member in which nothing is open
+pub flat-more : {T : Type 0} (ws : List (Wkt T)) (i : ℕ) (w : Wkt T) → i < length ws → w ≡ get_or ws i w → heights (members (take i ws)) ≡ 0 → height (tree w) ≡ 0 →
+    heights (members (take (i + 1) ws)) ≡ 0
+flat-more ws i w h is before one = rw add-one (flat-next ws i w h is before one)

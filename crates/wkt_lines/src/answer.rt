@@ -70,8 +70,7 @@ fn write_front<T: WktNum, W: TextSink>(
     }
 }
 
-/// Writes the text of a geometry that can be written. Memory is asked for before anything is added, and only where
-/// collections hold others.
+/// Writes the text of a geometry that can be written.
 fn write_value<T: WktNum, W: TextSink>(
     alloc: Global,
     wkt: &Wkt<T>,
@@ -80,17 +79,31 @@ fn write_value<T: WktNum, W: TextSink>(
     requires { fault (tree_shape (tree wkt.now)) ≡ None }
     ensures { AnswersLine W.sink f.old (shape_text T.num (tree_shape (tree wkt.now))) f.new result }
 {
-    let written = if is_nested(wkt) {
-        match room_for(alloc, wkt) {
-            Ok(opened) => put_nested(wkt, opened, f),
-            Err(e) => return Err(AnswerError::Memory(e)),
-        }
-    } else {
-        put_whole(wkt, f)
-    };
-    match written {
+    if is_nested(wkt) {
+        return write_nested(alloc, wkt, f);
+    }
+    match put_whole(wkt, f) {
         Ok(()) => Ok(()),
         Err(e) => Err(AnswerError::Sink(e)),
+    }
+}
+
+/// The same of collections within collections. Memory is asked for before anything is added.
+#[inline(never)]
+fn write_nested<T: WktNum, W: TextSink>(
+    alloc: Global,
+    wkt: &Wkt<T>,
+    f: &mut W,
+) -> Result<(), AnswerError>
+    requires { fault (tree_shape (tree wkt.now)) ≡ None }
+    ensures { AnswersLine W.sink f.old (shape_text T.num (tree_shape (tree wkt.now))) f.new result }
+{
+    match room_for(alloc, wkt) {
+        Ok(opened) => match put_nested(wkt, opened, f) {
+            Ok(()) => Ok(()),
+            Err(e) => Err(AnswerError::Sink(e)),
+        },
+        Err(e) => Err(AnswerError::Memory(e)),
     }
 }
 

@@ -1,7 +1,8 @@
 //! Collections within collections, written by a list of the open ones, so that nesting takes no stack.
 //!
 //! A first walk asks for the room that the list needs, and a second one writes.
-ghost use Rattle.std.specs.Prelude.{◌≡◌, ◌+◌, ◌*◌, ◌<◌, ◌≤◌, [], ◌∷◌, ◌++◌, max, None, codes, OnOk, IfOk, IfSome, vec_len, vec_capacity};
+ghost use Rattle.std.specs.Prelude.{◌≡◌, ◌+◌, ◌*◌, ◌<◌, ◌≤◌, [], ◌∷◌, ◌++◌, max, None, codes, OnOk, IfOk, IfSome, IfNone, vec_len, vec_capacity};
+ghost use Rattle.std.specs.Bool.{OnFalse};
 ghost use Rattle.wkt_num.specs.Sink.{Puts};
 ghost use Rattle.wkt_access.specs.Faults.{fault};
 ghost use Rattle.wkt_access.specs.Texts.{shape_text, suffix};
@@ -18,7 +19,9 @@ use wkt::types::Dimension;
 use wkt::{Wkt, WktNum};
 
 /// Whether the geometry is a collection that holds another.
-pub(crate) fn is_nested<T>(geometry: &Wkt<T>) -> bool {
+pub(crate) fn is_nested<T>(geometry: &Wkt<T>) -> bool
+    ensures { OnFalse result (height (tree geometry.now) ≤ 1) }
+{
     nest_of(geometry).is_some()
 }
 
@@ -30,33 +33,46 @@ struct Nest<'a, T> {
     others: &'a [Wkt<T>],
 }
 
-// Any other geometry is written by the common writer, which takes stack for no more than one level then.
 fn nest_of<T>(geometry: &Wkt<T>) -> Option<Nest<'_, T>>
-    ensures { IfSome result (λ n.
+    ensures some { IfSome result (λ n.
         tree geometry.now ≡ collection (more_trees (tree n.first.now) (members n.others.now)) n.dim) }
+    ensures none { IfNone result (height (tree geometry.now) ≤ 1) }
 {
     let Wkt::GeometryCollection(collection) = geometry else {
         return None;
     };
-    let [first, others @ ..] = collection.geometries() else {
+    let geometries = collection.geometries();
+    if !holds_collection(geometries) {
+        return None;
+    }
+    let [first, others @ ..] = geometries else {
         return None;
     };
-    if is_collection(first) || others.iter().any(|member| is_collection(member)) {
-        return Some(Nest {
-            dim: collection.dimension(),
-            first,
-            others,
-        });
-    }
-    None
+    Some(Nest {
+        dim: collection.dimension(),
+        first,
+        others,
+    })
 }
 
-fn is_collection<T>(geometry: &Wkt<T>) -> bool {
+fn holds_collection<T>(geometries: &[Wkt<T>]) -> bool
+    ensures { OnFalse result (heights (members geometries.now) ≡ 0) }
+{
+    for geometry in geometries {
+        if is_collection(geometry) {
+            return true;
+        }
+    }
+    false
+}
+
+fn is_collection<T>(geometry: &Wkt<T>) -> bool
+    ensures { OnFalse result (height (tree geometry.now) ≡ 0) }
+{
     matches!(geometry, Wkt::GeometryCollection(_))
 }
 
 /// An empty list with room for all collections that are open at once while the geometry is written.
-#[inline(never)]
 pub(crate) fn room_for<'a, T>(
     alloc: Global,
     geometry: &'a Wkt<T>,
@@ -92,7 +108,6 @@ fn push_members<'a, T>(
 }
 
 /// Writes a geometry by an empty list that has room for all collections that are open at once.
-#[inline(never)]
 pub(crate) fn put_nested<'a, T: WktNum, W: TextSink>(
     geometry: &'a Wkt<T>,
     mut opened: Vec<&'a [Wkt<T>]>,
@@ -184,9 +199,10 @@ fn put_header<W: TextSink>(dim: Dimension, f: &mut W) -> fmt::Result
     }
 }
 
-/// Writes a geometry by the common writer, which takes stack for each collection within a collection.
+/// Writes a geometry by the common writer, which takes stack for each collection that is open at once.
 pub(crate) fn put_whole<T: WktNum, W: TextSink>(geometry: &Wkt<T>, f: &mut W) -> fmt::Result
-    requires { fault (tree_shape (tree geometry.now)) ≡ None }
+    requires clean { fault (tree_shape (tree geometry.now)) ≡ None }
+    requires flat { height (tree geometry.now) ≤ 1 }
     ensures { Puts W.sink f.old (shape_text T.num (tree_shape (tree geometry.now))) f.new result }
 {
     match write_geometry(f, geometry) {
