@@ -1,0 +1,6 @@
+mod Spots
+mod Steps
+mod Refusals
+mod Whites
+mod Finding
+mod Streams
