@@ -1,8 +1,7 @@
 -- Where a walk is in a text, and what it finds there.
-use Rattle.std.proofs.Common.{◌≡◌, ℕ, suc, ◌+◌, ◌≤◌, ◌<◌, List, [], ◌∷◌, ◌++◌, length, length-append, refl, ap, ◌∙◌, sym, subst, append_assoc, append-nil, arith, Option, Some, None, Result, Err, true, false, inl, inr}
+use Rattle.std.proofs.Common.{◌≡◌, ℕ, ◌+◌, ◌≤◌, ◌<◌, List, [], ◌∷◌, ◌++◌, length, length-append, ap, ◌∙◌, sym, subst, append_assoc, append-nil, arith, Option, Some, None, Err, true, false, inl, inr}
 use Rattle.wkt_num.specs.Bytes.{Lexeme}
 use Rattle.wkt_read.specs.Front.{HasNoFront}
-use Rattle.wkt_read.specs.Lexemes.{IsSplit}
 use Rattle.wkt_read.specs.Placed.{Placed, lexemes_of, end_after, AreEnds, placed}
 use Rattle.wkt_read.proofs.LawLemmas.Few.{placed-few}
 use Rattle.wkt_read.proofs.TokenizerLemmas.Placings.{placed-split, placed-ends}
@@ -60,7 +59,7 @@ module _ {N : Type 0} (read : List ℕ → Option N) (text : List ℕ) where
     split_at = b.split ∙ ap (λ l. b.given ++ l) e
 
     -- the walk goes on
-    pub at_next : (v : Walk) → next w s ≡ Some v → v.depth ≤ w.depth + 1 → IsBefore later x.end v
+    pub at_next : (v : Walk) → Some v ≡ next w s → v.depth ≤ w.depth + 1 → IsBefore later x.end v
     at_next v is deeper =
         let room = b.room in
         record {
@@ -68,13 +67,13 @@ module _ {N : Type 0} (read : List ℕ → Option N) (text : List ℕ) where
           split = split_at ∙ sym (append_assoc b.given (x ∷ []) later);
           ends = sym (end_last 0 b.given x);
           room = omega (arith, room, deeper, length-append b.given (x ∷ []));
-          stands = subst (λ o. Goes read o (x.lexeme ∷ lexemes_of later) (lexemes_of later) whole) is stepped;
+          stands = subst (λ o. Goes read o (x.lexeme ∷ lexemes_of later) (lexemes_of later) whole) (sym is) stepped;
         }
 
     -- the lexeme is too much
-    pub at_fault : (to : ℕ) → next w s ≡ None → IsPastWhite text end to → HasNoFront read text × IsRefusedAt read text to x.end
+    pub at_fault : (to : ℕ) → None ≡ next w s → IsPastWhite text end to → HasNoFront read text × IsRefusedAt read text to x.end
     at_fault to is past =
-        let bad : whole ≡ Err (x.lexeme ∷ lexemes_of later) = subst (λ o. Goes read o (x.lexeme ∷ lexemes_of later) (lexemes_of later) whole) is stepped in
+        let bad : whole ≡ Err (x.lexeme ∷ lexemes_of later) = subst (λ o. Goes read o (x.lexeme ∷ lexemes_of later) (lexemes_of later) whole) (sym is) stepped in
         let cut : all ≡ lexemes_of b.given ++ (x.lexeme ∷ lexemes_of later) = ap lexemes_of split_at ∙ lexemes_append b.given (x ∷ later) in
         let dead = too_much read (length all) all (lexemes_of b.given) (lexemes_of later) x.lexeme (omega arith) cut bad in (
           no_front read text all (placed-split text) (none read (length all) all (x.lexeme ∷ lexemes_of later) (omega arith) bad),

@@ -1,15 +1,14 @@
 -- What the end of a walk says of the lexemes and of the text.
-use Rattle.std.proofs.Common.{◌≡◌, ℕ, zero, suc, ◌+◌, ◌-◌, ◌≤◌, List, [], ◌∷◌, ◌++◌, length, length-append, drop, refl, ap, ◌∙◌, sym, subst, append_assoc, append-nil, arith, Option, Ok, Err, true, inl, inr}
-use Rattle.std.specs.Prelude.{◌⊎◌}
+use Rattle.std.proofs.Common.{◌≡◌, ℕ, suc, ◌+◌, ◌≤◌, List, [], ◌∷◌, ◌++◌, length, length-append, drop, refl, ap, ◌∙◌, sym, subst, append_assoc, append-nil, arith, Option, Ok, Err, true}
 use Rattle.std.proofs.lemmas.List.{append_cancel_right, length-drop, drop_at}
 use Rattle.wkt_num.specs.Bytes.{Lexeme, White, AllWhite}
 use Rattle.wkt_access.specs.Values.{Value}
 use Rattle.wkt_read.specs.Lexemes.{StartsOther, Takes, IsSplit}
 use Rattle.wkt_read.specs.Grammar.{Geometry}
-use Rattle.wkt_read.specs.Front.{FrontBy, HasNoFront}
+use Rattle.wkt_read.specs.Front.{HasNoFront}
 use Rattle.wkt_read.specs.Begun.{BegunGeometry, IsDeadBy, NoneBeginsBy}
 use Rattle.wkt_read.specs.Early.{IsJustDead}
-use Rattle.wkt_read.specs.Placed.{Placed, lexemes_of, end_after, AreEnds, placed}
+use Rattle.wkt_read.specs.Placed.{Placed, lexemes_of, end_after, AreEnds}
 use Rattle.wkt_read.specs.Parser.Reading.{Reading, value_at}
 use Rattle.wkt_read.proofs.LawLemmas.Splits.{span, spells_first, first_append, first_other, end_other, split_one, takes_rest, takes_after}
 use Rattle.wkt_read.proofs.LawLemmas.Fronts.{taken_begin}
@@ -21,9 +20,9 @@ use Rattle.wkt_read.proofs.ParserLemmas.Reaches.{reach}
 use Rattle.wkt_read.proofs.ParserLemmas.Readings.{value_part, sound, complete}
 use Rattle.wkt_read.proofs.ParserLemmas.Early.{beginnings}
 use Rattle.wkt_read.proofs.ParserLemmas.Free.{none_begins}
-use Rattle.wkt_explain.specs.Explained.{HasFront, IsTooMuch, IsTooShort, IsRefusedAt}
+use Rattle.wkt_explain.specs.Explained.{HasFront, IsTooMuch, IsTooShort}
 use Rattle.wkt_explain.specs.White.{IsPastWhite}
-use Rattle.wkt_explain.proofs.Spots.{Spot, spot, value_s, spot_value}
+use Rattle.wkt_explain.proofs.Spots.{spot, value_s, spot_value}
 
 module _ {N : Type 0} (read : List ℕ → Option N) where
   abbrev pub Begun : List Lexeme → Type 0

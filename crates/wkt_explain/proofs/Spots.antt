@@ -1,13 +1,13 @@
 -- Readings without what they read: the lexemes after a whole part, or those from the one that is too much on, none where the lexemes end.
-use Rattle.std.proofs.Common.{◌≡◌, ℕ, zero, suc, List, [], ◌∷◌, ◌++◌, refl, ap, ◌∙◌, sym, Option, Some, None, Result, Ok, Err, Bool, true, false, cond}
+use Rattle.std.proofs.Common.{◌≡◌, ℕ, zero, suc, List, [], ◌∷◌, refl, ap, ◌∙◌, sym, Option, Some, None, Result, Ok, Err, Bool, true, false, cond}
 use Rattle.wkt_num.specs.Bytes.{Lexeme, Open, Close, Comma, Word, Num}
 use Rattle.wkt_access.specs.declared.dimensions.Dimension.{Dimension}
 use Rattle.wkt_access.specs.declared.dimensions.Dimension.TheVariants.{XY, XYZ, XYM, XYZM}
-use Rattle.wkt_access.specs.Values.{size, Value}
+use Rattle.wkt_access.specs.Values.{Value}
 use Rattle.wkt_types.specs.declared.geometry_type.GeometryType.{GeometryType}
 use Rattle.wkt_types.specs.declared.geometry_type.GeometryType.TheVariants as kind
 use Rattle.wkt_read.specs.Grammar.{KindWord, kind_word, dim_word}
-use Rattle.wkt_read.specs.Parser.Reading.{Reading, is_empty_word, members_read, opening_at, closing_at, number_in, number_at, dimension_at, worded, numbered}
+use Rattle.wkt_read.specs.Parser.Reading.{is_empty_word, members_read, opening_at, closing_at, number_in, number_at, dimension_at, worded, numbered}
 use Rattle.wkt_read.proofs.ParserLemmas.Tells.{Telling, told, tell, andthen, fronted, mapped, closed_f, framed_f, tail_f, many_f, numbers_f, coord_f, joined_or_f, kinded_f, header_f, inside_f, member_f, line_string_f, line_strings_f, polygons_f, points_f, body_f, value_f}
 use Rattle.wkt_explain.specs.declared.shape.Part.{Part}
 use Rattle.wkt_explain.specs.declared.shape.Part.TheVariants as part

@@ -1,9 +1,9 @@
 -- The steps of a walk, by what there is to read.
-use Rattle.std.proofs.Common.{◌≡◌, ℕ, zero, suc, ◌≤◌, List, [], ◌∷◌, length, refl, ap, ◌∙◌, sym, subst, arith, Option, Some, None, Ok, Err, Bool, true, false, cond}
+use Rattle.std.proofs.Common.{◌≡◌, ℕ, zero, suc, ◌≤◌, List, [], ◌∷◌, length, refl, sym, subst, arith, Option, Some, None, Ok, Err, Bool, true, false, cond}
 use Rattle.std.specs.Borrow.{Bor}
 use Rattle.wkt_num.specs.Bytes.{Lexeme, Open, Close, Comma, Word, Num}
 use Rattle.wkt_access.specs.declared.dimensions.Dimension.{Dimension}
-use Rattle.wkt_access.specs.declared.dimensions.Dimension.TheVariants.{XY, XYZ, XYM, XYZM}
+use Rattle.wkt_access.specs.declared.dimensions.Dimension.TheVariants.{XY}
 use Rattle.wkt_types.specs.declared.geometry_type.GeometryType.{GeometryType}
 use Rattle.wkt_types.specs.declared.geometry_type.GeometryType.TheVariants as kind
 use Rattle.wkt_read.specs.Grammar.{KindWord, kind_word, dim_word}
@@ -16,7 +16,7 @@ use Rattle.wkt_explain.specs.declared.place.Walk.{Walk}
 use Rattle.wkt_explain.specs.declared.seen.Seen.{Seen}
 use Rattle.wkt_explain.specs.declared.seen.Seen.TheVariants as seen
 use Rattle.wkt_explain.specs.Walks.{Shows, part_of, numbers_after, inside, outside, after_kind, after_kind_word, after_joined, after_dimension, after_dimension_word, after_opening, after_member, after_number, numbers_left, after_item, again, after_geometry, at, start, next, next_from, is_over, over_at}
-use Rattle.wkt_explain.proofs.Spots.{Spot, thence, close_s, tail_s, rest_s, number_in_s, number_s, numbers_s, coord_s, one_s, list_s, member_s, item_s, after_s, part_s, worded_s, dimension_s, joined_s, kind_s, geometry_s, value_s, thence_thence}
+use Rattle.wkt_explain.proofs.Spots.{Spot, thence, close_s, tail_s, rest_s, number_in_s, numbers_s, coord_s, list_s, member_s, item_s, after_s, part_s, worded_s, dimension_s, joined_s, kind_s, geometry_s, value_s, thence_thence}
 
 -- a part that is open, with its dimension
 abbrev pub Frame : Type 0

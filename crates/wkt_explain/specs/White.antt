@@ -1,6 +1,6 @@
 -- White space between lexemes. Only private contracts cite this file.
 use Rattle.std.specs.Prelude.{◌≡◌, ℕ, ◌≤◌, List, ◌++◌, length, drop, Bool, true, false}
-use Rattle.wkt_num.specs.Bytes.{Lexeme, Class, Nul, White, Mark, Run, AllWhite}
+use Rattle.wkt_num.specs.Bytes.{Class, Nul, White, Mark, Run, AllWhite}
 use Rattle.wkt_read.specs.Lexemes.{StartsOther}
 
 -- whether a byte of this class is white space

@@ -110,3 +110,58 @@ fn explains_no_geometry(rt: HostRuntime) -> Result<(), Fail> {
     }
     Ok(())
 }
+
+const SHOWN: [(&str, &str); 5] = [
+    (
+        "POINT(1)",
+        "POINT(1)\n       ^ a second number was expected",
+    ),
+    ("", "\n^ a kind of geometry, such as POINT, was expected"),
+    (
+        "LINESTRING(\n\t1 2,\n\t½ 4\n)",
+        "\t½ 4\n\t^ a first number was expected",
+    ),
+    (
+        "POLYGON((0 0,\n1 1),½)\nPOINT(1 2)",
+        "1 1),½)\n     ^ `(` or EMPTY was expected",
+    ),
+    (
+        "MULTIPOINT(½½ 1)",
+        "MULTIPOINT(½½ 1)\n           ^ a first number, `(` or EMPTY was expected",
+    ),
+];
+
+#[test]
+fn shows_the_place(rt: HostRuntime) -> Result<(), Fail> {
+    let alloc = rt.alloc();
+    for (text, want) in SHOWN {
+        match explain::<Decimal<6>>(alloc, text)? {
+            Some(why) => {
+                let shown = format!(in alloc; "{why}")?;
+                assert_eq!(rt; shown.as_str(), want);
+            }
+            None => assert!(rt; false, "at {text}"),
+        }
+    }
+    Ok(())
+}
+
+#[test]
+fn keeps_the_message(rt: HostRuntime) -> Result<(), Fail> {
+    let alloc = rt.alloc();
+    match explain::<i32>(alloc, "POINT(1)")? {
+        Some(why) => assert_eq!(rt; why.message, "Missing closing parenthesis for type"),
+        None => assert!(rt; false),
+    }
+    match explain::<i32>(alloc, "POINT(1 2.5)")? {
+        Some(why) => {
+            assert_eq!(rt;
+                why.message,
+                "Unable to parse input number as the desired output type"
+            );
+            assert_eq!(rt; &why.text[why.start..why.end], "2.5");
+        }
+        None => assert!(rt; false),
+    }
+    Ok(())
+}

@@ -1,5 +1,5 @@
-use Rattle.std.proofs.Common.{◌≡◌, sym, ◌∙◌, subst}
-use Rattle.wkt_read.specs.Stream.{coming, end_of_last}
+use Rattle.std.proofs.Common.{sym, ◌∙◌, subst}
+use Rattle.wkt_read.specs.Stream.{coming}
 use Rattle.wkt_explain.specs.Explained.{IsRefusedAt}
 use Rattle.wkt_explain.proofs.Finding.{IsBefore, at_start, at_next, at_fault, at_end, at_over, past_same}
 use Rattle.wkt_explain.proofs.Streams.{gives_some, gives_none}
@@ -22,20 +22,20 @@ pub returns-in_default-next-clause-no_front : goal.returns-in_default-next-claus
 returns-in_default-next-clause-no_front g c =
     let past = past_same c.as_bytes-in_default-next.result.now c.args.text.now c.end-before.result _ _ c.as_bytes-in_default-next.ensures.value c.end-before.ensures c.past_white.ensures in
     let (x, e, ends, says) = gives_some g.T.WktNum.read _ _ c.in-Some.item c.in-Some.ensures.steps in
-    (at_fault g.T.WktNum.read c.args.text.now _ _ x _ _ c.lexemes.invariant e _ (c.look.ensures x.lexeme says) (sym c.is_over.ensures ∙ c.lexemes-test.true) _ (sym c.in_default-next.ensures.place) past).0
+    (at_fault g.T.WktNum.read c.args.text.now _ _ x _ _ c.lexemes.invariant e _ (c.look.ensures x.lexeme says) (sym c.is_over.ensures ∙ c.lexemes-test.true) _ c.in_default-next.ensures.place past).0
 
 pub returns-in_default-next-clause-place : goal.returns-in_default-next-clause-place
 returns-in_default-next-clause-place g c =
     let past = past_same c.as_bytes-in_default-next.result.now c.args.text.now c.end-before.result _ _ c.as_bytes-in_default-next.ensures.value c.end-before.ensures c.past_white.ensures in
     let (x, e, ends, says) = gives_some g.T.WktNum.read _ _ c.in-Some.item c.in-Some.ensures.steps in
     subst (IsRefusedAt g.T.WktNum.read c.args.text.now c.past_white.result) (sym (c.end.ensures ∙ ends))
-        (at_fault g.T.WktNum.read c.args.text.now _ _ x _ _ c.lexemes.invariant e _ (c.look.ensures x.lexeme says) (sym c.is_over.ensures ∙ c.lexemes-test.true) _ (sym c.in_default-next.ensures.place) past).1
+    (at_fault g.T.WktNum.read c.args.text.now _ _ x _ _ c.lexemes.invariant e _ (c.look.ensures x.lexeme says) (sym c.is_over.ensures ∙ c.lexemes-test.true) _ c.in_default-next.ensures.place past).1
 
 pub lexemes-preserved : goal.lexemes-preserved
 lexemes-preserved g c =
     let (x, e, ends, says) = gives_some g.T.WktNum.read _ _ c.in-Some.item c.in-Some.ensures.steps in
     subst (λ n. IsBefore g.T.WktNum.read c.args.text.now (coming c.next.new.self) n c.in-Some-next.next) (sym ends)
-        (at_next g.T.WktNum.read c.args.text.now _ _ x _ _ c.lexemes.invariant e _ (c.look.ensures x.lexeme says) (sym c.is_over.ensures ∙ c.lexemes-test.true) c.in-Some-next.next (sym c.in-Some-next.ensures.place) c.in-Some-next.ensures.deeper)
+    (at_next g.T.WktNum.read c.args.text.now _ _ x _ _ c.lexemes.invariant e _ (c.look.ensures x.lexeme says) (sym c.is_over.ensures ∙ c.lexemes-test.true) c.in-Some-next.next c.in-Some-next.ensures.place c.in-Some-next.ensures.deeper)
 
 pub returns-clause-front : goal.returns-clause-front
 returns-clause-front g c = at_over g.T.WktNum.read c.args.text.now _ _ _ c.lexemes.invariant (sym c.is_over.ensures ∙ c.lexemes-test.false)
