@@ -20,7 +20,8 @@ use Rattle.wkt_read.proofs.ParserLemmas.Reaches.{reach}
 use Rattle.wkt_read.proofs.ParserLemmas.Readings.{value_part, sound, complete}
 use Rattle.wkt_read.proofs.ParserLemmas.Early.{beginnings}
 use Rattle.wkt_read.proofs.ParserLemmas.Free.{none_begins}
-use Rattle.wkt_explain.specs.Explained.{HasFront, IsTooMuch, IsTooShort}
+use Rattle.wkt_explain.specs.declared.expected.Expected.{Expected}
+use Rattle.wkt_explain.specs.Explained.{HasFront, IsExpectedAfter, IsTooMuch, IsTooShort}
 use Rattle.wkt_explain.specs.White.{IsPastWhite}
 use Rattle.wkt_explain.proofs.Spots.{spot, value_s, spot_value}
 
@@ -130,8 +131,8 @@ past text rest gap next from to p e split white other =
 
 module _ {N : Type 0} (read : List ℕ → Option N) (text : List ℕ) where
   -- the place of a lexeme that is too much
-  pub too_much_at : (given later : List Placed) (x : Placed) (from to : ℕ) → AreEnds text (given ++ (x ∷ later)) → from ≡ end_after 0 given → IsPastWhite text from to → IsJustDead read (lexemes_of given ++ (x.lexeme ∷ [])) → IsTooMuch read text to x.end
-  too_much_at given later x from to are at p dead =
+  pub too_much_at : (given later : List Placed) (x : Placed) (from to : ℕ) → AreEnds text (given ++ (x ∷ later)) → from ≡ end_after 0 given → IsPastWhite text from to → IsJustDead read (lexemes_of given ++ (x.lexeme ∷ [])) → (e : Expected) → IsExpectedAfter read (lexemes_of given) e → IsTooMuch read text to x.end e
+  too_much_at given later x from to are at p dead e could_stand =
       let (rest, taken, ends) = are given (x ∷ later) refl in
       let (rest2, taken2, ends2) = are (given ++ (x ∷ [])) later (sym (append_assoc given (x ∷ []) later)) in
       let both : Takes text (lexemes_of given ++ (x.lexeme ∷ [])) rest2 = subst (λ l. Takes text l rest2) (lexemes_append given (x ∷ [])) taken2 in
@@ -151,11 +152,12 @@ module _ {N : Type 0} (read : List ℕ → Option N) (text : List ℕ) where
         begins = past text rest gap (body ++ after) from to p (left_at text rest (lexemes_of given) from taken (omega (arith, ends, at))) split white other;
         ends = omega (arith, ends2, end_last 0 given x, ap length last);
         dead = dead;
+        could_stand = could_stand;
       }
 
   -- the place where a text is too short
-  pub too_short_at : (given : List Placed) (from to : ℕ) → AreEnds text given → IsSplit text (lexemes_of given) → from ≡ end_after 0 given → IsPastWhite text from to → BegunGeometry read true (lexemes_of given) → IsTooShort read text to to
-  too_short_at given from to are (rest, taken, (gap, after, split, white, over)) at p begun =
+  pub too_short_at : (given : List Placed) (from to : ℕ) → AreEnds text given → IsSplit text (lexemes_of given) → from ≡ end_after 0 given → IsPastWhite text from to → BegunGeometry read true (lexemes_of given) → (e : Expected) → IsExpectedAfter read (lexemes_of given) e → IsTooShort read text to to e
+  too_short_at given from to are (rest, taken, (gap, after, split, white, over)) at p begun e could_stand =
       let (rest2, taken2, ends) = are given [] (sym (append-nil given)) in
       let same : rest2 ≡ rest = takes_rest (lexemes_of given) (lexemes_of given) text text rest2 rest refl refl taken2 taken in
       record {
@@ -170,6 +172,7 @@ module _ {N : Type 0} (read : List ℕ → Option N) (text : List ℕ) where
         begins = past text rest gap after from to p (left_at text rest2 (lexemes_of given) from taken2 (omega (arith, ends, at)) ∙ same) split white (end_other after over);
         ends = refl;
         begun = begun;
+        could_stand = could_stand;
       }
 
   -- where the walk is over there is a front

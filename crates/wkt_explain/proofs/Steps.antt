@@ -122,7 +122,7 @@ module _ {N : Type 0} (read : List ℕ → Option N) where
   out part.Geometries d depth ls r whole h = here place.Geometry depth r whole h
 
   -- by the lexeme that was seen
-  shown : (P : Seen → Lexeme → Type 0) → P seen.Open Open → P seen.Close Close → P seen.Comma Comma → ((w : Bor (List ℕ)) → P (seen.Word w) (Word w.now))
+  pub shown : (P : Seen → Lexeme → Type 0) → P seen.Open Open → P seen.Close Close → P seen.Comma Comma → ((w : Bor (List ℕ)) → P (seen.Word w) (Word w.now))
       → ((run : List ℕ) (x : N) → read run ≡ Some x → P seen.Number (Num run)) → ((run : List ℕ) → read run ≡ None → P seen.Unread (Num run))
       → (s : Seen) (x : Lexeme) → Shows read s x → P s x
   shown P o c m w n u seen.Open x e = subst (P seen.Open) (sym e) o

@@ -1,5 +1,5 @@
 -- How a walk goes over the lexemes of a geometry. Only private contracts cite this file.
-use Rattle.std.specs.Prelude.{◌≡◌, ℕ, suc, zero, List, Option, Some, None, Bool, true, false, cond}
+use Rattle.std.specs.Prelude.{◌≡◌, ℕ, suc, zero, List, Option, Some, None, Bool, true, false, cond, ◌==◌, if◌then◌else◌}
 use Rattle.wkt_num.specs.Bytes as lex
 use Rattle.wkt_num.specs.Bytes.{Lexeme}
 use Rattle.wkt_access.specs.declared.dimensions.Dimension.{Dimension}
@@ -8,6 +8,8 @@ use Rattle.wkt_types.specs.declared.geometry_type.GeometryType.{GeometryType}
 use Rattle.wkt_types.specs.declared.geometry_type.GeometryType.TheVariants as kind
 use Rattle.wkt_read.specs.Grammar.{KindWord, kind_word, dim_word}
 use Rattle.wkt_read.specs.Parser.Reading.{is_empty_word}
+use Rattle.wkt_explain.specs.declared.expected.Expected.{Expected}
+use Rattle.wkt_explain.specs.declared.expected.Expected.TheVariants as expected
 use Rattle.wkt_explain.specs.declared.shape.Part.{Part}
 use Rattle.wkt_explain.specs.declared.shape.Part.TheVariants as part
 use Rattle.wkt_explain.specs.declared.place.Place.{Place}
@@ -200,3 +202,42 @@ over_at (place.Item p d) depth = false
 -- a geometry was walked over that is in no collection
 abbrev pub is_over : Walk → Bool
 is_over w = over_at w.place w.depth
+
+-- the last number of a coordinate
+abbrev pub last_number : Dimension → Expected
+last_number XY = expected.Y
+last_number XYZ = expected.Z
+last_number XYM = expected.M
+last_number XYZM = expected.M
+
+-- the number of a coordinate that has so many more after it
+abbrev pub number_expected : Dimension → ℕ → Expected
+number_expected d more =
+    if more == 0 then last_number d
+    else (if more == numbers_after d then expected.X
+    else (if suc more == numbers_after d then expected.Y
+    else expected.Z))
+
+-- after an item of a part
+abbrev pub item_expected : Part → Expected
+item_expected part.Point = expected.Closing
+item_expected part.Line = expected.More
+item_expected part.Rings = expected.More
+item_expected part.Ring = expected.More
+item_expected part.Members = expected.More
+item_expected part.Member = expected.Closing
+item_expected part.Polygons = expected.More
+item_expected part.PolygonRings = expected.More
+item_expected part.PolygonRing = expected.More
+item_expected part.Geometries = expected.More
+
+-- what could stand at a place
+abbrev pub expected_at : Place → ℕ → Expected
+expected_at place.Kind zero = expected.Kind
+expected_at place.Kind (suc depth) = expected.Member
+expected_at (place.Dimension k) depth = expected.Dimension
+expected_at (place.Opening p d) depth = expected.Opening
+expected_at (place.Member d) depth = expected.Point
+expected_at (place.Number p d more) depth = number_expected d more
+expected_at (place.Item p d) depth = item_expected p
+expected_at place.Geometry depth = expected.More

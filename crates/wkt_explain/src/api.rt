@@ -4,7 +4,7 @@ ghost use Rattle.wkt_num.specs.Bytes.{class_of};
 ghost use Rattle.wkt_read.specs.Answered.{HasBadNumber};
 ghost use Rattle.wkt_read.specs.Front.{HasNoFront};
 ghost use Rattle.wkt_read.specs.Items.{bad_number};
-ghost use Rattle.wkt_explain.specs.Explained.{HasFront, IsRefusedAt};
+ghost use Rattle.wkt_explain.specs.Explained.{HasFront, IsRefusedAt, IsPart};
 ghost use Rattle.wkt_explain.specs.White.{IsPastWhite, is_white};
 
 use crate::expected::Expected;
@@ -50,7 +50,8 @@ fn past_white(text: &[u8], from: usize) -> usize
 fn find<T: WktNum>(text: &str) -> Option<Found>
     ensures front { IfNone result (HasFront T.read text.now) }
     ensures no_front { OnSome result (HasNoFront T.read text.now) }
-    ensures place { IfSome result (λ f. IsRefusedAt T.read text.now f.start f.end) }
+    ensures place { IfSome result (λ f. IsRefusedAt T.read text.now f.start f.end f.expected) }
+    ensures part { IfSome result (λ f. IsPart text.now f.start f.end) }
 {
     let mut tokens = Tokens::<T>::from_str(text);
     let mut walk = Walk::start();
@@ -101,7 +102,8 @@ pub fn explain<'a, T: WktNum>(
 ) -> Result<Option<Explanation<'a>>, AllocError>
     ensures front { IfOk result (λ r. IfNone r (HasFront T.read text.now)) }
     ensures no_front { IfOk result (λ r. OnSome r (HasNoFront T.read text.now)) }
-    ensures place { IfOk result (λ r. IfSome r (λ e. IsRefusedAt T.read text.now e.start e.end)) }
+    ensures place { IfOk result (λ r. IfSome r (λ e. IsRefusedAt T.read text.now e.start e.end e.expected)) }
+    ensures part { IfOk result (λ r. IfSome r (λ e. IsPart text.now e.start e.end)) }
     ensures text { IfOk result (λ r. IfSome r (λ e. e.text.now ≡ text.now)) }
     ensures bad { IfOk result (λ r. IfSome r (λ e. e.message.now ≡ bad_number → HasBadNumber T.read text.now)) }
     ensures memory { OnErr result (HasNoFront T.read text.now) }

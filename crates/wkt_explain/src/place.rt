@@ -54,8 +54,8 @@ fn part_of(kind: GeometryType) -> Part
     }
 }
 
-// How many numbers a coordinate has after its first.
-fn numbers_after(dim: Dimension) -> usize
+/// How many numbers a coordinate has after its first.
+pub(crate) fn numbers_after(dim: Dimension) -> usize
     ensures { result ≡ numbers_after dim }
 {
     match dim {

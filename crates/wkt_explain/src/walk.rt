@@ -1,11 +1,11 @@
 //! A walk over the lexemes of a geometry, which keeps nothing of the geometry.
 ghost use Rattle.std.specs.Prelude.{◌≡◌, ◌<◌, ◌≤◌, ◌+◌, IfSome};
-ghost use Rattle.wkt_explain.specs.Walks.{start, next, is_over};
+ghost use Rattle.wkt_explain.specs.Walks.{start, next, is_over, expected_at, number_expected};
 
 use crate::expected::Expected;
 use crate::place::{
     Place, Walk, after_dimension, after_geometry, after_item, after_kind, after_member,
-    after_number, after_opening,
+    after_number, after_opening, numbers_after,
 };
 use crate::seen::Seen;
 use crate::shape::Part;
@@ -47,7 +47,9 @@ impl Walk {
     }
 
     /// What could stand at the place.
-    pub(crate) fn expected(&self) -> Expected {
+    pub(crate) fn expected(&self) -> Expected
+        ensures { result ≡ expected_at self.now.place self.now.depth }
+    {
         match self.place {
             Place::Kind if self.depth == 0 => Expected::Kind,
             Place::Kind => Expected::Member,
@@ -56,21 +58,27 @@ impl Walk {
             Place::Member(_) => Expected::Point,
             Place::Number(_, dim, more) => number_expected(dim, more),
             Place::Item(Part::Point | Part::Member, _) => Expected::Closing,
-            Place::Item(_, _) => Expected::More,
-            Place::Geometry => Expected::More,
+            Place::Item(_, _) | Place::Geometry => Expected::More,
         }
     }
 }
 
 // Which number of a coordinate has so many more after it.
-fn number_expected(dim: Dimension, more: usize) -> Expected {
-    match (dim, more) {
-        (Dimension::XY, 0) => Expected::Y,
-        (Dimension::XYZ, 0) => Expected::Z,
-        (Dimension::XYM | Dimension::XYZM, 0) => Expected::M,
-        (Dimension::XYZ | Dimension::XYM, 1) => Expected::Y,
-        (Dimension::XYZM, 1) => Expected::Z,
-        (Dimension::XYZM, 2) => Expected::Y,
-        _ => Expected::X,
+fn number_expected(dim: Dimension, more: usize) -> Expected
+    ensures { result ≡ number_expected dim more }
+{
+    let after_first = numbers_after(dim);
+    if more == 0 {
+        match dim {
+            Dimension::XY => Expected::Y,
+            Dimension::XYZ => Expected::Z,
+            Dimension::XYM | Dimension::XYZM => Expected::M,
+        }
+    } else if more == after_first {
+        Expected::X
+    } else if more == after_first - 1 {
+        Expected::Y
+    } else {
+        Expected::Z
     }
 }
