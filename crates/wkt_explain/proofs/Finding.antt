@@ -114,26 +114,36 @@ module _ {N : Type 0} (read : List ℕ → Option N) where
           }
 
       -- the lexeme is too much
-      pub at_fault : (to : ℕ) → None ≡ next w s → IsPastWhite text end to → (m : Expected) → m ≡ expected_at w.place w.depth → HasNoFront read text × IsRefusedAt read text to x.end m
+      abbrev bad : List Lexeme
+      bad = x.lexeme ∷ lexemes_of later
+
+      stopped : None ≡ next w s → whole (before ++ bad) ≡ Err bad
+      stopped is = subst (λ o. Goes read o bad (lexemes_of later) (whole (before ++ bad))) (sym is) (stepped (lexemes_of later))
+
+      pub none_at_fault : None ≡ next w s → HasNoFront read text
+      none_at_fault is = refused (before ++ bad) bad (ap lexemes_of split_at ∙ lexemes_append b.given (x ∷ later)) (stopped is)
+
+      pub at_fault : (to : ℕ) → None ≡ next w s → IsPastWhite text end to → (m : Expected) → m ≡ expected_at w.place w.depth → IsRefusedAt read text to x.end m
       at_fault to is past m em =
-          let ls : List Lexeme = before ++ (x.lexeme ∷ lexemes_of later) in
-          let bad : whole ls ≡ Err (x.lexeme ∷ lexemes_of later) = subst (λ o. Goes read o (x.lexeme ∷ lexemes_of later) (lexemes_of later) (whole ls)) (sym is) (stepped (lexemes_of later)) in
-          let split : all ≡ ls = ap lexemes_of split_at ∙ lexemes_append b.given (x ∷ later) in
-          let dead = too_much read (length ls) ls before (lexemes_of later) x.lexeme (omega arith) refl bad in (
-            refused ls (x.lexeme ∷ lexemes_of later) split bad,
-            inl (too_much_at read text b.given later x end to (subst (AreEnds text) split_at (placed-ends text)) b.ends past dead m (expected_after before w b.stands goes m em)),
-          )
+          let dead = too_much read (length (before ++ bad)) (before ++ bad) before (lexemes_of later) x.lexeme (omega arith) refl (stopped is) in
+          inl (too_much_at read text b.given later x end to (subst (AreEnds text) split_at (placed-ends text)) b.ends past dead m (expected_after before w b.stands goes m em))
 
     -- no lexeme is left
-    pub at_end : (left : List Placed) (end : ℕ) (w : Walk) (to : ℕ) → IsBefore left end w → left ≡ [] → is_over w ≡ false → IsPastWhite text end to → (m : Expected) → m ≡ expected_at w.place w.depth → HasNoFront read text × IsRefusedAt read text to to m
-    at_end left end w to b e goes past m em =
-        let ls : List Lexeme = lexemes_of b.given ++ [] in
-        let cut : placed text ≡ b.given = b.split ∙ ap (λ l. b.given ++ l) e ∙ append-nil b.given in
-        let bad : whole ls ≡ Err [] = ends_at read w.place w.depth goes (whole ls) (b.stands []) in
-        let begun = subst (BegunGeometry read true) (append-nil (lexemes_of b.given)) (too_short read (length ls) ls (omega arith) bad) in (
-          refused ls [] (ap lexemes_of cut ∙ sym (append-nil (lexemes_of b.given))) bad,
-          inr (too_short_at read text b.given end to (subst (AreEnds text) cut (placed-ends text)) (subst (λ p. IsSplit text (lexemes_of p)) cut (placed-split text)) b.ends past begun m (expected_after (lexemes_of b.given) w b.stands goes m em)),
-        )
+    module _ (left : List Placed) (end : ℕ) (w : Walk) (b : IsBefore left end w) (e : left ≡ []) (goes : is_over w ≡ false) where
+      split_end : placed text ≡ b.given
+      split_end = b.split ∙ ap (λ l. b.given ++ l) e ∙ append-nil b.given
+
+      stopped_end : whole (lexemes_of b.given ++ []) ≡ Err []
+      stopped_end = ends_at read w.place w.depth goes (whole (lexemes_of b.given ++ [])) (b.stands [])
+
+      pub none_at_end : HasNoFront read text
+      none_at_end = refused (lexemes_of b.given ++ []) [] (ap lexemes_of split_end ∙ sym (append-nil (lexemes_of b.given))) stopped_end
+
+      pub at_end : (to : ℕ) → IsPastWhite text end to → (m : Expected) → m ≡ expected_at w.place w.depth → IsRefusedAt read text to to m
+      at_end to past m em =
+          let ls : List Lexeme = lexemes_of b.given ++ [] in
+          let begun = subst (BegunGeometry read true) (append-nil (lexemes_of b.given)) (too_short read (length ls) ls (omega arith) stopped_end) in
+          inr (too_short_at read text b.given end to (subst (AreEnds text) split_end (placed-ends text)) (subst (λ p. IsSplit text (lexemes_of p)) split_end (placed-split text)) b.ends past begun m (expected_after (lexemes_of b.given) w b.stands goes m em))
 
     -- a geometry was walked over
     pub at_over : (left : List Placed) (end : ℕ) (w : Walk) → IsBefore left end w → is_over w ≡ true → HasFront read text
