@@ -80,10 +80,10 @@ fn find<T: WktNum>(text: &str) -> Option<Found>
 
 /// Where and why a text is refused; `None` where it has a geometry at its front.
 ///
-/// The place is the lexeme that is too much: what stands before it is a beginning of a geometry, and with
-/// it no geometry can come any more, whatever follows. Where the text ends too early, which a NUL does as
-/// its end, the place is empty. Over a number type that has a value, `wkt::laws::dead_for_good` says that a
-/// text is refused whatever stands in it after that place.
+/// The place is the lexeme that is too much: those before it are a beginning of a geometry, and with it no
+/// geometry can come any more, whatever lexemes follow (over a number type that has a value:
+/// `wkt::laws::dead_for_good`). Where the text ends too early, at its end or its first NUL, the place is
+/// empty. What is expected there is exactly what could stand there, and the place is cut between characters.
 ///
 /// ```text
 /// if let Some(why) = explain::<Decimal<6>>(alloc, "POINT(1)")? {
@@ -94,8 +94,8 @@ fn find<T: WktNum>(text: &str) -> Option<Found>
 /// ```
 ///
 /// # Errors
-/// Memory ran out before the readers had their message; the text is refused. A text that has a geometry
-/// at its front is told so without memory.
+/// Out of memory before the message was there; the text has no geometry at its front, since where it has
+/// one that is answered without memory.
 pub fn explain<'a, T: WktNum>(
     alloc: Global,
     text: &'a str,
