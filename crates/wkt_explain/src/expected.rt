@@ -1,4 +1,7 @@
 //! What could stand at a place of a text.
+ghost use Rattle.std.specs.Prelude.{◌≡◌, Some};
+ghost use Rattle.wkt_explain.specs.Words.{words};
+
 use std::fmt;
 use std::fmt::Formatter;
 
@@ -31,7 +34,9 @@ pub enum Expected {
 
 impl Expected {
     /// What could stand there, in words.
-    fn words(self) -> &'static str {
+    fn words(self) -> &'static str
+        ensures { result.now ≡ words self }
+    {
         match self {
             Expected::Kind => "a kind of geometry, such as POINT,",
             Expected::Member => "a member of the collection",
@@ -49,6 +54,8 @@ impl Expected {
 }
 
 impl fmt::Display for Expected {
+    ghost output = { λ e. Some (words e) };
+
     fn fmt<W: fmt::Write>(&self, f: &mut Formatter<W>) -> fmt::Result {
         f.write_str(self.words())
     }

@@ -18,19 +18,6 @@ pub struct Explanation<'a> {
     pub expected: Expected,
 }
 
-impl<'a> Explanation<'a> {
-    // Where the line begins in which the place is.
-    fn line_start(&self) -> usize {
-        let mut from = 0;
-        for (at, c) in self.text.char_indices() {
-            if c == '\n' && at < self.start {
-                from = at + 1;
-            }
-        }
-        from
-    }
-}
-
 /// The line in which the place is, and below it a mark under the place and what could stand there.
 ///
 /// ```text
@@ -39,20 +26,19 @@ impl<'a> Explanation<'a> {
 /// ```
 impl<'a> fmt::Display for Explanation<'a> {
     fn fmt<W: fmt::Write>(&self, f: &mut Formatter<W>) -> fmt::Result {
-        let from = self.line_start();
-        for (at, c) in self.text.char_indices() {
-            if from <= at {
-                if c == '\n' {
-                    break;
-                }
-                f.write_char(c)?;
-            }
-        }
-        f.write_char('\n')?;
-        for (at, c) in self.text.char_indices() {
-            if from <= at && at < self.start {
-                f.write_char(if c == '\t' { c } else { ' ' })?;
-            }
+        let before = self.text.get(..self.start).unwrap_or(self.text);
+        let after = self.text.get(self.start..).unwrap_or("");
+        let line = match before.rsplit_once('\n') {
+            Some((_, line)) => line,
+            None => before,
+        };
+        let rest = match after.split_once('\n') {
+            Some((rest, _)) => rest,
+            None => after,
+        };
+        write!(f, "{line}{rest}\n")?;
+        for c in line.chars() {
+            f.write_char(if c == '\t' { c } else { ' ' })?;
         }
         write!(f, "^ {} was expected", self.expected)
     }
