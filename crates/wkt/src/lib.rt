@@ -15,6 +15,14 @@
 //! Both read the geometry at the front of the text; a text that has to be one geometry and no more is read by
 //! [`read_whole`].
 //!
+//! # Explain
+//! Where and why a text has no geometry at its front says [`explain`]:
+//!
+//! ```text
+//! POINT(1)
+//!        ^ a second number was expected
+//! ```
+//!
 //! # Compare
 //! `==` compares what is held. Whether two geometries have one text says [`same_geometry`].
 //!
@@ -67,6 +75,7 @@ pub use json::{
 };
 pub use same::same_geometry;
 pub use whole::{WholeError, read_whole};
+pub use wkt_explain::{Expected, Explanation, explain};
 pub use wkt_num::{Decimal, WktNum};
 pub use wkt_read::{FromWktStr, InferError, ReadError, infer_type};
 pub use wkt_to_wkt::{ToWkt, ToWktError};
