@@ -143,7 +143,8 @@ module _ {N : Type 0} (read : List ℕ → Option N) where
       at_end to past m em =
           let ls : List Lexeme = lexemes_of b.given ++ [] in
           let begun = subst (BegunGeometry read true) (append-nil (lexemes_of b.given)) (too_short read (length ls) ls (omega arith) stopped_end) in
-          inr (too_short_at read text b.given end to (subst (AreEnds text) split_end (placed-ends text)) (subst (λ p. IsSplit text (lexemes_of p)) split_end (placed-split text)) b.ends past begun m (expected_after (lexemes_of b.given) w b.stands goes m em))
+          let nothing = subst (NoneBegins read) (append-nil (lexemes_of b.given)) (none read (length ls) ls [] (omega arith) stopped_end) in
+          inr (too_short_at read text b.given end to (subst (AreEnds text) split_end (placed-ends text)) (subst (λ p. IsSplit text (lexemes_of p)) split_end (placed-split text)) b.ends past begun nothing m (expected_after (lexemes_of b.given) w b.stands goes m em))
 
     -- a geometry was walked over
     pub at_over : (left : List Placed) (end : ℕ) (w : Walk) → IsBefore left end w → is_over w ≡ true → HasFront read text

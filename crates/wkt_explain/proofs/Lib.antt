@@ -6,3 +6,4 @@ mod Named
 mod Finding
 mod Streams
 mod Borders
+mod OnePlace

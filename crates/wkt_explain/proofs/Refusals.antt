@@ -156,8 +156,8 @@ module _ {N : Type 0} (read : List ℕ → Option N) (text : List ℕ) where
       }
 
   -- the place where a text is too short
-  pub too_short_at : (given : List Placed) (from to : ℕ) → AreEnds text given → IsSplit text (lexemes_of given) → from ≡ end_after 0 given → IsPastWhite text from to → BegunGeometry read true (lexemes_of given) → (e : Expected) → IsExpectedAfter read (lexemes_of given) e → IsTooShort read text to to e
-  too_short_at given from to are (rest, taken, (gap, after, split, white, over)) at p begun e could_stand =
+  pub too_short_at : (given : List Placed) (from to : ℕ) → AreEnds text given → IsSplit text (lexemes_of given) → from ≡ end_after 0 given → IsPastWhite text from to → BegunGeometry read true (lexemes_of given) → NoneBeginsBy read true (lexemes_of given) → (e : Expected) → IsExpectedAfter read (lexemes_of given) e → IsTooShort read text to to e
+  too_short_at given from to are (rest, taken, (gap, after, split, white, over)) at p begun none e could_stand =
       let (rest2, taken2, ends) = are given [] (sym (append-nil given)) in
       let same : rest2 ≡ rest = takes_rest (lexemes_of given) (lexemes_of given) text text rest2 rest refl refl taken2 taken in
       record {
@@ -172,6 +172,7 @@ module _ {N : Type 0} (read : List ℕ → Option N) (text : List ℕ) where
         begins = past text rest gap after from to p (left_at text rest2 (lexemes_of given) from taken2 (omega (arith, ends, at)) ∙ same) split white (end_other after over);
         ends = refl;
         begun = begun;
+        none = none;
         could_stand = could_stand;
       }
 

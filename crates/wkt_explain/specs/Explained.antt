@@ -5,9 +5,9 @@ use Rattle.wkt_num.specs.Bytes.{Lexeme, Open, Close, Comma, Word, Num, AllWhite}
 use Rattle.wkt_access.specs.declared.dimensions.Dimension.{Dimension}
 use Rattle.wkt_access.specs.Values.{Value}
 use Rattle.wkt_read.specs.Lexemes.{SpellsLexeme, Takes, IsEnd}
-use Rattle.wkt_read.specs.Front.{Front}
+use Rattle.wkt_read.specs.Front.{Front, HasNoFront}
 use Rattle.wkt_read.specs.Grammar.{KindWord, kind_word, dim_word, IsEmptyWord}
-use Rattle.wkt_read.specs.Begun.{BegunGeometry, IsDead}
+use Rattle.wkt_read.specs.Begun.{BegunGeometry, NoneBegins, IsDead}
 use Rattle.wkt_read.specs.Early.{IsJustDead}
 use Rattle.wkt_explain.specs.declared.expected.Expected.{Expected}
 use Rattle.wkt_explain.specs.declared.expected.Expected.TheVariants as expected
@@ -72,7 +72,7 @@ module _ {N : Type 0} (read : List ℕ → Option N) where
     pub dead : IsJustDead read (before ++ (fault ∷ []))
     pub could_stand : IsExpectedAfter before e
 
-  -- The text is too short: all its lexemes are a beginning of a geometry. The place is empty, at the text's end or its first NUL.
+  -- The text is too short: all its lexemes are a beginning of a geometry, and no beginning of them is one. The place is empty, at the text's end or its first NUL.
   pub record IsTooShort (text : List ℕ) (start end : ℕ) (e : Expected) : Type 0 where
     pub lexemes : List Lexeme
     pub rest : List ℕ
@@ -85,8 +85,19 @@ module _ {N : Type 0} (read : List ℕ → Option N) where
     pub begins : length after + start ≡ length text
     pub ends : end ≡ start
     pub begun : BegunGeometry read true lexemes
+    pub none : NoneBegins read lexemes
     pub could_stand : IsExpectedAfter lexemes e
 
   -- Where a text is refused, and what could stand there: at the lexeme that is too much, or where the text ends.
   abbrev pub IsRefusedAt : List ℕ → ℕ → ℕ → Expected → Type 0
   IsRefusedAt text start end e = IsTooMuch text start end e ⊎ IsTooShort text start end e
+
+  -- A text is refused at one place at most.
+  abbrev pub OneRefusal : Type 0
+  OneRefusal =
+      (text : List ℕ) (start end start2 end2 : ℕ) (e e2 : Expected)
+      → IsRefusedAt text start end e → IsRefusedAt text start2 end2 e2 → (start ≡ start2) × (end ≡ end2)
+
+  -- A text that is refused somewhere has no geometry at its front.
+  abbrev pub RefusedHasNoFront : Type 0
+  RefusedHasNoFront = (text : List ℕ) (start end : ℕ) (e : Expected) → IsRefusedAt text start end e → HasNoFront read text

@@ -5,6 +5,7 @@ mod api;
 mod expected;
 mod explanation;
 mod keywords;
+pub mod laws;
 mod place;
 mod seen;
 mod shape;
