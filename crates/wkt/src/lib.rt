@@ -179,6 +179,7 @@ pub mod deserialize {
 /// contracts are the laws.
 pub mod laws {
     pub use crate::flat_laws::{back_is_read, geometry_comes_back, plain_reads_back};
+    pub use wkt_explain::laws::{one_refusal, refused_has_no_front};
     pub use wkt_flat::laws::{flat_is_writable, rings_are_closed};
     pub use wkt_num::laws::{finer_keeps, reading_is_equation, wider_keeps};
     pub use wkt_read::laws::{
