@@ -51,6 +51,11 @@ pub use Rattle.wkt_read.specs.Headline
 pub use Rattle.wkt_read.specs.Laws as ReadLaws
 pub use Rattle.wkt_read.specs.declared.error.ReadError
 pub use Rattle.wkt_read.specs.declared.infer.InferError
+-- where a text is refused
+pub use Rattle.wkt_explain.specs.Explained
+pub use Rattle.wkt_explain.specs.Words
+pub use Rattle.wkt_explain.specs.declared.expected.Expected
+pub use Rattle.wkt_explain.specs.declared.explanation.Explanation
 -- what a `Wkt` holds
 pub use Rattle.wkt_types.specs.Tree
 pub use Rattle.wkt_types.specs.Trees

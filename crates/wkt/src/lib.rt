@@ -15,6 +15,14 @@
 //! Both read the geometry at the front of the text; a text that has to be one geometry and no more is read by
 //! [`read_whole`].
 //!
+//! # Explain
+//! Where and why a text has no geometry at its front says [`explain`]:
+//!
+//! ```text
+//! POINT(1)
+//!        ^ a second number was expected
+//! ```
+//!
 //! # Compare
 //! `==` compares what is held. Whether two geometries have one text says [`same_geometry`].
 //!
@@ -67,6 +75,7 @@ pub use json::{
 };
 pub use same::same_geometry;
 pub use whole::{WholeError, read_whole};
+pub use wkt_explain::{Expected, Explanation, explain};
 pub use wkt_num::{Decimal, WktNum};
 pub use wkt_read::{FromWktStr, InferError, ReadError, infer_type};
 pub use wkt_to_wkt::{ToWkt, ToWktError};
@@ -180,6 +189,7 @@ pub mod deserialize {
 /// contracts are the laws.
 pub mod laws {
     pub use crate::flat_laws::{back_is_read, geometry_comes_back, plain_reads_back};
+    pub use wkt_explain::laws::{one_refusal, refused_has_no_front};
     pub use wkt_flat::laws::{flat_is_writable, rings_are_closed};
     pub use wkt_num::laws::{finer_keeps, reading_is_equation, wider_keeps};
     pub use wkt_read::laws::{

@@ -1,0 +1,4 @@
+pub mod Explained
+pub mod Walks
+pub mod White
+pub mod Words

@@ -1,0 +1,45 @@
+//! A refusal, and how it is shown.
+use crate::expected::Expected;
+use std::fmt;
+use std::fmt::Formatter;
+
+/// Where and why a text is refused.
+#[derive(Clone, Copy, PartialEq, Eq, Debug)]
+pub struct Explanation<'a> {
+    /// The text.
+    pub text: &'a str,
+    /// What the readers say of it.
+    pub message: &'static str,
+    /// Where the lexeme that is too much begins, in bytes.
+    pub start: usize,
+    /// Where it ends. Where the text ends too early, this is `start`.
+    pub end: usize,
+    /// What could stand there in its place.
+    pub expected: Expected,
+}
+
+/// The line in which the place is, and below it a mark under the place and what could stand there.
+///
+/// ```text
+/// POINT(1)
+///        ^ a second number was expected
+/// ```
+impl<'a> fmt::Display for Explanation<'a> {
+    fn fmt<W: fmt::Write>(&self, f: &mut Formatter<W>) -> fmt::Result {
+        let before = self.text.get(..self.start).unwrap_or(self.text);
+        let after = self.text.get(self.start..).unwrap_or("");
+        let line = match before.rsplit_once('\n') {
+            Some((_, line)) => line,
+            None => before,
+        };
+        let rest = match after.split_once('\n') {
+            Some((rest, _)) => rest,
+            None => after,
+        };
+        write!(f, "{line}{rest}\n")?;
+        for c in line.chars() {
+            f.write_char(if c == '\t' { c } else { ' ' })?;
+        }
+        write!(f, "^ {} was expected", self.expected)
+    }
+}

@@ -1,0 +1,115 @@
+//! Words that have a meaning, whatever the case of their ASCII letters.
+ghost use Rattle.std.specs.Prelude.{◌≡◌};
+ghost use Rattle.std.specs.Str.{str_to_ascii_uppercase};
+ghost use Rattle.wkt_read.specs.Grammar.{kind_word, dim_word};
+ghost use Rattle.wkt_read.specs.Parser.Reading.{is_empty_word};
+ghost use Rattle.std.specs.List.{AllByRecursion};
+ghost use Rattle.wkt_read.specs.Header.{begins};
+ghost use Rattle.wkt_read.specs.HeaderSteps.{Strips, BeginsKind};
+ghost use Rattle.wkt_read.specs.Keywords.{Names, IsCapital};
+
+use wkt_access::Dimension;
+use wkt_types::GeometryType;
+
+// Whether the text begins with the word, which is in capitals, whatever the text's case.
+#[inline(always)]
+pub(crate) fn begins(word: &[u8], text: &[u8]) -> bool
+    requires capitals { AllByRecursion IsCapital word.now }
+    ensures { result ≡ begins word.now (str_to_ascii_uppercase text.now) }
+{
+    let mut i = 0;
+    'byte: while i < word.len() {
+        if i == text.len() {
+            return false;
+        }
+        // Most headers are in capitals, which are compared as they are.
+        if text[i] != word[i] && text[i].to_ascii_uppercase() != word[i] {
+            return false;
+        }
+        i += 1;
+    }
+    true
+}
+
+// What follows the word, which is in capitals, at the start of the text, whatever the text's case.
+#[inline(always)]
+fn strip<'a>(word: &[u8], text: &'a [u8]) -> Option<&'a [u8]>
+    requires capitals { AllByRecursion IsCapital word.now }
+    ensures { Strips result word.now (str_to_ascii_uppercase text.now) }
+{
+    if begins(word, text) {
+        Some(&text[word.len()..])
+    } else {
+        None
+    }
+}
+
+// The kind that the header begins with, and what follows its word.
+#[tactic(auto, unfolding(wkt_read::specs::Grammar::kind_words))]
+pub(crate) fn kind(header: &[u8]) -> Option<(GeometryType, &[u8])>
+    ensures named { BeginsKind result (str_to_ascii_uppercase header.now) }
+{
+    if let Some(rest) = strip(b"POINT", header) {
+        Some((GeometryType::Point, rest))
+    } else if let Some(rest) = strip(b"LINESTRING", header) {
+        Some((GeometryType::LineString, rest))
+    } else if let Some(rest) = strip(b"LINEARRING", header) {
+        Some((GeometryType::LineString, rest))
+    } else if let Some(rest) = strip(b"POLYGON", header) {
+        Some((GeometryType::Polygon, rest))
+    } else if let Some(rest) = strip(b"MULTIPOINT", header) {
+        Some((GeometryType::MultiPoint, rest))
+    } else if let Some(rest) = strip(b"MULTILINESTRING", header) {
+        Some((GeometryType::MultiLineString, rest))
+    } else if let Some(rest) = strip(b"MULTIPOLYGON", header) {
+        Some((GeometryType::MultiPolygon, rest))
+    } else if let Some(rest) = strip(b"GEOMETRYCOLLECTION", header) {
+        Some((GeometryType::GeometryCollection, rest))
+    } else {
+        None
+    }
+}
+
+/// The kind that the word names, and the dimension if it is joined to the word.
+pub(crate) fn kind_of(word: &str) -> Option<(GeometryType, Option<Dimension>)>
+    ensures { Names result (kind_word word.now) }
+{
+    let word = word.as_bytes();
+    let (kind, rest) = kind(word)?;
+    if rest.is_empty() {
+        return Some((kind, None));
+    }
+    // The one kind word that no dimension is joined to.
+    if begins(b"LINEARRING", word) {
+        return None;
+    }
+    let dimension = dimension_in(rest)?;
+    Some((kind, Some(dimension)))
+}
+
+/// The dimension that the word names after a kind word alone.
+pub(crate) fn dimension_of(word: &str) -> Option<Dimension>
+    ensures { result ≡ dim_word word.now }
+{
+    dimension_in(word.as_bytes())
+}
+
+/// The dimension that the letters name, whatever their case.
+#[tactic(auto, unfolding(wkt_read::specs::Grammar::dim_word))]
+fn dimension_in(letters: &[u8]) -> Option<Dimension>
+    ensures { result ≡ dim_word letters.now }
+{
+    match letters {
+        [b'Z' | b'z'] => Some(Dimension::XYZ),
+        [b'M' | b'm'] => Some(Dimension::XYM),
+        [b'Z' | b'z', b'M' | b'm'] => Some(Dimension::XYZM),
+        _ => None,
+    }
+}
+
+/// Whether the word is EMPTY.
+pub(crate) fn is_empty(word: &str) -> bool
+    ensures { result ≡ is_empty_word word.now }
+{
+    word.eq_ignore_ascii_case("EMPTY")
+}

@@ -1,0 +1,18 @@
+//! Where and why a text is refused.
+#![tactic(auto)]
+
+mod api;
+mod expected;
+mod explanation;
+mod keywords;
+pub mod laws;
+mod place;
+mod seen;
+mod shape;
+#[cfg(test)]
+mod tests;
+mod walk;
+
+pub use api::explain;
+pub use expected::Expected;
+pub use explanation::Explanation;
