@@ -15,18 +15,22 @@ ulimit -c 0
 
 build() {
     # The project with the fuzzing program among its crates, and the LLVM module that rt try makes of it.
-    rm -rf "$WORK/wkt"
+    rm -rf "$WORK/wkt" "$WORK/module.bc"
     git clone -q "$root" "$WORK/wkt"
     mkdir -p "$WORK/wkt/crates/wkt_fuzz/src"
     cp "$here/program.txt" "$WORK/wkt/crates/wkt_fuzz/src/main.rt"
-    echo 'wkt_fuzz: wkt wkt_lines wkt_stream serde_json' >> "$WORK/wkt/crates.txt"
+    echo 'wkt_fuzz: wkt wkt_lines wkt_stream wkt_c serde_json' >> "$WORK/wkt/crates.txt"
+    # The functions for C are called like any other there, over 0, 6 and 18 places: all of them would take long to build.
+    sed -i 's/^wkt_c staticlib:/wkt_c:/' "$WORK/wkt/crates.txt"
+    sed -i -E 's/^mod (exports|sizes);/pub mod \1;/' "$WORK/wkt/crates/wkt_c/src/lib.rt"
+    sed -i -E '/^        ([1-57-9]|1[0-7]) => [a-z_]+::</d' "$WORK/wkt/crates/wkt_c/src/"*.rt
     (cd "$WORK/wkt/crates/wkt_fuzz" && nice -n 10 python3 "$here/module.py" "$WORK/module.bc" < /dev/null > "$WORK/try.log" 2>&1) || true
     [ -s "$WORK/module.bc" ] || { cat "$WORK/try.log"; echo "fuzz.sh: rt try left no module" >&2; exit 2; }
     "$kit/toolchain/bin/clang" -x ir "$WORK/module.bc" -S -emit-llvm -Xclang -disable-llvm-passes -o "$WORK/whole.ll"
-    # The function gets its C name, and the program's main gives way to libFuzzer's.
-    sed -e 's/^define internal noundef i32 @"wkt_fuzz::wkt_fuzz"(/define i32 @"wkt_fuzz::wkt_fuzz"(/' \
-        -e 's/@"wkt_fuzz::wkt_fuzz"/@wkt_fuzz/g' -e 's/^define i32 @main()/define i32 @rattle_main()/' \
-        "$WORK/whole.ll" > "$WORK/wkt_fuzz.ll"
+    # The functions get their C names, and the program's main gives way to libFuzzer's.
+    sed -E -e 's/@"(wkt_fuzz|wkt_c::exports)::(wkt_[a-z_]+)"/@\2/g' \
+        -e 's/^define internal (noundef )?i32 @(wkt_[a-z_]+)\(/define i32 @\2(/' \
+        -e 's/^define i32 @main\(\)/define i32 @rattle_main()/' "$WORK/whole.ll" > "$WORK/wkt_fuzz.ll"
     # The flags of rt try, with libFuzzer's counters in the place of its address sanitizer.
     flags="--target=x86_64-unknown-linux-gnu -mllvm -no-trap-after-noreturn -ffunction-sections -fdata-sections
         -mllvm -trap-unreachable -mllvm -no-x86-call-frame-opt -mllvm -disable-machine-licm
