@@ -20,7 +20,9 @@ type Bytes = *const u8;
 type Room = *mut u8;
 
 extern "C" {
-    fn wkt_canonical(text: Bytes, n: usize, places: u32, out: Room, m: usize, needed: &mut usize, end: &mut usize) -> u32;
+    fn wkt_canonical(
+        text: Bytes, n: usize, places: u32, out: Room, m: usize, needed: &mut usize, end: &mut usize,
+    ) -> u32;
     fn wkt_same(one: Bytes, n: usize, other: Bytes, m: usize, places: u32, same: &mut u32) -> u32;
     fn wkt_infer(text: Bytes, n: usize, kind: &mut u32, dimension: &mut u32) -> u32;
     fn wkt_lines(input: Bytes, n: usize, places: u32, out: Room, m: usize, needed: &mut usize) -> u32;
@@ -126,35 +128,41 @@ impl Asked<'_> {
         ask: impl Fn(Room, usize, &mut usize) -> u32,
         rest: impl Fn(u32) -> bool,
     ) {
-        let size = wanted.map_or(self.salt % 5, |text| text.len() + self.salt % 5);
-        let with_room = |size: usize, poor: bool| {
-            let (mut out, mut needed) = (bytes(size), usize::MAX);
-            let room = out.at();
-            let status = if poor {
-                self.poor_call(|| ask(room, size, &mut needed))
-            } else {
-                self.call(|| ask(room, size, &mut needed))
-            };
-            if poor && status == MEMORY {
-                return self.ensure(out.holds(&[]) && rest(MEMORY), "written without memory", out.items, "as it was");
-            }
-            let (goes, front) = match wanted {
-                Ok(text) if size < text.len() => (SMALL, &[][..]),
-                Ok(text) => (0, text),
-                Err(status) => (status, &[][..]),
-            };
-            let library = (status, needed, out.items.escape_ascii().to_string());
-            let length = wanted.map_or(usize::MAX, <[u8]>::len);
-            let fits = status == goes && (length == needed || wanted.is_err()) && out.holds(front) && rest(status);
-            self.ensure(fits, &format!("a call for C, with room for {size}"), library, (goes, length, front.escape_ascii().to_string()));
-        };
-        with_room(size, false);
+        let size = wanted.map_or(0, <[u8]>::len) + self.salt % 5;
+        self.hands_out_with(size, false, wanted, &ask, &rest);
         if self.salt % 4 == 0 {
-            with_room(size, true);
+            self.hands_out_with(size, true, wanted, &ask, &rest);
         }
         if let Ok(text @ [_, ..]) = wanted {
-            with_room(self.salt % text.len(), false);
+            self.hands_out_with(self.salt % text.len(), false, wanted, &ask, &rest);
         }
+    }
+
+    fn hands_out_with(
+        &self,
+        room: usize,
+        poor: bool,
+        wanted: Result<&[u8], u32>,
+        ask: impl Fn(Room, usize, &mut usize) -> u32,
+        rest: impl Fn(u32) -> bool,
+    ) {
+        let (mut out, mut needed) = (bytes(room), usize::MAX);
+        let call = || ask(out.at(), room, &mut needed);
+        let status = if poor { self.poor_call(call) } else { self.call(call) };
+        let length = wanted.map_or(needed, <[u8]>::len);
+        let (goes, front) = match wanted {
+            _ if poor && status == MEMORY => (MEMORY, &[][..]),
+            Ok(_) if room < length => (SMALL, &[][..]),
+            Ok(text) => (0, text),
+            Err(status) => (status, &[][..]),
+        };
+        if status == goes && (needed == length || goes == MEMORY) && out.holds(front) && rest(status) {
+            return;
+        }
+        let library = format!("status {status} length {needed} \"{}\"", out.items.escape_ascii());
+        let wanted = format!("status {goes} length {length} \"{}\"", front.escape_ascii());
+        let why = format!("a call for C with room for {room}, an allocation fails: {poor}");
+        self.ensure(false, &why, library, wanted);
     }
 
     fn places(&self) -> u32 {
@@ -217,8 +225,7 @@ fn check_same(asked: &Asked) {
         let status = asked.call(|| unsafe {
             wkt_same(pointer(asked.data), asked.data.len(), pointer(&other), other.len(), places, &mut same)
         });
-        let why = format!("wkt_same with \"{}\"", other.escape_ascii());
-        asked.ensure(wanted.contains(&(status, same)), &why, (status, same), wanted);
+        asked.ensure(wanted.contains(&(status, same)), "wkt_same", (status, same, &other), wanted);
     }
 }
 
@@ -256,6 +263,13 @@ struct Arrays {
     numbers: Vec<i64>,
     rings: Vec<usize>,
     polygons: Vec<usize>,
+}
+
+impl Arrays {
+    fn sizes(&self, end: usize) -> Sizes {
+        let [numbers, rings, polygons] = [self.numbers.len(), self.rings.len(), self.polygons.len()];
+        Sizes { kind: self.kind, dimension: self.dimension, numbers, rings, polygons, end }
+    }
 }
 
 /// Where each list begins in all that they hold, and the end of the last.
@@ -359,61 +373,70 @@ fn check_arrays(asked: &Asked) {
     let places = asked.places();
     let wanted = read(asked.data, places).and_then(|(value, end)| arrays(&value, places).map(|arrays| (arrays, end)));
     check_filled(asked, &wanted, places, [usize::MAX; 3]);
+    let mut fewer = [usize::MAX; 3];
+    fewer[asked.salt % 3] = asked.salt / 3 % 4;
+    check_filled(asked, &wanted, places, fewer);
     if let Ok((arrays, _)) = wanted {
-        let mut fewer = [usize::MAX; 3];
-        fewer[asked.salt % 3] = asked.salt / 3 % 4;
-        check_filled(asked, &Ok((arrays.clone(), read(asked.data, places).unwrap().1)), places, fewer);
         check_from_arrays(asked, &arrays, places, canonical(asked.data, places));
         let other = changed_arrays(arrays, asked.salt);
         check_from_arrays(asked, &other, places, text_of_arrays(&other, places));
     }
 }
 
+/// The buffers of a call of wkt_arrays, and what it told.
+struct Filled {
+    status: u32,
+    told: Sizes,
+    numbers: Buffer<i64>,
+    rings: Buffer<usize>,
+    polygons: Buffer<usize>,
+}
+
+impl Filled {
+    fn of(asked: &Asked, places: u32, room: [usize; 3], poor: bool) -> Filled {
+        let mut numbers = Buffer::new(room[0], i64::MIN + 5);
+        let (mut rings, mut polygons) = (Buffer::new(room[1], 1 << 60), Buffer::new(room[2], 1 << 60));
+        let mut told = Sizes::default();
+        let ask = || unsafe {
+            wkt_arrays(
+                pointer(asked.data), asked.data.len(), places, &mut told, numbers.at(), room[0], rings.at(), room[1],
+                polygons.at(), room[2],
+            )
+        };
+        let status = if poor { asked.poor_call(ask) } else { asked.call(ask) };
+        Filled { status, told, numbers, rings, polygons }
+    }
+
+    fn is_untouched(&self) -> bool {
+        self.numbers.holds(&[]) && self.rings.holds(&[]) && self.polygons.holds(&[])
+    }
+
+    fn holds(&self, arrays: &Arrays) -> bool {
+        self.numbers.holds(&arrays.numbers) && self.rings.holds(&arrays.rings) && self.polygons.holds(&arrays.polygons)
+    }
+}
+
 /// wkt_arrays with room for those sizes, or so much of it.
 fn check_filled(asked: &Asked, wanted: &Result<(Arrays, usize), u32>, places: u32, most: [usize; 3]) {
     let sizes = match wanted {
-        Ok((arrays, _)) => [arrays.numbers.len(), arrays.rings.len(), arrays.polygons.len()],
-        Err(_) => [2, 2, 2],
+        Ok((arrays, end)) => arrays.sizes(*end),
+        Err(_) => Sizes { numbers: 2, rings: 2, polygons: 2, ..Sizes::default() },
     };
-    let room = [0, 1, 2].map(|i| sizes[i].min(most[i]));
-    let mut numbers = Buffer::new(room[0], i64::MIN + 5);
-    let (mut rings, mut polygons) = (Buffer::new(room[1], 1 << 60), Buffer::new(room[2], 1 << 60));
-    let mut told = Sizes::default();
-    let (to, of_rings, of_polygons) = (numbers.at(), rings.at(), polygons.at());
-    let mut ask = || unsafe {
-        wkt_arrays(
-            pointer(asked.data), asked.data.len(), places, &mut told, to, room[0], of_rings, room[1], of_polygons,
-            room[2],
-        )
-    };
-    let mut status = asked.call(&mut ask);
-    if asked.salt % 4 == 0 {
-        let poor = asked.poor_call(&mut ask);
-        asked.ensure(poor == status || poor == MEMORY, "wkt_arrays without memory", poor, status);
-        status = asked.call(&mut ask);
-    }
-    let library = (status, told, numbers.items.clone(), rings.items.clone(), polygons.items.clone());
+    let whole = [sizes.numbers, sizes.rings, sizes.polygons];
+    let room = [0, 1, 2].map(|i| whole[i].min(most[i]));
+    let filled = Filled::of(asked, places, room, false);
     let fits = match wanted {
-        Err(wanted) => status == *wanted && numbers.holds(&[]) && rings.holds(&[]) && polygons.holds(&[]),
-        Ok((arrays, end)) => {
-            let is_told = told
-                == Sizes {
-                    kind: arrays.kind,
-                    dimension: arrays.dimension,
-                    numbers: sizes[0],
-                    rings: sizes[1],
-                    polygons: sizes[2],
-                    end: *end,
-                };
-            let is_filled = if room == sizes {
-                status == 0 && numbers.holds(&arrays.numbers) && rings.holds(&arrays.rings) && polygons.holds(&arrays.polygons)
-            } else {
-                status == SMALL && numbers.holds(&[]) && rings.holds(&[]) && polygons.holds(&[])
-            };
-            is_told && is_filled
-        }
+        Err(status) => filled.status == *status && filled.is_untouched(),
+        Ok(_) if room != whole => filled.status == SMALL && filled.told == sizes && filled.is_untouched(),
+        Ok((arrays, _)) => filled.status == 0 && filled.told == sizes && filled.holds(arrays),
     };
-    asked.ensure(fits, &format!("wkt_arrays at {places} places, room {room:?}"), library, wanted);
+    let library = (filled.status, filled.told, filled.numbers.items, filled.rings.items, filled.polygons.items);
+    asked.ensure(fits, "wkt_arrays", library, (wanted, room, places));
+    if asked.salt % 4 == 0 {
+        let poor = Filled::of(asked, places, room, true);
+        let fits = if poor.status == MEMORY { poor.is_untouched() } else { poor.status == filled.status };
+        asked.ensure(fits, "wkt_arrays without memory", poor.status, filled.status);
+    }
 }
 
 fn check_from_arrays(asked: &Asked, arrays: &Arrays, places: u32, wanted: Result<String, u32>) {

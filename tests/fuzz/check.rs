@@ -164,13 +164,15 @@ fn flat(text: &str, numbers: Numbers) -> Said {
     }
 }
 
-/// A line, a rectangle and a triangle of the first coordinates of a path or of a first ring, and a collection of them.
+/// A line, a rectangle and a triangle of the first coordinates of a path or a first ring, and a collection of them.
 fn shapes(text: &str) -> Said {
     let read = read_front(text, Numbers::Decimal(18));
     let path = match &read {
         Err(reason) => return refused(*reason),
         Ok((Value::LineString(_, path), _)) => path.clone(),
-        Ok((Value::Polygon(_, rings) | Value::MultiLineString(_, rings), _)) => rings.first().cloned().unwrap_or_default(),
+        Ok((Value::Polygon(_, paths) | Value::MultiLineString(_, paths), _)) => {
+            paths.first().cloned().unwrap_or_default()
+        }
         Ok(_) => vec![],
     };
     let [a, b, c, ..] = &flat_path(&path)[..] else {
@@ -189,16 +191,21 @@ fn shapes(text: &str) -> Said {
         Value::Polygon(0, vec![around]),
         Value::Polygon(0, vec![vec![a.clone(), b.clone(), c.clone(), a.clone()]]),
     ];
-    let texts = shapes.iter().map(text_of).chain([text_of(&Value::Collection(0, shapes.to_vec()))]);
-    said(0, texts.collect::<Vec<_>>().join("\n").as_bytes(), NO_END)
+    let mut texts: Vec<String> = shapes.iter().map(text_of).collect();
+    texts.push(text_of(&Value::Collection(0, shapes.to_vec())));
+    said(0, texts.join("\n").as_bytes(), NO_END)
+}
+
+fn lines(data: &[u8]) -> Said {
+    said(0, &output(data, Numbers::Decimal(18)), NO_END)
 }
 
 fn wanted(op: u32, data: &[u8]) -> Said {
     let Ok(text) = std::str::from_utf8(data) else {
-        return if op == 0 || op == 15 { said(0, &output(data, Numbers::Decimal(18)), NO_END) } else { said(2, b"", NO_END) };
+        return if op == 0 || op == 15 { lines(data) } else { said(2, b"", NO_END) };
     };
     match op {
-        0 | 15 => said(0, &output(data, Numbers::Decimal(18)), NO_END),
+        0 | 15 => lines(data),
         20 => header(text),
         21 => fronts(text, true),
         22 => fronts(text, false),

@@ -1,12 +1,13 @@
 #!/usr/bin/env bash
 # fuzz.sh MINUTES: compares the library, as `rt try` compiles it, with a plain reader, guided by coverage, on one core.
+# fuzz.sh 0: the seeds and the corpus once. fuzz.sh keep: what was found and adds to the seeds goes to corpus.txt.
 #
-# It takes three to five minutes of building first (FRESH=1: again). WORK is where all is built and the corpus grows.
+# It takes some two minutes of building first (FRESH=1: again). WORK is where all is built and the corpus grows.
 # Status 0: no difference. 1: one was found; its input is in WORK/found, and the log has both answers. 2: it failed.
 set -euo pipefail
 here=$(cd "$(dirname "$0")" && pwd)
 root=$(cd "$here/../.." && pwd)
-minutes=${1:?fuzz.sh MINUTES}
+minutes=${1:?fuzz.sh MINUTES, or keep}
 WORK=${WORK:-${TMPDIR:-/tmp}/wkt-fuzz}
 kit=$(dirname "$(dirname "$(readlink -f "$(command -v rt)")")")
 clang=$(command -v clang-14 || command -v clang)
@@ -46,7 +47,19 @@ build() {
 }
 
 [ -x "$WORK/fuzz" ] && [ -z "${FRESH:-}" ] || build
-python3 "$here/seeds.py" "$WORK/seeds" "$root/crates/wkt_conformance/stdin" "$root/crates/wktline/stdin"
+tables="$root/crates/wkt_conformance/stdin $root/crates/wktline/stdin"
+python3 "$here/seeds.py" "$WORK/seeds" $tables "$here/corpus.txt"
+if [ "$minutes" = keep ]; then
+    rm -rf "$WORK/less" "$WORK/tables"
+    python3 "$here/seeds.py" "$WORK/tables" $tables
+    cp -r "$WORK/tables" "$WORK/less"
+    nice -n 10 "$WORK/fuzz" -merge=1 ${COARSE:+-use_counters=0} -max_len="${MAX_LEN:-600}" -timeout=30 \
+        "$WORK/less" "$WORK/seeds" "$WORK/corpus" > "$WORK/log" 2>&1
+    (cd "$WORK/tables" && ls) | (cd "$WORK/less" && xargs rm -f)
+    python3 "$here/seeds.py" --keep "$WORK/less" > "$here/corpus.txt"
+    wc "$here/corpus.txt"
+    exit 0
+fi
 status=0
 # With no minutes it runs the corpus and the seeds once.
 how=(-runs=0)

@@ -359,7 +359,7 @@ pub fn infer(text: &str) -> Result<(usize, usize), NoKind> {
     Err(NoKind::Prefix(header.to_string()))
 }
 
-/// What the programs print for an input, over 18 places.
+/// What the programs print for an input, which go by decimals of 18 places.
 pub fn output(input: &[u8], numbers: Numbers) -> Vec<u8> {
     let mut out = vec![];
     for line in input.strip_suffix(b"\n").unwrap_or(input).split(|byte| *byte == b'\n') {
