@@ -199,7 +199,7 @@ fn check_canonical(asked: &Asked) {
 }
 
 /// The input with one of its digits changed, or, if it has none, without its last byte.
-fn changed(data: &[u8], salt: usize) -> Vec<u8> {
+pub fn changed(data: &[u8], salt: usize) -> Vec<u8> {
     let mut data = data.to_vec();
     let digits: Vec<usize> = (0..data.len()).filter(|at| data[*at].is_ascii_digit()).collect();
     if digits.is_empty() {

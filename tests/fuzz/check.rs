@@ -23,8 +23,8 @@ const ROOM: usize = 1 << 20;
 const NO_END: usize = usize::MAX;
 /// The first and the last of the operations that read the front over a number type.
 const FRONTS: std::ops::RangeInclusive<u32> = 1..=14;
-const OPERATIONS: [u32; 27] =
-    [0, 1, 2, 3, 4, 5, 6, 7, 8, 9, 10, 11, 12, 13, 14, 15, 20, 21, 22, 30, 31, 32, 33, 34, 40, 41, 42];
+const OPERATIONS: [u32; 29] =
+    [0, 1, 2, 3, 4, 5, 6, 7, 8, 9, 10, 11, 12, 13, 14, 15, 20, 21, 22, 23, 24, 30, 31, 32, 33, 34, 40, 41, 42];
 
 #[derive(Clone, PartialEq, Eq)]
 pub struct Said {
@@ -119,6 +119,31 @@ fn fronts(text: &str, stream: bool) -> Said {
     said(0, &out, NO_END)
 }
 
+/// A text that is one geometry, with white space around it; else where that geometry ends.
+fn whole_text(text: &str) -> Said {
+    match read_front(text, Numbers::Decimal(18)) {
+        Err(reason) => refused(reason),
+        Ok((_, end)) if text[end..].contains(|c| !" \n\r\t".contains(c)) => said(5, b"", end),
+        Ok((value, _)) => said(0, text_of(&value).as_bytes(), NO_END),
+    }
+}
+
+/// Whether the two geometries that a text begins with are one.
+fn pair(text: &str) -> Said {
+    let read = |text| read_front(text, Numbers::Decimal(18));
+    match read(text).and_then(|(one, end)| read(&text[end..]).map(|(other, _)| text_of(&one) == text_of(&other))) {
+        Ok(same) => said(0, b"", same as usize),
+        Err(reason) => refused(reason),
+    }
+}
+
+/// The geometry at the front of the data and, if there is one, the same with one thing changed.
+fn doubled(data: &[u8], salt: usize) -> Vec<u8> {
+    let read = std::str::from_utf8(data).ok().and_then(|text| read_front(text, Numbers::Decimal(18)).ok());
+    let front = &data[..read.map_or(data.len(), |(_, end)| end)];
+    [front, b" ", &c_calls::changed(front, salt)].concat()
+}
+
 fn flat_path(path: &reader::Path) -> reader::Path {
     path.iter().map(|coord| coord[..2].to_vec()).collect()
 }
@@ -209,6 +234,8 @@ fn wanted(op: u32, data: &[u8]) -> Said {
         20 => header(text),
         21 => fronts(text, true),
         22 => fronts(text, false),
+        23 => whole_text(text),
+        24 => pair(text),
         42 => shapes(text),
         30 | 32 | 33 => flat(text, Numbers::Decimal(18)),
         31 => flat(text, whole::<i64>()),
@@ -281,6 +308,10 @@ pub fn all(data: &[u8]) {
         if c_calls::OPERATIONS.contains(&op) {
             c_calls::check(op, data, salt);
             continue;
+        }
+        if op == 24 {
+            let pair = doubled(data, salt);
+            same(op, &pair, &library(op, &pair), &wanted(op, &pair), "same_geometry");
         }
         let ours = library(op, data);
         same(op, data, &ours, &wanted(op, data), "the library and the plain reader differ");

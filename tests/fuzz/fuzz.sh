@@ -12,6 +12,7 @@ WORK=${WORK:-${TMPDIR:-/tmp}/wkt-fuzz}
 kit=$(dirname "$(dirname "$(readlink -f "$(command -v rt)")")")
 clang=$(command -v clang-14 || command -v clang)
 mkdir -p "$WORK"/{corpus,found,seeds}
+WORK=$(cd "$WORK" && pwd)
 ulimit -c 0
 
 build() {
@@ -21,11 +22,13 @@ build() {
     mkdir -p "$WORK/wkt/crates/wkt_fuzz/src"
     cp "$here/program.txt" "$WORK/wkt/crates/wkt_fuzz/src/main.rt"
     echo 'wkt_fuzz: wkt wkt_lines wkt_stream wkt_c serde_json' >> "$WORK/wkt/crates.txt"
-    # The functions for C are called like any other there, over 0, 6 and 18 places: all of them would take long to build.
+    # There the functions for C are called like any other, over 0, 6 and 18 places: all nineteen take long to build.
     sed -i 's/^wkt_c staticlib:/wkt_c:/' "$WORK/wkt/crates.txt"
     sed -i -E 's/^mod (exports|sizes);/pub mod \1;/' "$WORK/wkt/crates/wkt_c/src/lib.rt"
     sed -i -E '/^        ([1-57-9]|1[0-7]) => [a-z_]+::</d' "$WORK/wkt/crates/wkt_c/src/"*.rt
-    (cd "$WORK/wkt/crates/wkt_fuzz" && nice -n 10 python3 "$here/module.py" "$WORK/module.bc" < /dev/null > "$WORK/try.log" 2>&1) || true
+    cd "$WORK/wkt/crates/wkt_fuzz"
+    nice -n 10 python3 "$here/module.py" "$WORK/module.bc" < /dev/null > "$WORK/try.log" 2>&1 || true
+    cd "$WORK"
     [ -s "$WORK/module.bc" ] || { cat "$WORK/try.log"; echo "fuzz.sh: rt try left no module" >&2; exit 2; }
     "$kit/toolchain/bin/clang" -x ir "$WORK/module.bc" -S -emit-llvm -Xclang -disable-llvm-passes -o "$WORK/whole.ll"
     # The functions get their C names, and the program's main gives way to libFuzzer's.
@@ -46,18 +49,25 @@ build() {
         -Wl,--wrap=rattle_realloc -Wl,--wrap=rattle_dealloc -lpthread -ldl -lm
 }
 
+# What adds a counter to those of the tables, and of the short inputs also what adds a number of times.
+keep() {
+    rm -rf "$WORK"/{less,tables,short}
+    mkdir -p "$WORK/short"
+    python3 "$here/seeds.py" "$WORK/tables" $tables
+    cp -r "$WORK/tables" "$WORK/less"
+    find "$WORK/seeds" "$WORK/corpus" -type f -size -121c -exec cp -t "$WORK/short" {} +
+    nice -n 10 "$WORK/fuzz" -merge=1 -use_counters=0 -max_len=600 "$WORK/less" "$WORK/seeds" "$WORK/corpus" > "$WORK/log" 2>&1
+    nice -n 10 "$WORK/fuzz" -merge=1 -max_len=600 "$WORK/less" "$WORK/short" >> "$WORK/log" 2>&1
+    (cd "$WORK/tables" && ls) | (cd "$WORK/less" && xargs rm -f)
+    python3 "$here/seeds.py" --keep "$WORK/less" > "$here/corpus.txt"
+    wc "$here/corpus.txt"
+}
+
 [ -x "$WORK/fuzz" ] && [ -z "${FRESH:-}" ] || build
 tables="$root/crates/wkt_conformance/stdin $root/crates/wktline/stdin"
 python3 "$here/seeds.py" "$WORK/seeds" $tables "$here/corpus.txt"
 if [ "$minutes" = keep ]; then
-    rm -rf "$WORK/less" "$WORK/tables"
-    python3 "$here/seeds.py" "$WORK/tables" $tables
-    cp -r "$WORK/tables" "$WORK/less"
-    nice -n 10 "$WORK/fuzz" -merge=1 ${COARSE:+-use_counters=0} -max_len="${MAX_LEN:-600}" -timeout=30 \
-        "$WORK/less" "$WORK/seeds" "$WORK/corpus" > "$WORK/log" 2>&1
-    (cd "$WORK/tables" && ls) | (cd "$WORK/less" && xargs rm -f)
-    python3 "$here/seeds.py" --keep "$WORK/less" > "$here/corpus.txt"
-    wc "$here/corpus.txt"
+    keep
     exit 0
 fi
 status=0
