@@ -221,11 +221,15 @@ fn check_same(asked: &Asked) {
             (Err(one), Err(other)) => &[(*one, 9), (*other, 9)],
             (Err(status), _) | (_, Err(status)) => &[(*status, 9)],
         };
-        let mut same = 9;
-        let status = asked.call(|| unsafe {
-            wkt_same(pointer(asked.data), asked.data.len(), pointer(&other), other.len(), places, &mut same)
-        });
+        let ask = |same: &mut u32| unsafe {
+            wkt_same(pointer(asked.data), asked.data.len(), pointer(&other), other.len(), places, same)
+        };
+        let (mut same, mut poor_same) = (9, 9);
+        let status = asked.call(|| ask(&mut same));
         asked.ensure(wanted.contains(&(status, same)), "wkt_same", (status, same, &other), wanted);
+        let poor = asked.poor_call(|| ask(&mut poor_same));
+        let fits = poor == MEMORY || (poor, poor_same) == (status, same);
+        asked.ensure(fits, "wkt_same without memory", (poor, poor_same, &other), (status, same));
     }
 }
 

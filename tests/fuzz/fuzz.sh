@@ -56,7 +56,8 @@ keep() {
     python3 "$here/seeds.py" "$WORK/tables" $tables
     cp -r "$WORK/tables" "$WORK/less"
     find "$WORK/seeds" "$WORK/corpus" -type f -size -121c -exec cp -t "$WORK/short" {} +
-    nice -n 10 "$WORK/fuzz" -merge=1 -use_counters=0 -max_len=600 "$WORK/less" "$WORK/seeds" "$WORK/corpus" > "$WORK/log" 2>&1
+    nice -n 10 "$WORK/fuzz" -merge=1 -use_counters=0 -max_len=600 "$WORK/less" "$WORK/seeds" "$WORK/corpus" \
+        > "$WORK/log" 2>&1
     nice -n 10 "$WORK/fuzz" -merge=1 -max_len=600 "$WORK/less" "$WORK/short" >> "$WORK/log" 2>&1
     (cd "$WORK/tables" && ls) | (cd "$WORK/less" && xargs rm -f)
     python3 "$here/seeds.py" --keep "$WORK/less" > "$here/corpus.txt"

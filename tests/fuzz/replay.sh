@@ -14,8 +14,8 @@ for tool in rt rustc python3 ld.lld; do
     command -v $tool > /dev/null || lacks $tool
 done
 clang=$(command -v clang-14 || command -v clang) || lacks clang
-echo 'int LLVMFuzzerTestOneInput(const char *data, unsigned long size) { return 0; }' > "$dir/one.c"
-"$clang" -fsanitize=fuzzer -fuse-ld=lld "$dir/one.c" -o "$dir/one" > "$dir/said" 2>&1 || lacks "runtime of clang's fuzzer"
+echo 'int LLVMFuzzerTestOneInput(char *data, long size) { return 0; }' > "$dir/one.c"
+"$clang" -fsanitize=fuzzer -fuse-ld=lld "$dir/one.c" -o "$dir/one" > "$dir/said" 2>&1 || lacks "libFuzzer"
 
 WORK=$dir/work nice -n 10 "$here/fuzz.sh" 0 > "$dir/said" 2>&1
 status=$?
