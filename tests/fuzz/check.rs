@@ -1,4 +1,5 @@
 //! What is asked of the library for one input, and compared with the plain reader.
+use crate::c_calls;
 use crate::reader::{self, infer, message, output, read_front, text as text_of, whole, NoKind, Numbers, Reader, Value};
 use std::sync::OnceLock;
 
@@ -13,17 +14,17 @@ extern "C" {
         needed: *mut usize,
         end: *mut usize,
     ) -> u32;
-    static mut heap_held: i64;
-    static mut heap_calls: i64;
-    static mut heap_fail_at: i64;
+    pub static mut heap_held: i64;
+    pub static mut heap_calls: i64;
+    pub static mut heap_fail_at: i64;
 }
 
 const ROOM: usize = 1 << 20;
 const NO_END: usize = usize::MAX;
 /// The first and the last of the operations that read the front over a number type.
 const FRONTS: std::ops::RangeInclusive<u32> = 1..=14;
-const OPERATIONS: [u32; 26] =
-    [0, 1, 2, 3, 4, 5, 6, 7, 8, 9, 10, 11, 12, 13, 14, 15, 20, 21, 22, 30, 31, 32, 33, 34, 40, 41];
+const OPERATIONS: [u32; 29] =
+    [0, 1, 2, 3, 4, 5, 6, 7, 8, 9, 10, 11, 12, 13, 14, 15, 20, 21, 22, 23, 24, 30, 31, 32, 33, 34, 40, 41, 42];
 
 #[derive(Clone, PartialEq, Eq)]
 pub struct Said {
@@ -118,6 +119,31 @@ fn fronts(text: &str, stream: bool) -> Said {
     said(0, &out, NO_END)
 }
 
+/// A text that is one geometry, with white space around it; else where that geometry ends.
+fn whole_text(text: &str) -> Said {
+    match read_front(text, Numbers::Decimal(18)) {
+        Err(reason) => refused(reason),
+        Ok((_, end)) if text[end..].contains(|c| !" \n\r\t".contains(c)) => said(5, b"", end),
+        Ok((value, _)) => said(0, text_of(&value).as_bytes(), NO_END),
+    }
+}
+
+/// Whether the two geometries that a text begins with are one.
+fn pair(text: &str) -> Said {
+    let read = |text| read_front(text, Numbers::Decimal(18));
+    match read(text).and_then(|(one, end)| read(&text[end..]).map(|(other, _)| text_of(&one) == text_of(&other))) {
+        Ok(same) => said(0, b"", same as usize),
+        Err(reason) => refused(reason),
+    }
+}
+
+/// The geometry at the front of the data and, if there is one, the same with one thing changed.
+fn doubled(data: &[u8], salt: usize) -> Vec<u8> {
+    let read = std::str::from_utf8(data).ok().and_then(|text| read_front(text, Numbers::Decimal(18)).ok());
+    let front = &data[..read.map_or(data.len(), |(_, end)| end)];
+    [front, b" ", &c_calls::changed(front, salt)].concat()
+}
+
 fn flat_path(path: &reader::Path) -> reader::Path {
     path.iter().map(|coord| coord[..2].to_vec()).collect()
 }
@@ -163,15 +189,54 @@ fn flat(text: &str, numbers: Numbers) -> Said {
     }
 }
 
+/// A line, a rectangle and a triangle of the first coordinates of a path or a first ring, and a collection of them.
+fn shapes(text: &str) -> Said {
+    let read = read_front(text, Numbers::Decimal(18));
+    let path = match &read {
+        Err(reason) => return refused(*reason),
+        Ok((Value::LineString(_, path), _)) => path.clone(),
+        Ok((Value::Polygon(_, paths) | Value::MultiLineString(_, paths), _)) => {
+            paths.first().cloned().unwrap_or_default()
+        }
+        Ok(_) => vec![],
+    };
+    let [a, b, c, ..] = &flat_path(&path)[..] else {
+        return said(5, b"", NO_END);
+    };
+    let by_units = |number: &String| reader::units(number, 18);
+    let on = |axis: usize| {
+        let (one, other) = (&a[axis], &b[axis]);
+        if by_units(one) < by_units(other) { (one, other) } else { (other, one) }
+    };
+    let ((x, to_x), (y, to_y)) = (on(0), on(1));
+    let corner = |x: &String, y: &String| vec![x.clone(), y.clone()];
+    let around = vec![corner(to_x, y), corner(to_x, to_y), corner(x, to_y), corner(x, y), corner(to_x, y)];
+    let shapes = [
+        Value::LineString(0, vec![a.clone(), b.clone()]),
+        Value::Polygon(0, vec![around]),
+        Value::Polygon(0, vec![vec![a.clone(), b.clone(), c.clone(), a.clone()]]),
+    ];
+    let mut texts: Vec<String> = shapes.iter().map(text_of).collect();
+    texts.push(text_of(&Value::Collection(0, shapes.to_vec())));
+    said(0, texts.join("\n").as_bytes(), NO_END)
+}
+
+fn lines(data: &[u8]) -> Said {
+    said(0, &output(data, Numbers::Decimal(18)), NO_END)
+}
+
 fn wanted(op: u32, data: &[u8]) -> Said {
     let Ok(text) = std::str::from_utf8(data) else {
-        return if op == 0 || op == 15 { said(0, &output(data), NO_END) } else { said(2, b"", NO_END) };
+        return if op == 0 || op == 15 { lines(data) } else { said(2, b"", NO_END) };
     };
     match op {
-        0 | 15 => said(0, &output(data), NO_END),
+        0 | 15 => lines(data),
         20 => header(text),
         21 => fronts(text, true),
         22 => fronts(text, false),
+        23 => whole_text(text),
+        24 => pair(text),
+        42 => shapes(text),
         30 | 32 | 33 => flat(text, Numbers::Decimal(18)),
         31 => flat(text, whole::<i64>()),
         34 | 40 | 41 => Said { end: NO_END, ..front(text, Numbers::Decimal(18)) },
@@ -179,7 +244,7 @@ fn wanted(op: u32, data: &[u8]) -> Said {
     }
 }
 
-fn fail(op: u32, text: &[u8], why: &str) -> ! {
+pub fn fail(op: u32, text: &[u8], why: &str) -> ! {
     eprintln!("DIFFERENCE operation {op}: {why}\n  text \"{}\"", text.escape_ascii());
     std::process::abort()
 }
@@ -194,7 +259,7 @@ fn asked() -> &'static [u32] {
     static ASKED: OnceLock<Vec<u32>> = OnceLock::new();
     ASKED.get_or_init(|| match std::env::var("WKT_FUZZ_OPERATIONS") {
         Ok(words) => words.split(',').map(|word| word.parse().expect("a number")).collect(),
-        Err(_) => OPERATIONS.to_vec(),
+        Err(_) => OPERATIONS.into_iter().chain(c_calls::OPERATIONS).collect(),
     })
 }
 
@@ -239,6 +304,14 @@ pub fn all(data: &[u8]) {
         // Each geometry of a text is read from a text of its own: many of them take long.
         if op == 22 && data.len() > 512 {
             continue;
+        }
+        if c_calls::OPERATIONS.contains(&op) {
+            c_calls::check(op, data, salt);
+            continue;
+        }
+        if op == 24 {
+            let pair = doubled(data, salt);
+            same(op, &pair, &library(op, &pair), &wanted(op, &pair), "same_geometry");
         }
         let ours = library(op, data);
         same(op, data, &ours, &wanted(op, data), "the library and the plain reader differ");

@@ -1,6 +1,7 @@
 //! The two functions that libFuzzer calls: one input is checked (`check`), or changed (`mutate`).
 //!
-//! WKT_FUZZ_OPERATIONS=1,20 in the environment asks for these operations of program.txt alone.
+//! WKT_FUZZ_OPERATIONS=1,50 in the environment asks for these operations of program.txt and of c_calls.rs alone.
+mod c_calls;
 mod check;
 mod mutate;
 mod reader;

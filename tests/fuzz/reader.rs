@@ -38,7 +38,7 @@ pub fn whole<T: std::str::FromStr + ToString>() -> Numbers {
 
 impl Numbers {
     /// The number of a run, which loses one plus.
-    fn read(self, run: &str) -> Option<String> {
+    pub fn read(self, run: &str) -> Option<String> {
         let run = run.strip_prefix('+').unwrap_or(run);
         match self {
             Numbers::Decimal(places) => decimal(places, run),
@@ -75,6 +75,12 @@ fn decimal(places: usize, run: &str) -> Option<String> {
         text = format!("{text}.{fraction}");
     }
     Some(text)
+}
+
+/// The units of a number that is no larger than a decimal of so many places may be.
+pub fn units(number: &str, places: usize) -> i128 {
+    let (before, after) = number.split_once('.').unwrap_or((number, ""));
+    format!("{before}{after:0<places$}").parse().expect("a decimal")
 }
 
 pub type Coord = Vec<String>;
@@ -353,14 +359,14 @@ pub fn infer(text: &str) -> Result<(usize, usize), NoKind> {
     Err(NoKind::Prefix(header.to_string()))
 }
 
-/// What the programs print for an input.
-pub fn output(input: &[u8]) -> Vec<u8> {
+/// What the programs print for an input, which go by decimals of 18 places.
+pub fn output(input: &[u8], numbers: Numbers) -> Vec<u8> {
     let mut out = vec![];
     for line in input.strip_suffix(b"\n").unwrap_or(input).split(|byte| *byte == b'\n') {
         if input.is_empty() {
             break;
         }
-        let read = std::str::from_utf8(line).ok().and_then(|line| read_front(line, Numbers::Decimal(18)).ok());
+        let read = std::str::from_utf8(line).ok().and_then(|line| read_front(line, numbers).ok());
         out.extend(read.map_or("refused".to_string(), |(value, _)| text(&value)).into_bytes());
         out.push(b'\n');
     }
