@@ -2,7 +2,7 @@
 import array
 import ctypes
 import itertools
-from typing import Any, Callable, List, NamedTuple, Optional, Sequence, Tuple, Union
+from typing import Any, Callable, Iterator, List, NamedTuple, Optional, Sequence, Tuple, Union
 
 from . import _library
 from ._library import size, u32
@@ -282,6 +282,19 @@ def _address(values: Any) -> int:
     return values.ctypes.data if numpy is not None else values.buffer_info()[0]
 
 
+def _rows(held: ColumnArrays) -> Iterator[Tuple[int, Optional[Arrays]]]:
+    """The status and the arrays of each row."""
+
+    def parts(values: Any, offsets: Any) -> Iterator[Any]:
+        bounds = offsets.tolist()
+        return (values[start:end] for start, end in zip(bounds, bounds[1:]))
+
+    words = zip(held.statuses.tolist(), held.kinds.tolist(), held.dimensions.tolist())
+    lists = zip(*(parts(values, offsets) for values, offsets in zip(held[2:8:2], held[3:8:2])))
+    for (status, kind, dimension), three in zip(words, lists):
+        yield status, None if status else Arrays(KINDS[kind], DIMENSIONS[dimension], *three)
+
+
 def _parts(*held: Any) -> Any:
     """Where each of these begins, and how long it is."""
     return itertools.chain.from_iterable((_address(values), len(values)) for values in held)
@@ -306,10 +319,8 @@ def to_arrays(text: Any, places: int = 6) -> Any:
     places = _places(places)
     column = _column(text)
     if column is not None:
-        held = to_arrays_column(column, places)
-        for status in held.statuses:
-            _check(0 if status == _NULL else int(status))
-        return [None if status else held.row(i) for i, status in enumerate(held.statuses)]
+        rows = _rows(to_arrays_column(column, places))
+        return [arrays if status in (0, _NULL) else _check(status) for status, arrays in rows]
     data, told = _encoded(text), _library.Sizes()
 
     def call(*three):
