@@ -98,10 +98,50 @@ wkt_status wkt_arrays(const uint8_t *text, size_t text_len, uint32_t places, Wkt
                       int64_t *numbers, size_t numbers_len, size_t *rings, size_t rings_len,
                       size_t *polygons, size_t polygons_len);
 
+/* What wkt_column_arrays tells beside the arrays: how many numbers, and how many offsets of rings and of polygons, all
+ * rows have. */
+typedef struct {
+    size_t numbers, rings, polygons;
+} WktColumnSizes;
+
+/* The arrays of a column at once, which is given as to wkt_column_canonical. Row i's are what wkt_arrays gives of row i
+ * alone: kinds[i] and dimensions[i]; the numbers from number_offsets[i] to number_offsets[i + 1] of numbers; and so its
+ * offsets of rings and of polygons, each of which begins with 0. The three buffers of offsets have room for as many
+ * offsets as are given, kinds, dimensions and statuses for one of each row. statuses[i] is WKT_OK, or why row i has no
+ * arrays: 1..14, 20, 24, 25, or WKT_NULL; there are no numbers and no offsets of such a row, and its kind and dimension
+ * are 0. WKT_OK: *sizes tells how much of numbers, rings and polygons is filled. WKT_TOO_SMALL: *sizes tells how much
+ * each of the three needs. 22, 23. WKT_NOT_COLUMN: as of wkt_column_canonical. After any but WKT_OK the nine buffers are
+ * as they were. */
+wkt_status wkt_column_arrays(const uint8_t *texts, size_t texts_len, const int64_t *offsets, size_t offsets_len,
+                             const uint8_t *valid, size_t valid_len, uint32_t places, WktColumnSizes *sizes,
+                             uint32_t *kinds, size_t kinds_len, uint32_t *dimensions, size_t dimensions_len,
+                             int64_t *numbers, size_t numbers_len, int64_t *number_offsets, size_t number_offsets_len,
+                             size_t *rings, size_t rings_len, int64_t *ring_offsets, size_t ring_offsets_len,
+                             size_t *polygons, size_t polygons_len,
+                             int64_t *polygon_offsets, size_t polygon_offsets_len,
+                             wkt_status *statuses, size_t statuses_len);
+
 /* The canonical text of the geometry of such arrays. 21, 22, 23, 26. */
 wkt_status wkt_from_arrays(uint32_t kind, uint32_t dimension, const int64_t *numbers, size_t numbers_len,
                            const size_t *rings, size_t rings_len, const size_t *polygons, size_t polygons_len,
                            uint32_t places, uint8_t *out, size_t out_len, size_t *needed);
+
+/* The canonical texts of a column of such arrays at once: of the eight that wkt_column_arrays gives, in its order, with
+ * the bits of the rows as wkt_column_canonical takes them (valid: 0 where a row is null; so a caller clears those of the
+ * rows that had no arrays). There are as many rows as kinds, as many dimensions, and one offset of each sort more. The
+ * rest is as of wkt_column_canonical: row i's text is from out_offsets[i] to out_offsets[i + 1] in out, and statuses[i]
+ * is WKT_OK, WKT_NOT_ARRAYS or WKT_NULL. 21, 22, 23, 27. */
+wkt_status wkt_column_from_arrays(const uint32_t *kinds, size_t kinds_len,
+                                  const uint32_t *dimensions, size_t dimensions_len,
+                                  const int64_t *numbers, size_t numbers_len,
+                                  const int64_t *number_offsets, size_t number_offsets_len,
+                                  const size_t *rings, size_t rings_len,
+                                  const int64_t *ring_offsets, size_t ring_offsets_len,
+                                  const size_t *polygons, size_t polygons_len,
+                                  const int64_t *polygon_offsets, size_t polygon_offsets_len,
+                                  const uint8_t *valid, size_t valid_len, uint32_t places,
+                                  uint8_t *out, size_t out_len, int64_t *out_offsets, size_t out_offsets_len,
+                                  wkt_status *statuses, size_t statuses_len, size_t *needed);
 
 #ifdef __cplusplus
 }

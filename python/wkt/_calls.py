@@ -2,7 +2,7 @@
 import array
 import ctypes
 import itertools
-from typing import Any, Callable, List, NamedTuple, Optional, Sequence, Tuple, Union
+from typing import Any, Callable, Iterator, List, NamedTuple, Optional, Sequence, Tuple, Union
 
 from . import _library
 from ._library import size, u32
@@ -80,6 +80,34 @@ class Arrays(NamedTuple):
     polygons: Any
 
 
+class ColumnArrays(NamedTuple):
+    """The arrays of a column of texts, as `wkt_column_arrays` in include/wkt.h gives them.
+
+    Row i has the kind `KINDS[kinds[i]]`, the dimension `DIMENSIONS[dimensions[i]]`, and what `Arrays` calls its
+    `numbers` from `number_offsets[i]` to `number_offsets[i + 1]` in `numbers`; so its `rings` and its `polygons`.
+    Where `statuses[i]` isn't 0 it has none of these: 28 of a None, and else why it has no arrays. All are NumPy arrays
+    where NumPy is installed, and else of Python's `array`.
+    """
+
+    kinds: Any
+    dimensions: Any
+    numbers: Any
+    number_offsets: Any
+    rings: Any
+    ring_offsets: Any
+    polygons: Any
+    polygon_offsets: Any
+    statuses: Any
+
+    def row(self, i: int) -> Arrays:
+        """The arrays of a row, which are parts of the column's."""
+        numbers, rings, polygons = (
+            values[offsets[i] : offsets[i + 1]]
+            for values, offsets in zip(self[2:8:2], self[3:8:2])
+        )
+        return Arrays(KINDS[self.kinds[i]], DIMENSIONS[self.dimensions[i]], numbers, rings, polygons)
+
+
 def _encoded(text: Text) -> bytes:
     if isinstance(text, str):
         return text.encode("utf-8", "surrogatepass")
@@ -155,6 +183,18 @@ def _bits(rows: Sequence[Any]) -> bytes:
     return bytes(bits)
 
 
+def _packed(rows: Sequence[Any]) -> Tuple[bytes, Any, bytes]:
+    """The bytes of all rows, where each begins, with the end of the last, and their bits, if any row is None."""
+    try:
+        joined = "".join(rows)
+    except TypeError:
+        joined = "\x80"
+    if joined.isascii():
+        return joined.encode(), array.array("q", itertools.accumulate(map(len, rows), initial=0)), b""
+    held = [b"" if row is None else _encoded(row) for row in rows]
+    return b"".join(held), array.array("q", itertools.accumulate(map(len, held), initial=0)), _bits(rows)
+
+
 def canonical_column(texts: Any, places: int = 18) -> Tuple[List[Optional[str]], List[int]]:
     """The canonical texts of a list, a NumPy array or an Arrow column of texts, and the status of each, by one call.
 
@@ -164,15 +204,14 @@ def canonical_column(texts: Any, places: int = 18) -> Tuple[List[Optional[str]],
     column = _column(texts)
     if column is None:
         raise TypeError("a column of texts is wanted, and not one text")
-    rows = [b"" if row is None else _encoded(row) for row in column]
-    offsets = array.array("q", itertools.accumulate(map(len, rows), initial=0))
-    data, valid = b"".join(rows), _bits(column)
-    ends, statuses = array.array("q", bytes(8 * len(offsets))), (u32 * len(rows))()
+    data, offsets, valid = _packed(column)
+    rows = len(column)
+    ends, statuses = array.array("q", bytes(8 * len(offsets))), (u32 * rows)()
 
     def call(out, room, needed):
         return _library.wkt_column_canonical(
             data, len(data), offsets.buffer_info()[0], len(offsets), valid, len(valid), places, out, room,
-            ends.buffer_info()[0], len(ends), statuses, len(rows), needed,
+            ends.buffer_info()[0], len(ends), statuses, rows, needed,
         )  # fmt: skip
 
     answers = _answer(call, len(data) + len(data) // 4 + 64).decode("ascii")
@@ -230,48 +269,94 @@ def lines(data: Any, places: int = 18) -> Any:
     return [None if row is None else answer for row, answer in zip(column, answers)]
 
 
+_TYPES = {"q": "int64", "Q": "uint64", "I": "uint32"}
+
+
 def _buffer(code: str, length: int) -> Any:
     if numpy is not None:
-        return numpy.zeros(length, "int64" if code == "q" else "uint64")
-    return array.array(code, bytes(8 * length))
+        return numpy.zeros(length, _TYPES[code])
+    return array.array(code, bytes(array.array(code).itemsize * length))
 
 
 def _address(values: Any) -> int:
     return values.ctypes.data if numpy is not None else values.buffer_info()[0]
 
 
+def _rows(held: ColumnArrays) -> Iterator[Tuple[int, Optional[Arrays]]]:
+    """The status and the arrays of each row."""
+
+    def parts(values: Any, offsets: Any) -> Iterator[Any]:
+        bounds = offsets.tolist()
+        return (values[start:end] for start, end in zip(bounds, bounds[1:]))
+
+    words = zip(held.statuses.tolist(), held.kinds.tolist(), held.dimensions.tolist())
+    lists = zip(*(parts(values, offsets) for values, offsets in zip(held[2:8:2], held[3:8:2])))
+    for (status, kind, dimension), three in zip(words, lists):
+        yield status, None if status else Arrays(KINDS[kind], DIMENSIONS[dimension], *three)
+
+
+def _parts(*held: Any) -> Any:
+    """Where each of these begins, and how long it is."""
+    return itertools.chain.from_iterable((_address(values), len(values)) for values in held)
+
+
+def _three(told: Any, likely: int, call: Callable[..., int]) -> Tuple[Any, Any, Any]:
+    """The numbers and the offsets of rings and of polygons that a call fills, which tells how many they are."""
+    room = (likely, likely, likely)
+    while True:
+        held = [_buffer(c, n) for c, n in zip("qQQ", room)]
+        status = call(*_parts(*held))
+        if status != _TOO_SMALL:
+            break
+        room = (told.numbers, told.rings, told.polygons)
+    _check(status)
+    numbers, rings, polygons = held
+    return numbers[: told.numbers], rings[: told.rings], polygons[: told.polygons]
+
+
 def to_arrays(text: Any, places: int = 6) -> Any:
-    """The geometry that a text begins with as flat arrays; of many texts a list. Collections have none."""
+    """The geometry that a text begins with as flat arrays; of many texts a list, by one call. Collections have none."""
     places = _places(places)
+    column = _column(text)
+    if column is not None:
+        rows = _rows(to_arrays_column(column, places))
+        return [arrays if status in (0, _NULL) else _check(status) for status, arrays in rows]
+    data, told = _encoded(text), _library.Sizes()
 
-    def one(text: Text) -> Arrays:
-        data, told = _encoded(text), _library.Sizes()
-        likely = len(data) // 2 + 4
-        room = (likely, likely, likely)
-        while True:
-            numbers, rings, polygons = (_buffer(c, n) for c, n in zip("qQQ", room))
-            status = _library.wkt_arrays(
-                data, len(data), places, ctypes.byref(told),
-                _address(numbers), room[0], _address(rings), room[1], _address(polygons), room[2],
-            )  # fmt: skip
-            if status != _TOO_SMALL:
-                break
-            room = (told.numbers, told.rings, told.polygons)
-        _check(status)
-        return Arrays(
-            KINDS[told.kind],
-            DIMENSIONS[told.dimension],
-            numbers[: told.numbers],
-            rings[: told.rings],
-            polygons[: told.polygons],
-        )
+    def call(*three):
+        return _library.wkt_arrays(data, len(data), places, ctypes.byref(told), *three)
 
-    return _of_each(one, text)
+    three = _three(told, len(data) // 2 + 4, call)
+    return Arrays(KINDS[told.kind], DIMENSIONS[told.dimension], *three)
+
+
+def to_arrays_column(texts: Any, places: int = 6) -> ColumnArrays:
+    """The flat arrays of a list, a NumPy array or an Arrow column of texts, and the status of each, by one call."""
+    places = _places(places)
+    column = _column(texts)
+    if column is None:
+        raise TypeError("a column of texts is wanted, and not one text")
+    data, offsets, valid = _packed(column)
+    kinds, dimensions, statuses = (_buffer("I", len(column)) for _ in range(3))
+    ends = [_buffer("q", len(offsets)) for _ in range(3)]
+    told = _library.ColumnSizes()
+
+    def call(*three):
+        joined = zip(three[0::2], three[1::2], ends)
+        return _library.wkt_column_arrays(
+            data, len(data), offsets.buffer_info()[0], len(offsets), valid, len(valid), places, ctypes.byref(told),
+            *_parts(kinds, dimensions),
+            *itertools.chain.from_iterable((at, count, *_parts(end)) for at, count, end in joined),
+            *_parts(statuses),
+        )  # fmt: skip
+
+    three = _three(told, len(data) // 8 + 2 * len(column) + 8, call)
+    return ColumnArrays(kinds, dimensions, *itertools.chain.from_iterable(zip(three, ends)), statuses)
 
 
 def _held(code: str, values: Any) -> Any:
     if numpy is not None:
-        return numpy.ascontiguousarray(values, "int64" if code == "q" else "uint64").reshape(-1)
+        return numpy.ascontiguousarray(values, _TYPES[code]).reshape(-1)
     return array.array(code, values)
 
 
@@ -294,3 +379,28 @@ def from_arrays(arrays: Any, places: int = 6) -> Any:
 
     # A tuple is one geometry: Arrays is one, and so is what is given in its place.
     return one(arrays) if isinstance(arrays, tuple) else _of_each(one, arrays)
+
+
+def from_arrays_column(arrays: ColumnArrays, places: int = 6) -> Tuple[List[Optional[str]], List[int]]:
+    """The canonical texts of the arrays of a column, as `to_arrays_column` gives them, and the status of each, by one call.
+
+    A status is 0, 28 of a row whose status in `arrays` isn't 0, or 26 where a row's arrays are of no geometry; where it
+    isn't 0 there is None for a text.
+    """
+    places = _places(places)
+    held = [_held(code, values) for code, values in zip("IIqqQqQq", arrays)]
+    rows = len(held[0])
+    if len(arrays.statuses) != rows:
+        raise WktError(27, _MESSAGES[27])
+    valid = b"" if not any(arrays.statuses) else _bits([None if status else status for status in arrays.statuses])
+    ends, statuses = array.array("q", bytes(8 * (rows + 1))), (u32 * rows)()
+
+    def call(out, room, needed):
+        return _library.wkt_column_from_arrays(
+            *_parts(*held), valid, len(valid), places, out, room,
+            ends.buffer_info()[0], len(ends), statuses, rows, needed,
+        )  # fmt: skip
+
+    answers = _answer(call, 12 * len(held[2]) + 24 * rows + 64).decode("ascii")
+    bounds = zip(statuses, ends, ends[1:])
+    return [None if status else answers[start:end] for status, start, end in bounds], list(statuses)

@@ -21,6 +21,12 @@ class Sizes(ctypes.Structure):
     ]
 
 
+class ColumnSizes(ctypes.Structure):
+    """WktColumnSizes of include/wkt.h."""
+
+    _fields_ = [("numbers", size), ("rings", size), ("polygons", size)]
+
+
 def _load() -> ctypes.CDLL:
     here = os.path.dirname(os.path.abspath(__file__))
     beside = os.path.join(here, "libwkt.so")
@@ -47,6 +53,17 @@ wkt_lines = _declared("wkt_lines", _bytes, size, u32, _pointer, size, _pointer)
 wkt_column_canonical = _declared(
     "wkt_column_canonical",
     _bytes, size, _pointer, size, _bytes, size, u32, _pointer, size, _pointer, size, _pointer, size, _pointer,
+)  # fmt: skip
+wkt_column_arrays = _declared(
+    "wkt_column_arrays",
+    _bytes, size, _pointer, size, _bytes, size, u32, _pointer,
+    _pointer, size, _pointer, size, _pointer, size, _pointer, size, _pointer, size, _pointer, size,
+    _pointer, size, _pointer, size, _pointer, size,
+)  # fmt: skip
+wkt_column_from_arrays = _declared(
+    "wkt_column_from_arrays",
+    _pointer, size, _pointer, size, _pointer, size, _pointer, size, _pointer, size, _pointer, size, _pointer, size,
+    _pointer, size, _bytes, size, u32, _pointer, size, _pointer, size, _pointer, size, _pointer,
 )  # fmt: skip
 wkt_arrays = _declared(
     "wkt_arrays", _bytes, size, u32, _pointer, _pointer, size, _pointer, size, _pointer, size

@@ -1,6 +1,6 @@
 -- What is handed out of what was read and written.
-use Rattle.std.proofs.Common.{◌≡◌, ◌↔◌, ◌⊎◌, ◌≤◌, ◌++◌, inl, inr, refl, sym, ap, ◌∙◌, subst, arith, ℕ, ℤ, List, [], Option, Result, Ok, Err, MatchResult, IfOk, IfErr, Bool, length, true}
-use Rattle.std.specs.Prelude.{IsTrue, Some, None}
+use Rattle.std.proofs.Common.{◌≡◌, ◌↔◌, inl, inr, refl, sym, ap, ◌∙◌, subst, arith, ℕ, ℤ, List, Option, Result, Ok, Err, MatchResult, IfOk, IfErr, length, true}
+use Rattle.std.specs.Prelude.{Some, None}
 use Rattle.std.proofs.lemmas.List.{append-nil}
 use Rattle.std.specs.List.{All, Contains}
 use Rattle.std.proofs.lemmas.List.Elements.{All-contains}
@@ -11,16 +11,14 @@ use Rattle.wkt_num.specs.Decimal.{IsUnits, read_decimal, decimal_text}
 use Rattle.wkt_access.specs.Values.{Value}
 use Rattle.wkt_access.specs.Shapes.{shape_of, canon}
 use Rattle.wkt_access.specs.Faults.{fault}
-use Rattle.wkt_access.specs.Lawful.{IsLawful}
-use Rattle.wkt_access.specs.Texts.{shape_text}
 use Rattle.wkt_types.specs.Tree.{Tree, tree_dim}
-use Rattle.wkt_types.specs.Values.{value_of, tree_shape, IsWktOf}
+use Rattle.wkt_types.specs.Values.{value_of, tree_shape}
 use Rattle.wkt_read.specs.Kinds.{kind_of, dim_of}
 use Rattle.wkt_read.specs.Front.{Front}
 use Rattle.wkt_read.specs.Laws.{ReadsBack}
-use Rattle.wkt_c.specs.Answer.{Refuses, IsWritten, IsUnwritten, kind_number, dimension_number, read_at}
-use Rattle.wkt_c.specs.Arrays.{parts_of, joined, numbers_in, offsets, AreArrays, IsTextOf, IsNoArrays, IsNotFlat, HasLarge, HasLargeNumber}
-use Rattle.wkt_c.specs.Growing.{Holds, HoldsAll, IsUnheld, AreSame}
+use Rattle.wkt_c.specs.Answer.{Refuses, IsWritten, kind_number, dimension_number, read_at}
+use Rattle.wkt_c.specs.Arrays.{parts_of, joined, numbers_in, offsets, AreArrays, IsTextOf, IsNotFlat, HasLarge, HasLargeNumber}
+use Rattle.wkt_c.specs.Growing.{HoldsAll, IsUnheld, AreSame}
 use Rattle.wkt_c.specs.declared.arrays.Arrays.{Arrays}
 
 pub out_of_memory : {N : Type 0} (read : List ℕ → Option N) (text : List ℕ) (status : ℕ) → status ≡ 22 → Refuses read text status

@@ -1,5 +1,5 @@
 -- Numbers of more units than 64 bits hold, and the lists that they are in.
-use Rattle.std.proofs.Common.{◌≡◌, ◌+◌, ◌++◌, ◌<◌, ℕ, zero, suc, ℤ, List, [], ◌∷◌, length, map, flat_map, get_or, inl, inr, sym, ap, ◌∙◌, subst, arith, Result, Ok, Err, IfErr, refl}
+use Rattle.std.proofs.Common.{◌≡◌, ◌++◌, ◌<◌, ℕ, zero, suc, ℤ, List, [], ◌∷◌, length, map, flat_map, get_or, inl, inr, sym, ap, ◌∙◌, subst, arith, Result, Ok, Err, IfErr, refl}
 use Rattle.std.specs.List.{Contains}
 use Rattle.std.proofs.lemmas.List.{append-nil}
 use Rattle.std.proofs.lemmas.List.Concat.{flat_map-append}

@@ -8,3 +8,5 @@ pub mod Steps
 pub mod Handing
 pub mod Answering
 pub mod Columns
+pub mod ArrayColumns
+pub mod TextColumns

@@ -1,5 +1,5 @@
 -- Numbers and rings found again by their offsets.
-use Rattle.std.proofs.Common.{◌≡◌, ◌+◌, ◌*◌, ◌-◌, ◌++◌, ◌<◌, ◌≤◌, ℕ, zero, suc, ℤ, pos, List, [], ◌∷◌, length, map, take, drop, get_or, refl, sym, ap, ◌∙◌, subst, arith, add_assoc, add-zero}
+use Rattle.std.proofs.Common.{◌≡◌, ◌+◌, ◌*◌, ◌-◌, ◌++◌, ◌<◌, ◌≤◌, ℕ, zero, suc, ℤ, pos, List, [], ◌∷◌, length, take, drop, get_or, refl, sym, ap, ◌∙◌, subst, arith}
 use Rattle.std.specs.List.{All, AllByRecursion, slice_index, slice_index_or}
 use Rattle.std.proofs.lemmas.List.Folds.{length-flat_map-take}
 use Rattle.wkt_access.specs.declared.dimensions.Dimension.TheVariants.{XY, XYZ, XYM, XYZM}
@@ -9,7 +9,7 @@ use Rattle.std.proofs.lemmas.List.Concat.{get_or-flat_map, flat_map-append}
 use Rattle.wkt_access.specs.Values.{size}
 use Rattle.wkt_access.specs.declared.dimensions.Dimension.{Dimension}
 use Rattle.wkt_c.specs.Arrays.{joined, offsets, numbers_in}
-use Rattle.wkt_c.specs.Rebuilding.{HasSize, AreRings, IsRing, ArePolygons, IsPolygon}
+use Rattle.wkt_c.specs.Rebuilding.{HasSize, IsRing, IsPolygon}
 
 -- the numbers of one coordinate
 numbers-at : (n k : ℕ) (xs : List ℤ) → n + suc k ≤ length xs → take (suc k) (drop n xs) ≡ get_or xs n (pos 0) ∷ take k (drop (n + 1) xs)

@@ -1,5 +1,5 @@
 -- The parts of a `Wkt`, kind by kind.
-use Rattle.std.proofs.Common.{◌≡◌, refl, ap, sym, ◌∙◌, List, [], ◌∷◌, map, option_to_list, Some, None}
+use Rattle.std.proofs.Common.{◌≡◌, ap, sym, ◌∙◌, [], ◌∷◌, map, option_to_list, Some}
 use Rattle.std.proofs.lemmas.Simd.{map-map}
 use Rattle.wkt_types.specs.Held.{Held, HeldPoint}
 use Rattle.wkt_types.specs.Tree.{Tree, tree, wkt_step, collection_step}

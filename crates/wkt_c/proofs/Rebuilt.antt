@@ -1,11 +1,11 @@
 -- The value of some arrays is the only one.
-use Rattle.std.proofs.Common.{◌≡◌, ◌+◌, ◌++◌, ◌<◌, ◌≤◌, ℕ, zero, suc, ℤ, List, [], ◌∷◌, Option, length, map, get_or, refl, sym, ap, ◌∙◌, subst, arith, option_to_list, nat_eq, Bool, true, false}
+use Rattle.std.proofs.Common.{◌≡◌, ◌++◌, ◌≤◌, ℕ, ℤ, List, [], ◌∷◌, Option, length, map, refl, sym, ap, ◌∙◌, subst, arith, option_to_list, nat_eq, true}
 use Rattle.std.specs.Prelude.{Some, None, if◌then◌else◌}
 use Rattle.std.specs.List.{All, AllByRecursion, slice_index_or}
 use Rattle.std.proofs.lemmas.List.Elements.{All-from_recursion}
 use Rattle.wkt_num.specs.Decimal.{IsUnits}
-use Rattle.wkt_access.specs.Values.{Value, size}
-use Rattle.wkt_access.specs.WellFormed.{CoordFits, LineStringFits, PolygonFits, PointFits, MemberFits, IsWellFormed}
+use Rattle.wkt_access.specs.Values.{Value}
+use Rattle.wkt_access.specs.WellFormed.{CoordFits, LineStringFits, MemberFits, IsWellFormed}
 use Rattle.wkt_access.specs.declared.dimensions.Dimension.{Dimension}
 use Rattle.wkt_access.specs.declared.dimensions.Dimension.TheVariants.{XY, XYZ, XYM, XYZM}
 use Rattle.wkt_types.specs.declared.geometry_type.GeometryType.{GeometryType}

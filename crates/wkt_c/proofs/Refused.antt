@@ -1,5 +1,5 @@
 -- Why a part of some arrays isn't there.
-use Rattle.std.proofs.Common.{◌≡◌, ◌+◌, ◌*◌, ◌-◌, ◌++◌, ◌<◌, ◌≤◌, ℕ, ℤ, List, [], ◌∷◌, length, map, take, get_or, inl, inr, refl, sym, ap, ◌∙◌, arith, Result, Ok, Err, IfErr, option_to_list}
+use Rattle.std.proofs.Common.{◌≡◌, ◌+◌, ◌*◌, ◌-◌, ◌++◌, ◌<◌, ◌≤◌, ℕ, ℤ, List, [], ◌∷◌, length, map, take, get_or, inl, inr, refl, sym, ap, ◌∙◌, arith, Result, IfErr, option_to_list}
 use Rattle.std.specs.Prelude.{Some, None, option_map}
 use Rattle.std.specs.List.{All, slice_index, slice_index_or}
 use Rattle.std.proofs.lemmas.List.{take_more, take_all}

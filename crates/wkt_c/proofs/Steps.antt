@@ -1,5 +1,5 @@
 -- Arrays that grow by rings and by polygons.
-use Rattle.std.proofs.Common.{◌≡◌, ◌+◌, ◌++◌, ◌<◌, ◌≤◌, ℕ, ℤ, List, [], ◌∷◌, length, map, take, get_or, sym, ap, ◌∙◌, subst, append_assoc, Result, Ok, Err, OnOk, refl, arith}
+use Rattle.std.proofs.Common.{◌≡◌, ◌+◌, ◌++◌, ◌<◌, ◌≤◌, ℕ, ℤ, List, [], ◌∷◌, length, map, take, get_or, sym, ap, ◌∙◌, subst, append_assoc, Result, Ok, Err, OnOk}
 use Rattle.std.specs.Prelude.{Some}
 use Rattle.std.specs.List.{sum_by}
 use Rattle.std.proofs.lemmas.List.{map_more, take_all}

@@ -7,15 +7,28 @@ use Rattle.wkt_c.specs.Answer.{read_at, print_at, IsCanonical, Refuses, HasNoPla
 abbrev pub row_count : List ℕ → ℕ
 row_count offsets = length offsets - 1
 
--- The bytes of a row.
-abbrev pub row : List ℕ → List ℕ → ℕ → List ℕ
-row bytes offsets i = slice_range bytes (slice_index offsets i) (slice_index offsets (i + 1))
+-- The bytes, or the numbers, of a row.
+abbrev pub row : {A : Type 0} → List A → List ℕ → ℕ → List A
+row items offsets i = slice_range items (slice_index offsets i) (slice_index offsets (i + 1))
 
--- There is an offset, none is less than the one before it, and the last is not past the bytes.
-pub record AreOffsets (bytes offsets : List ℕ) : Type 0 where
+-- There is an offset, none is less than the one before it, and the last is not past the items.
+pub record AreOffsets {A : Type 0} (items : List A) (offsets : List ℕ) : Type 0 where
   pub some : 1 ≤ length offsets
   pub ascend : (i : ℕ) → i < row_count offsets → slice_index offsets i ≤ slice_index offsets (i + 1)
-  pub end : slice_index offsets (row_count offsets) ≤ length bytes
+  pub end : slice_index offsets (row_count offsets) ≤ length items
+
+-- These are so many lists, one after the other, and where each begins, from 0 on, with the end of the last.
+pub record AreJoined {A : Type 0} (rows : ℕ) (items : List A) (ends : List ℕ) : Type 0 where
+  pub are_offsets : AreOffsets items ends
+  pub size : length ends ≡ rows + 1
+  pub first : slice_index ends 0 ≡ 0
+  pub last : slice_index ends rows ≡ length items
+
+-- So many texts joined, with their statuses, each of which is as it has to be.
+pub record AreRows (IsRow : ℕ → List ℕ → ℕ → Type 0) (rows : ℕ) (bytes ends statuses : List ℕ) : Type 0 where
+  pub joined : AreJoined rows bytes ends
+  pub statuses_size : length statuses ≡ rows
+  pub answers : (i : ℕ) → i < rows → IsRow i (row bytes ends i) (slice_index statuses i)
 
 -- The bit of that index, where each byte's lowest comes first.
 abbrev pub bit_at : List ℕ → ℕ → ℕ
@@ -47,14 +60,10 @@ module _ {N : Type 0} (read : List ℕ → Option N) (num : N → List ℕ) wher
   IsRowAnswer null text answer status =
       ((null ≡ true) × ((status ≡ 28) × (answer ≡ []))) ⊎ ((null ≡ false) × IsTextAnswer text answer status)
 
-  -- The answers to so many first rows of a column, with their offsets and statuses: row i of the one is the answer to row i of the other.
-  pub record AreAnswers (texts offsets valid : List ℕ) (rows : ℕ) (bytes ends statuses : List ℕ) : Type 0 where
-    pub are_offsets : AreOffsets bytes ends
-    pub size : length ends ≡ rows + 1
-    pub first : slice_index ends 0 ≡ 0
-    pub last : slice_index ends rows ≡ length bytes
-    pub statuses_size : length statuses ≡ rows
-    pub answers : (i : ℕ) → i < rows → IsRowAnswer (is_null valid i) (row texts offsets i) (row bytes ends i) (slice_index statuses i)
+  -- The answers to so many first rows of a column: row i of the one is the answer to row i of the other.
+  abbrev pub AreAnswers : List ℕ → List ℕ → List ℕ → ℕ → List ℕ → List ℕ → List ℕ → Type 0
+  AreAnswers texts offsets valid rows bytes ends statuses =
+      AreRows (λ i answer status. IsRowAnswer (is_null valid i) (row texts offsets i) answer status) rows bytes ends statuses
 
 -- The same for all rows, with decimals of so many places.
 abbrev pub AreColumnAnswers : ℕ → List ℕ → List ℕ → List ℕ → List ℕ → List ℕ → List ℕ → Type 0

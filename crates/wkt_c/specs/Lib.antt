@@ -5,5 +5,9 @@ pub mod Growing
 pub mod Sizes
 pub mod Flat
 pub mod Column
+pub mod Joining
+pub mod ColumnArrays
+pub mod ArrayRows
+pub mod TextRows
 pub mod Rows
 pub mod Rebuilding

@@ -1,38 +1,35 @@
 -- The answers to a column as they grow. Only private contracts cite these words.
-use Rattle.std.specs.Prelude.{◌≡◌, ◌++◌, ℕ, List, [], ◌∷◌, Option, Bool, length}
-use Rattle.wkt_c.specs.Column.{AreAnswers, IsTextAnswer, IsRowAnswer}
+use Rattle.std.specs.Prelude.{◌≡◌, ◌++◌, ℕ, List, [], ◌∷◌, Option, Bool}
+use Rattle.wkt_c.specs.Column.{AreRows, IsRowAnswer, AreAnswers}
+use Rattle.wkt_c.specs.Joining.{HoldsNoList, AddsList}
 use Rattle.wkt_c.specs.declared.column.Rows.{Rows}
 
--- Nothing but the first offset.
+-- No row.
 pub record HoldsNoRow (r : Rows) : Type 0 where
-  pub no_bytes : r.bytes.items ≡ []
-  pub zero : r.ends.items ≡ 0 ∷ []
+  pub no_texts : HoldsNoList r.texts
   pub no_statuses : r.statuses.items ≡ []
 
--- A row that has this status ended.
-pub record EndsRow (status : ℕ) (a b : Rows) : Type 0 where
-  pub bytes_kept : b.bytes.items ≡ a.bytes.items
-  pub end_added : b.ends.items ≡ a.ends.items ++ length a.bytes.items ∷ []
+-- A row of this text and this status was added.
+pub record AddsRow (text : List ℕ) (status : ℕ) (a b : Rows) : Type 0 where
+  pub text_added : AddsList text a.texts b.texts
   pub status_added : b.statuses.items ≡ a.statuses.items ++ status ∷ []
 
-module _ {N : Type 0} (read : List ℕ → Option N) (num : N → List ℕ) where
-  -- The bytes of the answer to a text were added.
-  pub record AddsText (text : List ℕ) (a : Rows) (status : ℕ) (b : Rows) : Type 0 where
-    pub given : List ℕ
-    pub told : IsTextAnswer read num text given status
-    pub more : b.bytes.items ≡ a.bytes.items ++ given
-    pub same_ends : b.ends.items ≡ a.ends.items
-    pub same_statuses : b.statuses.items ≡ a.statuses.items
+-- A row was added that is as it has to be.
+pub record AddsAnswer (IsAnswer : List ℕ → ℕ → Type 0) (a b : Rows) : Type 0 where
+  pub text : List ℕ
+  pub status : ℕ
+  pub is : IsAnswer text status
+  pub added : AddsRow text status a b
 
+-- So many first rows, each of which is as it has to be.
+abbrev pub HoldsRows : (ℕ → List ℕ → ℕ → Type 0) → ℕ → Rows → Type 0
+HoldsRows IsRow rows r = AreRows IsRow rows r.texts.items.items r.texts.ends.items r.statuses.items
+
+module _ {N : Type 0} (read : List ℕ → Option N) (num : N → List ℕ) where
   -- The answer to a row was added.
-  pub record AddsRow (null : Bool) (text : List ℕ) (a b : Rows) : Type 0 where
-    pub answer : List ℕ
-    pub status : ℕ
-    pub is : IsRowAnswer read num null text answer status
-    pub bytes_are : b.bytes.items ≡ a.bytes.items ++ answer
-    pub ends_are : b.ends.items ≡ a.ends.items ++ length b.bytes.items ∷ []
-    pub statuses_are : b.statuses.items ≡ a.statuses.items ++ status ∷ []
+  abbrev pub AddsTextAnswer : Bool → List ℕ → Rows → Rows → Type 0
+  AddsTextAnswer null text a b = AddsAnswer (λ answer status. IsRowAnswer read num null text answer status) a b
 
   -- These are the answers to so many first rows.
-  abbrev pub HoldsRows : List ℕ → List ℕ → List ℕ → ℕ → Rows → Type 0
-  HoldsRows texts offsets valid rows r = AreAnswers read num texts offsets valid rows r.bytes.items r.ends.items r.statuses.items
+  abbrev pub HoldsAnswers : List ℕ → List ℕ → List ℕ → ℕ → Rows → Type 0
+  HoldsAnswers texts offsets valid rows r = AreAnswers read num texts offsets valid rows r.texts.items.items r.texts.ends.items r.statuses.items

@@ -2,9 +2,10 @@
 ghost use Rattle.std.specs.Prelude.{◌≡◌, ◌↔◌, ◌⊎◌, ◌<◌, ◌*◌, IsTrue, MatchResult, length};
 ghost use Rattle.wkt_c.specs.Answer.{read_at, print_at, HasNoPlaces};
 ghost use Rattle.wkt_c.specs.Column.{AreOffsets, HasBits, row_count, is_null, IsColumn};
-ghost use Rattle.wkt_c.specs.Rows.{HoldsNoRow, AddsRow, HoldsRows, AddsText, EndsRow};
+ghost use Rattle.wkt_c.specs.Rows.{HoldsNoRow, AddsRow, AddsTextAnswer, HoldsAnswers};
 
 use crate::canonical::canonical;
+use crate::joined::{Joined, push};
 use crate::status::{DONE, MEMORY, NO_PLACES, NULL_ROW};
 use std::alloc::Global;
 use wkt::{Decimal, WktNum};
@@ -18,17 +19,16 @@ pub(crate) struct GivenColumn<'a> {
     pub(crate) valid: &'a [u8],
 }
 
-/// The answers to some first rows.
+/// The texts of some first rows, or why they have none.
 #[derive(Drop)]
 pub(crate) struct Rows {
-    pub(crate) bytes: Vec<u8>,
-    pub(crate) ends: Vec<usize>,
+    pub(crate) texts: Joined<u8>,
     pub(crate) statuses: Vec<u32>,
 }
 
-/// Whether these are offsets into the bytes.
-fn are_offsets(bytes: &[u8], offsets: &[usize]) -> bool
-    ensures { IsTrue result ↔ AreOffsets bytes.now offsets.now }
+/// Whether these are offsets into the items.
+pub(crate) fn are_offsets<T>(items: &[T], offsets: &[usize]) -> bool
+    ensures { IsTrue result ↔ AreOffsets items.now offsets.now }
 {
     if offsets.is_empty() {
         return false;
@@ -39,11 +39,11 @@ fn are_offsets(bytes: &[u8], offsets: &[usize]) -> bool
             return false;
         }
     }
-    offsets[rows] <= bytes.len()
+    offsets[rows] <= items.len()
 }
 
 /// Whether there are no bits, or one for each row.
-fn has_bits(valid: &[u8], rows: usize) -> bool
+pub(crate) fn has_bits(valid: &[u8], rows: usize) -> bool
     ensures { IsTrue result ↔ HasBits valid.now rows }
 {
     valid.is_empty() || rows.div_ceil(8) <= valid.len()
@@ -61,7 +61,7 @@ pub(crate) fn is_column(given: GivenColumn<'_>, ends: &[usize], statuses: &[u32]
 }
 
 /// Whether a row is null.
-fn is_null(valid: &[u8], row: usize) -> bool
+pub(crate) fn is_null(valid: &[u8], row: usize) -> bool
     requires { (length valid.now ≡ 0) ⊎ (row < 8 * length valid.now) }
     ensures { result ≡ is_null valid.now row }
 {
@@ -69,65 +69,40 @@ fn is_null(valid: &[u8], row: usize) -> bool
 }
 
 impl Rows {
-    /// The answers to no row: the first offset is 0.
-    fn new(alloc: Global, likely: usize) -> Result<Rows, u32>
+    /// The texts of no row.
+    pub(crate) fn new(alloc: Global, likely: usize) -> Result<Rows, u32>
         ensures { MatchResult result HoldsNoRow (λ s. s ≡ MEMORY) }
     {
-        let Ok(bytes) = Vec::with_capacity(alloc, likely) else {
-            return Err(MEMORY);
-        };
-        let mut ends = Vec::new(alloc);
-        if ends.push(0).is_err() {
-            return Err(MEMORY);
-        }
         Ok(Rows {
-            bytes,
-            ends,
+            texts: Joined::new(alloc, likely)?,
             statuses: Vec::new(alloc),
         })
     }
 
-    /// Adds the canonical text of a text, if it has one, and tells the row's status.
-    fn add_text<T: WktNum>(&mut self, alloc: Global, text: &[u8]) -> Result<u32, u32>
-        ensures { MatchResult result (λ s. AddsText T.read T.num text.now self.old s self.new) (λ s. s ≡ MEMORY) }
+    /// Adds a row of that text, with its status.
+    pub(crate) fn add(&mut self, text: &[u8], status: u32) -> Result<(), u32>
+        ensures { MatchResult result (λ _. AddsRow text.now status self.old self.new) (λ s. s ≡ MEMORY) }
     {
+        self.texts.add(text)?;
+        push(&mut self.statuses, status)
+    }
+
+    /// Adds the answer to a row.
+    fn add_answer<T: WktNum>(&mut self, alloc: Global, text: &[u8], null: bool) -> Result<(), u32>
+        ensures { MatchResult result (λ _. AddsTextAnswer T.read T.num null text.now self.old self.new) (λ s. s ≡ MEMORY) }
+    {
+        if null {
+            return self.add(&[], NULL_ROW);
+        }
         match canonical::<T>(alloc, text) {
-            Ok((answer, _)) => {
-                if self.bytes.extend_from_slice(&answer).is_err() {
-                    return Err(MEMORY);
-                }
-                Ok(DONE)
-            }
+            Ok((answer, _)) => self.add(&answer, DONE),
             Err(status) => {
                 if status == MEMORY {
                     return Err(MEMORY);
                 }
-                Ok(status)
+                self.add(&[], status)
             }
         }
-    }
-
-    /// Ends a row that has this status.
-    fn end_row(&mut self, status: u32) -> Result<(), u32>
-        ensures { MatchResult result (λ _. EndsRow status self.old self.new) (λ s. s ≡ MEMORY) }
-    {
-        let end = self.bytes.len();
-        if self.ends.push(end).is_err() || self.statuses.push(status).is_err() {
-            return Err(MEMORY);
-        }
-        Ok(())
-    }
-
-    /// Adds the answer to a row.
-    fn add_row<T: WktNum>(&mut self, alloc: Global, text: &[u8], null: bool) -> Result<(), u32>
-        ensures { MatchResult result (λ _. AddsRow T.read T.num null text.now self.old self.new) (λ s. s ≡ MEMORY) }
-    {
-        let status = if null {
-            NULL_ROW
-        } else {
-            self.add_text::<T>(alloc, text)?
-        };
-        self.end_row(status)
     }
 }
 
@@ -136,7 +111,7 @@ fn answers<T: WktNum>(alloc: Global, given: GivenColumn<'_>) -> Result<Rows, u32
     requires offsets { AreOffsets given.texts.now given.offsets.now }
     requires bits { HasBits given.valid.now (row_count given.offsets.now) }
     ensures { MatchResult result
-        (HoldsRows T.read T.num given.entry.texts.now given.entry.offsets.now given.entry.valid.now (row_count given.entry.offsets.now))
+        (HoldsAnswers T.read T.num given.entry.texts.now given.entry.offsets.now given.entry.valid.now (row_count given.entry.offsets.now))
         (λ s. s ≡ MEMORY) }
 {
     let mut rows = Rows::new(alloc, given.texts.len())?;
@@ -144,7 +119,7 @@ fn answers<T: WktNum>(alloc: Global, given: GivenColumn<'_>) -> Result<Rows, u32
     for i in 0..count {
         let text = &given.texts[given.offsets[i]..given.offsets[i + 1]];
         let null = is_null(given.valid, i);
-        rows.add_row::<T>(alloc, text, null)?;
+        rows.add_answer::<T>(alloc, text, null)?;
     }
     Ok(rows)
 }
@@ -154,7 +129,7 @@ pub(crate) fn column_at(alloc: Global, given: GivenColumn<'_>, places: u32) -> R
     requires offsets { AreOffsets given.texts.now given.offsets.now }
     requires bits { HasBits given.valid.now (row_count given.offsets.now) }
     ensures { MatchResult result
-        (HoldsRows (read_at places) (print_at places) given.entry.texts.now given.entry.offsets.now given.entry.valid.now (row_count given.entry.offsets.now))
+        (HoldsAnswers (read_at places) (print_at places) given.entry.texts.now given.entry.offsets.now given.entry.valid.now (row_count given.entry.offsets.now))
         (λ s. HasNoPlaces places s ⊎ (s ≡ MEMORY)) }
 {
     match places {

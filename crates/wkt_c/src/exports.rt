@@ -125,28 +125,28 @@ pub extern "C" fn wkt_lines(
 }
 
 /// Hands out the answers to a column, if there is room for their texts.
-fn hand_out_rows(
+pub(crate) fn hand_out_rows(
     rows: &Rows,
     out: &mut [u8],
     ends: &mut [usize],
     statuses: &mut [u32],
     needed: &mut usize,
 ) -> u32
-    requires ends_fit { length rows.now.ends.items ≡ length ends.old }
+    requires ends_fit { length rows.now.texts.ends.items ≡ length ends.old }
     requires statuses_fit { length rows.now.statuses.items ≡ length statuses.old }
-    ensures stands { result ≡ DONE → IsHandedOut rows.now.bytes.items needed.new out.old out.new }
-    ensures ends_are { result ≡ DONE → ends.new ≡ rows.now.ends.items }
+    ensures stands { result ≡ DONE → IsHandedOut rows.now.texts.items.items needed.new out.old out.new }
+    ensures ends_are { result ≡ DONE → ends.new ≡ rows.now.texts.ends.items }
     ensures statuses_are { result ≡ DONE → statuses.new ≡ rows.now.statuses.items }
-    ensures lacks { result ≡ SMALL → HasNoRoom rows.now.bytes.items needed.new out.old }
+    ensures lacks { result ≡ SMALL → HasNoRoom rows.now.texts.items.items needed.new out.old }
     ensures kept { 1 ≤ result →
         (out.new ≡ out.old) × (ends.new ≡ ends.old) × (statuses.new ≡ statuses.old) }
     ensures two { (result ≡ DONE) ⊎ (result ≡ SMALL) }
 {
-    let status = hand_out(&rows.bytes, out, needed);
+    let status = hand_out(&rows.texts.items, out, needed);
     if status != DONE {
         return status;
     }
-    copy_whole(&rows.ends, ends);
+    copy_whole(&rows.texts.ends, ends);
     copy_whole(&rows.statuses, statuses);
     DONE
 }

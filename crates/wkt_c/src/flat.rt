@@ -39,7 +39,8 @@ pub(crate) fn kind_of<const D: u32>(wkt: &Wkt<Decimal<D>>) -> GeometryType
     }
 }
 
-fn make_flat<const D: u32>(alloc: Global, text: &[u8]) -> Result<Flat, u32>
+/// The arrays of the geometry at the front of a text.
+pub(crate) fn make_flat<const D: u32>(alloc: Global, text: &[u8]) -> Result<Flat, u32>
     ensures { MatchResult result (IsFlat D text.now) (IsNotFlat D text.now) }
 {
     let (wkt, end) = read::<Decimal<D>>(alloc, text)?;

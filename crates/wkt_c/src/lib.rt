@@ -7,11 +7,15 @@
 mod arrays;
 mod canonical;
 mod column;
+mod column_arrays;
+mod column_texts;
 mod exports;
+mod exports_arrays;
 mod fill;
 mod flat;
 mod gathered;
 mod infer;
+mod joined;
 mod lines;
 mod read;
 mod rebuild;

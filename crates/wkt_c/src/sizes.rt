@@ -17,3 +17,15 @@ pub struct WktSizes {
     /// Where the geometry ends in the text.
     pub end: usize,
 }
+
+/// What `wkt_column_arrays` tells beside the arrays.
+#[repr(C)]
+#[derive(Clone, Copy)]
+pub struct WktColumnSizes {
+    /// How many numbers there are in all rows.
+    pub numbers: usize,
+    /// How many offsets of rings.
+    pub rings: usize,
+    /// How many offsets of polygons.
+    pub polygons: usize,
+}

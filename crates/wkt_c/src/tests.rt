@@ -3,7 +3,8 @@ use crate::exports::{
     wkt_arrays, wkt_canonical, wkt_column_canonical, wkt_from_arrays, wkt_infer, wkt_lines,
     wkt_same,
 };
-use crate::sizes::WktSizes;
+use crate::exports_arrays::wkt_column_arrays;
+use crate::sizes::{WktColumnSizes, WktSizes};
 use std::test::Fail;
 
 #[test]
@@ -238,5 +239,88 @@ fn gives_arrays(rt: HostRuntime) -> Result<(), Fail> {
         &mut [],
     );
     assert_eq!(rt; status, 25);
+    Ok(())
+}
+
+#[test]
+fn gives_arrays_of_a_column(rt: HostRuntime) -> Result<(), Fail> {
+    let alloc = rt.alloc();
+    let texts = b"point(1 2.50)XPOINT(1 2)LINESTRING Z(1 2 3,4 5 6)";
+    let offsets = [0, 13, 14, 24, 49];
+    let valid = [0b1011];
+    let mut sizes = WktColumnSizes {
+        numbers: 0,
+        rings: 0,
+        polygons: 0,
+    };
+    let mut numbers = [7; 9];
+    let (mut rings, mut polygons) = ([7; 5], [7; 5]);
+    let (mut number_ends, mut ring_ends, mut polygon_ends) = ([7; 5], [7; 5], [7; 5]);
+    let (mut kinds, mut dimensions, mut statuses) = ([77; 4], [77; 4], [77; 4]);
+    let status = wkt_column_arrays(
+        alloc,
+        texts,
+        &offsets,
+        &valid,
+        1,
+        &mut sizes,
+        &mut kinds,
+        &mut dimensions,
+        &mut numbers,
+        &mut number_ends,
+        &mut rings,
+        &mut ring_ends,
+        &mut polygons,
+        &mut polygon_ends,
+        &mut statuses,
+    );
+    assert_eq!(rt; status, 0);
+    assert_eq!(rt; (sizes.numbers, sizes.rings, sizes.polygons), (8, 4, 4));
+    assert!(rt; numbers == [10, 25, 10, 20, 30, 40, 50, 60, 7]);
+    assert!(rt; number_ends == [0, 2, 2, 2, 8]);
+    assert!(rt; rings == [0, 1, 0, 2, 7]);
+    assert!(rt; ring_ends == [0, 2, 2, 2, 4]);
+    assert!(rt; polygons == [0, 1, 0, 1, 7]);
+    assert!(rt; polygon_ends == [0, 2, 2, 2, 4]);
+    assert!(rt; kinds == [0, 0, 0, 1]);
+    assert!(rt; dimensions == [0, 0, 0, 1]);
+    assert!(rt; statuses == [0, 3, 28, 0]);
+    let status = wkt_column_arrays(
+        alloc,
+        texts,
+        &offsets,
+        &valid,
+        1,
+        &mut sizes,
+        &mut kinds,
+        &mut dimensions,
+        &mut numbers[..7],
+        &mut number_ends,
+        &mut rings,
+        &mut ring_ends,
+        &mut polygons,
+        &mut polygon_ends,
+        &mut statuses,
+    );
+    assert_eq!(rt; status, 21);
+    assert_eq!(rt; (sizes.numbers, sizes.rings, sizes.polygons), (8, 4, 4));
+    let status = wkt_column_arrays(
+        alloc,
+        texts,
+        &offsets,
+        &valid,
+        1,
+        &mut sizes,
+        &mut kinds[..3],
+        &mut dimensions,
+        &mut numbers,
+        &mut number_ends,
+        &mut rings,
+        &mut ring_ends,
+        &mut polygons,
+        &mut polygon_ends,
+        &mut statuses,
+    );
+    assert_eq!(rt; status, 27);
     Ok(())
 }

@@ -3,4 +3,4 @@ use Rattle.std.specs.List.{slice_index}
 use Rattle.wkt_c.proofs.column.are_offsets.Given as goal
 
 abbrev pub invariant-loop-i : goal.invariant-loop-i
-invariant-loop-i l = (k : ℕ) → k < l.i → slice_index l.offsets k ≤ slice_index l.offsets (k + 1)
+invariant-loop-i g l = (k : ℕ) → k < l.i → slice_index l.offsets k ≤ slice_index l.offsets (k + 1)

@@ -1,4 +1,4 @@
-use Rattle.std.proofs.Common.{◌∙◌, ◌<◌, ◌≤◌, length, inr, refl, sym, ap, arith}
+use Rattle.std.proofs.Common.{length, inr, refl, ap, arith}
 use Rattle.std.proofs.lemmas.List.{length-map}
 use Rattle.wkt_types.specs.Coords.{numbers_of}
 use Rattle.wkt_c.proofs.Refused.{empty-point, one-point}

@@ -1,4 +1,4 @@
-use Rattle.std.proofs.Common.{rules, ◌≡◌, ◌<◌, ◌+◌, ◌∙◌, ◌++◌, ◌∷◌, [], ℤ, List, IfErr, map, ap, arith}
+use Rattle.std.proofs.Common.{rules, ◌≡◌, ◌∙◌, ◌++◌, ◌∷◌, [], ℤ, List, IfErr, map, ap, arith}
 use Rattle.std.proofs.lemmas.List.{map_push}
 use Rattle.wkt_types.specs.Values.{line_string_numbers, polygon_numbers}
 use Rattle.wkt_c.specs.Answer.{IsRefused}

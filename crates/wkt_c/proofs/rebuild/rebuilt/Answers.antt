@@ -1,4 +1,4 @@
-use Rattle.std.proofs.Common.{rules, ◌≡◌, ◌≤◌, ℕ, ℤ, List, IfErr, length, refl}
+use Rattle.std.proofs.Common.{rules, ◌≡◌, ◌≤◌, ℤ, List, IfErr, length, refl}
 use Rattle.std.specs.List.{All}
 use Rattle.wkt_access.specs.declared.dimensions.Dimension.{Dimension}
 use Rattle.wkt_read.specs.Kinds.{dim_of}

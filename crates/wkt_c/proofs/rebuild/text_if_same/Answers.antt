@@ -1,6 +1,4 @@
-use Rattle.std.proofs.Common.{◌≡◌, ◌≢◌, refl, ap, sym, ◌∙◌, inr, arith}
-use Rattle.std.specs.List.{All}
-use Rattle.wkt_num.specs.Whole.{IsSigned}
+use Rattle.std.proofs.Common.{◌≡◌, refl, ap, sym, ◌∙◌, inr, arith}
 use Rattle.wkt_types.specs.Tree.{tree}
 use Rattle.wkt_c.specs.Answer.{kind_number, dimension_number}
 use Rattle.wkt_c.proofs.Handing.{arrays-of, text-of, match-map, ok-of, err-of, sound, same-arrays, held, same-kind, same-dimension}

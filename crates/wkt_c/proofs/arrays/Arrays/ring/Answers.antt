@@ -1,4 +1,4 @@
-use Rattle.std.proofs.Common.{refl, sym, ap, subst, flat_map, ◌∙◌, ◌++◌, arith, rules}
+use Rattle.std.proofs.Common.{refl, sym, ap, subst, flat_map, ◌∙◌, ◌++◌, rules}
 use Rattle.std.proofs.lemmas.List.{length-map}
 use Rattle.std.proofs.lemmas.List.Folds.{flat_map-map}
 use Rattle.wkt_types.specs.Coords.{numbers_of}

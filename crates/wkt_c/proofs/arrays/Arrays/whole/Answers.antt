@@ -1,6 +1,5 @@
-use Rattle.std.proofs.Common.{rules, refl, map, [], IfErr}
-use Rattle.wkt_types.specs.Coords.{numbers_of}
-use Rattle.wkt_types.specs.Values.{line_string_numbers, polygon_numbers}
+use Rattle.std.proofs.Common.{rules, map, [], IfErr}
+use Rattle.wkt_types.specs.Values.{polygon_numbers}
 use Rattle.wkt_c.specs.Arrays.{member_numbers, numbers_in}
 use Rattle.wkt_c.specs.Growing.{IsFull}
 use Rattle.wkt_c.proofs.Large.{err-map, one-unheld}

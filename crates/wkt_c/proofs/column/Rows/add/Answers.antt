@@ -1,0 +1,5 @@
+use Rattle.wkt_c.proofs.Handing.{match-map}
+use Rattle.wkt_c.proofs.column.Rows.add.Goals as goal
+
+pub returns : goal.returns
+returns c = match-map c.push.result (λ x e. record { text_added = c.in_ok-add.ensures; status_added = e }) (λ e h. h) c.push.ensures

@@ -1,0 +1,5 @@
+use Rattle.wkt_c.specs.ArrayRows.{HoldsArrays}
+use Rattle.wkt_c.proofs.column_arrays.all_arrays.Given as goal
+
+abbrev pub invariant-loop-i : goal.invariant-loop-i
+invariant-loop-i g l = HoldsArrays g.row.D l.given.texts.now l.given.offsets.now l.given.valid.now l.i l.rows

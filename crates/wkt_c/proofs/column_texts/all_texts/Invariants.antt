@@ -1,0 +1,5 @@
+use Rattle.wkt_c.specs.TextRows.{given_arrays, HoldsTexts}
+use Rattle.wkt_c.proofs.column_texts.all_texts.Given as goal
+
+abbrev pub invariant-loop-i : goal.invariant-loop-i
+invariant-loop-i g l = HoldsTexts g.row.D (given_arrays l.given) l.given.valid.now l.i l.rows

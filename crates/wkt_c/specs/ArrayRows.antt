@@ -1,0 +1,51 @@
+-- The arrays of a column as they grow. Only private contracts cite these words.
+use Rattle.std.specs.Prelude.{◌≡◌, ◌++◌, ℕ, ℤ, List, [], ◌∷◌, Bool}
+use Rattle.wkt_c.specs.ColumnArrays.{RowArrays, ColumnArrays, IsRowArrays, AreRowArrays}
+use Rattle.wkt_c.specs.Joining.{HoldsNoList, AddsList}
+use Rattle.wkt_c.specs.declared.column_arrays.ArrayRows.{ArrayRows}
+
+-- All that they hold.
+abbrev pub held_arrays : ArrayRows → ColumnArrays
+held_arrays r = record {
+  kinds = r.kinds.items;
+  dimensions = r.dimensions.items;
+  numbers = r.numbers.items.items;
+  number_ends = r.numbers.ends.items;
+  rings = r.rings.items.items;
+  ring_ends = r.rings.ends.items;
+  polygons = r.polygons.items.items;
+  polygon_ends = r.polygons.ends.items;
+}
+
+-- No row.
+pub record HoldsNoArrays (r : ArrayRows) : Type 0 where
+  pub no_numbers : HoldsNoList r.numbers
+  pub no_rings : HoldsNoList r.rings
+  pub no_polygons : HoldsNoList r.polygons
+  pub no_kinds : r.kinds.items ≡ []
+  pub no_dimensions : r.dimensions.items ≡ []
+  pub no_statuses : r.statuses.items ≡ []
+
+-- A row of these arrays and this status was added.
+pub record AddsArrays (row : RowArrays) (status : ℕ) (a b : ArrayRows) : Type 0 where
+  pub numbers_added : AddsList row.numbers a.numbers b.numbers
+  pub rings_added : AddsList row.rings a.rings b.rings
+  pub polygons_added : AddsList row.polygons a.polygons b.polygons
+  pub kind_added : b.kinds.items ≡ a.kinds.items ++ row.kind ∷ []
+  pub dimension_added : b.dimensions.items ≡ a.dimensions.items ++ row.dimension ∷ []
+  pub status_added : b.statuses.items ≡ a.statuses.items ++ status ∷ []
+
+-- The parts of a row as one.
+abbrev pub row_of : ℕ → ℕ → List ℤ → List ℕ → List ℕ → RowArrays
+row_of k d ns rs ps = record { kind = k; dimension = d; numbers = ns; rings = rs; polygons = ps }
+
+-- The arrays of a row were added.
+pub record AddsRowArrays (places : ℕ) (null : Bool) (text : List ℕ) (a b : ArrayRows) : Type 0 where
+  pub row : RowArrays
+  pub status : ℕ
+  pub is : IsRowArrays places null text row status
+  pub added : AddsArrays row status a b
+
+-- These are the arrays of so many first rows.
+abbrev pub HoldsArrays : ℕ → List ℕ → List ℕ → List ℕ → ℕ → ArrayRows → Type 0
+HoldsArrays places texts offsets valid rows r = AreRowArrays places texts offsets valid rows (held_arrays r) r.statuses.items

@@ -1,0 +1,135 @@
+//! A column of flat arrays as texts at once.
+ghost use Rattle.std.specs.Prelude.{◌≡◌, ◌↔◌, ◌⊎◌, ◌≤◌, ◌<◌, IsTrue, MatchResult, length};
+ghost use Rattle.wkt_c.specs.Answer.{HasNoPlaces};
+ghost use Rattle.wkt_c.specs.Column.{AreOffsets, row_count, is_null};
+ghost use Rattle.wkt_c.specs.ColumnArrays.{AreArrayColumn, IsArrayColumn, HasOffsets};
+ghost use Rattle.wkt_c.specs.ArrayRows.{row_of};
+ghost use Rattle.wkt_c.specs.TextRows.{given_arrays, AddsArraysText, HoldsTexts};
+
+use crate::column::{Rows, are_offsets, has_bits, is_null};
+use crate::rebuild::{GivenArrays, text_of};
+use crate::status::{DONE, MEMORY, NO_PLACES, NULL_ROW};
+use std::alloc::Global;
+
+/// A column of arrays of the caller's, with the bits of the rows that aren't null, if any row is.
+#[derive(Clone, Copy)]
+pub(crate) struct GivenRows<'a> {
+    pub(crate) kinds: &'a [u32],
+    pub(crate) dimensions: &'a [u32],
+    pub(crate) numbers: &'a [i64],
+    pub(crate) number_offsets: &'a [usize],
+    pub(crate) rings: &'a [usize],
+    pub(crate) ring_offsets: &'a [usize],
+    pub(crate) polygons: &'a [usize],
+    pub(crate) polygon_offsets: &'a [usize],
+    pub(crate) valid: &'a [u8],
+}
+
+/// Whether these are offsets into the items for so many rows.
+fn has_offsets<T>(items: &[T], offsets: &[usize], rows: usize) -> bool
+    ensures { IsTrue result ↔ HasOffsets items.now offsets.now rows }
+{
+    are_offsets(items, offsets) && offsets.len() - 1 == rows
+}
+
+/// Whether those are arrays of a column.
+fn are_arrays(given: GivenRows<'_>) -> bool
+    ensures { IsTrue result ↔ AreArrayColumn (given_arrays given.entry) given.entry.valid.now }
+{
+    let rows = given.kinds.len();
+    if given.dimensions.len() != rows || !has_bits(given.valid, rows) {
+        return false;
+    }
+    has_offsets(given.numbers, given.number_offsets, rows)
+        && has_offsets(given.rings, given.ring_offsets, rows)
+        && has_offsets(given.polygons, given.polygon_offsets, rows)
+}
+
+/// Whether those are arrays of a column, with buffers of so many offsets and statuses for its texts.
+pub(crate) fn is_array_column(given: GivenRows<'_>, ends: &[usize], statuses: &[u32]) -> bool
+    ensures { IsTrue result ↔ IsArrayColumn (given_arrays given.entry) given.entry.valid.now ends.now statuses.now }
+{
+    let rows = given.kinds.len();
+    are_arrays(given) && !ends.is_empty() && ends.len() - 1 == rows && statuses.len() == rows
+}
+
+/// Adds the text of a row's arrays.
+fn add_text<const D: u32>(
+    rows: &mut Rows,
+    alloc: Global,
+    row: GivenArrays<'_>,
+    null: bool,
+) -> Result<(), u32>
+    requires { D ≤ 36 }
+    ensures { MatchResult result
+        (λ _. AddsArraysText D null (row_of row.entry.kind row.entry.dimension row.entry.numbers.now row.entry.rings.now row.entry.polygons.now) rows.old rows.new)
+        (λ s. s ≡ MEMORY) }
+{
+    if null {
+        return rows.add(&[], NULL_ROW);
+    }
+    match text_of::<D>(alloc, row) {
+        Ok(answer) => rows.add(&answer, DONE),
+        Err(status) => {
+            if status == MEMORY {
+                return Err(MEMORY);
+            }
+            rows.add(&[], status)
+        }
+    }
+}
+
+/// The texts of all rows of a column of arrays.
+fn all_texts<const D: u32>(alloc: Global, given: GivenRows<'_>) -> Result<Rows, u32>
+    requires places { D ≤ 36 }
+    requires arrays { AreArrayColumn (given_arrays given) given.valid.now }
+    ensures { MatchResult result
+        (HoldsTexts D (given_arrays given.entry) given.entry.valid.now (length given.entry.kinds.now))
+        (λ s. s ≡ MEMORY) }
+{
+    let count = given.kinds.len();
+    let mut rows = Rows::new(alloc, given.numbers.len())?;
+    for i in 0..count {
+        let row = GivenArrays {
+            kind: given.kinds[i],
+            dimension: given.dimensions[i],
+            numbers: &given.numbers[given.number_offsets[i]..given.number_offsets[i + 1]],
+            rings: &given.rings[given.ring_offsets[i]..given.ring_offsets[i + 1]],
+            polygons: &given.polygons[given.polygon_offsets[i]..given.polygon_offsets[i + 1]],
+        };
+        let null = is_null(given.valid, i);
+        add_text::<D>(&mut rows, alloc, row, null)?;
+    }
+    Ok(rows)
+}
+
+/// The same, with decimals of so many places.
+pub(crate) fn texts_at(alloc: Global, given: GivenRows<'_>, places: u32) -> Result<Rows, u32>
+    requires arrays { AreArrayColumn (given_arrays given) given.valid.now }
+    ensures { MatchResult result
+        (HoldsTexts places (given_arrays given.entry) given.entry.valid.now (length given.entry.kinds.now))
+        (λ s. HasNoPlaces places s ⊎ (s ≡ MEMORY)) }
+{
+    match places {
+        0 => all_texts::<0>(alloc, given),
+        1 => all_texts::<1>(alloc, given),
+        2 => all_texts::<2>(alloc, given),
+        3 => all_texts::<3>(alloc, given),
+        4 => all_texts::<4>(alloc, given),
+        5 => all_texts::<5>(alloc, given),
+        6 => all_texts::<6>(alloc, given),
+        7 => all_texts::<7>(alloc, given),
+        8 => all_texts::<8>(alloc, given),
+        9 => all_texts::<9>(alloc, given),
+        10 => all_texts::<10>(alloc, given),
+        11 => all_texts::<11>(alloc, given),
+        12 => all_texts::<12>(alloc, given),
+        13 => all_texts::<13>(alloc, given),
+        14 => all_texts::<14>(alloc, given),
+        15 => all_texts::<15>(alloc, given),
+        16 => all_texts::<16>(alloc, given),
+        17 => all_texts::<17>(alloc, given),
+        18 => all_texts::<18>(alloc, given),
+        _ => Err(NO_PLACES),
+    }
+}

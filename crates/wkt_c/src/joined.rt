@@ -1,0 +1,50 @@
+//! Lists joined in a row.
+ghost use Rattle.std.specs.Prelude.{◌≡◌, ◌++◌, ◌∷◌, [], MatchResult};
+ghost use Rattle.wkt_c.specs.Joining.{HoldsNoList, AddsList};
+
+use crate::status::MEMORY;
+use std::alloc::Global;
+
+/// Lists in a row, and where each begins, with the end of the last.
+#[derive(Drop)]
+pub(crate) struct Joined<T> {
+    pub(crate) items: Vec<T>,
+    pub(crate) ends: Vec<usize>,
+}
+
+/// Adds an item to a list.
+pub(crate) fn push<T: Copy>(list: &mut Vec<T>, item: T) -> Result<(), u32>
+    ensures { MatchResult result (λ _. list.new.items ≡ list.old.items ++ item ∷ []) (λ s. s ≡ MEMORY) }
+{
+    match list.push(item) {
+        Ok(_) => Ok(()),
+        Err(_) => Err(MEMORY),
+    }
+}
+
+impl<T: Copy> Joined<T> {
+    /// No list: the first offset is 0.
+    pub(crate) fn new(alloc: Global, likely: usize) -> Result<Joined<T>, u32>
+        ensures { MatchResult result HoldsNoList (λ s. s ≡ MEMORY) }
+    {
+        let Ok(items) = Vec::with_capacity(alloc, likely) else {
+            return Err(MEMORY);
+        };
+        let mut ends = Vec::new(alloc);
+        if ends.push(0).is_err() {
+            return Err(MEMORY);
+        }
+        Ok(Joined { items, ends })
+    }
+
+    /// Adds a list.
+    pub(crate) fn add(&mut self, list: &[T]) -> Result<(), u32>
+        ensures { MatchResult result (λ _. AddsList list.now self.old self.new) (λ s. s ≡ MEMORY) }
+    {
+        if self.items.extend_from_slice(list).is_err() {
+            return Err(MEMORY);
+        }
+        let end = self.items.len();
+        push(&mut self.ends, end)
+    }
+}
