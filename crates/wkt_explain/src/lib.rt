@@ -4,7 +4,6 @@
 mod api;
 mod expected;
 mod explanation;
-mod keywords;
 pub mod laws;
 mod place;
 mod seen;

@@ -2,10 +2,10 @@
 ghost use Rattle.std.specs.Prelude.{◌≡◌, ◌+◌, ◌<◌, ◌≤◌, IfSome};
 ghost use Rattle.wkt_explain.specs.Walks.{part_of, numbers_after, inside, outside, after_kind, after_dimension, after_opening, after_member, after_number, after_item, after_geometry};
 
-use crate::keywords::{dimension_of, is_empty, kind_of};
 use crate::seen::Seen;
 use crate::shape::Part;
 use wkt_access::Dimension;
+use wkt_read::words::{dimension_of, is_empty, kind_of};
 use wkt_types::GeometryType;
 
 /// A place in the text of a geometry.
