@@ -157,7 +157,8 @@ fn put_front<'a, T: WktNum, W: TextSink>(
     requires clean { fault (tree_shape (tree geometry.now)) ≡ None }
     requires room { vec_len opened.old + height (tree geometry.now) ≤ vec_capacity opened.old }
     requires ready { IsReady opened.old }
-    ensures goes_on { GoesOn W.sink f.old (shape_text T.num (tree_shape (tree geometry.now)) ++ owed T.num opened.old.items)
+    ensures goes_on { GoesOn W.sink f.old
+        (shape_text T.num (tree_shape (tree geometry.now)) ++ owed T.num opened.old.items)
         f.new (owed T.num opened.new.items) result }
     ensures ready { IsReady opened.new }
     ensures lighter { OnOk result (pending opened.new.items < pending opened.old.items + 2 * weight geometry.now) }
