@@ -1,4 +1,4 @@
--- Open collections: what is left to write of them, and how many of them are open at once. Only private contracts cite these words.
+-- Open collections: what is left to write of them, and how many are open at once. Only private contracts cite it.
 use Rattle.std.specs.Prelude.{◌≡◌, ℕ, ◌+◌, ◌*◌, ◌≤◌, max, List, [], ◌∷◌, ◌++◌, codes, None, Result, Ok, Err, Vec, vec_capacity}
 use Rattle.std.specs.Borrow.{Bor}
 use Rattle.std.specs.List.{AllByRecursion}

@@ -14,7 +14,7 @@ ghost use Rattle.wkt_lines.specs.Nested.{owed, left_text, height, heights, needs
 use std::alloc::{AllocError, Global};
 use std::fmt;
 use wkt::error::Error as WriteError;
-use wkt::to_wkt::{TextSink, write_geometry};
+use wkt::to_wkt::{TextSink, write_geometry, write_point};
 use wkt::types::Dimension;
 use wkt::{Wkt, WktNum};
 
@@ -157,7 +157,8 @@ fn put_front<'a, T: WktNum, W: TextSink>(
     requires clean { fault (tree_shape (tree geometry.now)) ≡ None }
     requires room { vec_len opened.old + height (tree geometry.now) ≤ vec_capacity opened.old }
     requires ready { IsReady opened.old }
-    ensures goes_on { GoesOn W.sink f.old (shape_text T.num (tree_shape (tree geometry.now)) ++ owed T.num opened.old.items)
+    ensures goes_on { GoesOn W.sink f.old
+        (shape_text T.num (tree_shape (tree geometry.now)) ++ owed T.num opened.old.items)
         f.new (owed T.num opened.new.items) result }
     ensures ready { IsReady opened.new }
     ensures lighter { OnOk result (pending opened.new.items < pending opened.old.items + 2 * weight geometry.now) }
@@ -205,7 +206,12 @@ pub(crate) fn put_whole<T: WktNum, W: TextSink>(geometry: &Wkt<T>, f: &mut W) ->
     requires flat { height (tree geometry.now) ≤ 1 }
     ensures { Puts W.sink f.old (shape_text T.num (tree_shape (tree geometry.now))) f.new result }
 {
-    match write_geometry(f, geometry) {
+    // Many geometries are points, whose own writer needn't ask for the kind.
+    let written = match geometry {
+        Wkt::Point(point) => write_point(f, point),
+        _ => write_geometry(f, geometry),
+    };
+    match written {
         Ok(()) => Ok(()),
         Err(WriteError::FmtError(e)) => Err(e),
         Err(_) => unreachable!(),
