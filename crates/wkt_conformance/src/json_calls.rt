@@ -1,6 +1,7 @@
 //! Calls over JSON values, by their names.
 use crate::calls::Number;
 use crate::rows::value_of;
+use serde_json::Value;
 use std::alloc::Global;
 use wkt::deserialize::geo_types::{deserialize_geometry, deserialize_point};
 use wkt::deserialize::{ValueError, deserialize_wkt, wkt_from_value};
@@ -19,33 +20,41 @@ pub(crate) fn json_given(
         return Ok(String::from_str(alloc, "no JSON")?);
     };
     match (call, of) {
-        ("wkt_from_value", _) => match wkt_from_value::<Number>(alloc, &value) {
-            Ok(geometry) => Ok(geometry.to_string(alloc)?),
-            Err(error) => Ok(error.to_string(alloc)?),
-        },
-        ("deserialize_geometry", _) => flat_text(
-            alloc,
-            deserialize_geometry::<Number>(alloc, &value),
-        ),
-        ("deserialize_wkt", "Point") => flat_text(
-            alloc,
-            deserialize_wkt::<Number, Point<Number>>(alloc, &value),
-        ),
-        ("deserialize_point", _) => match deserialize_point::<Number>(alloc, &value) {
-            Ok(None) => Ok(String::from_str(alloc, "none")?),
-            Ok(Some(point)) => Ok(point.wkt_string(alloc)?),
-            Err(error) => Ok(error.to_string(alloc)?),
-        },
+        ("wkt_from_value", _) => wkt_text(alloc, &value),
+        ("deserialize_geometry", _) => geometry_text(alloc, &value),
+        ("deserialize_wkt", "Point") => point_text(alloc, &value),
+        ("deserialize_point", _) => text_if_any(alloc, &value),
         _ => Ok(String::from_str(alloc, "no such call")?),
     }
 }
 
-fn flat_text<G: ToWkt<Number> + Drop>(
-    alloc: Global,
-    answer: Result<G, ValueError<Error>>,
-) -> Result<String, AnyError> {
-    match answer {
+fn wkt_text(alloc: Global, value: &Value) -> Result<String, AnyError> {
+    match wkt_from_value::<Number>(alloc, value) {
+        Ok(geometry) => Ok(geometry.to_string(alloc)?),
+        Err(error) => Ok(error.to_string(alloc)?),
+    }
+}
+
+fn geometry_text(alloc: Global, value: &Value) -> Result<String, AnyError> {
+    match deserialize_geometry::<Number>(alloc, value) {
         Ok(geometry) => Ok(geometry.wkt_string(alloc)?),
+        Err(error) => Ok(error.to_string(alloc)?),
+    }
+}
+
+fn point_text(alloc: Global, value: &Value) -> Result<String, AnyError> {
+    let read: Result<Point<Number>, ValueError<Error>> = deserialize_wkt(alloc, value);
+    match read {
+        Ok(point) => Ok(point.wkt_string(alloc)?),
+        Err(error) => Ok(error.to_string(alloc)?),
+    }
+}
+
+/// The text of the point, or `none`.
+fn text_if_any(alloc: Global, value: &Value) -> Result<String, AnyError> {
+    match deserialize_point::<Number>(alloc, value) {
+        Ok(Some(point)) => Ok(point.wkt_string(alloc)?),
+        Ok(None) => Ok(String::from_str(alloc, "none")?),
         Err(error) => Ok(error.to_string(alloc)?),
     }
 }

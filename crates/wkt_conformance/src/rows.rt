@@ -38,16 +38,18 @@ pub(crate) fn row_of(alloc: Global, line: &str) -> Result<Row, AllocError> {
     let Some(Value::Array(columns)) = value_of(alloc, line)? else {
         return no_row(alloc);
     };
-    let mut texts = Vec::new(alloc);
-    for column in &columns {
-        match column.as_str() {
-            Some(text) => texts.push(text)?,
-            None => return no_row(alloc),
-        };
-    }
-    match texts.as_slice() {
-        [call, text, want] => made(alloc, given(alloc, call, "", text), want),
-        [call, of, text, want] => made(alloc, given(alloc, call, of, text), want),
+    match columns.as_slice() {
+        [
+            Value::String(call),
+            Value::String(text),
+            Value::String(want),
+        ] => { made(alloc, given(alloc, call, "", text), want) }
+        [
+            Value::String(call),
+            Value::String(of),
+            Value::String(text),
+            Value::String(want),
+        ] => made(alloc, given(alloc, call, of, text), want),
         _ => no_row(alloc),
     }
 }
