@@ -8,7 +8,7 @@ use std::fmt::Formatter;
 pub struct Explanation<'a> {
     /// The text.
     pub text: &'a str,
-    /// What the readers say of it.
+    /// The message with which `from_str` refuses it.
     pub message: &'static str,
     /// Where the lexeme that is too much begins, in bytes.
     pub start: usize,
@@ -26,6 +26,7 @@ pub struct Explanation<'a> {
 /// ```
 impl<'a> fmt::Display for Explanation<'a> {
     fn fmt<W: fmt::Write>(&self, f: &mut Formatter<W>) -> fmt::Result {
+        // A place of a caller's own, which may be within a character, is shown at the text's end.
         let before = self.text.get(..self.start).unwrap_or(self.text);
         let after = self.text.get(self.start..).unwrap_or("");
         let line = match before.rsplit_once('\n') {
