@@ -1,13 +1,11 @@
-//! Bytes in memory as a sink of text, and as one of bytes.
+//! Bytes in memory as a sink of text.
 ghost use Rattle.std.specs.Prelude.{◌≡◌, ◌++◌, [], IfOk, if◌then◌else◌};
 
 use std::alloc::{AllocError, Global};
-use std::io::ErrorKind;
-use std::{fmt, io};
+use std::fmt;
 use wkt::to_wkt::TextSink;
-use wkt_bytes::ByteSink;
 
-/// Bytes in memory as a [`TextSink`] and as a [`ByteSink`].
+/// Bytes in memory as a [`TextSink`].
 #[derive(Drop)]
 pub(crate) struct Gathered {
     bytes: Vec<u8>,
@@ -61,21 +59,5 @@ impl TextSink for Gathered {
         }
         self.failures = self.failures.wrapping_add(1);
         Err(fmt::Error)
-    }
-}
-
-impl ByteSink for Gathered {
-    ghost use Rattle.std.specs.Prelude.{Some};
-    ghost use Rattle.wkt_bytes.specs.Sinks.{owned};
-    ghost use Rattle.wkt_c.specs.Gathered.{gathered, failed_calls};
-
-    ghost sink = { owned (λ s. Some (gathered s)) failed_calls };
-
-    fn put(&mut self, buf: &[u8]) -> io::Result<usize> {
-        if self.keep(buf) {
-            return Ok(buf.len());
-        }
-        self.failures = self.failures.wrapping_add(1);
-        Err(io::Error::from(ErrorKind::OutOfMemory))
     }
 }

@@ -7,7 +7,6 @@ use crate::gathered::Gathered;
 use crate::status::{MEMORY, NO_PLACES};
 use std::alloc::Global;
 use wkt::{Decimal, WktNum};
-use wkt_bytes::Gatherer;
 use wkt_lines::write_answers;
 
 /// The answers to all lines of the input.
@@ -15,18 +14,13 @@ use wkt_lines::write_answers;
 fn answers<T: WktNum>(alloc: Global, input: &[u8]) -> Result<Vec<u8>, u32>
     ensures { MatchResult result (λ v. IsOutput T.read T.num input.now v.items) (λ s. s ≡ MEMORY) }
 {
-    let Ok(sink) = Gathered::new(alloc, input.len()) else {
+    let Ok(mut sink) = Gathered::new(alloc, input.len()) else {
         return Err(MEMORY);
     };
-    // The pieces of an answer are short: a copy into an array costs less than one at the end of a list.
-    let mut gatherer = Gatherer::new(sink);
-    if write_answers::<T, Gatherer<Gathered>>(alloc, input, &mut gatherer).is_err() {
-        return Err(MEMORY);
+    match write_answers::<T, Gathered>(alloc, input, &mut sink) {
+        Ok(()) => Ok(sink.into_bytes()),
+        Err(_) => Err(MEMORY),
     }
-    if gatherer.finish().is_err() {
-        return Err(MEMORY);
-    }
-    Ok(gatherer.into_writer().into_bytes())
 }
 
 /// The same, with decimals of so many places.
