@@ -3,7 +3,7 @@ ghost use Rattle.std.specs.Prelude.{◌≡◌, ◌↔◌, IfOk, IsTrue};
 
 use crate::rows::{Row, row_of};
 use std::alloc::{AllocError, Global};
-use std::io::{self, Read};
+use std::io::{self, ErrorKind, Read};
 use std::{env, fs};
 use thiserror::Error;
 use wkt::Decimal;
@@ -28,10 +28,18 @@ pub fn check_all(rt: &HostRuntime) -> Result<u64, TableError> {
     let alloc = rt.alloc();
     let bytes = bytes_of(alloc, rt.stdin())?;
     let mut wrong = check_table(rt, alloc, text_of(&bytes)?)?;
-    for name in env::args(rt).map_err(TableError::Read)?.skip(1) {
+    for name in env::args(rt).map_err(unread)?.skip(1) {
         wrong = wrong.wrapping_add(check_file(rt, alloc, &name)?);
     }
     Ok(wrong)
+}
+
+/// Why the arguments or a file aren't there; out of memory is told apart.
+fn unread(error: io::Error) -> TableError {
+    match error.kind() {
+        ErrorKind::OutOfMemory => TableError::Memory(AllocError),
+        _ => TableError::Read(error),
+    }
 }
 
 /// All bytes of an input.
@@ -71,7 +79,7 @@ fn check_table(rt: &impl Print, alloc: Global, table: &str) -> Result<u64, Table
 
 /// Checks each row of a file, but for its head, and tells which are wrong, and how many.
 fn check_file(rt: &HostRuntime, alloc: Global, name: &str) -> Result<u64, TableError> {
-    let bytes = bytes_of(alloc, fs::open(rt, name).map_err(TableError::Read)?)?;
+    let bytes = bytes_of(alloc, fs::open(rt, name).map_err(unread)?)?;
     let mut rows = 0u64;
     let mut wrong = 0u64;
     for line in text_of(&bytes)?.lines() {
