@@ -75,7 +75,7 @@ status=0
 # With no minutes it runs the corpus and the seeds once.
 how=(-runs=0)
 [ "$minutes" = 0 ] || how=(-max_total_time=$((minutes * 60)))
-nice -n 10 "$WORK/fuzz" "${how[@]}" -max_len="${MAX_LEN:-600}" -entropic=0 -dict="$here/wkt.dict" -timeout=30 \
+nice -n 10 "$WORK/fuzz" "${how[@]}" -max_len="${MAX_LEN:-600}" -entropic=0 -dict="$here/wkt.dict" -timeout="${SLOW:-30}" \
     -rss_limit_mb=3000 -print_final_stats=1 -artifact_prefix="$WORK/found/" "$WORK/corpus" "$WORK/seeds" \
     > "$WORK/log" 2>&1 || status=1
 [ $status = 0 ] || [ -n "$(ls "$WORK/found")" ] || status=2
