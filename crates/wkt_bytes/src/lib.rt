@@ -4,11 +4,9 @@
 mod gatherer;
 mod read;
 mod sinks;
-#[cfg(test)]
-mod tests;
 mod wrapper;
 
 pub use gatherer::Gatherer;
 pub use read::{ReadAllError, read_all};
 pub use sinks::{ByteSink, ByteSource, Counted};
-pub use wrapper::{WriterWrapper, put_all};
+pub use wrapper::{WriterWrapper, copy_piece, fault_of, put_all};

@@ -2,6 +2,7 @@
 ghost use Rattle.std.specs.Prelude.{◌≡◌, ℕ, ◌≤◌, ◌<◌, ◌+◌, ◌*◌, [], ◌++◌, OnOk, OnErr, Ok, IsSome, ◌↔◌, length, take, true, false};
 ghost use Rattle.std.specs.Io.KnownBytes.{Appends};
 ghost use Rattle.wkt_num.specs.Sink.{next_count, Puts};
+ghost use Rattle.wkt_bytes.specs.Wrapper.{is_untold, wrapped_writer};
 
 use crate::sinks::ByteSink;
 use std::io::ErrorKind;
@@ -60,7 +61,7 @@ pub fn put_all<W: ByteSink>(writer: &mut W, bytes: &[u8]) -> Result<(), io::Erro
 
 /// Copies a piece to a place of its length. Most pieces are of some ten bytes, and a copy by `copy_from_slice` is a call.
 #[inline(always)]
-pub(crate) fn copy_piece(from: &[u8], to: &mut [u8])
+pub fn copy_piece(from: &[u8], to: &mut [u8])
     requires { length to.old ≡ length from.now }
     ensures { to.new ≡ from.now }
 {
@@ -259,6 +260,17 @@ impl<W: ByteSink> WriterWrapper<W> {
                 _ => None,
             },
         }
+    }
+}
+
+/// The fault that a wrapper met, of which nobody was told yet.
+pub fn fault_of<W: ByteSink>(wrapper: &mut WriterWrapper<W>) -> io::Error
+    requires { is_untold wrapper.old ≡ true }
+    ensures { wrapped_writer wrapper.new ≡ wrapped_writer wrapper.old }
+{
+    match wrapper.take_fault() {
+        Some(e) => e,
+        None => unreachable!(),
     }
 }
 

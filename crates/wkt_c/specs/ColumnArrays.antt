@@ -98,6 +98,11 @@ pub record FillColumn (a : ColumnArrays) (s : WktColumnSizes) (old new : ColumnA
   pub polygons : new.polygons ≡ with_front a.polygons old.polygons
   pub polygon_ends : new.polygon_ends ≡ a.polygon_ends
 
+-- The arrays of all texts of a column stand in the buffers.
+abbrev pub AreFilled : ℕ → List ℕ → List ℕ → List ℕ → List ℕ → WktColumnSizes → ColumnArrays → ColumnArrays → Type 0
+AreFilled places texts offsets valid statuses sizes old new =
+    (arrays : ColumnArrays) × AreColumnArrays places texts offsets valid arrays statuses × FillColumn arrays sizes old new
+
 -- One of the three buffers has no room; the sizes are told.
 pub record LackRoom (a : ColumnArrays) (s : WktColumnSizes) (old : ColumnArrays) : Type 0 where
   pub sizes : AreColumnSizes a s

@@ -44,8 +44,8 @@ pub extern "C" fn wkt_canonical(
     needed: &mut usize,
     end: &mut usize,
 ) -> u32
-    ensures written { result ≡ DONE → (answer : List ℕ)
-        × IsCanonical (read_at places) (print_at places) text.now answer end.new × IsHandedOut answer needed.new out.old out.new }
+    ensures written { result ≡ DONE → (answer : List ℕ) × IsCanonical (read_at places) (print_at places) text.now answer
+        end.new × IsHandedOut answer needed.new out.old out.new }
     ensures small { result ≡ SMALL → (answer : List ℕ)
         × IsCanonical (read_at places) (print_at places) text.now answer end.new × HasNoRoom answer needed.new out.old }
     ensures others { 1 ≤ result → result ≢ SMALL → RefusesAt places text.now result }
@@ -111,8 +111,8 @@ pub extern "C" fn wkt_lines(
     out: &mut [u8],
     needed: &mut usize,
 ) -> u32
-    ensures written { result ≡ DONE → (answers : List ℕ)
-        × IsOutput (read_at places) (print_at places) input.now answers × IsHandedOut answers needed.new out.old out.new }
+    ensures written { result ≡ DONE → (answers : List ℕ) × IsOutput (read_at places) (print_at places) input.now answers
+        × IsHandedOut answers needed.new out.old out.new }
     ensures small { result ≡ SMALL → (answers : List ℕ)
         × IsOutput (read_at places) (print_at places) input.now answers × HasNoRoom answers needed.new out.old }
     ensures others { 1 ≤ result → result ≢ SMALL → HasNoPlaces places result ⊎ (result ≡ MEMORY) }
@@ -170,8 +170,8 @@ pub extern "C" fn wkt_column_canonical(
     ensures written { result ≡ DONE → (answers : List ℕ)
         × AreColumnAnswers places texts.now offsets.now valid.now answers out_offsets.new statuses.new
         × IsHandedOut answers needed.new out.old out.new }
-    ensures small { result ≡ SMALL → (answers : List ℕ) × (ends : List ℕ) × (told : List ℕ)
-        × AreColumnAnswers places texts.now offsets.now valid.now answers ends told × HasNoRoom answers needed.new out.old }
+    ensures small { result ≡ SMALL → (answers : List ℕ) × (ends : List ℕ) × (told : List ℕ) × AreColumnAnswers places
+        texts.now offsets.now valid.now answers ends told × HasNoRoom answers needed.new out.old }
     ensures others { 1 ≤ result → result ≢ SMALL →
         IsNoColumn places texts.now offsets.now valid.now out_offsets.old statuses.old result }
     ensures kept { 1 ≤ result →
@@ -248,11 +248,12 @@ pub extern "C" fn wkt_from_arrays(
     out: &mut [u8],
     needed: &mut usize,
 ) -> u32
-    ensures written { result ≡ DONE → (answer : List ℕ)
-        × IsTextOf places kind dimension numbers.now rings.now polygons.now answer × IsHandedOut answer needed.new out.old out.new }
-    ensures small { result ≡ SMALL → (answer : List ℕ)
-        × IsTextOf places kind dimension numbers.now rings.now polygons.now answer × HasNoRoom answer needed.new out.old }
-    ensures others { 1 ≤ result → result ≢ SMALL → IsNoTextAt places kind dimension numbers.now rings.now polygons.now result }
+    ensures written { result ≡ DONE → (answer : List ℕ) × IsTextOf places kind dimension numbers.now rings.now
+        polygons.now answer × IsHandedOut answer needed.new out.old out.new }
+    ensures small { result ≡ SMALL → (answer : List ℕ) × IsTextOf places kind dimension numbers.now rings.now
+        polygons.now answer × HasNoRoom answer needed.new out.old }
+    ensures others { 1 ≤ result → result ≢ SMALL → IsNoTextAt places kind dimension numbers.now rings.now polygons.now
+        result }
     ensures kept { 1 ≤ result → out.new ≡ out.old }
 {
     let given = GivenArrays {

@@ -1,7 +1,7 @@
 //! A column to arrays at once, for C.
 ghost use Rattle.wkt_c.specs.Answer.{IsHandedOut, HasNoRoom};
 ghost use Rattle.std.specs.Prelude.{◌≡◌, ◌≤◌, ◌≢◌, ◌⊎◌, ℕ, List, length};
-ghost use Rattle.wkt_c.specs.ColumnArrays.{ColumnArrays, AreColumnArrays, FillColumn, LackRoom, HasNoArrays, AreColumnTexts, HasNoTexts, as_column};
+ghost use Rattle.wkt_c.specs.ColumnArrays.{ColumnArrays, AreColumnArrays, AreFilled, FillColumn, LackRoom, HasNoArrays, AreColumnTexts, HasNoTexts, as_column};
 ghost use Rattle.wkt_c.specs.ArrayRows.{held_arrays};
 
 use crate::column::{GivenColumn, is_column};
@@ -33,12 +33,12 @@ fn hand_out_arrays(
     requires kinds_fit { length rows.now.kinds.items ≡ length kinds.old }
     requires dimensions_fit { length rows.now.dimensions.items ≡ length dimensions.old }
     requires statuses_fit { length rows.now.statuses.items ≡ length statuses.old }
-    ensures stands { result ≡ DONE → FillColumn (held_arrays rows.now) sizes.new
-        (as_column kinds.old dimensions.old numbers.old number_offsets.old rings.old ring_offsets.old polygons.old polygon_offsets.old)
-        (as_column kinds.new dimensions.new numbers.new number_offsets.new rings.new ring_offsets.new polygons.new polygon_offsets.new) }
+    ensures stands { result ≡ DONE → FillColumn (held_arrays rows.now) sizes.new (as_column kinds.old dimensions.old
+        numbers.old number_offsets.old rings.old ring_offsets.old polygons.old polygon_offsets.old) (as_column kinds.new
+        dimensions.new numbers.new number_offsets.new rings.new ring_offsets.new polygons.new polygon_offsets.new) }
     ensures statuses_are { result ≡ DONE → statuses.new ≡ rows.now.statuses.items }
-    ensures lacks { result ≡ SMALL → LackRoom (held_arrays rows.now) sizes.new
-        (as_column kinds.old dimensions.old numbers.old number_offsets.old rings.old ring_offsets.old polygons.old polygon_offsets.old) }
+    ensures lacks { result ≡ SMALL → LackRoom (held_arrays rows.now) sizes.new (as_column kinds.old dimensions.old
+        numbers.old number_offsets.old rings.old ring_offsets.old polygons.old polygon_offsets.old) }
     ensures kept { 1 ≤ result → (numbers.new ≡ numbers.old) × (rings.new ≡ rings.old) × (polygons.new ≡ polygons.old) }
     ensures offsets_kept { 1 ≤ result → (number_offsets.new ≡ number_offsets.old)
         × (ring_offsets.new ≡ ring_offsets.old) × (polygon_offsets.new ≡ polygon_offsets.old) }
@@ -89,16 +89,16 @@ pub extern "C" fn wkt_column_arrays(
     polygon_offsets: &mut [usize],
     statuses: &mut [u32],
 ) -> u32
-    ensures filled { result ≡ DONE → (arrays : ColumnArrays)
-        × AreColumnArrays places texts.now offsets.now valid.now arrays statuses.new
-        × FillColumn arrays sizes.new
-        (as_column kinds.old dimensions.old numbers.old number_offsets.old rings.old ring_offsets.old polygons.old polygon_offsets.old)
-        (as_column kinds.new dimensions.new numbers.new number_offsets.new rings.new ring_offsets.new polygons.new polygon_offsets.new) }
-    ensures small { result ≡ SMALL → (arrays : ColumnArrays) × (told : List ℕ)
-        × AreColumnArrays places texts.now offsets.now valid.now arrays told × LackRoom arrays sizes.new
-        (as_column kinds.old dimensions.old numbers.old number_offsets.old rings.old ring_offsets.old polygons.old polygon_offsets.old) }
-    ensures others { 1 ≤ result → result ≢ SMALL → HasNoArrays places texts.now offsets.now valid.now
-        (as_column kinds.old dimensions.old numbers.old number_offsets.old rings.old ring_offsets.old polygons.old polygon_offsets.old) statuses.old result }
+    ensures filled { result ≡ DONE → AreFilled places texts.now offsets.now valid.now statuses.new sizes.new (as_column
+        kinds.old dimensions.old numbers.old number_offsets.old rings.old ring_offsets.old polygons.old
+        polygon_offsets.old) (as_column kinds.new dimensions.new numbers.new number_offsets.new rings.new
+        ring_offsets.new polygons.new polygon_offsets.new) }
+    ensures small { result ≡ SMALL → (arrays : ColumnArrays) × (told : List ℕ) × AreColumnArrays places texts.now
+        offsets.now valid.now arrays told × LackRoom arrays sizes.new (as_column kinds.old dimensions.old numbers.old
+        number_offsets.old rings.old ring_offsets.old polygons.old polygon_offsets.old) }
+    ensures others { 1 ≤ result → result ≢ SMALL → HasNoArrays places texts.now offsets.now valid.now (as_column
+        kinds.old dimensions.old numbers.old number_offsets.old rings.old ring_offsets.old polygons.old
+        polygon_offsets.old) statuses.old result }
     ensures kept { 1 ≤ result → (numbers.new ≡ numbers.old) × (rings.new ≡ rings.old) × (polygons.new ≡ polygons.old) }
     ensures offsets_kept { 1 ≤ result → (number_offsets.new ≡ number_offsets.old)
         × (ring_offsets.new ≡ ring_offsets.old) × (polygon_offsets.new ≡ polygon_offsets.old) }
@@ -160,18 +160,15 @@ pub extern "C" fn wkt_column_from_arrays(
     statuses: &mut [u32],
     needed: &mut usize,
 ) -> u32
-    ensures written { result ≡ DONE → (answers : List ℕ)
-        × AreColumnTexts places
-        (as_column kinds.now dimensions.now numbers.now number_offsets.now rings.now ring_offsets.now polygons.now polygon_offsets.now)
-        valid.now answers out_offsets.new statuses.new
-        × IsHandedOut answers needed.new out.old out.new }
-    ensures small { result ≡ SMALL → (answers : List ℕ) × (ends : List ℕ) × (told : List ℕ)
-        × AreColumnTexts places
-        (as_column kinds.now dimensions.now numbers.now number_offsets.now rings.now ring_offsets.now polygons.now polygon_offsets.now)
-        valid.now answers ends told × HasNoRoom answers needed.new out.old }
-    ensures others { 1 ≤ result → result ≢ SMALL → HasNoTexts places
-        (as_column kinds.now dimensions.now numbers.now number_offsets.now rings.now ring_offsets.now polygons.now polygon_offsets.now)
-        valid.now out_offsets.old statuses.old result }
+    ensures written { result ≡ DONE → (answers : List ℕ) × AreColumnTexts places (as_column kinds.now dimensions.now
+        numbers.now number_offsets.now rings.now ring_offsets.now polygons.now polygon_offsets.now) valid.now answers
+        out_offsets.new statuses.new × IsHandedOut answers needed.new out.old out.new }
+    ensures small { result ≡ SMALL → (answers : List ℕ) × (ends : List ℕ) × (told : List ℕ) × AreColumnTexts places
+        (as_column kinds.now dimensions.now numbers.now number_offsets.now rings.now ring_offsets.now polygons.now
+        polygon_offsets.now) valid.now answers ends told × HasNoRoom answers needed.new out.old }
+    ensures others { 1 ≤ result → result ≢ SMALL → HasNoTexts places (as_column kinds.now dimensions.now numbers.now
+        number_offsets.now rings.now ring_offsets.now polygons.now polygon_offsets.now) valid.now out_offsets.old
+        statuses.old result }
     ensures kept { 1 ≤ result →
         (out.new ≡ out.old) × (out_offsets.new ≡ out_offsets.old) × (statuses.new ≡ statuses.old) }
 {

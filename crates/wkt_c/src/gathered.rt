@@ -1,15 +1,18 @@
 //! Bytes in memory as a sink of text.
-ghost use Rattle.std.specs.Prelude.{◌≡◌, ◌++◌, [], IfOk, if◌then◌else◌};
+ghost use Rattle.std.specs.Prelude.{◌≡◌, ◌+◌, ◌≤◌, ◌++◌, [], IfOk, OnTrue, OnFalse, length, take, vec_len, if◌then◌else◌};
 
 use std::alloc::{AllocError, Global};
 use std::fmt;
 use wkt::to_wkt::TextSink;
+use wkt_bytes::copy_piece;
 
-/// Bytes in memory as a [`TextSink`].
+/// Bytes in memory as a [`TextSink`]: a list that is filled place by place, since a push asks for room each time.
 #[derive(Drop)]
 pub(crate) struct Gathered {
     bytes: Vec<u8>,
+    len: usize,
     failures: u64,
+    ghost fits: { len ≤ length bytes.items },
 }
 
 impl Gathered {
@@ -19,8 +22,11 @@ impl Gathered {
     pub(crate) fn new(alloc: Global, room: usize) -> Result<Gathered, AllocError>
         ensures { IfOk result (λ s. gathered s ≡ []) }
     {
+        let mut bytes = Vec::new(alloc);
+        bytes.resize(room, 0)?;
         Ok(Gathered {
-            bytes: Vec::with_capacity(alloc, room)?,
+            bytes,
+            len: 0,
             failures: 0,
         })
     }
@@ -29,8 +35,25 @@ impl Gathered {
     pub(crate) fn into_bytes(self) -> Vec<u8>
         ensures { result.items ≡ gathered self }
     {
-        let Gathered { bytes, failures: _ } = self;
+        let Gathered {
+            mut bytes,
+            len,
+            failures: _,
+        } = self;
+        bytes.truncate(len);
         bytes
+    }
+
+    // Makes room up to that place, or tells that there is no memory.
+    #[inline(never)]
+    fn grow(&mut self, end: usize) -> bool
+        ensures kept { gathered self.new ≡ gathered self.old }
+        ensures len { self.new.len ≡ self.old.len }
+        ensures room { OnTrue result (end ≤ length self.new.bytes.items) }
+        ensures count { failed_calls self.new ≡ failed_calls self.old }
+    {
+        let room = end.max(self.bytes.len().saturating_mul(2));
+        self.bytes.resize(room, 0).is_ok()
     }
 
     // Takes the bytes, or tells that there is no memory.
@@ -38,11 +61,16 @@ impl Gathered {
         ensures kept { gathered self.new ≡ (if result then gathered self.old ++ bytes.now else gathered self.old) }
         ensures count { failed_calls self.new ≡ failed_calls self.old }
     {
-        // Most pieces are one byte.
-        if let [byte] = bytes {
-            return self.bytes.push(*byte).is_ok();
+        let start = self.len;
+        let Some(end) = start.checked_add(bytes.len()) else {
+            return false;
+        };
+        if end > self.bytes.len() && !self.grow(end) {
+            return false;
         }
-        self.bytes.extend_from_slice(bytes).is_ok()
+        copy_piece(bytes, &mut self.bytes[start..end]);
+        self.len = end;
+        true
     }
 }
 

@@ -21,5 +21,3 @@ mod read;
 mod rebuild;
 mod sizes;
 mod status;
-#[cfg(test)]
-mod tests;

@@ -2,6 +2,7 @@
 use crate::flat_calls::{becomes, converted, flat_of};
 use crate::json_calls::json_given;
 use crate::numbers::{answer_of, number_of};
+use crate::refusals::{message, place, shown};
 use std::alloc::Global;
 use wkt::{AnyError, Decimal, FromWktStr, Wkt, infer_type, read_whole, same_geometry};
 
@@ -23,6 +24,9 @@ pub(crate) fn given(alloc: Global, call: &str, of: &str, text: &str) -> Result<S
         "try_from_wkt_str" => flat_of(alloc, of, text),
         "convert_from" => converted(alloc, text),
         "kinds" => becomes(alloc, text),
+        "explain" => place(alloc, text),
+        "explained" => shown(alloc, text),
+        "explain_message" => message(alloc, text),
         _ => json_given(alloc, call, of, text),
     }
 }

@@ -13,6 +13,7 @@ mod calls;
 mod flat_calls;
 mod json_calls;
 mod numbers;
+mod refusals;
 mod rows;
 mod table;
 

@@ -1,22 +1,10 @@
 -- White space, byte by byte.
-use Rattle.std.proofs.Common.{◌≡◌, ◌≢◌, ℕ, ◌+◌, ◌≤◌, ◌<◌, List, [], ◌∷◌, ◌++◌, length, drop, get_or, add-one, refl, ap, ◌∙◌, sym, subst, append_assoc, arith, true, false}
+use Rattle.std.proofs.Common.{◌≡◌, ◌≢◌, ℕ, ◌+◌, ◌≤◌, ◌<◌, List, [], ◌∷◌, ◌++◌, length, drop, get_or, add-one, refl, ap, ◌∙◌, sym, subst, append_assoc, arith}
 use Rattle.std.proofs.Math.Seq.{drop-cons}
 use Rattle.std.proofs.Math.ListN.{drop_of_length-le}
-use Rattle.wkt_num.specs.Bytes.{Class, Nul, White, Mark, Run, class_of, AllWhite}
+use Rattle.wkt_num.specs.Bytes.{White, class_of, AllWhite}
 use Rattle.wkt_read.specs.Lexemes.{StartsOther}
-use Rattle.wkt_explain.specs.White.{is_white, IsPastWhite}
-
-white : (c : Class) → is_white c ≡ true → c ≡ White
-white White e = refl
-white Nul e = cc
-white (Mark l) e = cc
-white Run e = cc
-
-other : (c : Class) → is_white c ≡ false → c ≢ White
-other White e = cc
-other Nul e = λ z. cc
-other (Mark l) e = λ z. cc
-other Run e = λ z. cc
+use Rattle.wkt_explain.specs.White.{IsPastWhite}
 
 -- from one place to another there is white space alone
 pub record IsWhiteTo (text : List ℕ) (from to : ℕ) : Type 0 where
@@ -35,21 +23,21 @@ next_byte text at h = rw add-one (drop-cons text at 0 h)
 pub none_yet : (text : List ℕ) (from : ℕ) → from ≤ length text → IsWhiteTo text from from
 none_yet text from h = record { gap = []; within = h; split = refl; white = tt }
 
-pub one_more : (text : List ℕ) (from at : ℕ) → IsWhiteTo text from at → at < length text → is_white (class_of (get_or text at 0)) ≡ true → IsWhiteTo text from (at + 1)
+pub one_more : (text : List ℕ) (from at : ℕ) → IsWhiteTo text from at → at < length text → class_of (get_or text at 0) ≡ White → IsWhiteTo text from (at + 1)
 one_more text from at w h e = record {
   gap = w.gap ++ (get_or text at 0 ∷ []);
   within = omega (arith, h);
   split = w.split ∙ ap (λ l. w.gap ++ l) (next_byte text at h) ∙ sym (append_assoc w.gap (get_or text at 0 ∷ []) (drop (at + 1) text));
-  white = all_more w.gap (get_or text at 0) w.white (white (class_of (get_or text at 0)) e);
+  white = all_more w.gap (get_or text at 0) w.white e;
 }
 
-pub stops_at : (text : List ℕ) (from at : ℕ) → IsWhiteTo text from at → at < length text → is_white (class_of (get_or text at 0)) ≡ false → IsPastWhite text from at
+pub stops_at : (text : List ℕ) (from at : ℕ) → IsWhiteTo text from at → at < length text → class_of (get_or text at 0) ≢ White → IsPastWhite text from at
 stops_at text from at w h e = record {
   gap = w.gap;
   within = w.within;
   split = w.split;
   white = w.white;
-  stops = subst (StartsOther White) (sym (next_byte text at h)) (other (class_of (get_or text at 0)) e);
+  stops = subst (StartsOther White) (sym (next_byte text at h)) e;
 }
 
 pub stops_end : (text : List ℕ) (from at : ℕ) → IsWhiteTo text from at → length text ≤ at → IsPastWhite text from at

@@ -1,11 +1,10 @@
 //! Where a text is refused.
 ghost use Rattle.std.specs.Prelude.{◌≡◌, ◌≤◌, length, IfNone, IfSome, OnSome, IfOk, OnErr};
-ghost use Rattle.wkt_num.specs.Bytes.{class_of};
 ghost use Rattle.wkt_read.specs.Answered.{HasBadNumber};
 ghost use Rattle.wkt_read.specs.Front.{HasNoFront};
 ghost use Rattle.wkt_read.specs.Items.{bad_number};
 ghost use Rattle.wkt_explain.specs.Explained.{HasFront, IsRefusedAt, IsPart};
-ghost use Rattle.wkt_explain.specs.White.{IsPastWhite, is_white};
+ghost use Rattle.wkt_explain.specs.White.{IsPastWhite};
 
 use crate::expected::Expected;
 use crate::explanation::Explanation;
@@ -13,6 +12,7 @@ use crate::place::Walk;
 use crate::seen::look;
 use std::alloc::{AllocError, Global};
 use wkt_num::WktNum;
+use wkt_read::words::is_white;
 use wkt_read::{FromWktStr, ReadError, Tokens};
 use wkt_types::Wkt;
 
@@ -22,13 +22,6 @@ struct Found {
     start: usize,
     end: usize,
     expected: Expected,
-}
-
-#[tactic(auto, unfolding(wkt_num::specs::Bytes::class_of))]
-fn is_white(byte: u8) -> bool
-    ensures { result ≡ is_white (class_of byte) }
-{
-    matches!(byte, b' ' | b'\n' | b'\r' | b'\t')
 }
 
 // The first place from here on where no white space stands.

@@ -8,8 +8,6 @@ pub mod laws;
 mod place;
 mod seen;
 mod shape;
-#[cfg(test)]
-mod tests;
 mod walk;
 
 pub use api::explain;

@@ -5,7 +5,7 @@ ghost use Rattle.std.specs.Str.{IsAscii};
 ghost use Rattle.std.specs.Simd.Lanes.{chunk};
 ghost use Rattle.std.specs.Io.KnownBytes.{IsAtEnd};
 ghost use Rattle.wkt_num.specs.Sink.{next_count};
-ghost use Rattle.wkt_bytes.specs.Wrapper.{is_well, is_untold, held_bytes, wrapped_writer, Gathers, BreaksOff};
+ghost use Rattle.wkt_bytes.specs.Wrapper.{is_well, held_bytes, wrapped_writer, Gathers, BreaksOff};
 ghost use Rattle.wkt_lines.specs.Numbers.{read_line, print_line};
 ghost use Rattle.wkt_lines.specs.Output.{IsAllOut, IsFirstOut, IsSomeOut, IsLineOut, IsLinePartOut, OnRunRead, OnRunWrite, OnRunMemory};
 ghost use Rattle.wkt_lines.specs.Splitting.{before_feed, after_feed};
@@ -17,6 +17,7 @@ use std::{fmt, io};
 use thiserror::Error;
 use wkt::to_wkt::{ByteSink, ByteSource, ReadAllError, TextSink, WriterWrapper, read_all};
 use wkt::{Decimal, WktNum};
+use wkt_bytes::fault_of;
 
 /// Why a run ended before its input.
 #[derive(Debug, Drop, Error)]
@@ -229,16 +230,5 @@ fn end_line<W: ByteSink>(wrapper: &mut WriterWrapper<W>) -> fmt::Result
     match wrapper.write_str("\n") {
         Ok(()) => wrapper.finish(),
         Err(e) => Err(e),
-    }
-}
-
-/// The fault that a wrapper met.
-fn fault_of<W: ByteSink>(wrapper: &mut WriterWrapper<W>) -> io::Error
-    requires { is_untold wrapper.old ≡ true }
-    ensures { wrapped_writer wrapper.new ≡ wrapped_writer wrapper.old }
-{
-    match wrapper.take_fault() {
-        Some(e) => e,
-        None => unreachable!(),
     }
 }

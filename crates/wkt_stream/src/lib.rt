@@ -11,7 +11,5 @@
 
 mod block;
 mod streaming;
-#[cfg(test)]
-mod tests;
 
 pub use streaming::{stream, stream_over};

@@ -8,6 +8,8 @@ mod errors;
 #[cfg(test)]
 mod headers;
 #[cfg(test)]
+mod numbers;
+#[cfg(test)]
 mod reading;
 #[cfg(test)]
 mod reference;

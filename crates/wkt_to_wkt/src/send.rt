@@ -2,7 +2,7 @@
 ghost use Rattle.std.specs.Prelude.{◌≡◌, [], OnOk, None, Some, true};
 ghost use Rattle.wkt_num.specs.Sink.{next_count};
 ghost use Rattle.wkt_bytes.specs.Sinks.{IsOut, IsPartOut};
-ghost use Rattle.wkt_bytes.specs.Wrapper.{is_untold, is_well, held_bytes, wrapped_writer};
+ghost use Rattle.wkt_bytes.specs.Wrapper.{is_well, held_bytes, wrapped_writer};
 ghost use Rattle.wkt_access.specs.Shapes.{Shape};
 ghost use Rattle.wkt_access.specs.Faults.{fault};
 ghost use Rattle.wkt_access.specs.Lawful.{IsLawful};
@@ -13,7 +13,7 @@ ghost use Rattle.wkt_to_wkt.specs.Sent.{IsRefusal, OnIo, IfShape};
 use std::io;
 use thiserror::Error;
 use wkt_access::Error as WriteError;
-use wkt_bytes::{ByteSink, WriterWrapper};
+use wkt_bytes::{ByteSink, WriterWrapper, fault_of};
 use wkt_num::{TextSink, WktNum};
 
 /// Why a text didn't go out whole.
@@ -37,17 +37,6 @@ pub(crate) trait Written {
     /// Writes its text.
     fn write_text<W: TextSink>(&self, f: &mut W) -> Result<(), WriteError>
         ensures { Writes W.sink Self.T.is_value Self.T.num f.old (shape self.now) f.new result };
-}
-
-/// The fault that a wrapper met.
-fn fault_of<W: ByteSink>(wrapper: &mut WriterWrapper<W>) -> io::Error
-    requires { is_untold wrapper.old ≡ true }
-    ensures { wrapped_writer wrapper.new ≡ wrapped_writer wrapper.old }
-{
-    match wrapper.take_fault() {
-        Some(e) => e,
-        None => unreachable!(),
-    }
 }
 
 /// Writes a geometry through a wrapper that holds nothing.

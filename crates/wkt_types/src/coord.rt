@@ -1,7 +1,7 @@
 //! Coordinates.
 ghost use Rattle.std.specs.Prelude.{◌≡◌, IsTrue, ◌↔◌};
 
-use crate::copies::Part;
+use wkt_flat::copies::Part;
 use std::alloc::{AllocError, Global};
 use wkt_access::Dimension;
 use wkt_num::WktNum;

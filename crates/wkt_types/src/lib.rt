@@ -4,7 +4,6 @@
 mod access;
 mod convert;
 mod coord;
-mod copies;
 mod dimension;
 mod display;
 mod geometry;

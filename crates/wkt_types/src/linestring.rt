@@ -4,7 +4,7 @@ ghost use Rattle.std.specs.Iterator.{IsFinite};
 ghost use Rattle.std.specs.Iterator.Runs.{WholeRun};
 
 use crate::coord::Coord;
-use crate::copies::{Part, copies};
+use wkt_flat::copies::{Part, copies};
 use crate::dimension::and_same;
 use std::alloc::{AllocError, Global};
 use std::marker::Model;

@@ -3,7 +3,7 @@ ghost use Rattle.std.specs.Prelude.{◌≡◌, [], IsTrue, ◌↔◌, IfOk, Some
 ghost use Rattle.std.specs.Iterator.{IsFinite};
 ghost use Rattle.std.specs.Iterator.Runs.{WholeRun};
 
-use crate::copies::{Part, copies};
+use wkt_flat::copies::{Part, copies};
 use crate::dimension::and_same;
 use crate::linestring::LineString;
 use std::alloc::{AllocError, Global};

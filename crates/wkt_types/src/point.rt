@@ -2,7 +2,7 @@
 ghost use Rattle.std.specs.Prelude.{◌≡◌, IsTrue, ◌↔◌, MatchOption, Some, None};
 
 use crate::coord::Coord;
-use crate::copies::Part;
+use wkt_flat::copies::Part;
 use crate::dimension::and_same;
 use std::alloc::{AllocError, Global};
 use std::marker::Model;

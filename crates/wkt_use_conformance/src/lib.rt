@@ -9,11 +9,15 @@ mod doc_examples;
 #[cfg(test)]
 mod flat_sinks;
 #[cfg(test)]
+mod gathered;
+#[cfg(test)]
 mod handed_on;
 #[cfg(test)]
 mod own_to_wkt;
 #[cfg(test)]
 mod own_types;
+#[cfg(test)]
+mod pieces;
 #[cfg(test)]
 mod program_sinks;
 #[cfg(test)]

@@ -1,6 +1,6 @@
 //! What a byte does in a text.
-ghost use Rattle.std.specs.Prelude.{◌≡◌};
-ghost use Rattle.wkt_num.specs.Bytes.{class_of};
+ghost use Rattle.std.specs.Prelude.{◌↔◌, ◌≡◌, IsTrue};
+ghost use Rattle.wkt_num.specs.Bytes.{class_of, White};
 ghost use Rattle.wkt_read.specs.Lexemes.{starts_number};
 ghost use Rattle.wkt_read.specs.Tokenizer.Classes.{meant};
 
@@ -29,6 +29,13 @@ pub(crate) fn class_of(byte: u8) -> Class
         b',' => Class::Comma,
         _ => Class::Run,
     }
+}
+
+/// Whether the byte is white space, which may stand between lexemes.
+pub fn is_white(byte: u8) -> bool
+    ensures { IsTrue result ↔ (class_of byte ≡ White) }
+{
+    matches!(class_of(byte), Class::White)
 }
 
 /// Whether a run that begins with this byte is a number.

@@ -1,10 +1,10 @@
 //! Sources that give their bytes in pieces, and that fail between two.
-use crate::stream;
 use std::io;
 use std::io::ErrorKind;
 use std::test::Fail;
 use wkt::to_wkt::{ByteSource, Counted};
 use wkt_lines::RunError;
+use wkt_stream::stream;
 
 /// Gives one piece a call; an empty one is a fault.
 #[derive(Drop)]

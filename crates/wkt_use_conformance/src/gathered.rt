@@ -1,11 +1,10 @@
 //! How a wrapper gathers text: the calls that it makes on a sink that counts them.
 ghost use Rattle.std.specs.Prelude.{◌≡◌};
 
-use crate::{ByteSink, WriterWrapper};
 use std::io;
 use std::io::ErrorKind;
 use std::test::Fail;
-use wkt_num::TextSink;
+use wkt::to_wkt::{ByteSink, TextSink, WriterWrapper};
 
 /// Takes all that it is given, and notes how many bytes each call had.
 #[derive(Drop)]
