@@ -1,12 +1,14 @@
 //! Sinks and sources of bytes, and text to a sink of bytes.
 #![tactic(auto)]
 
+mod fault;
 mod gatherer;
 mod read;
 mod sinks;
 mod wrapper;
 
+pub use fault::fault_of;
 pub use gatherer::Gatherer;
 pub use read::{ReadAllError, read_all};
 pub use sinks::{ByteSink, ByteSource, Counted};
-pub use wrapper::{WriterWrapper, copy_piece, fault_of, put_all};
+pub use wrapper::{WriterWrapper, copy_piece, put_all};

@@ -2,7 +2,6 @@
 ghost use Rattle.std.specs.Prelude.{◌≡◌, ℕ, ◌≤◌, ◌<◌, ◌+◌, ◌*◌, [], ◌++◌, OnOk, OnErr, Ok, IsSome, ◌↔◌, length, take, true, false};
 ghost use Rattle.std.specs.Io.KnownBytes.{Appends};
 ghost use Rattle.wkt_num.specs.Sink.{next_count, Puts};
-ghost use Rattle.wkt_bytes.specs.Wrapper.{is_untold, wrapped_writer};
 
 use crate::sinks::ByteSink;
 use std::io::ErrorKind;
@@ -260,17 +259,6 @@ impl<W: ByteSink> WriterWrapper<W> {
                 _ => None,
             },
         }
-    }
-}
-
-/// The fault that a wrapper met, of which nobody was told yet.
-pub fn fault_of<W: ByteSink>(wrapper: &mut WriterWrapper<W>) -> io::Error
-    requires { is_untold wrapper.old ≡ true }
-    ensures { wrapped_writer wrapper.new ≡ wrapped_writer wrapper.old }
-{
-    match wrapper.take_fault() {
-        Some(e) => e,
-        None => unreachable!(),
     }
 }
 
