@@ -4,3 +4,5 @@ pub mod Members
 pub mod Collections
 pub mod Displays
 pub mod Weighing
+pub mod InPlace
+pub mod Canonicals

@@ -7,7 +7,9 @@ use Rattle.std.proofs.lemmas.Bool.Decides.{nat_tests}
 use Rattle.std.proofs.Math.Seq.{drop-cons}
 use Rattle.std.proofs.lemmas.List.{drop_all}
 use Rattle.wkt_types.specs.Trees.{tree_eq, trees_eq}
-use Rattle.wkt_types.specs.Tree.{trees_of, collected, tree_dim, collection, Tree, tree, members, collection_tree, no_trees, wkt_step, collection_step}
+use Rattle.wkt_types.specs.Tree.{trees_of, collected, tree_dim, collection, multi_line_string, Tree, tree, members, collection_tree, no_trees, wkt_step, collection_step}
+use Rattle.wkt_types.specs.Held.{Held}
+use Rattle.wkt_types.specs.declared.coord.Coord.{Coord}
 use Rattle.wkt_types.specs.declared.geometry.GeometryCollection.{GeometryCollection}
 use Rattle.wkt_types.specs.declared.geometry.Wkt.{Wkt}
 use Rattle.wkt_types.specs.declared.geometry.Wkt.TheViews as views
@@ -19,6 +21,11 @@ pub tree-collection : {T : Type 0} (c : GeometryCollection T) → tree (views.Ge
 tree-collection {T} c =
     ap tree (sym (variants.rolls-GeometryCollection c))
     ∙ folds.fold-roll-Wkt T (Tree T) (Tree T) wkt_step collection_step (opened.Wkt-F.GeometryCollection c)
+
+pub tree-multi_line_string : {T : Type 0} (l : Held (Held (Coord T))) → tree (variants.MultiLineString l) ≡ multi_line_string l
+tree-multi_line_string {T} l =
+    ap tree (sym (variants.rolls-MultiLineString l))
+    ∙ folds.fold-roll-Wkt T (Tree T) (Tree T) wkt_step collection_step (opened.Wkt-F.MultiLineString l)
 
 pub members_step : {T : Type 0} (E : T → T → Bool) (as' bs : List (Wkt T)) (i : ℕ) (x y : Wkt T) →
     i < length as' → x ≡ get_or as' i x → i < length bs → y ≡ get_or bs i y →

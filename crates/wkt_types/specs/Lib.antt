@@ -5,6 +5,7 @@ pub mod Equal
 pub mod Tree
 pub mod Trees
 pub mod Values
+pub mod Canonical
 pub mod Shown
 pub mod Outcome
 pub mod Flattened

@@ -1,6 +1,7 @@
 //! Coordinates.
 ghost use Rattle.std.specs.Prelude.{◌≡◌, IsTrue, ◌↔◌};
 
+use crate::canonical::{UnderHeader, fourth_number, third_number};
 use wkt_flat::copies::Part;
 use std::alloc::{AllocError, Global};
 use wkt_access::Dimension;
@@ -55,5 +56,22 @@ impl<T: WktNum> PartialEq for Coord<T> {
 impl<T: Copy + Drop> Part for Coord<T> {
     fn copy(&self, _alloc: Global) -> Result<Self, AllocError> {
         Ok(*self)
+    }
+}
+
+impl<T: Copy + Drop> UnderHeader for Coord<T> {
+    ghost use Rattle.wkt_types.specs.Canonical.{coord_under};
+
+    ghost under = { coord_under };
+
+    fn put_under(&mut self, dim: Dimension) {
+        let (z, m) = match dim {
+            Dimension::XY => (None, None),
+            Dimension::XYZ => (third_number(self), None),
+            Dimension::XYM => (None, third_number(self)),
+            Dimension::XYZM => (third_number(self), fourth_number(self)),
+        };
+        self.z = z;
+        self.m = m;
     }
 }

@@ -2,6 +2,7 @@
 #![tactic(auto)]
 
 mod access;
+mod canonical;
 mod convert;
 mod coord;
 mod dimension;
@@ -9,6 +10,7 @@ mod display;
 mod geometry;
 mod geometry_access;
 mod geometry_type;
+pub mod laws;
 mod letting_go;
 mod linestring;
 mod multilinestring;

@@ -3,6 +3,7 @@ ghost use Rattle.std.specs.Prelude.{◌≡◌, [], IsTrue, ◌↔◌, IfOk, Some
 ghost use Rattle.std.specs.Iterator.{IsFinite};
 ghost use Rattle.std.specs.Iterator.Runs.{WholeRun};
 
+use crate::canonical::{UnderHeader, put_each_under};
 use crate::coord::Coord;
 use wkt_flat::copies::{Part, copies};
 use crate::dimension::and_same;
@@ -137,5 +138,16 @@ impl<T: WktNum> PartialEq for LineString<T> {
     {
         let parts = self.coords.as_slice() == other.coords.as_slice();
         and_same(parts, self.dim, other.dim)
+    }
+}
+
+impl<T: Copy + Drop> UnderHeader for LineString<T> {
+    ghost use Rattle.wkt_types.specs.Canonical.{line_under};
+
+    ghost under = { line_under };
+
+    fn put_under(&mut self, dim: Dimension) {
+        put_each_under(&mut self.coords, dim);
+        self.dim = dim;
     }
 }

@@ -3,6 +3,7 @@ ghost use Rattle.std.specs.Prelude.{◌≡◌, [], IsTrue, ◌↔◌, IfOk, Some
 ghost use Rattle.std.specs.Iterator.{IsFinite};
 ghost use Rattle.std.specs.Iterator.Runs.{WholeRun};
 
+use crate::canonical::{UnderHeader, put_each_under};
 use wkt_flat::copies::{Part, copies};
 use crate::dimension::and_same;
 use crate::linestring::LineString;
@@ -136,5 +137,16 @@ impl<T: WktNum> PartialEq for MultiLineString<T> {
     {
         let parts = self.line_strings.as_slice() == other.line_strings.as_slice();
         and_same(parts, self.dim, other.dim)
+    }
+}
+
+impl<T: Copy + Drop> UnderHeader for MultiLineString<T> {
+    ghost use Rattle.wkt_types.specs.Canonical.{parts_under, line_under};
+
+    ghost under = { parts_under line_under };
+
+    fn put_under(&mut self, dim: Dimension) {
+        put_each_under(&mut self.line_strings, dim);
+        self.dim = dim;
     }
 }

@@ -3,6 +3,7 @@ ghost use Rattle.std.specs.Prelude.{◌≡◌, [], IsTrue, ◌↔◌, IfOk, Some
 ghost use Rattle.std.specs.Iterator.{IsFinite};
 ghost use Rattle.std.specs.Iterator.Runs.{WholeRun};
 
+use crate::canonical::{UnderHeader, put_each_under};
 use wkt_flat::copies::{Part, copies};
 use crate::dimension::and_same;
 use crate::point::Point;
@@ -136,5 +137,16 @@ impl<T: WktNum> PartialEq for MultiPoint<T> {
     {
         let parts = self.points.as_slice() == other.points.as_slice();
         and_same(parts, self.dim, other.dim)
+    }
+}
+
+impl<T: Copy + Drop> UnderHeader for MultiPoint<T> {
+    ghost use Rattle.wkt_types.specs.Canonical.{parts_under, point_under};
+
+    ghost under = { parts_under point_under };
+
+    fn put_under(&mut self, dim: Dimension) {
+        put_each_under(&mut self.points, dim);
+        self.dim = dim;
     }
 }

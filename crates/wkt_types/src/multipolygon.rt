@@ -3,6 +3,7 @@ ghost use Rattle.std.specs.Prelude.{◌≡◌, [], IsTrue, ◌↔◌, IfOk, Some
 ghost use Rattle.std.specs.Iterator.{IsFinite};
 ghost use Rattle.std.specs.Iterator.Runs.{WholeRun};
 
+use crate::canonical::{UnderHeader, put_each_under};
 use wkt_flat::copies::{Part, copies};
 use crate::dimension::and_same;
 use crate::polygon::Polygon;
@@ -136,5 +137,16 @@ impl<T: WktNum> PartialEq for MultiPolygon<T> {
     {
         let parts = self.polygons.as_slice() == other.polygons.as_slice();
         and_same(parts, self.dim, other.dim)
+    }
+}
+
+impl<T: Copy + Drop> UnderHeader for MultiPolygon<T> {
+    ghost use Rattle.wkt_types.specs.Canonical.{parts_under, polygon_under};
+
+    ghost under = { parts_under polygon_under };
+
+    fn put_under(&mut self, dim: Dimension) {
+        put_each_under(&mut self.polygons, dim);
+        self.dim = dim;
     }
 }

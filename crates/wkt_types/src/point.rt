@@ -1,6 +1,7 @@
 //! Points.
 ghost use Rattle.std.specs.Prelude.{◌≡◌, IsTrue, ◌↔◌, MatchOption, Some, None};
 
+use crate::canonical::UnderHeader;
 use crate::coord::Coord;
 use wkt_flat::copies::Part;
 use crate::dimension::and_same;
@@ -115,5 +116,19 @@ impl<T: WktNum> PartialEq for Point<T> {
 impl<T: Copy + Drop> Part for Point<T> {
     fn copy(&self, _alloc: Global) -> Result<Self, AllocError> {
         Ok(*self)
+    }
+}
+
+impl<T: Copy + Drop> UnderHeader for Point<T> {
+    ghost use Rattle.wkt_types.specs.Canonical.{point_under};
+
+    ghost under = { point_under };
+
+    fn put_under(&mut self, dim: Dimension) {
+        if let Some(mut coord) = self.coord {
+            coord.put_under(dim);
+            self.coord = Some(coord);
+        }
+        self.dim = dim;
     }
 }

@@ -3,6 +3,7 @@ ghost use Rattle.std.specs.Prelude.{◌≡◌, [], IsTrue, ◌↔◌, IfOk, Some
 ghost use Rattle.std.specs.Iterator.{IsFinite};
 ghost use Rattle.std.specs.Iterator.Runs.{WholeRun};
 
+use crate::canonical::{UnderHeader, put_each_under};
 use wkt_flat::copies::{Part, copies};
 use crate::dimension::and_same;
 use crate::linestring::LineString;
@@ -136,5 +137,23 @@ impl<T: WktNum> PartialEq for Polygon<T> {
     {
         let parts = self.rings.as_slice() == other.rings.as_slice();
         and_same(parts, self.dim, other.dim)
+    }
+}
+
+impl<T: Copy + Drop> UnderHeader for Polygon<T> {
+    ghost use Rattle.wkt_types.specs.Canonical.{polygon_under};
+
+    ghost under = { polygon_under };
+
+    fn put_under(&mut self, dim: Dimension) {
+        let written = match self.rings.first() {
+            Some(exterior) => !exterior.coords().is_empty(),
+            None => false,
+        };
+        if !written {
+            self.rings.clear();
+        }
+        put_each_under(&mut self.rings, dim);
+        self.dim = dim;
     }
 }

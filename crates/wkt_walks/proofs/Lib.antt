@@ -1,3 +1,4 @@
 pub mod Visiting
 pub mod Counting
 pub mod Bounding
+pub mod Mapping
