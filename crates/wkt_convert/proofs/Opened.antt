@@ -113,11 +113,12 @@ module _ {T : Type 0} (E : flat_coord.Coord T → flat_coord.Coord T → Bool) w
       ∙ ap (finish xs) (sym (ap (going (map flat_tree x.done.items)) split ∙ going-open (map flat_tree x.done.items) w x.rest.now inner d holds))))
 
   -- the innermost collection is closed: it is one flat value more of the one around it
-  pub closes : (xs xs' : List (Open T)) (x : Open T) (done news : List (Geometry T)) (rest : List (Wkt T)) →
-      xs' ≡ xs ++ x ∷ [] → length rest < 1 → map flat_tree news ≡ map flat_tree x.done.items ++ Flat.collection (flat_members done) ∷ [] →
+  pub closes : (xs xs' : List (Open T)) (x : Open T) (done news : List (Geometry T)) (g : Geometry T) (rest : List (Wkt T)) →
+      xs' ≡ xs ++ x ∷ [] → length rest < 1 → flat_tree g ≡ Flat.collection (flat_members done) → news ≡ x.done.items ++ g ∷ [] →
       finish xs (going (map flat_tree news) x.rest.now) ≡ finish xs' (going (map flat_tree done) rest)
-  closes xs xs' x done news rest popped none new =
-      ap (λ ds. finish xs (going ds x.rest.now)) new
+  closes xs xs' x done news g rest popped none one new =
+      ap (λ ds. finish xs (going ds x.rest.now))
+      (ap (map flat_tree) new ∙ (map-append flat_tree x.done.items (g ∷ []) ∙ ap (λ t. map flat_tree x.done.items ++ t ∷ []) one))
       ∙ sym (ap (λ l. finish l (going (map flat_tree done) rest)) popped
       ∙ (finish-last xs x (going (map flat_tree done) rest)
       ∙ ap (λ o. finish xs (enclosed (map flat_tree x.done.items) x.rest.now o)) (ap (going (map flat_tree done)) (none-left rest none) ∙ going-none (map flat_tree done))))

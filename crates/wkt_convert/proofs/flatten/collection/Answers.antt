@@ -1,13 +1,14 @@
-use Rattle.std.proofs.Common.{◌≡◌, ◌+◌, ◌-◌, ◌*◌, ◌++◌, ◌∷◌, [], ap, sym, ◌∙◌, length, take, drop, map, arith}
-use Rattle.std.proofs.lemmas.List.{map-append}
+use Rattle.std.proofs.Common.{◌≡◌, ◌+◌, ◌-◌, ◌*◌, ap, sym, ◌∙◌, length, take, drop, map, arith}
 use Rattle.std.proofs.lemmas.Result.{err_from_is_err_and}
+use Rattle.wkt_types.specs.Tree.{tree}
 use Rattle.wkt_types.specs.Weight.{tree_weight, weight, weights}
 use Rattle.wkt_types.specs.Outcome.{value}
 use Rattle.wkt_types.proofs.Weighing.{at_least_one}
 use Rattle.wkt_flat.specs.Equal.{coord_eq}
 use Rattle.wkt_flat.specs.Tree.{Flat, flats_of, flat_tree, flat_trees}
 use Rattle.wkt_flat.proofs.TreeLemmas.{flat-collection}
-use Rattle.wkt_convert.specs.Outcomes.{outcome_map}
+use Rattle.wkt_convert.specs.Flatten.{flat}
+use Rattle.wkt_convert.specs.Outcomes.{outcome_map, outcomes}
 use Rattle.wkt_convert.proofs.Members.{flatten_members}
 use Rattle.wkt_convert.proofs.Outcomes.{passes_on}
 use Rattle.wkt_convert.proofs.Opened.{pending, pending-last, first-of, going, going-start, finish, goes-on, opens, closes, ends, refuses}
@@ -25,9 +26,9 @@ returns-in_default-pop g c =
     let E = coord_eq g.T.PartialEq.eq in
     let at = c.loop-rest in
     let closed : length at.opened.items ≡ 0 = omega (arith, c.in_default-pop.ensures.cases, at.opened.ok.0) in
-    flatten_members E c.args.ws.now
-    ∙ (ap (outcome_map flats_of) (sym at.invariant ∙ ends E at.opened.items at.done.items at.rest.now closed c.in_default.len_below)
-    ∙ ap value (sym c.new_from-closed.ensures))
+    let all : outcomes (λ w. flat E (tree w)) c.args.ws.now ≡ value (map flat_tree at.done.items) =
+    sym at.invariant ∙ ends E at.opened.items at.done.items at.rest.now closed c.in_default.len_below in
+    flatten_members E c.args.ws.now ∙ (ap (outcome_map flats_of) all ∙ ap value (sym c.new_from-closed.ensures))
 
 pub loop-rest-smaller-then-rest-lt1 : goal.loop-rest-smaller-then-rest-lt1
 loop-rest-smaller-then-rest-lt1 g c =
@@ -39,11 +40,8 @@ pub loop-rest-preserved-then-rest-lt1 : goal.loop-rest-preserved-then-rest-lt1
 loop-rest-preserved-then-rest-lt1 g c =
     let E = coord_eq g.T.PartialEq.eq in
     let at = c.loop-rest in
-    let outer = c.in-Some.outer in
-    closes E c.pop.new.self.items at.opened.items outer at.done.items c.push.new.all.items at.rest.now c.in-Some.ensures.items c.in_default.len_below
-    (ap (map flat_tree) c.in_ok-push.ensures
-    ∙ (map-append flat_tree outer.done.items _
-    ∙ ap (λ t. map flat_tree outer.done.items ++ t ∷ []) (flat-collection c.new_from-closed.result ∙ ap Flat.collection c.new_from-closed.ensures)))
+    closes E c.pop.new.self.items at.opened.items c.in-Some.outer at.done.items c.push.new.all.items _ at.rest.now
+    c.in-Some.ensures.items c.in_default.len_below (flat-collection c.new_from-closed.result ∙ ap Flat.collection c.new_from-closed.ensures) c.in_ok-push.ensures
     ∙ at.invariant
 
 pub returns-in_err-g : goal.returns-in_err-g
