@@ -1,5 +1,4 @@
 pub mod Outcomes
-pub mod Adding
 pub mod Members
-pub mod Depth
+pub mod Opened
 pub mod FlatKinds

@@ -5,21 +5,6 @@ use Rattle.wkt_convert.specs.Outcomes.{outcome_map, outcome_both, outcomes}
 use Rattle.wkt_types.specs.declared.convert.ConvertError.{ConvertError}
 use Rattle.wkt_types.specs.declared.convert.ConvertError.TheVariants.{PointConversionError, MismatchedGeometry, WrongNumberOfGeometries, InvalidWKT, Reader, Utf8}
 use Rattle.wkt_types.specs.declared.convert.ConvertError.TheVariants as convert
-use Rattle.wkt_convert.specs.declared.flatten.Stop.{Stop}
-use Rattle.wkt_convert.specs.declared.flatten.Stop.TheVariants.{EmptyPoint, Memory}
-use Rattle.wkt_convert.specs.Adds.{StopsAs, error_of}
-
--- a stop at one outcome is one at another that has the same faults
-pub passes : {X Y R Q : Type 0} (see : R → X) (see' : Q → Y) (o : Outcome X) (o' : Outcome Y) → ((k : Fault) → o ≡ refused k → o' ≡ refused k) →
-    (s : Stop) → StopsAs see o (Err s) → StopsAs see' o' (Err s)
-passes see see' o o' f EmptyPoint h = f _ h
-passes see see' o o' f Memory h = tt
-
--- and so is the error that tells it
-pub tells : {X Y R Q : Type 0} (see : R → X) (see' : Q → Y) (o : Outcome X) (o' : Outcome Y) → ((k : Fault) → o ≡ refused k → o' ≡ refused k) →
-    (s : Stop) → StopsAs see o (Err s) → Answers see' o' (Err (error_of s))
-tells see see' o o' f EmptyPoint h = f _ h
-tells see see' o o' f Memory h = tt
 
 -- a refusal of one outcome is one of another that has the same faults
 pub passes_on : {X Y R Q : Type 0} (see : R → X) (see' : Q → Y) (o : Outcome X) (o' : Outcome Y) → ((k : Fault) → o ≡ refused k → o' ≡ refused k) →

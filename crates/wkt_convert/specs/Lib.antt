@@ -1,4 +1,4 @@
 pub mod Outcomes
 pub mod Flatten
 pub mod Kinds
-pub mod Adds
+pub mod Pieces

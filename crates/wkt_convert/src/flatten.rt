@@ -1,11 +1,10 @@
 //! Flat values of what a `Wkt` holds.
-ghost use Rattle.std.specs.Prelude.{◌≡◌, IfOk, MatchResult, Err, map};
+ghost use Rattle.std.specs.Prelude.{◌≡◌, ◌++◌, ◌∷◌, [], IfOk, OnOk, map};
 ghost use Rattle.wkt_types.specs.Tree.{tree, members};
-ghost use Rattle.wkt_flat.specs.Tree.{Flat, flat_tree, flat_trees, flat_members};
+ghost use Rattle.wkt_flat.specs.Tree.{flat_tree, flat_trees};
 ghost use Rattle.wkt_flat.specs.Equal.{coord_eq};
-ghost use Rattle.wkt_types.specs.Outcome.{Answers, value};
-ghost use Rattle.wkt_convert.specs.Adds.{StopsAs, AddsFlat, AddsFlats};
-ghost use Rattle.wkt_convert.specs.Outcomes.{outcome_map, outcomes};
+ghost use Rattle.wkt_types.specs.Outcome.{Answers};
+ghost use Rattle.wkt_convert.specs.Pieces.{IsPiece};
 ghost use Rattle.wkt_convert.specs.Flatten.{path, rings, points, point_or_none, flat, flat_all};
 
 use std::alloc::{AllocError, Global};
@@ -16,34 +15,12 @@ use wkt_types::{
     ConvertError, LineString, MultiLineString, MultiPoint, MultiPolygon, Point, Polygon, Wkt,
 };
 
-/// Why the recursion stops, in a byte: each level of collections holds some of these.
-#[derive(Drop)]
-pub(crate) enum Stop {
-    EmptyPoint,
-    Memory,
-}
-
-impl From<AllocError> for Stop {
-    ghost use Rattle.wkt_convert.specs.declared.flatten.Stop.TheVariants.{Memory};
-
-    ghost from_gives = { λ _ result. result ≡ Memory };
-
-    fn from(_: AllocError) -> Stop {
-        Stop::Memory
-    }
-}
-
-impl From<Stop> for ConvertError {
-    ghost use Rattle.wkt_convert.specs.Adds.{error_of};
-
-    ghost from_gives = { λ stop result. result ≡ error_of stop };
-
-    fn from(stop: Stop) -> ConvertError {
-        match stop {
-            Stop::EmptyPoint => ConvertError::PointConversionError,
-            Stop::Memory => ConvertError::Memory(AllocError),
-        }
-    }
+/// Adds one more to a list.
+fn push<X: Drop>(x: X, all: &mut Vec<X>) -> Result<(), AllocError>
+    ensures { OnOk result (all.new.items ≡ all.old.items ++ x ∷ []) }
+{
+    all.push(x)?;
+    Ok(())
 }
 
 /// The path of a line.
@@ -110,25 +87,21 @@ pub(crate) fn polygons<T: WktNum>(
 pub(crate) fn all_points<T: WktNum>(
     alloc: Global,
     ps: &[Point<T>],
-) -> Result<flat::MultiPoint<T>, Stop>
-    ensures { StopsAs (λ m. m) (points ps.now) result }
+) -> Result<flat::MultiPoint<T>, ConvertError>
+    ensures { Answers (λ m. m) (points ps.now) result }
 {
     let mut all = Vec::with_capacity(alloc, ps.len())?;
     for p in ps {
         match p.coord() {
-            None => return Err(Stop::EmptyPoint),
-            Some(c) => {
-                if let Err(_) = all.push(flat::Point(flat::Coord::from(*c))) {
-                    return Err(Stop::Memory);
-                }
-            }
+            None => return Err(ConvertError::PointConversionError),
+            Some(c) => push(flat::Point(flat::Coord::from(*c)), &mut all)?,
         }
     }
     Ok(flat::MultiPoint(all))
 }
 
 /// A point, or an empty multipoint for an empty one.
-pub(crate) fn point<T: WktNum>(alloc: Global, p: &Point<T>) -> Geometry<T>
+fn point<T: WktNum>(alloc: Global, p: &Point<T>) -> Geometry<T>
     ensures { flat_tree result ≡ point_or_none p.now.coord }
 {
     match p.coord() {
@@ -137,167 +110,52 @@ pub(crate) fn point<T: WktNum>(alloc: Global, p: &Point<T>) -> Geometry<T>
     }
 }
 
-/// Adds a flat geometry to others.
-fn push<T: Drop>(g: Geometry<T>, all: &mut Vec<Geometry<T>>) -> Result<(), Stop>
-    ensures { AddsFlat result all.old.items all.new.items (value (flat_tree g)) }
-{
-    match all.push(g) {
-        Ok(()) => Ok(()),
-        Err(_) => Err(Stop::Memory),
-    }
+/// A flat geometry, or what a collection holds.
+#[derive(Drop)]
+enum Piece<'a, T> {
+    Whole(Geometry<T>),
+    Members(&'a [Wkt<T>]),
 }
 
-#[inline(never)]
-fn push_point<T: WktNum>(
-    alloc: Global,
-    p: &Point<T>,
-    all: &mut Vec<Geometry<T>>,
-) -> Result<(), Stop>
-    ensures { AddsFlat result all.old.items all.new.items (value (point_or_none p.now.coord)) }
-{
-    push(point(alloc, p), all)
-}
-
-#[inline(never)]
-fn push_line_string<T: WktNum>(
-    alloc: Global,
-    l: &LineString<T>,
-    all: &mut Vec<Geometry<T>>,
-) -> Result<(), Stop>
-    ensures { AddsFlat result all.old.items all.new.items (value (Flat.line_string (path l.now))) }
-{
-    push(Geometry::LineString(line_string(alloc, l)?), all)
-}
-
-#[inline(never)]
-fn push_polygon<T: WktNum>(
-    alloc: Global,
-    y: &Polygon<T>,
-    all: &mut Vec<Geometry<T>>,
-) -> Result<(), Stop>
-    ensures { AddsFlat result all.old.items all.new.items (value (Flat.polygon (rings (coord_eq T.eq) y.now))) }
-{
-    push(Geometry::Polygon(polygon(alloc, y)?), all)
-}
-
-#[inline(never)]
-fn push_multi_point<T: WktNum>(
-    alloc: Global,
-    m: &MultiPoint<T>,
-    all: &mut Vec<Geometry<T>>,
-) -> Result<(), Stop>
-    ensures { AddsFlat result all.old.items all.new.items (outcome_map Flat.multi_point (points m.now.parts)) }
-{
-    push(Geometry::MultiPoint(all_points(alloc, m.points())?), all)
-}
-
-#[inline(never)]
-fn push_multi_line_string<T: WktNum>(
-    alloc: Global,
-    m: &MultiLineString<T>,
-    all: &mut Vec<Geometry<T>>,
-) -> Result<(), Stop>
-    ensures { AddsFlat result all.old.items all.new.items (value (Flat.multi_line_string (map path m.now.parts))) }
-{
-    let lines = line_strings(alloc, m.line_strings())?;
-    push(Geometry::MultiLineString(flat::MultiLineString(lines)), all)
-}
-
-#[inline(never)]
-fn push_multi_polygon<T: WktNum>(
-    alloc: Global,
-    m: &MultiPolygon<T>,
-    all: &mut Vec<Geometry<T>>,
-) -> Result<(), Stop>
-    ensures { AddsFlat result all.old.items all.new.items
-        (value (Flat.multi_polygon (map (rings (coord_eq T.eq)) m.now.parts))) }
-{
-    let polygons = polygons(alloc, m.polygons())?;
-    push(Geometry::MultiPolygon(flat::MultiPolygon(polygons)), all)
-}
-
-// The collection of those members, if they are filled. It alone lets them go where they aren't,
-// since that takes stack.
-#[inline(never)]
-fn push_collection<T: Drop>(
-    filled: Result<(), Stop>,
-    members: Vec<Geometry<T>>,
-    all: &mut Vec<Geometry<T>>,
-) -> Result<(), Stop>
-    ensures { MatchResult filled
-        (λ _. AddsFlat result all.old.items all.new.items (value (Flat.collection (flat_members members.items))))
-        (λ e. result ≡ Err e) }
-{
-    match filled {
-        Ok(()) => {
-            let collection = flat::GeometryCollection::new_from(members);
-            push(Geometry::GeometryCollection(collection), all)
-        }
-        Err(e) => Err(e),
-    }
-}
-
-// Adds the flat geometry to others. It takes little stack, since it goes as deep as collections do.
-#[cycle(flatten)]
-fn push_geometry<T: WktNum>(
-    alloc: Global,
-    w: &Wkt<T>,
-    all: &mut Vec<Geometry<T>>,
-) -> Result<(), Stop>
-    ensures { AddsFlat result all.old.items all.new.items (flat (coord_eq T.eq) (tree w.now)) }
+/// The flat geometry. A collection is opened, and no more.
+fn piece_of<'a, T: WktNum>(alloc: Global, w: &'a Wkt<T>) -> Result<Piece<'a, T>, ConvertError>
+    ensures { IsPiece (coord_eq T.eq) (tree w.now) result }
 {
     match w {
-        Wkt::Point(p) => push_point(alloc, p, all),
-        Wkt::LineString(l) => push_line_string(alloc, l, all),
-        Wkt::Polygon(y) => push_polygon(alloc, y, all),
-        Wkt::MultiPoint(m) => push_multi_point(alloc, m, all),
-        Wkt::MultiLineString(m) => push_multi_line_string(alloc, m, all),
-        Wkt::MultiPolygon(m) => push_multi_polygon(alloc, m, all),
-        Wkt::GeometryCollection(c) => {
-            let ws = c.geometries();
-            let mut members = Vec::with_capacity(alloc, ws.len())?;
-            let filled = push_geometries(alloc, ws, &mut members);
-            push_collection(filled, members, all)
+        Wkt::Point(p) => Ok(Piece::Whole(point(alloc, p))),
+        Wkt::LineString(l) => Ok(Piece::Whole(Geometry::LineString(line_string(alloc, l)?))),
+        Wkt::Polygon(y) => Ok(Piece::Whole(Geometry::Polygon(polygon(alloc, y)?))),
+        Wkt::MultiPoint(m) => {
+            let points = all_points(alloc, m.points())?;
+            Ok(Piece::Whole(Geometry::MultiPoint(points)))
         }
+        Wkt::MultiLineString(m) => {
+            let lines = flat::MultiLineString(line_strings(alloc, m.line_strings())?);
+            Ok(Piece::Whole(Geometry::MultiLineString(lines)))
+        }
+        Wkt::MultiPolygon(m) => {
+            let polygons = flat::MultiPolygon(polygons(alloc, m.polygons())?);
+            Ok(Piece::Whole(Geometry::MultiPolygon(polygons)))
+        }
+        Wkt::GeometryCollection(c) => Ok(Piece::Members(c.geometries())),
     }
-}
-
-#[cycle(flatten)]
-fn push_geometries<T: WktNum>(
-    alloc: Global,
-    ws: &[Wkt<T>],
-    all: &mut Vec<Geometry<T>>,
-) -> Result<(), Stop>
-    ensures { AddsFlats result all.old.items all.new.items (outcomes (λ w. flat (coord_eq T.eq) (tree w)) ws.now) }
-{
-    for w in ws {
-        push_geometry(alloc, w, all)?;
-    }
-    Ok(())
 }
 
 /// The flat geometry.
 pub(crate) fn geometry<T: WktNum>(alloc: Global, w: &Wkt<T>) -> Result<Geometry<T>, ConvertError>
     ensures { Answers flat_tree (flat (coord_eq T.eq) (tree w.now)) result }
 {
-    match w {
-        Wkt::Point(p) => Ok(point(alloc, p)),
-        Wkt::LineString(l) => Ok(Geometry::LineString(line_string(alloc, l)?)),
-        Wkt::Polygon(y) => Ok(Geometry::Polygon(polygon(alloc, y)?)),
-        Wkt::MultiPoint(m) => Ok(Geometry::MultiPoint(all_points(alloc, m.points())?)),
-        Wkt::MultiLineString(m) => Ok(Geometry::MultiLineString(flat::MultiLineString(line_strings(
-            alloc,
-            m.line_strings(),
-        )?))),
-        Wkt::MultiPolygon(m) => Ok(Geometry::MultiPolygon(flat::MultiPolygon(polygons(
-            alloc,
-            m.polygons(),
-        )?))),
-        Wkt::GeometryCollection(c) => Ok(Geometry::GeometryCollection(collection(
-            alloc,
-            c.geometries(),
-        )?)),
+    match piece_of(alloc, w)? {
+        Piece::Whole(g) => Ok(g),
+        Piece::Members(ws) => Ok(Geometry::GeometryCollection(collection(alloc, ws)?)),
     }
+}
+
+/// A collection that is open: its members that are left, and the flat ones of those before them.
+#[derive(Drop)]
+struct Open<'a, T> {
+    rest: &'a [Wkt<T>],
+    done: Vec<Geometry<T>>,
 }
 
 /// The flat collection of those members.
@@ -307,7 +165,31 @@ pub(crate) fn collection<T: WktNum>(
 ) -> Result<flat::GeometryCollection<T>, ConvertError>
     ensures { Answers flat_trees (flat_all (coord_eq T.eq) (members ws.now)) result }
 {
-    let mut all = Vec::with_capacity(alloc, ws.len())?;
-    push_geometries(alloc, ws, &mut all)?;
-    Ok(flat::GeometryCollection::new_from(all))
+    // The collections that are open around this one, so that nesting takes no stack.
+    let mut opened = Vec::new(alloc);
+    let mut rest = ws;
+    let mut done = Vec::with_capacity(alloc, ws.len())?;
+    loop {
+        if let [next, others @ ..] = rest {
+            match piece_of(alloc, next)? {
+                Piece::Whole(g) => {
+                    push(g, &mut done)?;
+                    rest = others;
+                }
+                Piece::Members(inner) => {
+                    push(Open { rest: others, done }, &mut opened)?;
+                    rest = inner;
+                    done = Vec::with_capacity(alloc, inner.len())?;
+                }
+            }
+        } else {
+            let closed = flat::GeometryCollection::new_from(done);
+            let Some(outer) = opened.pop() else {
+                return Ok(closed);
+            };
+            rest = outer.rest;
+            done = outer.done;
+            push(Geometry::GeometryCollection(closed), &mut done)?;
+        }
+    }
 }

@@ -1,6 +1,5 @@
-pub mod Adding
 pub mod Members
-pub mod FlatDepth
+pub mod Opened
 pub mod Backs
 pub mod Plain
 pub mod Sends

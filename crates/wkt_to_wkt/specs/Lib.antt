@@ -1,4 +1,4 @@
 pub mod Back
 pub mod Sent
 pub mod Laws
-pub mod Adds
+pub mod Pieces

@@ -1,11 +1,8 @@
 //! The `Wkt` of flat values.
-ghost use Rattle.std.specs.Prelude.{◌≡◌, ◌++◌, ◌∷◌, [], IfOk, OnOk, map};
-ghost use Rattle.std.specs.Result.{IsOk};
-ghost use Rattle.wkt_access.specs.declared.dimensions.Dimension.TheVariants.{XY};
+ghost use Rattle.std.specs.Prelude.{◌≡◌, ◌++◌, ◌∷◌, [], IfOk, map};
 ghost use Rattle.wkt_types.specs.Tree as trees;
 ghost use Rattle.wkt_flat.specs.Tree.{Flat, flat_tree, flat_members};
-ghost use Rattle.wkt_flat.specs.Rings.{one_ring, corner_ring, triangle_ring};
-ghost use Rattle.wkt_to_wkt.specs.Adds.{AddsTree, AddsTrees};
+ghost use Rattle.wkt_to_wkt.specs.Pieces.{IsPiece};
 ghost use Rattle.wkt_to_wkt.specs.Back.{flat_xy, point_back, line_string_back, polygon_back, back, all_back};
 
 use std::alloc::{AllocError, Global};
@@ -143,194 +140,62 @@ fn multi_polygon<T: Copy + Drop>(
     Ok(Wkt::MultiPolygon(MultiPolygon::new(polygons, Dimension::XY)))
 }
 
-// Each of these adds the `Wkt` of one geometry to others, and is never a part of its caller: the
-// recursion below takes less stack so.
-#[inline(never)]
-fn push_point<T: Copy + Drop>(p: &flat::Point<T>, all: &mut Vec<Wkt<T>>) -> Result<(), AllocError>
-    ensures { AddsTree result all.old.items all.new.items (back (Flat.point p.now)) }
-{
-    all.push(Wkt::Point(point(*p)))?;
-    Ok(())
+/// A `Wkt`, or what a flat collection holds.
+#[derive(Drop)]
+enum Piece<'a, T> {
+    Whole(Wkt<T>),
+    Members(&'a [Geometry<T>]),
 }
 
-#[inline(never)]
-fn push_two<T: Copy + Drop>(
-    alloc: Global,
-    l: &flat::Line<T>,
-    all: &mut Vec<Wkt<T>>,
-) -> Result<(), AllocError>
-    ensures { AddsTree result all.old.items all.new.items (back (Flat.line l.now)) }
-{
-    all.push(Wkt::LineString(two(alloc, l)?))?;
-    Ok(())
-}
-
-#[inline(never)]
-fn push_line_string<T: Copy + Drop>(
-    alloc: Global,
-    cs: &[flat::Coord<T>],
-    all: &mut Vec<Wkt<T>>,
-) -> Result<(), AllocError>
-    ensures { AddsTree result all.old.items all.new.items (back (Flat.line_string cs.now)) }
-{
-    all.push(Wkt::LineString(line_string(alloc, cs)?))?;
-    Ok(())
-}
-
-#[inline(never)]
-fn push_polygon<T: Copy + Drop>(
-    alloc: Global,
-    y: &flat::Polygon<T>,
-    all: &mut Vec<Wkt<T>>,
-) -> Result<(), AllocError>
-    ensures { AddsTree result all.old.items all.new.items (back (Flat.polygon y.now)) }
-{
-    all.push(Wkt::Polygon(polygon(alloc, y)?))?;
-    Ok(())
-}
-
-#[inline(never)]
-fn push_multi_point<T: Copy + Drop>(
-    alloc: Global,
-    ps: &[flat::Point<T>],
-    all: &mut Vec<Wkt<T>>,
-) -> Result<(), AllocError>
-    ensures { AddsTree result all.old.items all.new.items (back (Flat.multi_point ps.now)) }
-{
-    let points = points(alloc, ps)?;
-    all.push(Wkt::MultiPoint(MultiPoint::new(points, Dimension::XY)))?;
-    Ok(())
-}
-
-#[inline(never)]
-fn push_multi_line_string<T: Copy + Drop>(
-    alloc: Global,
-    ls: &[flat::LineString<T>],
-    all: &mut Vec<Wkt<T>>,
-) -> Result<(), AllocError>
-    ensures { AddsTree result all.old.items all.new.items (back (Flat.multi_line_string ls.now)) }
-{
-    all.push(multi_line_string(alloc, ls)?)?;
-    Ok(())
-}
-
-#[inline(never)]
-fn push_multi_polygon<T: Copy + Drop>(
-    alloc: Global,
-    ys: &[flat::Polygon<T>],
-    all: &mut Vec<Wkt<T>>,
-) -> Result<(), AllocError>
-    ensures { AddsTree result all.old.items all.new.items (back (Flat.multi_polygon ys.now)) }
-{
-    all.push(multi_polygon(alloc, ys)?)?;
-    Ok(())
-}
-
-#[inline(never)]
-fn push_rect<T: WktNum>(
-    alloc: Global,
-    r: &flat::Rect<T>,
-    all: &mut Vec<Wkt<T>>,
-) -> Result<(), AllocError>
-    ensures { AddsTree result all.old.items all.new.items
-        (trees.polygon (polygon_back (one_ring (corner_ring r.now)))) }
-{
-    push_polygon(alloc, &r.to_polygon(alloc)?, all)
-}
-
-#[inline(never)]
-fn push_triangle<T: WktNum>(
-    alloc: Global,
-    t: &flat::Triangle<T>,
-    all: &mut Vec<Wkt<T>>,
-) -> Result<(), AllocError>
-    ensures { AddsTree result all.old.items all.new.items
-        (trees.polygon (polygon_back (one_ring (triangle_ring t.now)))) }
-{
-    push_polygon(alloc, &t.to_polygon(alloc)?, all)
-}
-
-// The collection of those members, if they are filled. It alone lets them go where they aren't,
-// since that takes stack.
-#[inline(never)]
-fn push_collection<T: Copy + Drop>(
-    filled: Result<(), AllocError>,
-    members: Vec<Wkt<T>>,
-    all: &mut Vec<Wkt<T>>,
-) -> Result<(), AllocError>
-    ensures filled { OnOk result (IsOk filled) }
-    ensures pushed { AddsTree result all.old.items all.new.items (trees.collection (trees.members members.items) XY) }
-{
-    filled?;
-    let collection = GeometryCollection::new(members, Dimension::XY);
-    all.push(Wkt::GeometryCollection(collection))?;
-    Ok(())
-}
-
-// Adds the `Wkt` of a geometry to others.
-#[cycle(back)]
-fn push_geometry<T: WktNum>(
-    alloc: Global,
-    g: &Geometry<T>,
-    all: &mut Vec<Wkt<T>>,
-) -> Result<(), AllocError>
-    ensures { AddsTree result all.old.items all.new.items (back (flat_tree g.now)) }
+/// The `Wkt` of a geometry. A collection is opened, and no more.
+fn piece_of<'a, T: WktNum>(alloc: Global, g: &'a Geometry<T>) -> Result<Piece<'a, T>, AllocError>
+    ensures { IfOk result (IsPiece (flat_tree g.now)) }
 {
     match g {
-        Geometry::Point(p) => push_point(p, all),
-        Geometry::Line(l) => push_two(alloc, l, all),
-        Geometry::LineString(l) => push_line_string(alloc, l.0.as_slice(), all),
-        Geometry::Polygon(y) => push_polygon(alloc, y, all),
-        Geometry::MultiPoint(m) => push_multi_point(alloc, m.0.as_slice(), all),
-        Geometry::MultiLineString(m) => push_multi_line_string(alloc, m.0.as_slice(), all),
-        Geometry::MultiPolygon(m) => push_multi_polygon(alloc, m.0.as_slice(), all),
-        Geometry::GeometryCollection(c) => {
-            let gs = c.geometries();
-            let mut members = Vec::with_capacity(alloc, gs.len())?;
-            let filled = push_geometries(alloc, gs, &mut members);
-            push_collection(filled, members, all)
+        Geometry::Point(p) => Ok(Piece::Whole(Wkt::Point(point(*p)))),
+        Geometry::Line(l) => Ok(Piece::Whole(Wkt::LineString(two(alloc, l)?))),
+        Geometry::LineString(l) => {
+            Ok(Piece::Whole(Wkt::LineString(line_string(alloc, l.0.as_slice())?)))
         }
-        Geometry::Rect(r) => push_rect(alloc, r, all),
-        Geometry::Triangle(t) => push_triangle(alloc, t, all),
+        Geometry::Polygon(y) => Ok(Piece::Whole(Wkt::Polygon(polygon(alloc, y)?))),
+        Geometry::MultiPoint(m) => {
+            let points = MultiPoint::new(points(alloc, m.0.as_slice())?, Dimension::XY);
+            Ok(Piece::Whole(Wkt::MultiPoint(points)))
+        }
+        Geometry::MultiLineString(m) => {
+            Ok(Piece::Whole(multi_line_string(alloc, m.0.as_slice())?))
+        }
+        Geometry::MultiPolygon(m) => Ok(Piece::Whole(multi_polygon(alloc, m.0.as_slice())?)),
+        Geometry::GeometryCollection(c) => Ok(Piece::Members(c.geometries())),
+        Geometry::Rect(r) => {
+            let rect = r.to_polygon(alloc)?;
+            Ok(Piece::Whole(Wkt::Polygon(polygon(alloc, &rect)?)))
+        }
+        Geometry::Triangle(t) => {
+            let triangle = t.to_polygon(alloc)?;
+            Ok(Piece::Whole(Wkt::Polygon(polygon(alloc, &triangle)?)))
+        }
     }
-}
-
-#[cycle(back)]
-fn push_geometries<T: WktNum>(
-    alloc: Global,
-    gs: &[Geometry<T>],
-    all: &mut Vec<Wkt<T>>,
-) -> Result<(), AllocError>
-    ensures { AddsTrees result all.old.items all.new.items (map (λ g. back (flat_tree g)) gs.now) }
-{
-    for g in gs {
-        push_geometry(alloc, g, all)?;
-    }
-    Ok(())
 }
 
 /// The `Wkt` of a geometry.
 pub(crate) fn geometry<T: WktNum>(alloc: Global, g: &Geometry<T>) -> Result<Wkt<T>, AllocError>
     ensures { IfOk result (λ w. trees.tree w ≡ back (flat_tree g.now)) }
 {
-    match g {
-        Geometry::Point(p) => Ok(Wkt::Point(point(*p))),
-        Geometry::Line(l) => Ok(Wkt::LineString(two(alloc, l)?)),
-        Geometry::LineString(l) => Ok(Wkt::LineString(line_string(alloc, l.0.as_slice())?)),
-        Geometry::Polygon(y) => Ok(Wkt::Polygon(polygon(alloc, y)?)),
-        Geometry::MultiPoint(m) => Ok(Wkt::MultiPoint(MultiPoint::new(
-            points(alloc, m.0.as_slice())?,
-            Dimension::XY,
-        ))),
-        Geometry::MultiLineString(m) => multi_line_string(alloc, m.0.as_slice()),
-        Geometry::MultiPolygon(m) => multi_polygon(alloc, m.0.as_slice()),
-        Geometry::GeometryCollection(c) => {
-            let members = geometries(alloc, c.geometries())?;
+    match piece_of(alloc, g)? {
+        Piece::Whole(w) => Ok(w),
+        Piece::Members(gs) => {
+            let members = geometries(alloc, gs)?;
             Ok(Wkt::GeometryCollection(GeometryCollection::new(members, Dimension::XY)))
         }
-        Geometry::Rect(r) => Ok(Wkt::Polygon(polygon(alloc, &r.to_polygon(alloc)?)?)),
-        Geometry::Triangle(t) => Ok(Wkt::Polygon(polygon(alloc, &t.to_polygon(alloc)?)?)),
     }
+}
+
+/// A collection that is open: its members that are left, and the `Wkt` of each before them.
+#[derive(Drop)]
+struct Open<'a, T> {
+    rest: &'a [Geometry<T>],
+    done: Vec<Wkt<T>>,
 }
 
 /// The `Wkt` of each geometry.
@@ -340,7 +205,31 @@ pub(crate) fn geometries<T: WktNum>(
 ) -> Result<Vec<Wkt<T>>, AllocError>
     ensures { IfOk result (λ r. trees.members r.items ≡ all_back (flat_members gs.now)) }
 {
-    let mut all = Vec::with_capacity(alloc, gs.len())?;
-    push_geometries(alloc, gs, &mut all)?;
-    Ok(all)
+    // The collections that are open around this one, so that nesting takes no stack.
+    let mut opened = Vec::new(alloc);
+    let mut rest = gs;
+    let mut done = Vec::with_capacity(alloc, gs.len())?;
+    loop {
+        if let [next, others @ ..] = rest {
+            match piece_of(alloc, next)? {
+                Piece::Whole(w) => {
+                    done.push(w)?;
+                    rest = others;
+                }
+                Piece::Members(inner) => {
+                    opened.push(Open { rest: others, done })?;
+                    rest = inner;
+                    done = Vec::with_capacity(alloc, inner.len())?;
+                }
+            }
+        } else {
+            let Some(outer) = opened.pop() else {
+                return Ok(done);
+            };
+            let closed = GeometryCollection::new(done, Dimension::XY);
+            rest = outer.rest;
+            done = outer.done;
+            done.push(Wkt::GeometryCollection(closed))?;
+        }
+    }
 }

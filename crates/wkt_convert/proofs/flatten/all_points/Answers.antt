@@ -10,7 +10,7 @@ returns-in-None g c =
 
 pub loop-p-preserved : goal.loop-p-preserved
 loop-p-preserved g c =
-    let pushed = c.in_default.ensures.items in
+    let pushed = c.in_ok-push-in-Some.ensures in
     let found = ap point_or_fault c.in-Some.ensures in
     let same = c.from.ensures in
     let grown = more (λ p. point_or_fault p.coord) _ _ _ _ _ c.loop-p-test.true c.p-item.is c.loop-p.invariant found in

@@ -1,26 +1,96 @@
-use Rattle.std.proofs.Common.{ap, sym, ◌∙◌, map}
+use Rattle.std.proofs.Common.{◌≡◌, ◌+◌, ◌-◌, ◌*◌, ap, sym, ◌∙◌, length, take, drop, map, arith}
 use Rattle.std.proofs.lemmas.Result.{err_from_is_err_and}
 use Rattle.wkt_types.specs.Tree.{tree}
+use Rattle.wkt_types.specs.Weight.{tree_weight, weight, weights}
 use Rattle.wkt_types.specs.Outcome.{value}
+use Rattle.wkt_types.proofs.Weighing.{at_least_one}
 use Rattle.wkt_flat.specs.Equal.{coord_eq}
-use Rattle.wkt_flat.specs.Tree.{flats_of, flat_tree, flat_trees}
+use Rattle.wkt_flat.specs.Tree.{Flat, flats_of, flat_tree, flat_trees}
+use Rattle.wkt_flat.proofs.TreeLemmas.{flat-collection}
 use Rattle.wkt_convert.specs.Flatten.{flat}
 use Rattle.wkt_convert.specs.Outcomes.{outcome_map, outcomes}
-use Rattle.wkt_convert.proofs.Adding.{all_added, map_refuses}
 use Rattle.wkt_convert.proofs.Members.{flatten_members}
-use Rattle.wkt_convert.proofs.Outcomes.{tells}
+use Rattle.wkt_convert.proofs.Outcomes.{passes_on}
+use Rattle.wkt_convert.proofs.Opened.{pending, pending-last, first-of, going, going-start, finish, goes-on, opens, closes, ends, refuses}
 use Rattle.wkt_convert.proofs.flatten.collection.Goals as goal
 
-pub returns-in_err-push_geometries : goal.returns-in_err-push_geometries
-returns-in_err-push_geometries g c =
-    let E = coord_eq g.T.PartialEq.eq in
-    let p = err_from_is_err_and c.from_residual-in_err-push_geometries.result c.from_residual-in_err-push_geometries.ensures.1 in
-    rw (p.1, p.2)
-    (tells (λ (u : Unit {0}). map flat_tree c.push_geometries.new.all.items) flat_trees _ _ (λ k r. flatten_members E c.args.ws.now ∙ ap (outcome_map flats_of) (map_refuses _ (outcomes (λ w. flat E (tree w)) c.args.ws.now) k r)) _ c.in_err-push_geometries.ensures)
-
-pub returns : goal.returns
-returns g c =
+pub loop-rest-init : goal.loop-rest-init
+loop-rest-init g c =
     let E = coord_eq g.T.PartialEq.eq in
     let ws = c.args.ws.now in
-    let o = all_added (outcomes (λ w. flat E (tree w)) ws) _ _ (ap (map flat_tree) c.in_ok-all.ensures.items) c.in_ok-push_geometries.ensures in
-    flatten_members E ws ∙ (ap (outcome_map flats_of) o ∙ ap value (sym c.new_from.ensures))
+    ap (λ xs. finish E xs (going E (map flat_tree c.in_ok-done.done.items) ws)) c.new-opened.ensures.items
+    ∙ (ap (λ gs. going E (map flat_tree gs) ws) c.in_ok-done.ensures.items ∙ going-start E ws)
+
+pub returns-in_default-pop : goal.returns-in_default-pop
+returns-in_default-pop g c =
+    let E = coord_eq g.T.PartialEq.eq in
+    let at = c.loop-rest in
+    let closed : length at.opened.items ≡ 0 = omega (arith, c.in_default-pop.ensures.cases, at.opened.ok.0) in
+    let all : outcomes (λ w. flat E (tree w)) c.args.ws.now ≡ value (map flat_tree at.done.items) =
+    sym at.invariant ∙ ends E at.opened.items at.done.items at.rest.now closed c.in_default.len_below in
+    flatten_members E c.args.ws.now ∙ (ap (outcome_map flats_of) all ∙ ap value (sym c.new_from-closed.ensures))
+
+pub loop-rest-smaller-then-rest-lt1 : goal.loop-rest-smaller-then-rest-lt1
+loop-rest-smaller-then-rest-lt1 g c =
+    let popped : pending c.loop-rest.opened.items ≡ pending c.pop.new.self.items + (1 + 2 * weights c.in-Some.outer.rest.now) =
+    ap (λ xs. pending xs) c.in-Some.ensures.items ∙ pending-last c.pop.new.self.items c.in-Some.outer in
+    omega (arith, popped)
+
+pub loop-rest-preserved-then-rest-lt1 : goal.loop-rest-preserved-then-rest-lt1
+loop-rest-preserved-then-rest-lt1 g c =
+    let E = coord_eq g.T.PartialEq.eq in
+    let at = c.loop-rest in
+    closes E c.pop.new.self.items at.opened.items c.in-Some.outer at.done.items c.push.new.all.items _ at.rest.now
+    c.in-Some.ensures.items c.in_default.len_below (flat-collection c.new_from-closed.result ∙ ap Flat.collection c.new_from-closed.ensures) c.in_ok-push.ensures
+    ∙ at.invariant
+
+pub returns-in_err-g : goal.returns-in_err-g
+returns-in_err-g g c =
+    let E = coord_eq g.T.PartialEq.eq in
+    let ws = c.args.ws.now in
+    let at = c.loop-rest in
+    let next = c.next-item.result in
+    let p = err_from_is_err_and c.from_residual-in_err-g.result c.from_residual-in_err-g.ensures.1 in
+    rw (p.1, p.2)
+    (passes_on flat_tree flat_trees _ _ (λ k r.
+    flatten_members E ws
+    ∙ ap (outcome_map flats_of)
+    (sym at.invariant ∙ refuses E at.opened.items (map flat_tree at.done.items) next at.rest.now _ k (first-of at.rest.now next c.in-len1-up.len_at_least c.next-item.is) r)) _ c.in_err-g.ensures)
+
+pub loop-rest-smaller-in-Whole : goal.loop-rest-smaller-in-Whole
+loop-rest-smaller-in-Whole g c =
+    let rest = c.loop-rest.rest.now in
+    let next = c.next-item.result in
+    let parts : weights rest ≡ weight next + weights (take (length rest - 1) (drop 1 rest)) = ap (λ ws. weights ws) (first-of rest next c.in-len1-up.len_at_least c.next-item.is) in
+    omega (arith, parts, at_least_one next)
+
+pub loop-rest-preserved-in-Whole : goal.loop-rest-preserved-in-Whole
+loop-rest-preserved-in-Whole g c =
+    let E = coord_eq g.T.PartialEq.eq in
+    let at = c.loop-rest in
+    let next = c.next-item.result in
+    let one = rw c.in-Whole.is at c.in_ok-g.ensures in
+    goes-on E at.opened.items at.done.items c.push-in-Whole.new.all.items c.in-Whole.g next at.rest.now _
+    (first-of at.rest.now next c.in-len1-up.len_at_least c.next-item.is) one c.in_ok-push-in-Whole.ensures
+    ∙ at.invariant
+
+pub loop-rest-smaller : goal.loop-rest-smaller
+loop-rest-smaller g c =
+    let rest = c.loop-rest.rest.now in
+    let next = c.next-item.result in
+    let held = rw c.in-Members.is at c.in_ok-g.ensures in
+    let parts : weights rest ≡ weight next + weights (take (length rest - 1) (drop 1 rest)) = ap (λ ws. weights ws) (first-of rest next c.in-len1-up.len_at_least c.next-item.is) in
+    let heavy : weight next ≡ 1 + weights c.in-Members.inner.now = ap tree_weight held.1 in
+    let pushed : pending c.push-in-Members.new.all.items ≡ pending c.loop-rest.opened.items + (1 + 2 * weights (take (length rest - 1) (drop 1 rest))) =
+    ap (λ xs. pending xs) c.in_ok-push-in-Members.ensures ∙ pending-last c.loop-rest.opened.items _ in
+    omega (arith, parts, heavy, pushed)
+
+pub loop-rest-preserved : goal.loop-rest-preserved
+loop-rest-preserved g c =
+    let E = coord_eq g.T.PartialEq.eq in
+    let at = c.loop-rest in
+    let next = c.next-item.result in
+    let held = rw c.in-Members.is at c.in_ok-g.ensures in
+    opens E at.opened.items c.push-in-Members.new.all.items _ c.in_ok-done-in-Members.done.items next at.rest.now c.in-Members.inner.now held.0
+    c.in_ok-push-in-Members.ensures (first-of at.rest.now next c.in-len1-up.len_at_least c.next-item.is) held.1 c.in_ok-done-in-Members.ensures.items
+    ∙ at.invariant

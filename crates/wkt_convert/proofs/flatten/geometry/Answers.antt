@@ -1,48 +1,15 @@
 use Rattle.std.proofs.Common.{ap, sym, ◌∙◌}
-use Rattle.std.proofs.lemmas.Result.{err_from_is_err_and}
-use Rattle.wkt_types.specs.Tree.{tree}
-use Rattle.wkt_types.proofs.TreeLemmas.{tree-collection}
 use Rattle.wkt_types.specs.Outcome.{value}
 use Rattle.wkt_flat.specs.Equal.{coord_eq}
-use Rattle.wkt_flat.specs.Tree.{Flat, flat_tree, flat_trees}
+use Rattle.wkt_flat.specs.Tree.{Flat}
 use Rattle.wkt_flat.proofs.TreeLemmas.{flat-collection}
-use Rattle.wkt_convert.specs.Flatten.{flat, points}
+use Rattle.wkt_convert.specs.Flatten.{flat}
 use Rattle.wkt_convert.specs.Outcomes.{outcome_map}
-use Rattle.wkt_convert.proofs.FlatKinds.{flat-multi_point}
-use Rattle.wkt_convert.proofs.Members.{tree-multi_point}
-use Rattle.wkt_convert.proofs.Outcomes.{passes_on, tells, map_refused}
 use Rattle.wkt_convert.proofs.flatten.geometry.Goals as goal
 
-pub returns-in_err-all_points-in-MultiPoint : goal.returns-in_err-all_points-in-MultiPoint
-returns-in_err-all_points-in-MultiPoint g c =
-    let E = coord_eq g.T.PartialEq.eq in
-    let p = err_from_is_err_and c.from_residual-in_err-all_points-in-MultiPoint.result c.from_residual-in_err-all_points-in-MultiPoint.ensures.1 in
-    rw (p.1, p.2)
-    (tells (λ m. m) flat_tree _ _ (λ k r.
-    ap (λ w. flat E (tree w)) c.in-MultiPoint.is
-    ∙ (ap (flat E) (tree-multi_point c.in-MultiPoint.m) ∙ map_refused Flat.multi_point _ k (ap points (sym c.points.ensures) ∙ r))) _ c.in_err-all_points-in-MultiPoint.ensures)
-
-pub returns-in_err-collection-in-GeometryCollection : goal.returns-in_err-collection-in-GeometryCollection
-returns-in_err-collection-in-GeometryCollection g c =
-    let E = coord_eq g.T.PartialEq.eq in
-    let p = err_from_is_err_and c.from_residual-in_err-collection-in-GeometryCollection.result c.from_residual-in_err-collection-in-GeometryCollection.ensures.1 in
-    rw (p.1, p.2)
-    (passes_on flat_trees flat_tree _ _ (λ k r.
-    ap (λ w. flat E (tree w)) c.in-GeometryCollection.is
-    ∙ (ap (flat E) (tree-collection c.in-GeometryCollection.c ∙ c.geometries.ensures) ∙ map_refused Flat.collection _ k r)) _ c.in_err-collection-in-GeometryCollection.ensures)
-
-pub returns-in_ok-all_points-in-MultiPoint : goal.returns-in_ok-all_points-in-MultiPoint
-returns-in_ok-all_points-in-MultiPoint g c =
-    let E = coord_eq g.T.PartialEq.eq in
-    let k = c.in_ok-all_points-in-MultiPoint in
-    ap (λ w. flat E (tree w)) c.in-MultiPoint.is
-    ∙ (ap (flat E) (tree-multi_point c.in-MultiPoint.m)
-    ∙ (ap (outcome_map Flat.multi_point) (ap points (sym c.points.ensures) ∙ k.ensures) ∙ ap value (sym (flat-multi_point k.field-0))))
-
-pub returns-in_ok-collection-in-GeometryCollection : goal.returns-in_ok-collection-in-GeometryCollection
-returns-in_ok-collection-in-GeometryCollection g c =
-    let E = coord_eq g.T.PartialEq.eq in
-    let k = c.in_ok-collection-in-GeometryCollection in
-    ap (λ w. flat E (tree w)) c.in-GeometryCollection.is
-    ∙ (ap (flat E) (tree-collection c.in-GeometryCollection.c ∙ c.geometries.ensures)
-    ∙ (ap (outcome_map Flat.collection) k.ensures ∙ ap value (sym (flat-collection k.field-0))))
+pub returns-in_ok-collection-in-Members : goal.returns-in_ok-collection-in-Members
+returns-in_ok-collection-in-Members g c =
+    let held = rw c.in-Members.is at c.in_ok-g.ensures in
+    let k = c.in_ok-collection-in-Members in
+    ap (flat (coord_eq g.T.PartialEq.eq)) held.1
+    ∙ (ap (outcome_map Flat.collection) k.ensures ∙ ap value (sym (flat-collection k.field-0)))

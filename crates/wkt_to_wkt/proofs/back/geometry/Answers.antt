@@ -1,43 +1,12 @@
-use Rattle.std.proofs.Common.{rules, ◌≡◌, ap, sym, ◌∙◌, map}
+use Rattle.std.proofs.Common.{ap, sym, ◌∙◌}
 use Rattle.wkt_access.specs.declared.dimensions.Dimension.TheVariants.{XY}
-use Rattle.wkt_types.specs.Held.{held}
 use Rattle.wkt_types.specs.Tree as trees
 use Rattle.wkt_types.proofs.TreeLemmas.{tree-collection}
-use Rattle.wkt_flat.specs.Tree.{flat_tree}
-use Rattle.wkt_flat.proofs.TreeLemmas.{flat-collection}
-use Rattle.wkt_to_wkt.specs.Back.{back, all_back, line_string_back, point_back}
-use Rattle.wkt_convert.proofs.FlatKinds.{flat-line, flat-line_string, flat-multi_point}
-use Rattle.wkt_convert.proofs.Members.{tree-line_string, tree-multi_point}
+use Rattle.wkt_to_wkt.specs.Back.{back}
 use Rattle.wkt_to_wkt.proofs.back.geometry.Goals as goal
 
-pub returns-in_ok-line_string-in-LineString : goal.returns-in_ok-line_string-in-LineString
-returns-in_ok-line_string-in-LineString g c =
-    let k = c.in_ok-line_string-in-LineString in
-    let given : c.as_slice.result.now ≡ c.in-LineString.l = search rules in
-    tree-line_string k.field-0
-    ∙ (ap (λ l. trees.line_string l) (k.ensures ∙ ap line_string_back given)
-    ∙ sym (ap (λ g. back (flat_tree g)) c.in-LineString.is ∙ ap back (flat-line_string c.in-LineString.l)))
-
-pub returns-in_ok-points-in-MultiPoint : goal.returns-in_ok-points-in-MultiPoint
-returns-in_ok-points-in-MultiPoint g c =
-    let k = c.in_ok-points-in-MultiPoint in
-    let made : c.new.result ≡ held (map point_back c.in-MultiPoint.m) XY = search rules in
-    tree-multi_point c.new.result
-    ∙ (ap (λ l. trees.multi_point l) made
-    ∙ sym (ap (λ g. back (flat_tree g)) c.in-MultiPoint.is ∙ ap back (flat-multi_point c.in-MultiPoint.m)))
-
-pub returns-in_ok-members-in-GeometryCollection :
-    goal.returns-in_ok-members-in-GeometryCollection
-returns-in_ok-members-in-GeometryCollection g c =
-    let k = c.in_ok-members-in-GeometryCollection in
-    tree-collection c.new-in-GeometryCollection.result
-    ∙ (c.new-in-GeometryCollection.ensures
-    ∙ (ap (λ ms. trees.collection ms XY) (k.ensures ∙ ap all_back (sym c.geometries.ensures))
-    ∙ sym (ap (λ g. back (flat_tree g)) c.in-GeometryCollection.is ∙ ap back (flat-collection c.in-GeometryCollection.c))))
-
-pub returns-in_ok-two-in-Line : goal.returns-in_ok-two-in-Line
-returns-in_ok-two-in-Line g c =
-    let k = c.in_ok-two-in-Line in
-    tree-line_string k.field-0
-    ∙ (ap (λ l. trees.line_string l) k.ensures
-    ∙ sym (ap (λ g. back (flat_tree g)) c.in-Line.is ∙ ap back (flat-line c.in-Line.l)))
+pub returns-in_ok-members-in-Members : goal.returns-in_ok-members-in-Members
+returns-in_ok-members-in-Members g c =
+    let held = rw c.in-Members.is at c.in_ok-w.ensures in
+    tree-collection c.new.result
+    ∙ (c.new.ensures ∙ (ap (λ ms. trees.collection ms XY) c.in_ok-members-in-Members.ensures ∙ sym (ap back held)))
