@@ -2,9 +2,9 @@
 ghost use Rattle.std.specs.Prelude.{◌≡◌, IsTrue, ◌↔◌};
 
 use crate::canonical::{UnderHeader, fourth_number, third_number};
-use wkt_flat::copies::Part;
 use std::alloc::{AllocError, Global};
 use wkt_access::Dimension;
+use wkt_flat::copies::Part;
 use wkt_num::WktNum;
 
 /// One coordinate: x and y, and z and m where they are there.

@@ -5,11 +5,11 @@ ghost use Rattle.std.specs.Iterator.Runs.{WholeRun};
 
 use crate::canonical::{UnderHeader, put_each_under};
 use crate::coord::Coord;
-use wkt_flat::copies::{Part, copies};
 use crate::dimension::and_same;
 use std::alloc::{AllocError, Global};
 use std::marker::Model;
 use wkt_access::Dimension;
+use wkt_flat::copies::{Part, copies};
 use wkt_num::WktNum;
 
 /// A line string: coordinates in order, and the dimension of the header.

@@ -4,12 +4,12 @@ ghost use Rattle.std.specs.Iterator.{IsFinite};
 ghost use Rattle.std.specs.Iterator.Runs.{WholeRun};
 
 use crate::canonical::{UnderHeader, put_each_under};
-use wkt_flat::copies::{Part, copies};
 use crate::dimension::and_same;
 use crate::point::Point;
 use std::alloc::{AllocError, Global};
 use std::marker::Model;
 use wkt_access::Dimension;
+use wkt_flat::copies::{Part, copies};
 use wkt_num::WktNum;
 
 /// A multipoint: points in order, and the dimension of the header.

@@ -3,11 +3,11 @@ ghost use Rattle.std.specs.Prelude.{◌≡◌, IsTrue, ◌↔◌, MatchOption, S
 
 use crate::canonical::UnderHeader;
 use crate::coord::Coord;
-use wkt_flat::copies::Part;
 use crate::dimension::and_same;
 use std::alloc::{AllocError, Global};
 use std::marker::Model;
 use wkt_access::Dimension;
+use wkt_flat::copies::Part;
 use wkt_num::WktNum;
 
 /// A point: one coordinate or none, and the dimension of its header.

@@ -4,12 +4,12 @@ ghost use Rattle.std.specs.Iterator.{IsFinite};
 ghost use Rattle.std.specs.Iterator.Runs.{WholeRun};
 
 use crate::canonical::{UnderHeader, put_each_under};
-use wkt_flat::copies::{Part, copies};
 use crate::dimension::and_same;
 use crate::linestring::LineString;
 use std::alloc::{AllocError, Global};
 use std::marker::Model;
 use wkt_access::Dimension;
+use wkt_flat::copies::{Part, copies};
 use wkt_num::WktNum;
 
 /// A polygon: its rings in order, the first of them the exterior, and the dimension of the header.
