@@ -1,5 +1,6 @@
 pub mod Texts
 pub mod BackValues
+mod Depth
 mod JsonPoints
 mod Blanks
 mod Alikes
