@@ -23,10 +23,8 @@ impl Gathered {
     pub(crate) fn new(alloc: Global, room: usize) -> Result<Gathered, AllocError>
         ensures { IfOk result (λ s. gathered s ≡ []) }
     {
-        let mut bytes = Vec::new(alloc);
-        bytes.resize(room, 0)?;
         Ok(Gathered {
-            bytes,
+            bytes: Vec::with_capacity(alloc, room)?,
             len: 0,
             failures: 0,
         })
@@ -45,7 +43,7 @@ impl Gathered {
         bytes
     }
 
-    // Makes room up to that place, or tells that there is no memory.
+    // Makes places up to that one, and a thousand more at least, or tells that there is no memory.
     #[inline(never)]
     fn grow(&mut self, end: usize) -> bool
         ensures kept { gathered self.new ≡ gathered self.old }
@@ -53,7 +51,7 @@ impl Gathered {
         ensures room { OnTrue result (end ≤ length self.new.bytes.items) }
         ensures count { failed_calls self.new ≡ failed_calls self.old }
     {
-        let room = end.max(self.bytes.len().saturating_mul(2));
+        let room = end.max(self.bytes.len().saturating_add(1024));
         self.bytes.resize(room, 0).is_ok()
     }
 

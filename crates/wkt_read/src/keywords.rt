@@ -44,7 +44,9 @@ fn strip<'a>(word: &[u8], text: &'a [u8]) -> Option<&'a [u8]>
     }
 }
 
-// The kind that the header begins with, and what follows its word.
+// The kind that the header begins with, and what follows its word. It is a part of its callers, since each header
+// is read by it.
+#[inline(always)]
 #[tactic(auto, unfolding(crate::specs::Grammar::kind_words))]
 pub(crate) fn kind(header: &[u8]) -> Option<(GeometryType, &[u8])>
     ensures named { BeginsKind result (str_to_ascii_uppercase header.now) }
@@ -71,6 +73,7 @@ pub(crate) fn kind(header: &[u8]) -> Option<(GeometryType, &[u8])>
 }
 
 /// The kind that the word names, and the dimension if it is joined to the word.
+#[inline(always)]
 pub fn kind_of(word: &str) -> Option<(GeometryType, Option<Dimension>)>
     ensures { Names result (kind_word word.now) }
 {
