@@ -67,7 +67,12 @@ impl Gathered {
         if end > self.bytes.len() && !self.grow(end) {
             return false;
         }
-        copy_piece(bytes, &mut self.bytes[start..end]);
+        // Most pieces are one byte.
+        if let [byte] = bytes {
+            self.bytes[start] = *byte;
+        } else {
+            copy_piece(bytes, &mut self.bytes[start..end]);
+        }
         self.len = end;
         true
     }
