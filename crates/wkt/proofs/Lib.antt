@@ -2,6 +2,7 @@ pub mod Texts
 pub mod BackValues
 mod JsonPoints
 mod Blanks
+mod Depth
 mod Alikes
 mod Written
 -- Lemmas of the crates below that callers' proofs cite.

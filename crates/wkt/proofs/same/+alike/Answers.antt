@@ -1,7 +1,7 @@
 use Rattle.std.proofs.Common.{rules, refl, ap, ◌≡◌, ◌∙◌, sym, arith, suc, ◌+◌, ◌*◌, ◌<◌, length}
 use Rattle.wkt_types.specs.Tree.{tree, members}
 use Rattle.wkt_types.proofs.TreeLemmas.{tree-collection}
-use Rattle.wkt_convert.proofs.Depth.{depth, deepest, below_deepest}
+use Rattle.wkt.proofs.Depth.{depth, deepest, below_deepest}
 use Rattle.wkt.specs.Alike.{tree_alike}
 use Rattle.wkt.proofs.Alikes.{part_step, parts_end, members_alike}
 use Rattle.wkt.proofs.same.+alike.Goals as goal

@@ -1,6 +1,6 @@
 use Rattle.std.proofs.Common.{◌≡◌, ◌≤◌, ◌+◌, ◌*◌, length}
 use Rattle.wkt_types.specs.Tree.{tree, members}
-use Rattle.wkt_convert.proofs.Depth.{depth, deepest}
+use Rattle.wkt.proofs.Depth.{depth, deepest}
 use Rattle.wkt.specs.Alike.{tree_alike, trees_alike}
 use Rattle.wkt.proofs.Alikes.{left}
 use Rattle.wkt.proofs.same.+alike.Given as goal
