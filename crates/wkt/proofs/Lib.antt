@@ -3,6 +3,7 @@ pub mod BackValues
 mod Depth
 mod JsonPoints
 mod Blanks
+mod Depth
 mod Alikes
 mod Written
 -- Lemmas of the crates below that callers' proofs cite.

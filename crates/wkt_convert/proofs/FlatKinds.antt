@@ -15,6 +15,11 @@ use Rattle.wkt_flat.specs.declared.line.Line as flat_line
 use Rattle.wkt_flat.specs.declared.triangle.Triangle as flat_triangle
 use Rattle.wkt_convert.specs.Kinds.{point_in, line_in, path_in, rings_in, points_in, paths_in, polygons_in, corners_in, triangle_in}
 
+pub flat-point : {T : Type 0} (x : flat_point.Point T) → flat_tree (variants.Point x) ≡ Flat.point x
+flat-point {T} x =
+    ap flat_tree (sym (variants.rolls-Point x))
+    ∙ folds.fold-roll-Geometry T (Flat T) (Flats T) geometry_step flats_step (Geometry-F.Point x)
+
 pub flat-line : {T : Type 0} (x : flat_line.Line T) → flat_tree (variants.Line x) ≡ Flat.line x
 flat-line {T} x =
     ap flat_tree (sym (variants.rolls-Line x))

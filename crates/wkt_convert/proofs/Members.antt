@@ -25,6 +25,11 @@ flatten_members E [] = refl
 flatten_members E (w ∷ ws) =
     ap (outcome_both Flats.more_flats (flat E (tree w))) (flatten_members E ws) ∙ gather (flat E (tree w)) (outcomes (λ w. flat E (tree w)) ws)
 
+pub tree-point : {T : Type 0} (p : HeldPoint (Coord T)) → tree (variants.Point p) ≡ Tree.point p
+tree-point {T} p =
+    ap tree (sym (variants.rolls-Point p))
+    ∙ folds.fold-roll-Wkt T (Tree T) (Tree T) wkt_step collection_step (opened.Wkt-F.Point p)
+
 pub tree-multi_point : {T : Type 0} (m : Held (HeldPoint (Coord T))) → tree (variants.MultiPoint m) ≡ Tree.multi_point m
 tree-multi_point {T} m =
     ap tree (sym (variants.rolls-MultiPoint m))
