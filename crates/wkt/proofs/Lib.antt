@@ -4,6 +4,7 @@ mod JsonPoints
 mod Blanks
 mod Alikes
 mod Written
+mod Listed
 -- Lemmas of the crates below that callers' proofs cite.
 pub use Rattle.wkt_access.proofs.Collections
 pub use Rattle.wkt_access.proofs.Lists
