@@ -3,9 +3,9 @@ pub mod BackValues
 mod Depth
 mod JsonPoints
 mod Blanks
-mod Depth
 mod Alikes
 mod Written
+mod Listed
 -- Lemmas of the crates below that callers' proofs cite.
 pub use Rattle.wkt_access.proofs.Collections
 pub use Rattle.wkt_access.proofs.Lists

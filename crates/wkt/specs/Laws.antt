@@ -1,11 +1,18 @@
 -- What the law of flat values and their texts says; `laws` proves it.
-use Rattle.std.specs.Prelude.{◌≡◌, ◌↔◌, ℕ, Bool, List, Option}
+use Rattle.std.specs.Prelude.{◌≡◌, ◌↔◌, ℕ, Bool, List, Option, map}
+use Rattle.std.specs.declared.cmp.Ordering.{Ordering}
 use Rattle.wkt_access.specs.Lawful.{IsLawful}
 use Rattle.wkt_access.specs.Texts.{shape_text}
 use Rattle.wkt_flat.specs.Closed.{HasClosedRings}
+use Rattle.wkt_flat.specs.Corners.{corners_of}
 use Rattle.wkt_flat.specs.Equal.{coord_eq}
 use Rattle.wkt_flat.specs.Shape.{flat_shape}
-use Rattle.wkt_flat.specs.Tree.{Flat}
+use Rattle.wkt_flat.specs.Tree.{Flat, flat_tree, flat_members}
+use Rattle.wkt_flat.specs.declared.coord.Coord.{Coord}
+use Rattle.wkt_flat.specs.declared.geometry.Geometry.{Geometry}
+use Rattle.wkt_walks.specs.Bounds.{IsAtMost}
+use Rattle.wkt_types.specs.Tree.{tree, members}
+use Rattle.wkt_types.specs.declared.geometry.Wkt.{Wkt}
 use Rattle.wkt_types.specs.Outcome.{Outcome, value}
 use Rattle.wkt_read.specs.Answered.{IsFront}
 use Rattle.wkt_convert.specs.Flatten.{flat}
@@ -27,3 +34,16 @@ PlainReadsBack {T} is_value num read E = (t : Flat T) → HasClosedRings t → F
 abbrev pub BackIsRead : {T : Type 0} → (T → Type 0) → (T → List ℕ) → (List ℕ → Option T) → Type 0
 BackIsRead {T} is_value num read =
     (t : Flat T) → IsLawful is_value (flat_shape t) → IsFront read (shape_text num (flat_shape t)) (back t)
+
+-- Of the corners that a rectangle is made of, the least has on each axis a number that is at most that of the greatest.
+abbrev pub CornersAreInOrder : {T : Type 0} → (T → T → Ordering) → (T → T → Option Ordering) → Type 0
+CornersAreInOrder {T} cmp compare =
+    (c d : Coord T)
+    → IsAtMost cmp (corners_of compare c d).min.x (corners_of compare c d).max.x
+    × IsAtMost cmp (corners_of compare c d).min.y (corners_of compare c d).max.y
+
+-- Lists that are the members of one collection hold the same geometries in order, of either family of types.
+abbrev pub MembersAreListed : Type 0 → Type 0
+MembersAreListed T =
+    ((ws vs : List (Wkt T)) → members ws ≡ members vs → map tree ws ≡ map tree vs)
+    × ((gs hs : List (Geometry T)) → flat_members gs ≡ flat_members hs → map flat_tree gs ≡ map flat_tree hs)

@@ -4,6 +4,7 @@ pub mod Json
 pub mod WholeText
 pub mod Alike
 pub mod Same
+pub mod Literals
 -- What public clauses cite of the crates below, so that a caller names this crate alone.
 
 -- values, shapes and their text
@@ -60,6 +61,7 @@ pub use Rattle.wkt_explain.specs.declared.explanation.Explanation
 pub use Rattle.wkt_types.specs.Tree
 pub use Rattle.wkt_types.specs.Trees
 pub use Rattle.wkt_types.specs.Values as TreeValues
+pub use Rattle.wkt_types.specs.Canonical
 pub use Rattle.wkt_types.specs.Coords
 pub use Rattle.wkt_types.specs.Held
 pub use Rattle.wkt_types.specs.Equal
@@ -84,6 +86,7 @@ pub use Rattle.wkt_flat.specs.declared.coord.Coord as FlatCoord
 pub use Rattle.wkt_walks.specs.Coords as FlatCoords
 pub use Rattle.wkt_walks.specs.Visits
 pub use Rattle.wkt_walks.specs.Bounds
+pub use Rattle.wkt_walks.specs.Mapped
 -- conversions between the two
 pub use Rattle.wkt_convert.specs.Flatten
 pub use Rattle.wkt_convert.specs.Outcomes

@@ -1,6 +1,6 @@
 //! Laws of flat values and their texts: each function changes nothing, and its contract is the law.
 ghost use Rattle.wkt_to_wkt.specs.Laws.{ComesBack};
-ghost use Rattle.wkt.specs.Laws.{BackIsRead, FlatReadsBack, PlainReadsBack};
+ghost use Rattle.wkt.specs.Laws.{BackIsRead, CornersAreInOrder, FlatReadsBack, MembersAreListed, PlainReadsBack};
 ghost use Rattle.wkt_flat.specs.Tree.{flat_tree};
 
 use wkt_flat::Geometry;
@@ -33,3 +33,17 @@ pub fn geometry_comes_back<T: WktNum>(geometry: &Geometry<T>)
     plain_comes_back::<T>();
     plain_reads_back::<T>();
 }
+
+/// The corners of a rectangle over numbers that are totally ordered, as whole numbers and decimals are: the numbers of
+/// its least corner are at most those of its greatest, whichever corners it was made of. So what `Rect::new` ensures
+/// is two corners in order.
+pub fn corners_are_in_order<T: WktNum + Ord>()
+    ensures { CornersAreInOrder T.cmp T.partial_cmp }
+{}
+
+/// A collection has one list of members: where two lists are the members of one collection, as the list that it was
+/// made of and that of `geometries()` are, they hold the same, place by place. It says so of `types` and of
+/// `geo_types`.
+pub fn members_are_listed<T>()
+    ensures { MembersAreListed T }
+{}

@@ -24,7 +24,8 @@
 //! ```
 //!
 //! # Compare
-//! `==` compares what is held. Whether two geometries have one text says [`same_geometry`].
+//! `==` compares what is held. Whether two geometries have one text says [`same_geometry`], and `==` too, after
+//! `into_canonical`.
 //!
 //! # Infer
 //! The kind and the dimension, without reading the rest of the text:
@@ -48,6 +49,13 @@
 //! let flat = try_into_geometry(alloc, &wkt)?;
 //! ```
 //!
+//! # Make
+//! A geometry of numbers that stand in the source is made by [`literals`]:
+//!
+//! ```text
+//! let line = literals::line_string(alloc, &[(0, 0), (4, -1)])?;
+//! ```
+//!
 //! # Geometries of one's own
 //! Any type with the traits of [`geo_traits`] is written as it stands, with no copy: see [`to_wkt`]. A function
 //! over those traits takes a `Wkt`, a two-dimensional geometry and any other alike:
@@ -62,6 +70,7 @@ mod any_error;
 mod flat_laws;
 mod from_text;
 mod json;
+pub mod literals;
 #[cfg(test)]
 mod macro_tests;
 mod macros;
@@ -156,7 +165,7 @@ pub mod geo_types_from_wkt {
 /// let rect = bounding_rect(&geometry); // from (0, 1) to (3, 5)
 /// ```
 pub mod walks {
-    pub use wkt_walks::{Visitor, bounding_rect, num_coords, visit_coords};
+    pub use wkt_walks::{Mapper, Visitor, bounding_rect, map_coords, num_coords, visit_coords};
 }
 
 /// Why a geometry isn't written, and one error for whatever a function here answers.
@@ -188,7 +197,10 @@ pub mod deserialize {
 /// The laws of the definitions that the contracts cite: public functions that change nothing, whose
 /// contracts are the laws.
 pub mod laws {
-    pub use crate::flat_laws::{back_is_read, geometry_comes_back, plain_reads_back};
+    pub use crate::flat_laws::{
+        back_is_read, corners_are_in_order, geometry_comes_back, members_are_listed,
+        plain_reads_back,
+    };
     pub use wkt_explain::laws::{one_refusal, refused_has_no_front};
     pub use wkt_flat::laws::{flat_is_writable, rings_are_closed};
     pub use wkt_num::laws::{finer_keeps, reading_is_equation, wider_keeps};
@@ -199,4 +211,5 @@ pub mod laws {
         whole_characters,
     };
     pub use wkt_to_wkt::laws::{flat_and_back, plain_comes_back};
+    pub use wkt_types::laws::canonical_is_one;
 }

@@ -71,6 +71,8 @@ fn spare_numbers(rt: HostRuntime) -> Result<(), Fail> {
         let one = line(alloc, z, m, dim)?;
         let other = line(alloc, other_z, other_m, other_dim)?;
         assert_eq!(rt; same_geometry(&one, &other), same);
+        let equal = one.into_canonical() == other.into_canonical();
+        assert_eq!(rt; equal, same);
     }
     Ok(())
 }
@@ -85,7 +87,66 @@ fn nested_collections(rt: HostRuntime) -> Result<(), Fail> {
         other = Wkt::from(GeometryCollection::new(vec![in alloc; other]?, Dimension::XY));
     }
     assert!(rt; same_geometry(&one, &other));
+    one = one.into_canonical();
+    assert!(rt; one == other);
     let deeper = GeometryCollection::new(vec![in alloc; one]?, Dimension::XY);
-    assert!(rt; !same_geometry(&Wkt::from(deeper), &other));
+    let deeper = Wkt::from(deeper);
+    assert!(rt; !same_geometry(&deeper, &other));
+    assert!(rt; deeper.into_canonical() != other);
+    Ok(())
+}
+
+// A text, and another of the same geometry, which is read as other parts.
+const ONE: [(&str, &str); 6] = [
+    ("POLYGON(EMPTY)", "POLYGON EMPTY"),
+    ("POLYGON Z(EMPTY,(1 2 3))", "POLYGON Z EMPTY"),
+    ("MULTIPOLYGON((EMPTY),((1 2)))", "MULTIPOLYGON(EMPTY,((1 2)))"),
+    (
+        "GEOMETRYCOLLECTION(POINT(1 2),POLYGON(EMPTY,EMPTY))",
+        "GEOMETRYCOLLECTION(POINT(1 2),POLYGON EMPTY)",
+    ),
+    (
+        "GEOMETRYCOLLECTION M(GEOMETRYCOLLECTION(POLYGON(EMPTY)),POINT M(1 2 3))",
+        "GEOMETRYCOLLECTION M(GEOMETRYCOLLECTION(POLYGON EMPTY),POINT M(1 2 3))",
+    ),
+    ("MULTIPOLYGON((EMPTY),(EMPTY))", "MULTIPOLYGON(EMPTY,EMPTY)"),
+];
+
+#[test]
+fn canonical_geometries(rt: HostRuntime) -> Result<(), Fail> {
+    let alloc = rt.alloc();
+    for (one, other) in &ONE {
+        let first = Wkt::<i32>::from_str(alloc, one)?;
+        let second = Wkt::<i32>::from_str(alloc, other)?;
+        assert!(rt; first != second, "at {one}");
+        let canonical = first.into_canonical();
+        assert_eq!(rt; canonical.to_string(alloc)?.as_str(), *other);
+        assert!(rt; canonical == second, "at {one}");
+        assert!(rt; second.into_canonical() == canonical, "at {one}");
+    }
+    Ok(())
+}
+
+// A text of each kind, which is the text of what it is read as.
+const KEPT: [&str; 9] = [
+    "POINT ZM(1 2 3 4)",
+    "POINT M EMPTY",
+    "LINESTRING M(1 2 3,4 5 6)",
+    "POLYGON Z((0 0 1,4 0 2,2 4 3,0 0 1),(1 1 1,2 1 2))",
+    "MULTIPOINT((1 2),EMPTY,(-3 4))",
+    "MULTILINESTRING ZM((1 2 3 4),EMPTY)",
+    "MULTIPOLYGON(((0 0,1 0)),EMPTY,((5 5)))",
+    "GEOMETRYCOLLECTION Z(POINT M(1 2 3),GEOMETRYCOLLECTION EMPTY,LINESTRING(1 2,3 4))",
+    "GEOMETRYCOLLECTION EMPTY",
+];
+
+#[test]
+fn canonical_ones_are_kept(rt: HostRuntime) -> Result<(), Fail> {
+    let alloc = rt.alloc();
+    for text in &KEPT {
+        let geometry = Wkt::<i32>::from_str(alloc, text)?;
+        let same = geometry.try_clone(alloc)?.into_canonical() == geometry;
+        assert!(rt; same, "at {text}");
+    }
     Ok(())
 }

@@ -1,0 +1,5 @@
+use Rattle.wkt.proofs.Listed.{trees_one, flats_one}
+use Rattle.wkt.proofs.flat_laws.members_are_listed.Goals as goal
+
+pub returns : goal.returns
+returns g c = (λ ws vs e. trees_one _ _ e, λ gs hs e. flats_one _ _ e)
