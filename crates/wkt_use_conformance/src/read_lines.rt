@@ -2,7 +2,7 @@
 ghost use Rattle.std.specs.Prelude.{◌≡◌};
 
 use crate::slow_sinks::{Slow, source};
-use std::alloc::Global;
+use std::alloc::{AllocError, Global};
 use std::io;
 use std::io::ErrorKind;
 use std::test::Fail;
@@ -38,7 +38,7 @@ impl ByteSource for Halting<'_> {
     }
 }
 
-/// Each line is answered with the same word.
+/// Each line is answered with the same word, but that of a `!` finds no memory.
 #[derive(Drop)]
 struct Word {
     word: &'static str,
@@ -50,9 +50,12 @@ impl Reply for Word {
     fn reply<W: TextSink>(
         &self,
         _alloc: Global,
-        _line: &[u8],
+        line: &[u8],
         sink: &mut W,
     ) -> Result<(), AnswerError> {
+        if line == b"!".as_slice() {
+            return Err(AnswerError::Memory(AllocError));
+        }
         match sink.write_str(self.word) {
             Ok(()) => Ok(()),
             Err(error) => Err(AnswerError::Sink(error)),
@@ -195,6 +198,25 @@ fn faults_of_answers(rt: HostRuntime) {
         }
         assert_eq!(rt; writer.taken(), &b"seen\nseen\n"[..want]);
         assert_eq!(rt; reader.failures, 1);
+    }
+}
+
+#[test]
+fn refused_growths_of_answers(rt: HostRuntime) {
+    let word = Word { word: "seen" };
+    for (input, want) in [
+        ("!", 0),
+        ("one\n\n!\nfour\n", 10),
+        ("one\ntwo\nthree\n!", 15),
+    ] {
+        for step in [1, 7, 1000] {
+            let mut reader = source(input.as_bytes(), step, 1000);
+            let mut writer = Slow::new(1000, 1000);
+            let answer = stream_with(rt.alloc(), &word, &mut reader, &mut writer);
+            assert!(rt; matches!(answer, Err(RunError::Memory(_))));
+            assert_eq!(rt; writer.taken(), &b"seen\nseen\nseen\n"[..want]);
+            assert_eq!(rt; writer.failures, 0);
+        }
     }
 }
 
