@@ -241,28 +241,27 @@ fn compares(rt: HostRuntime) -> Result<(), Fail> {
 #[test]
 fn serves(rt: HostRuntime) -> Result<(), Fail> {
     let alloc = rt.alloc();
-    let input = "\"point ( 10 -20.50 )\"\n\"POINT(1)\"\n7\n\"POINT(1 2)\n\n \"POLYGON EMPTY\" ";
+    let input = b"\"point ( 10 -20.50 )\"\n\"POINT(1)\"\n7\n\"POINT(1 2)\n\n \"POLYGON EMPTY\" ";
     let want =
         "\"POINT(10 -20.5)\"\n{\"refused\":7}\n{\"refused\":null}\n{\"refused\":null}\n{\"refused\":null}\n\"POLYGON EMPTY\"\n";
-    for step in [1, 7, 1000] {
-        for room in [want.len(), want.len() - 1, 0] {
-            let mut source = Piecewise {
-                rest: input.as_bytes(),
-                step,
-            };
-            let mut page = Page {
-                text: Vec::new(alloc),
-                room,
-                failures: 0,
-            };
-            let answer = serve::<Decimal<6>, _, _>(alloc, &mut source, &mut page);
-            assert_eq!(rt; page.text.as_slice(), &want.as_bytes()[..room]);
-            if room < want.len() {
-                assert!(rt; matches!(answer, Err(RunError::Write(_))));
-                assert_eq!(rt; page.failures, 1);
-            } else {
-                assert!(rt; answer.is_ok());
-            }
+    for room in [want.len(), want.len().saturating_sub(1), 0] {
+        let mut source = Piecewise {
+            rest: input,
+            step: 7,
+        };
+        let mut page = Page {
+            text: Vec::new(alloc),
+            room,
+            failures: 0,
+        };
+        let answer = serve::<Decimal<6>, _, _>(alloc, &mut source, &mut page);
+        assert_eq!(rt; page.text.len(), room);
+        assert!(rt; want.as_bytes().starts_with(page.text.as_slice()));
+        if room < want.len() {
+            assert!(rt; matches!(answer, Err(RunError::Write(_))));
+            assert_eq!(rt; page.failures, 1);
+        } else {
+            assert!(rt; answer.is_ok());
         }
     }
     Ok(())
