@@ -1,11 +1,10 @@
 -- Answers added one after the other.
-use Rattle.std.proofs.Common.{◌≡◌, ◌≢◌, ℕ, List, [], ◌∷◌, ◌++◌, ap, ◌∙◌, refl, Option, Result, Ok, Err}
+use Rattle.std.proofs.Common.{◌≡◌, ◌≢◌, ℕ, List, [], ◌∷◌, ◌++◌, ap, ◌∙◌, refl, Result, Ok, Err}
 use Rattle.wkt_num.specs.Sink.{next_count, Sink, Adds, Breaks}
 use Rattle.wkt_lines.specs.Lines.{input_lines}
 use Rattle.wkt_lines.specs.Splitting.{before_feed, after_feed}
-use Rattle.wkt_lines.specs.Output.{AreAnswers}
+use Rattle.wkt_lines.specs.Replies.{AreReplies, AddsFirstReplies, BreaksReplyLine, BreaksReplies}
 use Rattle.wkt_lines.specs.Answer.{OnSink, OnAnswerMemory}
-use Rattle.wkt_lines.specs.Added.{AddsFirst, BreaksLine, BreaksOutput}
 use Rattle.wkt_lines.specs.declared.answer.AnswerError.{AnswerError}
 use Rattle.wkt_lines.specs.declared.answer.AnswerError.TheVariants as answered
 use Rattle.wkt_lines.proofs.Answering.{next_line}
@@ -33,11 +32,11 @@ module _ {S : Type 0} (sink : Sink S) where
   pub breaks_longer : (s t : S) (bs cs : List ℕ) → Breaks sink s bs t → Breaks sink s (bs ++ cs) t
   breaks_longer s t bs cs h = record { left = sink.longer s t bs cs h.left; failed = h.failed }
 
-  module _ {N : Type 0} (read : List ℕ → Option N) (num : N → List ℕ) (first : List (List ℕ)) (out rest input : List ℕ)
-      (lines : first ++ input_lines rest ≡ input_lines input) (answers : AreAnswers read num first out) (s t u : S) (added : Adds sink s out t) where
+  module _ (is : List ℕ → List ℕ → Type 0) (first : List (List ℕ)) (out rest input : List ℕ)
+      (lines : first ++ input_lines rest ≡ input_lines input) (answers : AreReplies is first out) (s t u : S) (added : Adds sink s out t) where
     -- the next line broke off
-    pub breaks_next : (line : List ℕ) → rest ≢ [] → line ≡ before_feed rest → BreaksLine read num sink t u line → BreaksOutput read num sink s u input
-    breaks_next line some e (answer, is, broke) = record {
+    pub breaks_next : (line : List ℕ) → rest ≢ [] → line ≡ before_feed rest → BreaksReplyLine is sink t u line → BreaksReplies is sink s u input
+    breaks_next line some e (answer, is_one, broke) = record {
       first = first;
       line = line;
       others = input_lines (after_feed rest);
@@ -45,10 +44,10 @@ module _ {S : Type 0} (sink : Sink S) where
       out = out;
       answers = answers;
       answer = answer;
-      is_answer = is;
+      is_answer = is_one;
       broke = breaks_after s t u out (answer ++ 10 ∷ []) added broke;
     }
 
     -- the next line was not begun
-    pub adds_first : u ≡ t → AddsFirst read num sink s u input
+    pub adds_first : u ≡ t → AddsFirstReplies is sink s u input
     adds_first e = record { first = first; others = input_lines rest; lines = lines; out = out; answers = answers; added = rw e added }

@@ -5,6 +5,7 @@ use Rattle.std.proofs.lemmas.List.{append-nil}
 use Rattle.wkt_bytes.specs.Sinks.{BeginningOut}
 use Rattle.wkt_lines.specs.Lines.{input_lines}
 use Rattle.wkt_lines.specs.Output.{IsAnswer, AreAnswers, PartOut, OnRunWrite}
+use Rattle.wkt_lines.specs.Replies.{AreReplies}
 use Rattle.wkt_lines.specs.declared.lines.RunError.{RunError}
 use Rattle.wkt_lines.specs.declared.lines.RunError.TheVariants as run
 use Rattle.wkt_bytes.specs.Wrapper.{appends_more}
@@ -29,12 +30,16 @@ pub next_line : (first : List (List ℕ)) (rest bs line : List ℕ) → first ++
     first ++ (line ∷ input_lines (after_feed rest)) ≡ input_lines bs
 next_line first rest bs line h n e = ap (λ x. first ++ (x ∷ input_lines (after_feed rest))) e ∙ (ap (λ x. first ++ x) (sym (lines_on rest n)) ∙ h)
 
-module _ {N : Type 0} {read : List ℕ → Option N} {num : N → List ℕ} where
+module _ (is : List ℕ → List ℕ → Type 0) where
   -- the answers so far and the next one
-  pub one_answer : (first : List (List ℕ)) (out line answer : List ℕ) → AreAnswers read num first out → IsAnswer read num line answer → AreAnswers read num (first ++ (line ∷ [])) (out ++ (answer ++ 10 ∷ []))
-  one_answer [] out line answer h a = (answer, [], ap (λ xs. xs ++ (answer ++ 10 ∷ [])) h ∙ sym (append-nil (answer ++ 10 ∷ [])), a, refl)
-  one_answer (l ∷ ls) out line answer (b, rest, e, a, r) k =
-      (b, rest ++ (answer ++ 10 ∷ []), ap (λ xs. xs ++ (answer ++ 10 ∷ [])) e ∙ append_assoc (b ++ 10 ∷ []) rest (answer ++ 10 ∷ []), a, one_answer ls rest line answer r k)
+  pub one_reply : (first : List (List ℕ)) (out line answer : List ℕ) → AreReplies is first out → is line answer → AreReplies is (first ++ (line ∷ [])) (out ++ (answer ++ 10 ∷ []))
+  one_reply [] out line answer h a = (answer, [], ap (λ xs. xs ++ (answer ++ 10 ∷ [])) h ∙ sym (append-nil (answer ++ 10 ∷ [])), a, refl)
+  one_reply (l ∷ ls) out line answer (b, rest, e, a, r) k =
+      (b, rest ++ (answer ++ 10 ∷ []), ap (λ xs. xs ++ (answer ++ 10 ∷ [])) e ∙ append_assoc (b ++ 10 ∷ []) rest (answer ++ 10 ∷ []), a, one_reply ls rest line answer r k)
+
+-- the same of the program's answers
+pub one_answer : {N : Type 0} {read : List ℕ → Option N} {num : N → List ℕ} (first : List (List ℕ)) (out line answer : List ℕ) → AreAnswers read num first out → IsAnswer read num line answer → AreAnswers read num (first ++ (line ∷ [])) (out ++ (answer ++ 10 ∷ []))
+one_answer {read = read} {num = num} first out line answer h a = one_reply (IsAnswer read num) first out line answer h a
 
 pub ok_map : {T E : Type 0} {P Q : Type 0} (r : Result T E) → (P → Q) → OnOk r P → OnOk r Q
 ok_map (Ok x) f p = f p

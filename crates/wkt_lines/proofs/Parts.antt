@@ -3,6 +3,7 @@ use Rattle.std.proofs.Common.{◌≡◌, ℕ, List, [], ◌∷◌, ◌++◌, ◌
 use Rattle.std.proofs.lemmas.List.{append-nil}
 use Rattle.wkt_lines.specs.Lines.{onto_first, pieces, without_last_empty, input_lines}
 use Rattle.wkt_lines.specs.Splitting.{pieces_some, two_pieces}
+use Rattle.wkt_lines.specs.Replies.{AreReplies}
 use Rattle.wkt_lines.specs.Output.{IsAnswer, AreAnswers, IsOutput}
 use Rattle.wkt_lines.specs.Laws.{IsWhole, AreWhole, joined, AreOutputs}
 
@@ -44,13 +45,18 @@ lines_of_parts xs bs (inr (ys, e)) =
     ∙ (lines_at_feed ys bs
     ∙ sym (ap (λ zs. zs ++ input_lines bs) (ap input_lines e ∙ (lines_at_feed ys [] ∙ append-nil (pieces ys))))))
 
-module _ {N : Type 0} (read : List ℕ → Option N) (num : N → List ℕ) where
+module _ (is : List ℕ → List ℕ → Type 0) where
   -- answers to lines, and to more lines
-  pub answers_append : (ls ms : List (List ℕ)) (x y : List ℕ) → AreAnswers read num ls x → AreAnswers read num ms y → AreAnswers read num (ls ++ ms) (x ++ y)
-  answers_append [] ms x y h k = subst (λ zs. AreAnswers read num ms (zs ++ y)) (sym h) k
-  answers_append (l ∷ ls) ms x y (answer, rest, e, is, more) k =
-      (answer, rest ++ y, ap (λ zs. zs ++ y) e ∙ append_assoc (answer ++ 10 ∷ []) rest y, is, answers_append ls ms rest y more k)
+  pub replies_append : (ls ms : List (List ℕ)) (x y : List ℕ) → AreReplies is ls x → AreReplies is ms y → AreReplies is (ls ++ ms) (x ++ y)
+  replies_append [] ms x y h k = subst (λ zs. AreReplies is ms (zs ++ y)) (sym h) k
+  replies_append (l ∷ ls) ms x y (answer, rest, e, a, more) k =
+      (answer, rest ++ y, ap (λ zs. zs ++ y) e ∙ append_assoc (answer ++ 10 ∷ []) rest y, a, replies_append ls ms rest y more k)
 
+  -- answers to all lines of an input, and of another that follows it
+  pub all_replies_append : (xs bs x y : List ℕ) → IsWhole xs → AreReplies is (input_lines xs) x → AreReplies is (input_lines bs) y → AreReplies is (input_lines (xs ++ bs)) (x ++ y)
+  all_replies_append xs bs x y w h k = subst (λ ls. AreReplies is ls (x ++ y)) (sym (lines_of_parts xs bs w)) (replies_append (input_lines xs) (input_lines bs) x y h k)
+
+module _ {N : Type 0} (read : List ℕ → Option N) (num : N → List ℕ) where
   -- the answers to lines and to more lines, cut between them
   pub answers_cut : (ls ms : List (List ℕ)) (z : List ℕ) → AreAnswers read num (ls ++ ms) z
       → (x : List ℕ) × (y : List ℕ) × (z ≡ x ++ y) × AreAnswers read num ls x × AreAnswers read num ms y
@@ -60,7 +66,7 @@ module _ {N : Type 0} (read : List ℕ → Option N) (num : N → List ℕ) wher
       ((answer ++ 10 ∷ []) ++ x, y, e ∙ (ap (λ zs. (answer ++ 10 ∷ []) ++ zs) f ∙ sym (append_assoc (answer ++ 10 ∷ []) x y)), (answer, x, refl, is, h), k)
 
   pub output_append : (xs bs x y : List ℕ) → IsWhole xs → IsOutput read num xs x → IsOutput read num bs y → IsOutput read num (xs ++ bs) (x ++ y)
-  output_append xs bs x y w h k = subst (λ ls. AreAnswers read num ls (x ++ y)) (sym (lines_of_parts xs bs w)) (answers_append (input_lines xs) (input_lines bs) x y h k)
+  output_append xs bs x y w h k = all_replies_append (IsAnswer read num) xs bs x y w h k
 
   pub output_cut : (xs bs z : List ℕ) → IsWhole xs → IsOutput read num (xs ++ bs) z
       → (x : List ℕ) × (y : List ℕ) × (z ≡ x ++ y) × IsOutput read num xs x × IsOutput read num bs y

@@ -1,6 +1,7 @@
 pub mod Lines
 pub mod Splitting
 pub mod Numbers
+pub mod Replies
 pub mod Output
 pub mod Laws
 pub mod Answer

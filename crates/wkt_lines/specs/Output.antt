@@ -1,13 +1,13 @@
 -- The output of a program that answers line by line. Numbers are read by `read` and printed by `num`.
 use Rattle.std.specs.Prelude.{◌≡◌, ℕ, List, [], ◌∷◌, ◌++◌, ◌⊎◌, Option, codes, IsUtf8, Result, Ok, Err}
-use Rattle.std.specs.Io.KnownBytes.{Appends}
-use Rattle.wkt_num.specs.Sink.{Sink, Adds, Breaks}
+use Rattle.wkt_num.specs.Sink.{Sink}
 use Rattle.wkt_bytes.specs.Sinks.{SinkOfBytes, IsOut, IsPartOut}
 use Rattle.wkt_access.specs.Values.{Value}
 use Rattle.wkt_access.specs.Shapes.{shape_of}
 use Rattle.wkt_access.specs.Texts.{shape_text}
 use Rattle.wkt_read.specs.Front.{Front, HasNoFront}
 use Rattle.wkt_lines.specs.Lines.{input_lines}
+use Rattle.wkt_lines.specs.Replies.{AreReplies, AllReplied, FirstReplied, PartReplied, AddsReply, BreaksReply}
 use Rattle.wkt_lines.specs.declared.lines.RunError.{RunError}
 use Rattle.wkt_lines.specs.declared.lines.RunError.TheVariants as run
 
@@ -31,9 +31,7 @@ module _ {N : Type 0} (read : List ℕ → Option N) (num : N → List ℕ) wher
 
   -- Each line's answer, followed by a line feed.
   abbrev pub AreAnswers : List (List ℕ) → List ℕ → Type 0
-  AreAnswers [] out = out ≡ []
-  AreAnswers (line ∷ lines) out =
-      (answer : List ℕ) × (rest : List ℕ) × (out ≡ (answer ++ 10 ∷ []) ++ rest) × IsAnswer line answer × AreAnswers lines rest
+  AreAnswers = AreReplies IsAnswer
 
   -- The answers to all lines of the input.
   abbrev pub IsOutput : List ℕ → List ℕ → Type 0
@@ -41,31 +39,15 @@ module _ {N : Type 0} (read : List ℕ → Option N) (num : N → List ℕ) wher
 
   -- The output went out whole.
   abbrev pub AllOut : Option (List ℕ) → Option (List ℕ) → List ℕ → Type 0
-  AllOut old new input = (out : List ℕ) × IsOutput input out × Appends old new out
+  AllOut = AllReplied IsAnswer
 
   -- The whole answers to some first lines went out, and nothing else.
-  pub record FirstOut (old new : Option (List ℕ)) (input : List ℕ) : Type 0 where
-    pub first : List (List ℕ)
-    pub others : List (List ℕ)
-    pub lines : first ++ others ≡ input_lines input
-    pub out : List ℕ
-    pub answers : AreAnswers first out
-    pub went : Appends old new out
+  abbrev pub FirstOut : Option (List ℕ) → Option (List ℕ) → List ℕ → Type 0
+  FirstOut = FirstReplied IsAnswer
 
   -- The whole answers to some first lines went out, and then a beginning of the next line's.
-  pub record PartOut (old new : Option (List ℕ)) (input : List ℕ) : Type 0 where
-    pub first : List (List ℕ)
-    pub line : List ℕ
-    pub others : List (List ℕ)
-    pub lines : first ++ (line ∷ others) ≡ input_lines input
-    pub out : List ℕ
-    pub answers : AreAnswers first out
-    pub answer : List ℕ
-    pub is_answer : IsAnswer line answer
-    pub part : List ℕ
-    pub lost : List ℕ
-    pub whole : answer ++ 10 ∷ [] ≡ part ++ lost
-    pub went : Appends old new (out ++ part)
+  abbrev pub PartOut : Option (List ℕ) → Option (List ℕ) → List ℕ → Type 0
+  PartOut = PartReplied IsAnswer
 
   module _ {D : Type 0} (sink : SinkOfBytes D) where
     -- The output for an input went out whole, by the sink that tells its bytes.
@@ -91,11 +73,11 @@ module _ {N : Type 0} (read : List ℕ → Option N) (num : N → List ℕ) wher
   module _ {S : Type 0} (sink : Sink S) where
     -- The answer to a line was added to a sink of text.
     abbrev pub AddsAnswer : S → S → List ℕ → Type 0
-    AddsAnswer old new line = (answer : List ℕ) × IsAnswer line answer × Adds sink old answer new
+    AddsAnswer = AddsReply IsAnswer sink
 
     -- A beginning of the answer to a line was added to a sink of text.
     abbrev pub BreaksAnswer : S → S → List ℕ → Type 0
-    BreaksAnswer old new line = (answer : List ℕ) × IsAnswer line answer × Breaks sink old answer new
+    BreaksAnswer = BreaksReply IsAnswer sink
 
 -- The fact is claimed where the reader failed.
 abbrev pub OnRunRead : {A : Type 0} → Result A RunError → Type 0 → Type 0

@@ -1,4 +1,4 @@
--- A line taken from the front of an input. Only private contracts cite these words.
+-- A line taken from the front of an input.
 use Rattle.std.specs.Prelude.{◌≡◌, ℕ, List, [], ◌∷◌, ◌==◌, if◌then◌else◌, true, false, refl, ◌⊎◌}
 use Rattle.std.proofs.Common.{inl, inr, sym, ◌∙◌, ap, subst}
 use Rattle.wkt_lines.specs.Lines.{onto_first, pieces, without_last_empty, input_lines}

@@ -15,7 +15,9 @@ mod answers;
 pub mod laws;
 mod lines;
 mod nested;
+mod reply;
 
 pub use answer::AnswerError;
 pub use answers::write_answers;
-pub use lines::{RunError, run, run_over};
+pub use lines::{RunError, line_end, run, run_over};
+pub use reply::{Canonical, Reply, write_replies};

@@ -140,8 +140,12 @@ fn answer_lines<T: WktNum, W: ByteSink>(
     Ok(())
 }
 
-/// Where the first line ends.
-pub(crate) fn line_end(rest: &[u8]) -> usize
+/// Where the first line ends: before its line feed, or where the bytes end.
+///
+/// ```text
+/// line_end(b"POINT(1 2)\nPOINT(3 4)") // 10
+/// ```
+pub fn line_end(rest: &[u8]) -> usize
     ensures within { result ≤ length rest.now }
     ensures before { take result rest.now ≡ before_feed rest.now }
     ensures after { drop (result + 1) rest.now ≡ after_feed rest.now }

@@ -6,8 +6,8 @@ use Rattle.wkt_bytes.specs.Sinks.{SinkOfBytes}
 use Rattle.wkt_bytes.specs.declared.gatherer.Gatherer.{Gatherer}
 use Rattle.wkt_bytes.specs.Gatherer.{gathering_writer, gathered_bytes, Collects, CutsOff, cuts_after, some_handed_on}
 use Rattle.wkt_lines.specs.Lines.{input_lines}
-use Rattle.wkt_lines.specs.Output.{IsAnswer, AreAnswers, PartOut}
-use Rattle.wkt_lines.proofs.Answering.{one_answer}
+use Rattle.wkt_lines.specs.Replies.{AreReplies, PartReplied}
+use Rattle.wkt_lines.proofs.Answering.{one_reply}
 
 -- one list cut in two ways
 split : (xs r p q : List ℕ) → xs ++ r ≡ p ++ q → ((m : List ℕ) × (xs ≡ p ++ m) × (q ≡ m ++ r)) ⊎ ((m : List ℕ) × (p ≡ xs ++ m) × (r ≡ m ++ q))
@@ -25,7 +25,7 @@ no_front : (m q : List ℕ) → [] ≡ m ++ q → m ≡ []
 no_front [] q e = refl
 no_front (x ∷ xs) q e = absurd (cc)
 
-module _ {N : Type 0} (read : List ℕ → Option N) (num : N → List ℕ) where
+module _ (is : List ℕ → List ℕ → Type 0) where
   -- Some first answers, and a beginning of the next.
   pub record Cut (ls : List (List ℕ)) (p : List ℕ) : Type 0 where
     pub first : List (List ℕ)
@@ -33,16 +33,16 @@ module _ {N : Type 0} (read : List ℕ → Option N) (num : N → List ℕ) wher
     pub others : List (List ℕ)
     pub lines : first ++ (line ∷ others) ≡ ls
     pub out : List ℕ
-    pub answers : AreAnswers read num first out
+    pub answers : AreReplies is first out
     pub answer : List ℕ
-    pub is_answer : IsAnswer read num line answer
+    pub is_answer : is line answer
     pub part : List ℕ
     pub lost : List ℕ
     pub whole : answer ++ 10 ∷ [] ≡ part ++ lost
     pub went : p ≡ out ++ part
 
-  here : (l : List ℕ) (ls : List (List ℕ)) (answer p m : List ℕ) → IsAnswer read num l answer → answer ++ 10 ∷ [] ≡ p ++ m → Cut (l ∷ ls) p
-  here l ls answer p m is e = record {
+  here : (l : List ℕ) (ls : List (List ℕ)) (answer p m : List ℕ) → is l answer → answer ++ 10 ∷ [] ≡ p ++ m → Cut (l ∷ ls) p
+  here l ls answer p m one e = record {
     first = [];
     line = l;
     others = ls;
@@ -50,21 +50,21 @@ module _ {N : Type 0} (read : List ℕ → Option N) (num : N → List ℕ) wher
     out = [];
     answers = refl;
     answer = answer;
-    is_answer = is;
+    is_answer = one;
     part = p;
     lost = m;
     whole = e;
     went = refl;
   }
 
-  later : (l : List ℕ) (ls : List (List ℕ)) (answer m p : List ℕ) → IsAnswer read num l answer → p ≡ (answer ++ 10 ∷ []) ++ m → Cut ls m → Cut (l ∷ ls) p
-  later l ls answer m p is e c = record {
+  later : (l : List ℕ) (ls : List (List ℕ)) (answer m p : List ℕ) → is l answer → p ≡ (answer ++ 10 ∷ []) ++ m → Cut ls m → Cut (l ∷ ls) p
+  later l ls answer m p one e c = record {
     first = l ∷ c.first;
     line = c.line;
     others = c.others;
     lines = ap (λ (xs : List (List ℕ)). l ∷ xs) c.lines;
     out = (answer ++ 10 ∷ []) ++ c.out;
-    answers = (answer, c.out, refl, is, c.answers);
+    answers = (answer, c.out, refl, one, c.answers);
     answer = c.answer;
     is_answer = c.is_answer;
     part = c.part;
@@ -73,25 +73,25 @@ module _ {N : Type 0} (read : List ℕ → Option N) (num : N → List ℕ) wher
     went = e ∙ (ap (λ (xs : List ℕ). (answer ++ 10 ∷ []) ++ xs) c.went ∙ sym (append_assoc (answer ++ 10 ∷ []) c.out c.part));
   }
 
-  cut : (l : List ℕ) (ls : List (List ℕ)) (z p q : List ℕ) → AreAnswers read num (l ∷ ls) z → z ≡ p ++ q → Cut (l ∷ ls) p
-  cut l [] z p q (answer, rest, e, is, none) f = elim (split (answer ++ 10 ∷ []) rest p q (sym e ∙ f)) [
-    | inl s ↦ here l [] answer p s.0 is s.1
+  cut : (l : List ℕ) (ls : List (List ℕ)) (z p q : List ℕ) → AreReplies is (l ∷ ls) z → z ≡ p ++ q → Cut (l ∷ ls) p
+  cut l [] z p q (answer, rest, e, one, none) f = elim (split (answer ++ 10 ∷ []) rest p q (sym e ∙ f)) [
+    | inl s ↦ here l [] answer p s.0 one s.1
     | inr s ↦
         let m : s.0 ≡ [] = no_front s.0 q (sym none ∙ s.2) in
         let same : p ≡ answer ++ 10 ∷ [] = s.1 ∙ (ap (λ (xs : List ℕ). (answer ++ 10 ∷ []) ++ xs) m ∙ append-nil (answer ++ 10 ∷ [])) in
-        here l [] answer p [] is (sym same ∙ sym (append-nil p))
+        here l [] answer p [] one (sym same ∙ sym (append-nil p))
   ]
-  cut l (k ∷ ls) z p q (answer, rest, e, is, more) f = elim (split (answer ++ 10 ∷ []) rest p q (sym e ∙ f)) [
-    | inl s ↦ here l (k ∷ ls) answer p s.0 is s.1
-    | inr s ↦ later l (k ∷ ls) answer s.0 p is s.1 (cut k ls rest s.0 q more s.2)
+  cut l (k ∷ ls) z p q (answer, rest, e, one, more) f = elim (split (answer ++ 10 ∷ []) rest p q (sym e ∙ f)) [
+    | inl s ↦ here l (k ∷ ls) answer p s.0 one s.1
+    | inr s ↦ later l (k ∷ ls) answer s.0 p one s.1 (cut k ls rest s.0 q more s.2)
   ]
 
-  cut_some : (ls : List (List ℕ)) (z p q : List ℕ) → ls ≢ [] → AreAnswers read num ls z → z ≡ p ++ q → Cut ls p
+  cut_some : (ls : List (List ℕ)) (z p q : List ℕ) → ls ≢ [] → AreReplies is ls z → z ≡ p ++ q → Cut ls p
   cut_some [] z p q n h e = absurd (n refl)
   cut_some (l ∷ ls) z p q n h e = cut l ls z p q h e
 
   -- a beginning of the answers to some first lines went out
-  part_out : (ls others : List (List ℕ)) (z p q input : List ℕ) (old new : Option (List ℕ)) → ls ≢ [] → AreAnswers read num ls z → z ≡ p ++ q → ls ++ others ≡ input_lines input → Appends old new p → PartOut read num old new input
+  part_out : (ls others : List (List ℕ)) (z p q input : List ℕ) (old new : Option (List ℕ)) → ls ≢ [] → AreReplies is ls z → z ≡ p ++ q → ls ++ others ≡ input_lines input → Appends old new p → PartReplied is old new input
   part_out ls others z p q input old new n h e l w =
       let c = cut_some ls z p q n h e in
       record {
@@ -113,24 +113,24 @@ module _ {N : Type 0} (read : List ℕ → Option N) (num : N → List ℕ) wher
   some_line [] l e = cc
   some_line (x ∷ xs) l e = cc
 
-  no_answers : (ls : List (List ℕ)) (z : List ℕ) → AreAnswers read num ls z → 0 < length z → ls ≢ []
+  no_answers : (ls : List (List ℕ)) (z : List ℕ) → AreReplies is ls z → 0 < length z → ls ≢ []
   no_answers [] z h n e = let k : length z ≡ 0 = ap length h in omega (arith, n, k)
   no_answers (l ∷ ls) z h n e = cc
 
   module _ {W : Type 0} (sink : SinkOfBytes W) (s u : Gatherer W) (empty : gathered_bytes s ≡ []) (input : List ℕ) where
     -- the writer failed within the answers to some first lines and the next
     pub cut_within : (first : List (List ℕ)) (line : List ℕ) (others : List (List ℕ)) (out answer : List ℕ) → first ++ (line ∷ others) ≡ input_lines input
-        → AreAnswers read num first out → IsAnswer read num line answer → CutsOff sink s (out ++ (answer ++ 10 ∷ [])) u
-        → PartOut read num (sink.bytes (gathering_writer s)) (sink.bytes (gathering_writer u)) input
+        → AreReplies is first out → is line answer → CutsOff sink s (out ++ (answer ++ 10 ∷ [])) u
+        → PartReplied is (sink.bytes (gathering_writer s)) (sink.bytes (gathering_writer u)) input
     cut_within first line others out answer l h a k =
         let (p, q, e, w) = some_handed_on sink s u (out ++ (answer ++ 10 ∷ [])) k empty in
         part_out (first ++ (line ∷ [])) others (out ++ (answer ++ 10 ∷ [])) p q input (sink.bytes s.writer) (sink.bytes u.writer)
-        (some_line first line) (one_answer first out line answer h a) e (append_assoc first (line ∷ []) others ∙ l) w
+        (some_line first line) (one_reply is first out line answer h a) e (append_assoc first (line ∷ []) others ∙ l) w
 
     -- the writer failed when the answers to some first lines were to go out
-    pub cut_late : (t : Gatherer W) (first others : List (List ℕ)) (out : List ℕ) → first ++ others ≡ input_lines input → AreAnswers read num first out
+    pub cut_late : (t : Gatherer W) (first others : List (List ℕ)) (out : List ℕ) → first ++ others ≡ input_lines input → AreReplies is first out
         → Collects sink s out t → 0 < length (gathered_bytes t) → CutsOff sink t [] u
-        → PartOut read num (sink.bytes (gathering_writer s)) (sink.bytes (gathering_writer u)) input
+        → PartReplied is (sink.bytes (gathering_writer s)) (sink.bytes (gathering_writer u)) input
     cut_late t first others out l h j n k =
         let (p, q, e, w) = some_handed_on sink s u (out ++ []) (cuts_after sink s t u out [] j k) empty in
         let whole : out ≡ j.out ++ gathered_bytes t = sym (ap (λ (xs : List ℕ). xs ++ out) empty) ∙ j.whole in

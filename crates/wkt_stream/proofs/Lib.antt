@@ -1,3 +1,4 @@
 pub mod Cuts
 pub mod Feeding
 pub mod Outcomes
+pub mod Lining

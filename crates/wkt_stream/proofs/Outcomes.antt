@@ -6,12 +6,13 @@ use Rattle.std.proofs.KnownBytes.{Appends-nil, Appends-trans, Consumes-nil, Cons
 use Rattle.wkt_bytes.specs.Sinks.{SinkOfBytes}
 use Rattle.wkt_lines.specs.Lines.{input_lines}
 use Rattle.wkt_lines.specs.Laws.{IsWhole}
-use Rattle.wkt_lines.specs.Output.{AllOut, FirstOut, PartOut, OnRunRead, OnRunWrite, OnRunMemory}
+use Rattle.wkt_lines.specs.Replies.{AllReplied, FirstReplied, PartReplied}
+use Rattle.wkt_lines.specs.Output.{OnRunRead, OnRunWrite, OnRunMemory}
 use Rattle.wkt_lines.specs.declared.lines.RunError.{RunError}
 use Rattle.wkt_lines.specs.declared.lines.RunError.TheVariants as run
-use Rattle.wkt_lines.proofs.Parts.{lines_of_parts, answers_append, output_append}
+use Rattle.wkt_lines.proofs.Parts.{lines_of_parts, replies_append, all_replies_append}
 use Rattle.wkt_stream.specs.Feeds.{HasNoFeed}
-use Rattle.wkt_stream.specs.Streaming.{TakenOut}
+use Rattle.wkt_stream.specs.Streaming.{TakenReplied}
 
 pub ok_map : {A P Q : Type 0} (r : Result A RunError) → (P → Q) → OnOk r P → OnOk r Q
 ok_map (Ok x) f h = f h
@@ -58,27 +59,27 @@ both_whole : (xs ys : List ℕ) → IsWhole xs → IsWhole ys → IsWhole (xs ++
 both_whole xs ys w (inl e) = subst (λ (zs : List ℕ). IsWhole zs) (sym (ap (λ (zs : List ℕ). xs ++ zs) e ∙ append-nil xs)) w
 both_whole xs ys w (inr (zs, e)) = inr (xs ++ zs, ap (λ (us : List ℕ). xs ++ us) e ∙ sym (append_assoc xs zs (10 ∷ [])))
 
-module _ {N : Type 0} (read : List ℕ → Option N) (num : N → List ℕ) where
-  first_none : (a : Option (List ℕ)) (input : List ℕ) → FirstOut read num a a input
+module _ (is : List ℕ → List ℕ → Type 0) where
+  first_none : (a : Option (List ℕ)) (input : List ℕ) → FirstReplied is a a input
   first_none a input = record { first = []; others = input_lines input; lines = refl; out = []; answers = refl; went = Appends-nil a }
 
   -- nothing went out
-  pub nothing_out : (left a : Option (List ℕ)) → IfSome left (FirstOut read num a a)
+  pub nothing_out : (left a : Option (List ℕ)) → IfSome left (FirstReplied is a a)
   nothing_out None a = tt
   nothing_out (Some input) a = first_none a input
 
-  first_more : (a b c : Option (List ℕ)) (done here input : List ℕ) → AllOut read num a b done → FirstOut read num b c here → Fits done here input → FirstOut read num a c input
+  first_more : (a b c : Option (List ℕ)) (done here input : List ℕ) → AllReplied is a b done → FirstReplied is b c here → Fits done here input → FirstReplied is a c input
   first_more a b c done here input h f (others, e) = record {
     first = input_lines done ++ f.first;
     others = f.others ++ others;
     lines = append_assoc (input_lines done) f.first (f.others ++ others)
         ∙ (ap (λ (ls : List (List ℕ)). input_lines done ++ ls) (sym (append_assoc f.first f.others others) ∙ ap (λ (ls : List (List ℕ)). ls ++ others) f.lines) ∙ e);
     out = h.0 ++ f.out;
-    answers = answers_append read num (input_lines done) f.first h.0 f.out h.1 f.answers;
+    answers = replies_append is (input_lines done) f.first h.0 f.out h.1 f.answers;
     went = Appends-trans a b c h.0 f.out h.2 f.went;
   }
 
-  part_more : (a b c : Option (List ℕ)) (done here input : List ℕ) → AllOut read num a b done → PartOut read num b c here → Fits done here input → PartOut read num a c input
+  part_more : (a b c : Option (List ℕ)) (done here input : List ℕ) → AllReplied is a b done → PartReplied is b c here → Fits done here input → PartReplied is a c input
   part_more a b c done here input h f (others, e) = record {
     first = input_lines done ++ f.first;
     line = f.line;
@@ -86,7 +87,7 @@ module _ {N : Type 0} (read : List ℕ → Option N) (num : N → List ℕ) wher
     lines = append_assoc (input_lines done) f.first (f.line ∷ (f.others ++ others))
         ∙ (ap (λ (ls : List (List ℕ)). input_lines done ++ ls) (sym (append_assoc f.first (f.line ∷ f.others) others) ∙ ap (λ (ls : List (List ℕ)). ls ++ others) f.lines) ∙ e);
     out = h.0 ++ f.out;
-    answers = answers_append read num (input_lines done) f.first h.0 f.out h.1 f.answers;
+    answers = replies_append is (input_lines done) f.first h.0 f.out h.1 f.answers;
     answer = f.answer;
     is_answer = f.is_answer;
     part = f.part;
@@ -101,7 +102,7 @@ module _ {N : Type 0} (read : List ℕ → Option N) (num : N → List ℕ) wher
       pub done : List ℕ
       pub ends : IsWhole done
       pub taken : Consumes left0 left1 (done ++ front)
-      pub out : AllOut read num (sink.bytes start) (sink.bytes now) done
+      pub out : AllReplied is (sink.bytes start) (sink.bytes now) done
       pub count : sink.failures now ≡ sink.failures start
       pub tied : sink.keeps start now
 
@@ -129,13 +130,13 @@ module _ {N : Type 0} (read : List ℕ → Option N) (num : N → List ℕ) wher
       }
 
       -- the whole lines were answered
-      pub answered : (next : W) (here rest : List ℕ) → front ≡ here ++ rest → IsWhole here → AllOut read num (sink.bytes now) (sink.bytes next) here
+      pub answered : (next : W) (here rest : List ℕ) → front ≡ here ++ rest → IsWhole here → AllReplied is (sink.bytes now) (sink.bytes next) here
           → sink.failures next ≡ sink.failures now → sink.keeps now next → Base left0 left1 start next rest
       answered next here rest e w h f k = record {
         done = base.done ++ here;
         ends = both_whole base.done here base.ends w;
         taken = subst (λ (xs : List ℕ). Consumes left0 left1 xs) (ap (λ (xs : List ℕ). base.done ++ xs) e ∙ sym (append_assoc base.done here rest)) base.taken;
-        out = (base.out.0 ++ h.0, output_append read num base.done here base.out.0 h.0 base.ends base.out.1 h.1, Appends-trans (sink.bytes start) (sink.bytes now) (sink.bytes next) base.out.0 h.0 base.out.2 h.2);
+        out = (base.out.0 ++ h.0, all_replies_append is base.done here base.out.0 h.0 base.ends base.out.1 h.1, Appends-trans (sink.bytes start) (sink.bytes now) (sink.bytes next) base.out.0 h.0 base.out.2 h.2);
         count = f ∙ base.count;
         tied = sink.keeps_more start now next base.tied k;
       }
@@ -149,20 +150,20 @@ module _ {N : Type 0} (read : List ℕ → Option N) (num : N → List ℕ) wher
       fits_end e = Consumes-whole left0 left1 (base.done ++ front) (Fits base.done front) base.taken e (fits_last base.done front base.ends)
 
       -- of the lines that come after those that were answered, the first were, and a beginning of the next
-      pub firsts : (next : W) (here : List ℕ) → IfSome left0 (Fits base.done here) → FirstOut read num (sink.bytes now) (sink.bytes next) here → IfSome left0 (FirstOut read num (sink.bytes start) (sink.bytes next))
-      firsts next here fits f = if_map left0 (Fits base.done here) (FirstOut read num (sink.bytes start) (sink.bytes next)) fits
+      pub firsts : (next : W) (here : List ℕ) → IfSome left0 (Fits base.done here) → FirstReplied is (sink.bytes now) (sink.bytes next) here → IfSome left0 (FirstReplied is (sink.bytes start) (sink.bytes next))
+      firsts next here fits f = if_map left0 (Fits base.done here) (FirstReplied is (sink.bytes start) (sink.bytes next)) fits
           (λ input k. first_more (sink.bytes start) (sink.bytes now) (sink.bytes next) base.done here input base.out f k)
 
-      pub part : (next : W) (here : List ℕ) → IfSome left0 (Fits base.done here) → PartOut read num (sink.bytes now) (sink.bytes next) here → IfSome left0 (PartOut read num (sink.bytes start) (sink.bytes next))
-      part next here fits f = if_map left0 (Fits base.done here) (PartOut read num (sink.bytes start) (sink.bytes next)) fits
+      pub part : (next : W) (here : List ℕ) → IfSome left0 (Fits base.done here) → PartReplied is (sink.bytes now) (sink.bytes next) here → IfSome left0 (PartReplied is (sink.bytes start) (sink.bytes next))
+      part next here fits f = if_map left0 (Fits base.done here) (PartReplied is (sink.bytes start) (sink.bytes next)) fits
           (λ input k. part_more (sink.bytes start) (sink.bytes now) (sink.bytes next) base.done here input base.out f k)
 
       -- the lines that were answered are the first
-      pub so_far : IfSome left0 (FirstOut read num (sink.bytes start) (sink.bytes now))
+      pub so_far : IfSome left0 (FirstReplied is (sink.bytes start) (sink.bytes now))
       so_far = firsts now [] (fits_here [] front refl (inl refl)) (first_none (sink.bytes now) [])
 
       -- no more could be read
-      pub broke_off : (left2 : Option (List ℕ)) → Keeps left1 left2 → HasNoFeed front → TakenOut read num left0 left2 (sink.bytes start) (sink.bytes now)
+      pub broke_off : (left2 : Option (List ℕ)) → Keeps left1 left2 → HasNoFeed front → TakenReplied is left0 left2 (sink.bytes start) (sink.bytes now)
       broke_off left2 k n = (
         base.done ++ front,
         Consumes-kept left0 left1 left2 (base.done ++ front) base.taken k,
@@ -170,6 +171,6 @@ module _ {N : Type 0} (read : List ℕ → Option N) (num : N → List ℕ) wher
       )
 
       -- the last lines were answered too
-      pub all : (next : W) → IsAtEnd left1 → AllOut read num (sink.bytes now) (sink.bytes next) front → IfSome left0 (AllOut read num (sink.bytes start) (sink.bytes next))
-      all next end h = Consumes-whole left0 left1 (base.done ++ front) (AllOut read num (sink.bytes start) (sink.bytes next)) base.taken end
-          (base.out.0 ++ h.0, output_append read num base.done front base.out.0 h.0 base.ends base.out.1 h.1, Appends-trans (sink.bytes start) (sink.bytes now) (sink.bytes next) base.out.0 h.0 base.out.2 h.2)
+      pub all : (next : W) → IsAtEnd left1 → AllReplied is (sink.bytes now) (sink.bytes next) front → IfSome left0 (AllReplied is (sink.bytes start) (sink.bytes next))
+      all next end h = Consumes-whole left0 left1 (base.done ++ front) (AllReplied is (sink.bytes start) (sink.bytes next)) base.taken end
+          (base.out.0 ++ h.0, all_replies_append is base.done front base.out.0 h.0 base.ends base.out.1 h.1, Appends-trans (sink.bytes start) (sink.bytes now) (sink.bytes next) base.out.0 h.0 base.out.2 h.2)

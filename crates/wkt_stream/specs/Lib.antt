@@ -1,3 +1,4 @@
 pub mod Blocks
 pub mod Feeds
 pub mod Streaming
+pub mod Reading

@@ -10,6 +10,8 @@
 #![tactic(auto)]
 
 mod block;
+mod reading;
 mod streaming;
 
-pub use streaming::{stream, stream_over};
+pub use reading::Lines;
+pub use streaming::{stream, stream_over, stream_with};

@@ -16,6 +16,7 @@ use wkt_uses::flat_from_reader::{CopyError, copy_polygon};
 use wkt_uses::flat_key::flat_key;
 use wkt_uses::flat_key_to_sink::write_flat_key;
 use wkt_uses::from_json::geometry_in;
+use wkt_uses::json_service::serve;
 use wkt_uses::key::key;
 use wkt_uses::my_map::{Figure, Map};
 use wkt_uses::my_number::Half;
@@ -233,6 +234,35 @@ fn compares(rt: HostRuntime) -> Result<(), Fail> {
             same,
             "of {one} and {other}"
         );
+    }
+    Ok(())
+}
+
+#[test]
+fn serves(rt: HostRuntime) -> Result<(), Fail> {
+    let alloc = rt.alloc();
+    let input = b"\"point ( 10 -20.50 )\"\n\"POINT(1)\"\n7\n\"POINT(1 2)\n\n \"POLYGON EMPTY\" ";
+    let want =
+        "\"POINT(10 -20.5)\"\n{\"refused\":7}\n{\"refused\":null}\n{\"refused\":null}\n{\"refused\":null}\n\"POLYGON EMPTY\"\n";
+    for room in [want.len(), want.len().saturating_sub(1), 0] {
+        let mut source = Piecewise {
+            rest: input,
+            step: 7,
+        };
+        let mut page = Page {
+            text: Vec::new(alloc),
+            room,
+            failures: 0,
+        };
+        let answer = serve::<Decimal<6>, _, _>(alloc, &mut source, &mut page);
+        assert_eq!(rt; page.text.len(), room);
+        assert!(rt; want.as_bytes().starts_with(page.text.as_slice()));
+        if room < want.len() {
+            assert!(rt; matches!(answer, Err(RunError::Write(_))));
+            assert_eq!(rt; page.failures, 1);
+        } else {
+            assert!(rt; answer.is_ok());
+        }
     }
     Ok(())
 }

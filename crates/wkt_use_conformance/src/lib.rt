@@ -21,6 +21,8 @@ mod pieces;
 #[cfg(test)]
 mod program_sinks;
 #[cfg(test)]
+mod read_lines;
+#[cfg(test)]
 mod slow_sinks;
 #[cfg(test)]
 mod walks;

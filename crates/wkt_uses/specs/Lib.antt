@@ -1,3 +1,4 @@
+pub mod Served
 pub mod Tidy
 pub mod Compared
 pub mod Ordered

@@ -12,6 +12,7 @@ pub mod flat_from_reader;
 pub mod flat_key;
 pub mod flat_key_to_sink;
 pub mod from_json;
+pub mod json_service;
 pub mod key;
 pub mod key_counts;
 pub mod my_areas;

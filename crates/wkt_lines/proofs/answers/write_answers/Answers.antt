@@ -1,6 +1,7 @@
 use Rattle.std.proofs.Common.{◌≡◌, [], ◌∷◌, ◌++◌, ◌≢◌, ◌∙◌, ap, Err, length, refl, arith}
 use Rattle.std.proofs.lemmas.Grind.{common_steps}
 use Rattle.std.proofs.lemmas.Str.{IsAscii-take, IsAscii-drop}
+use Rattle.wkt_lines.specs.Output.{IsAnswer}
 use Rattle.wkt_lines.proofs.Answering.{one_more, one_answer}
 use Rattle.wkt_lines.proofs.Adding.{sink_map, memory_map, adds_none, adds_more, breaks_next, adds_first}
 use Rattle.wkt_lines.proofs.answers.write_answers.Goals as goal
@@ -13,13 +14,13 @@ returns-in-Err-clause-sink g c =
     let i = c.lines.invariant in
     let some : c.lines.rest.now ≢ [] = λ e. let n : length c.lines.rest.now ≡ 0 = ap length e in grind (arith, common_steps, n) in
     sink_map {A = Unit {0}} (Err c.in-Err.e)
-    (λ h. breaks_next g.W.TextSink.sink g.T.WktNum.read g.T.WktNum.num i.first i.out c.lines.rest.now c.args.input.now i.lines i.answers _ _ _ i.added _ some c.line_end-end.ensures.before h) c.in-Err.ensures.sink
+    (λ h. breaks_next g.W.TextSink.sink (IsAnswer g.T.WktNum.read g.T.WktNum.num) i.first i.out c.lines.rest.now c.args.input.now i.lines i.answers _ _ _ i.added _ some c.line_end-end.ensures.before h) c.in-Err.ensures.sink
 
 pub returns-in-Err-clause-memory : goal.returns-in-Err-clause-memory
 returns-in-Err-clause-memory g c =
     let i = c.lines.invariant in
     memory_map {A = Unit {0}} (Err c.in-Err.e)
-    (λ h. adds_first g.W.TextSink.sink g.T.WktNum.read g.T.WktNum.num i.first i.out c.lines.rest.now c.args.input.now i.lines i.answers _ _ _ i.added h) c.in-Err.ensures.memory
+    (λ h. adds_first g.W.TextSink.sink (IsAnswer g.T.WktNum.read g.T.WktNum.num) i.first i.out c.lines.rest.now c.args.input.now i.lines i.answers _ _ _ i.added h) c.in-Err.ensures.memory
 
 pub lines-preserved : goal.lines-preserved
 lines-preserved g c =

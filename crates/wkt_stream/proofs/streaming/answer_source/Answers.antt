@@ -11,7 +11,7 @@ use Rattle.wkt_stream.proofs.streaming.answer_source.Goals as goal
 
 pub turns-init : goal.turns-init
 turns-init g c = record {
-  base = begins g.T.WktNum.read g.T.WktNum.num g.W.ByteSink.sink (g.R.ByteSource.left c.args.reader.now) (gathering_writer c.args.gatherer.now) _ c.new-block.ensures;
+  base = begins (g.A.BlockReply.answers c.args.reply.now) g.W.ByteSink.sink (g.R.ByteSource.left c.args.reader.now) (gathering_writer c.args.gatherer.now) _ c.new-block.ensures;
   none = none_in_nothing _ c.new-block.ensures;
   count = refl;
   sound = c.requires.sound;
@@ -19,17 +19,17 @@ turns-init g c = record {
 }
 
 pub returns-in-Err-clause-memory : goal.returns-in-Err-clause-memory
-returns-in-Err-clause-memory g c = so_far g.T.WktNum.read g.T.WktNum.num g.W.ByteSink.sink _ _ _ _ _ c.turns.invariant.base
+returns-in-Err-clause-memory g c = so_far (g.A.BlockReply.answers c.args.reply.now) g.W.ByteSink.sink _ _ _ _ _ c.turns.invariant.base
 
 pub returns-in-Err-clause-keeps : goal.returns-in-Err-clause-keeps
 returns-in-Err-clause-keeps g c = c.turns.invariant.base.tied
 
 pub returns-in-Err-fill-clause-read : goal.returns-in-Err-fill-clause-read
 returns-in-Err-fill-clause-read g c =
-    broke_off g.T.WktNum.read g.T.WktNum.num g.W.ByteSink.sink _ _ _ _ _ c.turns.invariant.base _ c.in-Err-fill.ensures.left c.turns.invariant.none
+    broke_off (g.A.BlockReply.answers c.args.reply.now) g.W.ByteSink.sink _ _ _ _ _ c.turns.invariant.base _ c.in-Err-fill.ensures.left c.turns.invariant.none
 
 pub returns-in-Err-fill-clause-read_first : goal.returns-in-Err-fill-clause-read_first
-returns-in-Err-fill-clause-read_first g c = so_far g.T.WktNum.read g.T.WktNum.num g.W.ByteSink.sink _ _ _ _ _ c.turns.invariant.base
+returns-in-Err-fill-clause-read_first g c = so_far (g.A.BlockReply.answers c.args.reply.now) g.W.ByteSink.sink _ _ _ _ _ c.turns.invariant.base
 
 pub returns-in-Err-fill-clause-read_count : goal.returns-in-Err-fill-clause-read_count
 returns-in-Err-fill-clause-read_count g c = c.in-Err-fill.ensures.failed ∙ ap next_count c.turns.invariant.count
@@ -40,15 +40,15 @@ returns-in-Err-fill-clause-keeps g c = c.turns.invariant.base.tied
 pub returns-in-Ok-eq0-clause-ok : goal.returns-in-Ok-eq0-clause-ok
 returns-in-Ok-eq0-clause-ok g c =
     let h = c.in-Ok-eq0.ensures.ok in
-    let d = filled g.T.WktNum.read g.T.WktNum.num g.W.ByteSink.sink _ _ _ _ _ c.turns.invariant.base _ h.0 c.front.result.now h.3 (c.front.ensures ∙ (h.1 ∙ ap (λ (xs : List ℕ). xs ++ h.0) c.make_room.ensures.front)) in
-    ok_map c.answer_block.result (all g.T.WktNum.read g.T.WktNum.num g.W.ByteSink.sink _ _ _ _ _ d _ (c.in-Ok-eq0.ensures.end c.in-Ok-eq0.field-0-test)) c.answer_block.ensures.ok
+    let d = filled (g.A.BlockReply.answers c.args.reply.now) g.W.ByteSink.sink _ _ _ _ _ c.turns.invariant.base _ h.0 c.front.result.now h.3 (c.front.ensures ∙ (h.1 ∙ ap (λ (xs : List ℕ). xs ++ h.0) c.make_room.ensures.front)) in
+    ok_map c.answer_block.result (all (g.A.BlockReply.answers c.args.reply.now) g.W.ByteSink.sink _ _ _ _ _ d _ (c.in-Ok-eq0.ensures.end c.in-Ok-eq0.field-0-test)) c.answer_block.ensures.ok
 
 pub returns-in-Ok-eq0-clause-write : goal.returns-in-Ok-eq0-clause-write
 returns-in-Ok-eq0-clause-write g c =
     let h = c.in-Ok-eq0.ensures.ok in
-    let d = filled g.T.WktNum.read g.T.WktNum.num g.W.ByteSink.sink _ _ _ _ _ c.turns.invariant.base _ h.0 c.front.result.now h.3 (c.front.ensures ∙ (h.1 ∙ ap (λ (xs : List ℕ). xs ++ h.0) c.make_room.ensures.front)) in
-    let f = fits_end g.T.WktNum.read g.T.WktNum.num g.W.ByteSink.sink _ _ _ _ _ d (c.in-Ok-eq0.ensures.end c.in-Ok-eq0.field-0-test) in
-    write_map c.answer_block.result (part g.T.WktNum.read g.T.WktNum.num g.W.ByteSink.sink _ _ _ _ _ d _ _ f) c.answer_block.ensures.write
+    let d = filled (g.A.BlockReply.answers c.args.reply.now) g.W.ByteSink.sink _ _ _ _ _ c.turns.invariant.base _ h.0 c.front.result.now h.3 (c.front.ensures ∙ (h.1 ∙ ap (λ (xs : List ℕ). xs ++ h.0) c.make_room.ensures.front)) in
+    let f = fits_end (g.A.BlockReply.answers c.args.reply.now) g.W.ByteSink.sink _ _ _ _ _ d (c.in-Ok-eq0.ensures.end c.in-Ok-eq0.field-0-test) in
+    write_map c.answer_block.result (part (g.A.BlockReply.answers c.args.reply.now) g.W.ByteSink.sink _ _ _ _ _ d _ _ f) c.answer_block.ensures.write
 
 pub returns-in-Ok-eq0-clause-write_count : goal.returns-in-Ok-eq0-clause-write_count
 returns-in-Ok-eq0-clause-write_count g c =
@@ -58,9 +58,9 @@ returns-in-Ok-eq0-clause-write_count g c =
 pub returns-in-Ok-eq0-clause-memory : goal.returns-in-Ok-eq0-clause-memory
 returns-in-Ok-eq0-clause-memory g c =
     let h = c.in-Ok-eq0.ensures.ok in
-    let d = filled g.T.WktNum.read g.T.WktNum.num g.W.ByteSink.sink _ _ _ _ _ c.turns.invariant.base _ h.0 c.front.result.now h.3 (c.front.ensures ∙ (h.1 ∙ ap (λ (xs : List ℕ). xs ++ h.0) c.make_room.ensures.front)) in
-    let f = fits_end g.T.WktNum.read g.T.WktNum.num g.W.ByteSink.sink _ _ _ _ _ d (c.in-Ok-eq0.ensures.end c.in-Ok-eq0.field-0-test) in
-    memory_map c.answer_block.result (firsts g.T.WktNum.read g.T.WktNum.num g.W.ByteSink.sink _ _ _ _ _ d _ _ f) c.answer_block.ensures.memory
+    let d = filled (g.A.BlockReply.answers c.args.reply.now) g.W.ByteSink.sink _ _ _ _ _ c.turns.invariant.base _ h.0 c.front.result.now h.3 (c.front.ensures ∙ (h.1 ∙ ap (λ (xs : List ℕ). xs ++ h.0) c.make_room.ensures.front)) in
+    let f = fits_end (g.A.BlockReply.answers c.args.reply.now) g.W.ByteSink.sink _ _ _ _ _ d (c.in-Ok-eq0.ensures.end c.in-Ok-eq0.field-0-test) in
+    memory_map c.answer_block.result (firsts (g.A.BlockReply.answers c.args.reply.now) g.W.ByteSink.sink _ _ _ _ _ d _ _ f) c.answer_block.ensures.memory
 
 pub returns-in-Ok-eq0-clause-keeps : goal.returns-in-Ok-eq0-clause-keeps
 returns-in-Ok-eq0-clause-keeps g c = g.W.ByteSink.sink.keeps_more _ _ _ c.turns.invariant.base.tied c.answer_block.ensures.keeps
@@ -76,10 +76,10 @@ returns-in-Err-answer_block-clause-write g c =
     let h = c.in-Ok.ensures.ok in
     let n = c.whole-whole.result in
     let held = c.front-in-Ok.result.now in
-    let d = filled g.T.WktNum.read g.T.WktNum.num g.W.ByteSink.sink _ _ _ _ _ c.turns.invariant.base _ h.0 held h.3 (c.front-in-Ok.ensures ∙ (h.1 ∙ ap (λ (xs : List ℕ). xs ++ h.0) c.make_room.ensures.front)) in
+    let d = filled (g.A.BlockReply.answers c.args.reply.now) g.W.ByteSink.sink _ _ _ _ _ c.turns.invariant.base _ h.0 held h.3 (c.front-in-Ok.ensures ∙ (h.1 ∙ ap (λ (xs : List ℕ). xs ++ h.0) c.make_room.ensures.front)) in
     let w = subst (λ (xs : List ℕ). IsWhole (take n xs)) (sym c.front-in-Ok.ensures) c.whole-whole.ensures.whole in
-    let f = fits_here g.T.WktNum.read g.T.WktNum.num g.W.ByteSink.sink _ _ _ _ _ d (take n held) (drop n held) (sym (take-append-drop n held)) w in
-    write_map {A = Unit {0}} (Err c.in-Err-answer_block.e) (part g.T.WktNum.read g.T.WktNum.num g.W.ByteSink.sink _ _ _ _ _ d _ _ f) c.in-Err-answer_block.ensures.write
+    let f = fits_here (g.A.BlockReply.answers c.args.reply.now) g.W.ByteSink.sink _ _ _ _ _ d (take n held) (drop n held) (sym (take-append-drop n held)) w in
+    write_map {A = Unit {0}} (Err c.in-Err-answer_block.e) (part (g.A.BlockReply.answers c.args.reply.now) g.W.ByteSink.sink _ _ _ _ _ d _ _ f) c.in-Err-answer_block.ensures.write
 
 pub returns-in-Err-answer_block-clause-write_count : goal.returns-in-Err-answer_block-clause-write_count
 returns-in-Err-answer_block-clause-write_count g c =
@@ -91,10 +91,10 @@ returns-in-Err-answer_block-clause-memory g c =
     let h = c.in-Ok.ensures.ok in
     let n = c.whole-whole.result in
     let held = c.front-in-Ok.result.now in
-    let d = filled g.T.WktNum.read g.T.WktNum.num g.W.ByteSink.sink _ _ _ _ _ c.turns.invariant.base _ h.0 held h.3 (c.front-in-Ok.ensures ∙ (h.1 ∙ ap (λ (xs : List ℕ). xs ++ h.0) c.make_room.ensures.front)) in
+    let d = filled (g.A.BlockReply.answers c.args.reply.now) g.W.ByteSink.sink _ _ _ _ _ c.turns.invariant.base _ h.0 held h.3 (c.front-in-Ok.ensures ∙ (h.1 ∙ ap (λ (xs : List ℕ). xs ++ h.0) c.make_room.ensures.front)) in
     let w = subst (λ (xs : List ℕ). IsWhole (take n xs)) (sym c.front-in-Ok.ensures) c.whole-whole.ensures.whole in
-    let f = fits_here g.T.WktNum.read g.T.WktNum.num g.W.ByteSink.sink _ _ _ _ _ d (take n held) (drop n held) (sym (take-append-drop n held)) w in
-    memory_map {A = Unit {0}} (Err c.in-Err-answer_block.e) (firsts g.T.WktNum.read g.T.WktNum.num g.W.ByteSink.sink _ _ _ _ _ d _ _ f) c.in-Err-answer_block.ensures.memory
+    let f = fits_here (g.A.BlockReply.answers c.args.reply.now) g.W.ByteSink.sink _ _ _ _ _ d (take n held) (drop n held) (sym (take-append-drop n held)) w in
+    memory_map {A = Unit {0}} (Err c.in-Err-answer_block.e) (firsts (g.A.BlockReply.answers c.args.reply.now) g.W.ByteSink.sink _ _ _ _ _ d _ _ f) c.in-Err-answer_block.ensures.memory
 
 pub returns-in-Err-answer_block-clause-keeps : goal.returns-in-Err-answer_block-clause-keeps
 returns-in-Err-answer_block-clause-keeps g c = g.W.ByteSink.sink.keeps_more _ _ _ c.turns.invariant.base.tied c.answer_block-in-Ok.ensures.keeps
@@ -105,11 +105,11 @@ turns-preserved g c =
     let n = c.whole-whole.result in
     let held = c.front-in-Ok.result.now in
     let rest = unanswered c.forget.new.self in
-    let d = filled g.T.WktNum.read g.T.WktNum.num g.W.ByteSink.sink _ _ _ _ _ c.turns.invariant.base _ h.0 held h.3 (c.front-in-Ok.ensures ∙ (h.1 ∙ ap (λ (xs : List ℕ). xs ++ h.0) c.make_room.ensures.front)) in
+    let d = filled (g.A.BlockReply.answers c.args.reply.now) g.W.ByteSink.sink _ _ _ _ _ c.turns.invariant.base _ h.0 held h.3 (c.front-in-Ok.ensures ∙ (h.1 ∙ ap (λ (xs : List ℕ). xs ++ h.0) c.make_room.ensures.front)) in
     let w = subst (λ (xs : List ℕ). IsWhole (take n xs)) (sym c.front-in-Ok.ensures) c.whole-whole.ensures.whole in
     let parts : held ≡ take n held ++ rest = sym (take-append-drop n held) ∙ ap (λ (xs : List ℕ). take n held ++ xs) (ap (λ (xs : List ℕ). drop n xs) c.front-in-Ok.ensures ∙ sym c.forget.ensures) in
     record {
-      base = answered g.T.WktNum.read g.T.WktNum.num g.W.ByteSink.sink _ _ _ _ _ d _ (take n held) rest parts w c.in-Ok-answer_block.ensures.ok c.in-Ok-answer_block.ensures.count c.answer_block-in-Ok.ensures.keeps;
+      base = answered (g.A.BlockReply.answers c.args.reply.now) g.W.ByteSink.sink _ _ _ _ _ d _ (take n held) rest parts w c.in-Ok-answer_block.ensures.ok c.in-Ok-answer_block.ensures.count c.answer_block-in-Ok.ensures.keeps;
       none = subst (λ (xs : List ℕ). HasNoFeed xs) (sym c.forget.ensures) c.whole-whole.ensures.rest;
       count = c.in-Ok.ensures.count ∙ c.turns.invariant.count;
       sound = c.in-Ok-answer_block.ensures.sound;
@@ -117,7 +117,7 @@ turns-preserved g c =
     }
 
 pub returns-clause-memory : goal.returns-clause-memory
-returns-clause-memory g c = so_far g.T.WktNum.read g.T.WktNum.num g.W.ByteSink.sink _ _ _ _ _ c.turns.invariant.base
+returns-clause-memory g c = so_far (g.A.BlockReply.answers c.args.reply.now) g.W.ByteSink.sink _ _ _ _ _ c.turns.invariant.base
 
 pub returns-clause-keeps : goal.returns-clause-keeps
 returns-clause-keeps g c = c.turns.invariant.base.tied
