@@ -100,7 +100,10 @@ fn nested_collections(rt: HostRuntime) -> Result<(), Fail> {
 const ONE: [(&str, &str); 6] = [
     ("POLYGON(EMPTY)", "POLYGON EMPTY"),
     ("POLYGON Z(EMPTY,(1 2 3))", "POLYGON Z EMPTY"),
-    ("MULTIPOLYGON((EMPTY),((1 2)))", "MULTIPOLYGON(EMPTY,((1 2)))"),
+    (
+        "MULTIPOLYGON((EMPTY),((1 2)))",
+        "MULTIPOLYGON(EMPTY,((1 2)))",
+    ),
     (
         "GEOMETRYCOLLECTION(POINT(1 2),POLYGON(EMPTY,EMPTY))",
         "GEOMETRYCOLLECTION(POINT(1 2),POLYGON EMPTY)",
