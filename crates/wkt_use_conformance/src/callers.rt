@@ -4,10 +4,11 @@ use std::alloc::Global;
 use std::test::Fail;
 use wkt::deserialize::ValueError;
 use wkt::geo_traits::{Dimensions, GeometryTrait};
-use wkt::geo_types::{Coord, Geometry, Line};
+use wkt::geo_types::{Coord, Geometry, Line, LineString, Point};
+use wkt::literals::{line_string, point, polygon};
 use wkt::to_wkt::CountedText;
 use wkt::tokenizer::{PeekableTokens, Tokens};
-use wkt::{Decimal, ReadError, ToWktError, TryFromWkt};
+use wkt::{Decimal, Expected, ReadError, ToWktError, TryFromWkt, Wkt};
 use wkt_lines::RunError;
 use wkt_uses::any_collection::{count_members, write_members};
 use wkt_uses::any_geometry::first_member;
@@ -22,7 +23,9 @@ use wkt_uses::my_map::{Figure, Map};
 use wkt_uses::my_number::Half;
 use wkt_uses::my_sinks::{Page, Piecewise, answers};
 use wkt_uses::read_and_write::{tidy, tidy_if_any, tidy_pair};
+use wkt_uses::refusal::{Answer, answer_to};
 use wkt_uses::same_place::same_place;
+use wkt_uses::scene::{Layer, scene_text};
 
 #[test]
 fn writes_members(rt: HostRuntime) -> Result<(), Fail> {
@@ -264,5 +267,59 @@ fn serves(rt: HostRuntime) -> Result<(), Fail> {
             assert!(rt; answer.is_ok());
         }
     }
+    Ok(())
+}
+
+#[test]
+fn scenes(rt: HostRuntime) -> Result<(), Fail> {
+    let alloc = rt.alloc();
+    let path = LineString::new(vec![in alloc; Coord { x: 1, y: -2 }, Coord { x: 3, y: 4 }]?);
+    let name = String::from_str(alloc, "paths")?;
+    let paths = Layer::Group(name, vec![in alloc; Layer::Path(path)]?);
+    let nothing = Layer::Group(String::new(alloc), Vec::new(alloc));
+    let all = vec![in alloc; Layer::Mark(Point::new(0, 7)), paths, nothing]?;
+    let scene = Layer::Group(String::from_str(alloc, "all")?, all);
+    assert_eq!(rt;
+        scene_text(alloc, &scene)?.as_str(),
+        "GEOMETRYCOLLECTION(POINT(0 7),GEOMETRYCOLLECTION(LINESTRING(1 -2,3 4)),GEOMETRYCOLLECTION EMPTY)"
+    );
+    Ok(())
+}
+
+#[test]
+fn answers_texts(rt: HostRuntime) -> Result<(), Fail> {
+    let alloc = rt.alloc();
+    match answer_to::<Decimal<6>>(alloc, "point ( 1 2.50 )")? {
+        Answer::Text(text) => assert_eq!(rt; text.as_str(), "POINT(1 2.5)"),
+        Answer::Refused(..) => assert!(rt; false, "refused"),
+    }
+    match answer_to::<Decimal<6>>(alloc, "POINT(1)")? {
+        Answer::Text(_) => assert!(rt; false, "read"),
+        Answer::Refused(start, end, expected) => {
+            assert_eq!(rt; (start, end), (7, 8));
+            assert!(rt; expected == Expected::Y);
+        }
+    }
+    Ok(())
+}
+
+#[test]
+fn literals(rt: HostRuntime) -> Result<(), Fail> {
+    let alloc = rt.alloc();
+    let place: Wkt<i32> = Wkt::from(point(10, -20));
+    assert_eq!(rt; place.to_string(alloc)?.as_str(), "POINT(10 -20)");
+    let line: Wkt<i32> = Wkt::from(line_string(alloc, &[(0, 0), (4, -1)])?);
+    assert_eq!(rt; line.to_string(alloc)?.as_str(), "LINESTRING(0 0,4 -1)");
+    let none: Wkt<i32> = Wkt::from(line_string(alloc, &[])?);
+    assert_eq!(rt; none.to_string(alloc)?.as_str(), "LINESTRING EMPTY");
+    let hole: &[(i32, i32)] = &[(1, 1), (2, 1), (1, 2)];
+    let ring: &[(i32, i32)] = &[(0, 0), (4, -1), (2, 4), (0, 0)];
+    let area = Wkt::from(polygon(alloc, &[ring, hole])?);
+    assert_eq!(rt;
+        area.to_string(alloc)?.as_str(),
+        "POLYGON((0 0,4 -1,2 4,0 0),(1 1,2 1,1 2))"
+    );
+    let none: Wkt<i32> = Wkt::from(polygon(alloc, &[])?);
+    assert_eq!(rt; none.to_string(alloc)?.as_str(), "POLYGON EMPTY");
     Ok(())
 }

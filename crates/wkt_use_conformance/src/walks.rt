@@ -1,7 +1,7 @@
 //! Walks over the coordinates of two-dimensional geometries, and the callers that make them.
 use std::test::Fail;
 use wkt::geo_types::{Coord, Geometry, Line, Rect, Triangle};
-use wkt::walks::{Visitor, bounding_rect, num_coords, visit_coords};
+use wkt::walks::{Mapper, Visitor, bounding_rect, map_coords, num_coords, visit_coords};
 use wkt::{Decimal, ToWkt, TryFromWkt};
 use wkt_uses::bounding_box::box_of_text;
 use wkt_uses::key_counts::{counts, keys};
@@ -142,5 +142,100 @@ fn keys_are_counted(rt: HostRuntime) -> Result<(), Fail> {
     assert_eq!(rt; counted.len(), 2);
     assert_eq!(rt; counted.get("POINT(1.5 2)").copied(), Some(2));
     assert_eq!(rt; counted.get("POLYGON EMPTY").copied(), Some(2));
+    Ok(())
+}
+
+/// Each coordinate with x for y, and y for x.
+#[derive(Drop)]
+struct Swapped;
+
+impl Mapper<i64, i64> for Swapped {
+    ghost maps = { λ _ c. record { x = c.y; y = c.x } };
+
+    fn coord(&self, coord: &Coord<i64>) -> Coord<i64> {
+        Coord {
+            x: coord.y,
+            y: coord.x,
+        }
+    }
+}
+
+/// Each coordinate in a wider type.
+#[derive(Drop)]
+struct Widened;
+
+impl Mapper<i8, i64> for Widened {
+    ghost maps = { λ _ c. record { x = c.x; y = c.y } };
+
+    fn coord(&self, coord: &Coord<i8>) -> Coord<i64> {
+        Coord {
+            x: i64::from(coord.x),
+            y: i64::from(coord.y),
+        }
+    }
+}
+
+// A text, and that of its geometry with x for y.
+const SWAPPED: [(&str, &str); 11] = [
+    ("POINT(1 -2)", "POINT(-2 1)"),
+    ("LINESTRING(3 1,0 5)", "LINESTRING(1 3,5 0)"),
+    ("LINESTRING EMPTY", "LINESTRING EMPTY"),
+    (
+        "POLYGON((0 0,4 0,2 4,0 0),(1 1,9 1,1 2,1 1))",
+        "POLYGON((0 0,0 4,4 2,0 0),(1 1,1 9,2 1,1 1))",
+    ),
+    ("POLYGON((0 0,4 0,2 4))", "POLYGON((0 0,0 4,4 2,0 0))"),
+    ("POLYGON EMPTY", "POLYGON EMPTY"),
+    ("MULTIPOINT(1 2,-3 4)", "MULTIPOINT((2 1),(4 -3))"),
+    (
+        "MULTILINESTRING((1 2,3 4),EMPTY,(0 0,9 -9))",
+        "MULTILINESTRING((2 1,4 3),EMPTY,(0 0,-9 9))",
+    ),
+    (
+        "MULTIPOLYGON(((0 0,1 0,0 1)),((5 5,6 5,5 6)))",
+        "MULTIPOLYGON(((0 0,0 1,1 0,0 0)),((5 5,5 6,6 5,5 5)))",
+    ),
+    (
+        "GEOMETRYCOLLECTION(POINT(1 2),GEOMETRYCOLLECTION(LINESTRING(-3 4,5 -6)))",
+        "GEOMETRYCOLLECTION(POINT(2 1),GEOMETRYCOLLECTION(LINESTRING(4 -3,-6 5)))",
+    ),
+    ("GEOMETRYCOLLECTION EMPTY", "GEOMETRYCOLLECTION EMPTY"),
+];
+
+#[test]
+fn mapped(rt: HostRuntime) -> Result<(), Fail> {
+    let alloc = rt.alloc();
+    for (text, swapped) in &SWAPPED {
+        let geometry = Geometry::<i64>::try_from_wkt_str(alloc, text)?;
+        let found = map_coords(alloc, &geometry, &Swapped)?;
+        assert_eq!(rt; found.wkt_string(alloc)?.as_str(), *swapped, "at {text}");
+    }
+    Ok(())
+}
+
+#[test]
+fn plain_kinds_are_mapped(rt: HostRuntime) -> Result<(), Fail> {
+    let alloc = rt.alloc();
+    let at = |x: i64, y: i64| Coord { x, y };
+    let rect = Geometry::Rect(Rect::new(at(4, 8), at(0, 1)));
+    let same = map_coords(alloc, &rect, &Swapped)? == Geometry::Rect(Rect::new(at(1, 0), at(8, 4)));
+    assert!(rt; same);
+    let line = Geometry::Line(Line::new(at(7, 8), at(6, 5)));
+    let same = map_coords(alloc, &line, &Swapped)? == Geometry::Line(Line::new(at(8, 7), at(5, 6)));
+    assert!(rt; same);
+    let triangle = Geometry::Triangle(Triangle::new(at(1, 2), at(3, 4), at(5, 6)));
+    let turned = Geometry::Triangle(Triangle::new(at(2, 1), at(4, 3), at(6, 5)));
+    let same = map_coords(alloc, &triangle, &Swapped)? == turned;
+    assert!(rt; same);
+    Ok(())
+}
+
+#[test]
+fn mapped_into_another_type(rt: HostRuntime) -> Result<(), Fail> {
+    let alloc = rt.alloc();
+    let geometry = Geometry::<i8>::try_from_wkt_str(alloc, "LINESTRING(-128 1,127 0)")?;
+    let wide = Geometry::<i64>::try_from_wkt_str(alloc, "LINESTRING(-128 1,127 0)")?;
+    let same = map_coords(alloc, &geometry, &Widened)? == wide;
+    assert!(rt; same);
     Ok(())
 }

@@ -5,3 +5,4 @@ pub mod Ordering
 pub mod FlatKeys
 pub mod Counted
 pub mod KeyLists
+pub mod Layers

@@ -10,3 +10,5 @@ pub mod Copied
 pub mod FlatKey
 pub mod Keys
 pub mod Boxed
+pub mod Scene
+pub mod Refusal

@@ -23,4 +23,6 @@ pub mod my_paper;
 pub mod my_points;
 pub mod my_sinks;
 pub mod read_and_write;
+pub mod refusal;
 pub mod same_place;
+pub mod scene;
