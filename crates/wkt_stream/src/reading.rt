@@ -75,8 +75,8 @@ impl<R: ByteSource> Lines<R> {
         }
     }
 
-    /// The line that the last call of [`advance`](Self::advance) went to; no bytes before the first, after an error, and
-    /// at the end.
+    /// The line that the last call of [`advance`](Self::advance) went to; no bytes before the first, after an error,
+    /// and at the end.
     pub fn line(&self) -> &[u8]
         ensures { result.now ≡ line_of self.now }
     {

@@ -234,17 +234,20 @@ fn answer_block<A: BlockReply, W: ByteSink>(
     requires sound { is_sound gatherer.old ≡ true }
     requires held { gathered_bytes gatherer.old ≡ [] }
     ensures ok { OnOk result
-        (IsAllReplied (A.answers reply.now) W.sink (gathering_writer gatherer.old) (gathering_writer gatherer.new) input.now) }
+        (IsAllReplied (A.answers reply.now) W.sink (gathering_writer gatherer.old)
+        (gathering_writer gatherer.new) input.now) }
     ensures sound { OnOk result (is_sound gatherer.new ≡ true) }
     ensures held { OnOk result (gathered_bytes gatherer.new ≡ []) }
     ensures count { OnOk result
         (W.sink.failures (gathering_writer gatherer.new) ≡ W.sink.failures (gathering_writer gatherer.old)) }
     ensures write { OnRunWrite result
-        (IsPartReplied (A.answers reply.now) W.sink (gathering_writer gatherer.old) (gathering_writer gatherer.new) input.now) }
+        (IsPartReplied (A.answers reply.now) W.sink (gathering_writer gatherer.old)
+        (gathering_writer gatherer.new) input.now) }
     ensures write_count { OnRunWrite result
         (W.sink.failures (gathering_writer gatherer.new) ≡ next_count (W.sink.failures (gathering_writer gatherer.old))) }
     ensures memory { OnRunMemory result
-        (IsFirstReplied (A.answers reply.now) W.sink (gathering_writer gatherer.old) (gathering_writer gatherer.new) input.now) }
+        (IsFirstReplied (A.answers reply.now) W.sink (gathering_writer gatherer.old)
+        (gathering_writer gatherer.new) input.now) }
     ensures read { OnRunRead result ⊥ }
     ensures keeps { W.sink.keeps (gathering_writer gatherer.old) (gathering_writer gatherer.new) }
 {
