@@ -1,6 +1,7 @@
 //! The calls of the rows, by their names.
 use crate::flat_calls::{becomes, converted, flat_of};
 use crate::json_calls::json_given;
+use crate::made::{canonical, lines, pushed, turned};
 use crate::numbers::{answer_of, number_of};
 use crate::refusals::{message, place, shown};
 use std::alloc::Global;
@@ -24,6 +25,10 @@ pub(crate) fn given(alloc: Global, call: &str, of: &str, text: &str) -> Result<S
         "try_from_wkt_str" => flat_of(alloc, of, text),
         "convert_from" => converted(alloc, text),
         "kinds" => becomes(alloc, text),
+        "into_canonical" => canonical(alloc, text),
+        "map_coords" => turned(alloc, text),
+        "push" => pushed(alloc, of, text),
+        "lines" => lines(alloc, text),
         "explain" => place(alloc, text),
         "explained" => shown(alloc, text),
         "explain_message" => message(alloc, text),

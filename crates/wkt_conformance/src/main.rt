@@ -12,6 +12,7 @@
 mod calls;
 mod flat_calls;
 mod json_calls;
+mod made;
 mod numbers;
 mod refusals;
 mod rows;

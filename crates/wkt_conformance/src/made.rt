@@ -1,0 +1,96 @@
+//! Calls that make a geometry or a text of another, by their names.
+use crate::calls::Number;
+use std::alloc::{AllocError, Global};
+use wkt::error::Error as WriteError;
+use wkt::geo_types::{Coord, Geometry, Line, LineString, Rect, Triangle};
+use wkt::to_wkt::{
+    Counted, ReadAllError, push_geometry_collection, push_line, push_linestring,
+    push_multi_linestring, push_multi_point, push_multi_polygon, push_point, push_polygon,
+    push_rect, push_triangle,
+};
+use wkt::walks::{Mapper, map_coords};
+use wkt::{AnyError, FromWktStr, ToWkt, TryFromWkt, Wkt};
+use wkt_stream::Lines;
+
+/// Each coordinate with x for y.
+#[derive(Drop)]
+struct Swapped;
+
+impl Mapper<Number, Number> for Swapped {
+    ghost maps = { λ _ c. record { x = c.y; y = c.x } };
+
+    fn coord(&self, coord: &Coord<Number>) -> Coord<Number> {
+        Coord {
+            x: coord.y,
+            y: coord.x,
+        }
+    }
+}
+
+/// The two-dimensional geometry of a text, with x for y.
+pub(crate) fn turned(alloc: Global, text: &str) -> Result<String, AnyError> {
+    let geometry = Geometry::<Number>::try_from_wkt_str(alloc, text)?;
+    Ok(map_coords(alloc, &geometry, &Swapped)?.wkt_string(alloc)?)
+}
+
+/// The geometry of a text made canonical, if its text is read as the same.
+pub(crate) fn canonical(alloc: Global, text: &str) -> Result<String, AnyError> {
+    let geometry = Wkt::<Number>::from_str(alloc, text)?.into_canonical();
+    let text = geometry.to_string(alloc)?;
+    if Wkt::from_str(alloc, text.as_str())? != geometry {
+        return Ok(String::from_str(alloc, "another geometry")?);
+    }
+    Ok(text)
+}
+
+/// The two-dimensional geometry of a text, behind a word, by the writer of its kind; of a line string also as the kind
+/// that is asked for.
+pub(crate) fn pushed(alloc: Global, of: &str, text: &str) -> Result<String, AnyError> {
+    let mut out = String::from_str(alloc, "is ")?;
+    let result = match Geometry::<Number>::try_from_wkt_str(alloc, text)? {
+        Geometry::Point(x) => push_point(&mut out, &x),
+        Geometry::LineString(x) => push_path(&mut out, of, &x),
+        Geometry::Polygon(x) => push_polygon(&mut out, &x),
+        Geometry::MultiPoint(x) => push_multi_point(&mut out, &x),
+        Geometry::MultiLineString(x) => push_multi_linestring(&mut out, &x),
+        Geometry::MultiPolygon(x) => push_multi_polygon(&mut out, &x),
+        Geometry::GeometryCollection(x) => push_geometry_collection(&mut out, &x),
+        // No text is read as one of these.
+        Geometry::Line(_) | Geometry::Rect(_) | Geometry::Triangle(_) => Ok(()),
+    };
+    match result {
+        Ok(()) => Ok(out),
+        // The string couldn't grow.
+        Err(WriteError::FmtError(_)) => Err(AnyError::Memory(AllocError)),
+        Err(error) => Err(AnyError::Write(error)),
+    }
+}
+
+fn push_path(out: &mut String, of: &str, path: &LineString<Number>) -> Result<(), WriteError> {
+    match (of, path.0.as_slice()) {
+        ("Line", [a, b]) => push_line(out, &Line::new(*a, *b)),
+        ("Rect", [a, b]) => push_rect(out, &Rect::new(*a, *b)),
+        ("Triangle", [a, b, c]) => push_triangle(out, &Triangle::new(*a, *b, *c)),
+        _ => push_linestring(out, path),
+    }
+}
+
+/// The lines of a text, each in brackets.
+pub(crate) fn lines(alloc: Global, text: &str) -> Result<String, AnyError> {
+    let mut out = String::new(alloc);
+    let mut lines = Lines::new(alloc, Counted::new(text.as_bytes()));
+    for _ in 0..1000 {
+        match lines.advance() {
+            Ok(true) => {
+                let line = str::from_utf8(lines.line()).unwrap_or("no text");
+                out.push('[')?;
+                out.push_str(line)?;
+                out.push(']')?;
+            }
+            Ok(false) => return Ok(out),
+            Err(ReadAllError::Memory(error)) => return Err(AnyError::Memory(error)),
+            Err(ReadAllError::Read(_)) => return Ok(String::from_str(alloc, "a read fault")?),
+        }
+    }
+    Ok(String::from_str(alloc, "too many lines")?)
+}
