@@ -67,12 +67,7 @@ impl Gathered {
         if end > self.bytes.len() && !self.grow(end) {
             return false;
         }
-        // Most pieces are one byte.
-        if let [byte] = bytes {
-            self.bytes[start] = *byte;
-        } else {
-            copy_piece(bytes, &mut self.bytes[start..end]);
-        }
+        copy_piece(bytes, &mut self.bytes[start..end]);
         self.len = end;
         true
     }
