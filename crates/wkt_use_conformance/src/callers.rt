@@ -5,7 +5,6 @@ use std::test::Fail;
 use wkt::deserialize::ValueError;
 use wkt::geo_traits::{Dimensions, GeometryTrait};
 use wkt::geo_types::{Coord, Geometry, Line, LineString, Point};
-use wkt::literals::{line_string, point, polygon};
 use wkt::to_wkt::CountedText;
 use wkt::tokenizer::{PeekableTokens, Tokens};
 use wkt::{Decimal, Expected, ReadError, ToWktError, TryFromWkt, Wkt};
@@ -300,26 +299,5 @@ fn answers_texts(rt: HostRuntime) -> Result<(), Fail> {
             assert!(rt; expected == Expected::Y);
         }
     }
-    Ok(())
-}
-
-#[test]
-fn literals(rt: HostRuntime) -> Result<(), Fail> {
-    let alloc = rt.alloc();
-    let place: Wkt<i32> = Wkt::from(point(10, -20));
-    assert_eq!(rt; place.to_string(alloc)?.as_str(), "POINT(10 -20)");
-    let line: Wkt<i32> = Wkt::from(line_string(alloc, &[(0, 0), (4, -1)])?);
-    assert_eq!(rt; line.to_string(alloc)?.as_str(), "LINESTRING(0 0,4 -1)");
-    let none: Wkt<i32> = Wkt::from(line_string(alloc, &[])?);
-    assert_eq!(rt; none.to_string(alloc)?.as_str(), "LINESTRING EMPTY");
-    let hole: &[(i32, i32)] = &[(1, 1), (2, 1), (1, 2)];
-    let ring: &[(i32, i32)] = &[(0, 0), (4, -1), (2, 4), (0, 0)];
-    let area = Wkt::from(polygon(alloc, &[ring, hole])?);
-    assert_eq!(rt;
-        area.to_string(alloc)?.as_str(),
-        "POLYGON((0 0,4 -1,2 4,0 0),(1 1,2 1,1 2))"
-    );
-    let none: Wkt<i32> = Wkt::from(polygon(alloc, &[])?);
-    assert_eq!(rt; none.to_string(alloc)?.as_str(), "POLYGON EMPTY");
     Ok(())
 }
