@@ -7,7 +7,7 @@ use wkt::geo_traits::{Dimensions, GeometryTrait};
 use wkt::geo_types::{Coord, Geometry, Line, LineString, Point};
 use wkt::to_wkt::CountedText;
 use wkt::tokenizer::{PeekableTokens, Tokens};
-use wkt::{Decimal, Expected, ReadError, ToWktError, TryFromWkt, Wkt};
+use wkt::{Decimal, Expected, ReadError, ToWktError, TryFromWkt};
 use wkt_lines::RunError;
 use wkt_uses::any_collection::{count_members, write_members};
 use wkt_uses::any_geometry::first_member;
