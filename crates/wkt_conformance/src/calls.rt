@@ -1,4 +1,5 @@
 //! The calls of the rows, by their names.
+use crate::built::built;
 use crate::flat_calls::{becomes, converted, flat_of};
 use crate::json_calls::json_given;
 use crate::made::{canonical, lines, pushed, turned};
@@ -27,6 +28,7 @@ pub(crate) fn given(alloc: Global, call: &str, of: &str, text: &str) -> Result<S
         "kinds" => becomes(alloc, text),
         "into_canonical" => canonical(alloc, text),
         "map_coords" => turned(alloc, text),
+        "literals" => built(alloc, text),
         "push" => pushed(alloc, of, text),
         "lines" => lines(alloc, text),
         "explain" => place(alloc, text),

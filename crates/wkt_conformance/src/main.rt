@@ -9,6 +9,7 @@
 //! what its columns are.
 #![tactic(auto)]
 
+mod built;
 mod calls;
 mod flat_calls;
 mod json_calls;

@@ -96,8 +96,12 @@ pub struct Canonical<T> {
 }
 
 impl<T> Canonical<T> {
-    /// These answers, over this number type.
-    pub fn new() -> Self {
+    ghost use Rattle.wkt_lines.specs.declared.reply.Canonical.{Canonical};
+
+    /// These answers, over this number type. Any two values of this type are equal.
+    pub fn new() -> Self
+        ensures { (other : Canonical T) → result ≡ other }
+    {
         Canonical { of: PhantomData }
     }
 }

@@ -26,8 +26,12 @@ pub struct Service<T> {
 }
 
 impl<T> Service<T> {
-    /// The answers over this number type.
-    pub fn new() -> Self {
+    ghost use Rattle.wkt_uses.specs.declared.json_service.Service.{Service};
+
+    /// The answers over this number type. Any two values of this type are equal.
+    pub fn new() -> Self
+        ensures { (other : Service T) → result ≡ other }
+    {
         Service { of: PhantomData }
     }
 }
