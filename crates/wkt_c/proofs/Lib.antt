@@ -10,3 +10,4 @@ pub mod Answering
 pub mod Columns
 pub mod ArrayColumns
 pub mod TextColumns
+mod Pieces

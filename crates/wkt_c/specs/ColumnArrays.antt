@@ -87,21 +87,21 @@ pub record AreColumnSizes (a : ColumnArrays) (s : WktColumnSizes) : Type 0 where
   pub polygons : s.polygons ≡ length a.polygons
 
 -- Numbers and offsets of rings and polygons stand at the fronts of their buffers; the others are filled.
-pub record FillColumn (a : ColumnArrays) (s : WktColumnSizes) (old new : ColumnArrays) : Type 0 where
+pub record FillColumn (a : ColumnArrays) (s : WktColumnSizes) (numbers : List ℤ) (rings polygons : List ℕ) (new : ColumnArrays) : Type 0 where
   pub sizes : AreColumnSizes a s
   pub kinds : new.kinds ≡ a.kinds
   pub dimensions : new.dimensions ≡ a.dimensions
-  pub numbers : new.numbers ≡ with_front a.numbers old.numbers
+  pub numbers_in : new.numbers ≡ with_front a.numbers numbers
   pub number_ends : new.number_ends ≡ a.number_ends
-  pub rings : new.rings ≡ with_front a.rings old.rings
+  pub rings_in : new.rings ≡ with_front a.rings rings
   pub ring_ends : new.ring_ends ≡ a.ring_ends
-  pub polygons : new.polygons ≡ with_front a.polygons old.polygons
+  pub polygons_in : new.polygons ≡ with_front a.polygons polygons
   pub polygon_ends : new.polygon_ends ≡ a.polygon_ends
 
 -- The arrays of all texts of a column stand in the buffers.
-abbrev pub AreFilled : ℕ → List ℕ → List ℕ → List ℕ → List ℕ → WktColumnSizes → ColumnArrays → ColumnArrays → Type 0
-AreFilled places texts offsets valid statuses sizes old new =
-    (arrays : ColumnArrays) × AreColumnArrays places texts offsets valid arrays statuses × FillColumn arrays sizes old new
+abbrev pub AreFilled : ℕ → List ℕ → List ℕ → List ℕ → List ℕ → WktColumnSizes → List ℤ → List ℕ → List ℕ → ColumnArrays → Type 0
+AreFilled places texts offsets valid statuses sizes numbers rings polygons new =
+    (arrays : ColumnArrays) × AreColumnArrays places texts offsets valid arrays statuses × FillColumn arrays sizes numbers rings polygons new
 
 -- One of the three buffers has no room; the sizes are told.
 pub record LackRoom (a : ColumnArrays) (s : WktColumnSizes) (old : ColumnArrays) : Type 0 where

@@ -33,9 +33,9 @@ fn hand_out_arrays(
     requires kinds_fit { length rows.now.kinds.items ≡ length kinds.old }
     requires dimensions_fit { length rows.now.dimensions.items ≡ length dimensions.old }
     requires statuses_fit { length rows.now.statuses.items ≡ length statuses.old }
-    ensures stands { result ≡ DONE → FillColumn (held_arrays rows.now) sizes.new (as_column kinds.old dimensions.old
-        numbers.old number_offsets.old rings.old ring_offsets.old polygons.old polygon_offsets.old) (as_column kinds.new
-        dimensions.new numbers.new number_offsets.new rings.new ring_offsets.new polygons.new polygon_offsets.new) }
+    ensures stands { result ≡ DONE → FillColumn (held_arrays rows.now) sizes.new numbers.old rings.old polygons.old
+        (as_column kinds.new dimensions.new numbers.new number_offsets.new rings.new ring_offsets.new polygons.new
+        polygon_offsets.new) }
     ensures statuses_are { result ≡ DONE → statuses.new ≡ rows.now.statuses.items }
     ensures lacks { result ≡ SMALL → LackRoom (held_arrays rows.now) sizes.new (as_column kinds.old dimensions.old
         numbers.old number_offsets.old rings.old ring_offsets.old polygons.old polygon_offsets.old) }
@@ -89,9 +89,8 @@ pub extern "C" fn wkt_column_arrays(
     polygon_offsets: &mut [usize],
     statuses: &mut [u32],
 ) -> u32
-    ensures filled { result ≡ DONE → AreFilled places texts.now offsets.now valid.now statuses.new sizes.new (as_column
-        kinds.old dimensions.old numbers.old number_offsets.old rings.old ring_offsets.old polygons.old
-        polygon_offsets.old) (as_column kinds.new dimensions.new numbers.new number_offsets.new rings.new
+    ensures filled { result ≡ DONE → AreFilled places texts.now offsets.now valid.now statuses.new sizes.new numbers.old
+        rings.old polygons.old (as_column kinds.new dimensions.new numbers.new number_offsets.new rings.new
         ring_offsets.new polygons.new polygon_offsets.new) }
     ensures small { result ≡ SMALL → (arrays : ColumnArrays) × (told : List ℕ) × AreColumnArrays places texts.now
         offsets.now valid.now arrays told × LackRoom arrays sizes.new (as_column kinds.old dimensions.old numbers.old
