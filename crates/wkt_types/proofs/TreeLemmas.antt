@@ -5,10 +5,10 @@ use Rattle.std.specs.Result.{IsOk}
 use Rattle.wkt_access.specs.declared.dimensions.Dimension.{Dimension}
 use Rattle.std.proofs.lemmas.Bool.Decides.{nat_tests}
 use Rattle.std.proofs.Math.Seq.{drop-cons}
-use Rattle.std.proofs.lemmas.List.{drop_all}
+use Rattle.std.proofs.lemmas.List.{drop_all, map-append}
 use Rattle.wkt_types.specs.Trees.{tree_eq, trees_eq}
-use Rattle.wkt_types.specs.Tree.{trees_of, collected, tree_dim, collection, multi_line_string, Tree, tree, members, collection_tree, no_trees, wkt_step, collection_step}
-use Rattle.wkt_types.specs.Held.{Held}
+use Rattle.wkt_types.specs.Tree.{trees_of, collected, tree_dim, point, line_string, polygon, multi_point, multi_line_string, multi_polygon, collection, Tree, tree, members, collection_tree, no_trees, wkt_step, collection_step}
+use Rattle.wkt_types.specs.Held.{Held, HeldPoint}
 use Rattle.wkt_types.specs.declared.coord.Coord.{Coord}
 use Rattle.wkt_types.specs.declared.geometry.GeometryCollection.{GeometryCollection}
 use Rattle.wkt_types.specs.declared.geometry.Wkt.{Wkt}
@@ -22,10 +22,40 @@ tree-collection {T} c =
     ap tree (sym (variants.rolls-GeometryCollection c))
     ∙ folds.fold-roll-Wkt T (Tree T) (Tree T) wkt_step collection_step (opened.Wkt-F.GeometryCollection c)
 
-pub tree-multi_line_string : {T : Type 0} (l : Held (Held (Coord T))) → tree (variants.MultiLineString l) ≡ multi_line_string l
-tree-multi_line_string {T} l =
-    ap tree (sym (variants.rolls-MultiLineString l))
-    ∙ folds.fold-roll-Wkt T (Tree T) (Tree T) wkt_step collection_step (opened.Wkt-F.MultiLineString l)
+pub tree-point : {T : Type 0} (x : HeldPoint (Coord T)) → tree (variants.Point x) ≡ point x
+tree-point {T} x =
+    ap tree (sym (variants.rolls-Point x))
+    ∙ folds.fold-roll-Wkt T (Tree T) (Tree T) wkt_step collection_step (opened.Wkt-F.Point x)
+
+pub tree-line_string : {T : Type 0} (x : Held (Coord T)) → tree (variants.LineString x) ≡ line_string x
+tree-line_string {T} x =
+    ap tree (sym (variants.rolls-LineString x))
+    ∙ folds.fold-roll-Wkt T (Tree T) (Tree T) wkt_step collection_step (opened.Wkt-F.LineString x)
+
+pub tree-polygon : {T : Type 0} (x : Held (Held (Coord T))) → tree (variants.Polygon x) ≡ polygon x
+tree-polygon {T} x =
+    ap tree (sym (variants.rolls-Polygon x))
+    ∙ folds.fold-roll-Wkt T (Tree T) (Tree T) wkt_step collection_step (opened.Wkt-F.Polygon x)
+
+pub tree-multi_point : {T : Type 0} (x : Held (HeldPoint (Coord T))) → tree (variants.MultiPoint x) ≡ multi_point x
+tree-multi_point {T} x =
+    ap tree (sym (variants.rolls-MultiPoint x))
+    ∙ folds.fold-roll-Wkt T (Tree T) (Tree T) wkt_step collection_step (opened.Wkt-F.MultiPoint x)
+
+pub tree-multi_line_string : {T : Type 0} (x : Held (Held (Coord T))) → tree (variants.MultiLineString x) ≡ multi_line_string x
+tree-multi_line_string {T} x =
+    ap tree (sym (variants.rolls-MultiLineString x))
+    ∙ folds.fold-roll-Wkt T (Tree T) (Tree T) wkt_step collection_step (opened.Wkt-F.MultiLineString x)
+
+pub tree-multi_polygon : {T : Type 0} (x : Held (Held (Held (Coord T)))) → tree (variants.MultiPolygon x) ≡ multi_polygon x
+tree-multi_polygon {T} x =
+    ap tree (sym (variants.rolls-MultiPolygon x))
+    ∙ folds.fold-roll-Wkt T (Tree T) (Tree T) wkt_step collection_step (opened.Wkt-F.MultiPolygon x)
+
+-- a list with one geometry more has its tree more
+pub pushed : {T : Type 0} (news olds : List (Wkt T)) (w : Wkt T) (t : Tree T) →
+    news ≡ olds ++ w ∷ [] → tree w ≡ t → map tree news ≡ map tree olds ++ t ∷ []
+pushed news olds w t e is = ap (map tree) e ∙ (map-append tree olds (w ∷ []) ∙ ap (λ t. map tree olds ++ t ∷ []) is)
 
 pub members_step : {T : Type 0} (E : T → T → Bool) (as' bs : List (Wkt T)) (i : ℕ) (x y : Wkt T) →
     i < length as' → x ≡ get_or as' i x → i < length bs → y ≡ get_or bs i y →
