@@ -1,5 +1,5 @@
 -- A member of a list, seen as its numbers.
-use Rattle.std.proofs.Common.{◌≡◌, ℕ, zero, suc, ◌+◌, ◌<◌, ap, sym, List, [], ◌∷◌, length, map, get_or, Some, slice_get, arith, add-one}
+use Rattle.std.proofs.Common.{◌≡◌, ℕ, zero, suc, ◌+◌, ◌<◌, ap, sym, ◌∙◌, List, [], ◌∷◌, length, map, get_or, Some, slice_get, arith, add-one}
 use Rattle.std.proofs.lemmas.List.{length-map}
 use Rattle.wkt_access.specs.Shapes.{polygon_of}
 use Rattle.wkt_types.specs.Held.{Held}
@@ -15,6 +15,10 @@ pub got : {X : Type 0} (xs : List X) (i : ℕ) (x : X) → i < length xs → x �
 got [] i x h e = absurd (omega arith)
 got (y ∷ ys) zero x h e = ap (λ z. Some z) (sym e)
 got (y ∷ ys) (suc i) x h e = got ys i x (omega arith) e
+
+-- a part that stands in a list, as it is seen
+pub part_is : {X Y : Type 0} (f : X → Y) (xs ys : List X) (i : ℕ) (x : X) → i < length (map f xs) → ys ≡ xs → x ≡ get_or ys i x → slice_get (map f xs) i ≡ Some (f x)
+part_is f xs ys i x h same e = let n = length-map xs f in get_map f xs i x (got xs i x (omega (arith, n, h)) (e ∙ ap (λ l. get_or l i x) same))
 
 interior_at : {T : Type 0} (rs : List (Held (Coord T))) (i : ℕ) (r : Held (Coord T)) → i < length (polygon_of (map line_string_numbers rs)).interiors → r ≡ get_or rs (suc i) r → slice_get (polygon_of (map line_string_numbers rs)).interiors i ≡ Some (line_string_numbers r)
 interior_at [] i r h e = absurd (omega arith)
