@@ -104,3 +104,9 @@ copied-in (Err e) filled olds news copies all d t o same is pushed = tt
 pub on-ok-map : {X E : Type 0} (r : Result X E) (P Q : Type 0) → (P → Q) → OnOk r P → OnOk r Q
 on-ok-map (Ok x) P Q f p = f p
 on-ok-map (Err e) P Q f p = tt
+
+-- a geometry of a kind was copied, after others
+pub copied : {T E : Type 0} (r : Result (Unit {0}) E) (news olds : List (Wkt T)) (w v : Wkt T) {t : Tree T} → w ≡ v → tree v ≡ t →
+    OnOk r (map tree news ≡ map tree olds ++ t ∷ []) → OnOk r (map tree news ≡ map tree olds ++ tree w ∷ [])
+copied (Ok u) news olds w v same is pushed = pushed ∙ ap (λ t. map tree olds ++ t ∷ []) (sym (ap tree same ∙ is))
+copied (Err e) news olds w v same is pushed = tt
