@@ -4,15 +4,48 @@ use Rattle.std.specs.Prelude.{OnOk}
 use Rattle.std.specs.Result.{IsOk}
 use Rattle.std.proofs.lemmas.Bool.Decides.{nat_tests}
 use Rattle.std.proofs.Math.Seq.{drop-cons}
-use Rattle.std.proofs.lemmas.List.{drop_all}
+use Rattle.std.proofs.lemmas.List.{drop_all, map-append}
 use Rattle.wkt_flat.specs.Trees.{flat_eq, flats_eq}
-use Rattle.wkt_flat.specs.Tree.{flats_of, collection, Flat, Flats, flat_tree, flat_trees, flat_members, no_flats, geometry_step, flats_step}
+use Rattle.wkt_flat.specs.Tree.{flats_of, point, line, line_string, polygon, multi_point, multi_line_string, multi_polygon, collection, rect, triangle, Flat, Flats, flat_tree, flat_trees, flat_members, no_flats, geometry_step, flats_step}
+use Rattle.wkt_flat.specs.Corners.{Corners}
+use Rattle.wkt_flat.specs.Rings.{Rings}
+use Rattle.wkt_flat.specs.declared.coord.Coord.{Coord}
+use Rattle.wkt_flat.specs.declared.point.Point.{Point}
+use Rattle.wkt_flat.specs.declared.line.Line.{Line}
+use Rattle.wkt_flat.specs.declared.triangle.Triangle.{Triangle}
 use Rattle.wkt_flat.specs.declared.geometry.GeometryCollection.{GeometryCollection}
 use Rattle.wkt_flat.specs.declared.geometry.Geometry.{Geometry}
 use Rattle.wkt_flat.specs.declared.geometry.Geometry.TheViews as views
 use Rattle.wkt_flat.specs.declared.geometry.Geometry.TheVariants as variants
 use Rattle.wkt_flat.specs.declared.geometry.Geometry.TheFolds as folds
 use Rattle.wkt_flat.specs.declared.geometry.Geometry.TheOpen as opened
+
+pub flat-point : {T : Type 0} (p : Point T) → flat_tree (variants.Point p) ≡ point p
+flat-point {T} p = ap flat_tree (sym (variants.rolls-Point p)) ∙ folds.fold-roll-Geometry T (Flat T) (Flats T) geometry_step flats_step (opened.Geometry-F.Point p)
+
+pub flat-line : {T : Type 0} (l : Line T) → flat_tree (variants.Line l) ≡ line l
+flat-line {T} l = ap flat_tree (sym (variants.rolls-Line l)) ∙ folds.fold-roll-Geometry T (Flat T) (Flats T) geometry_step flats_step (opened.Geometry-F.Line l)
+
+pub flat-line_string : {T : Type 0} (l : List (Coord T)) → flat_tree (variants.LineString l) ≡ line_string l
+flat-line_string {T} l = ap flat_tree (sym (variants.rolls-LineString l)) ∙ folds.fold-roll-Geometry T (Flat T) (Flats T) geometry_step flats_step (opened.Geometry-F.LineString l)
+
+pub flat-polygon : {T : Type 0} (y : Rings (Coord T)) → flat_tree (variants.Polygon y) ≡ polygon y
+flat-polygon {T} y = ap flat_tree (sym (variants.rolls-Polygon y)) ∙ folds.fold-roll-Geometry T (Flat T) (Flats T) geometry_step flats_step (opened.Geometry-F.Polygon y)
+
+pub flat-multi_point : {T : Type 0} (m : List (Point T)) → flat_tree (variants.MultiPoint m) ≡ multi_point m
+flat-multi_point {T} m = ap flat_tree (sym (variants.rolls-MultiPoint m)) ∙ folds.fold-roll-Geometry T (Flat T) (Flats T) geometry_step flats_step (opened.Geometry-F.MultiPoint m)
+
+pub flat-multi_line_string : {T : Type 0} (m : List (List (Coord T))) → flat_tree (variants.MultiLineString m) ≡ multi_line_string m
+flat-multi_line_string {T} m = ap flat_tree (sym (variants.rolls-MultiLineString m)) ∙ folds.fold-roll-Geometry T (Flat T) (Flats T) geometry_step flats_step (opened.Geometry-F.MultiLineString m)
+
+pub flat-multi_polygon : {T : Type 0} (m : List (Rings (Coord T))) → flat_tree (variants.MultiPolygon m) ≡ multi_polygon m
+flat-multi_polygon {T} m = ap flat_tree (sym (variants.rolls-MultiPolygon m)) ∙ folds.fold-roll-Geometry T (Flat T) (Flats T) geometry_step flats_step (opened.Geometry-F.MultiPolygon m)
+
+pub flat-rect : {T : Type 0} (r : Corners T) → flat_tree (variants.Rect r) ≡ rect r
+flat-rect {T} r = ap flat_tree (sym (variants.rolls-Rect r)) ∙ folds.fold-roll-Geometry T (Flat T) (Flats T) geometry_step flats_step (opened.Geometry-F.Rect r)
+
+pub flat-triangle : {T : Type 0} (t : Triangle T) → flat_tree (variants.Triangle t) ≡ triangle t
+flat-triangle {T} t = ap flat_tree (sym (variants.rolls-Triangle t)) ∙ folds.fold-roll-Geometry T (Flat T) (Flats T) geometry_step flats_step (opened.Geometry-F.Triangle t)
 
 pub flat-collection : {T : Type 0} (c : GeometryCollection T) → flat_tree (views.GeometryCollection c) ≡ collection (flat_trees c)
 flat-collection {T} c =
@@ -58,3 +91,8 @@ copied-in (Err e) filled olds news copies all t o same is pushed = tt
 pub on-ok-map : {X E : Type 0} (r : Result X E) (P Q : Type 0) → (P → Q) → OnOk r P → OnOk r Q
 on-ok-map (Ok x) P Q f p = f p
 on-ok-map (Err e) P Q f p = tt
+
+-- A list with one more geometry has one more tree.
+pub pushed : {T : Type 0} (news olds : List (Geometry T)) (g : Geometry T) (t : Flat T) →
+    news ≡ olds ++ g ∷ [] → flat_tree g ≡ t → map flat_tree news ≡ map flat_tree olds ++ t ∷ []
+pushed news olds g t e is = ap (map flat_tree) e ∙ (map-append flat_tree olds (g ∷ []) ∙ ap (λ t. map flat_tree olds ++ t ∷ []) is)
