@@ -96,3 +96,9 @@ on-ok-map (Err e) P Q f p = tt
 pub pushed : {T : Type 0} (news olds : List (Geometry T)) (g : Geometry T) (t : Flat T) →
     news ≡ olds ++ g ∷ [] → flat_tree g ≡ t → map flat_tree news ≡ map flat_tree olds ++ t ∷ []
 pushed news olds g t e is = ap (map flat_tree) e ∙ (map-append flat_tree olds (g ∷ []) ∙ ap (λ t. map flat_tree olds ++ t ∷ []) is)
+
+-- A geometry of a kind was copied, after others.
+pub copied : {T E : Type 0} (r : Result (Unit {0}) E) (news olds : List (Geometry T)) (g h : Geometry T) {t : Flat T} → g ≡ h → flat_tree h ≡ t →
+    OnOk r (map flat_tree news ≡ map flat_tree olds ++ t ∷ []) → OnOk r (map flat_tree news ≡ map flat_tree olds ++ flat_tree g ∷ [])
+copied (Ok u) news olds g h same is pushed = pushed ∙ ap (λ t. map flat_tree olds ++ t ∷ []) (sym (ap flat_tree same ∙ is))
+copied (Err e) news olds g h same is pushed = tt

@@ -1,6 +1,6 @@
 use Rattle.std.proofs.Common.{◌≡◌, ◌++◌, ap, ◌∙◌, map}
 use Rattle.wkt_flat.specs.Tree.{flat_tree, collection}
-use Rattle.wkt_flat.proofs.TreeLemmas.{flat-collection, flat-members, copied-in, on-ok-map}
+use Rattle.wkt_flat.proofs.TreeLemmas.{flat-point, flat-line, flat-line_string, flat-polygon, flat-multi_point, flat-multi_line_string, flat-multi_polygon, flat-rect, flat-triangle, flat-collection, flat-members, copied, copied-in, on-ok-map}
 use Rattle.wkt_flat.proofs.geometry.+copy.Goals as goal
 
 pub push_copy-returns-in_ok-geometries-in-GeometryCollection : goal.push_copy-returns-in_ok-geometries-in-GeometryCollection
@@ -12,3 +12,30 @@ push_copy-returns-in_ok-geometries-in-GeometryCollection g t c =
     (on-ok-map c.push_copies-filled.result _ (map flat_tree copies ≡ map flat_tree all) (λ e. e ∙ ap (λ l. map flat_tree l ++ map flat_tree all) c.in_ok-geometries-in-GeometryCollection.ensures.items) c.push_copies-filled.ensures)
     (ap flat_tree c.in-GeometryCollection.is ∙ (flat-collection c.in-GeometryCollection.c ∙ ap (λ m. collection m) (flat-members c.in-GeometryCollection.c)))
     c.push_collection.ensures.pushed
+
+pub push_copy-returns-in-Point : goal.push_copy-returns-in-Point
+push_copy-returns-in-Point g t c = copied c.push_point.result _ _ _ _ c.in-Point.is (flat-point c.in-Point.p) c.push_point.ensures
+
+pub push_copy-returns-in-Line : goal.push_copy-returns-in-Line
+push_copy-returns-in-Line g t c = copied c.push_line.result _ _ _ _ c.in-Line.is (flat-line c.in-Line.l) c.push_line.ensures
+
+pub push_copy-returns-in-LineString : goal.push_copy-returns-in-LineString
+push_copy-returns-in-LineString g t c = copied c.push_line_string.result _ _ _ _ c.in-LineString.is (flat-line_string c.in-LineString.l) c.push_line_string.ensures
+
+pub push_copy-returns-in-Polygon : goal.push_copy-returns-in-Polygon
+push_copy-returns-in-Polygon g t c = copied c.push_polygon.result _ _ _ _ c.in-Polygon.is (flat-polygon c.in-Polygon.y) c.push_polygon.ensures
+
+pub push_copy-returns-in-MultiPoint : goal.push_copy-returns-in-MultiPoint
+push_copy-returns-in-MultiPoint g t c = copied c.push_points.result _ _ _ _ c.in-MultiPoint.is (flat-multi_point c.in-MultiPoint.m) c.push_points.ensures
+
+pub push_copy-returns-in-MultiLineString : goal.push_copy-returns-in-MultiLineString
+push_copy-returns-in-MultiLineString g t c = copied c.push_line_strings.result _ _ _ _ c.in-MultiLineString.is (flat-multi_line_string c.in-MultiLineString.m) c.push_line_strings.ensures
+
+pub push_copy-returns-in-MultiPolygon : goal.push_copy-returns-in-MultiPolygon
+push_copy-returns-in-MultiPolygon g t c = copied c.push_polygons.result _ _ _ _ c.in-MultiPolygon.is (flat-multi_polygon c.in-MultiPolygon.m) c.push_polygons.ensures
+
+pub push_copy-returns-in-Rect : goal.push_copy-returns-in-Rect
+push_copy-returns-in-Rect g t c = copied c.push_rect.result _ _ _ _ c.in-Rect.is (flat-rect c.in-Rect.r) c.push_rect.ensures
+
+pub push_copy-returns-in-Triangle : goal.push_copy-returns-in-Triangle
+push_copy-returns-in-Triangle g t c = copied c.push_triangle.result _ _ _ _ c.in-Triangle.is (flat-triangle c.in-Triangle.t) c.push_triangle.ensures
