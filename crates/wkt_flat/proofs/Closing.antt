@@ -2,7 +2,7 @@
 use Rattle.std.proofs.Common.{◌≡◌, ℕ, zero, suc, ◌<◌, ◌+◌, List, [], ◌∷◌, length, add-one, get_or, take, drop, sym, subst, ap, ◌∙◌, arith, map}
 use Rattle.std.specs.List.{AllByRecursion}
 use Rattle.wkt_flat.specs.Closed.{HasClosedRings, HaveClosedRings}
-use Rattle.wkt_flat.specs.Tree.{flat_tree, flat_trees, flat_members, Flats}
+use Rattle.wkt_flat.specs.Tree.{flat_tree, flat_trees, flat_members, Flat, Flats}
 use Rattle.wkt_flat.specs.declared.geometry.GeometryCollection.{GeometryCollection}
 use Rattle.wkt_flat.specs.declared.geometry.Geometry.{Geometry}
 use Rattle.wkt_flat.proofs.TreeLemmas.{flat-members}
@@ -23,3 +23,7 @@ have (g ∷ gs) h = (h.0, have gs h.1)
 pub collection-closed : {T : Type 0} (c : GeometryCollection T) → (gs : List (Geometry T)) → c.0.items ≡ gs →
     AllByRecursion (λ g. HasClosedRings (flat_tree g)) gs → HaveClosedRings (flat_trees c)
 collection-closed {T} c gs is h = subst (λ (ts : Flats T). HaveClosedRings ts) (sym (flat-members c ∙ ap flat_members is)) (have gs h)
+
+-- A geometry whose tree is this one.
+pub closed-as : {T : Type 0} (g h : Geometry T) {t : Flat T} → g ≡ h → flat_tree h ≡ t → HasClosedRings t → HasClosedRings (flat_tree g)
+closed-as {T} g h same is closed = subst (λ (t : Flat T). HasClosedRings t) (sym (ap flat_tree same ∙ is)) closed
