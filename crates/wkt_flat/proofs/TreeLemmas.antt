@@ -102,3 +102,8 @@ pub copied : {T E : Type 0} (r : Result (Unit {0}) E) (news olds : List (Geometr
     OnOk r (map flat_tree news ≡ map flat_tree olds ++ t ∷ []) → OnOk r (map flat_tree news ≡ map flat_tree olds ++ flat_tree g ∷ [])
 copied (Ok u) news olds g h same is pushed = pushed ∙ ap (λ t. map flat_tree olds ++ t ∷ []) (sym (ap flat_tree same ∙ is))
 copied (Err e) news olds g h same is pushed = tt
+
+-- Two geometries were compared by what they hold.
+pub seen : {T : Type 0} (E : T → T → Bool) (a b g h : Geometry T) {s t : Flat T} {r : Bool} → a ≡ g → b ≡ h → flat_tree g ≡ s → flat_tree h ≡ t →
+    r ≡ flat_eq E s t → r ≡ flat_eq E (flat_tree a) (flat_tree b)
+seen E a b g h one other p q is = rw (one, other, p, q) is
