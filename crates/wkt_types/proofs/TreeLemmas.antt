@@ -110,3 +110,8 @@ pub copied : {T E : Type 0} (r : Result (Unit {0}) E) (news olds : List (Wkt T))
     OnOk r (map tree news ≡ map tree olds ++ t ∷ []) → OnOk r (map tree news ≡ map tree olds ++ tree w ∷ [])
 copied (Ok u) news olds w v same is pushed = pushed ∙ ap (λ t. map tree olds ++ t ∷ []) (sym (ap tree same ∙ is))
 copied (Err e) news olds w v same is pushed = tt
+
+-- two geometries were compared by what they hold
+pub seen : {T : Type 0} (E : T → T → Bool) (a b v w : Wkt T) {s t : Tree T} {r : Bool} → a ≡ v → b ≡ w → tree v ≡ s → tree w ≡ t →
+    r ≡ tree_eq E s t → r ≡ tree_eq E (tree a) (tree b)
+seen E a b v w one other p q is = rw (one, other, p, q) is
