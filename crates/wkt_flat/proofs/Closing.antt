@@ -1,5 +1,5 @@
 -- Facts of each item of a list, gathered one by one.
-use Rattle.std.proofs.Common.{◌≡◌, ℕ, zero, suc, ◌<◌, ◌+◌, List, [], ◌∷◌, length, add-one, get_or, take, drop, sym, subst, ap, ◌∙◌, arith, map}
+use Rattle.std.proofs.Common.{◌≡◌, ℕ, zero, suc, ◌<◌, ◌+◌, List, [], ◌∷◌, length, add-one, get_or, take, sym, subst, ap, ◌∙◌, arith}
 use Rattle.std.specs.List.{AllByRecursion}
 use Rattle.wkt_flat.specs.Closed.{HasClosedRings, HaveClosedRings}
 use Rattle.wkt_flat.specs.Tree.{flat_tree, flat_trees, flat_members, Flat, Flats}

@@ -1,5 +1,5 @@
 -- How many geometries wait as a list of them is let go.
-use Rattle.std.proofs.Common.{◌≡◌, ℕ, ◌<◌, ◌≤◌, ◌+◌, ap, ◌∙◌, List, [], ◌∷◌, ◌++◌, length, get_or, slice_set, arith}
+use Rattle.std.proofs.Common.{◌≡◌, ◌<◌, ◌≤◌, ◌+◌, ap, ◌∙◌, List, [], ◌∷◌, ◌++◌, length, get_or, slice_set, arith}
 use Rattle.wkt_flat.specs.Tree.{Flat, flat_tree, flat_trees, flat_members, collection, point, line, line_string, polygon, multi_point, multi_line_string, multi_polygon, rect, triangle}
 use Rattle.wkt_flat.specs.Weight.{flat_weight, flats_weight, weight, weights}
 use Rattle.wkt_flat.specs.declared.geometry.GeometryCollection.{GeometryCollection}

@@ -1,5 +1,5 @@
 -- The shape of a collection, by its members.
-use Rattle.std.proofs.Common.{◌≡◌, refl, ap, sym, ◌∙◌, List, [], ◌∷◌, map}
+use Rattle.std.proofs.Common.{◌≡◌, refl, ap, ◌∙◌, List, [], ◌∷◌, map}
 use Rattle.wkt_access.specs.declared.dimensions.Dimension.{Dimension}
 use Rattle.wkt_access.specs.Shapes.{Shape, Shapes, header_of, shapes_of}
 use Rattle.wkt_access.specs.Parts.{collection_of, gathered, members_of}

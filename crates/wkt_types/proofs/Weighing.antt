@@ -1,5 +1,5 @@
 -- How many geometries wait as a list of them is let go.
-use Rattle.std.proofs.Common.{◌≡◌, ℕ, ◌<◌, ◌≤◌, ◌+◌, ap, ◌∙◌, List, [], ◌∷◌, ◌++◌, length, get_or, slice_set, arith}
+use Rattle.std.proofs.Common.{◌≡◌, ◌<◌, ◌≤◌, ◌+◌, ap, ◌∙◌, List, [], ◌∷◌, ◌++◌, length, get_or, slice_set, arith}
 use Rattle.wkt_access.specs.declared.dimensions.Dimension.{Dimension}
 use Rattle.wkt_types.specs.Tree.{Tree, tree, collection_tree, members, collection, point, line_string, polygon, multi_point, multi_line_string, multi_polygon}
 use Rattle.wkt_types.specs.Weight.{tree_weight, weight, weights}
