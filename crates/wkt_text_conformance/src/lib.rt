@@ -1,8 +1,8 @@
-//! Tests of texts that cross crates: read, told apart, written, and read against a plain program.
+//! Tests of texts that cross crates: read, told apart and written; and the examples of the docs.
 #![tactic(auto)]
 
 #[cfg(test)]
-mod against_reference;
+mod doc_examples;
 #[cfg(test)]
 mod errors;
 #[cfg(test)]
@@ -11,8 +11,6 @@ mod headers;
 mod numbers;
 #[cfg(test)]
 mod reading;
-#[cfg(test)]
-mod reference;
 #[cfg(test)]
 mod same;
 #[cfg(test)]

@@ -1,0 +1,7 @@
+//! The readers against a plain, slow program of the definitions of reading.
+#![tactic(auto)]
+
+#[cfg(test)]
+mod against_reference;
+#[cfg(test)]
+mod reference;
