@@ -6,7 +6,7 @@ use Rattle.std.proofs.lemmas.Slice.{drop-append-drop, drop-put_mid, take-put_mid
 use borrow.Rule.Slice.PartMut.{put_mid}
 
 module _ {A : Type 0} (i e : ℕ) (list old out new : List A) (h : i ≤ e) (whole : e ≤ length list) (room : length list ≤ length old) (long : length out ≡ length old)
-  (was : out ≡ take i list ++ drop i old) (is : new ≡ take (e - i) (drop i list)) where
+    (was : out ≡ take i list ++ drop i old) (is : new ≡ take (e - i) (drop i list)) where
   size : length new ≡ e - i
   size = ap length is ∙ length-take-le (e - i) (drop i list) (omega (arith, length-drop i list))
 

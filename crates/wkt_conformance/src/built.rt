@@ -20,10 +20,7 @@ pub(crate) fn built(alloc: Global, text: &str) -> Result<String, AnyError> {
 }
 
 /// The polygon of no ring, of the exterior, or of the exterior and the first interior.
-fn polygon_of(
-    alloc: Global,
-    rings: &[LineString<Number>],
-) -> Result<Polygon<Number>, AllocError> {
+fn polygon_of(alloc: Global, rings: &[LineString<Number>]) -> Result<Polygon<Number>, AllocError> {
     match rings {
         [] => polygon(alloc, &[]),
         [exterior] => {
