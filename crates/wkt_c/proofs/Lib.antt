@@ -10,4 +10,3 @@ pub mod Answering
 pub mod Columns
 pub mod ArrayColumns
 pub mod TextColumns
-mod Pieces

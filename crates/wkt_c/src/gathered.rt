@@ -43,7 +43,7 @@ impl Gathered {
         bytes
     }
 
-    // Makes places up to that one, and a thousand more at least, or tells that there is no memory.
+    // Makes places up to that one, and two thousand more at least, or tells that there is no memory.
     #[inline(never)]
     fn grow(&mut self, end: usize) -> bool
         ensures kept { gathered self.new ≡ gathered self.old }
@@ -51,7 +51,7 @@ impl Gathered {
         ensures room { OnTrue result (end ≤ length self.new.bytes.items) }
         ensures count { failed_calls self.new ≡ failed_calls self.old }
     {
-        let room = end.max(self.bytes.len().saturating_add(1024));
+        let room = end.max(self.bytes.len().saturating_add(2032));
         self.bytes.resize(room, 0).is_ok()
     }
 
