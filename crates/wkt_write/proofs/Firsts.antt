@@ -1,6 +1,7 @@
 -- The first fault of a list, as a loop finds it.
-use Rattle.std.proofs.Common.{◌≡◌, ℕ, zero, suc, ◌+◌, ◌≤◌, List, [], ◌∷◌, length, take, Option, Some, None, Result, Ok, Err, refl, ap, sym, ◌∙◌, subst, slice_get, add-one, arith}
+use Rattle.std.proofs.Common.{◌≡◌, ℕ, zero, suc, ◌+◌, ◌<◌, ◌≤◌, List, [], ◌∷◌, length, take, Option, Some, None, Result, Ok, Err, refl, ap, sym, ◌∙◌, subst, slice_get, add-one, arith}
 use Rattle.std.specs.List.{AllByRecursion}
+use Rattle.std.specs.Prelude.{IfSome}
 use Rattle.std.specs.Option.{option_or}
 use Rattle.std.proofs.lemmas.List.{take_all}
 use Rattle.wkt_access.specs.declared.error.Error.{Error}
@@ -51,6 +52,19 @@ clean_more {f = f} {H = H} {xs = xs} {i = i} {x = x} h g e = record { all = h.al
 
 pub clean_fault : {A : Type 0} {f : A → Option Error} {H : A → Type 0} {xs : List A} {i n : ℕ} {x : A} {e : Error} → Clean f H xs i n → slice_get xs i ≡ Some x → f x ≡ Some e → first_fault f xs ≡ Some e
 clean_fault {f = f} {xs = xs} {i = i} {x = x} {e = e} h g w = found f xs i x e h.clean g w
+
+-- the i-th of a list, of which something is known
+pub known_at : {A : Type 0} {P : A → Type 0} (xs : List A) (i : ℕ) → i < length xs → IfSome (slice_get xs i) P → (x : A) × (slice_get xs i ≡ Some x) × P x
+known_at [] i h p = absurd (omega arith)
+known_at (y ∷ ys) zero h p = (y, refl, p)
+known_at (y ∷ ys) (suc i) h p = known_at ys i (omega arith) p
+
+module _ {A : Type 0} {f : A → Option Error} {H : A → Type 0} {xs : List A} {i n : ℕ} where
+  pub clean_more_at : Clean f H xs i n → i < n → IfSome (slice_get xs i) (λ x. Clear (f x) (H x)) → Clean f H xs (i + 1) n
+  clean_more_at h k p = let q = known_at xs i (omega (arith, h.all)) p in clean_more h q.1 q.2
+
+  pub clean_fault_at : {e : Error} → Clean f H xs i n → i < n → IfSome (slice_get xs i) (λ x. f x ≡ Some e) → first_fault f xs ≡ Some e
+  clean_fault_at h k p = let q = known_at xs i (omega (arith, h.all)) p in clean_fault h q.1 q.2
 
 pub clean_end : {A : Type 0} {f : A → Option Error} {H : A → Type 0} {xs : List A} {i n : ℕ} → Clean f H xs i n → n ≤ i → Clear (first_fault f xs) (AllByRecursion H xs)
 clean_end {f = f} {H = H} {xs = xs} {i = i} h k =

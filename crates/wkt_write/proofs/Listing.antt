@@ -1,10 +1,12 @@
 -- A list that a loop writes, with a separator between neighbours.
 use Rattle.std.proofs.Common.{◌≡◌, ℕ, zero, suc, ◌+◌, ◌<◌, ◌≤◌, List, [], ◌∷◌, ◌++◌, length, take, map, Some, refl, ap, sym, ◌∙◌, append_assoc, arith, slice_get, add-one}
 use Rattle.std.proofs.lemmas.List.{append-nil, take_all}
+use Rattle.std.specs.Prelude.{IfSome}
 use Rattle.wkt_num.specs.Sink.{Sink, Adds, Breaks}
 use Rattle.wkt_access.specs.Texts.{separated}
 use Rattle.wkt_write.specs.Pieces.{before, each_after}
 use Rattle.wkt_num.proofs.Calls.{adds_none, adds_then, breaks_first, breaks_then}
+use Rattle.wkt_write.proofs.Firsts.{known_at}
 use Rattle.wkt_write.proofs.Pieces.{Begins, begins_self, begins_with, begins_after, breaks_in}
 
 -- i of the n members of xs, each as f says, were added
@@ -66,6 +68,12 @@ module _ {A S : Type 0} {sink : Sink S} where
     listing_broken {x = x} p h q r =
         breaks_in (joined_begins separator f xs (suc i)) (rw (joined_more separator f xs i x h) (breaks_then p.added (breaks_then q r)))
 
+    pub listing_more_at : {s t u v : S} → Listing sink separator f xs i n s t → i < n → Adds sink t (before separator i) u → IfSome (slice_get xs i) (λ x. Adds sink u (f x) v) → Listing sink separator f xs (i + 1) n s v
+    listing_more_at p h q r = let x = known_at xs i (omega (arith, p.all)) r in listing_more p x.1 q x.2
+
+    pub listing_broken_at : {s t u v : S} → Listing sink separator f xs i n s t → i < n → Adds sink t (before separator i) u → IfSome (slice_get xs i) (λ x. Breaks sink u (f x) v) → Breaks sink s (separated separator (map f xs)) v
+    listing_broken_at p h q r = let x = known_at xs i (omega (arith, p.all)) r in listing_broken p x.1 q x.2
+
     pub listing_end : {s t : S} → Listing sink separator f xs i n s t → n ≤ i → Adds sink s (separated separator (map f xs)) t
     listing_end p h = let q : length xs ≤ i = omega (arith, p.all) in let e : take i xs ≡ xs = take_all i xs q in rw e at p.added
 
@@ -86,6 +94,12 @@ module _ {A S : Type 0} {sink : Sink S} where
     pub following_broken : {s t u v : S} {x : A} → Following sink separator f xs i n s t → slice_get xs i ≡ Some x → Adds sink t separator u → Breaks sink u (f x) v → Breaks sink s (each_after separator (map f xs)) v
     following_broken {x = x} p h q r =
         breaks_in (later_begins separator f xs (suc i)) (rw (later_more separator f xs i x h) (breaks_then p.added (breaks_then q r)))
+
+    pub following_more_at : {s t u v : S} → Following sink separator f xs i n s t → i < n → Adds sink t separator u → IfSome (slice_get xs i) (λ x. Adds sink u (f x) v) → Following sink separator f xs (i + 1) n s v
+    following_more_at p h q r = let x = known_at xs i (omega (arith, p.all)) r in following_more p x.1 q x.2
+
+    pub following_broken_at : {s t u v : S} → Following sink separator f xs i n s t → i < n → Adds sink t separator u → IfSome (slice_get xs i) (λ x. Breaks sink u (f x) v) → Breaks sink s (each_after separator (map f xs)) v
+    following_broken_at p h q r = let x = known_at xs i (omega (arith, p.all)) r in following_broken p x.1 q x.2
 
     pub following_end : {s t : S} → Following sink separator f xs i n s t → n ≤ i → Adds sink s (each_after separator (map f xs)) t
     following_end p h = let q : length xs ≤ i = omega (arith, p.all) in let e : take i xs ≡ xs = take_all i xs q in rw e at p.added

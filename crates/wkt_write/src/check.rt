@@ -9,6 +9,9 @@ ghost use Rattle.wkt_access.specs.Parts.{collection_of};
 ghost use Rattle.wkt_access.specs.Shapes.{Shape, printed, dimension};
 ghost use Rattle.wkt_access.specs.Values.{size};
 
+use crate::items::{
+    Coords, Interiors, LineStrings, Members, Points, Polygons, check_items, check_listed,
+};
 use wkt_access::{
     CoordTrait, Dimension, Dimensions, Error, GeometryCollectionTrait, GeometryTrait, GeometryType,
     LineStringTrait, LineTrait, MultiLineStringTrait, MultiPointTrait, MultiPolygonTrait,
@@ -62,7 +65,7 @@ pub(crate) fn size_in(d: Dimension) -> usize
 }
 
 /// Whether a coordinate has `k` numbers or more.
-fn check_coord<C: CoordTrait>(c: &C, k: usize) -> Result<(), Error>
+pub(crate) fn check_coord<C: CoordTrait>(c: &C, k: usize) -> Result<(), Error>
     ensures { Checks result (coordinate_fault k (C.numbers c.now)) (KnownCoord C.T.is_value k (C.numbers c.now)) }
 {
     if c.dim().size() < k {
@@ -75,29 +78,15 @@ fn check_coord<C: CoordTrait>(c: &C, k: usize) -> Result<(), Error>
 }
 
 /// The first fault of the coordinates of a line string or a ring, under a header of `k` numbers.
-fn check_coords<L: LineStringTrait>(l: &L, k: usize) -> Result<(), Error>
+pub(crate) fn check_coords<L: LineStringTrait>(l: &L, k: usize) -> Result<(), Error>
     ensures { Checks result (coordinates_fault k (L.coordinates l.now))
         (KnownCoords L.T.is_value k (L.coordinates l.now)) }
 {
-    for i in 0..l.num_coords() {
-        check_coord(l.coord(i), k)?;
-    }
-    Ok(())
-}
-
-/// The first fault of a polygon's interiors.
-fn check_interiors<Y: PolygonTrait>(y: &Y, k: usize) -> Result<(), Error>
-    ensures { Checks result (first_fault (coordinates_fault k) (Y.polygon y.now).interiors)
-        (KnownLineStrings Y.T.is_value k (Y.polygon y.now).interiors) }
-{
-    for i in 0..y.num_interiors() {
-        check_coords(y.interior(i), k)?;
-    }
-    Ok(())
+    check_items(&Coords(l), k)
 }
 
 /// The first fault of the rings of a polygon that are written.
-fn check_rings<Y: PolygonTrait>(y: &Y, k: usize) -> Result<(), Error>
+pub(crate) fn check_rings<Y: PolygonTrait>(y: &Y, k: usize) -> Result<(), Error>
     ensures { Checks result (polygon_fault k (Y.polygon y.now)) (KnownPolygon Y.T.is_value k (Y.polygon y.now)) }
 {
     match y.exterior() {
@@ -107,13 +96,13 @@ fn check_rings<Y: PolygonTrait>(y: &Y, k: usize) -> Result<(), Error>
                 return Ok(());
             }
             check_coords(exterior, k)?;
-            check_interiors(y, k)
+            check_items(&Interiors(y), k)
         }
     }
 }
 
 /// The fault of a point's coordinate, if there is one.
-fn check_point_coord<P: PointTrait>(p: &P, k: usize) -> Result<(), Error>
+pub(crate) fn check_point_coord<P: PointTrait>(p: &P, k: usize) -> Result<(), Error>
     ensures { Checks result (point_fault k (P.coordinate p.now)) (KnownPoint P.T.is_value k (P.coordinate p.now)) }
 {
     match p.coord() {
@@ -122,41 +111,8 @@ fn check_point_coord<P: PointTrait>(p: &P, k: usize) -> Result<(), Error>
     }
 }
 
-/// The first fault of the members of a multipoint.
-fn check_points<M: MultiPointTrait>(m: &M, k: usize) -> Result<(), Error>
-    ensures { Checks result (first_fault (point_fault k) (M.points m.now))
-        (AllByRecursion (KnownPoint M.T.is_value k) (M.points m.now)) }
-{
-    for i in 0..m.num_points() {
-        check_point_coord(m.point(i), k)?;
-    }
-    Ok(())
-}
-
-/// The first fault of the members of a multilinestring.
-fn check_linestrings<M: MultiLineStringTrait>(m: &M, k: usize) -> Result<(), Error>
-    ensures { Checks result (first_fault (coordinates_fault k) (M.line_strings m.now))
-        (KnownLineStrings M.T.is_value k (M.line_strings m.now)) }
-{
-    for i in 0..m.num_line_strings() {
-        check_coords(m.line_string(i), k)?;
-    }
-    Ok(())
-}
-
-/// The first fault of the members of a multipolygon.
-fn check_polygons<M: MultiPolygonTrait>(m: &M, k: usize) -> Result<(), Error>
-    ensures { Checks result (first_fault (polygon_fault k) (M.polygons m.now))
-        (AllByRecursion (KnownPolygon M.T.is_value k) (M.polygons m.now)) }
-{
-    for i in 0..m.num_polygons() {
-        check_rings(m.polygon(i), k)?;
-    }
-    Ok(())
-}
-
 /// How many numbers a coordinate has under a header.
-fn check_header(d: Dimensions) -> Result<usize, Error>
+pub(crate) fn check_header(d: Dimensions) -> Result<usize, Error>
     ensures size { IfOk result (λ k. k ≡ size (dimension d)) }
     ensures ok { IfOk result (λ k. (inside : ℕ → Option Error) → under (printed d) inside ≡ inside k) }
     ensures err { IfErr result (λ e. (inside : ℕ → Option Error) → under (printed d) inside ≡ Some e) }
@@ -178,8 +134,7 @@ pub(crate) fn check_point<P: PointTrait>(p: &P) -> Result<(), Error>
 pub(crate) fn check_linestring<L: LineStringTrait>(l: &L) -> Result<(), Error>
     ensures { ChecksShape L.T.is_value result (Shape.line_string (L.dimension l.now) (L.coordinates l.now)) }
 {
-    let k = check_header(l.dim())?;
-    check_coords(l, k)
+    check_listed(l.dim(), &Coords(l))
 }
 
 #[inline(never)]
@@ -194,24 +149,21 @@ pub(crate) fn check_polygon<Y: PolygonTrait>(y: &Y) -> Result<(), Error>
 pub(crate) fn check_multi_point<M: MultiPointTrait>(m: &M) -> Result<(), Error>
     ensures { ChecksShape M.T.is_value result (Shape.multi_point (M.dimension m.now) (M.points m.now)) }
 {
-    let k = check_header(m.dim())?;
-    check_points(m, k)
+    check_listed(m.dim(), &Points(m))
 }
 
 #[inline(never)]
 pub(crate) fn check_multi_linestring<M: MultiLineStringTrait>(m: &M) -> Result<(), Error>
     ensures { ChecksShape M.T.is_value result (Shape.multi_line_string (M.dimension m.now) (M.line_strings m.now)) }
 {
-    let k = check_header(m.dim())?;
-    check_linestrings(m, k)
+    check_listed(m.dim(), &LineStrings(m))
 }
 
 #[inline(never)]
 pub(crate) fn check_multi_polygon<M: MultiPolygonTrait>(m: &M) -> Result<(), Error>
     ensures { ChecksShape M.T.is_value result (Shape.multi_polygon (M.dimension m.now) (M.polygons m.now)) }
 {
-    let k = check_header(m.dim())?;
-    check_polygons(m, k)
+    check_listed(m.dim(), &Polygons(m))
 }
 
 /// Does nothing, and tells that a corner's x and y are values.
@@ -279,21 +231,9 @@ pub(crate) fn check_geometry<G: GeometryTrait>(g: &G) -> Result<(), Error>
     }
 }
 
-/// The first fault of the members of a collection.
-fn check_members<C: GeometryCollectionTrait>(c: &C) -> Result<(), Error>
-    ensures { Checks result (first_fault fault (C.geometries c.now))
-        (AllByRecursion (Known C.T.is_value) (C.geometries c.now)) }
-{
-    for i in 0..c.num_geometries() {
-        check_geometry(c.geometry(i))?;
-    }
-    Ok(())
-}
-
 pub(crate) fn check_collection<C: GeometryCollectionTrait>(c: &C) -> Result<(), Error>
     ensures members { IfOk result (λ _. first_fault fault (C.geometries c.now) ≡ None) }
     ensures collection { ChecksShape C.T.is_value result (collection_of (C.dimension c.now) (C.geometries c.now)) }
 {
-    check_header(c.dim())?;
-    check_members(c)
+    check_listed(c.dim(), &Members(c))
 }

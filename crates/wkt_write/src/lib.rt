@@ -2,6 +2,7 @@
 #![tactic(auto)]
 
 mod check;
+mod items;
 mod push;
 mod put_kinds;
 mod put_parts;

@@ -10,9 +10,9 @@ ghost use Rattle.wkt_access.specs.Texts.{separated, suffix, shape_text};
 ghost use Rattle.wkt_num.specs.Sink.{Puts};
 
 use crate::check::{dimension_in, size_in};
+use crate::items::{Coords, LineStrings, Members, Points, Polygons, put_listed};
 use crate::put_parts::{
-    has_no_coord, has_no_rings, put_closing, put_header, put_line_body, put_linestring_body,
-    put_multi_linestring_body, put_multi_point_body, put_multi_polygon_body, put_opening,
+    has_no_coord, has_no_rings, put_closing, put_header, put_line_body, put_opening,
     put_point_body, put_polygon_body, put_rect_ring, put_separator, put_triangle_body,
 };
 use std::fmt;
@@ -39,9 +39,7 @@ pub(crate) fn put_linestring<W: TextSink, L: LineStringTrait>(f: &mut W, l: &L) 
     ensures { Puts W.sink f.old (shape_text L.T.num (Shape.line_string (L.dimension l.now) (L.coordinates l.now)))
         f.new result }
 {
-    let d = dimension_in(l.dim());
-    put_header(f, "LINESTRING", d, l.num_coords() == 0)?;
-    put_linestring_body(f, l, size_in(d))
+    put_listed(f, "LINESTRING", l.dim(), &Coords(l))
 }
 
 #[inline(never)]
@@ -61,9 +59,7 @@ pub(crate) fn put_multi_point<W: TextSink, M: MultiPointTrait>(f: &mut W, m: &M)
     ensures { Puts W.sink f.old (shape_text M.T.num (Shape.multi_point (M.dimension m.now) (M.points m.now)))
         f.new result }
 {
-    let d = dimension_in(m.dim());
-    put_header(f, "MULTIPOINT", d, m.num_points() == 0)?;
-    put_multi_point_body(f, m, size_in(d))
+    put_listed(f, "MULTIPOINT", m.dim(), &Points(m))
 }
 
 #[inline(never)]
@@ -75,9 +71,7 @@ pub(crate) fn put_multi_linestring<W: TextSink, M: MultiLineStringTrait>(
     ensures { Puts W.sink f.old
         (shape_text M.T.num (Shape.multi_line_string (M.dimension m.now) (M.line_strings m.now))) f.new result }
 {
-    let d = dimension_in(m.dim());
-    put_header(f, "MULTILINESTRING", d, m.num_line_strings() == 0)?;
-    put_multi_linestring_body(f, m, size_in(d))
+    put_listed(f, "MULTILINESTRING", m.dim(), &LineStrings(m))
 }
 
 #[inline(never)]
@@ -86,9 +80,7 @@ pub(crate) fn put_multi_polygon<W: TextSink, M: MultiPolygonTrait>(f: &mut W, m:
     ensures { Puts W.sink f.old (shape_text M.T.num (Shape.multi_polygon (M.dimension m.now) (M.polygons m.now)))
         f.new result }
 {
-    let d = dimension_in(m.dim());
-    put_header(f, "MULTIPOLYGON", d, m.num_polygons() == 0)?;
-    put_multi_polygon_body(f, m, size_in(d))
+    put_listed(f, "MULTIPOLYGON", m.dim(), &Polygons(m))
 }
 
 #[inline(never)]
@@ -172,18 +164,6 @@ fn put_collection_header<W: TextSink>(f: &mut W, d: Dimensions, is_empty: bool) 
     put_header(f, "GEOMETRYCOLLECTION", dimension_in(d), is_empty)
 }
 
-/// Writes the members of a collection, with commas between them.
-fn put_geometries<W: TextSink, C: GeometryCollectionTrait>(f: &mut W, c: &C) -> fmt::Result
-    requires { first_fault fault (C.geometries c.now) ≡ None }
-    ensures { Puts W.sink f.old (separated (codes ",") (map (shape_text C.T.num) (C.geometries c.now))) f.new result }
-{
-    for i in 0..c.num_geometries() {
-        put_separator(f, ",", i)?;
-        put_geometry(f, c.geometry(i))?;
-    }
-    Ok(())
-}
-
 pub(crate) fn put_collection<W: TextSink, C: GeometryCollectionTrait>(
     f: &mut W,
     c: &C,
@@ -192,9 +172,5 @@ pub(crate) fn put_collection<W: TextSink, C: GeometryCollectionTrait>(
     ensures { Puts W.sink f.old (shape_text C.T.num (collection_of (C.dimension c.now) (C.geometries c.now)))
         f.new result }
 {
-    let is_empty = c.num_geometries() == 0;
-    put_collection_header(f, c.dim(), is_empty)?;
-    put_opening(f, is_empty)?;
-    put_geometries(f, c)?;
-    put_closing(f, is_empty)
+    put_listed(f, "GEOMETRYCOLLECTION", c.dim(), &Members(c))
 }

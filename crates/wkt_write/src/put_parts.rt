@@ -11,10 +11,10 @@ ghost use Rattle.wkt_write.specs.Pieces.{before, each_after, has_none, opening, 
 ghost use Rattle.wkt_access.specs.Texts.{separated, listed, suffix};
 ghost use Rattle.wkt_num.specs.Sink.{Puts};
 
+use crate::items::{Coords, Interiors, put_body, put_following};
 use std::fmt;
 use wkt_access::{
-    CoordTrait, Dimension, LineStringTrait, LineTrait, MultiLineStringTrait, MultiPointTrait,
-    MultiPolygonTrait, PointTrait, PolygonTrait, TriangleTrait,
+    CoordTrait, Dimension, LineStringTrait, LineTrait, PointTrait, PolygonTrait, TriangleTrait,
 };
 use wkt_num::{TextSink, WktNum};
 
@@ -49,7 +49,7 @@ pub(crate) fn put_closing<W: TextSink>(f: &mut W, is_empty: bool) -> fmt::Result
 }
 
 /// Writes the first `k` numbers of a coordinate, with spaces between them.
-fn put_coord<W: TextSink, C: CoordTrait>(f: &mut W, c: &C, k: usize) -> fmt::Result
+pub(crate) fn put_coord<W: TextSink, C: CoordTrait>(f: &mut W, c: &C, k: usize) -> fmt::Result
     requires { k ≤ length (C.numbers c.now) }
     ensures { Puts W.sink f.old (cut_coordinate C.T.num k (C.numbers c.now)) f.new result }
 {
@@ -73,45 +73,12 @@ fn put_numbers<W: TextSink, C: CoordTrait>(f: &mut W, c: &C, k: usize) -> fmt::R
     Ok(())
 }
 
-/// Writes the coordinates of a line string or a ring, with commas between them.
-fn put_coords<W: TextSink, L: LineStringTrait>(f: &mut W, l: &L, k: usize) -> fmt::Result
-    requires { coordinates_fault k (L.coordinates l.now) ≡ None }
-    ensures { Puts W.sink f.old (separated (codes ",") (map (cut_coordinate L.T.num k) (L.coordinates l.now)))
-        f.new result }
-{
-    for i in 0..l.num_coords() {
-        put_separator(f, ",", i)?;
-        put_coord(f, l.coord(i), k)?;
-    }
-    Ok(())
-}
-
 /// Writes the body of a line string, which is also the text of a ring.
-pub(crate) fn put_linestring_body<W: TextSink, L: LineStringTrait>(
-    f: &mut W,
-    l: &L,
-    k: usize,
-) -> fmt::Result
+pub(crate) fn put_coords<W: TextSink, L: LineStringTrait>(f: &mut W, l: &L, k: usize) -> fmt::Result
     requires { coordinates_fault k (L.coordinates l.now) ≡ None }
     ensures { Puts W.sink f.old (cut_coordinates L.T.num k (L.coordinates l.now)) f.new result }
 {
-    let is_empty = l.num_coords() == 0;
-    put_opening(f, is_empty)?;
-    put_coords(f, l, k)?;
-    put_closing(f, is_empty)
-}
-
-/// Writes the interiors of a polygon, with a comma before each.
-fn put_interiors<W: TextSink, Y: PolygonTrait>(f: &mut W, y: &Y, k: usize) -> fmt::Result
-    requires { first_fault (coordinates_fault k) (Y.polygon y.now).interiors ≡ None }
-    ensures { Puts W.sink f.old
-        (each_after (codes ",") (map (cut_coordinates Y.T.num k) (Y.polygon y.now).interiors)) f.new result }
-{
-    for i in 0..y.num_interiors() {
-        f.write_str(",")?;
-        put_linestring_body(f, y.interior(i), k)?;
-    }
-    Ok(())
+    put_body(f, &Coords(l), k)
 }
 
 /// Writes the body of a polygon: its exterior and then its interiors, or EMPTY without an exterior.
@@ -130,8 +97,8 @@ pub(crate) fn put_polygon_body<W: TextSink, Y: PolygonTrait>(
                 return put_opening(f, true);
             }
             put_opening(f, false)?;
-            put_linestring_body(f, exterior, k)?;
-            put_interiors(f, y, k)?;
+            put_coords(f, exterior, k)?;
+            put_following(f, &Interiors(y), k)?;
             put_closing(f, false)
         }
     }
@@ -150,43 +117,6 @@ pub(crate) fn put_point_body<W: TextSink, P: PointTrait>(f: &mut W, p: &P, k: us
             put_closing(f, false)
         }
     }
-}
-
-/// Writes the members of a multipoint, with commas between them.
-fn put_points<W: TextSink, M: MultiPointTrait>(f: &mut W, m: &M, k: usize) -> fmt::Result
-    requires { first_fault (point_fault k) (M.points m.now) ≡ None }
-    ensures { Puts W.sink f.old (separated (codes ",") (map (cut_point M.T.num k) (M.points m.now))) f.new result }
-{
-    for i in 0..m.num_points() {
-        put_separator(f, ",", i)?;
-        put_point_body(f, m.point(i), k)?;
-    }
-    Ok(())
-}
-
-/// Writes the members of a multilinestring, with commas between them.
-fn put_linestrings<W: TextSink, M: MultiLineStringTrait>(f: &mut W, m: &M, k: usize) -> fmt::Result
-    requires { first_fault (coordinates_fault k) (M.line_strings m.now) ≡ None }
-    ensures { Puts W.sink f.old (separated (codes ",") (map (cut_coordinates M.T.num k) (M.line_strings m.now)))
-        f.new result }
-{
-    for i in 0..m.num_line_strings() {
-        put_separator(f, ",", i)?;
-        put_linestring_body(f, m.line_string(i), k)?;
-    }
-    Ok(())
-}
-
-/// Writes the members of a multipolygon, with commas between them.
-fn put_polygons<W: TextSink, M: MultiPolygonTrait>(f: &mut W, m: &M, k: usize) -> fmt::Result
-    requires { first_fault (polygon_fault k) (M.polygons m.now) ≡ None }
-    ensures { Puts W.sink f.old (separated (codes ",") (map (cut_polygon M.T.num k) (M.polygons m.now))) f.new result }
-{
-    for i in 0..m.num_polygons() {
-        put_separator(f, ",", i)?;
-        put_polygon_body(f, m.polygon(i), k)?;
-    }
-    Ok(())
 }
 
 /// What a header says of its dimension.
@@ -253,51 +183,6 @@ pub(crate) fn has_no_rings<Y: PolygonTrait>(y: &Y) -> bool
         None => true,
         Some(exterior) => exterior.num_coords() == 0,
     }
-}
-
-/// Writes the body of a multipoint.
-pub(crate) fn put_multi_point_body<W: TextSink, M: MultiPointTrait>(
-    f: &mut W,
-    m: &M,
-    k: usize,
-) -> fmt::Result
-    requires { first_fault (point_fault k) (M.points m.now) ≡ None }
-    ensures { Puts W.sink f.old (listed (map (cut_point M.T.num k) (M.points m.now))) f.new result }
-{
-    let is_empty = m.num_points() == 0;
-    put_opening(f, is_empty)?;
-    put_points(f, m, k)?;
-    put_closing(f, is_empty)
-}
-
-/// Writes the body of a multilinestring.
-pub(crate) fn put_multi_linestring_body<W: TextSink, M: MultiLineStringTrait>(
-    f: &mut W,
-    m: &M,
-    k: usize,
-) -> fmt::Result
-    requires { first_fault (coordinates_fault k) (M.line_strings m.now) ≡ None }
-    ensures { Puts W.sink f.old (listed (map (cut_coordinates M.T.num k) (M.line_strings m.now))) f.new result }
-{
-    let is_empty = m.num_line_strings() == 0;
-    put_opening(f, is_empty)?;
-    put_linestrings(f, m, k)?;
-    put_closing(f, is_empty)
-}
-
-/// Writes the body of a multipolygon.
-pub(crate) fn put_multi_polygon_body<W: TextSink, M: MultiPolygonTrait>(
-    f: &mut W,
-    m: &M,
-    k: usize,
-) -> fmt::Result
-    requires { first_fault (polygon_fault k) (M.polygons m.now) ≡ None }
-    ensures { Puts W.sink f.old (listed (map (cut_polygon M.T.num k) (M.polygons m.now))) f.new result }
-{
-    let is_empty = m.num_polygons() == 0;
-    put_opening(f, is_empty)?;
-    put_polygons(f, m, k)?;
-    put_closing(f, is_empty)
 }
 
 /// Writes two coordinates with a comma between them.

@@ -17,17 +17,17 @@ returns-in_err-put_opening-in-Some g c =
     let e = rings_pieces g.Y.T.WktNum.num c.args.k (g.Y.PolygonTrait.polygon c.args.y.now) _ _ c.in-Some.ensures c.num_coords.ensures c.if-num_coords-eq0.false in
     puts_err _ _ c.from_residual.ensures.1 (rw e (breaks_first _ c.in_err-put_opening-in-Some.ensures))
 
-pub returns-in_err-put_linestring_body-in-Some : goal.returns-in_err-put_linestring_body-in-Some
-returns-in_err-put_linestring_body-in-Some g c =
+pub returns-in_err-put_coords-in-Some : goal.returns-in_err-put_coords-in-Some
+returns-in_err-put_coords-in-Some g c =
     let e = rings_pieces g.Y.T.WktNum.num c.args.k (g.Y.PolygonTrait.polygon c.args.y.now) _ _ c.in-Some.ensures c.num_coords.ensures c.if-num_coords-eq0.false in
-    puts_err _ _ c.from_residual-in_err-put_linestring_body-in-Some.ensures.1 (rw e (breaks_then c.in_ok-put_opening-in-Some.ensures (breaks_first _ c.in_err-put_linestring_body-in-Some.ensures)))
+    puts_err _ _ c.from_residual-in_err-put_coords-in-Some.ensures.1 (rw e (breaks_then c.in_ok-put_opening-in-Some.ensures (breaks_first _ c.in_err-put_coords-in-Some.ensures)))
 
-pub returns-in_err-put_interiors-in-Some : goal.returns-in_err-put_interiors-in-Some
-returns-in_err-put_interiors-in-Some g c =
+pub returns-in_err-put_following-in-Some : goal.returns-in_err-put_following-in-Some
+returns-in_err-put_following-in-Some g c =
     let e = rings_pieces g.Y.T.WktNum.num c.args.k (g.Y.PolygonTrait.polygon c.args.y.now) _ _ c.in-Some.ensures c.num_coords.ensures c.if-num_coords-eq0.false in
-    puts_err _ _ c.from_residual-in_err-put_interiors-in-Some.ensures.1 (rw e (breaks_then c.in_ok-put_opening-in-Some.ensures (breaks_then c.in_ok-put_linestring_body-in-Some.ensures (breaks_first _ c.in_err-put_interiors-in-Some.ensures))))
+    puts_err _ _ c.from_residual-in_err-put_following-in-Some.ensures.1 (rw e (breaks_then c.in_ok-put_opening-in-Some.ensures (breaks_then c.in_ok-put_coords-in-Some.ensures (breaks_first _ c.in_err-put_following-in-Some.ensures))))
 
-pub returns-in_ok-put_interiors-in-Some : goal.returns-in_ok-put_interiors-in-Some
-returns-in_ok-put_interiors-in-Some g c =
+pub returns-in_ok-put_following-in-Some : goal.returns-in_ok-put_following-in-Some
+returns-in_ok-put_following-in-Some g c =
     let e = rings_pieces g.Y.T.WktNum.num c.args.k (g.Y.PolygonTrait.polygon c.args.y.now) _ _ c.in-Some.ensures c.num_coords.ensures c.if-num_coords-eq0.false in
-    rw e (puts_then _ _ _ c.in_ok-put_opening-in-Some.ensures (puts_then _ _ _ c.in_ok-put_linestring_body-in-Some.ensures (puts_then _ _ _ c.in_ok-put_interiors-in-Some.ensures c.put_closing.ensures)))
+    rw e (puts_then _ _ _ c.in_ok-put_opening-in-Some.ensures (puts_then _ _ _ c.in_ok-put_coords-in-Some.ensures (puts_then _ _ _ c.in_ok-put_following-in-Some.ensures c.put_closing.ensures)))
