@@ -6,6 +6,7 @@ pub mod Pieces
 pub mod Listing
 pub mod Bracketed
 pub mod Headed
+pub mod Collected
 pub mod Refusals
 pub mod Canon
 pub mod Writable

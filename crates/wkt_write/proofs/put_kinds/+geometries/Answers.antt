@@ -1,38 +1,30 @@
 use Rattle.std.proofs.Common.{rules, ◌≡◌, ◌<◌, None}
-use Rattle.wkt_write.proofs.Bracketed.{bracket_broken_opening, bracket_broken_items, bracket_adds}
+use Rattle.wkt_write.proofs.Collected.{broken_header, broken_opening, broken_members, whole}
 use Rattle.wkt_write.proofs.Depth.{depth, member_below}
-use Rattle.wkt_write.proofs.Headed.{headed_broken, headed_broken_items, headed_adds, collection_text}
-use Rattle.wkt_write.proofs.Lists.{none_counted}
 use Rattle.wkt_write.proofs.Listing.{listing_broken_before, listing_broken, listing_start, listing_more, listing_end}
 use Rattle.wkt_write.proofs.Members.{member_clean, members_counted}
 use Rattle.wkt_num.proofs.Calls.{puts_err}
 use Rattle.wkt_access.specs.Faults.{fault}
-use Rattle.wkt_access.specs.Parts.{members_of}
 use Rattle.wkt_write.proofs.put_kinds.+geometries.Goals as goal
 
 pub put_members-returns-in_err-put_collection_header : goal.put_members-returns-in_err-put_collection_header
 put_members-returns-in_err-put_collection_header g t c =
-    let e = collection_text g.G.T.WktNum.num _ (g.G.GeometryTrait.shape c.args.g.now) c.requires.count in
     puts_err _ _ c.from_residual.ensures.1
-    (rw (e, ← c.dim.ensures) (headed_broken _ (members_of (g.G.GeometryTrait.shape c.args.g.now)) _ _ _ (none_counted _ _ (members_counted _ _ c.requires.count)) c.in_err-put_collection_header.ensures))
+    (broken_header g.G.T.WktNum.num c.args.count (g.G.GeometryTrait.shape c.args.g.now) c.dim.result c.requires.count c.dim.ensures c.in_err-put_collection_header.ensures)
 
 pub put_members-returns-in_err-put_opening : goal.put_members-returns-in_err-put_opening
 put_members-returns-in_err-put_opening g t c =
-    let e = collection_text g.G.T.WktNum.num _ (g.G.GeometryTrait.shape c.args.g.now) c.requires.count in
     puts_err _ _ c.from_residual-in_err-put_opening.ensures.1
-    (rw (e, ← c.dim.ensures) (headed_broken_items _ (members_of (g.G.GeometryTrait.shape c.args.g.now)) _ _ _ (none_counted _ _ (members_counted _ _ c.requires.count)) c.in_ok-put_collection_header.ensures (bracket_broken_opening _ _ _ (none_counted _ _ (members_counted _ _ c.requires.count)) c.in_err-put_opening.ensures)))
+    (broken_opening g.G.T.WktNum.num c.args.count (g.G.GeometryTrait.shape c.args.g.now) c.dim.result c.requires.count c.dim.ensures c.in_ok-put_collection_header.ensures c.in_err-put_opening.ensures)
 
 pub put_members-loop-i-init : goal.put_members-loop-i-init
 put_members-loop-i-init g t c = listing_start _ _ _ _ _ (members_counted _ _ c.requires.count)
 
 pub put_members-returns-in_err-put_separator : goal.put_members-returns-in_err-put_separator
 put_members-returns-in_err-put_separator g t c =
-    let e = collection_text g.G.T.WktNum.num _ (g.G.GeometryTrait.shape c.args.g.now) c.requires.count in
     puts_err _ _ c.from_residual-in_err-put_separator.ensures.1
-    (rw (e, ← c.dim.ensures)
-    (headed_broken_items _ (members_of (g.G.GeometryTrait.shape c.args.g.now)) _ _ _ (none_counted _ _ (members_counted _ _ c.requires.count)) c.in_ok-put_collection_header.ensures
-    (bracket_broken_items _ _ _ (none_counted _ _ (members_counted _ _ c.requires.count)) c.in_ok-put_opening.ensures
-    (listing_broken_before c.loop-i.invariant c.loop-i-test.true c.in_err-put_separator.ensures))))
+    (broken_members g.G.T.WktNum.num c.args.count (g.G.GeometryTrait.shape c.args.g.now) c.dim.result c.requires.count c.dim.ensures c.in_ok-put_collection_header.ensures c.in_ok-put_opening.ensures
+    (listing_broken_before c.loop-i.invariant c.loop-i-test.true c.in_err-put_separator.ensures))
 
 pub put_members-put_geometry-requires : goal.put_members-put_geometry-requires
 put_members-put_geometry-requires g t c κs within =
@@ -42,19 +34,14 @@ put_members-put_geometry-requires g t c κs within =
 
 pub put_members-returns-in_err-put_geometry : goal.put_members-returns-in_err-put_geometry
 put_members-returns-in_err-put_geometry g t c =
-    let e = collection_text g.G.T.WktNum.num _ (g.G.GeometryTrait.shape c.args.g.now) c.requires.count in
     puts_err _ _ c.from_residual-in_err-put_geometry.ensures.1
-    (rw (e, ← c.dim.ensures)
-    (headed_broken_items _ (members_of (g.G.GeometryTrait.shape c.args.g.now)) _ _ _ (none_counted _ _ (members_counted _ _ c.requires.count)) c.in_ok-put_collection_header.ensures
-    (bracket_broken_items _ _ _ (none_counted _ _ (members_counted _ _ c.requires.count)) c.in_ok-put_opening.ensures
-    (listing_broken c.loop-i.invariant c.geometry.ensures c.in_ok-put_separator.ensures c.in_err-put_geometry.ensures))))
+    (broken_members g.G.T.WktNum.num c.args.count (g.G.GeometryTrait.shape c.args.g.now) c.dim.result c.requires.count c.dim.ensures c.in_ok-put_collection_header.ensures c.in_ok-put_opening.ensures
+    (listing_broken c.loop-i.invariant c.geometry.ensures c.in_ok-put_separator.ensures c.in_err-put_geometry.ensures))
 
 pub put_members-loop-i-preserved : goal.put_members-loop-i-preserved
 put_members-loop-i-preserved g t c = listing_more c.loop-i.invariant c.geometry.ensures c.in_ok-put_separator.ensures c.in_ok-put_geometry.ensures
 
 pub put_members-returns : goal.put_members-returns
 put_members-returns g t c =
-    let e = collection_text g.G.T.WktNum.num _ (g.G.GeometryTrait.shape c.args.g.now) c.requires.count in
-    rw (e, ← c.dim.ensures)
-    (headed_adds _ (members_of (g.G.GeometryTrait.shape c.args.g.now)) _ _ _ (none_counted _ _ (members_counted _ _ c.requires.count)) _ _ c.in_ok-put_collection_header.ensures
-    (bracket_adds _ _ _ (none_counted _ _ (members_counted _ _ c.requires.count)) _ _ c.in_ok-put_opening.ensures (listing_end c.loop-i.invariant c.loop-i-test.false) c.put_closing.ensures))
+    whole g.G.T.WktNum.num c.args.count (g.G.GeometryTrait.shape c.args.g.now) c.dim.result c.requires.count c.dim.ensures _ _ c.in_ok-put_collection_header.ensures c.in_ok-put_opening.ensures
+    (listing_end c.loop-i.invariant c.loop-i-test.false) c.put_closing.ensures
