@@ -2,4 +2,3 @@ pub mod Placings
 pub mod Steps
 pub mod Afters
 pub mod Cursors
-pub mod Peeked

@@ -2,7 +2,6 @@
 use Rattle.std.specs.Prelude.{◌≡◌, ℕ, ◌+◌, ◌≤◌, ◌∷◌, ◌++◌, [], List, length, Option, Some, None, Result}
 use Rattle.std.specs.Iterator.{Count, at_most}
 use Rattle.std.specs.Borrow.{Bor}
-use Rattle.std.specs.Option.{option_copied}
 use Rattle.wkt_num.specs.Bytes.{Lexeme}
 use Rattle.wkt_read.specs.Placed.{Placed, lexemes_of, end_after}
 use Rattle.wkt_read.specs.Items.{IsItem}
@@ -58,11 +57,6 @@ count_ahead s = at_most (length (left s))
 abbrev pub first_of : List Placed → Option Lexeme
 first_of [] = None
 first_of (x ∷ xs) = Some x.lexeme
-
--- One call of `peek`: it returns a reference to the item that `next` gives next, and all lexemes are still to come.
-abbrev pub Peeks : {T : Type 0} → (List ℕ → Option T) → PeekableTokens T → PeekableTokens T → Option (Bor (Result (Token T) (Bor (List ℕ)))) → Type 0
-Peeks read s t r =
-    (left t ≡ left s) × (end_of t ≡ end_of s) × (taken_of s ≤ taken_of t) × IsItem read (first_of (left s)) (option_copied r)
 
 -- the last of the lexemes ends here, if there is one
 abbrev pub IfLast : List Placed → ℕ → Type 0

@@ -2,7 +2,6 @@
 
 pub(crate) mod class;
 pub(crate) mod cursor;
-mod peek;
 pub(crate) mod peekable;
 pub(crate) mod scan;
 pub(crate) mod token;

@@ -93,10 +93,10 @@ fn reads_lists(rt: HostRuntime) -> Result<(), Fail> {
     Ok(())
 }
 
-// The number that `peek` returns a reference to, if it is one.
+// The number that `peek` returns, if it is one.
 fn peeked(tokens: &mut PeekableTokens<'_, i32>) -> Option<i32> {
     match tokens.peek() {
-        Some(Ok(Token::Number(number))) => Some(*number),
+        Some(Ok(Token::Number(number))) => Some(number),
         _ => None,
     }
 }

@@ -1,5 +1,5 @@
 //! The lexemes of a text, of which one may be looked at ahead.
-ghost use Rattle.std.specs.Prelude.{◌≡◌, ◌+◌, ◌≤◌, ℕ, ◌∷◌, Some, None, OnSome};
+ghost use Rattle.std.specs.Prelude.{◌≡◌, ◌+◌, ◌≤◌, ℕ, [], ◌∷◌, Some, None, OnSome, IfNone};
 ghost use Rattle.std.specs.Bool.{MatchBool, OnFalse};
 ghost use Rattle.wkt_num.specs.Bytes.{Lexeme, Comma};
 ghost use Rattle.wkt_read.specs.Tokenizer.Cursors.{taken_in};
@@ -7,24 +7,7 @@ ghost use Rattle.wkt_read.specs.Tokenizer.Unread.{found};
 
 use crate::tokenizer::token::{Lexeme, Token, item_of};
 use crate::tokenizer::tokens::Tokens;
-use std::marker::Model;
 use wkt_num::WktNum;
-
-/// The item that `peek` returns a reference to. A contract sees it as the item alone.
-#[derive(Drop)]
-pub(crate) struct Peeked<'a, T> {
-    pub(crate) item: Option<Result<Token<'a, T>, &'static str>>,
-}
-
-impl<'a, T> Model for Peeked<'a, T> {
-    ghost use Rattle.std.specs.Prelude.{ℕ, List, Option, Result};
-    ghost use Rattle.std.specs.Borrow.{Bor};
-    ghost use Rattle.wkt_read.specs.declared.tokenizer.token.Token.{Token};
-
-    ghost Value = { Option (Result (Token T) (Bor (List ℕ))) };
-
-    ghost view = { λ p. p.item };
-}
 
 /// The lexemes of a text, one after the other, of which one may be looked at ahead.
 #[derive(Drop)]
@@ -32,8 +15,6 @@ pub struct PeekableTokens<'a, T> {
     tokens: Tokens<'a, T>,
     ahead: Option<Lexeme<'a>>,
     end: usize,
-    // What `peek` returns a reference to: it alone reads the number ahead of its time.
-    pub(crate) peeked: Peeked<'a, T>,
     ghost near: { (lexeme : _) (l : Lexeme) → ahead ≡ Some lexeme → found lexeme ≡ Some l
         → (tokens.end ≤ taken_in tokens.bytes) × (taken_in tokens.bytes ≤ tokens.end + 1) },
     ghost level: { ahead ≡ None → end ≡ tokens.end },
@@ -59,7 +40,6 @@ impl<'a, T: WktNum> PeekableTokens<'a, T> {
             tokens,
             ahead: None,
             end,
-            peeked: Peeked { item: None },
         }
     }
 
@@ -160,15 +140,16 @@ impl<'a, T: WktNum> PeekableTokens<'a, T> {
         }
     }
 
-    // Reads what `peek` returns a reference to.
-    pub(crate) fn fill(&mut self)
+    /// The item that `next` gives next. It is returned by value, and a number is read anew by each call.
+    pub fn peek(&mut self) -> Option<Result<Token<'a, T>, &'static str>>
+        ensures gives { IsItem T.read (first_of (left self.old)) result }
+        ensures none { IfNone result (rest self.old ≡ []) }
         ensures left { left self.new ≡ left self.old }
+        ensures rest { rest self.new ≡ rest self.old }
         ensures end { end_of self.new ≡ end_of self.old }
         ensures grows { taken_of self.old ≤ taken_of self.new }
-        ensures first { IsItem T.read (first_of (left self.old)) self.new.peeked }
     {
-        let item = item_of(self.look());
-        self.peeked = Peeked { item };
+        item_of(self.look())
     }
 }
 
