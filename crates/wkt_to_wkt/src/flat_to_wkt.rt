@@ -5,72 +5,58 @@ ghost use Rattle.wkt_num.specs.Sink.{next_count};
 ghost use Rattle.wkt_bytes.specs.Sinks.{IsOut, IsPartOut};
 ghost use Rattle.wkt_access.specs.Faults.{fault};
 ghost use Rattle.wkt_access.specs.Lawful.{IsLawful};
+ghost use Rattle.wkt_types.specs.Tree.{tree};
 ghost use Rattle.wkt_types.specs.Values.{tree_shape};
-ghost use Rattle.wkt_flat.specs.Tree.{Flat, flat_tree, flat_trees};
+ghost use Rattle.wkt_flat.specs.Shape.{flat_shape};
+ghost use Rattle.wkt_flat.specs.Tree.{Flat};
+ghost use Rattle.wkt_write.specs.Writes.{Writes};
 ghost use Rattle.wkt_to_wkt.specs.Back.{back, wkt_text};
 ghost use Rattle.wkt_to_wkt.specs.Sent.{IsMemory, IsRefusal, OnIo, IfShape};
 
-use crate::back::{
-    geometries, geometry, line_string, point, points, polygon, polygons, push_line_strings, two,
-};
-use crate::flat_text::{flat_send, flat_string};
-use crate::send::ToWktError;
+use crate::send::{ToWktError, Written, send};
+use crate::string_text::string_of;
 use crate::to_text::ToWkt;
 use std::alloc::{AllocError, Global};
 use wkt_access::Error;
 use wkt_bytes::ByteSink;
-use wkt_flat as flat;
-use wkt_num::WktNum;
-use wkt_types::{Dimension, GeometryCollection, MultiLineString, MultiPoint, MultiPolygon, Wkt};
+use wkt_num::{TextSink, WktNum};
+use wkt_types::Wkt;
 
-/// Its `Wkt` is a point.
-impl<T: WktNum> ToWkt<T> for flat::Point<T> {
-    ghost held = { λ x. back (Flat.point x) };
+/// A flat value of one kind or of any, as a tree. The eleven flat types are such.
+pub(crate) trait FlatValue {
+    type T: WktNum;
 
-    fn to_wkt(&self, _alloc: Global) -> Result<Wkt<T>, AllocError> {
-        Ok(Wkt::Point(point(*self)))
-    }
+    /// What it holds.
+    ghost value: { Self → Flat Self.T };
 
-    /// The text of its `Wkt`, written without one.
+    /// Writes its text.
+    fn write_flat<W: TextSink>(&self, f: &mut W) -> Result<(), Error>
+        ensures { Writes W.sink Self.T.is_value Self.T.num f.old (flat_shape (value self.now)) f.new result };
+
+    /// Makes the `Wkt` of it.
     ///
     /// # Errors
-    /// `Memory` when out of memory for the string, and no other.
-    fn wkt_string(&self, alloc: Global) -> Result<String, Error>
-        ensures text { IfOk result (λ s. string_bytes s ≡ wkt_text T.num (Flat.point self.now)) }
-        ensures sound { OnOk result (fault (tree_shape (back (Flat.point self.now))) ≡ None) }
-        ensures lawful { OnOk result (IsLawful T.is_value (tree_shape (back (Flat.point self.now)))) }
-        ensures refused { IfErr result (IsRefusal (tree_shape (back (Flat.point self.now)))) }
-        ensures memory { IfErr result IsMemory }
-    {
-        flat_string(alloc, self)
-    }
+    /// Out of memory.
+    fn make_wkt(&self, alloc: Global) -> Result<Wkt<Self::T>, AllocError>
+        ensures { IfOk result (λ w. tree w ≡ back (value self.now)) };
+}
 
-    /// Puts the text of its `Wkt` out. It takes no memory.
-    ///
-    /// # Errors
-    /// `Io` where the writer failed, or took nothing (`WriteZero`): then a beginning of the text is
-    /// out. `Shape` never comes.
-    fn write_wkt<W: ByteSink>(&self, _alloc: Global, writer: &mut W) -> Result<(), ToWktError>
-        ensures ok { OnOk result (IsOut W.sink writer.old writer.new (wkt_text T.num (Flat.point self.now))) }
-        ensures sound { OnOk result (fault (tree_shape (back (Flat.point self.now))) ≡ None) }
-        ensures lawful { OnOk result (IsLawful T.is_value (tree_shape (back (Flat.point self.now)))) }
-        ensures io { OnIo result (IsPartOut W.sink writer.old writer.new (wkt_text T.num (Flat.point self.now))) }
-        ensures io_count { OnIo result (W.sink.failures writer.new ≡ next_count (W.sink.failures writer.old)) }
-        ensures io_sound { OnIo result (fault (tree_shape (back (Flat.point self.now))) ≡ None) }
-        ensures shape { IfShape result (λ _. writer.new ≡ writer.old) }
-        ensures cause { IfShape result (IsRefusal (tree_shape (back (Flat.point self.now)))) }
-        ensures never { IfShape result (λ _. ⊥) }
-    {
-        flat_send(self, writer)
+impl<G: FlatValue> Written for G {
+    type T = G::T;
+
+    ghost shape = { λ x. flat_shape (G.value x) };
+
+    fn write_text<W: TextSink>(&self, f: &mut W) -> Result<(), Error> {
+        self.write_flat(f)
     }
 }
 
-/// Its `Wkt` is the line string of its two ends.
-impl<T: WktNum> ToWkt<T> for flat::Line<T> {
-    ghost held = { λ x. back (Flat.line x) };
+/// The eleven flat types. Their text is written directly, without a `Wkt` between.
+impl<T: WktNum, G: FlatValue<T = T>> ToWkt<T> for G {
+    ghost held = { λ x. back (G.value x) };
 
     fn to_wkt(&self, alloc: Global) -> Result<Wkt<T>, AllocError> {
-        Ok(Wkt::LineString(two(alloc, self)?))
+        self.make_wkt(alloc)
     }
 
     /// The text of its `Wkt`, written without one.
@@ -78,13 +64,13 @@ impl<T: WktNum> ToWkt<T> for flat::Line<T> {
     /// # Errors
     /// `Memory` when out of memory for the string, and no other.
     fn wkt_string(&self, alloc: Global) -> Result<String, Error>
-        ensures text { IfOk result (λ s. string_bytes s ≡ wkt_text T.num (Flat.line self.now)) }
-        ensures sound { OnOk result (fault (tree_shape (back (Flat.line self.now))) ≡ None) }
-        ensures lawful { OnOk result (IsLawful T.is_value (tree_shape (back (Flat.line self.now)))) }
-        ensures refused { IfErr result (IsRefusal (tree_shape (back (Flat.line self.now)))) }
+        ensures text { IfOk result (λ s. string_bytes s ≡ wkt_text T.num (G.value self.now)) }
+        ensures sound { OnOk result (fault (tree_shape (back (G.value self.now))) ≡ None) }
+        ensures lawful { OnOk result (IsLawful T.is_value (tree_shape (back (G.value self.now)))) }
+        ensures refused { IfErr result (IsRefusal (tree_shape (back (G.value self.now)))) }
         ensures memory { IfErr result IsMemory }
     {
-        flat_string(alloc, self)
+        string_of(alloc, self)
     }
 
     /// Puts the text of its `Wkt` out. It takes no memory.
@@ -93,405 +79,16 @@ impl<T: WktNum> ToWkt<T> for flat::Line<T> {
     /// `Io` where the writer failed, or took nothing (`WriteZero`): then a beginning of the text is
     /// out. `Shape` never comes.
     fn write_wkt<W: ByteSink>(&self, _alloc: Global, writer: &mut W) -> Result<(), ToWktError>
-        ensures ok { OnOk result (IsOut W.sink writer.old writer.new (wkt_text T.num (Flat.line self.now))) }
-        ensures sound { OnOk result (fault (tree_shape (back (Flat.line self.now))) ≡ None) }
-        ensures lawful { OnOk result (IsLawful T.is_value (tree_shape (back (Flat.line self.now)))) }
-        ensures io { OnIo result (IsPartOut W.sink writer.old writer.new (wkt_text T.num (Flat.line self.now))) }
+        ensures ok { OnOk result (IsOut W.sink writer.old writer.new (wkt_text T.num (G.value self.now))) }
+        ensures sound { OnOk result (fault (tree_shape (back (G.value self.now))) ≡ None) }
+        ensures lawful { OnOk result (IsLawful T.is_value (tree_shape (back (G.value self.now)))) }
+        ensures io { OnIo result (IsPartOut W.sink writer.old writer.new (wkt_text T.num (G.value self.now))) }
         ensures io_count { OnIo result (W.sink.failures writer.new ≡ next_count (W.sink.failures writer.old)) }
-        ensures io_sound { OnIo result (fault (tree_shape (back (Flat.line self.now))) ≡ None) }
+        ensures io_sound { OnIo result (fault (tree_shape (back (G.value self.now))) ≡ None) }
         ensures shape { IfShape result (λ _. writer.new ≡ writer.old) }
-        ensures cause { IfShape result (IsRefusal (tree_shape (back (Flat.line self.now)))) }
+        ensures cause { IfShape result (IsRefusal (tree_shape (back (G.value self.now)))) }
         ensures never { IfShape result (λ _. ⊥) }
     {
-        flat_send(self, writer)
-    }
-}
-
-/// Its `Wkt` is a line string.
-impl<T: WktNum> ToWkt<T> for flat::LineString<T> {
-    ghost held = { λ x. back (Flat.line_string x) };
-
-    fn to_wkt(&self, alloc: Global) -> Result<Wkt<T>, AllocError> {
-        Ok(Wkt::LineString(line_string(alloc, self.0.as_slice())?))
-    }
-
-    /// The text of its `Wkt`, written without one.
-    ///
-    /// # Errors
-    /// `Memory` when out of memory for the string, and no other.
-    fn wkt_string(&self, alloc: Global) -> Result<String, Error>
-        ensures text { IfOk result (λ s. string_bytes s ≡ wkt_text T.num (Flat.line_string self.now)) }
-        ensures sound { OnOk result (fault (tree_shape (back (Flat.line_string self.now))) ≡ None) }
-        ensures lawful { OnOk result (IsLawful T.is_value (tree_shape (back (Flat.line_string self.now)))) }
-        ensures refused { IfErr result (IsRefusal (tree_shape (back (Flat.line_string self.now)))) }
-        ensures memory { IfErr result IsMemory }
-    {
-        flat_string(alloc, self)
-    }
-
-    /// Puts the text of its `Wkt` out. It takes no memory.
-    ///
-    /// # Errors
-    /// `Io` where the writer failed, or took nothing (`WriteZero`): then a beginning of the text is
-    /// out. `Shape` never comes.
-    fn write_wkt<W: ByteSink>(&self, _alloc: Global, writer: &mut W) -> Result<(), ToWktError>
-        ensures ok { OnOk result (IsOut W.sink writer.old writer.new (wkt_text T.num (Flat.line_string self.now))) }
-        ensures sound { OnOk result (fault (tree_shape (back (Flat.line_string self.now))) ≡ None) }
-        ensures lawful { OnOk result (IsLawful T.is_value (tree_shape (back (Flat.line_string self.now)))) }
-        ensures io { OnIo result
-            (IsPartOut W.sink writer.old writer.new (wkt_text T.num (Flat.line_string self.now))) }
-        ensures io_count { OnIo result (W.sink.failures writer.new ≡ next_count (W.sink.failures writer.old)) }
-        ensures io_sound { OnIo result (fault (tree_shape (back (Flat.line_string self.now))) ≡ None) }
-        ensures shape { IfShape result (λ _. writer.new ≡ writer.old) }
-        ensures cause { IfShape result (IsRefusal (tree_shape (back (Flat.line_string self.now)))) }
-        ensures never { IfShape result (λ _. ⊥) }
-    {
-        flat_send(self, writer)
-    }
-}
-
-/// Its `Wkt` is a polygon. One whose exterior is empty has no rings there; its interiors are dropped.
-impl<T: WktNum> ToWkt<T> for flat::Polygon<T> {
-    ghost held = { λ x. back (Flat.polygon x) };
-
-    fn to_wkt(&self, alloc: Global) -> Result<Wkt<T>, AllocError> {
-        Ok(Wkt::Polygon(polygon(alloc, self)?))
-    }
-
-    /// The text of its `Wkt`, written without one.
-    ///
-    /// # Errors
-    /// `Memory` when out of memory for the string, and no other.
-    fn wkt_string(&self, alloc: Global) -> Result<String, Error>
-        ensures text { IfOk result (λ s. string_bytes s ≡ wkt_text T.num (Flat.polygon self.now)) }
-        ensures sound { OnOk result (fault (tree_shape (back (Flat.polygon self.now))) ≡ None) }
-        ensures lawful { OnOk result (IsLawful T.is_value (tree_shape (back (Flat.polygon self.now)))) }
-        ensures refused { IfErr result (IsRefusal (tree_shape (back (Flat.polygon self.now)))) }
-        ensures memory { IfErr result IsMemory }
-    {
-        flat_string(alloc, self)
-    }
-
-    /// Puts the text of its `Wkt` out. It takes no memory.
-    ///
-    /// # Errors
-    /// `Io` where the writer failed, or took nothing (`WriteZero`): then a beginning of the text is
-    /// out. `Shape` never comes.
-    fn write_wkt<W: ByteSink>(&self, _alloc: Global, writer: &mut W) -> Result<(), ToWktError>
-        ensures ok { OnOk result (IsOut W.sink writer.old writer.new (wkt_text T.num (Flat.polygon self.now))) }
-        ensures sound { OnOk result (fault (tree_shape (back (Flat.polygon self.now))) ≡ None) }
-        ensures lawful { OnOk result (IsLawful T.is_value (tree_shape (back (Flat.polygon self.now)))) }
-        ensures io { OnIo result (IsPartOut W.sink writer.old writer.new (wkt_text T.num (Flat.polygon self.now))) }
-        ensures io_count { OnIo result (W.sink.failures writer.new ≡ next_count (W.sink.failures writer.old)) }
-        ensures io_sound { OnIo result (fault (tree_shape (back (Flat.polygon self.now))) ≡ None) }
-        ensures shape { IfShape result (λ _. writer.new ≡ writer.old) }
-        ensures cause { IfShape result (IsRefusal (tree_shape (back (Flat.polygon self.now)))) }
-        ensures never { IfShape result (λ _. ⊥) }
-    {
-        flat_send(self, writer)
-    }
-}
-
-/// Its `Wkt` is a multipoint.
-impl<T: WktNum> ToWkt<T> for flat::MultiPoint<T> {
-    ghost held = { λ x. back (Flat.multi_point x) };
-
-    fn to_wkt(&self, alloc: Global) -> Result<Wkt<T>, AllocError> {
-        let all = points(alloc, self.0.as_slice())?;
-        Ok(Wkt::MultiPoint(MultiPoint::new(all, Dimension::XY)))
-    }
-
-    /// The text of its `Wkt`, written without one.
-    ///
-    /// # Errors
-    /// `Memory` when out of memory for the string, and no other.
-    fn wkt_string(&self, alloc: Global) -> Result<String, Error>
-        ensures text { IfOk result (λ s. string_bytes s ≡ wkt_text T.num (Flat.multi_point self.now)) }
-        ensures sound { OnOk result (fault (tree_shape (back (Flat.multi_point self.now))) ≡ None) }
-        ensures lawful { OnOk result (IsLawful T.is_value (tree_shape (back (Flat.multi_point self.now)))) }
-        ensures refused { IfErr result (IsRefusal (tree_shape (back (Flat.multi_point self.now)))) }
-        ensures memory { IfErr result IsMemory }
-    {
-        flat_string(alloc, self)
-    }
-
-    /// Puts the text of its `Wkt` out. It takes no memory.
-    ///
-    /// # Errors
-    /// `Io` where the writer failed, or took nothing (`WriteZero`): then a beginning of the text is
-    /// out. `Shape` never comes.
-    fn write_wkt<W: ByteSink>(&self, _alloc: Global, writer: &mut W) -> Result<(), ToWktError>
-        ensures ok { OnOk result (IsOut W.sink writer.old writer.new (wkt_text T.num (Flat.multi_point self.now))) }
-        ensures sound { OnOk result (fault (tree_shape (back (Flat.multi_point self.now))) ≡ None) }
-        ensures lawful { OnOk result (IsLawful T.is_value (tree_shape (back (Flat.multi_point self.now)))) }
-        ensures io { OnIo result
-            (IsPartOut W.sink writer.old writer.new (wkt_text T.num (Flat.multi_point self.now))) }
-        ensures io_count { OnIo result (W.sink.failures writer.new ≡ next_count (W.sink.failures writer.old)) }
-        ensures io_sound { OnIo result (fault (tree_shape (back (Flat.multi_point self.now))) ≡ None) }
-        ensures shape { IfShape result (λ _. writer.new ≡ writer.old) }
-        ensures cause { IfShape result (IsRefusal (tree_shape (back (Flat.multi_point self.now)))) }
-        ensures never { IfShape result (λ _. ⊥) }
-    {
-        flat_send(self, writer)
-    }
-}
-
-/// Its `Wkt` is a multi line string.
-impl<T: WktNum> ToWkt<T> for flat::MultiLineString<T> {
-    ghost held = { λ x. back (Flat.multi_line_string x) };
-
-    fn to_wkt(&self, alloc: Global) -> Result<Wkt<T>, AllocError> {
-        let all = push_line_strings(alloc, self.0.as_slice(), Vec::new(alloc))?;
-        Ok(Wkt::MultiLineString(MultiLineString::new(all, Dimension::XY)))
-    }
-
-    /// The text of its `Wkt`, written without one.
-    ///
-    /// # Errors
-    /// `Memory` when out of memory for the string, and no other.
-    fn wkt_string(&self, alloc: Global) -> Result<String, Error>
-        ensures text { IfOk result (λ s. string_bytes s ≡ wkt_text T.num (Flat.multi_line_string self.now)) }
-        ensures sound { OnOk result (fault (tree_shape (back (Flat.multi_line_string self.now))) ≡ None) }
-        ensures lawful { OnOk result (IsLawful T.is_value (tree_shape (back (Flat.multi_line_string self.now)))) }
-        ensures refused { IfErr result (IsRefusal (tree_shape (back (Flat.multi_line_string self.now)))) }
-        ensures memory { IfErr result IsMemory }
-    {
-        flat_string(alloc, self)
-    }
-
-    /// Puts the text of its `Wkt` out. It takes no memory.
-    ///
-    /// # Errors
-    /// `Io` where the writer failed, or took nothing (`WriteZero`): then a beginning of the text is
-    /// out. `Shape` never comes.
-    fn write_wkt<W: ByteSink>(&self, _alloc: Global, writer: &mut W) -> Result<(), ToWktError>
-        ensures ok { OnOk result
-            (IsOut W.sink writer.old writer.new (wkt_text T.num (Flat.multi_line_string self.now))) }
-        ensures sound { OnOk result (fault (tree_shape (back (Flat.multi_line_string self.now))) ≡ None) }
-        ensures lawful { OnOk result (IsLawful T.is_value (tree_shape (back (Flat.multi_line_string self.now)))) }
-        ensures io { OnIo result
-            (IsPartOut W.sink writer.old writer.new (wkt_text T.num (Flat.multi_line_string self.now))) }
-        ensures io_count { OnIo result (W.sink.failures writer.new ≡ next_count (W.sink.failures writer.old)) }
-        ensures io_sound { OnIo result (fault (tree_shape (back (Flat.multi_line_string self.now))) ≡ None) }
-        ensures shape { IfShape result (λ _. writer.new ≡ writer.old) }
-        ensures cause { IfShape result (IsRefusal (tree_shape (back (Flat.multi_line_string self.now)))) }
-        ensures never { IfShape result (λ _. ⊥) }
-    {
-        flat_send(self, writer)
-    }
-}
-
-/// Its `Wkt` is a multi polygon. A member whose exterior is empty has no rings there.
-impl<T: WktNum> ToWkt<T> for flat::MultiPolygon<T> {
-    ghost held = { λ x. back (Flat.multi_polygon x) };
-
-    fn to_wkt(&self, alloc: Global) -> Result<Wkt<T>, AllocError> {
-        let all = polygons(alloc, self.0.as_slice())?;
-        Ok(Wkt::MultiPolygon(MultiPolygon::new(all, Dimension::XY)))
-    }
-
-    /// The text of its `Wkt`, written without one.
-    ///
-    /// # Errors
-    /// `Memory` when out of memory for the string, and no other.
-    fn wkt_string(&self, alloc: Global) -> Result<String, Error>
-        ensures text { IfOk result (λ s. string_bytes s ≡ wkt_text T.num (Flat.multi_polygon self.now)) }
-        ensures sound { OnOk result (fault (tree_shape (back (Flat.multi_polygon self.now))) ≡ None) }
-        ensures lawful { OnOk result (IsLawful T.is_value (tree_shape (back (Flat.multi_polygon self.now)))) }
-        ensures refused { IfErr result (IsRefusal (tree_shape (back (Flat.multi_polygon self.now)))) }
-        ensures memory { IfErr result IsMemory }
-    {
-        flat_string(alloc, self)
-    }
-
-    /// Puts the text of its `Wkt` out. It takes no memory.
-    ///
-    /// # Errors
-    /// `Io` where the writer failed, or took nothing (`WriteZero`): then a beginning of the text is
-    /// out. `Shape` never comes.
-    fn write_wkt<W: ByteSink>(&self, _alloc: Global, writer: &mut W) -> Result<(), ToWktError>
-        ensures ok { OnOk result (IsOut W.sink writer.old writer.new (wkt_text T.num (Flat.multi_polygon self.now))) }
-        ensures sound { OnOk result (fault (tree_shape (back (Flat.multi_polygon self.now))) ≡ None) }
-        ensures lawful { OnOk result (IsLawful T.is_value (tree_shape (back (Flat.multi_polygon self.now)))) }
-        ensures io { OnIo result
-            (IsPartOut W.sink writer.old writer.new (wkt_text T.num (Flat.multi_polygon self.now))) }
-        ensures io_count { OnIo result (W.sink.failures writer.new ≡ next_count (W.sink.failures writer.old)) }
-        ensures io_sound { OnIo result (fault (tree_shape (back (Flat.multi_polygon self.now))) ≡ None) }
-        ensures shape { IfShape result (λ _. writer.new ≡ writer.old) }
-        ensures cause { IfShape result (IsRefusal (tree_shape (back (Flat.multi_polygon self.now)))) }
-        ensures never { IfShape result (λ _. ⊥) }
-    {
-        flat_send(self, writer)
-    }
-}
-
-/// Its `Wkt` is a collection.
-impl<T: WktNum> ToWkt<T> for flat::GeometryCollection<T> {
-    ghost held = { λ x. back (Flat.collection (flat_trees x)) };
-
-    fn to_wkt(&self, alloc: Global) -> Result<Wkt<T>, AllocError> {
-        let all = geometries(alloc, self.geometries())?;
-        Ok(Wkt::GeometryCollection(GeometryCollection::new(all, Dimension::XY)))
-    }
-
-    /// The text of its `Wkt`, written without one.
-    ///
-    /// # Errors
-    /// `Memory` when out of memory for the string, and no other.
-    fn wkt_string(&self, alloc: Global) -> Result<String, Error>
-        ensures text { IfOk result (λ s. string_bytes s ≡ wkt_text T.num (Flat.collection (flat_trees self.now))) }
-        ensures sound { OnOk result (fault (tree_shape (back (Flat.collection (flat_trees self.now)))) ≡ None) }
-        ensures lawful { OnOk result (IsLawful T.is_value (tree_shape (back (Flat.collection (flat_trees self.now))))) }
-        ensures refused { IfErr result (IsRefusal (tree_shape (back (Flat.collection (flat_trees self.now))))) }
-        ensures memory { IfErr result IsMemory }
-    {
-        flat_string(alloc, self)
-    }
-
-    /// Puts the text of its `Wkt` out. It takes no memory.
-    ///
-    /// # Errors
-    /// `Io` where the writer failed, or took nothing (`WriteZero`): then a beginning of the text is
-    /// out. `Shape` never comes.
-    fn write_wkt<W: ByteSink>(&self, _alloc: Global, writer: &mut W) -> Result<(), ToWktError>
-        ensures ok { OnOk result
-            (IsOut W.sink writer.old writer.new (wkt_text T.num (Flat.collection (flat_trees self.now)))) }
-        ensures sound { OnOk result (fault (tree_shape (back (Flat.collection (flat_trees self.now)))) ≡ None) }
-        ensures lawful { OnOk result (IsLawful T.is_value (tree_shape (back (Flat.collection (flat_trees self.now))))) }
-        ensures io { OnIo result
-            (IsPartOut W.sink writer.old writer.new (wkt_text T.num (Flat.collection (flat_trees self.now)))) }
-        ensures io_count { OnIo result (W.sink.failures writer.new ≡ next_count (W.sink.failures writer.old)) }
-        ensures io_sound { OnIo result (fault (tree_shape (back (Flat.collection (flat_trees self.now)))) ≡ None) }
-        ensures shape { IfShape result (λ _. writer.new ≡ writer.old) }
-        ensures cause { IfShape result (IsRefusal (tree_shape (back (Flat.collection (flat_trees self.now))))) }
-        ensures never { IfShape result (λ _. ⊥) }
-    {
-        flat_send(self, writer)
-    }
-}
-
-/// Its `Wkt` is the polygon of `to_polygon`.
-impl<T: WktNum> ToWkt<T> for flat::Rect<T> {
-    ghost held = { λ x. back (Flat.rect x) };
-
-    fn to_wkt(&self, alloc: Global) -> Result<Wkt<T>, AllocError> {
-        Ok(Wkt::Polygon(polygon(alloc, &self.to_polygon(alloc)?)?))
-    }
-
-    /// The text of its `Wkt`, written without one.
-    ///
-    /// # Errors
-    /// `Memory` when out of memory for the string, and no other.
-    fn wkt_string(&self, alloc: Global) -> Result<String, Error>
-        ensures text { IfOk result (λ s. string_bytes s ≡ wkt_text T.num (Flat.rect self.now)) }
-        ensures sound { OnOk result (fault (tree_shape (back (Flat.rect self.now))) ≡ None) }
-        ensures lawful { OnOk result (IsLawful T.is_value (tree_shape (back (Flat.rect self.now)))) }
-        ensures refused { IfErr result (IsRefusal (tree_shape (back (Flat.rect self.now)))) }
-        ensures memory { IfErr result IsMemory }
-    {
-        flat_string(alloc, self)
-    }
-
-    /// Puts the text of its `Wkt` out. It takes no memory.
-    ///
-    /// # Errors
-    /// `Io` where the writer failed, or took nothing (`WriteZero`): then a beginning of the text is
-    /// out. `Shape` never comes.
-    fn write_wkt<W: ByteSink>(&self, _alloc: Global, writer: &mut W) -> Result<(), ToWktError>
-        ensures ok { OnOk result (IsOut W.sink writer.old writer.new (wkt_text T.num (Flat.rect self.now))) }
-        ensures sound { OnOk result (fault (tree_shape (back (Flat.rect self.now))) ≡ None) }
-        ensures lawful { OnOk result (IsLawful T.is_value (tree_shape (back (Flat.rect self.now)))) }
-        ensures io { OnIo result (IsPartOut W.sink writer.old writer.new (wkt_text T.num (Flat.rect self.now))) }
-        ensures io_count { OnIo result (W.sink.failures writer.new ≡ next_count (W.sink.failures writer.old)) }
-        ensures io_sound { OnIo result (fault (tree_shape (back (Flat.rect self.now))) ≡ None) }
-        ensures shape { IfShape result (λ _. writer.new ≡ writer.old) }
-        ensures cause { IfShape result (IsRefusal (tree_shape (back (Flat.rect self.now)))) }
-        ensures never { IfShape result (λ _. ⊥) }
-    {
-        flat_send(self, writer)
-    }
-}
-
-/// Its `Wkt` is the polygon of `to_polygon`.
-impl<T: WktNum> ToWkt<T> for flat::Triangle<T> {
-    ghost held = { λ x. back (Flat.triangle x) };
-
-    fn to_wkt(&self, alloc: Global) -> Result<Wkt<T>, AllocError> {
-        Ok(Wkt::Polygon(polygon(alloc, &self.to_polygon(alloc)?)?))
-    }
-
-    /// The text of its `Wkt`, written without one.
-    ///
-    /// # Errors
-    /// `Memory` when out of memory for the string, and no other.
-    fn wkt_string(&self, alloc: Global) -> Result<String, Error>
-        ensures text { IfOk result (λ s. string_bytes s ≡ wkt_text T.num (Flat.triangle self.now)) }
-        ensures sound { OnOk result (fault (tree_shape (back (Flat.triangle self.now))) ≡ None) }
-        ensures lawful { OnOk result (IsLawful T.is_value (tree_shape (back (Flat.triangle self.now)))) }
-        ensures refused { IfErr result (IsRefusal (tree_shape (back (Flat.triangle self.now)))) }
-        ensures memory { IfErr result IsMemory }
-    {
-        flat_string(alloc, self)
-    }
-
-    /// Puts the text of its `Wkt` out. It takes no memory.
-    ///
-    /// # Errors
-    /// `Io` where the writer failed, or took nothing (`WriteZero`): then a beginning of the text is
-    /// out. `Shape` never comes.
-    fn write_wkt<W: ByteSink>(&self, _alloc: Global, writer: &mut W) -> Result<(), ToWktError>
-        ensures ok { OnOk result (IsOut W.sink writer.old writer.new (wkt_text T.num (Flat.triangle self.now))) }
-        ensures sound { OnOk result (fault (tree_shape (back (Flat.triangle self.now))) ≡ None) }
-        ensures lawful { OnOk result (IsLawful T.is_value (tree_shape (back (Flat.triangle self.now)))) }
-        ensures io { OnIo result (IsPartOut W.sink writer.old writer.new (wkt_text T.num (Flat.triangle self.now))) }
-        ensures io_count { OnIo result (W.sink.failures writer.new ≡ next_count (W.sink.failures writer.old)) }
-        ensures io_sound { OnIo result (fault (tree_shape (back (Flat.triangle self.now))) ≡ None) }
-        ensures shape { IfShape result (λ _. writer.new ≡ writer.old) }
-        ensures cause { IfShape result (IsRefusal (tree_shape (back (Flat.triangle self.now)))) }
-        ensures never { IfShape result (λ _. ⊥) }
-    {
-        flat_send(self, writer)
-    }
-}
-
-/// Its `Wkt` is that of its kind: a polygon for a rectangle or a triangle, a line string for a line.
-impl<T: WktNum> ToWkt<T> for flat::Geometry<T> {
-    ghost held = { λ x. back (flat_tree x) };
-
-    fn to_wkt(&self, alloc: Global) -> Result<Wkt<T>, AllocError> {
-        geometry(alloc, self)
-    }
-
-    /// The text of its `Wkt`, written without one.
-    ///
-    /// # Errors
-    /// `Memory` when out of memory for the string, and no other.
-    fn wkt_string(&self, alloc: Global) -> Result<String, Error>
-        ensures text { IfOk result (λ s. string_bytes s ≡ wkt_text T.num (flat_tree self.now)) }
-        ensures sound { OnOk result (fault (tree_shape (back (flat_tree self.now))) ≡ None) }
-        ensures lawful { OnOk result (IsLawful T.is_value (tree_shape (back (flat_tree self.now)))) }
-        ensures refused { IfErr result (IsRefusal (tree_shape (back (flat_tree self.now)))) }
-        ensures memory { IfErr result IsMemory }
-    {
-        flat_string(alloc, self)
-    }
-
-    /// Puts the text of its `Wkt` out. It takes no memory.
-    ///
-    /// # Errors
-    /// `Io` where the writer failed, or took nothing (`WriteZero`): then a beginning of the text is
-    /// out. `Shape` never comes.
-    fn write_wkt<W: ByteSink>(&self, _alloc: Global, writer: &mut W) -> Result<(), ToWktError>
-        ensures ok { OnOk result (IsOut W.sink writer.old writer.new (wkt_text T.num (flat_tree self.now))) }
-        ensures sound { OnOk result (fault (tree_shape (back (flat_tree self.now))) ≡ None) }
-        ensures lawful { OnOk result (IsLawful T.is_value (tree_shape (back (flat_tree self.now)))) }
-        ensures io { OnIo result (IsPartOut W.sink writer.old writer.new (wkt_text T.num (flat_tree self.now))) }
-        ensures io_count { OnIo result (W.sink.failures writer.new ≡ next_count (W.sink.failures writer.old)) }
-        ensures io_sound { OnIo result (fault (tree_shape (back (flat_tree self.now))) ≡ None) }
-        ensures shape { IfShape result (λ _. writer.new ≡ writer.old) }
-        ensures cause { IfShape result (IsRefusal (tree_shape (back (flat_tree self.now)))) }
-        ensures never { IfShape result (λ _. ⊥) }
-    {
-        flat_send(self, writer)
+        send(self, writer)
     }
 }

@@ -2,9 +2,8 @@
 #![tactic(auto)]
 
 mod back;
-mod flat_text;
 mod flat_to_wkt;
-mod flat_written;
+mod flat_values;
 pub mod laws;
 mod send;
 mod string_text;

@@ -21,6 +21,9 @@ use wkt_write::write_geometry;
 
 /// A type that is written as well-known text: it has a `Wkt`, and its text is that of the `Wkt`.
 ///
+/// The eleven flat types have it. Of theirs, `wkt_string` has no error but `Memory`, and `write_wkt`
+/// none but `Io`.
+///
 /// ```text
 /// let rect = Rect::<i32>::new(Coord { x: 4, y: 4 }, Coord { x: 8, y: 8 });
 /// rect.write_wkt(alloc, &mut Counted::new(&mut bytes))?;

@@ -3,7 +3,7 @@ use Rattle.wkt_access.specs.declared.dimensions.Dimension.TheVariants.{XY}
 use Rattle.wkt_types.specs.Tree as trees
 use Rattle.wkt_types.proofs.TreeLemmas.{tree-collection}
 use Rattle.wkt_to_wkt.specs.Back.{all_back}
-use Rattle.wkt_to_wkt.proofs.flat_to_wkt.FlatGeometryCollectionToWkt.to_wkt.Goals as goal
+use Rattle.wkt_to_wkt.proofs.flat_values.FlatGeometryCollectionFlatValue.make_wkt.Goals as goal
 
 pub returns : goal.returns
 returns g c =

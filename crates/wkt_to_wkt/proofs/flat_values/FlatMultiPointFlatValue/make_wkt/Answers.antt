@@ -4,7 +4,7 @@ use Rattle.wkt_types.specs.Held.{held}
 use Rattle.wkt_types.specs.Tree as trees
 use Rattle.wkt_to_wkt.specs.Back.{point_back}
 use Rattle.wkt_convert.proofs.Members.{tree-multi_point}
-use Rattle.wkt_to_wkt.proofs.flat_to_wkt.FlatMultiPointToWkt.to_wkt.Goals as goal
+use Rattle.wkt_to_wkt.proofs.flat_values.FlatMultiPointFlatValue.make_wkt.Goals as goal
 
 pub returns : goal.returns
 returns g c =

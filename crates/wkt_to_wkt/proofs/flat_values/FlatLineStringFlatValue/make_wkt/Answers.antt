@@ -2,7 +2,7 @@ use Rattle.std.proofs.Common.{rules, ◌≡◌, ap, ◌∙◌}
 use Rattle.wkt_types.specs.Tree as trees
 use Rattle.wkt_to_wkt.specs.Back.{line_string_back}
 use Rattle.wkt_convert.proofs.Members.{tree-line_string}
-use Rattle.wkt_to_wkt.proofs.flat_to_wkt.FlatLineStringToWkt.to_wkt.Goals as goal
+use Rattle.wkt_to_wkt.proofs.flat_values.FlatLineStringFlatValue.make_wkt.Goals as goal
 
 pub returns : goal.returns
 returns g c =
