@@ -1,16 +1,14 @@
 -- Items with commas between them, frames, and errors that are passed on.
 use Rattle.std.proofs.Common.{◌≡◌, ℕ, zero, suc, ◌≤◌, List, [], ◌∷◌, ◌++◌, length, sym, refl, ap, ◌∙◌, subst, append_assoc, append-nil, arith, Result, Ok, Err, Bool, true, false, cond}
-use Rattle.std.specs.Prelude.{IfOk, Option}
+use Rattle.std.specs.Prelude.{IfOk}
 use Rattle.std.specs.Result.{IsErr, IsErrAnd}
 use Rattle.std.specs.List.{AllByRecursion}
 use Rattle.wkt_num.specs.Bytes.{Lexeme, Open, Close, Comma, Word, Num}
 use Rattle.wkt_read.specs.Parser.Walks.{BeginsWithoutComma, GoesOn}
 use Rattle.wkt_read.specs.declared.tokenizer.peekable.PeekableTokens.{PeekableTokens}
-use Rattle.wkt_read.specs.Parser.Reading.{Reading, ◌>>=◌, coord_at, with_front, tail_at, many_at, framed, closed, opening_at}
+use Rattle.wkt_read.specs.Parser.Reading.{Reading, ◌>>=◌, with_front, tail_at, many_at, framed, closed, opening_at}
 use Rattle.wkt_read.specs.declared.error.ReadError.{ReadError}
 use Rattle.wkt_read.specs.declared.error.ReadError.TheVariants.{Text, Memory}
-use Rattle.wkt_access.specs.declared.dimensions.Dimension.{Dimension}
-use Rattle.wkt_types.specs.declared.coord.Coord.{Coord}
 use Rattle.wkt_read.specs.Parser.Reads.{ReadsIn, Pushes, Closes}
 
 -- one item more
@@ -118,13 +116,21 @@ reads-pass view other (Text m) (Err (Memory k)) item whole rest h reads f = tt
 reads-pass view other (Memory m) (Err (Memory k)) item whole rest h reads f = tt
 reads-pass view other (Memory m) (Err (Text k)) item whole rest h reads f = cc
 
--- an error of the reader that pushes a coordinate
-pub pushes-pass : {A T X : Type 0} (view : X → A) (number : List ℕ → Option T) (d : Dimension) (before after : List (Coord T)) (e : ReadError) (r : Result X ReadError) (whole : Reading A) (start rest : List Lexeme) → IsErrAnd r (λ y. y ≡ e) → Pushes {X = Unit {0}} number d start before (Err e) rest after → (coord_at number d start ≡ Err rest → whole ≡ Err rest) → ReadsIn view r whole rest
-pushes-pass view number d before after e (Ok x) whole start rest h pushes f = absurd h
-pushes-pass view number d before after (Text m) (Err (Text k)) whole start rest h pushes f = f pushes
-pushes-pass view number d before after (Text m) (Err (Memory k)) whole start rest h pushes f = tt
-pushes-pass view number d before after (Memory m) (Err (Memory k)) whole start rest h pushes f = tt
-pushes-pass view number d before after (Memory m) (Err (Text k)) whole start rest h pushes f = cc
+-- an error of the reader that pushes an item
+pub pushes-pass : {A B X Y : Type 0} (view : X → A) (other : Y → B) (Is : Y → Type 0) (before after : List Y) (e : ReadError) (r : Result X ReadError) (item : Reading B) (whole : Reading A) (rest : List Lexeme) → IsErrAnd r (λ y. y ≡ e) → Pushes {Y = Unit {0}} other Is item before (Err e) rest after → (item ≡ Err rest → whole ≡ Err rest) → ReadsIn view r whole rest
+pushes-pass view other Is before after e (Ok x) item whole rest h pushes f = absurd h
+pushes-pass view other Is before after (Text m) (Err (Text k)) item whole rest h pushes f = f pushes
+pushes-pass view other Is before after (Text m) (Err (Memory k)) item whole rest h pushes f = tt
+pushes-pass view other Is before after (Memory m) (Err (Memory k)) item whole rest h pushes f = tt
+pushes-pass view other Is before after (Memory m) (Err (Text k)) item whole rest h pushes f = cc
+
+-- an error of the reader of an item, which is then not pushed
+pub pushes-err : {A X Y Z : Type 0} (view : X → A) (Is : X → Type 0) (other : Y → A) (before after : List X) (e : ReadError) (r : Result Z ReadError) (read : Reading A) (rest : List Lexeme) → IsErrAnd r (λ y. y ≡ e) → ReadsIn other (Err e) read rest → Pushes view Is read before r rest after
+pushes-err view Is other before after e (Ok x) read rest h reads = absurd h
+pushes-err view Is other before after (Text m) (Err (Text k)) read rest h reads = reads
+pushes-err view Is other before after (Text m) (Err (Memory k)) read rest h reads = tt
+pushes-err view Is other before after (Memory m) (Err (Memory k)) read rest h reads = tt
+pushes-err view Is other before after (Memory m) (Err (Text k)) read rest h reads = cc
 
 -- what holds of a body holds of what is after its closing place
 pub closes-keeps : {X : Type 0} (P : X → Type 0) (b r : Result X ReadError) (old new : List Lexeme) → Closes b r old new → IfOk b P → IfOk r P

@@ -4,9 +4,7 @@ use Rattle.std.specs.declared.alloc.Global.{Global}
 use Rattle.wkt_num.specs.Bytes.{Lexeme}
 use Rattle.wkt_access.specs.Values.{Value}
 use Rattle.wkt_types.specs.Tree.{tree}
-use Rattle.wkt_types.specs.Coords.{numbers_of}
-use Rattle.wkt_types.specs.Values.{value_of, IsUniform, HasDim}
-use Rattle.wkt_types.specs.declared.coord.Coord.{Coord}
+use Rattle.wkt_types.specs.Values.{value_of, IsUniform}
 use Rattle.wkt_access.specs.declared.dimensions.Dimension.{Dimension}
 use Rattle.wkt_types.specs.declared.geometry_type.GeometryType.{GeometryType}
 use Rattle.wkt_types.specs.declared.geometry.Wkt.{Wkt}
@@ -16,7 +14,7 @@ use Rattle.wkt_read.specs.declared.messages.Message.{Message}
 use Rattle.wkt_read.specs.declared.tokenizer.peekable.PeekableTokens.{PeekableTokens}
 use Rattle.wkt_read.specs.Placed.{Placed, lexemes_of}
 use Rattle.wkt_read.specs.Ahead.{rest, IsAfter}
-use Rattle.wkt_read.specs.Parser.Reading.{Reading, coord_at, closing_at, left_by, body_at, value_at}
+use Rattle.wkt_read.specs.Parser.Reading.{Reading, closing_at, left_by, body_at, value_at}
 use Rattle.wkt_read.specs.Items.{bad_number}
 use Rattle.wkt_read.specs.Answered.{OnMessage}
 use Rattle.wkt_read.specs.Parser.Errors.{OnBad}
@@ -37,12 +35,17 @@ ReadsAll view reading old result new =
 abbrev pub ReadsList : {T A X : Type 0} → (X → A) → (ℕ → List Lexeme → Reading (List A)) → PeekableTokens T → Result (Vec X Global) ReadError → PeekableTokens T → Type 0
 ReadsList {X = X} view reading old result new = ReadsAll (λ (v : Vec X Global). map view v.items) reading old result new
 
--- A coordinate is read and stands behind those before it, or none can be read, unless memory runs out.
-abbrev pub Pushes : {T X : Type 0} → (List ℕ → Option T) → Dimension → List Lexeme → List (Coord T) → Result X ReadError → List Lexeme → List (Coord T) → Type 0
-Pushes {T = T} read d start before (Ok x) left after =
-    (c : Coord T) × (after ≡ before ++ c ∷ []) × HasDim d c × (coord_at read d start ≡ Ok (numbers_of c, left))
-Pushes read d start before (Err (Text m)) left after = coord_at read d start ≡ Err left
-Pushes read d start before (Err (Memory e)) left after = Unit {0}
+-- What was read stands behind the items before it, or it can't be read, unless memory runs out.
+abbrev pub Pushes : {A X Y : Type 0} → (X → A) → (X → Type 0) → Reading A → List X → Result Y ReadError → List Lexeme → List X → Type 0
+Pushes {X = X} view Is read before (Ok y) left after =
+    (x : X) × (after ≡ before ++ x ∷ []) × Is x × (read ≡ Ok (view x, left))
+Pushes view Is read before (Err (Text m)) left after = read ≡ Err left
+Pushes view Is read before (Err (Memory e)) left after = Unit {0}
+
+-- The same, of all lexemes that are left, whatever fuel is enough for them.
+abbrev pub PushesAll : {T A X Y : Type 0} → (X → A) → (X → Type 0) → (ℕ → List Lexeme → Reading A) → PeekableTokens T → List X → Result Y ReadError → PeekableTokens T → List X → Type 0
+PushesAll view Is reading old before result new after =
+    (fuel : ℕ) → length (rest old) ≤ fuel → Pushes view Is (reading fuel (rest old)) before result (rest new) after
 
 -- the closing place was taken after a body
 abbrev pub Closes : {X : Type 0} → Result X ReadError → Result X ReadError → List Lexeme → List Lexeme → Type 0

@@ -16,7 +16,7 @@ use crate::error::ReadError;
 use crate::keywords::{dimension_of, is_empty, kind_of};
 use crate::messages::Message;
 use crate::parser::coordinates::{close, opening, point};
-use crate::parser::lists::{coordinates, list};
+use crate::parser::lists::list;
 use crate::tokenizer::peekable::PeekableTokens;
 use crate::tokenizer::token::Lexeme;
 use std::alloc::Global;
@@ -168,7 +168,7 @@ fn read_line_string<T: WktNum>(
     ensures bad { BlamesIn T.read tokens.old result }
     ensures goes_on { GoesOn tokens.old tokens.new }
 {
-    let coords = coordinates(alloc, tokens, dim)?;
+    let coords = list(alloc, tokens, dim)?;
     Ok(line_string_of(coords, dim))
 }
 

@@ -1,12 +1,11 @@
 //! Lists, with a comma between neighbours, of whatever stands between the commas.
 ghost use Rattle.std.specs.Prelude.{◌≡◌, OnOk, IfOk};
 ghost use Rattle.std.specs.List.{AllByRecursion};
-ghost use Rattle.wkt_types.specs.Coords.{numbers_of};
-ghost use Rattle.wkt_types.specs.Values.{HasDim, IsPointIn, point_numbers};
+ghost use Rattle.wkt_types.specs.Values.{IsPointIn, point_numbers};
 ghost use Rattle.wkt_read.specs.Ahead.{rest, IsNear};
 ghost use Rattle.wkt_read.specs.Parser.Walks.{GoesOn};
-ghost use Rattle.wkt_read.specs.Parser.Reading.{Reads, coord_at, line_string_at, member_at, many_at, list_at, IsOpened};
-ghost use Rattle.wkt_read.specs.Parser.Reads.{ReadsAll, ReadsList, Pushes, Blames, BlamesIn};
+ghost use Rattle.wkt_read.specs.Parser.Reading.{Reads, member_at, many_at, list_at, IsOpened};
+ghost use Rattle.wkt_read.specs.Parser.Reads.{ReadsList, PushesAll, Blames, BlamesIn};
 ghost use Rattle.wkt_read.specs.Parser.Errors.{OnMemory};
 
 use crate::error::ReadError;
@@ -37,14 +36,14 @@ pub(crate) trait Item<T: WktNum>: Drop {
     /// All parts of an item carry the dimension.
     ghost IsIn: { Dimension → Self → Type 0 };
 
-    /// The item that stands here.
-    fn read(
+    /// Reads the item that stands here onto the end of those before it.
+    fn push(
         alloc: Global,
         tokens: &mut PeekableTokens<'_, T>,
         dim: Dimension,
-    ) -> Result<Self, ReadError>
-        ensures exact { ReadsAll view (item_at dim) tokens.old result tokens.new }
-        ensures uniform { IfOk result (IsIn dim) }
+        items: &mut Vec<Self>,
+    ) -> Result<(), ReadError>
+        ensures exact { PushesAll view (IsIn dim) (item_at dim) tokens.old items.old.items result tokens.new items.new.items }
         ensures bad { BlamesIn T.read tokens.old result }
         ensures goes_on { GoesOn tokens.old tokens.new };
 }
@@ -61,11 +60,9 @@ fn many<T: WktNum, X: Item<T>>(
     ensures goes_on { GoesOn tokens.old tokens.new }
 {
     let mut items = Vec::new(alloc);
-    let first = X::read(alloc, tokens, dim)?;
-    items.push(first)?;
+    X::push(alloc, tokens, dim, &mut items)?;
     'more: while tokens.take_comma() {
-        let next = X::read(alloc, tokens, dim)?;
-        items.push(next)?;
+        X::push(alloc, tokens, dim, &mut items)?;
     }
     Ok(items)
 }
@@ -92,79 +89,48 @@ pub(crate) fn list<T: WktNum, X: Item<T>>(
     close(tokens, body)
 }
 
-// One coordinate or more.
-fn coords<T: WktNum>(
-    alloc: Global,
-    tokens: &mut PeekableTokens<'_, T>,
-    dim: Dimension,
-) -> Result<Vec<Coord<T>>, ReadError>
-    ensures exact { ReadsList numbers_of (many_at (coord_at T.read dim)) tokens.old result tokens.new }
-    ensures uniform { IfOk result (λ v. AllByRecursion (HasDim dim) v.items) }
-    ensures bad { BlamesIn T.read tokens.old result }
-    ensures goes_on { GoesOn tokens.old tokens.new }
-{
-    let mut items = Vec::new(alloc);
-    push_coord(tokens, dim, &mut items)?;
-    'more: while tokens.take_comma() {
-        push_coord(tokens, dim, &mut items)?;
-    }
-    Ok(items)
-}
+/// A coordinate of a line string. One of x and y alone is made where it is to stand, with no result between.
+impl<T: WktNum> Item<T> for Coord<T> {
+    ghost use Rattle.std.specs.Prelude.{List};
+    ghost use Rattle.wkt_types.specs.Coords.{numbers_of};
+    ghost use Rattle.wkt_types.specs.Values.{HasDim};
+    ghost use Rattle.wkt_read.specs.Parser.Reading.{coord_at};
 
-// Reads a coordinate onto the end of those before it. One of x and y alone is made where it is to stand, with
-// no result between.
-#[inline(always)]
-#[tactic(auto, unfolding(crate::specs::Parser::Reading::coord_at))]
-fn push_coord<T: WktNum>(
-    tokens: &mut PeekableTokens<'_, T>,
-    dim: Dimension,
-    items: &mut Vec<Coord<T>>,
-) -> Result<(), ReadError>
-    ensures exact { Pushes T.read dim (rest tokens.old) items.old.items result (rest tokens.new) items.new.items }
-    ensures bad { BlamesIn T.read tokens.old result }
-    ensures goes_on { GoesOn tokens.old tokens.new }
-{
-    match dim {
-        Dimension::XY => {
-            let x = number(tokens, Message::X)?;
-            let y = number(tokens, Message::Y)?;
-            items.push(Coord {
-                x,
-                y,
-                z: None,
-                m: None,
-            })?;
-            Ok(())
-        }
-        _ => {
-            let coord = coord_of_any(tokens, dim)?;
-            items.push(coord)?;
-            Ok(())
+    ghost View = { List T };
+
+    ghost view = { numbers_of };
+
+    ghost item_at = { λ d n. coord_at T.read d };
+
+    ghost IsIn = { HasDim };
+
+    #[inline(always)]
+    #[tactic(auto, unfolding(crate::specs::Parser::Reading::coord_at))]
+    fn push(
+        _alloc: Global,
+        tokens: &mut PeekableTokens<'_, T>,
+        dim: Dimension,
+        items: &mut Vec<Self>,
+    ) -> Result<(), ReadError> {
+        match dim {
+            Dimension::XY => {
+                let x = number(tokens, Message::X)?;
+                let y = number(tokens, Message::Y)?;
+                items.push(Coord {
+                    x,
+                    y,
+                    z: None,
+                    m: None,
+                })?;
+                Ok(())
+            }
+            _ => {
+                let coord = coord_of_any(tokens, dim)?;
+                items.push(coord)?;
+                Ok(())
+            }
         }
     }
-}
-
-/// What stands after the header of a line string: EMPTY, or coordinates in parentheses. They are no
-/// items of `list`, whose reader would hand on each through one more result, in more instructions.
-#[inline(never)]
-pub(crate) fn coordinates<T: WktNum>(
-    alloc: Global,
-    tokens: &mut PeekableTokens<'_, T>,
-    dim: Dimension,
-) -> Result<Vec<Coord<T>>, ReadError>
-    ensures exact { ReadsList numbers_of (line_string_at T.read dim) tokens.old result tokens.new }
-    ensures uniform { IfOk result (λ v. AllByRecursion (HasDim dim) v.items) }
-    ensures memory { OnMemory result (IsOpened (rest tokens.old)) }
-    ensures near { OnOk result (IsNear tokens.new) }
-    ensures bad { BlamesIn T.read tokens.old result }
-    ensures goes_on { GoesOn tokens.old tokens.new }
-{
-    let paren = opening(tokens)?;
-    if !paren {
-        return Ok(Vec::new(alloc));
-    }
-    let body = coords(alloc, tokens, dim);
-    close(tokens, body)
 }
 
 /// A line string of a multi line string, or a ring of a polygon.
@@ -181,13 +147,15 @@ impl<T: WktNum> Item<T> for LineString<T> {
 
     ghost IsIn = { IsLineStringIn };
 
-    fn read(
+    fn push(
         alloc: Global,
         tokens: &mut PeekableTokens<'_, T>,
         dim: Dimension,
-    ) -> Result<Self, ReadError> {
-        let coords = coordinates(alloc, tokens, dim)?;
-        Ok(LineString::new(coords, dim))
+        items: &mut Vec<Self>,
+    ) -> Result<(), ReadError> {
+        let coords = list(alloc, tokens, dim)?;
+        items.push(LineString::new(coords, dim))?;
+        Ok(())
     }
 }
 
@@ -205,13 +173,15 @@ impl<T: WktNum> Item<T> for Polygon<T> {
 
     ghost IsIn = { IsPolygonIn };
 
-    fn read(
+    fn push(
         alloc: Global,
         tokens: &mut PeekableTokens<'_, T>,
         dim: Dimension,
-    ) -> Result<Self, ReadError> {
+        items: &mut Vec<Self>,
+    ) -> Result<(), ReadError> {
         let rings = list(alloc, tokens, dim)?;
-        Ok(Polygon::new(rings, dim))
+        items.push(Polygon::new(rings, dim))?;
+        Ok(())
     }
 }
 
@@ -254,11 +224,14 @@ impl<T: WktNum> Item<T> for Point<T> {
     ghost IsIn = { IsPointIn };
 
     #[inline(always)]
-    fn read(
+    fn push(
         _alloc: Global,
         tokens: &mut PeekableTokens<'_, T>,
         dim: Dimension,
-    ) -> Result<Self, ReadError> {
-        Ok(member(tokens, dim)?)
+        items: &mut Vec<Self>,
+    ) -> Result<(), ReadError> {
+        let point = member(tokens, dim)?;
+        items.push(point)?;
+        Ok(())
     }
 }

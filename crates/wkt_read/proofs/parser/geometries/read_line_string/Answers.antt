@@ -14,4 +14,4 @@ pub returns-in_err-coords-clause-exact : goal.returns-in_err-coords-clause-exact
 returns-in_err-coords-clause-exact g c = λ fuel h. reads-pass wkt_value (λ (v : Vec (Coord g.row.T.Denot) Global). map numbers_of v.items) _ _ _ _ _ c.from_residual.ensures.1 (c.in_err-coords.ensures.exact fuel h) (λ e. ap (λ t. t >>= (λ p. Ok (Value.line_string c.args.dim p.0, p.1))) e)
 
 pub returns-clause-exact : goal.returns-clause-exact
-returns-clause-exact g c = λ fuel h. ap (λ t. t >>= (λ p. Ok (Value.line_string c.args.dim p.0, p.1))) (c.in_ok-coords.ensures.exact fuel h) ∙ ap (λ v. Ok (v, rest c.coordinates.new.tokens)) (sym c.line_string_of.ensures.value)
+returns-clause-exact g c = λ fuel h. ap (λ t. t >>= (λ p. Ok (Value.line_string c.args.dim p.0, p.1))) (c.in_ok-coords.ensures.exact fuel h) ∙ ap (λ v. Ok (v, rest c.list.new.tokens)) (sym c.line_string_of.ensures.value)
