@@ -13,7 +13,7 @@ use wkt_num::TextSink;
 /// It does what a [`WriterWrapper`](crate::WriterWrapper) does, for a writer whose calls are dear: it calls `put`
 /// until all bytes are out, a count of zero is the fault `WriteZero`, and no fault is tried again. After a fault
 /// every later write and `finish` answer `fmt::Error` and hand nothing to the writer;
-/// [`take_fault`](Gatherer::take_fault) gives the fault.
+/// [`take_error`](Gatherer::take_error) gives the fault.
 #[derive(Drop)]
 pub struct Gatherer<W> {
     writer: W,
@@ -177,7 +177,7 @@ impl<W: ByteSink> Gatherer<W> {
     }
 
     /// The fault that came, the first time that it is asked for; else None.
-    pub fn take_fault(&mut self) -> Option<io::Error>
+    pub fn take_error(&mut self) -> Option<io::Error>
         ensures there { IsSome result ↔ (is_unasked self.old ≡ true) }
         ensures told { is_unasked self.new ≡ false }
         ensures sound { is_sound self.new ≡ is_sound self.old }

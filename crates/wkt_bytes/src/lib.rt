@@ -1,13 +1,13 @@
 //! Sinks and sources of bytes, and text to a sink of bytes.
 #![tactic(auto)]
 
-mod fault;
+mod error;
 mod gatherer;
 mod read;
 mod sinks;
 mod wrapper;
 
-pub use fault::fault_of;
+pub use error::error_of;
 pub use gatherer::Gatherer;
 pub use read::{ReadAllError, read_all};
 pub use sinks::{ByteSink, ByteSource, Counted};

@@ -22,7 +22,7 @@ pub(crate) enum State {
 ///
 /// It calls `put` until all bytes are out. A count of zero is the fault `WriteZero`. No fault is tried
 /// again, `Interrupted` neither. After a fault every later write and `finish` answer `fmt::Error`
-/// and hand nothing to the writer; [`take_fault`](WriterWrapper::take_fault) gives the fault.
+/// and hand nothing to the writer; [`take_error`](WriterWrapper::take_error) gives the fault.
 #[derive(Drop)]
 pub struct WriterWrapper<W> {
     writer: W,
@@ -244,7 +244,7 @@ impl<W: ByteSink> WriterWrapper<W> {
     }
 
     /// The fault that came, the first time that it is asked for; else None.
-    pub fn take_fault(&mut self) -> Option<io::Error>
+    pub fn take_error(&mut self) -> Option<io::Error>
         ensures there { IsSome result ↔ (is_untold self.old ≡ true) }
         ensures told { is_untold self.new ≡ false }
         ensures well { is_well self.new ≡ is_well self.old }

@@ -11,9 +11,9 @@ use Rattle.wkt_flat.specs.Rings.{Rings, closed_rings, one_ring}
 use Rattle.wkt_flat.specs.Tree.{Flat, Flats}
 use Rattle.wkt_convert.specs.Outcomes.{outcome_map, outcome_both, outcomes}
 
--- The path of a line string.
-abbrev pub path : {T : Type 0} → Held (Coord T) → List (flat_coord.Coord T)
-path l = map xy l.parts
+-- The coordinates of a line string.
+abbrev pub sequence : {T : Type 0} → Held (Coord T) → List (flat_coord.Coord T)
+sequence l = map xy l.parts
 
 -- The first ring is the exterior, and the rest are interiors; of no rings the exterior is empty.
 abbrev pub first_outside : {C : Type 0} → (C → C → Bool) → List (List C) → Rings C
@@ -22,7 +22,7 @@ first_outside E (r ∷ rs) = closed_rings E r rs
 
 -- The closed rings of a polygon.
 abbrev pub rings : {T : Type 0} → (flat_coord.Coord T → flat_coord.Coord T → Bool) → Held (Held (Coord T)) → Rings (flat_coord.Coord T)
-rings E y = first_outside E (map path y.parts)
+rings E y = first_outside E (map sequence y.parts)
 
 -- The points of a multipoint, or the fault of its first empty member.
 abbrev pub points : {T : Type 0} → List (HeldPoint (Coord T)) → Outcome (List (flat_point.Point T))
@@ -37,10 +37,10 @@ point_or_none (Some c) = Flat.point (xy_point c)
 abbrev mutual
   pub flat : {T : Type 0} → (flat_coord.Coord T → flat_coord.Coord T → Bool) → Tree T → Outcome (Flat T)
   flat E (Tree.point p) = value (point_or_none p.coord)
-  flat E (Tree.line_string l) = value (Flat.line_string (path l))
+  flat E (Tree.line_string l) = value (Flat.line_string (sequence l))
   flat E (Tree.polygon y) = value (Flat.polygon (rings E y))
   flat E (Tree.multi_point m) = outcome_map Flat.multi_point (points m.parts)
-  flat E (Tree.multi_line_string m) = value (Flat.multi_line_string (map path m.parts))
+  flat E (Tree.multi_line_string m) = value (Flat.multi_line_string (map sequence m.parts))
   flat E (Tree.multi_polygon m) = value (Flat.multi_polygon (map (rings E) m.parts))
   flat E (Tree.collection ts d) = outcome_map Flat.collection (flat_all E ts)
 

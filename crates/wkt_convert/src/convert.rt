@@ -6,7 +6,7 @@ ghost use Rattle.wkt_types.specs.Outcome.{Answers, value};
 ghost use Rattle.wkt_flat.specs.Tree.{Flat, flat_tree, flat_trees};
 ghost use Rattle.wkt_flat.specs.Equal.{coord_eq};
 ghost use Rattle.wkt_convert.specs.Outcomes.{outcome_map};
-ghost use Rattle.wkt_convert.specs.Flatten.{path, rings, points, flat, flat_all, trees_in};
+ghost use Rattle.wkt_convert.specs.Flatten.{sequence, rings, points, flat, flat_all, trees_in};
 
 use crate::flatten::{
     all_points, collection, geometry, line_string, line_strings, polygon, polygons,
@@ -72,7 +72,7 @@ pub fn try_into_geometry_collection<T: WktNum>(
 }
 
 impl<T: WktNum> ConvertFrom<types::LineString<T>> for flat::LineString<T> {
-    ghost converts = { λ l r. Answers (λ x. x) (value (path l)) r };
+    ghost converts = { λ l r. Answers (λ x. x) (value (sequence l)) r };
 
     fn convert_from(alloc: Global, source: types::LineString<T>) -> Result<Self, ConvertError> {
         Ok(line_string(alloc, &source)?)
@@ -98,7 +98,7 @@ impl<T: WktNum> ConvertFrom<types::MultiPoint<T>> for flat::MultiPoint<T> {
 impl<T: WktNum> ConvertFrom<types::MultiLineString<T>> for flat::MultiLineString<T> {
     ghost use Rattle.std.specs.Prelude.{map};
 
-    ghost converts = { λ m r. Answers (λ x. x) (value (map path m.parts)) r };
+    ghost converts = { λ m r. Answers (λ x. x) (value (map sequence m.parts)) r };
 
     fn convert_from(
         alloc: Global,
@@ -130,7 +130,7 @@ impl<T: WktNum> ConvertFrom<types::GeometryCollection<T>> for flat::GeometryColl
 }
 
 impl<T: WktNum> ConvertFrom<&types::LineString<T>> for Geometry<T> {
-    ghost converts = { λ l r. Answers flat_tree (value (Flat.line_string (path l.now))) r };
+    ghost converts = { λ l r. Answers flat_tree (value (Flat.line_string (sequence l.now))) r };
 
     fn convert_from(alloc: Global, source: &types::LineString<T>) -> Result<Self, ConvertError> {
         Ok(Geometry::LineString(line_string(alloc, source)?))
@@ -156,7 +156,7 @@ impl<T: WktNum> ConvertFrom<&types::MultiPoint<T>> for Geometry<T> {
 impl<T: WktNum> ConvertFrom<&types::MultiLineString<T>> for Geometry<T> {
     ghost use Rattle.std.specs.Prelude.{map};
 
-    ghost converts = { λ m r. Answers flat_tree (value (Flat.multi_line_string (map path m.now.parts))) r };
+    ghost converts = { λ m r. Answers flat_tree (value (Flat.multi_line_string (map sequence m.now.parts))) r };
 
     fn convert_from(
         alloc: Global,

@@ -5,7 +5,7 @@ ghost use Rattle.wkt_flat.specs.Tree.{flat_tree, flat_trees};
 ghost use Rattle.wkt_flat.specs.Equal.{coord_eq};
 ghost use Rattle.wkt_types.specs.Outcome.{Answers};
 ghost use Rattle.wkt_convert.specs.Pieces.{IsPiece};
-ghost use Rattle.wkt_convert.specs.Flatten.{path, rings, points, point_or_none, flat, flat_all};
+ghost use Rattle.wkt_convert.specs.Flatten.{sequence, rings, points, point_or_none, flat, flat_all};
 
 use std::alloc::{AllocError, Global};
 use wkt_flat as flat;
@@ -23,12 +23,12 @@ fn push<X: Drop>(x: X, all: &mut Vec<X>) -> Result<(), AllocError>
     Ok(())
 }
 
-/// The path of a line.
+/// The coordinate sequence of a line string.
 pub(crate) fn line_string<T: WktNum>(
     alloc: Global,
     l: &LineString<T>,
 ) -> Result<flat::LineString<T>, AllocError>
-    ensures { IfOk result (λ r. r ≡ path l.now) }
+    ensures { IfOk result (λ r. r ≡ sequence l.now) }
 {
     let coords = l.coords();
     let mut all = Vec::with_capacity(alloc, coords.len())?;
@@ -55,12 +55,12 @@ pub(crate) fn polygon<T: WktNum>(
     }
 }
 
-/// The path of each line.
+/// The coordinate sequence of each line string.
 pub(crate) fn line_strings<T: WktNum>(
     alloc: Global,
     lines: &[LineString<T>],
 ) -> Result<Vec<flat::LineString<T>>, AllocError>
-    ensures { IfOk result (λ r. r.items ≡ map path lines.now) }
+    ensures { IfOk result (λ r. r.items ≡ map sequence lines.now) }
 {
     let mut all = Vec::with_capacity(alloc, lines.len())?;
     for l in lines {

@@ -17,7 +17,7 @@ use std::{fmt, io};
 use thiserror::Error;
 use wkt::to_wkt::{ByteSink, ByteSource, ReadAllError, TextSink, WriterWrapper, read_all};
 use wkt::{Decimal, WktNum};
-use wkt_bytes::fault_of;
+use wkt_bytes::error_of;
 
 /// Why a run ended before its input.
 #[derive(Debug, Drop, Error)]
@@ -217,10 +217,10 @@ fn answer_line<T: WktNum, W: ByteSink>(
 {
     match write_answer::<T, WriterWrapper<W>>(alloc, line, ascii, wrapper) {
         Err(AnswerError::Memory(e)) => Err(RunError::Memory(e)),
-        Err(AnswerError::Sink(_)) => Err(RunError::Write(fault_of(wrapper))),
+        Err(AnswerError::Sink(_)) => Err(RunError::Write(error_of(wrapper))),
         Ok(()) => match end_line(wrapper) {
             Ok(()) => Ok(()),
-            Err(_) => Err(RunError::Write(fault_of(wrapper))),
+            Err(_) => Err(RunError::Write(error_of(wrapper))),
         },
     }
 }

@@ -2,7 +2,7 @@ pub mod Parts
 pub mod Coords
 pub mod Readings
 pub mod Many
-pub mod Nests
+pub mod Frames
 pub mod Wkts
 pub mod Tells
 pub mod Told

@@ -1,6 +1,6 @@
 pub mod Reading
 pub mod Reads
 pub mod Walks
-pub mod Nests
+pub mod Frames
 pub mod Errors
 pub mod Blames

@@ -252,24 +252,24 @@ fn answer_block<A: BlockReply, W: ByteSink>(
     ensures keeps { W.sink.keeps (gathering_writer gatherer.old) (gathering_writer gatherer.new) }
 {
     match reply.reply_to_block(alloc, input, gatherer) {
-        Err(AnswerError::Sink(_)) => Err(RunError::Write(fault_of(gatherer))),
+        Err(AnswerError::Sink(_)) => Err(RunError::Write(error_of(gatherer))),
         Err(AnswerError::Memory(e)) => match gatherer.finish() {
             Ok(()) => Err(RunError::Memory(e)),
-            Err(_) => Err(RunError::Write(fault_of(gatherer))),
+            Err(_) => Err(RunError::Write(error_of(gatherer))),
         },
         Ok(()) => match gatherer.finish() {
             Ok(()) => Ok(()),
-            Err(_) => Err(RunError::Write(fault_of(gatherer))),
+            Err(_) => Err(RunError::Write(error_of(gatherer))),
         },
     }
 }
 
 /// The fault that a gatherer met.
-fn fault_of<W: ByteSink>(gatherer: &mut Gatherer<W>) -> io::Error
+fn error_of<W: ByteSink>(gatherer: &mut Gatherer<W>) -> io::Error
     requires { is_unasked gatherer.old ≡ true }
     ensures { gathering_writer gatherer.new ≡ gathering_writer gatherer.old }
 {
-    match gatherer.take_fault() {
+    match gatherer.take_error() {
         Some(e) => e,
         None => unreachable!(),
     }

@@ -10,18 +10,18 @@ use Rattle.wkt_flat.specs.Tree.{Flat, Flats}
 use Rattle.wkt_flat.specs.declared.coord.Coord as flat_coord
 use Rattle.wkt_flat.specs.declared.point.Point as flat_point
 use Rattle.wkt_to_wkt.specs.Back.{back, all_back, line_string_back, point_back, polygon_back}
-use Rattle.wkt_convert.specs.Flatten.{path, rings, points, flat, flat_all}
+use Rattle.wkt_convert.specs.Flatten.{sequence, rings, points, flat, flat_all}
 use Rattle.wkt_types.specs.Outcome.{value}
 use Rattle.wkt_convert.specs.Outcomes.{outcome_map, outcome_both}
 use Rattle.wkt_to_wkt.specs.Laws.{IsPlain, ArePlain, IsPlainPolygon}
 
-path_again : {T : Type 0} (cs : List (flat_coord.Coord T)) → path (line_string_back cs) ≡ cs
-path_again [] = refl
-path_again (c ∷ cs) = ap (λ l. c ∷ l) (path_again cs)
+sequence_again : {T : Type 0} (cs : List (flat_coord.Coord T)) → sequence (line_string_back cs) ≡ cs
+sequence_again [] = refl
+sequence_again (c ∷ cs) = ap (λ l. c ∷ l) (sequence_again cs)
 
-paths_again : {T : Type 0} (ls : List (List (flat_coord.Coord T))) → map path (map line_string_back ls) ≡ ls
-paths_again [] = refl
-paths_again (l ∷ ls) = ap₂ (λ x xs. x ∷ xs) (path_again l) (paths_again ls)
+sequences_again : {T : Type 0} (ls : List (List (flat_coord.Coord T))) → map sequence (map line_string_back ls) ≡ ls
+sequences_again [] = refl
+sequences_again (l ∷ ls) = ap₂ (λ x xs. x ∷ xs) (sequence_again l) (sequences_again ls)
 
 points_again : {T : Type 0} (ps : List (flat_point.Point T)) → points (map point_back ps) ≡ value ps
 points_again [] = refl
@@ -46,7 +46,7 @@ module _ {T : Type 0} {E : T → T → Bool} (e : IsExact E) where
       rings (coord_eq E) (polygon_back (record { exterior = r; interiors = rs })) ≡ record { exterior = r; interiors = rs }
   polygon_again [] rs h k = ap (λ l. made [] l) (sym h)
   polygon_again (c ∷ cs) rs h k =
-      ap₂ (λ a b. made (close (coord_eq E) a) (map (close (coord_eq E)) b)) (path_again (c ∷ cs)) (paths_again rs)
+      ap₂ (λ a b. made (close (coord_eq E) a) (map (close (coord_eq E)) b)) (sequence_again (c ∷ cs)) (sequences_again rs)
       ∙ ap₂ made (close_same (coord_exact e) (c ∷ cs) k.0) (all_same (coord_exact e) rs k.1)
 
   polygons_again : (ys : List (Rings (flat_coord.Coord T))) → AllByRecursion (λ y. IsPlainPolygon y.exterior y.interiors) ys → AllByRecursion (λ y. AreClosed y.exterior y.interiors) ys →
@@ -58,10 +58,10 @@ module _ {T : Type 0} {E : T → T → Bool} (e : IsExact E) where
     pub again : (t : Flat T) → IsPlain t → HasClosedRings t → flat (coord_eq E) (back t) ≡ value t
     again (Flat.point p) h k = refl
     again (Flat.line l) h k = absurd h
-    again (Flat.line_string cs) h k = ap (λ l. value (Flat.line_string l)) (path_again cs)
+    again (Flat.line_string cs) h k = ap (λ l. value (Flat.line_string l)) (sequence_again cs)
     again (Flat.polygon y) h k = ap (λ l. value (Flat.polygon l)) (polygon_again y.exterior y.interiors h k)
     again (Flat.multi_point ps) h k = ap (outcome_map Flat.multi_point) (points_again ps)
-    again (Flat.multi_line_string ls) h k = ap (λ l. value (Flat.multi_line_string l)) (paths_again ls)
+    again (Flat.multi_line_string ls) h k = ap (λ l. value (Flat.multi_line_string l)) (sequences_again ls)
     again (Flat.multi_polygon ys) h k = ap (λ l. value (Flat.multi_polygon l)) (polygons_again ys h k)
     again (Flat.collection ts) h k = ap (outcome_map Flat.collection) (all_again ts h k)
     again (Flat.rect r) h k = absurd h

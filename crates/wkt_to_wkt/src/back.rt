@@ -60,7 +60,7 @@ pub(crate) fn two<T: Copy + Drop>(
     Ok(LineString::new(all, Dimension::XY))
 }
 
-/// A line of each path.
+/// A line string of each coordinate sequence.
 pub(crate) fn push_line_strings<T: Copy + Drop>(
     alloc: Global,
     ls: &[flat::LineString<T>],
@@ -118,7 +118,7 @@ pub(crate) fn polygons<T: Copy + Drop>(
     Ok(all)
 }
 
-/// The lines of each path.
+/// The line strings of each coordinate sequence.
 fn multi_line_string<T: Copy + Drop>(
     alloc: Global,
     ls: &[flat::LineString<T>],

@@ -13,7 +13,7 @@ ghost use Rattle.wkt_to_wkt.specs.Sent.{IsRefusal, OnIo, IfShape};
 use std::io;
 use thiserror::Error;
 use wkt_access::Error as WriteError;
-use wkt_bytes::{ByteSink, WriterWrapper, fault_of};
+use wkt_bytes::{ByteSink, WriterWrapper, error_of};
 use wkt_num::{TextSink, WktNum};
 
 /// Why a text didn't go out whole.
@@ -65,9 +65,9 @@ fn send_through<G: Written, W: ByteSink>(
     match g.write_text(wrapper) {
         Ok(()) => match wrapper.finish() {
             Ok(()) => Ok(()),
-            Err(_) => Err(ToWktError::Io(fault_of(wrapper))),
+            Err(_) => Err(ToWktError::Io(error_of(wrapper))),
         },
-        Err(WriteError::FmtError(_)) => Err(ToWktError::Io(fault_of(wrapper))),
+        Err(WriteError::FmtError(_)) => Err(ToWktError::Io(error_of(wrapper))),
         Err(e) => Err(ToWktError::Shape(e)),
     }
 }

@@ -127,12 +127,12 @@ fn of_sinks(alloc: Global, failing: &mut Failing) -> Result<Vec<Option<io::Error
     let mut wrapper = WriterWrapper::new(failing);
     let _ = wrapper.write_str("POINT");
     let _ = wrapper.finish();
-    all.push(wrapper.take_fault())?;
+    all.push(wrapper.take_error())?;
     let failing = wrapper.into_writer();
     let mut gatherer = Gatherer::new(failing);
     let _ = gatherer.write_str("POINT");
     let _ = gatherer.finish();
-    all.push(gatherer.take_fault())?;
+    all.push(gatherer.take_error())?;
     gatherer.into_writer();
     Ok(all)
 }

@@ -13,7 +13,7 @@ use Rattle.wkt_read.specs.declared.error.ReadError.{ReadError}
 use Rattle.wkt_read.specs.Parser.Reading.{◌>>=◌, header_at, body_at, value_at, members_read}
 use Rattle.wkt_read.specs.Parser.Reads.{ReadsIn, wkt_value, UniformWkt}
 use Rattle.wkt_read.specs.declared.parser.geometries.Start.{Start}
-use Rattle.wkt_read.specs.Parser.Nests.{Starts}
+use Rattle.wkt_read.specs.Parser.Frames.{Starts}
 
 pub members-value : {T : Type 0} (ws : List (Wkt T)) → values_of (trees_of (map tree ws)) ≡ members_read (map wkt_value ws)
 members-value [] = refl

@@ -10,7 +10,7 @@ ghost use Rattle.wkt_read.specs.Ahead.{IsNear};
 ghost use Rattle.wkt_read.specs.Parser.Reading.{Reads, dimension_at, header_at, value_at, members_read, IsOpened, HasMembers};
 ghost use Rattle.wkt_read.specs.Parser.Reads.{ReadsAll, ReadsBody, Blames, BlamesIn, BlamesAs, wkt_value, UniformWkt};
 ghost use Rattle.wkt_read.specs.Parser.Errors.{OnMemory};
-ghost use Rattle.wkt_read.specs.Parser.Nests.{StartsAll, StartsBody, Shuts, IfWhole, OnWhole, Wants, weight, most_after};
+ghost use Rattle.wkt_read.specs.Parser.Frames.{StartsAll, StartsBody, Shuts, IfWhole, OnWhole, Wants, weight, most_after};
 
 use crate::error::ReadError;
 use crate::keywords::{dimension_of, is_empty, kind_of};
@@ -242,7 +242,7 @@ fn read_multi_polygon<T: WktNum>(
 
 // An open collection: the members read so far, and its dimension.
 #[derive(Drop)]
-struct Nest<T> {
+struct Frame<T> {
     members: Vec<Wkt<T>>,
     dim: Dimension,
 }
@@ -340,7 +340,7 @@ fn read_collection<T: WktNum>(
     'levels: loop {
         now = match now {
             Ok(Start::Opened(dim)) => {
-                open.push(Nest {
+                open.push(Frame {
                     members: Vec::new(alloc),
                     dim,
                 })?;
@@ -348,10 +348,10 @@ fn read_collection<T: WktNum>(
             }
             Ok(Start::Whole(geometry)) => match open.pop() {
                 None => return Ok(geometry),
-                Some(Nest { mut members, dim }) => {
+                Some(Frame { mut members, dim }) => {
                     members.push(geometry)?;
                     if tokens.take_comma() {
-                        open.push(Nest { members, dim })?;
+                        open.push(Frame { members, dim })?;
                         begin(alloc, tokens, true)
                     } else {
                         shut(tokens, Ok(members), dim)
@@ -360,7 +360,7 @@ fn read_collection<T: WktNum>(
             },
             Err(error) => match open.pop() {
                 None => return Err(error),
-                Some(nest) => shut(tokens, Err(error), nest.dim),
+                Some(frame) => shut(tokens, Err(error), frame.dim),
             },
         };
     }

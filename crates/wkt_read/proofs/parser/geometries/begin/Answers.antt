@@ -2,7 +2,7 @@ use Rattle.std.proofs.Common.{Ok}
 use Rattle.wkt_read.specs.Parser.Reads.{wkt_value}
 use Rattle.wkt_read.specs.declared.parser.geometries.Start.TheVariants.{Whole}
 use Rattle.wkt_read.proofs.ParserLemmas.Wkts.{value-header-err, value-starts}
-use Rattle.wkt_read.proofs.ParserLemmas.Nests.{starts-err, starts-pass}
+use Rattle.wkt_read.proofs.ParserLemmas.Frames.{starts-err, starts-pass}
 use Rattle.wkt_read.proofs.parser.geometries.begin.Goals as goal
 
 pub returns-in_err-kind-clause-exact : goal.returns-in_err-kind-clause-exact

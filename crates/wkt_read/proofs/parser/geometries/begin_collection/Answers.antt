@@ -5,7 +5,7 @@ use Rattle.wkt_read.specs.Ahead.{rest}
 use Rattle.wkt_read.specs.Parser.Reads.{wkt_value}
 use Rattle.wkt_read.specs.Parser.Reading.{◌>>=◌, value_at, many_at, members_read}
 use Rattle.wkt_read.proofs.ParserLemmas.Many.{framed-err, framed-empty, framed-paren}
-use Rattle.wkt_read.proofs.ParserLemmas.Nests.{starts-err}
+use Rattle.wkt_read.proofs.ParserLemmas.Frames.{starts-err}
 use Rattle.wkt_read.proofs.parser.geometries.begin_collection.Goals as goal
 
 pub returns-in_err-paren-clause-exact : goal.returns-in_err-paren-clause-exact

@@ -6,7 +6,7 @@ use Rattle.std.specs.declared.alloc.Global.{Global}
 use Rattle.wkt_types.specs.declared.geometry.Wkt.{Wkt}
 use Rattle.wkt_types.specs.declared.geometry_type.GeometryType.TheVariants.{GeometryCollection}
 use Rattle.wkt_read.specs.declared.parser.geometries.Start.{Start}
-use Rattle.wkt_read.specs.declared.parser.geometries.Nest.{Nest}
+use Rattle.wkt_read.specs.declared.parser.geometries.Frame.{Frame}
 use Rattle.wkt_read.specs.Ahead.{rest}
 use Rattle.wkt_read.specs.Placed.{lexemes_of}
 use Rattle.wkt_read.specs.Bad.{HasBad}
@@ -14,9 +14,9 @@ use Rattle.wkt_read.specs.Items.{bad_number}
 use Rattle.wkt_read.specs.Answered.{OnMessage}
 use Rattle.wkt_read.specs.Parser.Reads.{wkt_value, UniformWkt}
 use Rattle.wkt_read.specs.Parser.Reading.{value_at, body_at, IsOpened}
-use Rattle.wkt_read.specs.Parser.Nests.{Wants, IfWhole, Nested, weight}
+use Rattle.wkt_read.specs.Parser.Frames.{Wants, IfWhole, Nested, weight}
 use Rattle.wkt_read.proofs.ParserLemmas.Many.{all-push, goes-then}
-use Rattle.wkt_read.proofs.ParserLemmas.Nests.{IfAny, weight-most, any, any-last, all-pop, wants, bad-as, opened-next, comma-next, shut-next, error-next, done, error-now}
+use Rattle.wkt_read.proofs.ParserLemmas.Frames.{IfAny, weight-most, any, any-last, all-pop, wants, bad-as, opened-next, comma-next, shut-next, error-next, done, error-now}
 use Rattle.wkt_read.proofs.parser.geometries.read_collection.Goals as goal
 
 pub levels-init : goal.levels-init
@@ -61,7 +61,7 @@ pub levels-preserved-in_ok-push-in-Some-2 : goal.levels-preserved-in_ok-push-in-
 levels-preserved-in_ok-push-in-Some-2 g c =
     let Needs : Type 0 = IsOpened (rest c.args.tokens.now) in
     let was : Needs = any-last c.pop.new.self.items c.in-Some.field-0 Needs (subst (λ l. IfAny l Needs) c.in-Some.ensures.items c.levels.invariant.opened) in
-    let (others, last) = all-pop (λ (o : Nest g.row.T.Denot). AllByRecursion UniformWkt o.members.items) c.pop.new.self.items c.in-Some.field-0 (subst (AllByRecursion (λ o. AllByRecursion UniformWkt o.members.items)) c.in-Some.ensures.items c.levels.invariant.members) in
+    let (others, last) = all-pop (λ (o : Frame g.row.T.Denot). AllByRecursion UniformWkt o.members.items) c.pop.new.self.items c.in-Some.field-0 (subst (AllByRecursion (λ o. AllByRecursion UniformWkt o.members.items)) c.in-Some.ensures.items c.levels.invariant.members) in
     let one : UniformWkt c.in-Ok-Whole.geometry = subst (λ s. IfWhole s UniformWkt) (c.in-Ok-Whole.is ∙ ap (λ f. Ok f) c.in-Ok-Whole.field-0-is) c.levels.invariant.uniform in
     record {
       goes_on = goes-then (goes-then c.levels.invariant.goes_on c.take_comma.ensures.goes_on) c.begin-then-take_comma.ensures.goes_on;
@@ -79,7 +79,7 @@ pub levels-preserved-else-take_comma : goal.levels-preserved-else-take_comma
 levels-preserved-else-take_comma g c =
     let Needs : Type 0 = IsOpened (rest c.args.tokens.now) in
     let was : Needs = any-last c.pop.new.self.items c.in-Some.field-0 Needs (subst (λ l. IfAny l Needs) c.in-Some.ensures.items c.levels.invariant.opened) in
-    let (others, last) = all-pop (λ (o : Nest g.row.T.Denot). AllByRecursion UniformWkt o.members.items) c.pop.new.self.items c.in-Some.field-0 (subst (AllByRecursion (λ o. AllByRecursion UniformWkt o.members.items)) c.in-Some.ensures.items c.levels.invariant.members) in
+    let (others, last) = all-pop (λ (o : Frame g.row.T.Denot). AllByRecursion UniformWkt o.members.items) c.pop.new.self.items c.in-Some.field-0 (subst (AllByRecursion (λ o. AllByRecursion UniformWkt o.members.items)) c.in-Some.ensures.items c.levels.invariant.members) in
     let one : UniformWkt c.in-Ok-Whole.geometry = subst (λ s. IfWhole s UniformWkt) (c.in-Ok-Whole.is ∙ ap (λ f. Ok f) c.in-Ok-Whole.field-0-is) c.levels.invariant.uniform in
     record {
       goes_on = goes-then (goes-then c.levels.invariant.goes_on c.take_comma.ensures.goes_on) c.shut.ensures.goes_on;
@@ -94,13 +94,13 @@ levels-preserved-else-take_comma g c =
 
 pub levels-smaller : goal.levels-smaller
 levels-smaller g c =
-    omega (arith, ap length c.in-Some-pop.ensures.items, length-append c.pop-in-Err.new.self.items (c.in-Some-pop.nest ∷ []), c.shut-in-Some-pop.ensures.lighter, c.shut-in-Some-pop.ensures.goes_on.fewer)
+    omega (arith, ap length c.in-Some-pop.ensures.items, length-append c.pop-in-Err.new.self.items (c.in-Some-pop.frame ∷ []), c.shut-in-Some-pop.ensures.lighter, c.shut-in-Some-pop.ensures.goes_on.fewer)
 
 pub levels-preserved : goal.levels-preserved
 levels-preserved g c =
     let Needs : Type 0 = IsOpened (rest c.args.tokens.now) in
-    let was : Needs = any-last c.pop-in-Err.new.self.items c.in-Some-pop.nest Needs (subst (λ l. IfAny l Needs) c.in-Some-pop.ensures.items c.levels.invariant.opened) in
-    let (others, last) = all-pop (λ (o : Nest g.row.T.Denot). AllByRecursion UniformWkt o.members.items) c.pop-in-Err.new.self.items c.in-Some-pop.nest (subst (AllByRecursion (λ o. AllByRecursion UniformWkt o.members.items)) c.in-Some-pop.ensures.items c.levels.invariant.members) in
+    let was : Needs = any-last c.pop-in-Err.new.self.items c.in-Some-pop.frame Needs (subst (λ l. IfAny l Needs) c.in-Some-pop.ensures.items c.levels.invariant.opened) in
+    let (others, last) = all-pop (λ (o : Frame g.row.T.Denot). AllByRecursion UniformWkt o.members.items) c.pop-in-Err.new.self.items c.in-Some-pop.frame (subst (AllByRecursion (λ o. AllByRecursion UniformWkt o.members.items)) c.in-Some-pop.ensures.items c.levels.invariant.members) in
     record {
       goes_on = goes-then c.levels.invariant.goes_on c.shut-in-Some-pop.ensures.goes_on;
       members = others;
@@ -109,5 +109,5 @@ levels-preserved g c =
       memory = wants _ _ was;
       near = c.shut-in-Some-pop.ensures.near;
       bad = λ start b. c.shut-in-Some-pop.ensures.bad start (c.levels.invariant.goes_on.keeps start b) (bad-as (Start g.row.T.Denot) (Vec (Wkt g.row.T.Denot) Global) c.in-Err.error (HasBad g.T.WktNum.read (lexemes_of start)) (subst (λ s. OnMessage s bad_number (HasBad g.T.WktNum.read (lexemes_of start))) c.in-Err.is (c.levels.invariant.bad start b)));
-      exact = λ fuel h. error-next g.T.WktNum.read (λ (v : Vec (Wkt g.row.T.Denot) Global). map wkt_value v.items) _ _ c.in-Some-pop.nest _ _ _ _ _ _ (c.levels.invariant.exact fuel h) c.in-Err.is c.in-Some-pop.ensures.items c.shut-in-Some-pop.ensures.goes_on.fewer c.shut-in-Some-pop.ensures.exact;
+      exact = λ fuel h. error-next g.T.WktNum.read (λ (v : Vec (Wkt g.row.T.Denot) Global). map wkt_value v.items) _ _ c.in-Some-pop.frame _ _ _ _ _ _ (c.levels.invariant.exact fuel h) c.in-Err.is c.in-Some-pop.ensures.items c.shut-in-Some-pop.ensures.goes_on.fewer c.shut-in-Some-pop.ensures.exact;
     }

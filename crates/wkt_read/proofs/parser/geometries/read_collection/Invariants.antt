@@ -9,8 +9,8 @@ use Rattle.wkt_read.specs.Items.{bad_number}
 use Rattle.wkt_read.specs.Answered.{OnMessage}
 use Rattle.wkt_read.specs.Parser.Reads.{UniformWkt}
 use Rattle.wkt_read.specs.Parser.Reading.{value_at, body_at, IsOpened}
-use Rattle.wkt_read.specs.Parser.Nests.{IfWhole, OnWhole, Wants, weight}
-use Rattle.wkt_read.proofs.ParserLemmas.Nests.{IfAny, Inside}
+use Rattle.wkt_read.specs.Parser.Frames.{IfWhole, OnWhole, Wants, weight}
+use Rattle.wkt_read.proofs.ParserLemmas.Frames.{IfAny, Inside}
 use Rattle.wkt_read.proofs.parser.geometries.read_collection.Given as goal
 
 abbrev pub invariant-levels : goal.invariant-levels

@@ -7,7 +7,7 @@ use Rattle.wkt_read.specs.Ahead.{rest}
 use Rattle.wkt_read.specs.Parser.Reads.{wkt_value}
 use Rattle.wkt_read.specs.Parser.Reading.{◌>>=◌, members_read}
 use Rattle.wkt_read.proofs.ParserLemmas.Many.{closed-in}
-use Rattle.wkt_read.proofs.ParserLemmas.Nests.{starts-pass}
+use Rattle.wkt_read.proofs.ParserLemmas.Frames.{starts-pass}
 use Rattle.wkt_read.proofs.parser.geometries.shut.Goals as goal
 
 pub returns-in_err-members-clause-exact : goal.returns-in_err-members-clause-exact

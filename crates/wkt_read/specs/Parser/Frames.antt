@@ -8,7 +8,7 @@ use Rattle.wkt_types.specs.declared.geometry_type.GeometryType.{GeometryType}
 use Rattle.wkt_types.specs.declared.geometry.Wkt.{Wkt}
 use Rattle.wkt_read.specs.declared.error.ReadError.{ReadError}
 use Rattle.wkt_read.specs.declared.error.ReadError.TheVariants.{Text, Memory}
-use Rattle.wkt_read.specs.declared.parser.geometries.Nest.{Nest}
+use Rattle.wkt_read.specs.declared.parser.geometries.Frame.{Frame}
 use Rattle.wkt_read.specs.declared.parser.geometries.Start.{Start}
 use Rattle.wkt_read.specs.declared.parser.geometries.Start.TheVariants.{Whole, Opened}
 use Rattle.wkt_read.specs.Parser.Reading.{Reading, ◌>>=◌, with_front, closed, many_at, tail_at, body_at, value_at, members_read}
@@ -72,10 +72,10 @@ Shuts {T} read d old body result new =
     (whole : Reading (List (Value T))) → ReadsIn (λ (v : Vec (Wkt T) Global). map wkt_value v.items) body whole (rest old) → Starts read result (shut_at d whole) (rest new)
 
 -- What an open collection makes of what is read at the place of its next member.
-abbrev pub put_in : {T : Type 0} → (List ℕ → Option T) → ℕ → ℕ → Nest T → Reading (Value T) → Reading (Value T)
+abbrev pub put_in : {T : Type 0} → (List ℕ → Option T) → ℕ → ℕ → Frame T → Reading (Value T) → Reading (Value T)
 put_in read n m o now = shut_at o.dim (now >>= λ p. with_front (map wkt_value o.members.items ++ (p.0 ∷ [])) (tail_at (value_at read n) m p.1))
 
 -- What is read where the first of the open collections begins, by what is read inside the last of them.
-abbrev pub Nested : {T : Type 0} → (List ℕ → Option T) → List (Nest T) → ℕ → Reading (Value T) → Reading (Value T) → Type 0
+abbrev pub Nested : {T : Type 0} → (List ℕ → Option T) → List (Frame T) → ℕ → Reading (Value T) → Reading (Value T) → Type 0
 Nested read [] k whole now = whole ≡ now
 Nested {T} read (o ∷ os) k whole now = (n m : ℕ) × (inner : Reading (Value T)) × (k ≤ n) × (k ≤ m) × (whole ≡ put_in read n m o inner) × Nested read os k inner now

@@ -7,7 +7,7 @@ use Rattle.wkt_access.specs.Values.{Value}
 use Rattle.wkt_types.specs.declared.geometry.Wkt.{Wkt}
 use Rattle.wkt_read.specs.declared.error.ReadError.{ReadError}
 use Rattle.wkt_read.specs.declared.error.ReadError.TheVariants.{Text, Memory}
-use Rattle.wkt_read.specs.declared.parser.geometries.Nest.{Nest}
+use Rattle.wkt_read.specs.declared.parser.geometries.Frame.{Frame}
 use Rattle.wkt_read.specs.declared.parser.geometries.Start.{Start}
 use Rattle.wkt_read.specs.declared.parser.geometries.Start.TheVariants.{Whole, Opened}
 use Rattle.wkt_read.specs.Parser.Reading.{Reading, ◌>>=◌, with_front, many_at, tail_at, value_at}
@@ -18,7 +18,7 @@ use Rattle.wkt_read.specs.Items.{bad_number}
 use Rattle.wkt_read.specs.Answered.{OnMessage}
 use Rattle.std.proofs.lemmas.List.{map-append}
 use Rattle.std.specs.List.{AllByRecursion}
-use Rattle.wkt_read.specs.Parser.Nests.{Starts, Wants, weight, shut_at, put_in, Nested}
+use Rattle.wkt_read.specs.Parser.Frames.{Starts, Wants, weight, shut_at, put_in, Nested}
 
 -- there is one at least, and then this holds
 abbrev pub IfAny : {A : Type 0} → List A → Type 0 → Type 0
@@ -75,32 +75,32 @@ module _ {T : Type 0} (read : List ℕ → Option T) where
   starts-pass other (Memory m) (Err (Text k)) item whole left h reads f = cc
 
   -- fewer lexemes are left
-  pub nested-fewer : (os : List (Nest T)) (k j : ℕ) (whole now : Reading (Value T)) → j ≤ k → Nested read os k whole now → Nested read os j whole now
+  pub nested-fewer : (os : List (Frame T)) (k j : ℕ) (whole now : Reading (Value T)) → j ≤ k → Nested read os k whole now → Nested read os j whole now
   nested-fewer [] k j whole now le h = h
   nested-fewer (o ∷ os) k j whole now le (n, m, inner, a, b, e, h) = (n, m, inner, omega (arith, a, le), omega (arith, b, le), e, nested-fewer os k j inner now le h)
 
   -- one more is opened
-  pub nested-push : (os : List (Nest T)) (o : Nest T) (k n m : ℕ) (whole now inner : Reading (Value T)) → k ≤ n → k ≤ m → now ≡ put_in read n m o inner → Nested read os k whole now → Nested read (os ++ o ∷ []) k whole inner
+  pub nested-push : (os : List (Frame T)) (o : Frame T) (k n m : ℕ) (whole now inner : Reading (Value T)) → k ≤ n → k ≤ m → now ≡ put_in read n m o inner → Nested read os k whole now → Nested read (os ++ o ∷ []) k whole inner
   nested-push [] o k n m whole now inner a b e h = (n, m, inner, a, b, h ∙ e, refl)
   nested-push (x ∷ os) o k n m whole now inner a b e (n2, m2, i, a2, b2, e2, h) = (n2, m2, i, a2, b2, e2, nested-push os o k n m i now inner a b e h)
 
   -- the last one
-  pub nested-pop : (os : List (Nest T)) (o : Nest T) (k : ℕ) (whole now : Reading (Value T)) → Nested read (os ++ o ∷ []) k whole now → (n m : ℕ) × (k ≤ n) × (k ≤ m) × Nested read os k whole (put_in read n m o now)
+  pub nested-pop : (os : List (Frame T)) (o : Frame T) (k : ℕ) (whole now : Reading (Value T)) → Nested read (os ++ o ∷ []) k whole now → (n m : ℕ) × (k ≤ n) × (k ≤ m) × Nested read os k whole (put_in read n m o now)
   nested-pop [] o k whole now (n, m, inner, a, b, e, h) = (n, m, a, b, e ∙ ap (put_in read n m o) h)
   nested-pop (x ∷ os) o k whole now (n2, m2, i, a2, b2, e2, h) =
       let (n, m, a, b, p) = nested-pop os o k i now h in
       (n, m, a, b, (n2, m2, i, a2, b2, e2, p))
 
   -- what is read at a place
-  abbrev pub Inside : List (Nest T) → Result (Start T) ReadError → List Lexeme → Reading (Value T) → Type 0
+  abbrev pub Inside : List (Frame T) → Result (Start T) ReadError → List Lexeme → Reading (Value T) → Type 0
   Inside os s left whole = (now : Reading (Value T)) × Starts read s now left × Nested read os (length left) whole now
 
   -- a collection is opened
-  opened-put : (n : ℕ) (o : Nest T) (left : List Lexeme) → o.members.items ≡ [] → shut_at o.dim (many_at (value_at read n) n left) ≡ put_in read n n o (value_at read n left)
+  opened-put : (n : ℕ) (o : Frame T) (left : List Lexeme) → o.members.items ≡ [] → shut_at o.dim (many_at (value_at read n) n left) ≡ put_in read n n o (value_at read n left)
   unfolding many_at
   opened-put n o left e = ap (λ l. shut_at o.dim (value_at read n left >>= (λ p. with_front (map wkt_value l ++ (p.0 ∷ [])) (tail_at (value_at read n) n p.1)))) (sym e)
 
-  pub opened-next : (os os2 : List (Nest T)) (o : Nest T) (s s2 : Result (Start T) ReadError) (f : Start T) (left left2 : List Lexeme) (whole : Reading (Value T))
+  pub opened-next : (os os2 : List (Frame T)) (o : Frame T) (s s2 : Result (Start T) ReadError) (f : Start T) (left left2 : List Lexeme) (whole : Reading (Value T))
       → Inside os s left whole → s ≡ Ok f → f ≡ Opened o.dim → o.members.items ≡ [] → os2 ≡ os ++ o ∷ [] → length left2 ≤ length left
       → ((fuel : ℕ) → length left ≤ fuel → Starts read s2 (value_at read fuel left) left2) → Inside os2 s2 left2 whole
   opened-next os os2 o s s2 f left left2 whole (now, starts, nested) is fis empty more le exact =
@@ -112,7 +112,7 @@ module _ {T : Type 0} (read : List ℕ → Option T) where
       )
 
   -- a comma after a member
-  comma-put : (n m : ℕ) (o o2 : Nest T) (w : Wkt T) (left r : List Lexeme) → length left ≤ m → left ≡ Comma ∷ r → o2.members.items ≡ o.members.items ++ w ∷ [] → o2.dim ≡ o.dim
+  comma-put : (n m : ℕ) (o o2 : Frame T) (w : Wkt T) (left r : List Lexeme) → length left ≤ m → left ≡ Comma ∷ r → o2.members.items ≡ o.members.items ++ w ∷ [] → o2.dim ≡ o.dim
       → (j : ℕ) × (length r ≤ j) × (put_in read n m o (Ok (wkt_value w, left)) ≡ put_in read n j o2 (value_at read n r))
   unfolding tail_at
   comma-put n zero o o2 w left r le is e d = absurd (omega (arith, le, ap length is))
@@ -126,14 +126,14 @@ module _ {T : Type 0} (read : List ℕ → Option T) where
   )
 
   -- the last collection, in which a geometry was read
-  read-in : (os all : List (Nest T)) (o : Nest T) (w : Wkt T) (s : Result (Start T) ReadError) (f : Start T) (left : List Lexeme) (whole : Reading (Value T))
+  read-in : (os all : List (Frame T)) (o : Frame T) (w : Wkt T) (s : Result (Start T) ReadError) (f : Start T) (left : List Lexeme) (whole : Reading (Value T))
       → Inside all s left whole → s ≡ Ok f → f ≡ Whole w → all ≡ os ++ o ∷ []
       → (n m : ℕ) × (length left ≤ n) × (length left ≤ m) × Nested read os (length left) whole (put_in read n m o (Ok (wkt_value w, left)))
   read-in os all o w s f left whole (now, starts, nested) is fis last =
       let e : now ≡ Ok (wkt_value w, left) = subst (λ r. Starts read r now left) (is ∙ ap (λ f. Ok f) fis) starts in
       nested-pop os o (length left) whole (Ok (wkt_value w, left)) (subst (λ t. Nested read (os ++ o ∷ []) (length left) whole t) e (subst (λ l. Nested read l (length left) whole now) last nested))
 
-  pub comma-next : (os os2 all : List (Nest T)) (o o2 : Nest T) (w : Wkt T) (s s2 : Result (Start T) ReadError) (f : Start T) (left r left2 : List Lexeme) (whole : Reading (Value T))
+  pub comma-next : (os os2 all : List (Frame T)) (o o2 : Frame T) (w : Wkt T) (s s2 : Result (Start T) ReadError) (f : Start T) (left r left2 : List Lexeme) (whole : Reading (Value T))
       → Inside all s left whole → s ≡ Ok f → f ≡ Whole w → all ≡ os ++ o ∷ [] → left ≡ Comma ∷ r → o2.members.items ≡ o.members.items ++ w ∷ [] → o2.dim ≡ o.dim → os2 ≡ os ++ o2 ∷ [] → length left2 ≤ length r
       → ((fuel : ℕ) → length r ≤ fuel → Starts read s2 (value_at read fuel r) left2) → Inside os2 s2 left2 whole
   comma-next os os2 all o o2 w s s2 f left r left2 whole inside is fis last comma e d more le exact =
@@ -148,7 +148,7 @@ module _ {T : Type 0} (read : List ℕ → Option T) where
       )
 
   -- no comma after a member: the closing place
-  pub shut-next : (os all : List (Nest T)) (o : Nest T) (w : Wkt T) (ms : List (Wkt T)) (s s2 : Result (Start T) ReadError) (f : Start T) (left left2 left3 : List Lexeme) (whole : Reading (Value T))
+  pub shut-next : (os all : List (Frame T)) (o : Frame T) (w : Wkt T) (ms : List (Wkt T)) (s s2 : Result (Start T) ReadError) (f : Start T) (left left2 left3 : List Lexeme) (whole : Reading (Value T))
       → Inside all s left whole → s ≡ Ok f → f ≡ Whole w → all ≡ os ++ o ∷ [] → BeginsWithoutComma left → left3 ≡ left → ms ≡ o.members.items ++ w ∷ [] → length left2 ≤ length left3
       → ((body : Reading (List (Value T))) → body ≡ Ok (map wkt_value ms, left3) → Starts read s2 (shut_at o.dim body) left2) → Inside os s2 left2 whole
   shut-next os all o w ms s s2 f left left2 left3 whole inside is fis last none stays e le exact =
@@ -166,7 +166,7 @@ module _ {T : Type 0} (read : List ℕ → Option T) where
   refusal-in view (Text m) now left then h = ap (λ t. t >>= then) h
   refusal-in view (Memory m) now left then h = tt
 
-  pub error-next : {X : Type 0} (view : X → List (Value T)) (os all : List (Nest T)) (o : Nest T) (e : ReadError) (s s2 : Result (Start T) ReadError) (left left2 : List Lexeme) (whole : Reading (Value T))
+  pub error-next : {X : Type 0} (view : X → List (Value T)) (os all : List (Frame T)) (o : Frame T) (e : ReadError) (s s2 : Result (Start T) ReadError) (left left2 : List Lexeme) (whole : Reading (Value T))
       → Inside all s left whole → s ≡ Err e → all ≡ os ++ o ∷ [] → length left2 ≤ length left
       → ((body : Reading (List (Value T))) → ReadsIn view (Err e) body left → Starts read s2 (shut_at o.dim body) left2) → Inside os s2 left2 whole
   error-next view os all o e s s2 left left2 whole (now, starts, nested) is last le exact =
@@ -177,10 +177,10 @@ module _ {T : Type 0} (read : List ℕ → Option T) where
       )
 
   -- no collection is open
-  outside : (os : List (Nest T)) (k : ℕ) (whole now : Reading (Value T)) → os ≡ [] → Nested read os k whole now → whole ≡ now
+  outside : (os : List (Frame T)) (k : ℕ) (whole now : Reading (Value T)) → os ≡ [] → Nested read os k whole now → whole ≡ now
   outside os k whole now none h = subst (λ l. Nested read l k whole now) none h
 
-  pub done : (os : List (Nest T)) (w : Wkt T) (s : Result (Start T) ReadError) (f : Start T) (left : List Lexeme) (whole : Reading (Value T)) → Inside os s left whole → s ≡ Ok f → f ≡ Whole w → os ≡ [] → whole ≡ Ok (wkt_value w, left)
+  pub done : (os : List (Frame T)) (w : Wkt T) (s : Result (Start T) ReadError) (f : Start T) (left : List Lexeme) (whole : Reading (Value T)) → Inside os s left whole → s ≡ Ok f → f ≡ Whole w → os ≡ [] → whole ≡ Ok (wkt_value w, left)
   done os w s f left whole (now, starts, nested) is fis none =
       outside os (length left) whole now none nested ∙ subst (λ r. Starts read r now left) (is ∙ ap (λ f. Ok f) fis) starts
 
@@ -188,6 +188,6 @@ module _ {T : Type 0} (read : List ℕ → Option T) where
   as-read (Text m) whole now left same h = same ∙ h
   as-read (Memory m) whole now left same h = tt
 
-  pub error-now : (os : List (Nest T)) (e : ReadError) (s : Result (Start T) ReadError) (left : List Lexeme) (whole : Reading (Value T)) → Inside os s left whole → s ≡ Err e → os ≡ [] → ReadsIn {X = Wkt T} wkt_value (Err e) whole left
+  pub error-now : (os : List (Frame T)) (e : ReadError) (s : Result (Start T) ReadError) (left : List Lexeme) (whole : Reading (Value T)) → Inside os s left whole → s ≡ Err e → os ≡ [] → ReadsIn {X = Wkt T} wkt_value (Err e) whole left
   error-now os e s left whole (now, starts, nested) is none =
       as-read e whole now left (outside os (length left) whole now none nested) (subst (λ r. Starts read r now left) is starts)
