@@ -11,9 +11,9 @@ use wkt_num::TextSink;
 /// puts the array out as soon as it is full and in [`finish`](Gatherer::finish).
 ///
 /// It does what a [`WriterWrapper`](crate::WriterWrapper) does, for a writer whose calls are dear: it calls `put`
-/// until all bytes are out, a count of zero is the fault `WriteZero`, and no fault is tried again. After a fault
+/// until all bytes are out, a count of zero is the error `WriteZero`, and nothing is tried again. After an error
 /// every later write and `finish` answer `fmt::Error` and hand nothing to the writer;
-/// [`take_error`](Gatherer::take_error) gives the fault.
+/// [`take_error`](Gatherer::take_error) gives the error.
 #[derive(Drop)]
 pub struct Gatherer<W> {
     writer: W,
@@ -157,7 +157,7 @@ impl<W: ByteSink> Gatherer<W> {
         Ok(())
     }
 
-    /// Puts out what is held still, and nothing where a fault has come before.
+    /// Puts out what is held still, and nothing where an error has come before.
     ///
     /// # Errors
     /// `fmt::Error` where the writer failed, in this call or before it. A gatherer that holds nothing calls no writer.
@@ -176,7 +176,7 @@ impl<W: ByteSink> Gatherer<W> {
         self.empty()
     }
 
-    /// The fault that came, the first time that it is asked for; else None.
+    /// The error that came, the first time that it is asked for; else None.
     pub fn take_error(&mut self) -> Option<io::Error>
         ensures there { IsSome result ↔ (is_unasked self.old ≡ true) }
         ensures told { is_unasked self.new ≡ false }

@@ -12,7 +12,7 @@ use thiserror::Error;
 /// Why a source wasn't read to its end.
 #[derive(Debug, Drop, Error)]
 pub enum ReadAllError {
-    /// The source failed. No fault is tried again, `Interrupted` neither.
+    /// The source failed. Nothing is tried again, `Interrupted` neither.
     #[error("{0}")]
     Read(io::Error),
     /// Memory ran out.
@@ -23,7 +23,7 @@ pub enum ReadAllError {
 /// All bytes that are left in the source, read in pieces of at most 64 KiB.
 ///
 /// # Errors
-/// The source's first fault, or out of memory. What was read till then is dropped.
+/// The source's first error, or out of memory. What was read till then is dropped.
 pub fn read_all<R: ByteSource>(alloc: Global, reader: &mut R) -> Result<Vec<u8>, ReadAllError>
     ensures bytes { IfOk result (λ v. Consumes (R.left reader.old) (R.left reader.new) v.items) }
     ensures end { OnOk result (IsAtEnd (R.left reader.new)) }

@@ -23,7 +23,7 @@ pub trait ByteSink {
     /// Takes some of the bytes from the front, and answers how many.
     ///
     /// # Errors
-    /// The sink's fault.
+    /// The sink's error.
     fn put(&mut self, buf: &[u8]) -> io::Result<usize>
         ensures bound { IfOk result (λ n. n ≤ length buf.now) }
         ensures took { WriteAppends (sink.bytes self.old) (sink.bytes self.new) result buf.now }
@@ -42,7 +42,7 @@ pub trait ByteSource {
     /// Gives the next bytes at the front of `buf`, and answers how many.
     ///
     /// # Errors
-    /// The source's fault.
+    /// The source's error.
     fn take(&mut self, buf: &mut [u8]) -> io::Result<usize>
         ensures bound { IfOk result (λ n. n ≤ length buf.new) }
         ensures gave { ReadConsumes (left self.old) (left self.new) result buf.new }

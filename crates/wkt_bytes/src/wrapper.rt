@@ -9,7 +9,7 @@ use std::simd::prelude::*;
 use std::{fmt, io};
 use wkt_num::TextSink;
 
-/// Whether a fault came.
+/// Whether an error came.
 #[derive(Drop)]
 pub(crate) enum State {
     Well,
@@ -20,9 +20,9 @@ pub(crate) enum State {
 /// Text to a byte sink: a [`TextSink`] that gathers what it is given in an array of 256 bytes, and
 /// puts the array out as soon as it is full and in [`finish`](WriterWrapper::finish).
 ///
-/// It calls `put` until all bytes are out. A count of zero is the fault `WriteZero`. No fault is tried
-/// again, `Interrupted` neither. After a fault every later write and `finish` answer `fmt::Error`
-/// and hand nothing to the writer; [`take_error`](WriterWrapper::take_error) gives the fault.
+/// It calls `put` until all bytes are out. A count of zero is the error `WriteZero`. Nothing is tried
+/// again, `Interrupted` neither. After an error every later write and `finish` answer `fmt::Error`
+/// and hand nothing to the writer; [`take_error`](WriterWrapper::take_error) gives the error.
 #[derive(Drop)]
 pub struct WriterWrapper<W> {
     writer: W,
@@ -33,7 +33,7 @@ pub struct WriterWrapper<W> {
     ghost fits: { len ≤ 256 },
 }
 
-/// Puts all the bytes out: the sink is called until it took them all. It stops at the first fault, of which none
+/// Puts all the bytes out: the sink is called until it took them all. It stops at the first error, of which none
 /// is tried again, `Interrupted` neither.
 ///
 /// # Errors
@@ -225,7 +225,7 @@ impl<W: ByteSink> WriterWrapper<W> {
         Ok(())
     }
 
-    /// Puts out what is held still, and nothing where a fault has come before.
+    /// Puts out what is held still, and nothing where an error has come before.
     ///
     /// # Errors
     /// `fmt::Error` where the writer failed, in this call or before it.
@@ -243,7 +243,7 @@ impl<W: ByteSink> WriterWrapper<W> {
         self.empty()
     }
 
-    /// The fault that came, the first time that it is asked for; else None.
+    /// The error that came, the first time that it is asked for; else None.
     pub fn take_error(&mut self) -> Option<io::Error>
         ensures there { IsSome result ↔ (is_untold self.old ≡ true) }
         ensures told { is_untold self.new ≡ false }

@@ -40,7 +40,7 @@ pub enum RunError {
 /// `refused` where it has none or isn't UTF-8, and a line feed.
 ///
 /// # Errors
-/// [`RunError`] tells when each comes, and what is out then. No fault is tried again.
+/// [`RunError`] tells when each comes, and what is out then. Nothing is tried again.
 pub fn run<R: ByteSource, W: ByteSink>(
     alloc: Global,
     reader: &mut R,

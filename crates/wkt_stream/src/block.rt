@@ -67,7 +67,7 @@ impl Block {
     /// Takes what the source gives in one call, and answers how much.
     ///
     /// # Errors
-    /// The source's fault.
+    /// The source's error.
     pub fn fill<R: ByteSource>(&mut self, reader: &mut R) -> io::Result<usize>
         requires room { has_room self.old }
         ensures ok { IfOk result (λ n. (fresh : List ℕ) × (unanswered self.new ≡ unanswered self.old ++ fresh)

@@ -56,7 +56,7 @@ impl<R: ByteSource> Lines<R> {
     ///
     /// # Errors
     /// `Read` where the source failed, and `Memory` where there is none for a block or for a line that is longer.
-    /// Nothing is lost then: the line that was to come is the next, and a later call goes on. No fault is tried again.
+    /// Nothing is lost then: the line that was to come is the next, and a later call goes on. Nothing is tried again.
     /// A source that never ends a line is answered as `Memory` after 2^64 - 1 calls.
     pub fn advance(&mut self) -> Result<bool, ReadAllError>
         ensures line { IfOk result

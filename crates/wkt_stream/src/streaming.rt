@@ -24,7 +24,7 @@ use wkt_lines::{AnswerError, Canonical, Reply, RunError, write_answers, write_re
 ///
 /// # Errors
 /// [`RunError`], of which `Read` comes later than `run`'s: the answers to the whole lines that were read are out then,
-/// and nothing else. No fault is tried again. A source that never ends is answered as `Memory` after 2^64 - 1 calls.
+/// and nothing else. Nothing is tried again. A source that never ends is answered as `Memory` after 2^64 - 1 calls.
 pub fn stream<R: ByteSource, W: ByteSink>(
     alloc: Global,
     reader: &mut R,
@@ -264,7 +264,7 @@ fn answer_block<A: BlockReply, W: ByteSink>(
     }
 }
 
-/// The fault that a gatherer met.
+/// The error that a gatherer met.
 fn error_of<W: ByteSink>(gatherer: &mut Gatherer<W>) -> io::Error
     requires { is_unasked gatherer.old ≡ true }
     ensures { gathering_writer gatherer.new ≡ gathering_writer gatherer.old }
