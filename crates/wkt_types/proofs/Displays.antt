@@ -1,8 +1,9 @@
 -- What was displayed, where a shape has no fault.
-use Rattle.std.proofs.Common.{◌≡◌, ℕ, List, Option, Some, None, Result, Ok, Err, ap, ◌∙◌}
+use Rattle.std.proofs.Common.{◌≡◌, ℕ, List, Option, Some, None, Result, Ok, Err, true, false, refl, ap, ◌∙◌}
 use Rattle.std.specs.Borrow.{MutBor}
 use Rattle.std.specs.Prelude.{IfSome}
-use Rattle.std.specs.Fmt.{DisplaysOnOk, DisplaysStyledOnOk, HasWrittenStyled, IsFlush}
+use Rattle.std.specs.Fmt.{HasWrittenStyled, IsFlush}
+use Rattle.std.specs.declared.fmt.Error as fmt
 use Rattle.std.specs.declared.fmt.Formatter.{Formatter}
 use Rattle.wkt_access.specs.declared.error.Error.{Error}
 use Rattle.wkt_access.specs.declared.error.Error.TheVariants.{FmtError, RectUnsupportedDimension, UnknownDimension, TooFewNumbers, Memory}
@@ -11,7 +12,7 @@ use Rattle.wkt_num.specs.Sink.{Sink}
 use Rattle.wkt_access.specs.Shapes.{Shape}
 use Rattle.wkt_access.specs.Texts.{shape_text}
 use Rattle.wkt_access.specs.Faults.{fault}
-use Rattle.wkt_types.specs.Shown.{shown, text_unless, IsUnwritable}
+use Rattle.wkt_types.specs.Shown.{shown, text_unless, IsUnwritable, Shows}
 use Rattle.wkt_num.proofs.Handed.{displayed_plain}
 
 if_none : (o : Option Error) (bs : List ℕ) (P : List ℕ → Type 0) → o ≡ None → P bs → IfSome (text_unless o bs) P
@@ -19,11 +20,29 @@ if_none None bs P e h = h
 if_none (Some x) bs P e h = cc
 
 module _ {W N : Type 0} (gives : W → List ℕ → W → Type 0) (num : N → List ℕ) (s : Shape N) (f g : Formatter W) (e : fault s ≡ None) where
-  pub shown_styled : (IsFlush f → HasWrittenStyled gives f (shape_text num s) g) → DisplaysStyledOnOk gives f (Ok tt) (shown num s) g
-  shown_styled h = if_none (fault s) (shape_text num s) _ e (λ p q. h p)
+  pub shows_ok : (IsFlush f → HasWrittenStyled gives f (shape_text num s) g) → Shows gives num s f (Ok tt) g
+  shows_ok h = record {
+    writes = if_none (fault s) (shape_text num s) _ e (λ p q. displayed_plain gives f (shape_text num s) g p (h p.flush));
+    styled = if_none (fault s) (shape_text num s) _ e (λ p q. h p);
+    refused = λ no. absurd (no e);
+    untouched = λ no. absurd (no e);
+  }
 
-  pub shown_plain : (IsFlush f → HasWrittenStyled gives f (shape_text num s) g) → DisplaysOnOk gives f (Ok tt) (shown num s) g
-  shown_plain h = if_none (fault s) (shape_text num s) _ e (λ p q. displayed_plain gives f (shape_text num s) g p (h p.flush))
+no_ok : {P : Type 0} → false ≡ true → P
+no_ok h = cc
+
+if_any : (o : Option (List ℕ)) (P : List ℕ → Type 0) → ((bs : List ℕ) → P bs) → IfSome o P
+if_any None P h = tt
+if_any (Some bs) P h = h bs
+
+module _ {W N : Type 0} (gives : W → List ℕ → W → Type 0) (num : N → List ℕ) (s : Shape N) (f g : Formatter W) (x : fmt.Error) where
+  pub shows_err : (IsUnwritable s → g ≡ f) → Shows gives num s f (Err x) g
+  shows_err h = record {
+    writes = if_any (shown num s) _ (λ bs p q. no_ok q);
+    styled = if_any (shown num s) _ (λ bs p q. no_ok q);
+    refused = λ no. refl;
+    untouched = h;
+  }
 
 -- the text that is displayed of a shape without a fault
 pub shown_is : {N : Type 0} (num : N → List ℕ) (s : Shape N) (bs : List ℕ) → fault s ≡ None → IfSome (shown num s) (λ t. bs ≡ t) → bs ≡ shape_text num s

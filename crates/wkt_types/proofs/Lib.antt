@@ -5,4 +5,5 @@ pub mod Collections
 pub mod Displays
 pub mod Weighing
 pub mod InPlace
+pub mod Kept
 pub mod Canonicals

@@ -1,5 +1,8 @@
 -- What a geometry is displayed as.
-use Rattle.std.specs.Prelude.{◌≢◌, ℕ, List, Option, Some, None}
+use Rattle.std.specs.Prelude.{◌≡◌, ◌≢◌, ℕ, List, Option, Some, None, Result, IsErr}
+use Rattle.std.specs.Fmt.{DisplaysOnOk, DisplaysStyledOnOk}
+use Rattle.std.specs.declared.fmt.Error as fmt
+use Rattle.std.specs.declared.fmt.Formatter.{Formatter}
 use Rattle.wkt_access.specs.declared.error.Error.{Error}
 use Rattle.wkt_access.specs.Shapes.{Shape}
 use Rattle.wkt_access.specs.Texts.{shape_text}
@@ -17,3 +20,14 @@ shown num s = text_unless (fault s) (shape_text num s)
 -- The shape can't be written.
 abbrev pub IsUnwritable : {N : Type 0} → Shape N → Type 0
 IsUnwritable s = fault s ≢ None
+
+-- What a call of `fmt` answers, and leaves in the formatter: `f` is the formatter before, and `t` after.
+pub record Shows {W N : Type 0} (gives : W → List ℕ → W → Type 0) (num : N → List ℕ) (s : Shape N) (f : Formatter W) (result : Result (Unit {0}) fmt.Error) (t : Formatter W) : Type 0 where
+  -- Ok means that the text went out, where no width, fill or precision is asked for.
+  pub writes : DisplaysOnOk gives f result (shown num s) t
+  -- Ok means that the text went out as it is, whatever width, fill or precision is asked for.
+  pub styled : DisplaysStyledOnOk gives f result (shown num s) t
+  -- A shape that can't be written is refused.
+  pub refused : IsUnwritable s → IsErr result
+  -- Nothing of it is written.
+  pub untouched : IsUnwritable s → t ≡ f

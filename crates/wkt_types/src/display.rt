@@ -1,7 +1,5 @@
 //! Each type displayed as its text.
-ghost use Rattle.std.specs.Prelude.{◌≡◌, IsErr};
-ghost use Rattle.std.specs.Fmt.{DisplaysOnOk, DisplaysStyledOnOk};
-ghost use Rattle.wkt_types.specs.Shown.{shown, IsUnwritable};
+ghost use Rattle.wkt_types.specs.Shown.{shown, Shows};
 ghost use Rattle.wkt_types.specs.Tree.{tree, collection_tree, point, line_string, polygon, multi_point, multi_line_string, multi_polygon};
 ghost use Rattle.wkt_types.specs.Values.{tree_shape};
 
@@ -25,11 +23,7 @@ impl<T: WktNum> fmt::Display for Wkt<T> {
     /// The text, under any width, fill or precision. Where it can't be written: `fmt::Error`, and
     /// nothing is written.
     fn fmt<W: fmt::Write>(&self, f: &mut Formatter<W>) -> fmt::Result
-        ensures writes { DisplaysOnOk W.write_str_gives f.old result (shown T.num (tree_shape (tree self.now))) f.new }
-        ensures styled { DisplaysStyledOnOk W.write_str_gives f.old result
-            (shown T.num (tree_shape (tree self.now))) f.new }
-        ensures refused { IsUnwritable (tree_shape (tree self.now)) → IsErr result }
-        ensures untouched { IsUnwritable (tree_shape (tree self.now)) → f.new ≡ f.old }
+        ensures { Shows W.write_str_gives T.num (tree_shape (tree self.now)) f.old result f.new }
     {
         show_geometry(self, f)
     }
@@ -43,11 +37,7 @@ impl<T: WktNum> fmt::Display for Point<T> {
     /// The text, under any width, fill or precision. Where it can't be written: `fmt::Error`, and
     /// nothing is written.
     fn fmt<W: fmt::Write>(&self, f: &mut Formatter<W>) -> fmt::Result
-        ensures writes { DisplaysOnOk W.write_str_gives f.old result (shown T.num (tree_shape (point self.now))) f.new }
-        ensures styled { DisplaysStyledOnOk W.write_str_gives f.old result
-            (shown T.num (tree_shape (point self.now))) f.new }
-        ensures refused { IsUnwritable (tree_shape (point self.now)) → IsErr result }
-        ensures untouched { IsUnwritable (tree_shape (point self.now)) → f.new ≡ f.old }
+        ensures { Shows W.write_str_gives T.num (tree_shape (point self.now)) f.old result f.new }
     {
         show_geometry(self, f)
     }
@@ -61,12 +51,7 @@ impl<T: WktNum> fmt::Display for LineString<T> {
     /// The text, under any width, fill or precision. Where it can't be written: `fmt::Error`, and
     /// nothing is written.
     fn fmt<W: fmt::Write>(&self, f: &mut Formatter<W>) -> fmt::Result
-        ensures writes { DisplaysOnOk W.write_str_gives f.old result
-            (shown T.num (tree_shape (line_string self.now))) f.new }
-        ensures styled { DisplaysStyledOnOk W.write_str_gives f.old result
-            (shown T.num (tree_shape (line_string self.now))) f.new }
-        ensures refused { IsUnwritable (tree_shape (line_string self.now)) → IsErr result }
-        ensures untouched { IsUnwritable (tree_shape (line_string self.now)) → f.new ≡ f.old }
+        ensures { Shows W.write_str_gives T.num (tree_shape (line_string self.now)) f.old result f.new }
     {
         show_geometry(self, f)
     }
@@ -80,12 +65,7 @@ impl<T: WktNum> fmt::Display for Polygon<T> {
     /// The text, under any width, fill or precision. Where it can't be written: `fmt::Error`, and
     /// nothing is written.
     fn fmt<W: fmt::Write>(&self, f: &mut Formatter<W>) -> fmt::Result
-        ensures writes { DisplaysOnOk W.write_str_gives f.old result (shown T.num (tree_shape (polygon self.now)))
-            f.new }
-        ensures styled { DisplaysStyledOnOk W.write_str_gives f.old result
-            (shown T.num (tree_shape (polygon self.now))) f.new }
-        ensures refused { IsUnwritable (tree_shape (polygon self.now)) → IsErr result }
-        ensures untouched { IsUnwritable (tree_shape (polygon self.now)) → f.new ≡ f.old }
+        ensures { Shows W.write_str_gives T.num (tree_shape (polygon self.now)) f.old result f.new }
     {
         show_geometry(self, f)
     }
@@ -99,12 +79,7 @@ impl<T: WktNum> fmt::Display for MultiPoint<T> {
     /// The text, under any width, fill or precision. Where it can't be written: `fmt::Error`, and
     /// nothing is written.
     fn fmt<W: fmt::Write>(&self, f: &mut Formatter<W>) -> fmt::Result
-        ensures writes { DisplaysOnOk W.write_str_gives f.old result
-            (shown T.num (tree_shape (multi_point self.now))) f.new }
-        ensures styled { DisplaysStyledOnOk W.write_str_gives f.old result
-            (shown T.num (tree_shape (multi_point self.now))) f.new }
-        ensures refused { IsUnwritable (tree_shape (multi_point self.now)) → IsErr result }
-        ensures untouched { IsUnwritable (tree_shape (multi_point self.now)) → f.new ≡ f.old }
+        ensures { Shows W.write_str_gives T.num (tree_shape (multi_point self.now)) f.old result f.new }
     {
         show_geometry(self, f)
     }
@@ -118,12 +93,7 @@ impl<T: WktNum> fmt::Display for MultiLineString<T> {
     /// The text, under any width, fill or precision. Where it can't be written: `fmt::Error`, and
     /// nothing is written.
     fn fmt<W: fmt::Write>(&self, f: &mut Formatter<W>) -> fmt::Result
-        ensures writes { DisplaysOnOk W.write_str_gives f.old result
-            (shown T.num (tree_shape (multi_line_string self.now))) f.new }
-        ensures styled { DisplaysStyledOnOk W.write_str_gives f.old result
-            (shown T.num (tree_shape (multi_line_string self.now))) f.new }
-        ensures refused { IsUnwritable (tree_shape (multi_line_string self.now)) → IsErr result }
-        ensures untouched { IsUnwritable (tree_shape (multi_line_string self.now)) → f.new ≡ f.old }
+        ensures { Shows W.write_str_gives T.num (tree_shape (multi_line_string self.now)) f.old result f.new }
     {
         show_geometry(self, f)
     }
@@ -137,12 +107,7 @@ impl<T: WktNum> fmt::Display for MultiPolygon<T> {
     /// The text, under any width, fill or precision. Where it can't be written: `fmt::Error`, and
     /// nothing is written.
     fn fmt<W: fmt::Write>(&self, f: &mut Formatter<W>) -> fmt::Result
-        ensures writes { DisplaysOnOk W.write_str_gives f.old result
-            (shown T.num (tree_shape (multi_polygon self.now))) f.new }
-        ensures styled { DisplaysStyledOnOk W.write_str_gives f.old result
-            (shown T.num (tree_shape (multi_polygon self.now))) f.new }
-        ensures refused { IsUnwritable (tree_shape (multi_polygon self.now)) → IsErr result }
-        ensures untouched { IsUnwritable (tree_shape (multi_polygon self.now)) → f.new ≡ f.old }
+        ensures { Shows W.write_str_gives T.num (tree_shape (multi_polygon self.now)) f.old result f.new }
     {
         show_geometry(self, f)
     }
@@ -156,12 +121,7 @@ impl<T: WktNum> fmt::Display for GeometryCollection<T> {
     /// The text, under any width, fill or precision. Where it can't be written: `fmt::Error`, and
     /// nothing is written.
     fn fmt<W: fmt::Write>(&self, f: &mut Formatter<W>) -> fmt::Result
-        ensures writes { DisplaysOnOk W.write_str_gives f.old result
-            (shown T.num (tree_shape (collection_tree self.now))) f.new }
-        ensures styled { DisplaysStyledOnOk W.write_str_gives f.old result
-            (shown T.num (tree_shape (collection_tree self.now))) f.new }
-        ensures refused { IsUnwritable (tree_shape (collection_tree self.now)) → IsErr result }
-        ensures untouched { IsUnwritable (tree_shape (collection_tree self.now)) → f.new ≡ f.old }
+        ensures { Shows W.write_str_gives T.num (tree_shape (collection_tree self.now)) f.old result f.new }
     {
         show_collection(self, f)
     }

@@ -1,8 +1,6 @@
 //! Display of geometries: as text, whatever width, fill or precision is asked for.
-ghost use Rattle.std.specs.Prelude.{◌≡◌, IsErr};
-ghost use Rattle.std.specs.Fmt.{DisplaysOnOk, DisplaysStyledOnOk};
 ghost use Rattle.wkt_access.specs.Parts.{collection_of};
-ghost use Rattle.wkt_types.specs.Shown.{shown, IsUnwritable};
+ghost use Rattle.wkt_types.specs.Shown.{Shows};
 
 use std::fmt;
 use std::fmt::Formatter;
@@ -15,10 +13,7 @@ pub(crate) fn show_geometry<W: fmt::Write, G: GeometryTrait>(
     g: &G,
     f: &mut Formatter<W>,
 ) -> fmt::Result
-    ensures writes { DisplaysOnOk W.write_str_gives f.old result (shown G.T.num (G.shape g.now)) f.new }
-    ensures styled { DisplaysStyledOnOk W.write_str_gives f.old result (shown G.T.num (G.shape g.now)) f.new }
-    ensures refused { IsUnwritable (G.shape g.now) → IsErr result }
-    ensures untouched { IsUnwritable (G.shape g.now) → f.new ≡ f.old }
+    ensures { Shows W.write_str_gives G.T.num (G.shape g.now) f.old result f.new }
 {
     let mut sink = FormatterText::new(f);
     let result = write_geometry(&mut sink, g);
@@ -35,12 +30,8 @@ pub(crate) fn show_collection<W: fmt::Write, C: GeometryCollectionTrait>(
     c: &C,
     f: &mut Formatter<W>,
 ) -> fmt::Result
-    ensures writes { DisplaysOnOk W.write_str_gives f.old result
-        (shown C.T.num (collection_of (C.dimension c.now) (C.geometries c.now))) f.new }
-    ensures styled { DisplaysStyledOnOk W.write_str_gives f.old result
-        (shown C.T.num (collection_of (C.dimension c.now) (C.geometries c.now))) f.new }
-    ensures refused { IsUnwritable (collection_of (C.dimension c.now) (C.geometries c.now)) → IsErr result }
-    ensures untouched { IsUnwritable (collection_of (C.dimension c.now) (C.geometries c.now)) → f.new ≡ f.old }
+    ensures { Shows W.write_str_gives C.T.num (collection_of (C.dimension c.now) (C.geometries c.now))
+        f.old result f.new }
 {
     let mut sink = FormatterText::new(f);
     let result = write_geometry_collection(&mut sink, c);
