@@ -1,5 +1,6 @@
 -- One geometry more after those that were read.
-use Rattle.std.proofs.Common.{◌≡◌, ℕ, List, [], ◌∷◌, ◌++◌, drop, Option, Err, refl, sym, subst}
+use Rattle.std.proofs.Common.{◌≡◌, ℕ, List, [], ◌∷◌, ◌++◌, drop, Option, Some, None, is_some, false, Err, refl, sym, subst}
+use Rattle.std.specs.Prelude.{IfNone}
 use Rattle.wkt.specs.Bytes.{Lexeme}
 use Rattle.wkt.specs.Tree.{Tree}
 use Rattle.wkt.specs.Answered.{IsFrontTo, IsReadOff, OnText}
@@ -7,6 +8,11 @@ use Rattle.wkt.specs.Begun.{NoneBegins}
 use Rattle.wkt.specs.ReadError.{ReadError}
 use Rattle.wkt.specs.ReadError.TheVariants.{Text, Memory}
 use Rattle.wkt_uses.specs.Ordered.{BeginsWith, StreamBeginsWith, StreamStops}
+
+-- what is claimed where there is none, and there is none
+pub none_there : {A P : Type 0} (o : Option A) → is_some o ≡ false → IfNone o P → P
+none_there None e h = h
+none_there (Some x) e h = cc
 
 module _ {T : Type 0} (read : List ℕ → Option T) where
   pub begins_more : (text : List ℕ) (ts : List (Tree T)) (rest : List ℕ) (t : Tree T) (end : ℕ)

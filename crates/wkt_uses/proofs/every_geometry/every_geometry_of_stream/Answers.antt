@@ -2,7 +2,7 @@ use Rattle.std.proofs.Common.{[], ◌∷◌, sym, ◌∙◌}
 use Rattle.std.proofs.lemmas.List.{map-append}
 use Rattle.std.proofs.lemmas.Result.{err_from_is_err_and}
 use Rattle.wkt.specs.Tree.{tree}
-use Rattle.wkt_uses.proofs.Ordering.{stream_more, stream_stops}
+use Rattle.wkt_uses.proofs.Ordering.{none_there, stream_more, stream_stops}
 use Rattle.wkt_uses.proofs.every_geometry.every_geometry_of_stream.Goals as goal
 
 pub tokens-smaller : goal.tokens-smaller
@@ -21,5 +21,5 @@ returns-in_err-geometry-clause-stops g c =
 
 pub returns-clause-all : goal.returns-clause-all
 returns-clause-all g c =
-    let none = if_none c.peek.result (sym c.is_some.ensures ∙ c.tokens-test.false) c.peek.ensures.none in
+    let none = none_there c.peek.result (sym c.is_some.ensures ∙ c.tokens-test.false) c.peek.ensures.none in
     rw none at c.tokens.invariant
