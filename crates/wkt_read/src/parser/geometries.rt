@@ -1,5 +1,5 @@
 //! Readers of geometries with their headers.
-ghost use Rattle.std.specs.Prelude.{◌≡◌, ◌≢◌, ◌≤◌, ◌<◌, length, map, option_map, OnOk, IfOk};
+ghost use Rattle.std.specs.Prelude.{◌≡◌, ◌≤◌, ◌<◌, length, map, option_map, OnOk, IfOk};
 ghost use Rattle.std.specs.List.{AllByRecursion};
 ghost use Rattle.wkt_access.specs.Values.{Value};
 ghost use Rattle.wkt_types.specs.Coords.{numbers_of};
@@ -240,34 +240,6 @@ fn read_multi_polygon<T: WktNum>(
     Ok(polygons_of(polygons, dim))
 }
 
-// What stands after the header of a geometry that is no collection. It is a part of its callers, which have
-// the geometry from its own reader, with no move between.
-#[inline(always)]
-fn simple<T: WktNum>(
-    alloc: Global,
-    tokens: &mut PeekableTokens<'_, T>,
-    kind: GeometryType,
-    dim: Dimension,
-) -> Result<Wkt<T>, ReadError>
-    requires { kind ≢ GeometryType.GeometryCollection }
-    ensures exact { ReadsBody T.read kind dim tokens.old result tokens.new }
-    ensures uniform { IfOk result UniformWkt }
-    ensures memory { OnMemory result ((kind ≢ GeometryType.Point) × IsOpened (rest tokens.old)) }
-    ensures near { OnOk result (IsNear tokens.new) }
-    ensures bad { BlamesIn T.read tokens.old result }
-    ensures goes_on { GoesOn tokens.old tokens.new }
-{
-    match kind {
-        GeometryType::Point => read_point(tokens, dim),
-        GeometryType::LineString => read_line_string(alloc, tokens, dim),
-        GeometryType::Polygon => read_polygon(alloc, tokens, dim),
-        GeometryType::MultiPoint => read_multi_point(alloc, tokens, dim),
-        GeometryType::MultiLineString => read_multi_line_string(alloc, tokens, dim),
-        GeometryType::MultiPolygon => read_multi_polygon(alloc, tokens, dim),
-        GeometryType::GeometryCollection => unreachable!(),
-    }
-}
-
 // An open collection: the members read so far, and its dimension.
 #[derive(Drop)]
 struct Frame<T> {
@@ -319,11 +291,15 @@ fn begin<T: WktNum>(
 {
     let (kind, dim) = header(tokens, inside)?;
     match kind {
-        GeometryType::GeometryCollection => begin_collection(alloc, tokens, dim),
-        _ => {
-            let geometry = simple(alloc, tokens, kind, dim)?;
-            Ok(Start::Whole(geometry))
+        GeometryType::Point => Ok(Start::Whole(read_point(tokens, dim)?)),
+        GeometryType::LineString => Ok(Start::Whole(read_line_string(alloc, tokens, dim)?)),
+        GeometryType::Polygon => Ok(Start::Whole(read_polygon(alloc, tokens, dim)?)),
+        GeometryType::MultiPoint => Ok(Start::Whole(read_multi_point(alloc, tokens, dim)?)),
+        GeometryType::MultiLineString => {
+            Ok(Start::Whole(read_multi_line_string(alloc, tokens, dim)?))
         }
+        GeometryType::MultiPolygon => Ok(Start::Whole(read_multi_polygon(alloc, tokens, dim)?)),
+        GeometryType::GeometryCollection => begin_collection(alloc, tokens, dim),
     }
 }
 
@@ -407,7 +383,12 @@ pub(crate) fn value<T: WktNum>(
 {
     let (kind, dim) = header(tokens, inside)?;
     match kind {
+        GeometryType::Point => read_point(tokens, dim),
+        GeometryType::LineString => read_line_string(alloc, tokens, dim),
+        GeometryType::Polygon => read_polygon(alloc, tokens, dim),
+        GeometryType::MultiPoint => read_multi_point(alloc, tokens, dim),
+        GeometryType::MultiLineString => read_multi_line_string(alloc, tokens, dim),
+        GeometryType::MultiPolygon => read_multi_polygon(alloc, tokens, dim),
         GeometryType::GeometryCollection => read_collection(alloc, tokens, dim),
-        _ => simple(alloc, tokens, kind, dim),
     }
 }
