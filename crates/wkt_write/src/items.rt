@@ -1,6 +1,7 @@
 //! Lists of what stands between commas in one geometry: checked, and written, by one loop each.
 //!
-//! `k` is how many numbers of each coordinate are written.
+//! `k` is how many numbers of each coordinate are written. What goes over a whole geometry is a part of its callers,
+//! one a kind: a call more would cost each short geometry.
 #![tactic(auto, using(crate::proofs::Firsts::none_at))]
 
 ghost use Rattle.std.specs.Prelude.{◌≡◌, ◌<◌, ℕ, List, length, map, codes, slice_get, Option, None, IfSome};
@@ -75,6 +76,7 @@ pub(crate) fn check_items<X: Items>(items: &X, k: usize) -> Result<(), Error>
 }
 
 /// The first fault of a geometry of these items, whose header says `dim`.
+#[inline(always)]
 pub(crate) fn check_listed<X: Items>(dim: Dimensions, items: &X) -> Result<(), Error>
     ensures { Checks result (under (printed dim) (λ k. first_fault (X.fault_of k) (X.items items.now)))
         (AllByRecursion (X.KnownOf (size (dimension dim))) (X.items items.now)) }
@@ -119,6 +121,7 @@ pub(crate) fn put_body<W: TextSink, X: Items>(f: &mut W, items: &X, k: usize) ->
 }
 
 /// Writes a geometry of these items: its kind word, its dimension, and its body.
+#[inline(always)]
 pub(crate) fn put_listed<W: TextSink, X: Items>(
     f: &mut W,
     word: &str,
