@@ -4,6 +4,7 @@ ghost use Rattle.wkt_read.specs.Lexemes.{lexeme_of};
 ghost use Rattle.wkt_read.specs.Items.{IsItem};
 ghost use Rattle.wkt_read.specs.Tokenizer.Unread.{found, IsNumberIn};
 
+use crate::messages::{Message, text};
 use crate::tokenizer::class::starts_number;
 use wkt_num::WktNum;
 
@@ -68,7 +69,7 @@ pub(crate) fn item_of<'a, T: WktNum>(
         Lexeme::Word(word) => Token::Word(word),
         Lexeme::Number(digits) => match T::read_number(digits) {
             Some(number) => Token::Number(number),
-            None => return Some(Err("Unable to parse input number as the desired output type")),
+            None => return Some(Err(text(Message::BadNumber))),
         },
     }))
 }
