@@ -63,7 +63,7 @@ pub trait PointTrait {
             (λ c. coordinate self.now ≡ Some (Self.CoordType.numbers c.now)) };
 }
 
-/// A line string: a path through coordinates, or a ring of a polygon.
+/// A line string: a sequence of coordinates, or a ring of a polygon.
 pub trait LineStringTrait {
     /// The type of its numbers.
     type T: WktNum;
@@ -220,10 +220,10 @@ pub trait RectTrait {
     ghost dimension: { Self → Dimensions };
 
     /// The numbers of the corner with the least x and y.
-    ghost least_corner: { Self → List Self.T };
+    ghost min_corner: { Self → List Self.T };
 
     /// The numbers of the corner with the greatest x and y.
-    ghost greatest_corner: { Self → List Self.T };
+    ghost max_corner: { Self → List Self.T };
 
     /// The dimension of its header. One of x and y alone can be written.
     fn dim(&self) -> Dimensions
@@ -231,11 +231,11 @@ pub trait RectTrait {
 
     /// The corner with the least x and y.
     fn min(&self) -> &Self::CoordType
-        ensures { Self.CoordType.numbers result.now ≡ least_corner self.now };
+        ensures { Self.CoordType.numbers result.now ≡ min_corner self.now };
 
     /// The corner with the greatest x and y.
     fn max(&self) -> &Self::CoordType
-        ensures { Self.CoordType.numbers result.now ≡ greatest_corner self.now };
+        ensures { Self.CoordType.numbers result.now ≡ max_corner self.now };
 }
 
 /// A line between two coordinates. It is written as a line string.
@@ -403,7 +403,7 @@ pub trait GeometryTrait {
         ensures multi_polygon { IfMultiPolygon result (λ p. shape self.now
             ≡ Shape.multi_polygon (Self.MultiPolygonType.dimension p) (Self.MultiPolygonType.polygons p)) }
         ensures rect { IfRect result (λ p. shape self.now
-            ≡ Shape.rect (Self.RectType.dimension p) (Self.RectType.least_corner p) (Self.RectType.greatest_corner p)) }
+            ≡ Shape.rect (Self.RectType.dimension p) (Self.RectType.min_corner p) (Self.RectType.max_corner p)) }
         ensures triangle { IfTriangle result (λ p. shape self.now
             ≡ Shape.triangle (Self.TriangleType.dimension p) (Self.TriangleType.first_corner p)
             (Self.TriangleType.second_corner p) (Self.TriangleType.third_corner p)) }

@@ -1,5 +1,5 @@
 -- A piece copied by its first bytes and its last ones.
-use Rattle.std.proofs.Common.{◌≡◌, ℕ, ◌+◌, ◌-◌, ◌*◌, ◌≤◌, List, ◌++◌, take, drop, length, refl, ap, sym, ◌∙◌, arith}
+use Rattle.std.proofs.Common.{◌≡◌, ℕ, ◌-◌, ◌*◌, ◌≤◌, List, ◌++◌, take, drop, length, ap, sym, ◌∙◌, arith}
 use Rattle.std.proofs.lemmas.List.{length-drop, take_all, take-append-drop, take-take}
 use Rattle.std.proofs.lemmas.Simd.{length-chunk, take_more_put_chunk, length-put_chunk}
 use lib.Lanes.{chunk, put_chunk}

@@ -3,9 +3,10 @@ use Rattle.std.specs.Prelude.{◌≡◌, ℕ, List, [], ◌++◌, Option, Bool, 
 use Rattle.std.specs.Io.KnownBytes.{Appends}
 use Rattle.std.proofs.Common.{sym, ◌∙◌, ap, subst, append_assoc}
 use Rattle.std.proofs.lemmas.List.{append-nil}
+use Rattle.std.specs.declared.io.Error.{Error}
 use Rattle.wkt_num.specs.Sink.{next_count, Sink}
 use Rattle.wkt_bytes.specs.Sinks.{SinkOfBytes}
-use Rattle.wkt_bytes.specs.Wrapper.{state_well, state_untold, appends_none, appends_more, wholes}
+use Rattle.wkt_bytes.specs.Wrapper.{state_well, state_untold, state_error, appends_none, appends_more, wholes}
 use Rattle.wkt_bytes.specs.declared.gatherer.Gatherer.{Gatherer}
 
 -- The writer.
@@ -27,6 +28,10 @@ is_sound g = state_well g.state
 -- A fault has come, and was not asked for.
 abbrev pub is_unasked : {W : Type 0} → Gatherer W → Bool
 is_unasked g = state_untold g.state
+
+-- The error that has come, if it was not asked for.
+abbrev pub unasked_error : {W : Type 0} → Gatherer W → Option Error
+unasked_error g = state_error g.state
 
 module _ {W : Type 0} (sink : SinkOfBytes W) where
   -- What s held and was handed is what went out followed by what t holds.

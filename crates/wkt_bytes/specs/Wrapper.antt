@@ -3,6 +3,7 @@ use Rattle.std.specs.Prelude.{◌≡◌, ℕ, List, [], ◌++◌, Option, Some, 
 use Rattle.std.specs.Io.KnownBytes.{Appends}
 use Rattle.std.proofs.Common.{sym, ◌∙◌, ap, subst, append_assoc}
 use Rattle.std.proofs.lemmas.List.{append-nil}
+use Rattle.std.specs.declared.io.Error.{Error}
 use Rattle.wkt_num.specs.Sink.{next_count, Sink}
 use Rattle.wkt_bytes.specs.Sinks.{SinkOfBytes, BeginningOut}
 use Rattle.wkt_bytes.specs.declared.wrapper.State.{State}
@@ -20,6 +21,12 @@ abbrev pub state_untold : State → Bool
 state_untold Well = false
 state_untold (Faulty e) = true
 state_untold Told = false
+
+-- The error that has come, if it was not asked for.
+abbrev pub state_error : State → Option Error
+state_error Well = None
+state_error (Faulty e) = Some e
+state_error Told = None
 
 -- The writer.
 abbrev pub wrapped_writer : {W : Type 0} → WriterWrapper W → W
@@ -40,6 +47,10 @@ is_well w = state_well w.state
 -- A fault has come, and was not asked for.
 abbrev pub is_untold : {W : Type 0} → WriterWrapper W → Bool
 is_untold w = state_untold w.state
+
+-- The error that has come, if it was not asked for.
+abbrev pub untold_error : {W : Type 0} → WriterWrapper W → Option Error
+untold_error w = state_error w.state
 
 pub not_well : (s : State) → (s ≡ Well → ⊥) → state_well s ≡ false
 not_well Well h = absurd (h refl)

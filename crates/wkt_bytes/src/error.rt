@@ -1,6 +1,6 @@
 //! The error that a wrapper met.
-ghost use Rattle.std.specs.Prelude.{◌≡◌, true};
-ghost use Rattle.wkt_bytes.specs.Wrapper.{is_untold, wrapped_writer};
+ghost use Rattle.std.specs.Prelude.{◌≡◌, Some, true, false};
+ghost use Rattle.wkt_bytes.specs.Wrapper.{is_untold, untold_error, wrapped_writer, held_bytes, is_well, failed_calls};
 
 use crate::sinks::ByteSink;
 use crate::wrapper::WriterWrapper;
@@ -9,7 +9,12 @@ use std::io;
 /// The error that a wrapper met, of which nobody was told yet.
 pub fn error_of<W: ByteSink>(wrapper: &mut WriterWrapper<W>) -> io::Error
     requires { is_untold wrapper.old ≡ true }
-    ensures { wrapped_writer wrapper.new ≡ wrapped_writer wrapper.old }
+    ensures gives { Some result ≡ untold_error wrapper.old }
+    ensures told { is_untold wrapper.new ≡ false }
+    ensures well { is_well wrapper.new ≡ is_well wrapper.old }
+    ensures writer { wrapped_writer wrapper.new ≡ wrapped_writer wrapper.old }
+    ensures held { held_bytes wrapper.new ≡ held_bytes wrapper.old }
+    ensures count { failed_calls wrapper.new ≡ failed_calls wrapper.old }
 {
     match wrapper.take_error() {
         Some(e) => e,

@@ -1,5 +1,5 @@
 //! Text to a byte sink, gathered until there is much of it.
-ghost use Rattle.std.specs.Prelude.{◌≡◌, ℕ, ◌≤◌, ◌<◌, ◌+◌, [], ◌++◌, OnOk, OnErr, IsSome, ◌↔◌, length, true, false};
+ghost use Rattle.std.specs.Prelude.{◌≡◌, ℕ, ◌≤◌, ◌<◌, ◌+◌, [], ◌++◌, OnOk, OnErr, length, true, false};
 ghost use Rattle.wkt_num.specs.Sink.{Puts};
 
 use crate::sinks::ByteSink;
@@ -25,7 +25,7 @@ pub struct Gatherer<W> {
 }
 
 impl<W: ByteSink> Gatherer<W> {
-    ghost use Rattle.wkt_bytes.specs.Gatherer.{gathered_bytes, gatherer_failures, is_sound, is_unasked, gathering_writer, Collects, CutsOff};
+    ghost use Rattle.wkt_bytes.specs.Gatherer.{gathered_bytes, gatherer_failures, is_sound, is_unasked, unasked_error, gathering_writer, Collects, CutsOff};
 
     /// A gatherer for this writer, which holds nothing yet.
     pub fn new(writer: W) -> Gatherer<W>
@@ -178,7 +178,7 @@ impl<W: ByteSink> Gatherer<W> {
 
     /// The error that came, the first time that it is asked for; else None.
     pub fn take_error(&mut self) -> Option<io::Error>
-        ensures there { IsSome result ↔ (is_unasked self.old ≡ true) }
+        ensures gives { result ≡ unasked_error self.old }
         ensures told { is_unasked self.new ≡ false }
         ensures sound { is_sound self.new ≡ is_sound self.old }
         ensures writer { gathering_writer self.new ≡ gathering_writer self.old }

@@ -1,5 +1,5 @@
 //! Text to a byte sink, gathered in an array.
-ghost use Rattle.std.specs.Prelude.{◌≡◌, ℕ, ◌≤◌, ◌<◌, ◌+◌, ◌*◌, [], ◌++◌, OnOk, OnErr, Ok, IsSome, ◌↔◌, length, take, true, false};
+ghost use Rattle.std.specs.Prelude.{◌≡◌, ℕ, ◌≤◌, ◌<◌, ◌+◌, ◌*◌, [], ◌++◌, OnOk, OnErr, Ok, length, take, true, false};
 ghost use Rattle.std.specs.Io.KnownBytes.{Appends};
 ghost use Rattle.wkt_num.specs.Sink.{next_count, Puts};
 
@@ -94,7 +94,7 @@ fn copy_ends<const N: usize>(from: &[u8], to: &mut [u8])
 }
 
 impl<W: ByteSink> WriterWrapper<W> {
-    ghost use Rattle.wkt_bytes.specs.Wrapper.{held_bytes, failed_calls, is_well, is_untold, wrapped_writer, Gathers, BreaksOff};
+    ghost use Rattle.wkt_bytes.specs.Wrapper.{held_bytes, failed_calls, is_well, is_untold, untold_error, wrapped_writer, Gathers, BreaksOff};
 
     /// A wrapper of this writer, which holds nothing yet.
     pub fn new(writer: W) -> WriterWrapper<W>
@@ -245,7 +245,7 @@ impl<W: ByteSink> WriterWrapper<W> {
 
     /// The error that came, the first time that it is asked for; else None.
     pub fn take_error(&mut self) -> Option<io::Error>
-        ensures there { IsSome result ↔ (is_untold self.old ≡ true) }
+        ensures gives { result ≡ untold_error self.old }
         ensures told { is_untold self.new ≡ false }
         ensures well { is_well self.new ≡ is_well self.old }
         ensures writer { wrapped_writer self.new ≡ wrapped_writer self.old }

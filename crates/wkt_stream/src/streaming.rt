@@ -1,8 +1,8 @@
 //! Answers each line of an input that is read block by block.
-ghost use Rattle.std.specs.Prelude.{◌≡◌, ℕ, List, [], IfSome, OnOk, true};
+ghost use Rattle.std.specs.Prelude.{◌≡◌, ℕ, List, [], IfSome, OnOk, Some, true};
 ghost use Rattle.std.specs.Io.KnownBytes.{IsAtEnd};
 ghost use Rattle.wkt_num.specs.Sink.{next_count};
-ghost use Rattle.wkt_bytes.specs.Gatherer.{gathering_writer, gathered_bytes, is_sound, is_unasked};
+ghost use Rattle.wkt_bytes.specs.Gatherer.{gathering_writer, gathered_bytes, is_sound, is_unasked, unasked_error};
 ghost use Rattle.wkt_lines.specs.Numbers.{read_line, print_line};
 ghost use Rattle.wkt_lines.specs.Output.{IsAnswer, IsAllOut, IsFirstOut, IsSomeOut, OnRunRead, OnRunWrite, OnRunMemory};
 ghost use Rattle.wkt_lines.specs.Answer.{OnSink, OnAnswerMemory};
@@ -267,7 +267,8 @@ fn answer_block<A: BlockReply, W: ByteSink>(
 /// The error that a gatherer met.
 fn error_of<W: ByteSink>(gatherer: &mut Gatherer<W>) -> io::Error
     requires { is_unasked gatherer.old ≡ true }
-    ensures { gathering_writer gatherer.new ≡ gathering_writer gatherer.old }
+    ensures gives { Some result ≡ unasked_error gatherer.old }
+    ensures writer { gathering_writer gatherer.new ≡ gathering_writer gatherer.old }
 {
     match gatherer.take_error() {
         Some(e) => e,

@@ -85,9 +85,9 @@ impl RectTrait for Corners {
 
     ghost dimension = { λ r. r.header };
 
-    ghost least_corner = { λ r. r.one.numbers.items };
+    ghost min_corner = { λ r. r.one.numbers.items };
 
-    ghost greatest_corner = { λ r. r.two.numbers.items };
+    ghost max_corner = { λ r. r.two.numbers.items };
 
     fn dim(&self) -> Dimensions {
         self.header

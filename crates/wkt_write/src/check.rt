@@ -178,7 +178,7 @@ fn know_rect_corner<C: CoordTrait>(c: &C)
 #[inline(never)]
 pub(crate) fn check_rect<R: RectTrait>(r: &R) -> Result<(), Error>
     ensures { ChecksShape R.T.is_value result
-        (Shape.rect (R.dimension r.now) (R.least_corner r.now) (R.greatest_corner r.now)) }
+        (Shape.rect (R.dimension r.now) (R.min_corner r.now) (R.max_corner r.now)) }
 {
     know_rect_corner(r.min());
     know_rect_corner(r.max());

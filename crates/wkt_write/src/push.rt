@@ -170,16 +170,16 @@ pub fn push_geometry_collection<C: GeometryCollectionTrait>(
 /// As of [`write_rect`], and what the string holds then as of [`push_point`].
 pub fn push_rect<R: RectTrait>(out: &mut String, g: &R) -> Result<(), Error>
     ensures added { OnOk result (string_bytes out.new ≡ string_bytes out.old ++
-        shape_text R.T.num (Shape.rect (R.dimension g.now) (R.least_corner g.now) (R.greatest_corner g.now))) }
+        shape_text R.T.num (Shape.rect (R.dimension g.now) (R.min_corner g.now) (R.max_corner g.now))) }
     ensures sound { OnOk result
-        (fault (Shape.rect (R.dimension g.now) (R.least_corner g.now) (R.greatest_corner g.now)) ≡ None) }
+        (fault (Shape.rect (R.dimension g.now) (R.min_corner g.now) (R.max_corner g.now)) ≡ None) }
     ensures lawful { OnOk result
-        (IsLawful R.T.is_value (Shape.rect (R.dimension g.now) (R.least_corner g.now) (R.greatest_corner g.now))) }
+        (IsLawful R.T.is_value (Shape.rect (R.dimension g.now) (R.min_corner g.now) (R.max_corner g.now))) }
     ensures fault { IfFault result
-        (λ e. fault (Shape.rect (R.dimension g.now) (R.least_corner g.now) (R.greatest_corner g.now)) ≡ Some e) }
+        (λ e. fault (Shape.rect (R.dimension g.now) (R.min_corner g.now) (R.max_corner g.now)) ≡ Some e) }
     ensures untouched { IfFault result (λ e. string_bytes out.new ≡ string_bytes out.old) }
     ensures memory { OnFmtError result
-        (fault (Shape.rect (R.dimension g.now) (R.least_corner g.now) (R.greatest_corner g.now)) ≡ None) }
+        (fault (Shape.rect (R.dimension g.now) (R.min_corner g.now) (R.max_corner g.now)) ≡ None) }
 {
     let mut sink = CountedText::new(out);
     let result = write_rect(&mut sink, g);

@@ -86,7 +86,7 @@ pub(crate) fn put_multi_polygon<W: TextSink, M: MultiPolygonTrait>(f: &mut W, m:
 #[inline(never)]
 pub(crate) fn put_rect<W: TextSink, R: RectTrait>(f: &mut W, r: &R) -> fmt::Result
     ensures { Puts W.sink f.old
-        (shape_text R.T.num (Shape.rect (R.dimension r.now) (R.least_corner r.now) (R.greatest_corner r.now)))
+        (shape_text R.T.num (Shape.rect (R.dimension r.now) (R.min_corner r.now) (R.max_corner r.now)))
         f.new result }
 {
     let min = r.min();

@@ -186,7 +186,7 @@ pub fn write_geometry_collection<W: TextSink, C: GeometryCollectionTrait>(
 /// `Unknown(2)`; nothing is written then. [`Error::FmtError`] as in [`write_point`].
 pub fn write_rect<W: TextSink, R: RectTrait>(f: &mut W, g: &R) -> Result<(), Error>
     ensures { Writes W.sink R.T.is_value R.T.num f.old
-        (Shape.rect (R.dimension g.now) (R.least_corner g.now) (R.greatest_corner g.now)) f.new result }
+        (Shape.rect (R.dimension g.now) (R.min_corner g.now) (R.max_corner g.now)) f.new result }
 {
     check_rect(g)?;
     put_rect(f, g)?;

@@ -11,17 +11,17 @@ error_of-requires-in-Err-FmtError g c =
 pub returns-in-Err-FmtError-clause-io : goal.returns-in-Err-FmtError-clause-io
 returns-in-Err-FmtError-clause-io g c =
     let b = rw c.in-Err-FmtError.field-0-is at c.in-Err-FmtError.ensures in
-    rw c.error_of-in-Err-FmtError.ensures (some_sent g.W.ByteSink.sink _ _ _ b.broken.left c.requires.held)
+    rw c.error_of-in-Err-FmtError.ensures.writer (some_sent g.W.ByteSink.sink _ _ _ b.broken.left c.requires.held)
 
 pub returns-in-Err-FmtError-clause-io_count : goal.returns-in-Err-FmtError-clause-io_count
 returns-in-Err-FmtError-clause-io_count g c =
     let b = rw c.in-Err-FmtError.field-0-is at c.in-Err-FmtError.ensures in
-    rw c.error_of-in-Err-FmtError.ensures (b.broken.left.count c.requires.well)
+    rw c.error_of-in-Err-FmtError.ensures.writer (b.broken.left.count c.requires.well)
 
 pub returns-in-Err-FmtError-clause-keeps : goal.returns-in-Err-FmtError-clause-keeps
 returns-in-Err-FmtError-clause-keeps g c =
     let b = rw c.in-Err-FmtError.field-0-is at c.in-Err-FmtError.ensures in
-    rw c.error_of-in-Err-FmtError.ensures b.broken.left.tied
+    rw c.error_of-in-Err-FmtError.ensures.writer b.broken.left.tied
 
 pub returns-in-Ok-finish-clause-ok : goal.returns-in-Ok-finish-clause-ok
 returns-in-Ok-finish-clause-ok g c =
@@ -37,13 +37,13 @@ error_of-requires g c =
 
 pub returns-in-Err-finish-clause-io : goal.returns-in-Err-finish-clause-io
 returns-in-Err-finish-clause-io g c =
-    rw c.error_of.ensures (some_sent_late g.W.ByteSink.sink _ _ _ _ c.in-Ok.ensures.added.given c.in-Err-finish.ensures.err c.requires.held)
+    rw c.error_of.ensures.writer (some_sent_late g.W.ByteSink.sink _ _ _ _ c.in-Ok.ensures.added.given c.in-Err-finish.ensures.err c.requires.held)
 
 pub returns-in-Err-finish-clause-io_count : goal.returns-in-Err-finish-clause-io_count
 returns-in-Err-finish-clause-io_count g c =
     let h = c.in-Ok.ensures.added.given in
-    rw c.error_of.ensures (c.in-Err-finish.ensures.err.count (h.same ∙ c.requires.well) ∙ ap next_count h.count)
+    rw c.error_of.ensures.writer (c.in-Err-finish.ensures.err.count (h.same ∙ c.requires.well) ∙ ap next_count h.count)
 
 pub returns-in-Err-finish-clause-keeps : goal.returns-in-Err-finish-clause-keeps
 returns-in-Err-finish-clause-keeps g c =
-    rw c.error_of.ensures (g.W.ByteSink.sink.keeps_more _ _ _ c.in-Ok.ensures.added.given.tied c.in-Err-finish.ensures.err.tied)
+    rw c.error_of.ensures.writer (g.W.ByteSink.sink.keeps_more _ _ _ c.in-Ok.ensures.added.given.tied c.in-Err-finish.ensures.err.tied)
