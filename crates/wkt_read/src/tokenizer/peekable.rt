@@ -2,11 +2,9 @@
 ghost use Rattle.std.specs.Prelude.{◌≡◌, ◌+◌, ◌≤◌, ℕ, [], ◌∷◌, Some, None, OnSome, IfNone};
 ghost use Rattle.std.specs.Bool.{MatchBool, OnFalse};
 ghost use Rattle.wkt_num.specs.Bytes.{Lexeme, Comma};
-ghost use Rattle.wkt_read.specs.Tokenizer.Cursors.{taken_in};
-ghost use Rattle.wkt_read.specs.Tokenizer.Unread.{found};
+ghost use Rattle.wkt_read.specs.Tokenizer.{taken_in, found};
 
-use crate::tokenizer::token::{Lexeme, Token, item_of};
-use crate::tokenizer::tokens::Tokens;
+use crate::tokenizer::{Lexeme, Token, Tokens, item_of};
 use wkt_num::WktNum;
 
 /// The lexemes of a text, one after the other, of which one may be looked at ahead.
