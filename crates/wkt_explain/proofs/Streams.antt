@@ -4,8 +4,8 @@ use Rattle.std.specs.Borrow.{Bor}
 use Rattle.wkt_read.specs.Items.{Says}
 use Rattle.wkt_read.specs.Placed.{Placed}
 use Rattle.wkt_read.specs.Stream.{coming, end_of_last, Gives}
-use Rattle.wkt_read.specs.declared.tokenizer.Token.{Token}
-use Rattle.wkt_read.specs.declared.tokenizer.Tokens.{Tokens}
+use Rattle.wkt_read.specs.declared.tokenizer.tokens.Token.{Token}
+use Rattle.wkt_read.specs.declared.tokenizer.tokens.Tokens.{Tokens}
 
 module _ {T : Type 0} (read : List ℕ → Option T) (s t : Tokens T) where
   pub gives_some : (item : Result (Token T) (Bor (List ℕ))) → Gives read s (Some item) t → (x : Placed) × (coming s ≡ x ∷ coming t) × (end_of_last t ≡ x.end) × Says read item x.lexeme

@@ -5,10 +5,11 @@ use Rattle.std.specs.Borrow.{Bor}
 use Rattle.wkt_num.specs.Bytes.{Lexeme}
 use Rattle.wkt_read.specs.Placed.{Placed, lexemes_of, end_after}
 use Rattle.wkt_read.specs.Items.{IsItem}
-use Rattle.wkt_read.specs.Tokenizer.{taken_in, found}
+use Rattle.wkt_read.specs.Tokenizer.Cursors.{taken_in}
+use Rattle.wkt_read.specs.Tokenizer.Unread.{found}
 use Rattle.wkt_read.specs.Stream.{coming}
-use Rattle.wkt_read.specs.declared.tokenizer.Lexeme as code
-use Rattle.wkt_read.specs.declared.tokenizer.Token.{Token}
+use Rattle.wkt_read.specs.declared.tokenizer.tokens.Lexeme as code
+use Rattle.wkt_read.specs.declared.tokenizer.tokens.Token.{Token}
 use Rattle.wkt_read.specs.declared.tokenizer.peekable.PeekableTokens.{PeekableTokens}
 
 -- a lexeme that was looked at, before the later ones; after the text's end none stands

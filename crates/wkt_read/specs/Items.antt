@@ -3,8 +3,8 @@ use Rattle.std.specs.Prelude.{◌≡◌, ℕ, List, codes, Option, Some, None, R
 use Rattle.std.specs.Borrow.{Bor}
 use Rattle.wkt_num.specs.Bytes as lex
 use Rattle.wkt_num.specs.Bytes.{Lexeme}
-use Rattle.wkt_read.specs.declared.tokenizer.Token.{Token}
-use Rattle.wkt_read.specs.declared.tokenizer.Token.TheVariants.{Comma, Number, ParenClose, ParenOpen, Word}
+use Rattle.wkt_read.specs.declared.tokenizer.tokens.Token.{Token}
+use Rattle.wkt_read.specs.declared.tokenizer.tokens.Token.TheVariants.{Comma, Number, ParenClose, ParenOpen, Word}
 
 -- the message of a number run that the number type doesn't read
 abbrev pub bad_number : List ℕ

@@ -4,10 +4,11 @@ use Rattle.std.specs.Borrow.{Bor}
 use Rattle.std.specs.Iterator.{Count, at_most}
 use Rattle.wkt_num.specs.Bytes.{Lexeme}
 use Rattle.wkt_read.specs.Placed.{Placed}
-use Rattle.wkt_read.specs.Tokenizer.{meant, taken_in, coming_at}
+use Rattle.wkt_read.specs.Tokenizer.Scan.{meant, coming_at}
+use Rattle.wkt_read.specs.Tokenizer.Cursors.{taken_in}
 use Rattle.wkt_read.specs.Items.{IsItem}
-use Rattle.wkt_read.specs.declared.tokenizer.Token.{Token}
-use Rattle.wkt_read.specs.declared.tokenizer.Tokens.{Tokens}
+use Rattle.wkt_read.specs.declared.tokenizer.tokens.Token.{Token}
+use Rattle.wkt_read.specs.declared.tokenizer.tokens.Tokens.{Tokens}
 
 -- the lexemes that `next` has not given yet
 unfoldable pub coming : {T : Type 0} → Tokens T → List Placed

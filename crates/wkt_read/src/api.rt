@@ -14,8 +14,8 @@ ghost use Rattle.wkt_read.specs.Answered.{IsFront, IsFrontTo, Begins, IsReadOff,
 
 use crate::error::ReadError;
 use crate::parser::geometries::value;
-use crate::tokenizer::Tokens;
 use crate::tokenizer::peekable::PeekableTokens;
+use crate::tokenizer::tokens::Tokens;
 use std::alloc::Global;
 use wkt_num::WktNum;
 use wkt_types::Wkt;

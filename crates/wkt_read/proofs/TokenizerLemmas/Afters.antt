@@ -2,9 +2,9 @@
 use Rattle.std.proofs.Common.{◌≤◌, ◌≡◌, ℕ, length, arith, List, [], ◌∷◌, ◌++◌, sym, refl, ap, ◌∙◌, subst, append_assoc, Option, Some, None, Err, ◌≢◌}
 use Rattle.wkt_num.specs.Bytes.{Lexeme}
 use Rattle.wkt_read.specs.Placed.{Placed, lexemes_of}
-use Rattle.wkt_read.specs.declared.tokenizer.Lexeme as code
-use Rattle.wkt_read.specs.declared.tokenizer.Lexeme.TheVariants as lexeme
-use Rattle.wkt_read.specs.Tokenizer.{found}
+use Rattle.wkt_read.specs.declared.tokenizer.tokens.Lexeme as code
+use Rattle.wkt_read.specs.declared.tokenizer.tokens.Lexeme.TheVariants as lexeme
+use Rattle.wkt_read.specs.Tokenizer.Unread.{found}
 use Rattle.wkt_read.specs.Parser.Blames.{BlamesLexeme}
 use Rattle.wkt_read.specs.declared.messages.Message.{Message}
 use Rattle.wkt_read.specs.declared.messages.Message.TheVariants as message

@@ -2,8 +2,8 @@
 use Rattle.std.proofs.Common.{◌≡◌, ℕ, ◌-◌, ◌≤◌, ◌+◌, List, length, take, drop, ap, ◌∙◌, add-one, refl, arith}
 use Rattle.std.proofs.lemmas.List.{take_rest, length-drop}
 use Rattle.std.proofs.Math.Seq.{drop-cons}
-use Rattle.wkt_read.specs.Tokenizer.{taken_in}
-use Rattle.wkt_read.specs.declared.tokenizer.Cursor.{Cursor}
+use Rattle.wkt_read.specs.Tokenizer.Cursors.{taken_in}
+use Rattle.wkt_read.specs.declared.tokenizer.cursor.Cursor.{Cursor}
 
 -- what stands behind the first byte of a text's end is a text's end too
 pub behind : (text left : List ℕ) → 1 ≤ length left → length left ≤ length text → left ≡ drop (length text - length left) text

@@ -10,9 +10,9 @@ use Rattle.wkt_num.specs.Bytes.{Lexeme, Class, Nul, White, Mark, Run, class_of}
 use Rattle.wkt_num.specs.Bytes as lex
 use Rattle.wkt_read.specs.Lexemes.{lexeme_of}
 use Rattle.wkt_read.specs.Placed.{Placed, marks, front, after_run, joined, placed_from}
-use Rattle.wkt_read.specs.declared.tokenizer.Class as code
-use Rattle.wkt_read.specs.declared.tokenizer.Class.TheVariants as class
-use Rattle.wkt_read.specs.Tokenizer.{meant, coming_at, IsRunSoFar, EndsRun, FirstBegins}
+use Rattle.wkt_read.specs.declared.tokenizer.scan.Class as code
+use Rattle.wkt_read.specs.declared.tokenizer.scan.Class.TheVariants as class
+use Rattle.wkt_read.specs.Tokenizer.Scan.{meant, coming_at, IsRunSoFar, EndsRun, Found}
 use Rattle.wkt_read.proofs.LawLemmas.Characters.{run_or_ascii}
 
 -- after a byte that is no part of a run
@@ -46,7 +46,7 @@ no-run class.Comma h = λ e. cc
 no-run class.Run h = absurd (h refl)
 
 -- where a cursor starts
-pub found-start : (text : List ℕ) (ahead : code.Class) (at : ℕ) → ahead ≢ class.Run → IsCharBoundary text at → FirstBegins (coming_at text (meant ahead) at) text ahead at
+pub found-start : (text : List ℕ) (ahead : code.Class) (at : ℕ) → ahead ≢ class.Run → IsCharBoundary text at → Found (coming_at text (meant ahead) at) text ahead at
 unfolding front placed_from
 found-start text class.Nul at h boundary = (refl, boundary)
 found-start text class.White at h boundary = (refl, boundary)
@@ -55,7 +55,7 @@ found-start text class.Close at h boundary = (refl, boundary)
 found-start text class.Comma at h boundary = (refl, boundary)
 found-start text class.Run at h boundary = absurd (h refl)
 
-pub found-end : (left : List Placed) (text : List ℕ) (at : ℕ) → left ≡ coming_at text White at → at ≡ length text → FirstBegins left text class.Nul at
+pub found-end : (left : List Placed) (text : List ℕ) (at : ℕ) → left ≡ coming_at text White at → at ≡ length text → Found left text class.Nul at
 unfolding front placed_from
 found-end left text at e end = (e ∙ ap (λ l. placed_from at l) (ap (λ n. drop n text) end ∙ drop-length text), subst (IsCharBoundary text) (sym end) (IsCharBoundary-end text))
 
@@ -65,12 +65,12 @@ module _ (text : List ℕ) (at : ℕ) (utf8 : IsUtf8 text) (inside : at < length
   next = rw add-one (drop-cons text at 0 inside)
 
   -- it is no part of a run
-  found-mark : (left : List Placed) (c : code.Class) → c ≢ class.Run → class_of (get_or text at 0) ≡ meant c → left ≡ coming_at text White at → FirstBegins left text c (at + 1)
+  found-mark : (left : List Placed) (c : code.Class) → c ≢ class.Run → class_of (get_or text at 0) ≡ meant c → left ≡ coming_at text White at → Found left text c (at + 1)
   found-mark left c h e is =
       let b = get_or text at 0 in
       let boundary = IsCharBoundary-after_ascii text at utf8 inside (run_or_ascii b (λ o. no-run c h (sym e ∙ o))) in
       let moved : left ≡ coming_at text (meant c) (at + 1) = is ∙ ap (placed_from at) next ∙ placed-mark (meant c) b at (drop (at + 1) text) e (no-run c h) ∙ rw add-one refl in
-      elim c as (λ c. c ≢ class.Run → left ≡ coming_at text (meant c) (at + 1) → FirstBegins left text c (at + 1)) [ class.Nul ↦ λ h m. (m, boundary) | class.White ↦ λ h m. (m, boundary) | class.Open ↦ λ h m. (m, boundary) | class.Close ↦ λ h m. (m, boundary) | class.Comma ↦ λ h m. (m, boundary) | class.Run ↦ λ h m. absurd (h refl) ] h moved
+      elim c as (λ c. c ≢ class.Run → left ≡ coming_at text (meant c) (at + 1) → Found left text c (at + 1)) [ class.Nul ↦ λ h m. (m, boundary) | class.White ↦ λ h m. (m, boundary) | class.Open ↦ λ h m. (m, boundary) | class.Close ↦ λ h m. (m, boundary) | class.Comma ↦ λ h m. (m, boundary) | class.Run ↦ λ h m. absurd (h refl) ] h moved
 
   -- it is a part of a run
   run-more : (from : ℕ) → class_of (get_or text at 0) ≡ Run → IsRunSoFar text from at → IsRunSoFar text from (at + 1)
@@ -90,12 +90,12 @@ module _ (text : List ℕ) (at : ℕ) (utf8 : IsUtf8 text) (inside : at < length
       }
 
   -- a run begins there
-  found-run : (left : List Placed) → class_of (get_or text at 0) ≡ Run → left ≡ coming_at text White at → IsCharBoundary text at → FirstBegins left text class.Run (at + 1)
+  found-run : (left : List Placed) → class_of (get_or text at 0) ≡ Run → left ≡ coming_at text White at → IsCharBoundary text at → Found left text class.Run (at + 1)
   found-run left e is boundary =
       let none : at - at ≡ 0 = omega arith in
       (at, refl, is, run-more at e (record { order = omega arith; run = ap (λ n. take n (drop at text) ++ (front at (drop at text)).0) (sym none); later = refl }), boundary)
 
-  found-next : (left : List Placed) (c : code.Class) → class_of (get_or text at 0) ≡ meant c → FirstBegins left text class.White at → FirstBegins left text c (at + 1)
+  found-next : (left : List Placed) (c : code.Class) → class_of (get_or text at 0) ≡ meant c → Found left text class.White at → Found left text c (at + 1)
   found-next left class.Nul e before = found-mark left class.Nul (λ o. cc) e before.0
   found-next left class.White e before = found-mark left class.White (λ o. cc) e before.0
   found-next left class.Open e before = found-mark left class.Open (λ o. cc) e before.0
@@ -141,9 +141,9 @@ unfolding class_of
 late-run b h = rw (ne_eqb b 0 (λ e. omega arith), ne_eqb b 32 (λ e. omega arith), ne_eqb b 10 (λ e. omega arith), ne_eqb b 13 (λ e. omega arith), ne_eqb b 9 (λ e. omega arith), ne_eqb b 40 (λ e. omega arith), ne_eqb b 41 (λ e. omega arith), ne_eqb b 44 (λ e. omega arith)) refl
 
 -- one turn of the loop over white space
-pub first-step : (left : List Placed) (text text' : List ℕ) (was c : code.Class) (at at' b : ℕ) → text' ≡ text → at' ≡ at + 1 → at < length text → b ≡ get_or text at 0 → IsUtf8 text → was ≡ class.White → meant c ≡ class_of b → FirstBegins left text was at → FirstBegins left text' c at'
+pub first-step : (left : List Placed) (text text' : List ℕ) (was c : code.Class) (at at' b : ℕ) → text' ≡ text → at' ≡ at + 1 → at < length text → b ≡ get_or text at 0 → IsUtf8 text → was ≡ class.White → meant c ≡ class_of b → Found left text was at → Found left text' c at'
 first-step left text text' was c at at' b same count inside byte utf8 white is before =
-    subst (λ t. FirstBegins left t c at') (sym same) (subst (FirstBegins left text c) (sym count) (found-next text at utf8 inside left c (ap class_of (sym byte) ∙ sym is) (subst (λ k. FirstBegins left text k at) white before)))
+    subst (λ t. Found left t c at') (sym same) (subst (Found left text c) (sym count) (found-next text at utf8 inside left c (ap class_of (sym byte) ∙ sym is) (subst (λ k. Found left text k at) white before)))
 
 pub run-step : (text text' : List ℕ) (from at at' b : ℕ) (c : code.Class) → text' ≡ text → at' ≡ at + 1 → at < length text → b ≡ get_or text at 0 → IsUtf8 text → meant c ≡ class_of b → c ≡ class.Run → IsRunSoFar text from at → IsRunSoFar text' from at'
 run-step text text' from at at' b c same count inside byte utf8 is run before =
@@ -157,9 +157,9 @@ pub run-end-text : (text text' : List ℕ) (from at at' end : ℕ) → text' ≡
 run-end-text text text' from at at' end same count ends last before =
     subst (λ t. EndsRun t from end at' class.Nul) (sym same) (subst (λ n. EndsRun text from end n class.Nul) (sym count) (subst (λ n. EndsRun text from n at class.Nul) (sym ends) (ends-text text from at last before)))
 
-pub first-end : (left : List Placed) (text text' : List ℕ) (was : code.Class) (at at' : ℕ) → text' ≡ text → at' ≡ at → at ≡ length text → was ≡ class.White → FirstBegins left text was at → FirstBegins left text' class.Nul at'
+pub first-end : (left : List Placed) (text text' : List ℕ) (was : code.Class) (at at' : ℕ) → text' ≡ text → at' ≡ at → at ≡ length text → was ≡ class.White → Found left text was at → Found left text' class.Nul at'
 first-end left text text' was at at' same count last white before =
-    subst (λ t. FirstBegins left t class.Nul at') (sym same) (subst (FirstBegins left text class.Nul) (sym count) (found-end left text at (subst (λ k. FirstBegins left text k at) white before).0 last))
+    subst (λ t. Found left t class.Nul at') (sym same) (subst (Found left text class.Nul) (sym count) (found-end left text at (subst (λ k. Found left text k at) white before).0 last))
 
 after-run : (at : ℕ) (run : List ℕ) (later : List Placed) → 0 < length run → after_run at run later ≡ record { lexeme = lexeme_of run; end = at + length run } ∷ later
 after-run at [] later h = absurd (omega arith)
@@ -180,16 +180,16 @@ gives-run lexemes text text' from end at ahead l is same order ends shows =
     ∙ ap (λ y. record { lexeme = y; end = end } ∷ coming_at text' (meant ahead) at) (sym shows)
 
 -- nothing is left
-pub found-nul : (lexemes : List Placed) (text : List ℕ) (c : code.Class) (at : ℕ) → (c ≡ class.Nul) ⊎ (c ≡ class.White) → c ≢ class.White → FirstBegins lexemes text c at → lexemes ≡ []
-found-nul lexemes text c at either stops found = ⊎_elim (λ e. let r : FirstBegins lexemes text class.Nul at = subst (λ k. FirstBegins lexemes text k at) e found in r.0) (λ e. absurd (stops e)) either
+pub found-nul : (lexemes : List Placed) (text : List ℕ) (c : code.Class) (at : ℕ) → (c ≡ class.Nul) ⊎ (c ≡ class.White) → c ≢ class.White → Found lexemes text c at → lexemes ≡ []
+found-nul lexemes text c at either stops found = ⊎_elim (λ e. let r : Found lexemes text class.Nul at = subst (λ k. Found lexemes text k at) e found in r.0) (λ e. absurd (stops e)) either
 
 -- a mark is the first lexeme
 module _ (lexemes : List Placed) (text : List ℕ) (c : code.Class) (at end : ℕ) where
-  pub gives-open : c ≡ class.Open → end ≡ at → FirstBegins lexemes text c at → lexemes ≡ record { lexeme = lex.Open; end = end } ∷ placed_from at (drop at text)
-  gives-open e ends found = let r : FirstBegins lexemes text class.Open at = subst (λ k. FirstBegins lexemes text k at) e found in r.0 ∙ ap (λ n. record { lexeme = lex.Open; end = n } ∷ placed_from at (drop at text)) (sym ends)
+  pub gives-open : c ≡ class.Open → end ≡ at → Found lexemes text c at → lexemes ≡ record { lexeme = lex.Open; end = end } ∷ placed_from at (drop at text)
+  gives-open e ends found = let r : Found lexemes text class.Open at = subst (λ k. Found lexemes text k at) e found in r.0 ∙ ap (λ n. record { lexeme = lex.Open; end = n } ∷ placed_from at (drop at text)) (sym ends)
 
-  pub gives-close : c ≡ class.Close → end ≡ at → FirstBegins lexemes text c at → lexemes ≡ record { lexeme = lex.Close; end = end } ∷ placed_from at (drop at text)
-  gives-close e ends found = let r : FirstBegins lexemes text class.Close at = subst (λ k. FirstBegins lexemes text k at) e found in r.0 ∙ ap (λ n. record { lexeme = lex.Close; end = n } ∷ placed_from at (drop at text)) (sym ends)
+  pub gives-close : c ≡ class.Close → end ≡ at → Found lexemes text c at → lexemes ≡ record { lexeme = lex.Close; end = end } ∷ placed_from at (drop at text)
+  gives-close e ends found = let r : Found lexemes text class.Close at = subst (λ k. Found lexemes text k at) e found in r.0 ∙ ap (λ n. record { lexeme = lex.Close; end = n } ∷ placed_from at (drop at text)) (sym ends)
 
-  pub gives-comma : c ≡ class.Comma → end ≡ at → FirstBegins lexemes text c at → lexemes ≡ record { lexeme = lex.Comma; end = end } ∷ placed_from at (drop at text)
-  gives-comma e ends found = let r : FirstBegins lexemes text class.Comma at = subst (λ k. FirstBegins lexemes text k at) e found in r.0 ∙ ap (λ n. record { lexeme = lex.Comma; end = n } ∷ placed_from at (drop at text)) (sym ends)
+  pub gives-comma : c ≡ class.Comma → end ≡ at → Found lexemes text c at → lexemes ≡ record { lexeme = lex.Comma; end = end } ∷ placed_from at (drop at text)
+  gives-comma e ends found = let r : Found lexemes text class.Comma at = subst (λ k. Found lexemes text k at) e found in r.0 ∙ ap (λ n. record { lexeme = lex.Comma; end = n } ∷ placed_from at (drop at text)) (sym ends)

@@ -1,7 +1,7 @@
 -- Which lexeme is blamed for a bad number. Only private contracts cite this file.
 use Rattle.std.specs.Prelude.{◌≡◌, ℕ, List, Option, None}
-use Rattle.wkt_read.specs.declared.tokenizer.Lexeme as code
-use Rattle.wkt_read.specs.declared.tokenizer.Lexeme.TheVariants.{End, Comma, Close, Open, Word, Number}
+use Rattle.wkt_read.specs.declared.tokenizer.tokens.Lexeme as code
+use Rattle.wkt_read.specs.declared.tokenizer.tokens.Lexeme.TheVariants.{End, Comma, Close, Open, Word, Number}
 use Rattle.wkt_read.specs.declared.tokenizer.peekable.PeekableTokens.{PeekableTokens}
 use Rattle.wkt_read.specs.Placed.{Placed, lexemes_of}
 use Rattle.wkt_read.specs.Ahead.{IsAfter}

@@ -15,8 +15,8 @@ ghost use Rattle.wkt_read.specs.declared.messages.Message.TheVariants.{BadNumber
 use crate::error::ReadError;
 use crate::keywords::is_empty;
 use crate::messages::Message;
-use crate::tokenizer::Lexeme;
 use crate::tokenizer::peekable::PeekableTokens;
+use crate::tokenizer::tokens::Lexeme;
 use wkt_access::Dimension;
 use wkt_num::WktNum;
 use wkt_types::Coord;

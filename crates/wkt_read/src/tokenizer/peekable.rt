@@ -2,9 +2,10 @@
 ghost use Rattle.std.specs.Prelude.{◌≡◌, ◌+◌, ◌≤◌, ℕ, [], ◌∷◌, Some, None, OnSome, IfNone};
 ghost use Rattle.std.specs.Bool.{MatchBool, OnFalse};
 ghost use Rattle.wkt_num.specs.Bytes.{Lexeme, Comma};
-ghost use Rattle.wkt_read.specs.Tokenizer.{taken_in, found};
+ghost use Rattle.wkt_read.specs.Tokenizer.Cursors.{taken_in};
+ghost use Rattle.wkt_read.specs.Tokenizer.Unread.{found};
 
-use crate::tokenizer::{Lexeme, Token, Tokens, item_of};
+use crate::tokenizer::tokens::{Lexeme, Token, Tokens, item_of};
 use wkt_num::WktNum;
 
 /// The lexemes of a text, one after the other, of which one may be looked at ahead.

@@ -4,7 +4,7 @@ use Rattle.wkt_read.specs.Placed.{lexemes_of, AreEnds}
 use Rattle.wkt_read.specs.Stream.{coming, bytes_taken, end_of_last}
 use Rattle.wkt_read.proofs.LawLemmas.Few.{placed-few}
 use Rattle.wkt_read.proofs.TokenizerLemmas.Placings.{placed-split, placed-ends}
-use Rattle.wkt_read.proofs.tokenizer.Tokens.from_str.Goals as goal
+use Rattle.wkt_read.proofs.tokenizer.tokens.Tokens.from_str.Goals as goal
 
 pub returns-clause-placed : goal.returns-clause-placed
 unfolding coming

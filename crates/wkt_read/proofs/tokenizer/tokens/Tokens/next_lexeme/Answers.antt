@@ -1,11 +1,12 @@
 use Rattle.std.proofs.Common.{◌≡◌, ◌-◌, ◌<◌, ap, ◌∙◌, arith, refl, drop, slice_range, Some}
 use Rattle.wkt_read.specs.Lexemes.{lexeme_of}
 use Rattle.wkt_read.specs.Placed.{placed_from}
-use Rattle.wkt_read.specs.Tokenizer.{taken_in, found}
+use Rattle.wkt_read.specs.Tokenizer.Cursors.{taken_in}
 use Rattle.wkt_read.specs.Stream.{coming, bytes_taken, end_of_last}
+use Rattle.wkt_read.specs.Tokenizer.Unread.{found}
 use Rattle.wkt_read.proofs.TokenizerLemmas.Steps.{gives-run, gives-open, gives-close, gives-comma, found-nul}
-use Rattle.wkt_read.proofs.tokenizer.Tokens.next_lexeme.Goals as goal
-use Rattle.wkt_read.proofs.tokenizer.Tokens.next_lexeme.Goals.{in-Open, in-Close, in-Comma}
+use Rattle.wkt_read.proofs.tokenizer.tokens.Tokens.next_lexeme.Goals as goal
+use Rattle.wkt_read.proofs.tokenizer.tokens.Tokens.next_lexeme.Goals.{in-Open, in-Close, in-Comma}
 
 pub returns-in-Run : goal.returns-in-Run
 unfolding coming bytes_taken end_of_last

@@ -1,8 +1,9 @@
 use Rattle.std.proofs.Common.{ap, sym, refl, subst, length, ◌<◌, arith}
 use Rattle.wkt_read.proofs.TokenizerLemmas.Steps.{run-step, run-end, run-end-text, late-run}
-use Rattle.wkt_read.specs.declared.tokenizer.Class.TheVariants as class
-use Rattle.wkt_read.specs.Tokenizer.{taken_in, IsRunSoFar}
-use Rattle.wkt_read.proofs.tokenizer.run_ends.Goals as goal
+use Rattle.wkt_read.specs.declared.tokenizer.scan.Class.TheVariants as class
+use Rattle.wkt_read.specs.Tokenizer.Cursors.{taken_in}
+use Rattle.wkt_read.specs.Tokenizer.Scan.{IsRunSoFar}
+use Rattle.wkt_read.proofs.tokenizer.scan.run_ends.Goals as goal
 
 pub returns-in-Run-clause-cases : goal.returns-in-Run-clause-cases
 returns-in-Run-clause-cases c =

@@ -1,6 +1,6 @@
 use Rattle.std.proofs.Common.{◌≡◌, ◌<◌, length, arith, get_or, ap, sym, ◌∙◌}
 use Rattle.std.proofs.lemmas.Str.{IsCharBoundary-after_ascii}
-use Rattle.wkt_read.proofs.tokenizer.number_in.Goals as goal
+use Rattle.wkt_read.proofs.tokenizer.tokens.number_in.Goals as goal
 
 pub range_from-requires : goal.range_from-requires
 range_from-requires c =

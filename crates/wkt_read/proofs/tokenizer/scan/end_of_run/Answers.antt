@@ -1,6 +1,6 @@
 use Rattle.std.proofs.Common.{ap, length, arith}
 use Rattle.wkt_read.proofs.TokenizerLemmas.Cursors.{taken-within}
-use Rattle.wkt_read.proofs.tokenizer.end_of_run.Goals as goal
+use Rattle.wkt_read.proofs.tokenizer.scan.end_of_run.Goals as goal
 
 pub eight-smaller : goal.eight-smaller
 eight-smaller c = omega (arith, c.turn.invariant.grows, c.turn-test.false, c.turn.auto, taken-within c.turn.cursor, ap (λ t. length t.now) c.turn.invariant.text)

@@ -1,6 +1,7 @@
 use Rattle.std.proofs.Common.{◌≡◌, ◌≤◌, ◌+◌, ◌-◌, length}
-use Rattle.wkt_read.specs.Tokenizer.{taken_in, IsRunSoFar}
-use Rattle.wkt_read.proofs.tokenizer.end_of_run.Given as goal
+use Rattle.wkt_read.specs.Tokenizer.Cursors.{taken_in}
+use Rattle.wkt_read.specs.Tokenizer.Scan.{IsRunSoFar}
+use Rattle.wkt_read.proofs.tokenizer.scan.end_of_run.Given as goal
 
 abbrev pub invariant-eight : goal.invariant-eight
 invariant-eight l = record {

@@ -1,8 +1,8 @@
 use Rattle.std.proofs.Common.{ap, sym, subst, length, arith}
 use Rattle.std.specs.Str.{IsCharBoundary}
 use Rattle.std.proofs.lemmas.Str.{IsCharBoundary-start}
-use Rattle.wkt_read.specs.Tokenizer.{taken_in}
-use Rattle.wkt_read.proofs.tokenizer.Cursor.new.Goals as goal
+use Rattle.wkt_read.specs.Tokenizer.Cursors.{taken_in}
+use Rattle.wkt_read.proofs.tokenizer.cursor.Cursor.new.Goals as goal
 
 pub returns-clause-taken : goal.returns-clause-taken
 unfolding taken_in

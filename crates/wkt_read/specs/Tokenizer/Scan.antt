@@ -1,0 +1,59 @@
+-- The classes of bytes as the code names them, and what the scanner knows at a place of a text. Only private contracts cite this file.
+use Rattle.std.specs.Prelude.{◌≡◌, ◌≢◌, ℕ, ◌+◌, ◌≤◌, ◌<◌, ◌++◌, [], List, length, drop, slice_range}
+use Rattle.std.specs.Str.{IsCharBoundary}
+use Rattle.wkt_num.specs.Bytes as lex
+use Rattle.wkt_num.specs.Bytes.{Class, White, Mark}
+use Rattle.wkt_read.specs.Placed.{Placed, marks, front, placed_from}
+use Rattle.wkt_read.specs.declared.tokenizer.scan.Class as code
+use Rattle.wkt_read.specs.declared.tokenizer.scan.Class.TheVariants as class
+
+-- the class that the code's word means
+abbrev pub meant : code.Class → Class
+meant class.Nul = lex.Nul
+meant class.White = White
+meant class.Open = Mark lex.Open
+meant class.Close = Mark lex.Close
+meant class.Comma = Mark lex.Comma
+meant class.Run = lex.Run
+
+-- the lexemes at a place of a text, after a byte of this class
+abbrev pub coming_at : List ℕ → Class → ℕ → List Placed
+coming_at text ahead at = marks ahead at (placed_from at (drop at text))
+
+-- The bytes from `from` to `at` are in the run that begins at `from`.
+pub record IsRunSoFar (text : List ℕ) (from at : ℕ) : Type 0 where
+  pub order : from ≤ at
+  pub run : (front from (drop from text)).0 ≡ slice_range text from at ++ (front at (drop at text)).0
+  pub later : (front from (drop from text)).1 ≡ (front at (drop at text)).1
+
+-- The run that begins at `from` ends at `end`; the byte after it, of this class, was taken too.
+pub record EndsRun (text : List ℕ) (from end at : ℕ) (ahead : code.Class) : Type 0 where
+  pub order : from ≤ end
+  pub taken : end ≤ at
+  pub near : at ≤ end + 1
+  pub run : (front from (drop from text)).0 ≡ slice_range text from end
+  pub later : (front from (drop from text)).1 ≡ coming_at text (meant ahead) at
+  pub until : IsCharBoundary text end
+  pub boundary : IsCharBoundary text at
+
+-- The byte at `at` was taken, and each run that came to there goes on.
+pub record RunGoesOn (text : List ℕ) (at after : ℕ) : Type 0 where
+  pub inside : at < length text
+  pub next : after ≡ at + 1
+  pub run : (from : ℕ) → IsRunSoFar text from at → IsRunSoFar text from after
+
+-- Each run that came to `at` ends at `end`; the byte after it, if there is one, is of this class and was taken.
+pub record RunEnds (text : List ℕ) (at end after : ℕ) (ahead : code.Class) : Type 0 where
+  pub grows : at ≤ after
+  pub on : at ≤ end
+  pub run : (from : ℕ) → IsRunSoFar text from at → EndsRun text from end after ahead
+  pub other : ahead ≢ class.Run
+
+-- Of the lexemes `left`, the first begins with a byte of this class, the last that was taken.
+abbrev pub Found : List Placed → List ℕ → code.Class → ℕ → Type 0
+Found left text class.Nul at = (left ≡ []) × IsCharBoundary text at
+Found left text class.White at = (left ≡ coming_at text White at) × IsCharBoundary text at
+Found left text class.Open at = (left ≡ coming_at text (meant class.Open) at) × IsCharBoundary text at
+Found left text class.Close at = (left ≡ coming_at text (meant class.Close) at) × IsCharBoundary text at
+Found left text class.Comma at = (left ≡ coming_at text (meant class.Comma) at) × IsCharBoundary text at
+Found left text class.Run at = (from : ℕ) × (from + 1 ≡ at) × (left ≡ placed_from from (drop from text)) × IsRunSoFar text from at × IsCharBoundary text from

@@ -1,0 +1,88 @@
+//! The bytes of a text, taken one at a time.
+ghost use Rattle.std.specs.Prelude.{◌≡◌, ℕ, ◌+◌, ◌-◌, ◌≤◌, ◌<◌, length, drop, slice_index, slice_range, MatchOption};
+ghost use Rattle.std.specs.Str.{IsCharBoundary, IsUtf8};
+
+use std::mem;
+
+/// The bytes of a text, of which some were taken.
+#[derive(Drop)]
+pub(crate) struct Cursor<'a> {
+    text: &'a str,
+    // The bytes that were not taken yet, to the text's end.
+    left: &'a [u8],
+    ghost in_range: { length left.now ≤ length text.now },
+    ghost is_end: { left.now ≡ drop (length text.now - length left.now) text.now },
+}
+
+#[tactic(auto, unfolding(crate::specs::Tokenizer::Cursors::taken_in))]
+impl<'a> Cursor<'a> {
+    ghost use Rattle.wkt_read.specs.Tokenizer.Cursors.{taken_in};
+
+    pub(crate) fn new(text: &'a str) -> Self
+        ensures text { result.text.now ≡ text.now }
+        ensures taken { taken_in result ≡ 0 }
+        ensures boundary { IsCharBoundary result.text.now (taken_in result) }
+    {
+        Cursor {
+            text,
+            left: text.as_bytes(),
+        }
+    }
+
+    /// How many bytes were taken.
+    #[inline(always)]
+    pub(crate) fn taken(&self) -> usize
+        ensures { result ≡ taken_in self.now }
+    {
+        self.text.len() - self.left.len()
+    }
+
+    /// How many bytes are left to be taken.
+    #[inline(always)]
+    pub(crate) fn left(&self) -> usize {
+        self.left.len()
+    }
+
+    /// The next byte.
+    #[inline(always)]
+    pub(crate) fn next_byte(&mut self) -> Option<u8>
+        ensures text { self.new.text ≡ self.old.text }
+        ensures utf8 { IsUtf8 self.old.text.now }
+        ensures cases { MatchOption result
+            ((taken_in self.new ≡ taken_in self.old) × (taken_in self.old ≡ length self.old.text.now))
+            (λ b. (taken_in self.new ≡ taken_in self.old + 1) × (taken_in self.old < length self.old.text.now)
+            × (b ≡ slice_index self.old.text.now (taken_in self.old))) }
+    {
+        // As the bytes of a text they are UTF-8, on which the readers of runs rest.
+        let _ = self.text.as_bytes();
+        match self.left {
+            [byte, left @ ..] => {
+                self.left = left;
+                Some(*byte)
+            }
+            [] => None,
+        }
+    }
+
+    /// Moves the cursor out, to be held by value; one at the text's end stays.
+    #[inline(always)]
+    pub(crate) fn move_out(&mut self) -> Self
+        ensures moved { result ≡ self.old }
+        ensures text { self.new.text ≡ self.old.text }
+        ensures end { taken_in self.new ≡ length self.old.text.now }
+    {
+        let text = self.text;
+        mem::replace(self, Cursor { text, left: b"" })
+    }
+
+    /// The part of the taken text between two places where characters begin.
+    pub(crate) fn part(&self, from: usize, to: usize) -> &'a str
+        requires order { from ≤ to }
+        requires is_taken { to ≤ taken_in self.now }
+        requires start { IsCharBoundary self.now.text.now from }
+        requires end { IsCharBoundary self.now.text.now to }
+        ensures { result.now ≡ slice_range self.now.text.now from to }
+    {
+        &self.text[from..to]
+    }
+}

@@ -1,0 +1,125 @@
+//! What a byte does in a text, and the runs and marks in its bytes.
+ghost use Rattle.std.specs.Prelude.{◌≡◌, ◌≢◌, ◌↔◌, ◌≤◌, IsTrue, MatchOption};
+ghost use Rattle.std.specs.Str.{IsCharBoundary};
+ghost use Rattle.wkt_num.specs.Bytes.{class_of, White};
+ghost use Rattle.wkt_read.specs.Lexemes.{starts_number};
+ghost use Rattle.wkt_read.specs.Tokenizer.Cursors.{taken_in};
+ghost use Rattle.wkt_read.specs.Tokenizer.Scan.{meant, coming_at, Found, IsRunSoFar, EndsRun, RunGoesOn, RunEnds};
+
+use crate::tokenizer::cursor::Cursor;
+
+/// What a byte does in a text.
+#[derive(Clone, Copy)]
+pub(crate) enum Class {
+    /// The text ends here.
+    Nul,
+    White,
+    Open,
+    Close,
+    Comma,
+    /// A part of a run.
+    Run,
+}
+
+#[tactic(auto, unfolding(wkt_num::specs::Bytes::class_of))]
+pub(crate) fn class_of(byte: u8) -> Class
+    ensures { meant result ≡ class_of byte }
+{
+    match byte {
+        0 => Class::Nul,
+        b' ' | b'\n' | b'\r' | b'\t' => Class::White,
+        b'(' => Class::Open,
+        b')' => Class::Close,
+        b',' => Class::Comma,
+        _ => Class::Run,
+    }
+}
+
+/// Whether the byte is white space, which may stand between lexemes.
+pub fn is_white(byte: u8) -> bool
+    ensures { IsTrue result ↔ (class_of byte ≡ White) }
+{
+    matches!(class_of(byte), Class::White)
+}
+
+/// Whether a run that begins with this byte is a number.
+pub(crate) fn starts_number(byte: u8) -> bool
+    ensures { result ≡ starts_number byte }
+{
+    byte.is_ascii_digit() || byte == b'.' || byte == b'-' || byte == b'+'
+}
+
+/// The class of the first byte that is no white space, which is taken.
+#[inline(always)]
+pub(crate) fn first_class(bytes: &mut Cursor<'_>, ahead: Class) -> Class
+    requires boundary { IsCharBoundary bytes.old.text.now (taken_in bytes.old) }
+    requires start { ahead ≢ Class.Run }
+    ensures text { bytes.new.text ≡ bytes.old.text }
+    ensures grows { taken_in bytes.old ≤ taken_in bytes.new }
+    ensures found { Found (coming_at bytes.old.text.now (meant ahead) (taken_in bytes.old)) bytes.new.text.now result
+        (taken_in bytes.new) }
+    ensures stops { result ≢ Class.White }
+{
+    let mut class = ahead;
+    'white: while let Class::White = class {
+        match bytes.next_byte() {
+            Some(byte) => {
+                if byte > b',' {
+                    return Class::Run;
+                }
+                class = class_of(byte);
+            }
+            None => return Class::Nul,
+        }
+    }
+    class
+}
+
+/// Takes the next byte: the end of a run that came so far, and the class of the byte, if it is no part of the run.
+#[inline(always)]
+fn run_ends(bytes: &mut Cursor<'_>) -> Option<(usize, Class)>
+    ensures text { bytes.new.text ≡ bytes.old.text }
+    ensures cases { MatchOption result
+        (RunGoesOn bytes.new.text.now (taken_in bytes.old) (taken_in bytes.new))
+        (λ r. RunEnds bytes.new.text.now (taken_in bytes.old) r.0 (taken_in bytes.new) r.1) }
+{
+    let end = bytes.taken();
+    match bytes.next_byte() {
+        Some(byte) => {
+            if byte > b',' {
+                return None;
+            }
+            match class_of(byte) {
+                Class::Run => None,
+                class => Some((end, class)),
+            }
+        }
+        None => Some((end, Class::Nul)),
+    }
+}
+
+/// The end of the run that begins at `from`, and the class of the byte after it, which is taken. The cursor
+/// is held by value, and asked once for eight bytes how many are left, so that it stays in registers.
+#[inline(always)]
+pub(crate) fn end_of_run<'a>(bytes: Cursor<'a>, from: usize) -> (Cursor<'a>, usize, Class)
+    requires { IsRunSoFar bytes.text.now from (taken_in bytes) }
+    ensures text { result.0.text ≡ bytes.entry.text }
+    ensures grows { taken_in bytes.entry ≤ taken_in result.0 }
+    ensures on { taken_in bytes.entry ≤ result.1 }
+    ensures ends { EndsRun result.0.text.now from result.1 (taken_in result.0) result.2 }
+    ensures other { result.2 ≢ Class.Run }
+{
+    let mut cursor = bytes;
+    'eight: while cursor.left() >= 8 {
+        'turn: for _ in 0..8usize {
+            if let Some((end, class)) = run_ends(&mut cursor) {
+                return (cursor, end, class);
+            }
+        }
+    }
+    'one: loop {
+        if let Some((end, class)) = run_ends(&mut cursor) {
+            return (cursor, end, class);
+        }
+    }
+}
