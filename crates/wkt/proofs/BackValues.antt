@@ -1,5 +1,5 @@
 -- The `Wkt` of a flat value is what the value of its shape is read as.
-use Rattle.std.proofs.Common.{◌≡◌, refl, ap, ap₂, sym, ◌∙◌, List, [], ◌∷◌, map, Some}
+use Rattle.std.proofs.Common.{◌≡◌, refl, ap, ap₂, ◌∙◌, List, [], ◌∷◌, map, Some}
 use Rattle.std.specs.Prelude.{option_map}
 use Rattle.std.specs.List.{AllByRecursion}
 use Rattle.wkt_access.specs.Shapes.{canon, canons, cut, rings_of}
@@ -9,7 +9,7 @@ use Rattle.wkt_access.specs.declared.dimensions.Dimensions.TheVariants.{Xy}
 use Rattle.wkt_types.specs.Values.{value_of, values_of, point_numbers, line_string_numbers, polygon_numbers, HasDim, IsPointIn, IsLineStringIn, IsPolygonIn, IsUniform, AreUniform, IsWktOf}
 use Rattle.wkt_flat.specs.Rings.{Rings}
 use Rattle.wkt_flat.specs.Shape as shape
-use Rattle.wkt_flat.specs.Shape.{flat_shape, flat_shapes, path_numbers, rings_shape}
+use Rattle.wkt_flat.specs.Shape.{flat_shape, flat_shapes, sequence_numbers, rings_shape}
 use Rattle.wkt_flat.specs.Tree.{Flat, Flats}
 use Rattle.wkt_flat.specs.declared.coord.Coord as flat_coord
 use Rattle.wkt_flat.specs.declared.point.Point as flat_point
@@ -52,11 +52,11 @@ mutual
   all_back_uniform Flats.no_flats = tt
   all_back_uniform (Flats.more_flats t ts) = (back_uniform t, all_back_uniform ts)
 
-line_string_value : {T : Type 0} (cs : List (flat_coord.Coord T)) → line_string_numbers (line_string_back cs) ≡ map (cut Xy) (path_numbers cs)
+line_string_value : {T : Type 0} (cs : List (flat_coord.Coord T)) → line_string_numbers (line_string_back cs) ≡ map (cut Xy) (sequence_numbers cs)
 line_string_value [] = refl
 line_string_value (c ∷ cs) = ap (λ l. (c.x ∷ c.y ∷ []) ∷ l) (line_string_value cs)
 
-line_strings_value : {T : Type 0} (ls : List (List (flat_coord.Coord T))) → map line_string_numbers (map line_string_back ls) ≡ map (map (cut Xy)) (map path_numbers ls)
+line_strings_value : {T : Type 0} (ls : List (List (flat_coord.Coord T))) → map line_string_numbers (map line_string_back ls) ≡ map (map (cut Xy)) (map sequence_numbers ls)
 line_strings_value [] = refl
 line_strings_value (l ∷ ls) = ap₂ (λ x xs. x ∷ xs) (line_string_value l) (line_strings_value ls)
 

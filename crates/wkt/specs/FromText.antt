@@ -7,6 +7,7 @@ use Rattle.wkt_types.specs.declared.convert.ConvertError.TheVariants.{PointConve
 use Rattle.wkt_read.specs.Front.{HasNoFront}
 use Rattle.wkt_read.specs.Answered.{IsFront, HasBadNumber}
 use Rattle.wkt_read.specs.Items.{bad_number}
+use Rattle.wkt_convert.specs.Kinds.{FlatKind, only_flat}
 
 module _ {T : Type 0} (read : List ℕ → Option T) where
   -- The text has a front, and the geometry of it has this outcome.
@@ -38,6 +39,14 @@ module _ {T : Type 0} (read : List ℕ → Option T) where
   BytesAnswer see turn bytes (Err (Reader e)) = Unit {0}
   BytesAnswer see turn bytes (Err Utf8) = IsUtf8 bytes → ⊥
   BytesAnswer see turn bytes (Err (Memory e)) = Unit {0}
+
+  -- A text is answered as one kind of flat value: with its content, or refused by name.
+  abbrev pub AnswersKind : {X : Type 0} → (T → T → Bool) → FlatKind T X → List ℕ → Result X ConvertError → Type 0
+  AnswersKind eq kind text r = TextAnswers (λ x. x) (only_flat kind eq) text r
+
+  -- Bytes are answered so.
+  abbrev pub BytesAnswerKind : {X : Type 0} → (T → T → Bool) → FlatKind T X → List ℕ → Result X ConvertError → Type 0
+  BytesAnswerKind eq kind bytes r = BytesAnswer (λ x. x) (only_flat kind eq) bytes r
 
   -- Why a text isn't read.
   abbrev pub IsUnread : List ℕ → ConvertError → Type 0

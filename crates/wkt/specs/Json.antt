@@ -1,10 +1,11 @@
 -- What a JSON value is answered with: a string what its text is, and any other value that it is no string.
-use Rattle.std.specs.Prelude.{ℕ, List, [], ◌∷◌, Option, Some, None, Result, Ok, Err}
+use Rattle.std.specs.Prelude.{ℕ, List, [], ◌∷◌, Option, Some, None, Result, Ok, Err, codes}
 use Rattle.serde_json.specs.Find.{as_str}
 use Rattle.serde_json.specs.View.{view}
 use Rattle.serde_json.specs.declared.value.Value.{Value}
 use Rattle.wkt_flat.specs.Tree.{Flat}
 use Rattle.wkt_flat.specs.declared.point.Point.{Point}
+use Rattle.wkt_convert.specs.Kinds.{FlatKind}
 use Rattle.wkt.specs.declared.json.ValueError.{ValueError}
 use Rattle.wkt.specs.declared.json.ValueError.TheVariants.{NotAString, Fault}
 
@@ -26,3 +27,7 @@ abbrev pub point_if_any : {T : Type 0} → Flat T → Option (Option (Point T))
 point_if_any (Flat.point p) = Some (Some p)
 point_if_any (Flat.multi_point []) = Some None
 point_if_any _ = None
+
+-- The same as a kind, which is asked for as a point.
+abbrev pub point_or_none_kind : {T : Type 0} → FlatKind T (Option (Point T))
+point_or_none_kind = record { name = codes "Point"; content = point_if_any }

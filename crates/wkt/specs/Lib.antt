@@ -26,6 +26,7 @@ pub use Rattle.wkt_num.specs.Whole
 pub use Rattle.wkt_num.specs.WholeLaws
 pub use Rattle.wkt_num.specs.Decimal
 pub use Rattle.wkt_num.specs.Laws as NumberLaws
+pub use Rattle.wkt_num.specs.Earlier
 pub use Rattle.wkt_num.specs.Sink
 pub use Rattle.wkt_num.specs.Counted as CountedText
 -- sinks and sources of bytes
@@ -50,6 +51,7 @@ pub use Rattle.wkt_read.specs.Header
 pub use Rattle.wkt_read.specs.Infer
 pub use Rattle.wkt_read.specs.Headline
 pub use Rattle.wkt_read.specs.Laws as ReadLaws
+pub use Rattle.wkt_read.specs.OldForms
 pub use Rattle.wkt_read.specs.declared.error.ReadError
 pub use Rattle.wkt_read.specs.declared.infer.InferError
 -- where a text is refused

@@ -9,5 +9,5 @@ abbrev pub coord_at : {T : Type 0} → T → T → Coord T
 coord_at x y = record { x = x; y = y; z = None; m = None }
 
 -- The line string through those places, in their order.
-abbrev pub path_through : {T : Type 0} → List (T × T) → Held (Coord T)
-path_through places = record { parts = map (λ p. coord_at p.0 p.1) places; dim = XY }
+abbrev pub line_string_through : {T : Type 0} → List (T × T) → Held (Coord T)
+line_string_through places = record { parts = map (λ p. coord_at p.0 p.1) places; dim = XY }

@@ -1,5 +1,5 @@
 //! Types that are read from well-known text through a conversion.
-ghost use Rattle.std.specs.Prelude.{◌≡◌, ℕ, List, MatchResult, Result, IfSome, codes};
+ghost use Rattle.std.specs.Prelude.{◌≡◌, ℕ, List, MatchResult, Result, IfSome};
 ghost use Rattle.std.specs.Io.KnownBytes.{IsAtEnd};
 ghost use Rattle.std.specs.String.{string_bytes};
 ghost use Rattle.wkt_num.specs.Sink.{next_count};
@@ -8,8 +8,8 @@ ghost use Rattle.wkt_flat.specs.Tree.{flat_tree, flat_trees};
 ghost use Rattle.wkt_flat.specs.Equal.{coord_eq};
 ghost use Rattle.wkt_read.specs.Answered.{IsFront};
 ghost use Rattle.wkt_convert.specs.Flatten.{flat, flat_collection};
-ghost use Rattle.wkt.specs.FromText.{TextAnswers, BytesAnswer, OnAllRead, OnReader, IsUnread, IsUntold};
-ghost use Rattle.wkt_convert.specs.Kinds.{only_flat, point_in, line_in, path_in, rings_in, points_in, paths_in, polygons_in, corners_in, triangle_in};
+ghost use Rattle.wkt.specs.FromText.{TextAnswers, BytesAnswer, AnswersKind, BytesAnswerKind, OnAllRead, OnReader, IsUnread, IsUntold};
+ghost use Rattle.wkt_convert.specs.Kinds.{point_kind, line_kind, line_string_kind, polygon_kind, multi_point_kind, multi_line_string_kind, multi_polygon_kind, rect_kind, triangle_kind};
 
 use std::alloc::Global;
 use wkt_bytes::{ByteSource, ReadAllError, read_all};
@@ -94,9 +94,9 @@ fn text_from<R: ByteSource>(alloc: Global, reader: &mut R) -> Result<String, Con
 impl<T: WktNum> TryFromWkt<T> for flat::Point<T> {
     type Error = ConvertError;
 
-    ghost answers = { λ text r. TextAnswers T.read (λ x. x) (only_flat (codes "Point") point_in T.eq) text r };
+    ghost answers = { λ text r. AnswersKind T.read T.eq point_kind text r };
 
-    ghost bytes_answers = { λ bytes r. BytesAnswer T.read (λ x. x) (only_flat (codes "Point") point_in T.eq) bytes r };
+    ghost bytes_answers = { λ bytes r. BytesAnswerKind T.read T.eq point_kind bytes r };
 
     ghost if_all_read = { OnAllRead };
 
@@ -123,9 +123,9 @@ impl<T: WktNum> TryFromWkt<T> for flat::Point<T> {
 impl<T: WktNum> TryFromWkt<T> for flat::Line<T> {
     type Error = ConvertError;
 
-    ghost answers = { λ text r. TextAnswers T.read (λ x. x) (only_flat (codes "Line") line_in T.eq) text r };
+    ghost answers = { λ text r. AnswersKind T.read T.eq line_kind text r };
 
-    ghost bytes_answers = { λ bytes r. BytesAnswer T.read (λ x. x) (only_flat (codes "Line") line_in T.eq) bytes r };
+    ghost bytes_answers = { λ bytes r. BytesAnswerKind T.read T.eq line_kind bytes r };
 
     ghost if_all_read = { OnAllRead };
 
@@ -152,10 +152,9 @@ impl<T: WktNum> TryFromWkt<T> for flat::Line<T> {
 impl<T: WktNum> TryFromWkt<T> for flat::LineString<T> {
     type Error = ConvertError;
 
-    ghost answers = { λ text r. TextAnswers T.read (λ x. x) (only_flat (codes "LineString") path_in T.eq) text r };
+    ghost answers = { λ text r. AnswersKind T.read T.eq line_string_kind text r };
 
-    ghost bytes_answers = { λ bytes r. BytesAnswer T.read (λ x. x) (only_flat (codes "LineString") path_in T.eq)
-        bytes r };
+    ghost bytes_answers = { λ bytes r. BytesAnswerKind T.read T.eq line_string_kind bytes r };
 
     ghost if_all_read = { OnAllRead };
 
@@ -182,10 +181,9 @@ impl<T: WktNum> TryFromWkt<T> for flat::LineString<T> {
 impl<T: WktNum> TryFromWkt<T> for flat::Polygon<T> {
     type Error = ConvertError;
 
-    ghost answers = { λ text r. TextAnswers T.read (λ x. x) (only_flat (codes "Polygon") rings_in T.eq) text r };
+    ghost answers = { λ text r. AnswersKind T.read T.eq polygon_kind text r };
 
-    ghost bytes_answers = { λ bytes r. BytesAnswer T.read (λ x. x) (only_flat (codes "Polygon") rings_in T.eq)
-        bytes r };
+    ghost bytes_answers = { λ bytes r. BytesAnswerKind T.read T.eq polygon_kind bytes r };
 
     ghost if_all_read = { OnAllRead };
 
@@ -212,10 +210,9 @@ impl<T: WktNum> TryFromWkt<T> for flat::Polygon<T> {
 impl<T: WktNum> TryFromWkt<T> for flat::MultiPoint<T> {
     type Error = ConvertError;
 
-    ghost answers = { λ text r. TextAnswers T.read (λ x. x) (only_flat (codes "MultiPoint") points_in T.eq) text r };
+    ghost answers = { λ text r. AnswersKind T.read T.eq multi_point_kind text r };
 
-    ghost bytes_answers = { λ bytes r. BytesAnswer T.read (λ x. x) (only_flat (codes "MultiPoint") points_in T.eq)
-        bytes r };
+    ghost bytes_answers = { λ bytes r. BytesAnswerKind T.read T.eq multi_point_kind bytes r };
 
     ghost if_all_read = { OnAllRead };
 
@@ -242,11 +239,9 @@ impl<T: WktNum> TryFromWkt<T> for flat::MultiPoint<T> {
 impl<T: WktNum> TryFromWkt<T> for flat::MultiLineString<T> {
     type Error = ConvertError;
 
-    ghost answers = { λ text r. TextAnswers T.read (λ x. x) (only_flat (codes "MultiLineString") paths_in T.eq)
-        text r };
+    ghost answers = { λ text r. AnswersKind T.read T.eq multi_line_string_kind text r };
 
-    ghost bytes_answers = { λ bytes r. BytesAnswer T.read (λ x. x)
-        (only_flat (codes "MultiLineString") paths_in T.eq) bytes r };
+    ghost bytes_answers = { λ bytes r. BytesAnswerKind T.read T.eq multi_line_string_kind bytes r };
 
     ghost if_all_read = { OnAllRead };
 
@@ -273,11 +268,9 @@ impl<T: WktNum> TryFromWkt<T> for flat::MultiLineString<T> {
 impl<T: WktNum> TryFromWkt<T> for flat::MultiPolygon<T> {
     type Error = ConvertError;
 
-    ghost answers = { λ text r. TextAnswers T.read (λ x. x) (only_flat (codes "MultiPolygon") polygons_in T.eq)
-        text r };
+    ghost answers = { λ text r. AnswersKind T.read T.eq multi_polygon_kind text r };
 
-    ghost bytes_answers = { λ bytes r. BytesAnswer T.read (λ x. x)
-        (only_flat (codes "MultiPolygon") polygons_in T.eq) bytes r };
+    ghost bytes_answers = { λ bytes r. BytesAnswerKind T.read T.eq multi_polygon_kind bytes r };
 
     ghost if_all_read = { OnAllRead };
 
@@ -304,9 +297,9 @@ impl<T: WktNum> TryFromWkt<T> for flat::MultiPolygon<T> {
 impl<T: WktNum> TryFromWkt<T> for flat::Rect<T> {
     type Error = ConvertError;
 
-    ghost answers = { λ text r. TextAnswers T.read (λ x. x) (only_flat (codes "Rect") corners_in T.eq) text r };
+    ghost answers = { λ text r. AnswersKind T.read T.eq rect_kind text r };
 
-    ghost bytes_answers = { λ bytes r. BytesAnswer T.read (λ x. x) (only_flat (codes "Rect") corners_in T.eq) bytes r };
+    ghost bytes_answers = { λ bytes r. BytesAnswerKind T.read T.eq rect_kind bytes r };
 
     ghost if_all_read = { OnAllRead };
 
@@ -333,10 +326,9 @@ impl<T: WktNum> TryFromWkt<T> for flat::Rect<T> {
 impl<T: WktNum> TryFromWkt<T> for flat::Triangle<T> {
     type Error = ConvertError;
 
-    ghost answers = { λ text r. TextAnswers T.read (λ x. x) (only_flat (codes "Triangle") triangle_in T.eq) text r };
+    ghost answers = { λ text r. AnswersKind T.read T.eq triangle_kind text r };
 
-    ghost bytes_answers = { λ bytes r. BytesAnswer T.read (λ x. x) (only_flat (codes "Triangle") triangle_in T.eq)
-        bytes r };
+    ghost bytes_answers = { λ bytes r. BytesAnswerKind T.read T.eq triangle_kind bytes r };
 
     ghost if_all_read = { OnAllRead };
 

@@ -1,5 +1,5 @@
 //! Geometries out of JSON: a string is read as its text is, and nothing else is a geometry.
-ghost use Rattle.std.specs.Prelude.{◌≡◌, IfOk, IsNone, ◌↔◌, IsErrOf, IsTrue, codes, []};
+ghost use Rattle.std.specs.Prelude.{◌≡◌, IfOk, IsNone, ◌↔◌, IsErrOf, IsTrue, []};
 ghost use Rattle.std.specs.Result.{IsOk};
 ghost use Rattle.wkt_types.specs.Tree.{tree};
 ghost use Rattle.wkt_read.specs.Items.{bad_number};
@@ -9,9 +9,9 @@ ghost use Rattle.wkt_types.specs.Outcome.{Answers, value};
 ghost use Rattle.wkt_flat.specs.Tree.{Flat, flat_tree};
 ghost use Rattle.wkt_flat.specs.Equal.{coord_eq};
 ghost use Rattle.wkt_convert.specs.Flatten.{flat};
-ghost use Rattle.wkt.specs.FromText.{TextAnswers};
-ghost use Rattle.wkt_convert.specs.Kinds.{only, only_flat};
-ghost use Rattle.wkt.specs.Json.{text_of, AsText, point_if_any};
+ghost use Rattle.wkt.specs.FromText.{TextAnswers, AnswersKind};
+ghost use Rattle.wkt_convert.specs.Kinds.{only};
+ghost use Rattle.wkt.specs.Json.{text_of, AsText, point_or_none_kind};
 
 use crate::from_text::TryFromWkt;
 use serde_json::Value;
@@ -105,7 +105,7 @@ pub fn deserialize_geometry<T: WktNum>(
 
 /// The point, or none where the geometry is a multipoint without members.
 fn point_or_none<T: WktNum>(geometry: Geometry<T>) -> Result<Option<Point<T>>, ConvertError>
-    ensures { Answers (λ p. p) (only (codes "Point") point_if_any (value (flat_tree geometry))) result }
+    ensures { Answers (λ p. p) (only point_or_none_kind (value (flat_tree geometry))) result }
 {
     match geometry {
         Geometry::Point(point) => Ok(Some(point)),
@@ -138,8 +138,7 @@ pub fn deserialize_point<T: WktNum>(
     alloc: Global,
     value: &Value,
 ) -> Result<Option<Point<T>>, ValueError<ConvertError>>
-    ensures { AsText (text_of value.now) result
-        (TextAnswers T.read (λ p. p) (only_flat (codes "Point") point_if_any T.eq)) }
+    ensures { AsText (text_of value.now) result (AnswersKind T.read T.eq point_or_none_kind) }
 {
     match deserialize_geometry(alloc, value) {
         Ok(geometry) => match point_or_none(geometry) {

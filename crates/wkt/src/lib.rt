@@ -205,12 +205,13 @@ pub mod laws {
     };
     pub use wkt_explain::laws::{one_refusal, refused_has_no_front};
     pub use wkt_flat::laws::{flat_is_writable, rings_are_closed};
-    pub use wkt_num::laws::{finer_keeps, reading_is_equation, wider_keeps};
+    pub use wkt_num::earlier::{finer_keeps, wider_keeps};
+    pub use wkt_num::laws::reading_is_equation;
+    pub use wkt_read::earlier::old_forms;
     pub use wkt_read::laws::{
         canon_once, dead_for_good, few_lexemes, front_is_writable, front_of_lexemes, header_names,
-        headline, old_forms, one_form, one_front, one_reading, one_split, one_text, one_value_text,
-        one_wkt, read_values_are_writable, reads_back, stable_front, value_reads_back,
-        whole_characters,
+        headline, one_form, one_front, one_reading, one_split, one_text, one_value_text, one_wkt,
+        read_values_are_writable, reads_back, stable_front, value_reads_back, whole_characters,
     };
     pub use wkt_to_wkt::laws::{flat_and_back, plain_comes_back};
     pub use wkt_types::laws::canonical_is_one;

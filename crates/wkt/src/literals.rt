@@ -6,7 +6,7 @@
 //! ```
 ghost use Rattle.std.specs.Prelude.{◌≡◌, IfOk, Some, map};
 ghost use Rattle.wkt_access.specs.declared.dimensions.Dimension.TheVariants.{XY};
-ghost use Rattle.wkt.specs.Literals.{coord_at, path_through};
+ghost use Rattle.wkt.specs.Literals.{coord_at, line_string_through};
 
 use std::alloc::{AllocError, Global};
 use wkt_types::{Coord, Dimension, LineString, Point, Polygon};
@@ -46,7 +46,7 @@ pub fn line_string<T: Copy + Drop>(
     alloc: Global,
     places: &[(T, T)],
 ) -> Result<LineString<T>, AllocError>
-    ensures { IfOk result (λ l. l ≡ path_through places.now) }
+    ensures { IfOk result (λ l. l ≡ line_string_through places.now) }
 {
     let mut coords = Vec::with_capacity(alloc, places.len())?;
     for place in places {
@@ -65,7 +65,7 @@ pub fn line_string<T: Copy + Drop>(
 /// let polygon = polygon(alloc, &[&[(0, 0), (4, -1), (2, 4), (0, 0)]])?; // POLYGON((0 0,4 -1,2 4,0 0))
 /// ```
 pub fn polygon<T: Copy + Drop>(alloc: Global, rings: &[&[(T, T)]]) -> Result<Polygon<T>, AllocError>
-    ensures rings { IfOk result (λ y. y.parts ≡ map (λ r. path_through r.now) rings.now) }
+    ensures rings { IfOk result (λ y. y.parts ≡ map (λ r. line_string_through r.now) rings.now) }
     ensures dim { IfOk result (λ y. y.dim ≡ XY) }
 {
     let mut all = Vec::with_capacity(alloc, rings.len())?;

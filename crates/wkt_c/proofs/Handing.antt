@@ -1,5 +1,5 @@
 -- What is handed out of what was read and written.
-use Rattle.std.proofs.Common.{◌≡◌, ◌↔◌, inl, inr, refl, sym, ap, ◌∙◌, subst, arith, ℕ, ℤ, List, Option, Result, Ok, Err, MatchResult, IfOk, IfErr, length, true}
+use Rattle.std.proofs.Common.{◌≡◌, ◌↔◌, inl, inr, refl, sym, ap, ◌∙◌, subst, arith, ℕ, ℤ, List, Option, Result, Ok, Err, MatchResult, IfOk, IfErr, length}
 use Rattle.std.specs.Prelude.{Some, None}
 use Rattle.std.proofs.lemmas.List.{append-nil}
 use Rattle.std.specs.List.{All, Contains}
@@ -100,7 +100,7 @@ pub err-of : {T E : Type 0} (P : T → Type 0) (Q : E → Type 0) (r : Result T 
 err-of P Q (Ok x) h = tt
 err-of P Q (Err e) h = h
 
-pub sound : (places : ℕ) (t : Tree ℤ) (v : Value ℤ) → value_of t ≡ v → IsWellFormed (IsUnits places) true v → fault (tree_shape t) ≡ None
+pub sound : (places : ℕ) (t : Tree ℤ) (v : Value ℤ) → value_of t ≡ v → IsWellFormed (IsUnits places) v → fault (tree_shape t) ≡ None
 sound places t v e fits = ap (λ w. fault (shape_of w)) e ∙ (writable (IsUnits places) v fits).0
 
 -- a value of the given arrays has the arrays that were made

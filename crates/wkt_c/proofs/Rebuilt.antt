@@ -1,11 +1,11 @@
 -- The value of some arrays is the only one.
-use Rattle.std.proofs.Common.{◌≡◌, ◌++◌, ◌≤◌, ℕ, ℤ, List, [], ◌∷◌, Option, length, map, refl, sym, ap, ◌∙◌, subst, arith, option_to_list, nat_eq, true}
+use Rattle.std.proofs.Common.{◌≡◌, ◌++◌, ◌≤◌, ℕ, ℤ, List, [], ◌∷◌, Option, length, map, refl, sym, ap, ◌∙◌, subst, arith, option_to_list, nat_eq}
 use Rattle.std.specs.Prelude.{Some, None, if◌then◌else◌}
 use Rattle.std.specs.List.{All, AllByRecursion, slice_index_or}
 use Rattle.std.proofs.lemmas.List.Elements.{All-from_recursion}
 use Rattle.wkt_num.specs.Decimal.{IsUnits}
 use Rattle.wkt_access.specs.Values.{Value}
-use Rattle.wkt_access.specs.WellFormed.{CoordFits, LineStringFits, MemberFits, IsWellFormed}
+use Rattle.wkt_access.specs.WellFormed.{CoordFits, LineStringFits, PointFits, IsWellFormed}
 use Rattle.wkt_access.specs.declared.dimensions.Dimension.{Dimension}
 use Rattle.wkt_access.specs.declared.dimensions.Dimension.TheVariants.{XY, XYZ, XYM, XYZM}
 use Rattle.wkt_types.specs.declared.geometry_type.GeometryType.{GeometryType}
@@ -109,12 +109,12 @@ module _ (is_value : ℤ → Type 0) (d : Dimension) where
   one-fits : (rs : List (List (List ℤ))) → AllByRecursion (LineStringFits is_value d) rs → AllByRecursion (HasSize d) (joined (joined (rs ∷ [])))
   one-fits rs h = rings-fit (joined (rs ∷ [])) (all-append (LineStringFits is_value d) rs [] h tt)
 
-  members-fit : (os : List (Option (List ℤ))) → AllByRecursion (MemberFits is_value true d) os → AllByRecursion (LineStringFits is_value d) (map option_to_list os)
+  members-fit : (os : List (Option (List ℤ))) → AllByRecursion (PointFits is_value d) os → AllByRecursion (LineStringFits is_value d) (map option_to_list os)
   members-fit [] h = tt
   members-fit (None ∷ os) h = (tt, members-fit os h.1)
   members-fit (Some c ∷ os) h = ((h.0, tt), members-fit os h.1)
 
-parts-fit : (is_value : ℤ → Type 0) (v : Value ℤ) (ps : List (List (List (List ℤ)))) → parts_of v ≡ Some ps → IsWellFormed is_value true v → AllByRecursion (HasSize (dim_of v)) (joined (joined ps))
+parts-fit : (is_value : ℤ → Type 0) (v : Value ℤ) (ps : List (List (List (List ℤ)))) → parts_of v ≡ Some ps → IsWellFormed is_value v → AllByRecursion (HasSize (dim_of v)) (joined (joined ps))
 parts-fit is_value (Value.point d None) ps e h = subst (λ qs. AllByRecursion (HasSize d) (joined (joined qs))) {x = ([] ∷ []) ∷ []} {y = ps} (cc) tt
 parts-fit is_value (Value.point d (Some c)) ps e h = subst (λ qs. AllByRecursion (HasSize d) (joined (joined qs))) {x = ((c ∷ []) ∷ []) ∷ []} {y = ps} (cc) (h.1, tt)
 parts-fit is_value (Value.line_string d cs) ps e h = subst (λ qs. AllByRecursion (HasSize d) (joined (joined qs))) {x = (cs ∷ []) ∷ []} {y = ps} (cc) (one-fits is_value d (cs ∷ []) (h, tt))
@@ -129,7 +129,7 @@ parts-fit is_value (Value.collection d vs) ps e h = absurd (cc)
 -- ---- what is asked for of some arrays
 
 module _ (places kind-is dimension : ℕ) (numbers : List ℤ) (rings polygons : List ℕ) (d : Dimension) (d-is : dimension ≡ dimension_number d)
-    (v : Value ℤ) (fits : IsWellFormed (IsUnits places) true v) (are : AreArrays v kind-is dimension numbers rings polygons) where
+    (v : Value ℤ) (fits : IsWellFormed (IsUnits places) v) (are : AreArrays v kind-is dimension numbers rings polygons) where
   pub same-dim : dim_of v ≡ d
   same-dim = one-dim (dim_of v) d (sym are.dimension_is ∙ d-is)
 

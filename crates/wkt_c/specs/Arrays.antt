@@ -1,5 +1,5 @@
 -- A value as flat arrays.
-use Rattle.std.specs.Prelude.{◌≡◌, ◌+◌, ◌⊎◌, ℕ, ℤ, List, [], ◌∷◌, map, flat_map, length, Option, Some, None, option_to_list, IsUtf8, true}
+use Rattle.std.specs.Prelude.{◌≡◌, ◌+◌, ◌⊎◌, ℕ, ℤ, List, [], ◌∷◌, map, flat_map, length, Option, Some, None, option_to_list, IsUtf8}
 use Rattle.std.specs.List.{All, Contains}
 use Rattle.wkt_num.specs.Whole.{IsSigned}
 use Rattle.wkt_num.specs.Decimal.{IsUnits}
@@ -52,7 +52,7 @@ pub record AreOf (places : ℕ) (text : List ℕ) (end kind dimension : ℕ) (nu
   pub utf8 : IsUtf8 text
   pub value : Value ℤ
   pub front : Front (read_at places) text value end
-  pub fits : IsWellFormed (IsUnits places) true value
+  pub fits : IsWellFormed (IsUnits places) value
   pub arrays : AreArrays value kind dimension numbers rings polygons
 
 -- One of these numbers has more units than 64 bits hold, one of them for the sign.
@@ -90,7 +90,7 @@ IsNotFlat places text status = HasNoPlaces places status ⊎ (IsNoArrays places 
 -- These are the arrays of some geometry, each of whose coordinates has as many numbers as its dimension says, and the numbers are of 64 bits, as those of a call are.
 abbrev pub AreOfSome : ℕ → ℕ → ℕ → List ℤ → List ℕ → List ℕ → Type 0
 AreOfSome places kind dimension numbers rings polygons =
-    (value : Value ℤ) × IsWellFormed (IsUnits places) true value × AreArrays value kind dimension numbers rings polygons × All (IsSigned 63) numbers
+    (value : Value ℤ) × IsWellFormed (IsUnits places) value × AreArrays value kind dimension numbers rings polygons × All (IsSigned 63) numbers
 
 -- Why arrays have no text: there are no numbers of so many places, memory ran out, or they are the arrays of no geometry.
 abbrev pub IsNoTextAt : ℕ → ℕ → ℕ → List ℤ → List ℕ → List ℕ → ℕ → Type 0

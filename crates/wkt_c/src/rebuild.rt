@@ -242,7 +242,7 @@ fn polygons<const D: u32>(
 
 fn rebuilt<const D: u32>(alloc: Global, given: GivenArrays<'_>) -> Result<Wkt<Decimal<D>>, u32>
     requires { D ≤ 36 }
-    ensures ok { IfOk result (λ w. (value : Value ℤ) → IsWellFormed (IsUnits D) true value → AreArrays value given.entry.kind given.entry.dimension given.entry.numbers.now given.entry.rings.now given.entry.polygons.now → value_of (tree w) ≡ value) }
+    ensures ok { IfOk result (λ w. (value : Value ℤ) → IsWellFormed (IsUnits D) value → AreArrays value given.entry.kind given.entry.dimension given.entry.numbers.now given.entry.rings.now given.entry.polygons.now → value_of (tree w) ≡ value) }
     ensures err { IfErr result (IsRefused (AreOfSome D given.entry.kind given.entry.dimension given.entry.numbers.now given.entry.rings.now given.entry.polygons.now)) }
 {
     let d = dimension_of(given.dimension)?;
@@ -290,7 +290,7 @@ fn text_if_same<const D: u32>(
 ) -> Result<Vec<u8>, u32>
     requires { D ≤ 36 }
     ensures ok { IfOk result (λ v. IsTextOf D given.entry.kind given.entry.dimension given.entry.numbers.now given.entry.rings.now given.entry.polygons.now v.items) }
-    ensures err { IfErr result (IsRefused ((value : Value ℤ) × IsWellFormed (IsUnits D) true value × AreArrays value given.entry.kind given.entry.dimension given.entry.numbers.now given.entry.rings.now given.entry.polygons.now × (value_of (tree wkt.now) ≡ value) × All (IsSigned 63) given.entry.numbers.now)) }
+    ensures err { IfErr result (IsRefused ((value : Value ℤ) × IsWellFormed (IsUnits D) value × AreArrays value given.entry.kind given.entry.dimension given.entry.numbers.now given.entry.rings.now given.entry.polygons.now × (value_of (tree wkt.now) ≡ value) × All (IsSigned 63) given.entry.numbers.now)) }
 {
     let arrays = match Arrays::of(alloc, wkt) {
         Ok(arrays) => arrays,

@@ -49,7 +49,7 @@ pub(crate) fn pushed(alloc: Global, of: &str, text: &str) -> Result<String, AnyE
     let mut out = String::from_str(alloc, "is ")?;
     let result = match Geometry::<Number>::try_from_wkt_str(alloc, text)? {
         Geometry::Point(x) => push_point(&mut out, &x),
-        Geometry::LineString(x) => push_path(&mut out, of, &x),
+        Geometry::LineString(x) => push_line_string(&mut out, of, &x),
         Geometry::Polygon(x) => push_polygon(&mut out, &x),
         Geometry::MultiPoint(x) => push_multi_point(&mut out, &x),
         Geometry::MultiLineString(x) => push_multi_linestring(&mut out, &x),
@@ -66,12 +66,16 @@ pub(crate) fn pushed(alloc: Global, of: &str, text: &str) -> Result<String, AnyE
     }
 }
 
-fn push_path(out: &mut String, of: &str, path: &LineString<Number>) -> Result<(), WriteError> {
-    match (of, path.0.as_slice()) {
+fn push_line_string(
+    out: &mut String,
+    of: &str,
+    line_string: &LineString<Number>,
+) -> Result<(), WriteError> {
+    match (of, line_string.0.as_slice()) {
         ("Line", [a, b]) => push_line(out, &Line::new(*a, *b)),
         ("Rect", [a, b]) => push_rect(out, &Rect::new(*a, *b)),
         ("Triangle", [a, b, c]) => push_triangle(out, &Triangle::new(*a, *b, *c)),
-        _ => push_linestring(out, path),
+        _ => push_linestring(out, line_string),
     }
 }
 

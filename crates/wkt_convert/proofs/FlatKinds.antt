@@ -13,7 +13,7 @@ use Rattle.wkt_flat.specs.declared.coord.Coord as flat_coord
 use Rattle.wkt_flat.specs.declared.point.Point as flat_point
 use Rattle.wkt_flat.specs.declared.line.Line as flat_line
 use Rattle.wkt_flat.specs.declared.triangle.Triangle as flat_triangle
-use Rattle.wkt_convert.specs.Kinds.{point_in, line_in, path_in, rings_in, points_in, paths_in, polygons_in, corners_in, triangle_in}
+use Rattle.wkt_convert.specs.Kinds.{point_in, line_in, line_string_in, rings_in, points_in, line_strings_in, polygons_in, corners_in, triangle_in}
 
 pub flat-point : {T : Type 0} (x : flat_point.Point T) → flat_tree (variants.Point x) ≡ Flat.point x
 flat-point {T} x =
@@ -69,20 +69,20 @@ level_no_line {T} (Geometry-F.Triangle x) h = ap line_in (folds.fold-roll-Geomet
 pub no_line : {T : Type 0} (g : Geometry T) → ((x : flat_line.Line T) → g ≡ variants.Line x → ⊥) → line_in (flat_tree g) ≡ None
 no_line {T} g = subst (λ (g : Geometry T). ((x : flat_line.Line T) → g ≡ variants.Line x → ⊥) → line_in (flat_tree g) ≡ None) (views.roll-out-Geometry T g) (level_no_line (out-Geometry T g))
 
-level_no_path : {T : Type 0} (f : Level T) → ((x : List (flat_coord.Coord T)) → roll-Geometry T f ≡ variants.LineString x → ⊥) → path_in (flat_tree (roll-Geometry T f)) ≡ None
-level_no_path {T} (Geometry-F.Point x) h = ap path_in (folds.fold-roll-Geometry T (Flat T) (Flats T) geometry_step flats_step (Geometry-F.Point x))
-level_no_path {T} (Geometry-F.Line x) h = ap path_in (folds.fold-roll-Geometry T (Flat T) (Flats T) geometry_step flats_step (Geometry-F.Line x))
-level_no_path (Geometry-F.LineString x) h = absurd (h x (variants.rolls-LineString x))
-level_no_path {T} (Geometry-F.Polygon x) h = ap path_in (folds.fold-roll-Geometry T (Flat T) (Flats T) geometry_step flats_step (Geometry-F.Polygon x))
-level_no_path {T} (Geometry-F.MultiPoint x) h = ap path_in (folds.fold-roll-Geometry T (Flat T) (Flats T) geometry_step flats_step (Geometry-F.MultiPoint x))
-level_no_path {T} (Geometry-F.MultiLineString x) h = ap path_in (folds.fold-roll-Geometry T (Flat T) (Flats T) geometry_step flats_step (Geometry-F.MultiLineString x))
-level_no_path {T} (Geometry-F.MultiPolygon x) h = ap path_in (folds.fold-roll-Geometry T (Flat T) (Flats T) geometry_step flats_step (Geometry-F.MultiPolygon x))
-level_no_path {T} (Geometry-F.GeometryCollection x) h = ap path_in (folds.fold-roll-Geometry T (Flat T) (Flats T) geometry_step flats_step (Geometry-F.GeometryCollection x))
-level_no_path {T} (Geometry-F.Rect x) h = ap path_in (folds.fold-roll-Geometry T (Flat T) (Flats T) geometry_step flats_step (Geometry-F.Rect x))
-level_no_path {T} (Geometry-F.Triangle x) h = ap path_in (folds.fold-roll-Geometry T (Flat T) (Flats T) geometry_step flats_step (Geometry-F.Triangle x))
+level_no_line_string : {T : Type 0} (f : Level T) → ((x : List (flat_coord.Coord T)) → roll-Geometry T f ≡ variants.LineString x → ⊥) → line_string_in (flat_tree (roll-Geometry T f)) ≡ None
+level_no_line_string {T} (Geometry-F.Point x) h = ap line_string_in (folds.fold-roll-Geometry T (Flat T) (Flats T) geometry_step flats_step (Geometry-F.Point x))
+level_no_line_string {T} (Geometry-F.Line x) h = ap line_string_in (folds.fold-roll-Geometry T (Flat T) (Flats T) geometry_step flats_step (Geometry-F.Line x))
+level_no_line_string (Geometry-F.LineString x) h = absurd (h x (variants.rolls-LineString x))
+level_no_line_string {T} (Geometry-F.Polygon x) h = ap line_string_in (folds.fold-roll-Geometry T (Flat T) (Flats T) geometry_step flats_step (Geometry-F.Polygon x))
+level_no_line_string {T} (Geometry-F.MultiPoint x) h = ap line_string_in (folds.fold-roll-Geometry T (Flat T) (Flats T) geometry_step flats_step (Geometry-F.MultiPoint x))
+level_no_line_string {T} (Geometry-F.MultiLineString x) h = ap line_string_in (folds.fold-roll-Geometry T (Flat T) (Flats T) geometry_step flats_step (Geometry-F.MultiLineString x))
+level_no_line_string {T} (Geometry-F.MultiPolygon x) h = ap line_string_in (folds.fold-roll-Geometry T (Flat T) (Flats T) geometry_step flats_step (Geometry-F.MultiPolygon x))
+level_no_line_string {T} (Geometry-F.GeometryCollection x) h = ap line_string_in (folds.fold-roll-Geometry T (Flat T) (Flats T) geometry_step flats_step (Geometry-F.GeometryCollection x))
+level_no_line_string {T} (Geometry-F.Rect x) h = ap line_string_in (folds.fold-roll-Geometry T (Flat T) (Flats T) geometry_step flats_step (Geometry-F.Rect x))
+level_no_line_string {T} (Geometry-F.Triangle x) h = ap line_string_in (folds.fold-roll-Geometry T (Flat T) (Flats T) geometry_step flats_step (Geometry-F.Triangle x))
 
-pub no_path : {T : Type 0} (g : Geometry T) → ((x : List (flat_coord.Coord T)) → g ≡ variants.LineString x → ⊥) → path_in (flat_tree g) ≡ None
-no_path {T} g = subst (λ (g : Geometry T). ((x : List (flat_coord.Coord T)) → g ≡ variants.LineString x → ⊥) → path_in (flat_tree g) ≡ None) (views.roll-out-Geometry T g) (level_no_path (out-Geometry T g))
+pub no_line_string : {T : Type 0} (g : Geometry T) → ((x : List (flat_coord.Coord T)) → g ≡ variants.LineString x → ⊥) → line_string_in (flat_tree g) ≡ None
+no_line_string {T} g = subst (λ (g : Geometry T). ((x : List (flat_coord.Coord T)) → g ≡ variants.LineString x → ⊥) → line_string_in (flat_tree g) ≡ None) (views.roll-out-Geometry T g) (level_no_line_string (out-Geometry T g))
 
 level_no_rings : {T : Type 0} (f : Level T) → ((x : Rings (flat_coord.Coord T)) → roll-Geometry T f ≡ variants.Polygon x → ⊥) → rings_in (flat_tree (roll-Geometry T f)) ≡ None
 level_no_rings {T} (Geometry-F.Point x) h = ap rings_in (folds.fold-roll-Geometry T (Flat T) (Flats T) geometry_step flats_step (Geometry-F.Point x))
@@ -114,20 +114,20 @@ level_no_points {T} (Geometry-F.Triangle x) h = ap points_in (folds.fold-roll-Ge
 pub no_points : {T : Type 0} (g : Geometry T) → ((x : List (flat_point.Point T)) → g ≡ variants.MultiPoint x → ⊥) → points_in (flat_tree g) ≡ None
 no_points {T} g = subst (λ (g : Geometry T). ((x : List (flat_point.Point T)) → g ≡ variants.MultiPoint x → ⊥) → points_in (flat_tree g) ≡ None) (views.roll-out-Geometry T g) (level_no_points (out-Geometry T g))
 
-level_no_paths : {T : Type 0} (f : Level T) → ((x : List (List (flat_coord.Coord T))) → roll-Geometry T f ≡ variants.MultiLineString x → ⊥) → paths_in (flat_tree (roll-Geometry T f)) ≡ None
-level_no_paths {T} (Geometry-F.Point x) h = ap paths_in (folds.fold-roll-Geometry T (Flat T) (Flats T) geometry_step flats_step (Geometry-F.Point x))
-level_no_paths {T} (Geometry-F.Line x) h = ap paths_in (folds.fold-roll-Geometry T (Flat T) (Flats T) geometry_step flats_step (Geometry-F.Line x))
-level_no_paths {T} (Geometry-F.LineString x) h = ap paths_in (folds.fold-roll-Geometry T (Flat T) (Flats T) geometry_step flats_step (Geometry-F.LineString x))
-level_no_paths {T} (Geometry-F.Polygon x) h = ap paths_in (folds.fold-roll-Geometry T (Flat T) (Flats T) geometry_step flats_step (Geometry-F.Polygon x))
-level_no_paths {T} (Geometry-F.MultiPoint x) h = ap paths_in (folds.fold-roll-Geometry T (Flat T) (Flats T) geometry_step flats_step (Geometry-F.MultiPoint x))
-level_no_paths (Geometry-F.MultiLineString x) h = absurd (h x (variants.rolls-MultiLineString x))
-level_no_paths {T} (Geometry-F.MultiPolygon x) h = ap paths_in (folds.fold-roll-Geometry T (Flat T) (Flats T) geometry_step flats_step (Geometry-F.MultiPolygon x))
-level_no_paths {T} (Geometry-F.GeometryCollection x) h = ap paths_in (folds.fold-roll-Geometry T (Flat T) (Flats T) geometry_step flats_step (Geometry-F.GeometryCollection x))
-level_no_paths {T} (Geometry-F.Rect x) h = ap paths_in (folds.fold-roll-Geometry T (Flat T) (Flats T) geometry_step flats_step (Geometry-F.Rect x))
-level_no_paths {T} (Geometry-F.Triangle x) h = ap paths_in (folds.fold-roll-Geometry T (Flat T) (Flats T) geometry_step flats_step (Geometry-F.Triangle x))
+level_no_line_strings : {T : Type 0} (f : Level T) → ((x : List (List (flat_coord.Coord T))) → roll-Geometry T f ≡ variants.MultiLineString x → ⊥) → line_strings_in (flat_tree (roll-Geometry T f)) ≡ None
+level_no_line_strings {T} (Geometry-F.Point x) h = ap line_strings_in (folds.fold-roll-Geometry T (Flat T) (Flats T) geometry_step flats_step (Geometry-F.Point x))
+level_no_line_strings {T} (Geometry-F.Line x) h = ap line_strings_in (folds.fold-roll-Geometry T (Flat T) (Flats T) geometry_step flats_step (Geometry-F.Line x))
+level_no_line_strings {T} (Geometry-F.LineString x) h = ap line_strings_in (folds.fold-roll-Geometry T (Flat T) (Flats T) geometry_step flats_step (Geometry-F.LineString x))
+level_no_line_strings {T} (Geometry-F.Polygon x) h = ap line_strings_in (folds.fold-roll-Geometry T (Flat T) (Flats T) geometry_step flats_step (Geometry-F.Polygon x))
+level_no_line_strings {T} (Geometry-F.MultiPoint x) h = ap line_strings_in (folds.fold-roll-Geometry T (Flat T) (Flats T) geometry_step flats_step (Geometry-F.MultiPoint x))
+level_no_line_strings (Geometry-F.MultiLineString x) h = absurd (h x (variants.rolls-MultiLineString x))
+level_no_line_strings {T} (Geometry-F.MultiPolygon x) h = ap line_strings_in (folds.fold-roll-Geometry T (Flat T) (Flats T) geometry_step flats_step (Geometry-F.MultiPolygon x))
+level_no_line_strings {T} (Geometry-F.GeometryCollection x) h = ap line_strings_in (folds.fold-roll-Geometry T (Flat T) (Flats T) geometry_step flats_step (Geometry-F.GeometryCollection x))
+level_no_line_strings {T} (Geometry-F.Rect x) h = ap line_strings_in (folds.fold-roll-Geometry T (Flat T) (Flats T) geometry_step flats_step (Geometry-F.Rect x))
+level_no_line_strings {T} (Geometry-F.Triangle x) h = ap line_strings_in (folds.fold-roll-Geometry T (Flat T) (Flats T) geometry_step flats_step (Geometry-F.Triangle x))
 
-pub no_paths : {T : Type 0} (g : Geometry T) → ((x : List (List (flat_coord.Coord T))) → g ≡ variants.MultiLineString x → ⊥) → paths_in (flat_tree g) ≡ None
-no_paths {T} g = subst (λ (g : Geometry T). ((x : List (List (flat_coord.Coord T))) → g ≡ variants.MultiLineString x → ⊥) → paths_in (flat_tree g) ≡ None) (views.roll-out-Geometry T g) (level_no_paths (out-Geometry T g))
+pub no_line_strings : {T : Type 0} (g : Geometry T) → ((x : List (List (flat_coord.Coord T))) → g ≡ variants.MultiLineString x → ⊥) → line_strings_in (flat_tree g) ≡ None
+no_line_strings {T} g = subst (λ (g : Geometry T). ((x : List (List (flat_coord.Coord T))) → g ≡ variants.MultiLineString x → ⊥) → line_strings_in (flat_tree g) ≡ None) (views.roll-out-Geometry T g) (level_no_line_strings (out-Geometry T g))
 
 level_no_polygons : {T : Type 0} (f : Level T) → ((x : List (Rings (flat_coord.Coord T))) → roll-Geometry T f ≡ variants.MultiPolygon x → ⊥) → polygons_in (flat_tree (roll-Geometry T f)) ≡ None
 level_no_polygons {T} (Geometry-F.Point x) h = ap polygons_in (folds.fold-roll-Geometry T (Flat T) (Flats T) geometry_step flats_step (Geometry-F.Point x))

@@ -30,14 +30,19 @@ abbrev pub asked : {X : Type 0} → List ℕ → List ℕ → Option X → Outco
 asked expected found (Some x) = value x
 asked expected found None = refused (mismatched expected found)
 
+-- A flat kind: its plain name, and the content of a value of that kind.
+pub record FlatKind (T X : Type 0) : Type 0 where
+  pub name : List ℕ
+  pub content : Flat T → Option X
+
 -- The content of a flat value that is of the kind asked for; a fault of the conversion comes first.
-abbrev pub only : {T X : Type 0} → List ℕ → (Flat T → Option X) → Outcome (Flat T) → Outcome X
-only expected pick (value t) = asked expected (flat_name t) (pick t)
-only expected pick (refused k) = refused k
+abbrev pub only : {T X : Type 0} → FlatKind T X → Outcome (Flat T) → Outcome X
+only kind (value t) = asked kind.name (flat_name t) (kind.content t)
+only kind (refused k) = refused k
 
 -- The content of the flat value of a tree, if it is of the kind asked for.
-abbrev pub only_flat : {T X : Type 0} → List ℕ → (Flat T → Option X) → (T → T → Bool) → Tree T → Outcome X
-only_flat expected pick E t = only expected pick (flat (coord_eq E) t)
+abbrev pub only_flat : {T X : Type 0} → FlatKind T X → (T → T → Bool) → Tree T → Outcome X
+only_flat kind E t = only kind (flat (coord_eq E) t)
 
 -- The content of each kind, if the value is of that kind.
 abbrev pub point_in : {T : Type 0} → Flat T → Option (Point T)
@@ -48,9 +53,9 @@ abbrev pub line_in : {T : Type 0} → Flat T → Option (Line T)
 line_in (Flat.line l) = Some l
 line_in _ = None
 
-abbrev pub path_in : {T : Type 0} → Flat T → Option (List (Coord T))
-path_in (Flat.line_string l) = Some l
-path_in _ = None
+abbrev pub line_string_in : {T : Type 0} → Flat T → Option (List (Coord T))
+line_string_in (Flat.line_string l) = Some l
+line_string_in _ = None
 
 abbrev pub rings_in : {T : Type 0} → Flat T → Option (Rings (Coord T))
 rings_in (Flat.polygon y) = Some y
@@ -60,9 +65,9 @@ abbrev pub points_in : {T : Type 0} → Flat T → Option (List (Point T))
 points_in (Flat.multi_point m) = Some m
 points_in _ = None
 
-abbrev pub paths_in : {T : Type 0} → Flat T → Option (List (List (Coord T)))
-paths_in (Flat.multi_line_string m) = Some m
-paths_in _ = None
+abbrev pub line_strings_in : {T : Type 0} → Flat T → Option (List (List (Coord T)))
+line_strings_in (Flat.multi_line_string m) = Some m
+line_strings_in _ = None
 
 abbrev pub polygons_in : {T : Type 0} → Flat T → Option (List (Rings (Coord T)))
 polygons_in (Flat.multi_polygon m) = Some m
@@ -75,3 +80,31 @@ corners_in _ = None
 abbrev pub triangle_in : {T : Type 0} → Flat T → Option (Triangle T)
 triangle_in (Flat.triangle t) = Some t
 triangle_in _ = None
+
+-- The kinds.
+abbrev pub point_kind : {T : Type 0} → FlatKind T (Point T)
+point_kind = record { name = codes "Point"; content = point_in }
+
+abbrev pub line_kind : {T : Type 0} → FlatKind T (Line T)
+line_kind = record { name = codes "Line"; content = line_in }
+
+abbrev pub line_string_kind : {T : Type 0} → FlatKind T (List (Coord T))
+line_string_kind = record { name = codes "LineString"; content = line_string_in }
+
+abbrev pub polygon_kind : {T : Type 0} → FlatKind T (Rings (Coord T))
+polygon_kind = record { name = codes "Polygon"; content = rings_in }
+
+abbrev pub multi_point_kind : {T : Type 0} → FlatKind T (List (Point T))
+multi_point_kind = record { name = codes "MultiPoint"; content = points_in }
+
+abbrev pub multi_line_string_kind : {T : Type 0} → FlatKind T (List (List (Coord T)))
+multi_line_string_kind = record { name = codes "MultiLineString"; content = line_strings_in }
+
+abbrev pub multi_polygon_kind : {T : Type 0} → FlatKind T (List (Rings (Coord T)))
+multi_polygon_kind = record { name = codes "MultiPolygon"; content = polygons_in }
+
+abbrev pub rect_kind : {T : Type 0} → FlatKind T (Corners T)
+rect_kind = record { name = codes "Rect"; content = corners_in }
+
+abbrev pub triangle_kind : {T : Type 0} → FlatKind T (Triangle T)
+triangle_kind = record { name = codes "Triangle"; content = triangle_in }

@@ -142,7 +142,7 @@ module _ {N : Type 0} (read : List ℕ → Option N) where
       pub at_end : (to : ℕ) → IsPastWhite text end to → (m : Expected) → m ≡ expected_at w.place w.depth → IsRefusedAt read text to to m
       at_end to past m em =
           let ls : List Lexeme = lexemes_of b.given ++ [] in
-          let begun = subst (BegunGeometry read true) (append-nil (lexemes_of b.given)) (too_short read (length ls) ls (omega arith) stopped_end) in
+          let begun = subst (BegunGeometry read) (append-nil (lexemes_of b.given)) (too_short read (length ls) ls (omega arith) stopped_end) in
           let nothing = subst (NoneBegins read) (append-nil (lexemes_of b.given)) (none read (length ls) ls [] (omega arith) stopped_end) in
           inr (too_short_at read text b.given end to (subst (AreEnds text) split_end (placed-ends text)) (subst (λ p. IsSplit text (lexemes_of p)) split_end (placed-split text)) b.ends past begun nothing m (expected_after (lexemes_of b.given) w b.stands goes m em))
 

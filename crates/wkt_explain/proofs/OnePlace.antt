@@ -1,9 +1,9 @@
 -- A text is refused at one place at most, and has no front then.
-use Rattle.std.proofs.Common.{◌≡◌, ℕ, List, [], ◌∷◌, ◌++◌, length, length-append, sym, refl, ap, ◌∙◌, subst, append-nil, arith, Option, true, inl, inr}
+use Rattle.std.proofs.Common.{◌≡◌, ℕ, List, [], ◌∷◌, ◌++◌, length, length-append, sym, refl, ap, ◌∙◌, subst, append-nil, arith, Option, inl, inr}
 use Rattle.wkt_num.specs.Bytes.{Lexeme, White}
 use Rattle.wkt_read.specs.Lexemes.{Takes, IsSplit}
-use Rattle.wkt_read.specs.Grammar.{Geometry}
-use Rattle.wkt_read.specs.Begun.{BegunGeometry, NoneBeginsBy}
+use Rattle.wkt_read.specs.Grammar.{StandFor}
+use Rattle.wkt_read.specs.Begun.{BegunGeometry, NoneBegins}
 use Rattle.wkt_read.specs.Early.{IsJustDead}
 use Rattle.wkt_read.specs.Front.{HasNoFront}
 use Rattle.wkt_read.proofs.LawLemmas.Begun.{CutIn, Later, Earlier, cut_in}
@@ -35,14 +35,14 @@ module _ {N : Type 0} (read : List ℕ → Option N) (text : List ℕ) where
     taken_upto = takes_append t.before (t.fault ∷ []) text t.rest t.after t.taken (t.gap, t.body, t.after, t.split, t.white, t.spelled, refl)
 
     -- no beginning of the text's lexemes is a geometry
-    none_split : (ls : List Lexeme) → IsSplit text ls → NoneBeginsBy read true ls
+    none_split : (ls : List Lexeme) → IsSplit text ls → NoneBegins read ls
     none_split ls split f later v cut g =
         let (more, is) = taken_begin text t.after upto taken_upto in
         go more (cut_in f later upto more (sym cut ∙ split_one text ls (upto ++ more) split is))
       where
         go : (more : List Lexeme) → CutIn f later upto more → ⊥
         go more (Later u e1 e2) = t.dead.dead.none_begins f u v e1 g
-        go more (Earlier u e1 e2) = t.dead.dead.not_begun (beginnings read upto u (subst (BegunGeometry read true) e1 (whole_begun (Geometry read true) (BegunGeometry read true) (value_part read 0).cuts f v g)))
+        go more (Earlier u e1 e2) = t.dead.dead.not_begun (beginnings read upto u (subst (BegunGeometry read) e1 (whole_begun (StandFor read) (BegunGeometry read) (value_part read 0).cuts f v g)))
 
   one_dead : (p q c d : List Lexeme) → IsJustDead read p → IsJustDead read q → p ++ c ≡ q ++ d → p ≡ q
   one_dead p q c d j k e = go (cut_in p c q d e)
@@ -89,7 +89,7 @@ module _ {N : Type 0} (read : List ℕ → Option N) (text : List ℕ) where
   not_both start end start2 end2 e e2 t u =
       let (more, is) = taken_begin text t.after (upto start end e t) (taken_upto start end e t) in
       let same = split_one text u.lexemes (upto start end e t ++ more) (split_short start2 end2 e2 u) is in
-      t.dead.dead.not_begun (beginnings read (upto start end e t) more (subst (BegunGeometry read true) same u.begun))
+      t.dead.dead.not_begun (beginnings read (upto start end e t) more (subst (BegunGeometry read) same u.begun))
 
   pub one_place : (start end start2 end2 : ℕ) (e e2 : Expected) → IsRefusedAt read text start end e → IsRefusedAt read text start2 end2 e2 → (start ≡ start2) × (end ≡ end2)
   one_place start end start2 end2 e e2 (inl t) (inl u) = both_too_much start end start2 end2 e e2 t u

@@ -1,12 +1,12 @@
 -- What the end of a walk says of the lexemes and of the text.
-use Rattle.std.proofs.Common.{◌≡◌, ℕ, suc, ◌+◌, ◌≤◌, List, [], ◌∷◌, ◌++◌, length, length-append, drop, refl, ap, ◌∙◌, sym, subst, append_assoc, append-nil, arith, Option, Ok, Err, true}
+use Rattle.std.proofs.Common.{◌≡◌, ℕ, suc, ◌+◌, ◌≤◌, List, [], ◌∷◌, ◌++◌, length, length-append, drop, refl, ap, ◌∙◌, sym, subst, append_assoc, append-nil, arith, Option, Ok, Err}
 use Rattle.std.proofs.lemmas.List.{append_cancel_right, length-drop, drop_at}
 use Rattle.wkt_num.specs.Bytes.{Lexeme, White, AllWhite}
 use Rattle.wkt_access.specs.Values.{Value}
 use Rattle.wkt_read.specs.Lexemes.{StartsOther, Takes, IsSplit}
-use Rattle.wkt_read.specs.Grammar.{Geometry}
+use Rattle.wkt_read.specs.Grammar.{StandFor}
 use Rattle.wkt_read.specs.Front.{HasNoFront}
-use Rattle.wkt_read.specs.Begun.{BegunGeometry, IsDeadBy, NoneBeginsBy}
+use Rattle.wkt_read.specs.Begun.{BegunGeometry, IsDead, NoneBegins}
 use Rattle.wkt_read.specs.Early.{IsJustDead}
 use Rattle.wkt_read.specs.Placed.{Placed, lexemes_of, end_after, AreEnds}
 use Rattle.wkt_read.specs.Parser.Reading.{Reading, value_at}
@@ -27,9 +27,9 @@ use Rattle.wkt_explain.proofs.Spots.{spot, value_s, spot_value}
 
 module _ {N : Type 0} (read : List ℕ → Option N) where
   abbrev pub Begun : List Lexeme → Type 0
-  Begun = BegunGeometry read true
+  Begun = BegunGeometry read
 
-  dead : (n : ℕ) (pre after ls left : List Lexeme) (x : Lexeme) → ls ≡ pre ++ (x ∷ after) → value_f read n ls ≡ Err (x ∷ after, left) → value_at read n ls ≡ Err left → length ls ≤ n → IsDeadBy read true (pre ++ (x ∷ []))
+  dead : (n : ℕ) (pre after ls left : List Lexeme) (x : Lexeme) → ls ≡ pre ++ (x ∷ after) → value_f read n ls ≡ Err (x ∷ after, left) → value_at read n ls ≡ Err left → length ls ≤ n → IsDead read (pre ++ (x ∷ []))
   dead n pre after ls left x e told reads le = record {
     none_begins = λ f later v e2 g.
         let e3 : ls ≡ f ++ (later ++ after) = e ∙ sym (append_assoc pre (x ∷ []) after) ∙ ap (λ l. l ++ after) e2 ∙ append_assoc f later after in
@@ -52,7 +52,7 @@ module _ {N : Type 0} (read : List ℕ → Option N) where
       (d, ap (λ l. w ∷ l) e2 ∙ ap (λ v. v ∷ (a ++ d)) same)
 
   -- what is begun, and dead with one more
-  just : (b : List Lexeme) (x : Lexeme) → Begun b → IsDeadBy read true (b ++ (x ∷ [])) → IsJustDead read (b ++ (x ∷ []))
+  just : (b : List Lexeme) (x : Lexeme) → Begun b → IsDead read (b ++ (x ∷ [])) → IsJustDead read (b ++ (x ∷ []))
   just b x begun dead = record {
     dead = dead;
     shortest = λ a c y e d. let (u, e2) = last_cut b a c x y e in d.not_begun (beginnings read a u (subst Begun e2 begun));
@@ -63,7 +63,7 @@ module _ {N : Type 0} (read : List ℕ → Option N) where
     abbrev Refused : Type 0
     Refused = (left : List Lexeme) × (value_f read n ls ≡ Err (bad, left)) × (value_at read n ls ≡ Err left) × ((pre : List Lexeme) × (ls ≡ pre ++ bad) × Begun pre)
 
-    told_at : (t : Telling (Value N)) → value_f read n ls ≡ t → plain t ≡ value_at read n ls → Told (Geometry read true) Begun ls t → spot t ≡ Err bad → Refused
+    told_at : (t : Telling (Value N)) → value_f read n ls ≡ t → plain t ≡ value_at read n ls → Told (StandFor read) Begun ls t → spot t ≡ Err bad → Refused
     told_at (Ok p) told reads h e = cc
     told_at (Err r) told reads (pre, given, e1, e2, b, few) e =
         let same : r.0 ≡ bad = cc in
@@ -72,7 +72,7 @@ module _ {N : Type 0} (read : List ℕ → Option N) where
     refused : value_s read n ls ≡ Err bad → Refused
     refused e = let part = value_part read n in told_at (value_f read n ls) refl (part.same ls) (part.told ls le) (spot_value read n ls ∙ e)
 
-    pub none : value_s read n ls ≡ Err bad → NoneBeginsBy read true ls
+    pub none : value_s read n ls ≡ Err bad → NoneBegins read ls
     none e = let (left, told, reads, b) = refused e in none_begins read n ls left le reads
 
   -- the lexeme that is too much
@@ -89,18 +89,18 @@ module _ {N : Type 0} (read : List ℕ → Option N) where
       subst Begun (sym (e2 ∙ append-nil pre)) b
 
   -- a geometry is read
-  read_at : (n : ℕ) (ls r : List Lexeme) → length ls ≤ n → (t : Telling (Value N)) → plain t ≡ value_at read n ls → spot t ≡ Ok r → (v : Value N) × (f : List Lexeme) × (ls ≡ f ++ r) × Geometry read true f v
+  read_at : (n : ℕ) (ls r : List Lexeme) → length ls ≤ n → (t : Telling (Value N)) → plain t ≡ value_at read n ls → spot t ≡ Ok r → (v : Value N) × (f : List Lexeme) × (ls ≡ f ++ r) × StandFor read f v
   read_at n ls r le (Ok p) reads e =
       let same : p.1 ≡ r = cc in
       let (f, split, g) = sound read n ls p le (sym reads) in
       (p.0, f, split ∙ ap (λ l. f ++ l) same, g)
   read_at n ls r le (Err t) reads e = cc
 
-  pub read_whole : (n : ℕ) (ls r : List Lexeme) → length ls ≤ n → value_s read n ls ≡ Ok r → (v : Value N) × (f : List Lexeme) × (ls ≡ f ++ r) × Geometry read true f v
+  pub read_whole : (n : ℕ) (ls r : List Lexeme) → length ls ≤ n → value_s read n ls ≡ Ok r → (v : Value N) × (f : List Lexeme) × (ls ≡ f ++ r) × StandFor read f v
   read_whole n ls r le e = let part = value_part read n in read_at n ls r le (value_f read n ls) (part.same ls) (spot_value read n ls ∙ e)
 
   -- no front
-  pub no_front : (text : List ℕ) (ls : List Lexeme) → IsSplit text ls → NoneBeginsBy read true ls → HasNoFront read text
+  pub no_front : (text : List ℕ) (ls : List Lexeme) → IsSplit text ls → NoneBegins read ls → HasNoFront read text
   no_front text ls split none v end front =
       let (more, is) = taken_begin text front.rest front.lexemes front.taken in
       none front.lexemes more v (split_one text ls (front.lexemes ++ more) split is) front.reads
@@ -156,7 +156,7 @@ module _ {N : Type 0} (read : List ℕ → Option N) (text : List ℕ) where
       }
 
   -- the place where a text is too short
-  pub too_short_at : (given : List Placed) (from to : ℕ) → AreEnds text given → IsSplit text (lexemes_of given) → from ≡ end_after 0 given → IsPastWhite text from to → BegunGeometry read true (lexemes_of given) → NoneBeginsBy read true (lexemes_of given) → (e : Expected) → IsExpectedAfter read (lexemes_of given) e → IsTooShort read text to to e
+  pub too_short_at : (given : List Placed) (from to : ℕ) → AreEnds text given → IsSplit text (lexemes_of given) → from ≡ end_after 0 given → IsPastWhite text from to → BegunGeometry read (lexemes_of given) → NoneBegins read (lexemes_of given) → (e : Expected) → IsExpectedAfter read (lexemes_of given) e → IsTooShort read text to to e
   too_short_at given from to are (rest, taken, (gap, after, split, white, over)) at p begun none e could_stand =
       let (rest2, taken2, ends) = are given [] (sym (append-nil given)) in
       let same : rest2 ≡ rest = takes_rest (lexemes_of given) (lexemes_of given) text text rest2 rest refl refl taken2 taken in
@@ -177,7 +177,7 @@ module _ {N : Type 0} (read : List ℕ → Option N) (text : List ℕ) where
       }
 
   -- where the walk is over there is a front
-  pub front_at : (given later : List Placed) → AreEnds text (given ++ later) → (v : Value N) (f : List Lexeme) → lexemes_of (given ++ later) ≡ f ++ lexemes_of later → Geometry read true f v → HasFront read text
+  pub front_at : (given later : List Placed) → AreEnds text (given ++ later) → (v : Value N) (f : List Lexeme) → lexemes_of (given ++ later) ≡ f ++ lexemes_of later → StandFor read f v → HasFront read text
   front_at given later are v f split g =
       let same : lexemes_of given ≡ f = append_cancel_right (lexemes_of given) f (lexemes_of later) (sym (lexemes_append given later) ∙ split) in
-      (v, end_after 0 given, front-of-lexemes read text given later v are (subst (λ l. Geometry read true l v) (sym same) g))
+      (v, end_after 0 given, front-of-lexemes read text given later v are (subst (λ l. StandFor read l v) (sym same) g))

@@ -1,5 +1,5 @@
 -- Where a text is refused.
-use Rattle.std.specs.Prelude.{◌≡◌, ℕ, ◌+◌, ◌≤◌, List, [], ◌∷◌, ◌++◌, length, Option, Some, ◌⊎◌, ◌↔◌, true}
+use Rattle.std.specs.Prelude.{◌≡◌, ℕ, ◌+◌, ◌≤◌, List, [], ◌∷◌, ◌++◌, length, Option, Some, ◌⊎◌, ◌↔◌}
 use Rattle.std.specs.Str.{IsCharBoundary}
 use Rattle.wkt_num.specs.Bytes.{Lexeme, Open, Close, Comma, Word, Num, AllWhite}
 use Rattle.wkt_access.specs.declared.dimensions.Dimension.{Dimension}
@@ -84,7 +84,7 @@ module _ {N : Type 0} (read : List ℕ → Option N) where
     pub over : IsEnd after
     pub begins : length after + start ≡ length text
     pub ends : end ≡ start
-    pub begun : BegunGeometry read true lexemes
+    pub begun : BegunGeometry read lexemes
     pub none : NoneBegins read lexemes
     pub could_stand : IsExpectedAfter lexemes e
 

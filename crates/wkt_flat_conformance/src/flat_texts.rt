@@ -24,7 +24,10 @@ pub(crate) fn at(x: i32, y: i32) -> Coord<i32> {
 pub(crate) const TRIANGLE: [(i32, i32); 3] = [(0, 0), (4, 0), (2, 4)];
 
 /// The line string through those coordinates.
-pub(crate) fn path(alloc: Global, coords: &[(i32, i32)]) -> Result<LineString<i32>, AllocError> {
+pub(crate) fn line_string(
+    alloc: Global,
+    coords: &[(i32, i32)],
+) -> Result<LineString<i32>, AllocError> {
     let mut all = Vec::new(alloc);
     for (x, y) in coords {
         all.push(at(*x, *y))?;
@@ -38,8 +41,8 @@ pub(crate) fn holed(
     exterior: &[(i32, i32)],
     interior: &[(i32, i32)],
 ) -> Result<Polygon<i32>, AllocError> {
-    let interiors = vec![in alloc; path(alloc, interior)?]?;
-    Polygon::new(alloc, path(alloc, exterior)?, interiors)
+    let interiors = vec![in alloc; line_string(alloc, interior)?]?;
+    Polygon::new(alloc, line_string(alloc, exterior)?, interiors)
 }
 
 /// The three calls of `ToWkt` give that text.
@@ -158,7 +161,7 @@ fn polygons(rt: HostRuntime) -> Result<(), Fail> {
 #[test]
 fn lists(rt: HostRuntime) -> Result<(), Fail> {
     let alloc = rt.alloc();
-    let line = Geometry::from(path(alloc, &[(10, -20), (0, 5)])?);
+    let line = Geometry::from(line_string(alloc, &[(10, -20), (0, 5)])?);
     is_written(&rt, alloc, line, "LINESTRING(10 -20,0 5)")?;
     let points = MultiPoint::new(vec![in alloc; Point::new(8, 4), Point::new(4, 0)]?);
     is_written(
@@ -167,7 +170,10 @@ fn lists(rt: HostRuntime) -> Result<(), Fail> {
         Geometry::from(points),
         "MULTIPOINT((8 4),(4 0))",
     )?;
-    let lines = vec![in alloc; path(alloc, &[(8, 4), (-3, 0)])?, path(alloc, &[])?]?;
+    let lines = vec![in alloc;
+        line_string(alloc, &[(8, 4), (-3, 0)])?,
+        line_string(alloc, &[])?,
+    ]?;
     let lines = Geometry::from(MultiLineString::new(lines));
     is_written(&rt, alloc, lines, "MULTILINESTRING((8 4,-3 0),EMPTY)")?;
     let polygons = vec![in alloc;
@@ -187,7 +193,7 @@ fn lists(rt: HostRuntime) -> Result<(), Fail> {
 #[test]
 fn empty_lists(rt: HostRuntime) -> Result<(), Fail> {
     let alloc = rt.alloc();
-    let line = Geometry::from(path(alloc, &[])?);
+    let line = Geometry::from(line_string(alloc, &[])?);
     is_written(&rt, alloc, line, "LINESTRING EMPTY")?;
     let points = Geometry::from(MultiPoint::new(Vec::new(alloc)));
     is_written(&rt, alloc, points, "MULTIPOINT EMPTY")?;

@@ -1,5 +1,5 @@
 -- An input has one output at most.
-use Rattle.std.proofs.Common.{◌≡◌, ℕ, List, [], ◌∷◌, ◌++◌, ◌⊎◌, inl, inr, sym, ap, ◌∙◌, Option, Bool}
+use Rattle.std.proofs.Common.{◌≡◌, ℕ, List, [], ◌∷◌, ◌++◌, ◌⊎◌, inl, inr, sym, ap, ◌∙◌, Option}
 use Rattle.wkt_access.specs.Shapes.{shape_of}
 use Rattle.wkt_access.specs.Texts.{shape_text}
 use Rattle.wkt_read.specs.Laws.{OneFront}
@@ -11,7 +11,7 @@ module _ {N : Type 0} (read : List ℕ → Option N) (num : N → List ℕ) (law
 
   same_answer : (line x y : List ℕ) → IsAnswer read num line x → IsAnswer read num line y → x ≡ y
   same_answer line x y (inl t) (inl u) =
-      t.text ∙ (ap (λ v. shape_text num (shape_of v)) (law Bool.true line t.value u.value t.end u.end t.front u.front).0 ∙ sym u.text)
+      t.text ∙ (ap (λ v. shape_text num (shape_of v)) (law line t.value u.value t.end u.end t.front u.front).0 ∙ sym u.text)
   same_answer line x y (inl t) (inr r) = text_refused (x ≡ y) line x y t r
   same_answer line x y (inr r) (inl t) = text_refused (x ≡ y) line y x t r
   same_answer line x y (inr r) (inr s) = r.refused ∙ sym s.refused

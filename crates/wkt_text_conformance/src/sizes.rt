@@ -80,6 +80,32 @@ fn great_depth(rt: HostRuntime) -> Result<(), Fail> {
     Ok(())
 }
 
+// How many collections of one member hold each other here, counted to `most`.
+fn levels<T>(wkt: &Wkt<T>, most: usize) -> usize {
+    let mut here = wkt;
+    for level in 0..most {
+        match here {
+            Wkt::GeometryCollection(c) => match c.geometries() {
+                [inner] => here = inner,
+                _ => return level,
+            },
+            _ => return level,
+        }
+    }
+    most
+}
+
+// Deeper than any recursion would carry.
+#[test]
+fn conversions_at_any_depth(rt: HostRuntime) -> Result<(), Fail> {
+    let alloc = rt.alloc();
+    let text = nested(alloc, 200_000, 200_000)?;
+    let flat = Geometry::<i32>::try_from_wkt_str(alloc, &text)?;
+    let back = flat.to_wkt(alloc)?;
+    assert_eq!(rt; levels(&back, 200_001), 200_000);
+    Ok(())
+}
+
 // The canonical text of a kind word and so many members.
 fn members(alloc: Global, word: &str, member: &str, n: usize) -> Result<String, AllocError> {
     let mut text = String::from_str(alloc, word)?;

@@ -9,7 +9,7 @@ use Rattle.wkt_access.specs.Texts.{text}
 use Rattle.wkt_access.specs.Faults.{fault, faults, first_fault, coordinates_fault, point_fault, polygon_fault}
 use Rattle.wkt_types.specs.Values.{tree_shape, values_of, point_numbers, line_string_numbers, polygon_numbers}
 use Rattle.wkt_flat.specs.Shape as shape
-use Rattle.wkt_flat.specs.Shape.{flat_shape, flat_shapes, path_numbers, rings_shape}
+use Rattle.wkt_flat.specs.Shape.{flat_shape, flat_shapes, sequence_numbers, rings_shape}
 use Rattle.wkt_flat.specs.Rings.{Rings}
 use Rattle.wkt_flat.specs.Tree.{Flat, Flats}
 use Rattle.wkt_flat.proofs.Writable.{writable}
@@ -18,11 +18,11 @@ use Rattle.wkt_flat.specs.declared.point.Point as flat_point
 use Rattle.wkt_to_wkt.specs.Back.{back, all_back, line_string_back, rings_back, point_back, polygon_back}
 use Rattle.wkt_to_wkt.specs.Laws.{FlatAndBack}
 
-lines : {T : Type 0} (cs : List (flat_coord.Coord T)) → path_numbers cs ≡ line_string_numbers (line_string_back cs)
+lines : {T : Type 0} (cs : List (flat_coord.Coord T)) → sequence_numbers cs ≡ line_string_numbers (line_string_back cs)
 lines [] = refl
 lines (c ∷ cs) = ap (λ l. (c.x ∷ c.y ∷ []) ∷ l) (lines cs)
 
-all_line_strings : {T : Type 0} (ls : List (List (flat_coord.Coord T))) → map path_numbers ls ≡ map line_string_numbers (map line_string_back ls)
+all_line_strings : {T : Type 0} (ls : List (List (flat_coord.Coord T))) → map sequence_numbers ls ≡ map line_string_numbers (map line_string_back ls)
 all_line_strings [] = refl
 all_line_strings (l ∷ ls) = ap₂ (λ x xs. x ∷ xs) (lines l) (all_line_strings ls)
 

@@ -1,5 +1,5 @@
 -- The value of a tree that was made canonical, and that it has one such tree.
-use Rattle.std.proofs.Common.{◌≡◌, ℕ, refl, ap, ap₂, sym, subst, ◌∙◌, List, [], ◌∷◌, ◌++◌, map, take, length, Option, Some, None, true, arith, ◌↔◌}
+use Rattle.std.proofs.Common.{◌≡◌, ℕ, refl, ap, ap₂, sym, subst, ◌∙◌, List, [], ◌∷◌, ◌++◌, map, take, length, Option, Some, None, arith, ◌↔◌}
 use Rattle.std.specs.Prelude.{option_map, option_to_list}
 use Rattle.std.specs.List.{AllByRecursion}
 use Rattle.wkt_access.specs.declared.dimensions.Dimension.{Dimension}
@@ -7,7 +7,7 @@ use Rattle.wkt_access.specs.declared.dimensions.Dimension.TheVariants.{XY, XYZ, 
 use Rattle.wkt_access.specs.Faults.{fault}
 use Rattle.wkt_access.specs.Values.{Value, Values, size}
 use Rattle.wkt_access.specs.Shapes.{canon, canons, shapes_of, rings_of, polygon_of, header_of, dimension}
-use Rattle.wkt_access.specs.WellFormed.{CoordFits, LineStringFits, PolygonFits, PointFits, MemberFits, IsWellFormed, AreWellFormed}
+use Rattle.wkt_access.specs.WellFormed.{CoordFits, LineStringFits, PolygonFits, PointFits, IsWellFormed, AreWellFormed}
 use Rattle.wkt_access.proofs.Canonical.{header_back}
 use Rattle.wkt_write.specs.Known.{KnownCoord, KnownCoords, KnownPoint, KnownPolygon, Known, AllKnown}
 use Rattle.wkt_write.proofs.Canon.{known_well_formed}
@@ -142,22 +142,18 @@ module _ {T : Type 0} (P : T → Type 0) where
     maybe_in None h = tt
     maybe_in (Some c) h = coord_in c h
 
-    member_in : (c : Option (Coord T)) → MemberFits P true d (option_map numbers_of (option_map (coord_under d) c)) → HasDimIfAny d (option_map (coord_under d) c)
-    member_in None h = tt
-    member_in (Some c) h = coord_in c h
-
   mutual
-    uniform : (t : Tree T) → IsWellFormed P true (value_of (canonical t)) → IsUniform (canonical t)
+    uniform : (t : Tree T) → IsWellFormed P (value_of (canonical t)) → IsUniform (canonical t)
     uniform (point p) h = (refl, maybe_in p.dim p.coord h)
     uniform (line_string l) h = line_in l.dim l h
     uniform (polygon y) h = polygon_in y.dim y h
     uniform (multi_point m) h =
-        all_in (point_under m.dim) point_numbers (MemberFits P true m.dim) (IsPointIn m.dim) (λ p k. (refl, member_in m.dim p.coord k)) m.parts h
+        all_in (point_under m.dim) point_numbers (PointFits P m.dim) (IsPointIn m.dim) (λ p k. (refl, maybe_in m.dim p.coord k)) m.parts h
     uniform (multi_line_string m) h = lines_in m.dim m.parts h
     uniform (multi_polygon m) h = all_in (polygon_under m.dim) polygon_numbers (PolygonFits P m.dim) (IsPolygonIn m.dim) (polygon_in m.dim) m.parts h
     uniform (collection ts d) h = all_uniform ts h
 
-    all_uniform : (ts : Trees T) → AreWellFormed P true (values_of (canonicals ts)) → AreUniform (canonicals ts)
+    all_uniform : (ts : Trees T) → AreWellFormed P (values_of (canonicals ts)) → AreUniform (canonicals ts)
     all_uniform no_trees h = tt
     all_uniform (more_trees t ts) h = (uniform t h.0, all_uniform ts h.1)
 
@@ -199,7 +195,7 @@ mutual
 pub canonical_is_read : {T : Type 0} (t : Tree T) → fault (tree_shape t) ≡ None → IsWktOf (canon (tree_shape t)) (canonical t)
 canonical_is_read t h =
     let fits = known_well_formed Any (tree_shape t) h (any_known t) in
-    record { value = canonical_value t; uniform = uniform Any t (subst (IsWellFormed Any true) (sym (canonical_value t)) fits) }
+    record { value = canonical_value t; uniform = uniform Any t (subst (IsWellFormed Any) (sym (canonical_value t)) fits) }
 
 -- images that look the same are the same
 images_one : {A B C : Type 0} (f : A → B) (g : B → C) → ((x y : A) → g (f x) ≡ g (f y) → f x ≡ f y) → (xs ys : List A) → map g (map f xs) ≡ map g (map f ys) → map f xs ≡ map f ys

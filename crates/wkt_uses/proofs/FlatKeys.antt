@@ -1,5 +1,5 @@
 -- The text of a flat value names it.
-use Rattle.std.proofs.Common.{◌≡◌, ◌↔◌, ℕ, Bool, List, Option, Result, Ok, Err, subst, sym, true}
+use Rattle.std.proofs.Common.{◌≡◌, ◌↔◌, ℕ, Bool, List, Option, Result, Ok, Err, subst, sym}
 use Rattle.std.specs.Prelude.{IfOk, OnOk}
 use Rattle.wkt.specs.Lawful.{IsLawful}
 use Rattle.wkt.specs.Shapes.{canon}
@@ -22,7 +22,7 @@ pub names_plain : {T : Type 0} (is_value : T → Type 0) (num : T → List ℕ) 
     → IsLawful is_value (tree_shape (back t)) → NamesPlain read eq t (shape_text num (tree_shape (back t)))
 names_plain is_value num read eq t law same lawful plain o =
     subst (λ s. FrontGives read (flat (coord_eq eq)) (text num s) o ↔ (o ≡ value t)) same
-    (law plain (subst (IsWellFormed is_value true) (sym same) lawful) o)
+    (law plain (subst (IsWellFormed is_value) (sym same) lawful) o)
 
 -- What holds of the text that is answered, where it follows from another fact of the answer.
 pub named : {A E L : Type 0} (bytes : A → List ℕ) (P : List ℕ → Type 0) (bs : List ℕ) (r : Result A E)

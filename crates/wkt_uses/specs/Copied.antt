@@ -1,5 +1,5 @@
 -- A polygon that is read as a flat one, and written.
-use Rattle.std.specs.Prelude.{ℕ, List, Option, Result, Ok, Err, Bool, IsUtf8, codes}
+use Rattle.std.specs.Prelude.{ℕ, List, Option, Result, Ok, Err, Bool, IsUtf8}
 use Rattle.std.specs.Io.KnownBytes.{Appends}
 use Rattle.wkt.specs.Sinks.{BeginningOut}
 use Rattle.wkt.specs.ConvertError.{ConvertError}
@@ -7,29 +7,27 @@ use Rattle.wkt.specs.ToWktError.TheVariants as send
 use Rattle.wkt_uses.specs.declared.flat_from_reader.CopyError.{CopyError}
 use Rattle.wkt_uses.specs.declared.flat_from_reader.CopyError.TheVariants as copy
 use Rattle.wkt.specs.Texts.{shape_text}
-use Rattle.wkt.specs.FlatEqual.{coord_eq}
 use Rattle.wkt.specs.Rings.{Rings}
 use Rattle.wkt.specs.FlatTree.{Flat}
 use Rattle.wkt.specs.FlatCoord.{Coord}
 use Rattle.wkt.specs.Outcome.{value}
 use Rattle.wkt.specs.TreeValues.{tree_shape}
 use Rattle.wkt.specs.Back.{back}
-use Rattle.wkt.specs.Flatten.{flat}
 use Rattle.wkt.specs.FromText.{FrontGives}
-use Rattle.wkt.specs.FlatKinds.{only, rings_in}
+use Rattle.wkt.specs.FlatKinds.{only_flat, polygon_kind}
 
 -- The bytes are a text that has a polygon at its front, and the text of its flat value went out.
 pub record IsCopied {T : Type 0} (read : List ℕ → Option T) (num : T → List ℕ) (E : T → T → Bool) (old new : Option (List ℕ)) (bytes : List ℕ) : Type 0 where
   pub rings : Rings (Coord T)
   pub utf8 : IsUtf8 bytes
-  pub front : FrontGives read (λ t. only (codes "Polygon") rings_in (flat (coord_eq E) t)) bytes (value rings)
+  pub front : FrontGives read (only_flat polygon_kind E) bytes (value rings)
   pub went : Appends old new (shape_text num (tree_shape (back (Flat.polygon rings))))
 
 -- The bytes are a text that has a polygon at its front, and a beginning of the text of its flat value went out.
 pub record IsPartCopied {T : Type 0} (read : List ℕ → Option T) (num : T → List ℕ) (E : T → T → Bool) (old new : Option (List ℕ)) (bytes : List ℕ) : Type 0 where
   pub rings : Rings (Coord T)
   pub utf8 : IsUtf8 bytes
-  pub front : FrontGives read (λ t. only (codes "Polygon") rings_in (flat (coord_eq E) t)) bytes (value rings)
+  pub front : FrontGives read (only_flat polygon_kind E) bytes (value rings)
   pub went : BeginningOut old new (shape_text num (tree_shape (back (Flat.polygon rings))))
 
 -- The fact is claimed where no polygon was read.

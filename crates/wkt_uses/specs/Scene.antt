@@ -1,7 +1,7 @@
 -- What a scene stands for.
 use Rattle.std.specs.Prelude.{ℤ, Some}
 use Rattle.wkt.specs.Dimensions.TheVariants.{Xy}
-use Rattle.wkt.specs.FlatShape.{flat_point_numbers, path_numbers}
+use Rattle.wkt.specs.FlatShape.{flat_point_numbers, sequence_numbers}
 use Rattle.wkt.specs.Parts.{collection_of}
 use Rattle.wkt.specs.Shapes.{Shape}
 use Rattle.wkt_uses.specs.declared.scene.Layer.{Layer}
@@ -11,7 +11,7 @@ use Rattle.wkt_uses.specs.declared.scene.Layer.TheFolds.{fold-Layer}
 -- The shape of a layer whose layers were seen as their shapes: the name of a group doesn't count.
 abbrev pub layer_step : Layer-F (Shape ℤ) → Shape ℤ
 layer_step (Mark p) = Shape.point Xy (Some (flat_point_numbers p))
-layer_step (Path l) = Shape.line_string Xy (path_numbers l)
+layer_step (Path l) = Shape.line_string Xy (sequence_numbers l)
 layer_step (Group name layers) = collection_of Xy layers.items
 
 -- The shape of a layer.

@@ -1,8 +1,8 @@
 //! A flat polygon read from a source of bytes, and written to a sink of bytes.
-ghost use Rattle.std.specs.Prelude.{◌≡◌, OnOk, IfSome, Err, codes};
+ghost use Rattle.std.specs.Prelude.{◌≡◌, OnOk, IfSome, Err};
 ghost use Rattle.wkt.specs.Sink.{next_count};
-ghost use Rattle.wkt.specs.FromText.{BytesAnswer};
-ghost use Rattle.wkt.specs.FlatKinds.{only_flat, rings_in};
+ghost use Rattle.wkt.specs.FromText.{BytesAnswerKind};
+ghost use Rattle.wkt.specs.FlatKinds.{polygon_kind};
 ghost use Rattle.wkt_uses.specs.Copied.{IfRead, OnWrite, IsCopied, IsPartCopied};
 
 use std::alloc::Global;
@@ -37,7 +37,7 @@ pub fn copy_polygon<T: WktNum, R: ByteSource, W: ByteSink>(
     ensures copied { OnOk result (IfSome (R.left reader.old)
         (IsCopied T.read T.num T.eq (W.sink.bytes writer.old) (W.sink.bytes writer.new))) }
     ensures refused { IfSome (R.left reader.old) (λ bs. IfRead result
-        (λ e. BytesAnswer T.read (λ x. x) (only_flat (codes "Polygon") rings_in T.eq) bs (Err e))) }
+        (λ e. BytesAnswerKind T.read T.eq polygon_kind bs (Err e))) }
     ensures read { IfRead result (λ _. writer.new ≡ writer.old) }
     ensures written { OnWrite result (IfSome (R.left reader.old)
         (IsPartCopied T.read T.num T.eq (W.sink.bytes writer.old) (W.sink.bytes writer.new))) }

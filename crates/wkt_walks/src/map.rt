@@ -57,14 +57,14 @@ pub fn map_coords<T: Copy, U: WktNum, M: Mapper<T, U>>(
     map_geometry(alloc, geometry, mapper)
 }
 
-fn map_path<T, U: WktNum, M: Mapper<T, U>>(
+fn map_line_string<T, U: WktNum, M: Mapper<T, U>>(
     alloc: Global,
-    path: &LineString<T>,
+    line_string: &LineString<T>,
     mapper: &M,
 ) -> Result<LineString<U>, AllocError>
-    ensures { IfOk result (λ r. r ≡ map (M.maps mapper.now) path.now) }
+    ensures { IfOk result (λ r. r ≡ map (M.maps mapper.now) line_string.now) }
 {
-    Ok(LineString(map_each(alloc, &path.0, mapper)?))
+    Ok(LineString(map_each(alloc, &line_string.0, mapper)?))
 }
 
 fn map_each<T, U: WktNum, M: Mapper<T, U>>(
@@ -81,16 +81,16 @@ fn map_each<T, U: WktNum, M: Mapper<T, U>>(
     Ok(all)
 }
 
-fn map_paths<T, U: WktNum, M: Mapper<T, U>>(
+fn map_line_strings<T, U: WktNum, M: Mapper<T, U>>(
     alloc: Global,
-    paths: &[LineString<T>],
+    line_strings: &[LineString<T>],
     mapper: &M,
 ) -> Result<Vec<LineString<U>>, AllocError>
-    ensures { IfOk result (λ r. r.items ≡ map (map (M.maps mapper.now)) paths.now) }
+    ensures { IfOk result (λ r. r.items ≡ map (map (M.maps mapper.now)) line_strings.now) }
 {
-    let mut all = Vec::with_capacity(alloc, paths.len())?;
-    for path in paths {
-        all.push(map_path(alloc, path, mapper)?)?;
+    let mut all = Vec::with_capacity(alloc, line_strings.len())?;
+    for line_string in line_strings {
+        all.push(map_line_string(alloc, line_string, mapper)?)?;
     }
     Ok(all)
 }
@@ -122,8 +122,8 @@ fn map_polygon<T, U: WktNum, M: Mapper<T, U>>(
 ) -> Result<Polygon<U>, AllocError>
     ensures { IfOk result (λ r. r ≡ rings_mapped (M.maps mapper.now) polygon.now) }
 {
-    let exterior = map_path(alloc, polygon.exterior(), mapper)?;
-    let interiors = map_paths(alloc, polygon.interiors(), mapper)?;
+    let exterior = map_line_string(alloc, polygon.exterior(), mapper)?;
+    let interiors = map_line_strings(alloc, polygon.interiors(), mapper)?;
     Polygon::new(alloc, exterior, interiors)
 }
 
@@ -172,13 +172,21 @@ fn map_geometry<T: Copy, U: WktNum, M: Mapper<T, U>>(
     let mapped = match geometry {
         Geometry::Point(point) => Geometry::Point(map_point(point, mapper)),
         Geometry::Line(line) => Geometry::Line(map_line(line, mapper)),
-        Geometry::LineString(path) => Geometry::LineString(map_path(alloc, path, mapper)?),
+        Geometry::LineString(line_string) => Geometry::LineString(map_line_string(
+            alloc,
+            line_string,
+            mapper,
+        )?),
         Geometry::Polygon(polygon) => Geometry::Polygon(map_polygon(alloc, polygon, mapper)?),
         Geometry::MultiPoint(points) => {
             Geometry::MultiPoint(MultiPoint(map_points(alloc, &points.0, mapper)?))
         }
-        Geometry::MultiLineString(paths) => {
-            Geometry::MultiLineString(MultiLineString(map_paths(alloc, &paths.0, mapper)?))
+        Geometry::MultiLineString(line_strings) => {
+            Geometry::MultiLineString(MultiLineString(map_line_strings(
+                alloc,
+                &line_strings.0,
+                mapper,
+            )?))
         }
         Geometry::MultiPolygon(polygons) => {
             Geometry::MultiPolygon(MultiPolygon(map_polygons(alloc, &polygons.0, mapper)?))

@@ -11,7 +11,7 @@ use Rattle.wkt_access.specs.Shapes.{Shape, Shapes, printed, dimension, rings_of,
 use Rattle.wkt_access.specs.Faults.{fault, faults, first_fault, coordinate_fault, coordinates_fault, point_fault, polygon_fault}
 use Rattle.wkt_write.specs.Known.{Clear, KnownCoord, KnownCoords, KnownLineStrings, KnownPoint, KnownPolygon, KnownRectCorner, Known, AllKnown}
 use Rattle.wkt_access.specs.Lawful.{IsLawful}
-use Rattle.wkt_access.specs.WellFormed.{CoordFits, LineStringFits, PolygonFits, PointFits, MemberFits, IsWellFormed, AreWellFormed}
+use Rattle.wkt_access.specs.WellFormed.{CoordFits, LineStringFits, PolygonFits, PointFits, IsWellFormed, AreWellFormed}
 use Rattle.wkt_write.proofs.Firsts.{none_of_or}
 use Rattle.wkt_write.proofs.Headed.{under_clean}
 use Rattle.wkt_write.proofs.Members.{inside_clean}
@@ -46,10 +46,6 @@ module _ {N : Type 0} (is_value : N → Type 0) where
     point_fits None e h = tt
     point_fits (Some c) e h = (line_string_fits (c ∷ []) e h).0
 
-    member_fits : (c : Option (List N)) → point_fault (size d) c ≡ None → KnownPoint is_value (size d) c → MemberFits is_value true d (option_map (take (size d)) c)
-    member_fits None e h = refl
-    member_fits (Some c) e h = (line_string_fits (c ∷ []) e h).0
-
   corner_fits : (a b : List N) → KnownRectCorner is_value a → KnownRectCorner is_value b → CoordFits is_value XY (rect_corner a b)
   corner_fits [] b h g = absurd (omega (arith, h.1))
   corner_fits (x ∷ xs) [] h g = absurd (omega (arith, g.1))
@@ -57,11 +53,11 @@ module _ {N : Type 0} (is_value : N → Type 0) where
   corner_fits (x ∷ xs) (y ∷ z ∷ zs) h g = ((h.0.0, (g.0.1.0, tt)), refl)
 
   mutual
-    pub known_well_formed : (s : Shape N) → fault s ≡ None → Known is_value s → IsWellFormed is_value true (canon s)
+    pub known_well_formed : (s : Shape N) → fault s ≡ None → Known is_value s → IsWellFormed is_value (canon s)
     known_well_formed (Shape.point d c) e h = point_fits (dimension d) c (under_clean d (λ k. point_fault k c) e) h
     known_well_formed (Shape.line_string d cs) e h = line_string_fits (dimension d) cs (under_clean d (λ k. coordinates_fault k cs) e) h
     known_well_formed (Shape.polygon d p) e h = line_strings_fit (dimension d) (rings_of p) (under_clean d (λ k. polygon_fault k p) e) h
-    known_well_formed (Shape.multi_point d ps) e h = all_fit (point_fault (size (dimension d))) (KnownPoint is_value (size (dimension d))) (MemberFits is_value true (dimension d)) (option_map (cut d)) (member_fits (dimension d)) ps (under_clean d (λ k. first_fault (point_fault k) ps) e) h
+    known_well_formed (Shape.multi_point d ps) e h = all_fit (point_fault (size (dimension d))) (KnownPoint is_value (size (dimension d))) (PointFits is_value (dimension d)) (option_map (cut d)) (point_fits (dimension d)) ps (under_clean d (λ k. first_fault (point_fault k) ps) e) h
     known_well_formed (Shape.multi_line_string d ls) e h = line_strings_fit (dimension d) ls (under_clean d (λ k. first_fault (coordinates_fault k) ls) e) h
     known_well_formed (Shape.multi_polygon d ps) e h = all_fit (polygon_fault (size (dimension d))) (KnownPolygon is_value (size (dimension d))) (PolygonFits is_value (dimension d)) (λ p. map (map (cut d)) (rings_of p)) (λ p. line_strings_fit (dimension d) (rings_of p)) ps (under_clean d (λ k. first_fault (polygon_fault k) ps) e) h
     known_well_formed (Shape.collection d gs) e h = all_known_well_formed gs (inside_clean (printed d) (faults gs) e) h
@@ -71,14 +67,14 @@ module _ {N : Type 0} (is_value : N → Type 0) where
         ((fa, (fb, (fc, (fa, tt)))), tt)
     known_well_formed (Shape.line d a b) e h = line_string_fits (dimension d) (a ∷ b ∷ []) (under_clean d (λ k. coordinates_fault k (a ∷ b ∷ [])) e) h
 
-    all_known_well_formed : (gs : Shapes N) → faults gs ≡ None → AllKnown is_value gs → AreWellFormed is_value true (canons gs)
+    all_known_well_formed : (gs : Shapes N) → faults gs ≡ None → AllKnown is_value gs → AreWellFormed is_value (canons gs)
     all_known_well_formed Shapes.no_shapes e h = tt
     all_known_well_formed (Shapes.more_shapes g gs) e h =
         let p = none_of_or (fault g) (faults gs) e in
         (known_well_formed g p.0 h.0, all_known_well_formed gs p.1 h.1)
 
   -- a lawful shape's value is well-formed
-  pub canon_well_formed : (s : Shape N) → fault s ≡ None → IsLawful is_value s → IsWellFormed is_value true (canon s)
+  pub canon_well_formed : (s : Shape N) → fault s ≡ None → IsLawful is_value s → IsWellFormed is_value (canon s)
   canon_well_formed s e h = h
 
   -- where the check pass finds nothing, the shape is lawful

@@ -12,7 +12,7 @@ use Rattle.wkt_access.specs.Faults.{fault, faults, first_fault, coordinate_fault
 use Rattle.wkt_write.specs.Known.{KnownCoord, KnownCoords, KnownLineStrings, KnownPoint, KnownPolygon, Known, AllKnown}
 use Rattle.wkt_access.specs.Lawful.{IsLawful}
 use Rattle.wkt_write.proofs.Canon.{known_well_formed}
-use Rattle.wkt_access.specs.WellFormed.{CoordFits, LineStringFits, PolygonFits, PointFits, MemberFits, IsWellFormed, AreWellFormed}
+use Rattle.wkt_access.specs.WellFormed.{CoordFits, LineStringFits, PolygonFits, PointFits, IsWellFormed, AreWellFormed}
 
 -- no fault in a list whose items have none
 all_clear : {A B : Type 0} (f : B → Option Error) (H : B → Type 0) (G : A → Type 0) (g : A → B) → ((x : A) → G x → (f (g x) ≡ None) × H (g x)) → (xs : List A) → AllByRecursion G xs → (first_fault f (map g xs) ≡ None) × AllByRecursion H (map g xs)
@@ -75,26 +75,22 @@ module _ {N : Type 0} (is_value : N → Type 0) where
     point_clear None h = (refl, tt)
     point_clear (Some c) h = line_string_clear (c ∷ []) (h, tt)
 
-    member_clear : (c : Option (List N)) → MemberFits is_value true d c → (point_fault (size d) c ≡ None) × KnownPoint is_value (size d) c
-    member_clear None h = (refl, tt)
-    member_clear (Some c) h = line_string_clear (c ∷ []) (h, tt)
-
   mutual
-    clear_of : (v : Value N) → IsWellFormed is_value true v → (fault (shape_of v) ≡ None) × Known is_value (shape_of v)
+    clear_of : (v : Value N) → IsWellFormed is_value v → (fault (shape_of v) ≡ None) × Known is_value (shape_of v)
     clear_of (Value.point d c) h = let p = point_clear d c h in (under_header d (λ k. point_fault k c) p.0, known_header d (λ k. KnownPoint is_value k c) p.1)
     clear_of (Value.line_string d cs) h = let p = line_string_clear d cs h in (under_header d (λ k. coordinates_fault k cs) p.0, known_header d (λ k. KnownCoords is_value k cs) p.1)
     clear_of (Value.polygon d rings) h = let p = polygon_clear d rings h in (under_header d (λ k. polygon_fault k (polygon_of rings)) p.0, known_header d (λ k. KnownPolygon is_value k (polygon_of rings)) p.1)
-    clear_of (Value.multi_point d ps) h = let p = clear (point_fault (size d)) (KnownPoint is_value (size d)) (MemberFits is_value true d) (member_clear d) ps h in (under_header d (λ k. first_fault (point_fault k) ps) p.0, known_header d (λ k. AllByRecursion (KnownPoint is_value k) ps) p.1)
+    clear_of (Value.multi_point d ps) h = let p = clear (point_fault (size d)) (KnownPoint is_value (size d)) (PointFits is_value d) (point_clear d) ps h in (under_header d (λ k. first_fault (point_fault k) ps) p.0, known_header d (λ k. AllByRecursion (KnownPoint is_value k) ps) p.1)
     clear_of (Value.multi_line_string d ls) h = let p = line_strings_clear d ls h in (under_header d (λ k. first_fault (coordinates_fault k) ls) p.0, known_header d (λ k. KnownLineStrings is_value k ls) p.1)
     clear_of (Value.multi_polygon d ps) h = let p = all_clear (polygon_fault (size d)) (KnownPolygon is_value (size d)) (PolygonFits is_value d) polygon_of (polygon_clear d) ps h in (under_header d (λ k. first_fault (polygon_fault k) (map polygon_of ps)) p.0, known_header d (λ k. AllByRecursion (KnownPolygon is_value k) (map polygon_of ps)) p.1)
     clear_of (Value.collection d vs) h = let p = all_clear_of vs h in (under_header d (λ k. faults (shapes_of vs)) p.0, p.1)
 
-    all_clear_of : (vs : Values N) → AreWellFormed is_value true vs → (faults (shapes_of vs) ≡ None) × AllKnown is_value (shapes_of vs)
+    all_clear_of : (vs : Values N) → AreWellFormed is_value vs → (faults (shapes_of vs) ≡ None) × AllKnown is_value (shapes_of vs)
     all_clear_of Values.no_values h = (refl, tt)
     all_clear_of (Values.more_values v vs) h =
         let p = clear_of v h.0 in
         let q = all_clear_of vs h.1 in
         (ap (λ o. option_or o (faults (shapes_of vs))) p.0 ∙ q.0, (p.1, q.1))
 
-  pub writable : (v : Value N) → IsWellFormed is_value true v → (fault (shape_of v) ≡ None) × IsLawful is_value (shape_of v)
+  pub writable : (v : Value N) → IsWellFormed is_value v → (fault (shape_of v) ≡ None) × IsLawful is_value (shape_of v)
   writable v h = let p = clear_of v h in (p.0, known_well_formed is_value (shape_of v) p.0 p.1)

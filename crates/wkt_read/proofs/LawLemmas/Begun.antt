@@ -1,12 +1,12 @@
 -- A list of lexemes is dead exactly if no list that begins with it has a beginning in the grammar.
-use Rattle.std.proofs.Common.{◌≡◌, ℕ, suc, ◌≤◌, List, [], ◌∷◌, ◌++◌, length, Bool, Option, Some, None, ◌⊎◌, inl, inr, refl, sym, ap, ◌∙◌, append_assoc, append-nil, subst, arith}
+use Rattle.std.proofs.Common.{◌≡◌, ℕ, suc, ◌≤◌, List, [], ◌∷◌, ◌++◌, length, Option, Some, None, ◌⊎◌, inl, inr, refl, sym, ap, ◌∙◌, append_assoc, append-nil, subst, arith}
 use Rattle.wkt_num.specs.Bytes.{Lexeme, Open, Close, Comma, Word, Num}
 use Rattle.wkt_access.specs.declared.dimensions.Dimension.{Dimension}
 use Rattle.wkt_access.specs.declared.dimensions.Dimension.TheVariants.{XY}
 use Rattle.wkt_access.specs.Values.{size, Value, Values}
 use Rattle.wkt_types.specs.declared.geometry_type.GeometryType.{GeometryType}
 use Rattle.wkt_types.specs.declared.geometry_type.GeometryType.TheVariants as kind
-use Rattle.wkt_read.specs.Grammar.{DimPart, Header, IsEmptyWord, Within, More, Many, Listed, Perhaps, WithHeader, Numbers, Coord, Ring, Poly, Member, Geometry, Geometries, Further}
+use Rattle.wkt_read.specs.Grammar.{DimPart, Header, IsEmptyWord, Within, More, Many, Listed, Perhaps, WithHeader, Numbers, Coord, Ring, Poly, Member, StandFor, Geometries, Further}
 use Rattle.wkt_read.specs.Begun.{BegunEmpty, BegunNext, BegunMany, BegunWithin, BegunListed, BegunPerhaps, BegunCoord, BegunRing, BegunPoly, BegunMember, BegunBody, BegunAt, BegunGeometry}
 
 -- two ways to cut a list: the one cut is in the first part of the other, or in the second
@@ -111,7 +111,7 @@ abbrev pub from_list : {N : Type 0} → List (Value N) → Values N
 from_list [] = Values.no_values
 from_list (v ∷ vs) = Values.more_values v (from_list vs)
 
-module _ {N : Type 0} (read : List ℕ → Option N) (empties : Bool) where
+module _ {N : Type 0} (read : List ℕ → Option N) where
   pub cuts_numbers : (xs : List N) (ls a b : List Lexeme) → Numbers read ls xs → ls ≡ a ++ b → (ys : List N) × Numbers read a ys × (length ys ≤ length xs)
   cuts_numbers xs ls [] b m e = ([], refl, omega arith)
   cuts_numbers [] ls (l ∷ a) b m e = let q : l ∷ (a ++ b) ≡ [] = sym e ∙ m in cc
@@ -120,30 +120,30 @@ module _ {N : Type 0} (read : List ℕ → Option N) (empties : Bool) where
       let (ys, n, le) = cuts_numbers xs more a b m cc in
       (x ∷ ys, (run, a, cc, r, n), omega arith)
 
-  pub cuts_coord : (d : Dimension) → Cuts (Coord read d) (BegunCoord read empties d)
+  pub cuts_coord : (d : Dimension) → Cuts (Coord read d) (BegunCoord read d)
   cuts_coord d x ls a b p e =
       let (ys, n, le) = cuts_numbers x ls a b p.0 e in
       let s : length x ≡ size d = p.1 in
       (ys, n, omega arith)
 
-  pub cuts_ring : (d : Dimension) → Cuts (Ring read d) (BegunRing read empties d)
-  cuts_ring d = cuts_listed (Coord read d) (BegunCoord read empties d) (cuts_coord d)
+  pub cuts_ring : (d : Dimension) → Cuts (Ring read d) (BegunRing read d)
+  cuts_ring d = cuts_listed (Coord read d) (BegunCoord read d) (cuts_coord d)
 
-  pub cuts_poly : (d : Dimension) → Cuts (Poly read d) (BegunPoly read empties d)
-  cuts_poly d = cuts_listed (Ring read d) (BegunRing read empties d) (cuts_ring d)
+  pub cuts_poly : (d : Dimension) → Cuts (Poly read d) (BegunPoly read d)
+  cuts_poly d = cuts_listed (Ring read d) (BegunRing read d) (cuts_ring d)
 
-  pub cuts_member : (d : Dimension) → Cuts (Member read empties d) (BegunMember read empties d)
-  cuts_member d None ls a b p e = inl (p.0, cuts_word ls a b p.1 e)
+  pub cuts_member : (d : Dimension) → Cuts (Member read d) (BegunMember read d)
+  cuts_member d None ls a b p e = inl (cuts_word ls a b p e)
   cuts_member d (Some c) ls a b (inl p) e = inr (inl (cuts_coord d c ls a b p e))
-  cuts_member d (Some c) ls a b (inr p) e = inr (inr (cuts_within (Coord read d) (BegunCoord read empties d) (cuts_coord d) c ls a b p e))
+  cuts_member d (Some c) ls a b (inr p) e = inr (inr (cuts_within (Coord read d) (BegunCoord read d) (cuts_coord d) c ls a b p e))
 
-  pub further_more : (vs : Values N) (ls : List Lexeme) → Further read empties ls vs → (xs : List (Value N)) × More (Geometry read empties) ls xs
+  pub further_more : (vs : Values N) (ls : List Lexeme) → Further read ls vs → (xs : List (Value N)) × More (StandFor read) ls xs
   further_more Values.no_values ls e = ([], e)
   further_more (Values.more_values v vs) ls (a, b, e, p, m) = let (xs, mm) = further_more vs b m in (v ∷ xs, (a, b, e, p, mm))
 
   -- members of a collection, without their parentheses
   abbrev pub Members : List Lexeme → Value N → Values N → Type 0
-  Members ls v vs = (a : List Lexeme) × (b : List Lexeme) × (ls ≡ a ++ b) × Geometry read empties a v × Further read empties b vs
+  Members ls v vs = (a : List Lexeme) × (b : List Lexeme) × (ls ≡ a ++ b) × StandFor read a v × Further read b vs
 
   -- the place of the cut says how many collections are open there
   pub begun_many_at : {A : Type 0} (P : List Lexeme → A → Type 0) (B : ℕ → List Lexeme → Type 0) (ls : List Lexeme) → BegunMany P (λ l. (n : ℕ) × B n l) ls → (n : ℕ) × BegunMany P (B n) ls
@@ -157,7 +157,7 @@ module _ {N : Type 0} (read : List ℕ → Option N) (empties : Bool) where
   begun_listed_at P B ls (inr (inr (inl (b, e, m)))) = let (n, k) = begun_many_at P B b m in (n, inr (inr (inl (b, e, k))))
   begun_listed_at P B ls (inr (inr (inr w))) = (0, inr (inr (inr w)))
 
-  pub body_nothing : (B : List Lexeme → Type 0) (k : GeometryType) (d : Dimension) → BegunBody read empties B k d []
+  pub body_nothing : (B : List Lexeme → Type 0) (k : GeometryType) (d : Dimension) → BegunBody read B k d []
   body_nothing B kind.Point d = inl (inl refl)
   body_nothing B kind.LineString d = inl (inl refl)
   body_nothing B kind.Polygon d = inl (inl refl)
@@ -167,43 +167,43 @@ module _ {N : Type 0} (read : List ℕ → Option N) (empties : Bool) where
   body_nothing B kind.GeometryCollection d = inl (inl refl)
 
   -- a beginning of a header and a body
-  pub cuts_with_header : (k : GeometryType) (d : Dimension) (Body : List Lexeme → Type 0) (ls a b : List Lexeme) → ((m : List Lexeme) (body : List Lexeme) → Body body → body ≡ m ++ b → (n : ℕ) × BegunBody read empties (BegunAt read empties n) k d m) → WithHeader k d Body ls → ls ≡ a ++ b → BegunGeometry read empties a
+  pub cuts_with_header : (k : GeometryType) (d : Dimension) (Body : List Lexeme → Type 0) (ls a b : List Lexeme) → ((m : List Lexeme) (body : List Lexeme) → Body body → body ≡ m ++ b → (n : ℕ) × BegunBody read (BegunAt read n) k d m) → WithHeader k d Body ls → ls ≡ a ++ b → BegunGeometry read a
   cuts_with_header k d Body ls a b f (h, body, e', hh, p) e = go (cut_in h body a b (sym e' ∙ e))
     where
-      header_only : (m : List Lexeme) → (a ≡ []) ⊎ ((d' : Dimension) × Header k d' a) → BegunGeometry read empties a
+      header_only : (m : List Lexeme) → (a ≡ []) ⊎ ((d' : Dimension) × Header k d' a) → BegunGeometry read a
       header_only m (inl z) = (1, inl z)
-      header_only m (inr (d', hd)) = (1, inr (k, d', a, [], sym (append-nil a), hd, body_nothing (BegunAt read empties 0) k d'))
+      header_only m (inr (d', hd)) = (1, inr (k, d', a, [], sym (append-nil a), hd, body_nothing (BegunAt read 0) k d'))
 
-      go : CutIn h body a b → BegunGeometry read empties a
+      go : CutIn h body a b → BegunGeometry read a
       go (Later m ea eb) = let (n, bb) = f m body p eb in (suc n, inr (k, d, h, m, ea, hh, bb))
       go (Earlier m ea eb) = header_only m (cuts_header k d h a m hh ea)
 
   -- what a cut of some further members gives
   abbrev pub FurtherCut : List Lexeme → Type 0
-  FurtherCut a = (ys : List (Value N)) × (a1 : List Lexeme) × (a2 : List Lexeme) × (a ≡ a1 ++ a2) × More (Geometry read empties) a1 ys × BegunNext (BegunGeometry read empties) a2
+  FurtherCut a = (ys : List (Value N)) × (a1 : List Lexeme) × (a2 : List Lexeme) × (a ≡ a1 ++ a2) × More (StandFor read) a1 ys × BegunNext (BegunGeometry read) a2
 
-  pub further_cut : (v : Value N) (l : Lexeme) (a b p q : List Lexeme) → l ≡ Comma → Geometry read empties p v → CutIn p q a b → ((x y : List Lexeme) → p ≡ x ++ y → BegunGeometry read empties x) → ((x y : List Lexeme) → q ≡ x ++ y → FurtherCut x) → FurtherCut (l ∷ a)
+  pub further_cut : (v : Value N) (l : Lexeme) (a b p q : List Lexeme) → l ≡ Comma → StandFor read p v → CutIn p q a b → ((x y : List Lexeme) → p ≡ x ++ y → BegunGeometry read x) → ((x y : List Lexeme) → q ≡ x ++ y → FurtherCut x) → FurtherCut (l ∷ a)
   further_cut v l a b p q el g (Later mid ea eb) one rec =
       let (ys, a1, a2, em, mm, nx) = rec mid b eb in
       let whole : a ≡ (p ++ a1) ++ a2 = ea ∙ ap (λ w. p ++ w) em ∙ sym (append_assoc p a1 a2) in
       (v ∷ ys, Comma ∷ (p ++ a1), a2, cc, (p, a1, refl, g, mm), nx)
   further_cut v l a b p q el g (Earlier mid ea eb) one rec = ([], [], l ∷ a, refl, refl, inr (a, cc, one a mid ea))
 
-  pub members_cut : (v : Value N) (a b p q : List Lexeme) → Geometry read empties p v → CutIn p q a b → ((x y : List Lexeme) → p ≡ x ++ y → BegunGeometry read empties x) → ((x y : List Lexeme) → q ≡ x ++ y → FurtherCut x) → BegunMany (Geometry read empties) (BegunGeometry read empties) a
+  pub members_cut : (v : Value N) (a b p q : List Lexeme) → StandFor read p v → CutIn p q a b → ((x y : List Lexeme) → p ≡ x ++ y → BegunGeometry read x) → ((x y : List Lexeme) → q ≡ x ++ y → FurtherCut x) → BegunMany (StandFor read) (BegunGeometry read) a
   members_cut v a b p q g (Later mid ea eb) one rec =
       let (ys, a1, a2, em, mm, nx) = rec mid b eb in
       inr (v ∷ ys, p ++ a1, a2, ea ∙ ap (λ w. p ++ w) em ∙ sym (append_assoc p a1 a2), (p, a1, refl, g, mm), nx)
   members_cut v a b p q g (Earlier mid ea eb) one rec = inl (one a mid ea)
 
-  pub members_close : (v : Value N) (vs : Values N) (l : Lexeme) (a b p q : List Lexeme) → Open ∷ ((p ++ q) ++ Close ∷ []) ≡ l ∷ (a ++ b) → Geometry read empties p v → Further read empties q vs → ((x y : List Lexeme) → p ≡ x ++ y → BegunGeometry read empties x) → ((x y : List Lexeme) → q ≡ x ++ y → FurtherCut x) → BegunWithin (λ l. (xs : List (Value N)) × Many (Geometry read empties) l xs) (BegunMany (Geometry read empties) (BegunGeometry read empties)) (l ∷ a)
+  pub members_close : (v : Value N) (vs : Values N) (l : Lexeme) (a b p q : List Lexeme) → Open ∷ ((p ++ q) ++ Close ∷ []) ≡ l ∷ (a ++ b) → StandFor read p v → Further read q vs → ((x y : List Lexeme) → p ≡ x ++ y → BegunGeometry read x) → ((x y : List Lexeme) → q ≡ x ++ y → FurtherCut x) → BegunWithin (λ l. (xs : List (Value N)) × Many (StandFor read) l xs) (BegunMany (StandFor read) (BegunGeometry read)) (l ∷ a)
   members_close v vs l a b p q eq g m one rec =
       let el : l ≡ Open = cc in
       go el (cut_in (p ++ q) (Close ∷ []) a b cc)
     where
-      inside : (mid : List Lexeme) → p ++ q ≡ a ++ mid → BegunMany (Geometry read empties) (BegunGeometry read empties) a
+      inside : (mid : List Lexeme) → p ++ q ≡ a ++ mid → BegunMany (StandFor read) (BegunGeometry read) a
       inside mid ea = members_cut v a mid p q g (cut_in p q a mid ea) one rec
 
-      go : l ≡ Open → CutIn (p ++ q) (Close ∷ []) a b → BegunWithin (λ l. (xs : List (Value N)) × Many (Geometry read empties) l xs) (BegunMany (Geometry read empties) (BegunGeometry read empties)) (l ∷ a)
+      go : l ≡ Open → CutIn (p ++ q) (Close ∷ []) a b → BegunWithin (λ l. (xs : List (Value N)) × Many (StandFor read) l xs) (BegunMany (StandFor read) (BegunGeometry read)) (l ∷ a)
       go el (Later [] ea eb) = inr (inl (a, cc, inside [] (sym (append-nil (p ++ q)) ∙ sym ea ∙ sym (append-nil a))))
       go el (Later (c ∷ []) ea eb) =
           let h : Close ∷ [] ≡ c ∷ b = eb in
@@ -213,23 +213,23 @@ module _ {N : Type 0} (read : List ℕ → Option N) (empties : Bool) where
       go el (Earlier mid ea eb) = inr (inl (a, cc, inside mid ea))
 
   mutual
-    pub cuts_geometry : (v : Value N) (ls a b : List Lexeme) → Geometry read empties ls v → ls ≡ a ++ b → BegunGeometry read empties a
-    cuts_geometry (Value.point d c) ls a b p e = cuts_with_header kind.Point d _ ls a b (λ m body q eb. (0, cuts_perhaps (Coord read d) (BegunCoord read empties d) (cuts_coord d) c body m b q eb)) p e
-    cuts_geometry (Value.line_string d c) ls a b p e = cuts_with_header kind.LineString d _ ls a b (λ m body q eb. (0, cuts_listed (Coord read d) (BegunCoord read empties d) (cuts_coord d) c body m b q eb)) p e
-    cuts_geometry (Value.polygon d c) ls a b p e = cuts_with_header kind.Polygon d _ ls a b (λ m body q eb. (0, cuts_listed (Ring read d) (BegunRing read empties d) (cuts_ring d) c body m b q eb)) p e
-    cuts_geometry (Value.multi_point d c) ls a b p e = cuts_with_header kind.MultiPoint d _ ls a b (λ m body q eb. (0, cuts_listed (Member read empties d) (BegunMember read empties d) (cuts_member d) c body m b q eb)) p e
-    cuts_geometry (Value.multi_line_string d c) ls a b p e = cuts_with_header kind.MultiLineString d _ ls a b (λ m body q eb. (0, cuts_listed (Ring read d) (BegunRing read empties d) (cuts_ring d) c body m b q eb)) p e
-    cuts_geometry (Value.multi_polygon d c) ls a b p e = cuts_with_header kind.MultiPolygon d _ ls a b (λ m body q eb. (0, cuts_listed (Poly read d) (BegunPoly read empties d) (cuts_poly d) c body m b q eb)) p e
-    cuts_geometry (Value.collection d vs) ls a b p e = cuts_with_header kind.GeometryCollection d _ ls a b (λ m body q eb. begun_listed_at (Geometry read empties) (BegunAt read empties) m (cuts_geometries vs body m b q eb)) p e
+    pub cuts_geometry : (v : Value N) (ls a b : List Lexeme) → StandFor read ls v → ls ≡ a ++ b → BegunGeometry read a
+    cuts_geometry (Value.point d c) ls a b p e = cuts_with_header kind.Point d _ ls a b (λ m body q eb. (0, cuts_perhaps (Coord read d) (BegunCoord read d) (cuts_coord d) c body m b q eb)) p e
+    cuts_geometry (Value.line_string d c) ls a b p e = cuts_with_header kind.LineString d _ ls a b (λ m body q eb. (0, cuts_listed (Coord read d) (BegunCoord read d) (cuts_coord d) c body m b q eb)) p e
+    cuts_geometry (Value.polygon d c) ls a b p e = cuts_with_header kind.Polygon d _ ls a b (λ m body q eb. (0, cuts_listed (Ring read d) (BegunRing read d) (cuts_ring d) c body m b q eb)) p e
+    cuts_geometry (Value.multi_point d c) ls a b p e = cuts_with_header kind.MultiPoint d _ ls a b (λ m body q eb. (0, cuts_listed (Member read d) (BegunMember read d) (cuts_member d) c body m b q eb)) p e
+    cuts_geometry (Value.multi_line_string d c) ls a b p e = cuts_with_header kind.MultiLineString d _ ls a b (λ m body q eb. (0, cuts_listed (Ring read d) (BegunRing read d) (cuts_ring d) c body m b q eb)) p e
+    cuts_geometry (Value.multi_polygon d c) ls a b p e = cuts_with_header kind.MultiPolygon d _ ls a b (λ m body q eb. (0, cuts_listed (Poly read d) (BegunPoly read d) (cuts_poly d) c body m b q eb)) p e
+    cuts_geometry (Value.collection d vs) ls a b p e = cuts_with_header kind.GeometryCollection d _ ls a b (λ m body q eb. begun_listed_at (StandFor read) (BegunAt read) m (cuts_geometries vs body m b q eb)) p e
 
-    pub cuts_geometries : (vs : Values N) (ls a b : List Lexeme) → Geometries read empties ls vs → ls ≡ a ++ b → BegunListed (Geometry read empties) (BegunGeometry read empties) a
+    pub cuts_geometries : (vs : Values N) (ls a b : List Lexeme) → Geometries read ls vs → ls ≡ a ++ b → BegunListed (StandFor read) (BegunGeometry read) a
     cuts_geometries Values.no_values ls a b w e = inl (cuts_word ls a b w e)
     cuts_geometries (Values.more_values v vs) ls [] b w e = inl (inl refl)
     cuts_geometries (Values.more_values v vs) ls (l ∷ a) b (p, q, e', g, m) e =
         inr (members_close v vs l a b p q (sym e' ∙ e) g m
         (λ x y ex. cuts_geometry v p x y g ex) (λ x y ex. cuts_further vs q x y m ex))
 
-    pub cuts_further : (vs : Values N) (ls a b : List Lexeme) → Further read empties ls vs → ls ≡ a ++ b → (ys : List (Value N)) × (a1 : List Lexeme) × (a2 : List Lexeme) × (a ≡ a1 ++ a2) × More (Geometry read empties) a1 ys × BegunNext (BegunGeometry read empties) a2
+    pub cuts_further : (vs : Values N) (ls a b : List Lexeme) → Further read ls vs → ls ≡ a ++ b → (ys : List (Value N)) × (a1 : List Lexeme) × (a2 : List Lexeme) × (a ≡ a1 ++ a2) × More (StandFor read) a1 ys × BegunNext (BegunGeometry read) a2
     cuts_further vs ls [] b m e = ([], [], [], refl, refl, inl refl)
     cuts_further Values.no_values ls (l ∷ a) b m e = let q : l ∷ (a ++ b) ≡ [] = sym e ∙ m in cc
     cuts_further (Values.more_values v vs) ls (l ∷ a) b (p, q, e', g, m) e =

@@ -1,13 +1,13 @@
 -- From each beginning of a geometry there is a way on, over a number type that has a value.
-use Rattle.std.proofs.Common.{◌≡◌, ℕ, zero, suc, ◌-◌, List, [], ◌∷◌, ◌++◌, length, Bool, Option, Some, None, inl, inr, refl, sym, ap, ◌∙◌, append_assoc, append-nil, arith, codes, length-append}
+use Rattle.std.proofs.Common.{◌≡◌, ℕ, zero, suc, ◌-◌, List, [], ◌∷◌, ◌++◌, length, Option, Some, None, inl, inr, refl, sym, ap, ◌∙◌, append_assoc, append-nil, arith, codes, length-append}
 use Rattle.wkt_num.specs.Bytes.{Lexeme, Open, Close, Comma, Word, Num}
 use Rattle.wkt_access.specs.declared.dimensions.Dimension.{Dimension}
 use Rattle.wkt_access.specs.declared.dimensions.Dimension.TheVariants.{XY}
 use Rattle.wkt_access.specs.Values.{size, Value}
 use Rattle.wkt_types.specs.declared.geometry_type.GeometryType.{GeometryType}
 use Rattle.wkt_types.specs.declared.geometry_type.GeometryType.TheVariants as kind
-use Rattle.wkt_read.specs.Grammar.{entry, kind_words, kind_word, Header, IsEmptyWord, More, Many, Listed, Perhaps, WithHeader, Numbers, Coord, Ring, Poly, Member, Geometry, Geometries, Further}
-use Rattle.wkt_read.specs.Begun.{BegunEmpty, BegunMany, BegunListed, BegunPerhaps, BegunCoord, BegunRing, BegunPoly, BegunMember, BegunBody, BegunAt, BegunGeometry, NoneBeginsBy, IsDeadBy}
+use Rattle.wkt_read.specs.Grammar.{entry, kind_words, kind_word, Header, IsEmptyWord, More, Many, Listed, Perhaps, WithHeader, Numbers, Coord, Ring, Poly, Member, StandFor, Geometries, Further}
+use Rattle.wkt_read.specs.Begun.{BegunEmpty, BegunMany, BegunListed, BegunPerhaps, BegunCoord, BegunRing, BegunPoly, BegunMember, BegunBody, BegunAt, BegunGeometry, NoneBegins, IsDead}
 use Rattle.wkt_read.proofs.LawLemmas.Begun.{GoesOn, from_list, cuts_geometry, CutIn, Later, Earlier, cut_in}
 
 pub the_empty : IsEmptyWord (Word (codes "EMPTY") ∷ [])
@@ -63,7 +63,7 @@ goes_perhaps P B f a (inr (inr (inl (b, e, h)))) =
     (c ++ Close ∷ [], Some x, (b ++ c, close a b c e, p))
 goes_perhaps P B f a (inr (inr (inr (b, e, (x, p))))) = ([], Some x, (b, append-nil a ∙ e, p))
 
-module _ {N : Type 0} (read : List ℕ → Option N) (empties : Bool) (run : List ℕ) (some : N) (reads : read run ≡ Some some) where
+module _ {N : Type 0} (read : List ℕ → Option N) (run : List ℕ) (some : N) (reads : read run ≡ Some some) where
   pub numbers_append : (xs ys : List N) (a b : List Lexeme) → Numbers read a xs → Numbers read b ys → Numbers read (a ++ b) (xs ++ ys)
   numbers_append [] ys a b e n = rw e n
   numbers_append (x ∷ xs) ys a b (r, more, e, q, m) n = (r, more ++ b, ap (λ w. w ++ b) e, q, numbers_append xs ys more b m n)
@@ -72,19 +72,19 @@ module _ {N : Type 0} (read : List ℕ → Option N) (empties : Bool) (run : Lis
   some_numbers zero = ([], [], refl, refl)
   some_numbers (suc n) = let (b, ys, m, e) = some_numbers n in (Num run ∷ b, some ∷ ys, (run, b, refl, reads, m), omega arith)
 
-  pub goes_coord : (d : Dimension) → GoesOn (Coord read d) (BegunCoord read empties d)
+  pub goes_coord : (d : Dimension) → GoesOn (Coord read d) (BegunCoord read d)
   goes_coord d a (xs, m, le) =
       let (b, ys, n, e) = some_numbers (size d - length xs) in
       (b, xs ++ ys, (numbers_append xs ys a b m n, length-append xs ys ∙ omega arith))
 
-  pub goes_ring : (d : Dimension) → GoesOn (Ring read d) (BegunRing read empties d)
-  goes_ring d = goes_listed (Coord read d) (BegunCoord read empties d) (goes_coord d)
+  pub goes_ring : (d : Dimension) → GoesOn (Ring read d) (BegunRing read d)
+  goes_ring d = goes_listed (Coord read d) (BegunCoord read d) (goes_coord d)
 
-  pub goes_poly : (d : Dimension) → GoesOn (Poly read d) (BegunPoly read empties d)
-  goes_poly d = goes_listed (Ring read d) (BegunRing read empties d) (goes_ring d)
+  pub goes_poly : (d : Dimension) → GoesOn (Poly read d) (BegunPoly read d)
+  goes_poly d = goes_listed (Ring read d) (BegunRing read d) (goes_ring d)
 
-  pub goes_member : (d : Dimension) → GoesOn (Member read empties d) (BegunMember read empties d)
-  goes_member d a (inl (t, w)) = let (b, h) = goes_empty a w in (b, None, (t, h))
+  pub goes_member : (d : Dimension) → GoesOn (Member read d) (BegunMember read d)
+  goes_member d a (inl w) = let (b, h) = goes_empty a w in (b, None, h)
   goes_member d a (inr (inl c)) = let (b, x, p) = goes_coord d a c in (b, Some x, inl p)
   goes_member d a (inr (inr (inl z))) = let (b, x, p) = goes_coord d a ([], z, omega arith) in (b, Some x, inl p)
   goes_member d a (inr (inr (inr (inl (b, e, h))))) =
@@ -92,11 +92,11 @@ module _ {N : Type 0} (read : List ℕ → Option N) (empties : Bool) (run : Lis
       (c ++ Close ∷ [], Some x, inr (b ++ c, close a b c e, p))
   goes_member d a (inr (inr (inr (inr (b, e, (x, p)))))) = ([], Some x, inr (b, append-nil a ∙ e, p))
 
-  pub further_of_list : (xs : List (Value N)) (ls : List Lexeme) → More (Geometry read empties) ls xs → Further read empties ls (from_list xs)
+  pub further_of_list : (xs : List (Value N)) (ls : List Lexeme) → More (StandFor read) ls xs → Further read ls (from_list xs)
   further_of_list [] ls e = e
   further_of_list (x ∷ xs) ls (a, b, e, p, m) = (a, b, e, p, further_of_list xs b m)
 
-  pub geometries_of_list : (xs : List (Value N)) (ls : List Lexeme) → Listed (Geometry read empties) ls xs → Geometries read empties ls (from_list xs)
+  pub geometries_of_list : (xs : List (Value N)) (ls : List Lexeme) → Listed (StandFor read) ls xs → Geometries read ls (from_list xs)
   geometries_of_list [] ls w = w
   geometries_of_list (x ∷ xs) ls (body, e, (a, b, e', p, m)) =
       (a, b, e ∙ ap (λ w. Open ∷ (w ++ Close ∷ [])) e', p, further_of_list xs b m)
@@ -105,38 +105,38 @@ module _ {N : Type 0} (read : List ℕ → Option N) (empties : Bool) (run : Lis
   pub goes_with_header : (k : GeometryType) (d : Dimension) (Body : List Lexeme → Type 0) (a h b c : List Lexeme) → a ≡ h ++ b → Header k d h → Body (b ++ c) → WithHeader k d Body (a ++ c)
   goes_with_header k d Body a h b c e hh p = (h, b ++ c, ap (λ w. w ++ c) e ∙ append_assoc h b c, hh, p)
 
-  pub goes_body : (Begun : List Lexeme → Type 0) → GoesOn (Geometry read empties) Begun → (k : GeometryType) (d : Dimension) (a h b : List Lexeme) → a ≡ h ++ b → Header k d h → BegunBody read empties Begun k d b → (c : List Lexeme) × (v : Value N) × Geometry read empties (a ++ c) v
-  goes_body Begun f kind.Point d a h b e hh p = let (c, x, q) = goes_perhaps (Coord read d) (BegunCoord read empties d) (goes_coord d) b p in (c, Value.point d x, goes_with_header kind.Point d _ a h b c e hh q)
-  goes_body Begun f kind.LineString d a h b e hh p = let (c, x, q) = goes_listed (Coord read d) (BegunCoord read empties d) (goes_coord d) b p in (c, Value.line_string d x, goes_with_header kind.LineString d _ a h b c e hh q)
-  goes_body Begun f kind.Polygon d a h b e hh p = let (c, x, q) = goes_listed (Ring read d) (BegunRing read empties d) (goes_ring d) b p in (c, Value.polygon d x, goes_with_header kind.Polygon d _ a h b c e hh q)
-  goes_body Begun f kind.MultiPoint d a h b e hh p = let (c, x, q) = goes_listed (Member read empties d) (BegunMember read empties d) (goes_member d) b p in (c, Value.multi_point d x, goes_with_header kind.MultiPoint d _ a h b c e hh q)
-  goes_body Begun f kind.MultiLineString d a h b e hh p = let (c, x, q) = goes_listed (Ring read d) (BegunRing read empties d) (goes_ring d) b p in (c, Value.multi_line_string d x, goes_with_header kind.MultiLineString d _ a h b c e hh q)
-  goes_body Begun f kind.MultiPolygon d a h b e hh p = let (c, x, q) = goes_listed (Poly read d) (BegunPoly read empties d) (goes_poly d) b p in (c, Value.multi_polygon d x, goes_with_header kind.MultiPolygon d _ a h b c e hh q)
+  pub goes_body : (Begun : List Lexeme → Type 0) → GoesOn (StandFor read) Begun → (k : GeometryType) (d : Dimension) (a h b : List Lexeme) → a ≡ h ++ b → Header k d h → BegunBody read Begun k d b → (c : List Lexeme) × (v : Value N) × StandFor read (a ++ c) v
+  goes_body Begun f kind.Point d a h b e hh p = let (c, x, q) = goes_perhaps (Coord read d) (BegunCoord read d) (goes_coord d) b p in (c, Value.point d x, goes_with_header kind.Point d _ a h b c e hh q)
+  goes_body Begun f kind.LineString d a h b e hh p = let (c, x, q) = goes_listed (Coord read d) (BegunCoord read d) (goes_coord d) b p in (c, Value.line_string d x, goes_with_header kind.LineString d _ a h b c e hh q)
+  goes_body Begun f kind.Polygon d a h b e hh p = let (c, x, q) = goes_listed (Ring read d) (BegunRing read d) (goes_ring d) b p in (c, Value.polygon d x, goes_with_header kind.Polygon d _ a h b c e hh q)
+  goes_body Begun f kind.MultiPoint d a h b e hh p = let (c, x, q) = goes_listed (Member read d) (BegunMember read d) (goes_member d) b p in (c, Value.multi_point d x, goes_with_header kind.MultiPoint d _ a h b c e hh q)
+  goes_body Begun f kind.MultiLineString d a h b e hh p = let (c, x, q) = goes_listed (Ring read d) (BegunRing read d) (goes_ring d) b p in (c, Value.multi_line_string d x, goes_with_header kind.MultiLineString d _ a h b c e hh q)
+  goes_body Begun f kind.MultiPolygon d a h b e hh p = let (c, x, q) = goes_listed (Poly read d) (BegunPoly read d) (goes_poly d) b p in (c, Value.multi_polygon d x, goes_with_header kind.MultiPolygon d _ a h b c e hh q)
   goes_body Begun f kind.GeometryCollection d a h b e hh p =
-      let (c, xs, q) = goes_listed (Geometry read empties) Begun f b p in
+      let (c, xs, q) = goes_listed (StandFor read) Begun f b p in
       (c, Value.collection d (from_list xs), goes_with_header kind.GeometryCollection d _ a h b c e hh (geometries_of_list xs (b ++ c) q))
 
-  pub a_point : Geometry read empties (Word (codes "POINT") ∷ (Word (codes "EMPTY") ∷ [])) (Value.point XY None)
+  pub a_point : StandFor read (Word (codes "POINT") ∷ (Word (codes "EMPTY") ∷ [])) (Value.point XY None)
   unfolding kind_word kind_words
   a_point = (Word (codes "POINT") ∷ [], Word (codes "EMPTY") ∷ [], refl, (codes "POINT", entry (codes "POINT") kind.Point None, [], refl, refl, refl, inl (refl, refl)), the_empty)
 
-  pub goes_at : (n : ℕ) → GoesOn (Geometry read empties) (BegunAt read empties n)
+  pub goes_at : (n : ℕ) → GoesOn (StandFor read) (BegunAt read n)
   goes_at zero a h = elim h [ ]
   goes_at (suc n) a (inl z) = (Word (codes "POINT") ∷ (Word (codes "EMPTY") ∷ []), Value.point XY None, rw z a_point)
-  goes_at (suc n) a (inr (k, d, h, b, e, hh, p)) = goes_body (BegunAt read empties n) (goes_at n) k d a h b e hh p
+  goes_at (suc n) a (inr (k, d, h, b, e, hh, p)) = goes_body (BegunAt read n) (goes_at n) k d a h b e hh p
 
-  pub dead_for_good : (ls : List Lexeme) → IsDeadBy read empties ls → (more : List Lexeme) → NoneBeginsBy read empties (ls ++ more)
+  pub dead_for_good : (ls : List Lexeme) → IsDead read ls → (more : List Lexeme) → NoneBegins read (ls ++ more)
   dead_for_good ls dead more f rest v e g = go (cut_in ls more f rest e)
     where
       go : CutIn ls more f rest → ⊥
-      go (Later m ef er) = dead.not_begun (cuts_geometry read empties v f ls m g ef)
+      go (Later m ef er) = dead.not_begun (cuts_geometry read v f ls m g ef)
       go (Earlier m el er) = dead.none_begins f m v el g
 
-  pub no_way_on : (ls : List Lexeme) → ((more : List Lexeme) → NoneBeginsBy read empties (ls ++ more)) → IsDeadBy read empties ls
+  pub no_way_on : (ls : List Lexeme) → ((more : List Lexeme) → NoneBegins read (ls ++ more)) → IsDead read ls
   no_way_on ls none = record {
     none_begins = λ f rest v e g. none [] f rest v (append-nil ls ∙ e) g;
     not_begun = λ h. go h;
   }
     where
-      go : BegunGeometry read empties ls → ⊥
+      go : BegunGeometry read ls → ⊥
       go (n, h) = let (b, v, g) = goes_at n ls h in none b (ls ++ b) [] v (sym (append-nil (ls ++ b))) g

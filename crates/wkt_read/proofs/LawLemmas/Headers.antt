@@ -1,5 +1,5 @@
 -- The header rule agrees with the front.
-use Rattle.std.proofs.Common.{◌≡◌, ℕ, ◌≤◌, ◌<◌, List, [], ◌∷◌, ◌++◌, Bool, true, false, cond, not, ◌&&◌, ◌||◌, ◌==◌, nat_eq, nat_le, Option, Some, None, ◌⊎◌, inl, inr, refl, sym, ap, ◌∙◌, append-nil, subst, arith, codes, bytes_eq, eqb-true, IsUtf8}
+use Rattle.std.proofs.Common.{◌≡◌, ℕ, ◌≤◌, ◌<◌, List, [], ◌∷◌, ◌++◌, Bool, true, false, cond, not, ◌&&◌, ◌||◌, ◌==◌, nat_eq, nat_le, Option, Some, None, ◌⊎◌, inl, inr, refl, sym, ap, ◌∙◌, append_assoc, append-nil, subst, arith, codes, bytes_eq, eqb-true, IsUtf8}
 use Rattle.std.specs.List.{AllByRecursion}
 use Rattle.std.specs.Str.{str_to_ascii_uppercase, trim_start}
 use Rattle.std.specs.Char.{to_ascii_uppercase, is_whitespace}
@@ -9,8 +9,9 @@ use Rattle.wkt_access.specs.declared.dimensions.Dimension.{Dimension}
 use Rattle.wkt_access.specs.declared.dimensions.Dimension.TheVariants.{XY, XYZ, XYM, XYZM}
 use Rattle.wkt_access.specs.Values.{Value}
 use Rattle.wkt_types.specs.declared.geometry_type.GeometryType.{GeometryType}
+use Rattle.wkt_types.specs.declared.geometry_type.GeometryType.TheVariants as kind
 use Rattle.wkt_read.specs.Kinds.{kind_of, dim_of}
-use Rattle.wkt_read.specs.Grammar.{KindWord, entry_in, kind_words, kind_word, dim_word, DimPart, Header}
+use Rattle.wkt_read.specs.Grammar.{KindWord, entry, with_joined, entry_in, kind_words, kind_word, dim_word, DimPart, Header}
 use Rattle.wkt_read.specs.Header.{Named, begins, holds, Cut, with_byte, header_cut, has_space, named_in, dim_said, cut_answer, header_rule}
 use Rattle.std.proofs.lemmas.Slice.Eq.{bytes_eq-Decides}
 use Rattle.std.specs.Str.{chars, encode_utf8_all, skip_leading_whitespace}
@@ -18,7 +19,7 @@ use Rattle.std.specs.Char.{encode_utf8}
 use Rattle.std.proofs.lemmas.Str.{IsUtf8-past_char, chars_past_char, encodes-chars, encode_ascii}
 use Rattle.std.proofs.lemmas.Str.Ascii.{uppercase_is}
 use Rattle.std.proofs.lemmas.Bool.Decides.{nat_tests}
-use Rattle.wkt_read.specs.Front.{FrontBy}
+use Rattle.wkt_read.specs.Front.{Front}
 use Rattle.wkt_read.proofs.LawLemmas.OneForm.{BeginsBody, geometry_begins}
 
 -- the letters of a joined dimension
@@ -46,96 +47,46 @@ pub record IsKindWord (e : KindWord) : Type 0 where
   pub plain_word : plain e.word ≡ true
   pub capital : capital_first e.word ≡ true
 
-pub kind_words_are : AllByRecursion IsKindWord kind_words
+-- entries that are all as is asked
+pub record KindWords (es : List KindWord) : Type 0 where
+  pub all : AllByRecursion IsKindWord es
+
+no_more : KindWords []
+no_more = record { all = tt }
+
+and_more : (e : KindWord) {more : List KindWord} → IsKindWord e → KindWords more → KindWords (e ∷ more)
+and_more e one rest = record { all = (one, rest.all) }
+
+capital_more : (w x : List ℕ) → capital_first w ≡ true → capital_first (w ++ x) ≡ true
+capital_more [] x h = cc
+capital_more (a ∷ t) x h = h
+
+module _ (w : List ℕ) (k : GeometryType) (named : (x : List ℕ) → named_in kind_words (w ++ x) ≡ Some (k, x)) (capital : capital_first w ≡ true) where
+  joined_is : (j : Dimension) → plain (w ++ suffix (Some j)) ≡ true → IsKindWord (entry (w ++ suffix (Some j)) k (Some j))
+  joined_is j p = record {
+    named = λ x. ap (named_in kind_words) (append_assoc w (suffix (Some j)) x) ∙ named (suffix (Some j) ++ x);
+    plain_word = p;
+    capital = capital_more w (suffix (Some j)) capital;
+  }
+
+  four_are : {more : List KindWord} → plain w ≡ true → plain (w ++ codes "Z") ≡ true → plain (w ++ codes "M") ≡ true → plain (w ++ codes "ZM") ≡ true → KindWords more → KindWords (with_joined w k ++ more)
+  four_are p z m zm rest =
+      and_more (entry w k None) (record { named = named; plain_word = p; capital = capital })
+      (and_more (entry (w ++ codes "Z") k (Some XYZ)) (joined_is XYZ z)
+      (and_more (entry (w ++ codes "M") k (Some XYM)) (joined_is XYM m)
+      (and_more (entry (w ++ codes "ZM") k (Some XYZM)) (joined_is XYZM zm) rest)))
+
+pub kind_words_all : KindWords kind_words
 unfolding kind_words
-kind_words_are = (
-  record { named = λ x. refl; plain_word = refl; capital = refl },
-  (
-    record { named = λ x. refl; plain_word = refl; capital = refl },
-    (
-      record { named = λ x. refl; plain_word = refl; capital = refl },
-      (
-        record { named = λ x. refl; plain_word = refl; capital = refl },
-        (
-          record { named = λ x. refl; plain_word = refl; capital = refl },
-          (
-            record { named = λ x. refl; plain_word = refl; capital = refl },
-            (
-              record { named = λ x. refl; plain_word = refl; capital = refl },
-              (
-                record { named = λ x. refl; plain_word = refl; capital = refl },
-                (
-                  record { named = λ x. refl; plain_word = refl; capital = refl },
-                  (
-                    record { named = λ x. refl; plain_word = refl; capital = refl },
-                    (
-                      record { named = λ x. refl; plain_word = refl; capital = refl },
-                      (
-                        record { named = λ x. refl; plain_word = refl; capital = refl },
-                        (
-                          record { named = λ x. refl; plain_word = refl; capital = refl },
-                          (
-                            record { named = λ x. refl; plain_word = refl; capital = refl },
-                            (
-                              record { named = λ x. refl; plain_word = refl; capital = refl },
-                              (
-                                record { named = λ x. refl; plain_word = refl; capital = refl },
-                                (
-                                  record { named = λ x. refl; plain_word = refl; capital = refl },
-                                  (
-                                    record { named = λ x. refl; plain_word = refl; capital = refl },
-                                    (
-                                      record { named = λ x. refl; plain_word = refl; capital = refl },
-                                      (
-                                        record { named = λ x. refl; plain_word = refl; capital = refl },
-                                        (
-                                          record { named = λ x. refl; plain_word = refl; capital = refl },
-                                          (
-                                            record { named = λ x. refl; plain_word = refl; capital = refl },
-                                            (
-                                              record { named = λ x. refl; plain_word = refl; capital = refl },
-                                              (
-                                                record { named = λ x. refl; plain_word = refl; capital = refl },
-                                                (
-                                                  record { named = λ x. refl; plain_word = refl; capital = refl },
-                                                  (
-                                                    record { named = λ x. refl; plain_word = refl; capital = refl },
-                                                    (
-                                                      record { named = λ x. refl; plain_word = refl; capital = refl },
-                                                      (
-                                                        record { named = λ x. refl; plain_word = refl; capital = refl },
-                                                        (
-                                                          record { named = λ x. refl; plain_word = refl; capital = refl },
-                                                          tt,
-                                                        ),
-                                                      ),
-                                                    ),
-                                                  ),
-                                                ),
-                                              ),
-                                            ),
-                                          ),
-                                        ),
-                                      ),
-                                    ),
-                                  ),
-                                ),
-                              ),
-                            ),
-                          ),
-                        ),
-                      ),
-                    ),
-                  ),
-                ),
-              ),
-            ),
-          ),
-        ),
-      ),
-    ),
-  ),
-)
+kind_words_all =
+    four_are (codes "POINT") kind.Point (λ x. refl) refl refl refl refl refl
+    (four_are (codes "LINESTRING") kind.LineString (λ x. refl) refl refl refl refl refl
+    (and_more (entry (codes "LINEARRING") kind.LineString None) (record { named = λ x. refl; plain_word = refl; capital = refl })
+    (four_are (codes "POLYGON") kind.Polygon (λ x. refl) refl refl refl refl refl
+    (four_are (codes "MULTIPOINT") kind.MultiPoint (λ x. refl) refl refl refl refl refl
+    (four_are (codes "MULTILINESTRING") kind.MultiLineString (λ x. refl) refl refl refl refl refl
+    (four_are (codes "MULTIPOLYGON") kind.MultiPolygon (λ x. refl) refl refl refl refl refl
+    (four_are (codes "GEOMETRYCOLLECTION") kind.GeometryCollection (λ x. refl) refl refl refl refl refl no_more)))))))
 
 -- an entry that is found is in the table, and its word is the one that was looked up
 pub found_is : (es : List KindWord) (w : List ℕ) (e : KindWord) → AllByRecursion IsKindWord es → entry_in es w ≡ Some e → IsKindWord e × (w ≡ e.word)
@@ -516,7 +467,7 @@ pub header_agrees : (text rest : List ℕ) (k : GeometryType) (d : Dimension) (h
 unfolding header_rule kind_word
 header_agrees text rest k d h b u (run, e, more, eh, ew, ek, dp) bb t =
     let f = first_word text run (more ++ b) rest (subst (λ x. Takes text (x ++ b) rest) eh t) in
-    let found = found_is kind_words (str_to_ascii_uppercase run) e kind_words_are ew in
+    let found = found_is kind_words (str_to_ascii_uppercase run) e kind_words_all.all ew in
     let is = found.0 in
     let bh = past f.mid rest e.joined d more b dp bb f.boundary f.more in
     let cap : capital_first (str_to_ascii_uppercase run) ≡ true = ap capital_first found.1 ∙ is.capital in
@@ -527,7 +478,7 @@ header_agrees text rest k d h b u (run, e, more, eh, ew, ek, dp) bb t =
     ap header_cut tr ∙ header_run run f.mid f.a_run.1 pl ∙ ap (with_bytes run) bh.header ∙ sym (with_bytes_append run bh.bytes o) ∙ with_bytes_is (run ++ bh.bytes) bh.by_empty in
     ap cut_answer hd ∙ answer_is e run bh.bytes bh.by_empty d is found.1 bh.spaced bh.said ∙ ap (λ x. Named x d) ek
 
-pub front_header : {N : Type 0} (read : List ℕ → Option N) (empties : Bool) (text : List ℕ) (v : Value N) (end : ℕ) → IsUtf8 text → FrontBy read empties text v end → header_rule text ≡ Named (kind_of v) (dim_of v)
-front_header read empties text v end u f =
-    let (h, b, e, hh, bb) = geometry_begins read empties f.lexemes v f.reads in
+pub front_header : {N : Type 0} (read : List ℕ → Option N) (text : List ℕ) (v : Value N) (end : ℕ) → IsUtf8 text → Front read text v end → header_rule text ≡ Named (kind_of v) (dim_of v)
+front_header read text v end u f =
+    let (h, b, e, hh, bb) = geometry_begins read f.lexemes v f.reads in
     header_agrees text f.rest (kind_of v) (dim_of v) h b u hh bb (subst (λ x. Takes text x f.rest) e f.taken)

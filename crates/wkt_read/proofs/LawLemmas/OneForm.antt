@@ -1,5 +1,5 @@
 -- No form of a value begins a form of another.
-use Rattle.std.proofs.Common.{◌≡◌, ℕ, List, [], ◌∷◌, ◌++◌, length, Option, Some, None, ◌⊎◌, inl, inr, Bool, refl, sym, ap, ◌∙◌, append_assoc, arith, codes}
+use Rattle.std.proofs.Common.{◌≡◌, ℕ, List, [], ◌∷◌, ◌++◌, length, Option, Some, None, ◌⊎◌, inl, inr, refl, sym, ap, ◌∙◌, append_assoc, arith, codes}
 use Rattle.std.specs.Str.{str_to_ascii_uppercase}
 use Rattle.wkt_num.specs.Bytes.{Lexeme, Open, Close, Comma, Word, Num}
 use Rattle.wkt_access.specs.declared.dimensions.Dimension.{Dimension}
@@ -8,7 +8,7 @@ use Rattle.wkt_access.specs.Values.{Value, Values}
 use Rattle.wkt_types.specs.declared.geometry_type.GeometryType.{GeometryType}
 use Rattle.wkt_types.specs.declared.geometry_type.GeometryType.TheVariants as kind
 use Rattle.wkt_read.specs.Kinds.{kind_of, dim_of}
-use Rattle.wkt_read.specs.Grammar.{KindWord, kind_word, dim_word, dim_in, DimPart, Header, IsEmptyWord, Within, More, Many, Listed, Perhaps, WithHeader, Numbers, Coord, Ring, Poly, Member, Geometry, Geometries, Further}
+use Rattle.wkt_read.specs.Grammar.{KindWord, kind_word, dim_word, dim_in, DimPart, Header, IsEmptyWord, Within, More, Many, Listed, Perhaps, WithHeader, Numbers, Coord, Ring, Poly, Member, StandFor, Geometries, Further}
 
 pub record Same {A : Type 0} (a b x y : List Lexeme) (v w : A) : Type 0 where
   pub lexemes : a ≡ b
@@ -141,16 +141,16 @@ empty_or_number {N} {A} read d a b x y w (r, e, u) p eq =
     let q : Word r ∷ x ≡ Num run ∷ (more ++ y) = rw e at (rw e' at eq) in
     let no : ⊥ = cc in absurd no
 
-pub member_one : {N : Type 0} (read : List ℕ → Option N) (empties : Bool) (d : Dimension) → OneForm (Member read empties d)
-member_one read empties d a b x y None None e e' eq = let s = empty_one a b x y e.1 e'.1 eq in record { lexemes = s.0; rest = s.1; value = refl }
-member_one read empties d a b x y None (Some w) e (inl m') eq = empty_or_number read d a b x y w e.1 m' eq
-member_one read empties d a b x y None (Some w) e (inr m') eq = empty_or_open a b x y e.1 _ m'.1 eq
-member_one read empties d a b x y (Some v) None (inl m) e' eq = empty_or_number read d b a y x v e'.1 m (sym eq)
-member_one read empties d a b x y (Some v) None (inr m) e' eq = empty_or_open b a y x e'.1 _ m.1 (sym eq)
-member_one read empties d a b x y (Some v) (Some w) (inl m) (inl m') eq = some_same (coord_one read d a b x y v w m m' eq)
-member_one read empties d a b x y (Some v) (Some w) (inl m) (inr m') eq = number_or_open read d a b x y v m _ m'.1 eq
-member_one read empties d a b x y (Some v) (Some w) (inr m) (inl m') eq = number_or_open read d b a y x w m' _ m.1 (sym eq)
-member_one read empties d a b x y (Some v) (Some w) (inr m) (inr m') eq =
+pub member_one : {N : Type 0} (read : List ℕ → Option N) (d : Dimension) → OneForm (Member read d)
+member_one read d a b x y None None e e' eq = let s = empty_one a b x y e e' eq in record { lexemes = s.0; rest = s.1; value = refl }
+member_one read d a b x y None (Some w) e (inl m') eq = empty_or_number read d a b x y w e m' eq
+member_one read d a b x y None (Some w) e (inr m') eq = empty_or_open a b x y e _ m'.1 eq
+member_one read d a b x y (Some v) None (inl m) e' eq = empty_or_number read d b a y x v e' m (sym eq)
+member_one read d a b x y (Some v) None (inr m) e' eq = empty_or_open b a y x e' _ m.1 (sym eq)
+member_one read d a b x y (Some v) (Some w) (inl m) (inl m') eq = some_same (coord_one read d a b x y v w m m' eq)
+member_one read d a b x y (Some v) (Some w) (inl m) (inr m') eq = number_or_open read d a b x y v m _ m'.1 eq
+member_one read d a b x y (Some v) (Some w) (inr m) (inl m') eq = number_or_open read d b a y x w m' _ m.1 (sym eq)
+member_one read d a b x y (Some v) (Some w) (inr m) (inr m') eq =
     some_same (within_one (Coord read d) (one_closed (Coord read d) (coord_one read d)) a b x y v w m m' eq)
 
 -- what a body begins with
@@ -249,8 +249,8 @@ same_kind P one begins con k d d' a a' x y v w (h, b, e, hh, p) (h', b', e', hh'
     let v1 = t.value in
     record { lexemes = cc; rest = t.rest; value = cc }
 
-module _ {N : Type 0} (read : List ℕ → Option N) (empties : Bool) where
-  pub geometries_begins : (b : List Lexeme) (vs : Values N) → Geometries read empties b vs → BeginsBody b
+module _ {N : Type 0} (read : List ℕ → Option N) where
+  pub geometries_begins : (b : List Lexeme) (vs : Values N) → Geometries read b vs → BeginsBody b
   geometries_begins b Values.no_values e = empty_begins b e
   geometries_begins b (Values.more_values v vs) w = inl (_, w.2)
 
@@ -259,12 +259,12 @@ module _ {N : Type 0} (read : List ℕ → Option N) (empties : Bool) where
   BodyOf b (Value.point d c) = Perhaps (Coord read d) b c
   BodyOf b (Value.line_string d cs) = Listed (Coord read d) b cs
   BodyOf b (Value.polygon d rs) = Listed (Ring read d) b rs
-  BodyOf b (Value.multi_point d ms) = Listed (Member read empties d) b ms
+  BodyOf b (Value.multi_point d ms) = Listed (Member read d) b ms
   BodyOf b (Value.multi_line_string d ls) = Listed (Ring read d) b ls
   BodyOf b (Value.multi_polygon d ps) = Listed (Poly read d) b ps
-  BodyOf b (Value.collection d vs) = Geometries read empties b vs
+  BodyOf b (Value.collection d vs) = Geometries read b vs
 
-  pub geometry_body : (a : List Lexeme) (v : Value N) → Geometry read empties a v → WithHeader (kind_of v) (dim_of v) (λ b. BodyOf b v) a
+  pub geometry_body : (a : List Lexeme) (v : Value N) → StandFor read a v → WithHeader (kind_of v) (dim_of v) (λ b. BodyOf b v) a
   geometry_body a (Value.point d c) p = p
   geometry_body a (Value.line_string d c) p = p
   geometry_body a (Value.polygon d c) p = p
@@ -277,19 +277,19 @@ module _ {N : Type 0} (read : List ℕ → Option N) (empties : Bool) where
   body_begins b (Value.point d c) p = perhaps_begins (Coord read d) b c p
   body_begins b (Value.line_string d c) p = listed_begins (Coord read d) b c p
   body_begins b (Value.polygon d c) p = listed_begins (Ring read d) b c p
-  body_begins b (Value.multi_point d c) p = listed_begins (Member read empties d) b c p
+  body_begins b (Value.multi_point d c) p = listed_begins (Member read d) b c p
   body_begins b (Value.multi_line_string d c) p = listed_begins (Ring read d) b c p
   body_begins b (Value.multi_polygon d c) p = listed_begins (Poly read d) b c p
   body_begins b (Value.collection d c) p = geometries_begins b c p
 
-  pub geometry_begins : (a : List Lexeme) (v : Value N) → Geometry read empties a v → BeginsWithHeader (kind_of v) (dim_of v) a
+  pub geometry_begins : (a : List Lexeme) (v : Value N) → StandFor read a v → BeginsWithHeader (kind_of v) (dim_of v) a
   geometry_begins a v g = let (h, b, e, hh, p) = geometry_body a v g in (h, b, e, hh, body_begins b v p)
 
-  pub kinds_agree : (a b x y : List Lexeme) (v w : Value N) → Geometry read empties a v → Geometry read empties b w → a ++ x ≡ b ++ y → kind_of v ≡ kind_of w
+  pub kinds_agree : (a b x y : List Lexeme) (v w : Value N) → StandFor read a v → StandFor read b w → a ++ x ≡ b ++ y → kind_of v ≡ kind_of w
   kinds_agree a b x y v w p q eq = (with_header_agree (kind_of v) (kind_of w) (dim_of v) (dim_of w) a b x y (geometry_begins a v p) (geometry_begins b w q) eq).0
 
   mutual
-    pub geometry_one : (v w : Value N) (a b x y : List Lexeme) → Geometry read empties a v → Geometry read empties b w → a ++ x ≡ b ++ y → Same a b x y v w
+    pub geometry_one : (v w : Value N) (a b x y : List Lexeme) → StandFor read a v → StandFor read b w → a ++ x ≡ b ++ y → Same a b x y v w
     geometry_one (Value.point d c) (Value.point d' c') a b x y p q eq =
         same_kind (λ d. Perhaps (Coord read d)) (λ d. perhaps_one _ (coord_one read d)) (λ d. perhaps_begins _) Value.point kind.Point d d' a b x y c c' p q eq
     geometry_one (Value.line_string d c) (Value.line_string d' c') a b x y p q eq =
@@ -297,7 +297,7 @@ module _ {N : Type 0} (read : List ℕ → Option N) (empties : Bool) where
     geometry_one (Value.polygon d c) (Value.polygon d' c') a b x y p q eq =
         same_kind (λ d. Listed (Ring read d)) (λ d. listed_one _ (ring_one read d)) (λ d. listed_begins _) Value.polygon kind.Polygon d d' a b x y c c' p q eq
     geometry_one (Value.multi_point d c) (Value.multi_point d' c') a b x y p q eq =
-        same_kind (λ d. Listed (Member read empties d)) (λ d. listed_one _ (member_one read empties d)) (λ d. listed_begins _) Value.multi_point kind.MultiPoint d d' a b x y c c' p q eq
+        same_kind (λ d. Listed (Member read d)) (λ d. listed_one _ (member_one read d)) (λ d. listed_begins _) Value.multi_point kind.MultiPoint d d' a b x y c c' p q eq
     geometry_one (Value.multi_line_string d c) (Value.multi_line_string d' c') a b x y p q eq =
         same_kind (λ d. Listed (Ring read d)) (λ d. listed_one _ (ring_one read d)) (λ d. listed_begins _) Value.multi_line_string kind.MultiLineString d d' a b x y c c' p q eq
     geometry_one (Value.multi_polygon d c) (Value.multi_polygon d' c') a b x y p q eq =
@@ -313,7 +313,7 @@ module _ {N : Type 0} (read : List ℕ → Option N) (empties : Bool) where
         record { lexemes = cc; rest = t.rest; value = cc }
     geometry_one v w a b x y p q eq = let k = kinds_agree a b x y v w p q eq in cc
 
-    pub geometries_one : (vs ws : Values N) (a b x y : List Lexeme) → Geometries read empties a vs → Geometries read empties b ws → a ++ x ≡ b ++ y → Same a b x y vs ws
+    pub geometries_one : (vs ws : Values N) (a b x y : List Lexeme) → Geometries read a vs → Geometries read b ws → a ++ x ≡ b ++ y → Same a b x y vs ws
     geometries_one Values.no_values Values.no_values a b x y e e' eq = let s = empty_one a b x y e e' eq in record { lexemes = s.0; rest = s.1; value = refl }
     geometries_one Values.no_values (Values.more_values w ws) a b x y e m' eq = empty_or_open a b x y e _ m'.2 eq
     geometries_one (Values.more_values v vs) Values.no_values a b x y m e' eq = empty_or_open b a y x e' _ m.2 (sym eq)
@@ -328,7 +328,7 @@ module _ {N : Type 0} (read : List ℕ → Option N) (empties : Bool) where
         let v2 = t.value in
         record { lexemes = cc; rest = t.rest; value = cc }
 
-    pub further_one : (vs ws : Values N) (a b x y : List Lexeme) → Further read empties a vs → Further read empties b ws → a ++ Close ∷ x ≡ b ++ Close ∷ y → Same a b x y vs ws
+    pub further_one : (vs ws : Values N) (a b x y : List Lexeme) → Further read a vs → Further read b ws → a ++ Close ∷ x ≡ b ++ Close ∷ y → Same a b x y vs ws
     further_one Values.no_values Values.no_values a b x y e e' eq =
         let q : Close ∷ x ≡ Close ∷ y = rw e at (rw e' at eq) in
         record { lexemes = cc; rest = cc; value = refl }

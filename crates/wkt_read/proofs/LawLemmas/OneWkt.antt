@@ -1,5 +1,5 @@
 -- A value is read as one tree only.
-use Rattle.std.proofs.Common.{◌≡◌, ℕ, List, [], ◌∷◌, ◌++◌, refl, sym, ap, ◌∙◌, subst, Option, Some, None, true}
+use Rattle.std.proofs.Common.{◌≡◌, ℕ, List, [], ◌∷◌, ◌++◌, refl, sym, ap, ◌∙◌, subst, Option, Some, None}
 use Rattle.std.specs.Prelude.{map, option_map, option_to_list}
 use Rattle.std.specs.List.{AllByRecursion}
 use Rattle.wkt_access.specs.declared.dimensions.Dimension.{Dimension}
@@ -126,5 +126,5 @@ module _ {T : Type 0} where
   -- two readings of one text
   pub reading-one : (read : List ℕ → Option T) (text : List ℕ) (s t : Tree T) (end end' : ℕ) → IsFrontTo read text s end → IsFrontTo read text t end' → (s ≡ t) × (end ≡ end')
   reading-one read text s t end end' (v, f, h) (w, g, k) =
-      let (same, ends) = front_one read true text v w end end' f g in
+      let (same, ends) = front_one read text v w end end' f g in
       (wkt-one w s t (subst (λ u. IsWktOf u s) same h) k, ends)

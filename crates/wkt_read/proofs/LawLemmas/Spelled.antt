@@ -8,12 +8,12 @@ use Rattle.wkt_access.specs.declared.dimensions.Dimension.TheVariants.{XY, XYZ, 
 use Rattle.wkt_access.specs.Values.{Value, Values}
 use Rattle.wkt_types.specs.declared.geometry_type.GeometryType.{GeometryType}
 use Rattle.wkt_types.specs.declared.geometry_type.GeometryType.TheVariants as kind
-use Rattle.wkt_read.specs.Grammar.{entry, kind_words, kind_word, dim_word, DimPart, IsEmptyWord, Within, More, Many, Listed, Perhaps, WithHeader, Numbers, Coord, Ring, Poly, Member, Geometry, Geometries, Further}
-use Rattle.wkt_read.specs.Front.{FrontBy}
+use Rattle.wkt_read.specs.Grammar.{entry, kind_words, kind_word, dim_word, DimPart, IsEmptyWord, Within, More, Many, Listed, Perhaps, WithHeader, Numbers, Coord, Ring, Poly, Member, StandFor, Geometries, Further}
+use Rattle.wkt_read.specs.Front.{Front}
 use Rattle.wkt_read.proofs.LawLemmas.Fronts.{front_one}
 use Rattle.std.specs.Prelude.{map, flat_map, option_to_list}
 use Rattle.wkt_num.specs.Number.{IsNumberText, begins_number}
-use Rattle.wkt_access.specs.WellFormed.{CoordFits, LineStringFits, PolygonFits, MemberFits, PointFits, IsWellFormed, AreWellFormed}
+use Rattle.wkt_access.specs.WellFormed.{CoordFits, LineStringFits, PolygonFits, PointFits, IsWellFormed, AreWellFormed}
 use Rattle.wkt_access.specs.Texts.{separated, listed, headed, suffix, space_if_empty, coordinate_text, coordinates_text, polygon_text, text, texts}
 
 -- the laws of a number type that the text of a value needs
@@ -292,10 +292,10 @@ module _ {N : Type 0} (is_value : N → Type 0) (num : N → List ℕ) (read : L
   pub poly_spelled : (d : Dimension) (rs : List (List (List N))) → PolygonFits is_value d rs → Spelled (λ ls. Poly read d ls rs) (polygon_text num rs)
   poly_spelled d rs g = listed_spelled (Ring read d) (coordinates_text num) (LineStringFits is_value d) (ring_spelled d) rs g
 
-  pub member_spelled : (empties : Bool) (d : Dimension) (m : Option (List N)) → MemberFits is_value empties d m → Spelled (λ ls. Member read empties d ls m) (coordinates_text num (option_to_list m))
+  pub member_spelled : (d : Dimension) (m : Option (List N)) → PointFits is_value d m → Spelled (λ ls. Member read d ls m) (coordinates_text num (option_to_list m))
   unfolding listed
-  member_spelled empties d None g = let (ls, k, p) = empty_spelled in (ls, k, (g, p))
-  member_spelled empties d (Some c) g =
+  member_spelled d None g = empty_spelled
+  member_spelled d (Some c) g =
       let (ls, k, p) = alone_spelled (λ b. Coord read d b c) (coordinate_text num c) (coord_spelled d c g) in (ls, k, inr p)
 
   pub point_spelled : (d : Dimension) (o : Option (List N)) → PointFits is_value d o → Spelled (λ ls. Perhaps (Coord read d) ls o) (body_text (map (coordinate_text num) (option_to_list o)))
@@ -306,36 +306,36 @@ module _ {N : Type 0} (is_value : N → Type 0) (num : N → List ℕ) (read : L
   mutual
     unfolding separated listed
 
-    pub value_spelled : (v : Value N) (empties : Bool) → IsWellFormed is_value empties v → Spelled (λ ls. Geometry read empties ls v) (text num v)
-    value_spelled (Value.point d c) empties g = with_header_spelled kind.Point d _ _ (point_spelled d c g)
-    value_spelled (Value.line_string d cs) empties g = with_header_spelled kind.LineString d _ _ (body_spelled (Coord read d) (coordinate_text num) (CoordFits is_value d) (coord_spelled d) cs g)
-    value_spelled (Value.polygon d rs) empties g = with_header_spelled kind.Polygon d _ _ (body_spelled (Ring read d) (coordinates_text num) (LineStringFits is_value d) (ring_spelled d) rs g)
-    value_spelled (Value.multi_point d ms) empties g = with_header_spelled kind.MultiPoint d _ _ (body_spelled (Member read empties d) (λ c. coordinates_text num (option_to_list c)) (MemberFits is_value empties d) (member_spelled empties d) ms g)
-    value_spelled (Value.multi_line_string d ls) empties g = with_header_spelled kind.MultiLineString d _ _ (body_spelled (Ring read d) (coordinates_text num) (LineStringFits is_value d) (ring_spelled d) ls g)
-    value_spelled (Value.multi_polygon d ps) empties g = with_header_spelled kind.MultiPolygon d _ _ (body_spelled (Poly read d) (polygon_text num) (PolygonFits is_value d) (poly_spelled d) ps g)
-    value_spelled (Value.collection d vs) empties g = with_header_spelled kind.GeometryCollection d _ _ (values_spelled vs empties g)
+    pub value_spelled : (v : Value N) → IsWellFormed is_value v → Spelled (λ ls. StandFor read ls v) (text num v)
+    value_spelled (Value.point d c) g = with_header_spelled kind.Point d _ _ (point_spelled d c g)
+    value_spelled (Value.line_string d cs) g = with_header_spelled kind.LineString d _ _ (body_spelled (Coord read d) (coordinate_text num) (CoordFits is_value d) (coord_spelled d) cs g)
+    value_spelled (Value.polygon d rs) g = with_header_spelled kind.Polygon d _ _ (body_spelled (Ring read d) (coordinates_text num) (LineStringFits is_value d) (ring_spelled d) rs g)
+    value_spelled (Value.multi_point d ms) g = with_header_spelled kind.MultiPoint d _ _ (body_spelled (Member read d) (λ c. coordinates_text num (option_to_list c)) (PointFits is_value d) (member_spelled d) ms g)
+    value_spelled (Value.multi_line_string d ls) g = with_header_spelled kind.MultiLineString d _ _ (body_spelled (Ring read d) (coordinates_text num) (LineStringFits is_value d) (ring_spelled d) ls g)
+    value_spelled (Value.multi_polygon d ps) g = with_header_spelled kind.MultiPolygon d _ _ (body_spelled (Poly read d) (polygon_text num) (PolygonFits is_value d) (poly_spelled d) ps g)
+    value_spelled (Value.collection d vs) g = with_header_spelled kind.GeometryCollection d _ _ (values_spelled vs g)
 
-    pub values_spelled : (vs : Values N) (empties : Bool) → AreWellFormed is_value empties vs → Spelled (λ ls. Geometries read empties ls vs) (body_text (texts num vs))
-    values_spelled Values.no_values empties g = spaced_empty
-    values_spelled (Values.more_values v vs) empties g =
-        let (a, ka, pa) = value_spelled v empties g.0 in
-        let (b, kb, pb) = later_spelled vs empties g.1 in
+    pub values_spelled : (vs : Values N) → AreWellFormed is_value vs → Spelled (λ ls. Geometries read ls vs) (body_text (texts num vs))
+    values_spelled Values.no_values g = spaced_empty
+    values_spelled (Values.more_values v vs) g =
+        let (a, ka, pa) = value_spelled v g.0 in
+        let (b, kb, pb) = later_spelled vs g.1 in
         let t : List ℕ = later (codes ",") (texts num vs) in
         let k = lexes_append (text num v) t a b ka (comma_boundary (texts num vs)) kb in
         (Open ∷ ((a ++ b) ++ Close ∷ []), lexes_within (text num v ++ t) (a ++ b) k, (a, b, refl, pa, pb))
 
-    pub later_spelled : (vs : Values N) (empties : Bool) → AreWellFormed is_value empties vs → Spelled (λ ls. Further read empties ls vs) (later (codes ",") (texts num vs))
-    later_spelled Values.no_values empties g = ([], lexes_nothing, refl)
-    later_spelled (Values.more_values v vs) empties g =
-        let (a, ka, pa) = value_spelled v empties g.0 in
-        let (b, kb, pb) = later_spelled vs empties g.1 in
+    pub later_spelled : (vs : Values N) → AreWellFormed is_value vs → Spelled (λ ls. Further read ls vs) (later (codes ",") (texts num vs))
+    later_spelled Values.no_values g = ([], lexes_nothing, refl)
+    later_spelled (Values.more_values v vs) g =
+        let (a, ka, pa) = value_spelled v g.0 in
+        let (b, kb, pb) = later_spelled vs g.1 in
         let t : List ℕ = later (codes ",") (texts num vs) in
         let k = lexes_append (text num v) t a b ka (comma_boundary (texts num vs)) kb in
         (Comma ∷ (a ++ b), lexes_mark 44 Comma (text num v ++ t) (a ++ b) class_comma k, (a, b, refl, pa, pb))
 
-  pub front_of_text : (empties : Bool) (v : Value N) → IsWellFormed is_value empties v → FrontBy read empties (text num v) v (length (text num v))
-  front_of_text empties v g =
-      let (ls, k, p) = value_spelled v empties g in
+  pub front_of_text : (v : Value N) → IsWellFormed is_value v → Front read (text num v) v (length (text num v))
+  front_of_text v g =
+      let (ls, k, p) = value_spelled v g in
       record {
         lexemes = ls;
         rest = [];
@@ -344,8 +344,8 @@ module _ {N : Type 0} (is_value : N → Type 0) (num : N → List ℕ) (read : L
         ends = omega arith;
       }
 
-  pub text_one : (empties : Bool) (v w : Value N) → IsWellFormed is_value empties v → IsWellFormed is_value empties w → text num v ≡ text num w → v ≡ w
-  text_one empties v w g h e =
-      let f = front_of_text empties v g in
-      let f' : FrontBy read empties (text num v) w (length (text num w)) = rw e (front_of_text empties w h) in
-      (front_one read empties (text num v) v w _ _ f f').0
+  pub text_one : (v w : Value N) → IsWellFormed is_value v → IsWellFormed is_value w → text num v ≡ text num w → v ≡ w
+  text_one v w g h e =
+      let f = front_of_text v g in
+      let f' : Front read (text num v) w (length (text num w)) = rw e (front_of_text w h) in
+      (front_one read (text num v) v w _ _ f f').0

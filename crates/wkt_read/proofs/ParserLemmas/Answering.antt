@@ -1,11 +1,11 @@
 -- From the lexemes of a stream to its text.
-use Rattle.std.proofs.Common.{◌≡◌, ℕ, ◌≤◌, ◌<◌, List, [], ◌∷◌, ◌++◌, length, sym, subst, refl, ap, ◌∙◌, arith, length-append, Option, Err, true}
+use Rattle.std.proofs.Common.{◌≡◌, ℕ, ◌≤◌, ◌<◌, List, [], ◌∷◌, ◌++◌, length, sym, subst, refl, ap, ◌∙◌, arith, length-append, Option, Err}
 use Rattle.std.proofs.lemmas.List.{append_cancel_right}
 use Rattle.wkt_num.specs.Bytes.{Lexeme, Open}
 use Rattle.wkt_access.specs.Values.{Value}
 use Rattle.wkt_read.specs.Lexemes.{IsSplit}
-use Rattle.wkt_read.specs.Grammar.{Geometry}
-use Rattle.wkt_read.specs.Front.{FrontBy, HasNoFront}
+use Rattle.wkt_read.specs.Grammar.{StandFor}
+use Rattle.wkt_read.specs.Front.{Front, HasNoFront}
 use Rattle.wkt_read.specs.Placed.{Placed, lexemes_of, end_after, AreEnds, placed}
 use Rattle.wkt_read.specs.Ahead.{left, rest, end_of, taken_of, IfLast, Advances}
 use Rattle.wkt_read.specs.Parser.Walks.{GoesOn}
@@ -13,7 +13,7 @@ use Rattle.wkt_read.specs.Messages.{message_text, Says}
 use Rattle.wkt_read.specs.Parser.Errors.{OnBad}
 use Rattle.wkt_read.specs.Items.{bad_number}
 use Rattle.wkt_read.specs.Answered.{Begins, OnText, OnMessage}
-use Rattle.wkt_read.specs.Begun.{NoneBeginsBy}
+use Rattle.wkt_read.specs.Begun.{NoneBegins}
 use Rattle.wkt_read.specs.declared.error.ReadError.{ReadError}
 use Rattle.wkt_read.specs.declared.error.ReadError.TheVariants.{Text, Memory}
 use Rattle.wkt_read.specs.declared.messages.Message.{Message}
@@ -69,15 +69,15 @@ module _ {T : Type 0} (read : List ℕ → Option T) where
   some-taken ls v after (f, split, g) = omega (arith, long f (geometry-some read f v g), ap length split, length-append f after)
 
   -- where the front of a text ends
-  pub to-front : (text : List ℕ) (s t : PeekableTokens T) (v : Value T) → AreEnds text (left s) → end_of s ≡ 0 → Advances s t → Begins read (rest s) v (rest t) → FrontBy read true text v (end_of t)
+  pub to-front : (text : List ℕ) (s t : PeekableTokens T) (v : Value T) → AreEnds text (left s) → end_of s ≡ 0 → Advances s t → Begins read (rest s) v (rest t) → Front read text v (end_of t)
   to-front text s t v are zero a (f, split, g) =
       let whole : lexemes_of a.given ++ rest t ≡ f ++ rest t = ap (λ l. lexemes_of a.given ++ l) (rest-is t (left t) refl) ∙ sym (lexemes_of-append a.given (left t)) ∙ ap lexemes_of (sym a.split) ∙ sym (rest-is s (left s) refl) ∙ split in
       let same : f ≡ lexemes_of a.given = sym (append_cancel_right (lexemes_of a.given) f (rest t) whole) in
       let at : end_of t ≡ end_after 0 a.given = a.end ∙ ap (λ n. end_after n a.given) zero in
-      subst (FrontBy read true text v) (sym at) (front-of-lexemes read text a.given (left t) v (subst (AreEnds text) a.split are) (subst (λ l. Geometry read true l v) same g))
+      subst (Front read text v) (sym at) (front-of-lexemes read text a.given (left t) v (subst (AreEnds text) a.split are) (subst (λ l. StandFor read l v) same g))
 
   -- the lexemes of a text with a front begin with it
-  pub from-front : (text : List ℕ) (s : PeekableTokens T) (v : Value T) (end : ℕ) → left s ≡ placed text → FrontBy read true text v end → (after : List Lexeme) × Begins read (rest s) v after
+  pub from-front : (text : List ℕ) (s : PeekableTokens T) (v : Value T) (end : ℕ) → left s ≡ placed text → Front read text v end → (after : List Lexeme) × Begins read (rest s) v after
   from-front text s v end start front =
       let (more, is) = taken_begin text front.rest front.lexemes front.taken in
       let same : lexemes_of (placed text) ≡ front.lexemes ++ more = split_one text _ _ (placed-split text) is in
@@ -86,7 +86,7 @@ module _ {T : Type 0} (read : List ℕ → Option T) where
   pub split-of : (text : List ℕ) (s : PeekableTokens T) → left s ≡ placed text → IsSplit text (rest s)
   split-of text s start = subst (IsSplit text) (sym (rest-is s (placed text) start)) (placed-split text)
 
-  pub no-front : (text : List ℕ) (s : PeekableTokens T) → left s ≡ placed text → NoneBeginsBy read true (rest s) → HasNoFront read text
+  pub no-front : (text : List ℕ) (s : PeekableTokens T) → left s ≡ placed text → NoneBegins read (rest s) → HasNoFront read text
   no-front text s start none v end front =
       let (after, (f, split, g)) = from-front text s v end start front in
       none f after v split g

@@ -69,71 +69,71 @@ module _ {N : Type 0} (read : List ℕ → Option N) where
       ∙ ap (λ o. andthen (told (Num run ∷ (more ++ c)) (number_in read o (more ++ c))) (λ x. numbers_f read n (λ xs. k (x.0 ∷ xs)) x.1)) is in
       subst (λ t. reach t ≤ length c) (sym e2) (numbers_reach xs n (λ xs. k (x ∷ xs)) more c m (omega (arith, le)))
 
-  coord_cut : (d : Dimension) (a b : List Lexeme) → BegunCoord read true d (a ++ b) → BegunCoord read true d a
-  coord_cut d a b (xs, m, le) = let (ys, n, le2) = cuts_numbers read true xs (a ++ b) a b m refl in (ys, n, omega (arith, le, le2))
+  coord_cut : (d : Dimension) (a b : List Lexeme) → BegunCoord read d (a ++ b) → BegunCoord read d a
+  coord_cut d a b (xs, m, le) = let (ys, n, le2) = cuts_numbers read xs (a ++ b) a b m refl in (ys, n, omega (arith, le, le2))
 
   module _ (d : Dimension) (n : ℕ) where
-    pub coord_part : Part (Coord read d) (BegunCoord read true d) Anything (coord_at read d) (coord_f read d) n
+    pub coord_part : Part (Coord read d) (BegunCoord read d) Anything (coord_at read d) (coord_f read d) n
     coord_part = record {
       same = plain_coord read d;
-      told = λ ls le. told_weaken (NumbersPart (size d) (λ xs. xs)) (BegunNumbers (size d)) (Coord read d) (BegunCoord read true d) ls (coord_f read d ls)
+      told = λ ls le. told_weaken (NumbersPart (size d) (λ xs. xs)) (BegunNumbers (size d)) (Coord read d) (BegunCoord read d) ls (coord_f read d ls)
           (λ f c (xs, e, m, len). subst (Coord read d f) (sym e) (m, len)) (λ f b. b) (told_numbers (size d) (λ xs. xs) ls);
       exact = λ c f r (m, len) k le. subst (λ s. numbers_f read s (λ xs. xs) (f ++ r) ≡ Ok (c, r)) len (numbers_exact c (λ xs. xs) f r m);
       reaches = λ b c (xs, m, few) le. numbers_reach xs (size d) (λ xs. xs) b c m few;
-      cuts = cuts_coord read true d;
+      cuts = cuts_coord read d;
       begun = λ a b le h. coord_cut d a b h;
     }
 
-    pub line_string_part : Part (Ring read d) (BegunRing read true d) Anything (line_string_at read d n) (line_string_f read d n) n
-    line_string_part = listed_part (Coord read d) (BegunCoord read true d) (coord_at read d) (coord_f read d) n coord_part
+    pub line_string_part : Part (Ring read d) (BegunRing read d) Anything (line_string_at read d n) (line_string_f read d n) n
+    line_string_part = listed_part (Coord read d) (BegunCoord read d) (coord_at read d) (coord_f read d) n coord_part
 
-    pub line_strings_part : Part (Poly read d) (BegunPoly read true d) Anything (line_strings_at read d n) (line_strings_f read d n) n
-    line_strings_part = listed_part (Ring read d) (BegunRing read true d) (line_string_at read d n) (line_string_f read d n) n line_string_part
+    pub line_strings_part : Part (Poly read d) (BegunPoly read d) Anything (line_strings_at read d n) (line_strings_f read d n) n
+    line_strings_part = listed_part (Ring read d) (BegunRing read d) (line_string_at read d n) (line_string_f read d n) n line_string_part
 
-    inside_part : Part (Just (Coord read d)) (BegunCoord read true d) Anything (inside_at read d) (inside_f read d) n
-    inside_part = just_part (Coord read d) (BegunCoord read true d) (coord_at read d) (coord_f read d) n coord_part
+    inside_part : Part (Just (Coord read d)) (BegunCoord read d) Anything (inside_at read d) (inside_f read d) n
+    inside_part = just_part (Coord read d) (BegunCoord read d) (coord_at read d) (coord_f read d) n coord_part
 
   -- a member of a multipoint
   module _ (d : Dimension) where
     abbrev pub TheMember : List Lexeme → Option (List N) → Type 0
-    TheMember = Member read true d
+    TheMember = Member read d
 
     abbrev pub TheBegun : List Lexeme → Type 0
-    TheBegun = BegunMember read true d
+    TheBegun = BegunMember read d
 
     bare : (f : List Lexeme) (o : Option (List N)) → Just (Coord read d) f o → TheMember f o
     bare f None w = absurd w
     bare f (Some c) w = inl w
 
     in_parens : (f : List Lexeme) (o : Option (List N)) → ((o ≡ None) × IsEmptyWord f) ⊎ Within (λ b. Just (Coord read d) b o) f → TheMember f o
-    in_parens f None (inl e) = (refl, e.1)
+    in_parens f None (inl e) = e.1
     in_parens f None (inr w) = absurd w.2
     in_parens f (Some c) (inl e) = cc
     in_parens f (Some c) (inr w) = inr w
 
-    told_inside : (ls : List Lexeme) → Told (Just (Coord read d)) (BegunCoord read true d) ls (inside_f read d ls)
+    told_inside : (ls : List Lexeme) → Told (Just (Coord read d)) (BegunCoord read d) ls (inside_f read d ls)
     told_inside ls = (inside_part d (length ls)).told ls (omega arith)
 
     told_bare : (ls : List Lexeme) → Told TheMember TheBegun ls (inside_f read d ls)
-    told_bare ls = told_weaken (Just (Coord read d)) (BegunCoord read true d) TheMember TheBegun ls (inside_f read d ls) bare (λ f b. inr (inl b)) (told_inside ls)
+    told_bare ls = told_weaken (Just (Coord read d)) (BegunCoord read d) TheMember TheBegun ls (inside_f read d ls) bare (λ f b. inr (inl b)) (told_inside ls)
 
-    begin : (f : List Lexeme) (o : Option (List N)) → Just (Coord read d) f o → BegunCoord read true d f
-    begin = whole_begun (Just (Coord read d)) (BegunCoord read true d) (inside_part d 0).cuts
+    begin : (f : List Lexeme) (o : Option (List N)) → Just (Coord read d) f o → BegunCoord read d f
+    begin = whole_begun (Just (Coord read d)) (BegunCoord read d) (inside_part d 0).cuts
 
-    frame_member : (f : List Lexeme) → BegunFrame None (inside_f read d) (Just (Coord read d)) (BegunCoord read true d) begin f → TheBegun f
+    frame_member : (f : List Lexeme) → BegunFrame None (inside_f read d) (Just (Coord read d)) (BegunCoord read d) begin f → TheBegun f
     frame_member f (inl e) = inr (inr (inl e))
     frame_member f (inr b) = inr (inr (inr (inl b)))
 
     told_word : (w : List ℕ) (rest : List Lexeme) (b : Bool) → is_empty_word w ≡ b → Told TheMember TheBegun (Word w ∷ rest) (cond b (Ok (None, rest)) (inside_f read d (Word w ∷ rest)))
-    told_word w rest true is = (Word w ∷ [], refl, (refl, (w, refl, empty_is w is)), refl)
+    told_word w rest true is = (Word w ∷ [], refl, (w, refl, empty_is w is), refl)
     told_word w rest false is = told_bare (Word w ∷ rest)
 
     told_member : (ls : List Lexeme) → Told TheMember TheBegun ls (member_f read d ls)
     unfolding member_f
     told_member [] = told_bare []
     told_member (Open ∷ rest) =
-        told_weaken (Framed None (inside_f read d) (Just (Coord read d)) (BegunCoord read true d) begin) (BegunFrame None (inside_f read d) (Just (Coord read d)) (BegunCoord read true d) begin) TheMember TheBegun (Open ∷ rest) (closed_f (inside_f read d rest))
-        in_parens frame_member (told_closed None (inside_f read d) (Just (Coord read d)) (BegunCoord read true d) begin rest (inside_f read d rest) (told_inside rest))
+        told_weaken (Framed None (inside_f read d) (Just (Coord read d)) (BegunCoord read d) begin) (BegunFrame None (inside_f read d) (Just (Coord read d)) (BegunCoord read d) begin) TheMember TheBegun (Open ∷ rest) (closed_f (inside_f read d rest))
+        in_parens frame_member (told_closed None (inside_f read d) (Just (Coord read d)) (BegunCoord read d) begin rest (inside_f read d rest) (told_inside rest))
     told_member (Word w ∷ rest) = told_word w rest (is_empty_word w) refl
     told_member (Close ∷ rest) = told_bare (Close ∷ rest)
     told_member (Comma ∷ rest) = told_bare (Comma ∷ rest)
@@ -144,7 +144,7 @@ module _ {N : Type 0} (read : List ℕ → Option N) where
 
     member_exact : (o : Option (List N)) (f r : List Lexeme) → TheMember f o → member_f read d (f ++ r) ≡ Ok (o, r)
     unfolding member_f closed_f closing_at
-    member_exact None f r (t, (w, e, is)) = ap (λ l. member_f read d (l ++ r)) e ∙ ap (λ b. cond b (Ok (None, r)) (inside_f read d (Word w ∷ r))) (is_empty w is)
+    member_exact None f r (w, e, is) = ap (λ l. member_f read d (l ++ r)) e ∙ ap (λ b. cond b (Ok (None, r)) (inside_f read d (Word w ∷ r))) (is_empty w is)
     member_exact (Some c) f r (inl h) =
         let (run, more, e) = coord_starts read d f c h in
         ap (λ l. member_f read d (l ++ r)) e ∙ ap (λ l. inside_f read d (l ++ r)) (sym e) ∙ ap (mapped (λ c. Some c)) (coord_exact c f r h)
@@ -154,13 +154,13 @@ module _ {N : Type 0} (read : List ℕ → Option N) where
     nothing_reach : (b c : List Lexeme) → b ≡ [] → reach (member_f read d (b ++ c)) ≤ length c
     nothing_reach b c e = subst (λ l. reach (member_f read d (l ++ c)) ≤ length c) (sym e) (told_reach TheMember TheBegun c (member_f read d c) (told_member c))
 
-    inside_reach : (b c : List Lexeme) → BegunCoord read true d b → reach (inside_f read d (b ++ c)) ≤ length c
+    inside_reach : (b c : List Lexeme) → BegunCoord read d b → reach (inside_f read d (b ++ c)) ≤ length c
     inside_reach b c h = (inside_part d (length (b ++ c))).reaches b c h (omega arith)
 
     member_reach : (b c : List Lexeme) → TheBegun b → reach (member_f read d (b ++ c)) ≤ length c
     unfolding member_f
-    member_reach b c (inl (t, inl e)) = nothing_reach b c e
-    member_reach b c (inl (t, inr em)) = omega (arith, ap reach (member_exact None b c (refl, em)))
+    member_reach b c (inl (inl e)) = nothing_reach b c e
+    member_reach b c (inl (inr em)) = omega (arith, ap reach (member_exact None b c em))
     member_reach b c (inr (inl ([], e, le))) = nothing_reach b c e
     member_reach b c (inr (inl (x ∷ xs, (run, more, e, is, m), le))) =
         subst (λ l. reach (member_f read d (l ++ c)) ≤ length c) (sym e) (inside_reach (Num run ∷ more) c (x ∷ xs, (run, more, refl, is, m), le))
@@ -170,10 +170,10 @@ module _ {N : Type 0} (read : List ℕ → Option N) where
 
     member_cut : (a b : List Lexeme) → TheBegun (a ++ b) → TheBegun a
     member_cut [] b h = inr (inr (inl refl))
-    member_cut (x ∷ a) b (inl (t, inl e)) = cc
-    member_cut (x ∷ a) b (inl (t, inr em)) = inl (t, cuts_word _ (x ∷ a) b em refl)
+    member_cut (x ∷ a) b (inl (inl e)) = cc
+    member_cut (x ∷ a) b (inl (inr em)) = inl (cuts_word _ (x ∷ a) b em refl)
     member_cut (x ∷ a) b (inr (inl c)) = inr (inl (coord_cut d (x ∷ a) b c))
-    member_cut (x ∷ a) b (inr (inr w)) = inr (inr (within_cut (Coord read d) (BegunCoord read true d) (length (x ∷ (a ++ b))) (cuts_coord read true d) (λ a b le h. coord_cut d a b h) (x ∷ a) b (omega arith) w))
+    member_cut (x ∷ a) b (inr (inr w)) = inr (inr (within_cut (Coord read d) (BegunCoord read d) (length (x ∷ (a ++ b))) (cuts_coord read d) (λ a b le h. coord_cut d a b h) (x ∷ a) b (omega arith) w))
 
     pub member_part : (n : ℕ) → Part TheMember TheBegun Anything (member_at read d) (member_f read d) n
     member_part n = record {
@@ -181,6 +181,6 @@ module _ {N : Type 0} (read : List ℕ → Option N) where
       told = λ ls le. told_member ls;
       exact = λ o f r w k le. member_exact o f r w;
       reaches = λ b c h le. member_reach b c h;
-      cuts = cuts_member read true d;
+      cuts = cuts_member read d;
       begun = λ a b le h. member_cut a b h;
     }

@@ -1,10 +1,10 @@
 -- An error comes early.
-use Rattle.std.proofs.Common.{◌≡◌, ℕ, suc, ◌+◌, ◌≤◌, List, [], ◌∷◌, ◌++◌, length, length-append, sym, refl, ap, ◌∙◌, subst, append_assoc, append-nil, arith, Option, Ok, Err, inl, inr, true}
+use Rattle.std.proofs.Common.{◌≡◌, ℕ, suc, ◌+◌, ◌≤◌, List, [], ◌∷◌, ◌++◌, length, length-append, sym, refl, ap, ◌∙◌, subst, append_assoc, append-nil, arith, Option, Ok, Err, inl, inr}
 use Rattle.std.specs.Prelude.{◌⊎◌}
 use Rattle.wkt_num.specs.Bytes.{Lexeme}
 use Rattle.wkt_access.specs.Values.{Value}
-use Rattle.wkt_read.specs.Grammar.{Geometry}
-use Rattle.wkt_read.specs.Begun.{BegunGeometry, IsDeadBy}
+use Rattle.wkt_read.specs.Grammar.{StandFor}
+use Rattle.wkt_read.specs.Begun.{BegunGeometry, IsDead}
 use Rattle.wkt_read.specs.Early.{opens, closes, IsJustDead, StopsEarly}
 use Rattle.wkt_read.specs.Parser.Reading.{Reading, value_at}
 use Rattle.wkt_read.proofs.LawLemmas.Begun.{CutIn, Later, Earlier, cut_in}
@@ -15,7 +15,7 @@ use Rattle.wkt_read.proofs.ParserLemmas.Readings.{value_part, complete}
 
 module _ {N : Type 0} (read : List ℕ → Option N) where
   abbrev pub Begun : List Lexeme → Type 0
-  Begun = BegunGeometry read true
+  Begun = BegunGeometry read
 
   -- `before` is begun and dead with `fault`; of `fault` and what follows, no more is taken than one and the parentheses open
   pub record IsEarlyError (old new : List Lexeme) : Type 0 where
@@ -25,7 +25,7 @@ module _ {N : Type 0} (read : List ℕ → Option N) where
     pub taken : List Lexeme
     pub split : old ≡ before ++ (fault ∷ after)
     pub begun : Begun before
-    pub dead : IsDeadBy read true (before ++ (fault ∷ []))
+    pub dead : IsDead read (before ++ (fault ∷ []))
     pub left : fault ∷ after ≡ taken ++ new
     pub few : length taken + closes before ≤ 1 + opens before
 
@@ -33,7 +33,7 @@ module _ {N : Type 0} (read : List ℕ → Option N) where
   abbrev pub IsEarly : List Lexeme → List Lexeme → Type 0
   IsEarly old new = (Begun old × (new ≡ [])) ⊎ IsEarlyError old new
 
-  dead : (n : ℕ) (pre after ls left : List Lexeme) (x : Lexeme) → ls ≡ pre ++ (x ∷ after) → value_f read n ls ≡ Err (x ∷ after, left) → value_at read n ls ≡ Err left → length ls ≤ n → IsDeadBy read true (pre ++ (x ∷ []))
+  dead : (n : ℕ) (pre after ls left : List Lexeme) (x : Lexeme) → ls ≡ pre ++ (x ∷ after) → value_f read n ls ≡ Err (x ∷ after, left) → value_at read n ls ≡ Err left → length ls ≤ n → IsDead read (pre ++ (x ∷ []))
   dead n pre after ls left x e told reads le = record {
     none_begins = λ f later v e2 g.
         let e3 : ls ≡ f ++ (later ++ after) = e ∙ sym (append_assoc pre (x ∷ []) after) ∙ ap (λ l. l ++ after) e2 ∙ append_assoc f later after in
@@ -51,12 +51,12 @@ module _ {N : Type 0} (read : List ℕ → Option N) where
   empty_end [] left e = sym e
   empty_end (x ∷ given) left e = absurd (omega (arith, ap length e))
 
-  stops : (n : ℕ) (ls at left : List Lexeme) → value_f read n ls ≡ Err (at, left) → value_at read n ls ≡ Err left → length ls ≤ n → Told (Geometry read true) Begun ls (Err (at, left)) → IsEarly ls left
+  stops : (n : ℕ) (ls at left : List Lexeme) → value_f read n ls ≡ Err (at, left) → value_at read n ls ≡ Err left → length ls ≤ n → Told (StandFor read) Begun ls (Err (at, left)) → IsEarly ls left
   stops n ls [] left told reads le (pre, given, e, e2, b, few) = inl (subst Begun (sym (e ∙ append-nil pre)) b, empty_end given left e2)
   stops n ls (x ∷ after) left told reads le (pre, given, e, e2, b, few) =
       inr (record { before = pre; fault = x; after = after; taken = given; split = e; begun = b; dead = dead n pre after ls left x e told reads le; left = e2; few = few })
 
-  from_told : (n : ℕ) (ls left : List Lexeme) (t : Telling (Value N)) → value_f read n ls ≡ t → value_at read n ls ≡ Err left → length ls ≤ n → plain t ≡ Err left → Told (Geometry read true) Begun ls t → IsEarly ls left
+  from_told : (n : ℕ) (ls left : List Lexeme) (t : Telling (Value N)) → value_f read n ls ≡ t → value_at read n ls ≡ Err left → length ls ≤ n → plain t ≡ Err left → Told (StandFor read) Begun ls t → IsEarly ls left
   from_told n ls left (Ok p) told reads le e h = cc
   from_told n ls left (Err r) told reads le e h =
       let same : r.1 ≡ left = cc in
@@ -77,7 +77,7 @@ module _ {N : Type 0} (read : List ℕ → Option N) where
       let (d, e2) = last_cut b a c x y (cc) in
       (d, ap (λ l. w ∷ l) e2 ∙ ap (λ v. v ∷ (a ++ d)) same)
 
-  just : (b : List Lexeme) (x : Lexeme) → Begun b → IsDeadBy read true (b ++ (x ∷ [])) → IsJustDead read (b ++ (x ∷ []))
+  just : (b : List Lexeme) (x : Lexeme) → Begun b → IsDead read (b ++ (x ∷ [])) → IsJustDead read (b ++ (x ∷ []))
   just b x begun dead = record {
     dead = dead;
     shortest = λ a c y e d. let (u, e2) = last_cut b a c x y e in d.not_begun (beginnings a u (subst Begun e2 begun));
@@ -103,7 +103,7 @@ module _ {N : Type 0} (read : List ℕ → Option N) where
       go (Earlier [] e1 e2) = e1 ∙ append-nil b2
       go (Earlier (z ∷ u) e1 e2) = let same : z ≡ y = cc in absurd (k.dead.not_begun (beginnings (b2 ++ (y ∷ [])) u (subst Begun (e1 ∙ ap (λ v. b2 ++ (v ∷ u)) same ∙ sym (append_assoc b2 (y ∷ []) u)) begun)))
 
-  none_dead : (old b c : List Lexeme) (x : Lexeme) → Begun old → old ≡ b ++ (x ∷ c) → IsDeadBy read true (b ++ (x ∷ [])) → ⊥
+  none_dead : (old b c : List Lexeme) (x : Lexeme) → Begun old → old ≡ b ++ (x ∷ c) → IsDead read (b ++ (x ∷ [])) → ⊥
   none_dead old b c x begun e dead = dead.not_begun (beginnings (b ++ (x ∷ [])) c (subst Begun (e ∙ sym (append_assoc b (x ∷ []) c)) begun))
 
   pub stops_early : (old new : List Lexeme) → IsEarly old new → StopsEarly read old new

@@ -7,8 +7,8 @@ use Rattle.wkt_access.specs.Values.{Value}
 use Rattle.wkt_types.specs.declared.geometry_type.GeometryType.{GeometryType}
 use Rattle.wkt_types.specs.declared.geometry_type.GeometryType.TheVariants as kind
 use Rattle.wkt_read.specs.Kinds.{kind_of, dim_of}
-use Rattle.wkt_read.specs.Grammar.{Header, IsEmptyWord, Listed, Geometry, Geometries}
-use Rattle.wkt_read.specs.Begun.{NoneBeginsBy}
+use Rattle.wkt_read.specs.Grammar.{Header, IsEmptyWord, Listed, StandFor, Geometries}
+use Rattle.wkt_read.specs.Begun.{NoneBegins}
 use Rattle.wkt_read.specs.Front.{NeedsNoMemory}
 use Rattle.wkt_read.specs.Parser.Reading.{Reading, opening_at, header_at, value_at, IsOpened, HasMembers}
 use Rattle.wkt_read.proofs.LawLemmas.OneForm.{BeginsBody, BodyOf, geometry_body, body_begins}
@@ -29,14 +29,14 @@ listed_empty P b xs e w = subst (Listed P b) e w
 
 module _ {N : Type 0} (read : List ℕ → Option N) where
   -- a point, or EMPTY
-  small_empty : (v : Value N) (b : List Lexeme) → NeedsNoMemory v → BodyOf read true b v → (kind_of v ≡ kind.Point) ⊎ IsEmptyWord b
+  small_empty : (v : Value N) (b : List Lexeme) → NeedsNoMemory v → BodyOf read b v → (kind_of v ≡ kind.Point) ⊎ IsEmptyWord b
   small_empty (Value.point d c) b small w = inl refl
   small_empty (Value.line_string d c) b small w = inr (listed_empty _ b c small w)
   small_empty (Value.polygon d c) b small w = inr (listed_empty _ b c small w)
   small_empty (Value.multi_point d c) b small w = inr (listed_empty _ b c small w)
   small_empty (Value.multi_line_string d c) b small w = inr (listed_empty _ b c small w)
   small_empty (Value.multi_polygon d c) b small w = inr (listed_empty _ b c small w)
-  small_empty (Value.collection d vs) b small w = inr (subst (Geometries read true b) small w)
+  small_empty (Value.collection d vs) b small w = inr (subst (Geometries read b) small w)
 
   -- the header of a geometry is read
   header_read : (v : Value N) (ls f left h b : List Lexeme) → ls ≡ f ++ left → f ≡ h ++ b → Header (kind_of v) (dim_of v) h → BeginsBody b → header_at read ls ≡ Ok ((kind_of v, dim_of v), b ++ left)
@@ -44,10 +44,10 @@ module _ {N : Type 0} (read : List ℕ → Option N) where
       ap (header_at read) (e ∙ ap (λ l. l ++ left) e2 ∙ append_assoc h b left)
       ∙ sym (plain_header read (h ++ (b ++ left))) ∙ ap plain (header_exact read (kind_of v) (dim_of v) h (b ++ left) header (begins_more b left begins))
 
-  pub no_members : (v : Value N) (ls f left : List Lexeme) → ls ≡ f ++ left → Geometry read true f v → NeedsNoMemory v → HasMembers read ls → ⊥
+  pub no_members : (v : Value N) (ls f left : List Lexeme) → ls ≡ f ++ left → StandFor read f v → NeedsNoMemory v → HasMembers read ls → ⊥
   no_members v ls f left e g small (k, d, r, eh, other, opened) =
-      let (h, b, e2, header, body) = geometry_body read true f v g in
-      let at : header_at read ls ≡ Ok ((kind_of v, dim_of v), b ++ left) = header_read v ls f left h b e e2 header (body_begins read true b v body) in
+      let (h, b, e2, header, body) = geometry_body read f v g in
+      let at : header_at read ls ≡ Ok ((kind_of v, dim_of v), b ++ left) = header_read v ls f left h b e e2 header (body_begins read b v body) in
       let both : ◌≡◌ {A = Reading (GeometryType × Dimension)} (Ok ((k, d), r)) (Ok ((kind_of v, dim_of v), b ++ left)) = sym eh ∙ at in
       let p : ((k, d), r) ≡ ((kind_of v, dim_of v), b ++ left) = cc in
       let same : k ≡ kind_of v = ap (λ (q : (GeometryType × Dimension) × List Lexeme). q.0.0) p in
@@ -58,7 +58,7 @@ module _ {N : Type 0} (read : List ℕ → Option N) where
       ]
 
   -- where the reading is an error, no geometry begins the lexemes
-  pub none_begins : (n : ℕ) (ls left : List Lexeme) → length ls ≤ n → value_at read n ls ≡ Err left → NoneBeginsBy read true ls
+  pub none_begins : (n : ℕ) (ls left : List Lexeme) → length ls ≤ n → value_at read n ls ≡ Err left → NoneBegins read ls
   none_begins n ls left le reads f rest v e g =
       let ok : value_at read n ls ≡ Ok (v, rest) = ap (value_at read n) e ∙ complete read n v f rest g (omega (arith, le, ap length e)) in
       let clash : ◌≡◌ {A = Reading (Value N)} (Err left) (Ok (v, rest)) = sym reads ∙ ok in cc

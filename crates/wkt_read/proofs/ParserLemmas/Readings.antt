@@ -9,7 +9,7 @@ use Rattle.wkt_access.specs.Values.{Value, Values}
 use Rattle.wkt_types.specs.declared.geometry_type.GeometryType.{GeometryType}
 use Rattle.wkt_types.specs.declared.geometry_type.GeometryType.TheVariants as kind
 use Rattle.wkt_read.specs.Kinds.{kind_of, dim_of}
-use Rattle.wkt_read.specs.Grammar.{KindWord, kind_word, dim_word, dim_in, DimPart, Header, More, Listed, Perhaps, WithHeader, Coord, Ring, Poly, Member, Geometry, Geometries, Further}
+use Rattle.wkt_read.specs.Grammar.{KindWord, kind_word, dim_word, dim_in, DimPart, Header, More, Listed, Perhaps, WithHeader, Coord, Ring, Poly, Member, StandFor, Geometries, Further}
 use Rattle.wkt_read.specs.Begun.{BegunNext, BegunEmpty, BegunWithin, BegunListed, BegunPerhaps, BegunCoord, BegunRing, BegunPoly, BegunMember, BegunBody, BegunAt, BegunGeometry}
 use Rattle.wkt_read.specs.Parser.Reading.{is_empty_word, members_read, worded, numbered, dimension_at, point_at, line_string_at, line_strings_at, polygons_at, member_at, points_at, members_at, body_at, value_at}
 use Rattle.wkt_read.proofs.LawLemmas.OneForm.{BeginsBody, BodyOf, geometry_body, body_begins}
@@ -33,19 +33,19 @@ pub header_long : (k : GeometryType) (d : Dimension) (h : List Lexeme) → Heade
 header_long k d h (run, e, more, eh, is, ek, dp) = omega (arith, ap length eh)
 
 -- members of a collection, as a list
-geometries_to : {N : Type 0} (read : List ℕ → Option N) (xs : List (Value N)) (f : List Lexeme) → Listed (Geometry read true) f xs → Geometries read true f (members_read xs)
+geometries_to : {N : Type 0} (read : List ℕ → Option N) (xs : List (Value N)) (f : List Lexeme) → Listed (StandFor read) f xs → Geometries read f (members_read xs)
 geometries_to read [] f w = w
 geometries_to {N} read (x ∷ xs) f (body, e, (a, b, e2, g, m)) = (a, b, e ∙ ap (λ l. Open ∷ (l ++ Close ∷ [])) e2, g, further xs b m)
   where
-    further : (xs : List (Value N)) (f : List Lexeme) → More (Geometry read true) f xs → Further read true f (members_read xs)
+    further : (xs : List (Value N)) (f : List Lexeme) → More (StandFor read) f xs → Further read f (members_read xs)
     further [] f w = w
     further (x ∷ xs) f (a, b, e, g, m) = (a, b, e, g, further xs b m)
 
-further_from : {N : Type 0} (read : List ℕ → Option N) (vs : Values N) (f : List Lexeme) → Further read true f vs → (xs : List (Value N)) × (vs ≡ members_read xs) × More (Geometry read true) f xs
+further_from : {N : Type 0} (read : List ℕ → Option N) (vs : Values N) (f : List Lexeme) → Further read f vs → (xs : List (Value N)) × (vs ≡ members_read xs) × More (StandFor read) f xs
 further_from read Values.no_values f w = ([], refl, w)
 further_from read (Values.more_values v vs) f (a, b, e, g, m) = let (xs, e2, n) = further_from read vs b m in (v ∷ xs, ap (λ l. Values.more_values v l) e2, (a, b, e, g, n))
 
-geometries_from : {N : Type 0} (read : List ℕ → Option N) (vs : Values N) (f : List Lexeme) → Geometries read true f vs → (xs : List (Value N)) × (vs ≡ members_read xs) × Listed (Geometry read true) f xs
+geometries_from : {N : Type 0} (read : List ℕ → Option N) (vs : Values N) (f : List Lexeme) → Geometries read f vs → (xs : List (Value N)) × (vs ≡ members_read xs) × Listed (StandFor read) f xs
 geometries_from read Values.no_values f w = ([], refl, w)
 geometries_from read (Values.more_values v vs) f (a, b, e, g, m) = let (xs, e2, n) = further_from read vs b m in (v ∷ xs, ap (λ l. Values.more_values v l) e2, (a ++ b, e, (a, b, refl, g, n)))
 
@@ -140,10 +140,10 @@ module _ {N : Type 0} (read : List ℕ → Option N) where
 
   -- what stands after a header
   abbrev pub Begun : List Lexeme → Type 0
-  Begun = BegunGeometry read true
+  Begun = BegunGeometry read
 
   abbrev pub BodyPart : GeometryType → Dimension → List Lexeme → Value N → Type 0
-  BodyPart k d f v = BodyOf read true f v × (kind_of v ≡ k) × (dim_of v ≡ d)
+  BodyPart k d f v = BodyOf read f v × (kind_of v ≡ k) × (dim_of v ≡ d)
 
   abbrev pub From : {A : Type 0} → GeometryType → Dimension → (List Lexeme → A → Type 0) → (A → Value N) → Type 0
   From {A} k d W m = (f : List Lexeme) (v : Value N) → BodyPart k d f v → (a : A) × (v ≡ m a) × W f a
@@ -160,8 +160,8 @@ module _ {N : Type 0} (read : List ℕ → Option N) where
   from_polygon d f (Value.polygon e c) (w, k, ed) = (c, ap (λ d. Value.polygon d c) ed, subst (λ d. Poly read d f c) ed w)
   from_polygon d f v (w, k, ed) = let no : ⊥ = cc in absurd no
 
-  from_points : (d : Dimension) → From kind.MultiPoint d (Listed (Member read true d)) (λ c. Value.multi_point d c)
-  from_points d f (Value.multi_point e c) (w, k, ed) = (c, ap (λ d. Value.multi_point d c) ed, subst (λ d. Listed (Member read true d) f c) ed w)
+  from_points : (d : Dimension) → From kind.MultiPoint d (Listed (Member read d)) (λ c. Value.multi_point d c)
+  from_points d f (Value.multi_point e c) (w, k, ed) = (c, ap (λ d. Value.multi_point d c) ed, subst (λ d. Listed (Member read d) f c) ed w)
   from_points d f v (w, k, ed) = let no : ⊥ = cc in absurd no
 
   from_line_strings : (d : Dimension) → From kind.MultiLineString d (Poly read d) (λ c. Value.multi_line_string d c)
@@ -172,39 +172,39 @@ module _ {N : Type 0} (read : List ℕ → Option N) where
   from_polygons d f (Value.multi_polygon e c) (w, k, ed) = (c, ap (λ d. Value.multi_polygon d c) ed, subst (λ d. Listed (Poly read d) f c) ed w)
   from_polygons d f v (w, k, ed) = let no : ⊥ = cc in absurd no
 
-  from_members : (d : Dimension) → From kind.GeometryCollection d (Listed (Geometry read true)) (λ vs. Value.collection d (members_read vs))
+  from_members : (d : Dimension) → From kind.GeometryCollection d (Listed (StandFor read)) (λ vs. Value.collection d (members_read vs))
   from_members d f (Value.collection e vs) (w, k, ed) = let (xs, e2, m) = geometries_from read vs f w in (xs, ap (λ d. Value.collection d vs) ed ∙ ap (λ vs. Value.collection d vs) e2, m)
   from_members d f v (w, k, ed) = let no : ⊥ = cc in absurd no
 
-  module _ (n : ℕ) (value : Part (Geometry read true) Begun Anything (value_at read n) (value_f read n) n) where
-    body_part : (k : GeometryType) (d : Dimension) → Part (BodyPart k d) (BegunBody read true Begun k d) Anything (body_at read (value_at read n) n k d) (body_f read (value_f read n) n k d) n
+  module _ (n : ℕ) (value : Part (StandFor read) Begun Anything (value_at read n) (value_f read n) n) where
+    body_part : (k : GeometryType) (d : Dimension) → Part (BodyPart k d) (BegunBody read Begun k d) Anything (body_at read (value_at read n) n k d) (body_f read (value_f read n) n k d) n
     body_part kind.Point d =
-        map_part (Perhaps (Coord read d)) (BegunPerhaps (Coord read d) (BegunCoord read true d)) Anything (point_at read d) (framed_f None (inside_f read d)) n
+        map_part (Perhaps (Coord read d)) (BegunPerhaps (Coord read d) (BegunCoord read d)) Anything (point_at read d) (framed_f None (inside_f read d)) n
         (BodyPart kind.Point d) (λ c. Value.point d c) (λ f c w. (w, refl, refl)) (from_point d)
-        (perhaps_part (Coord read d) (BegunCoord read true d) _ _ n (coord_part read d n))
+        (perhaps_part (Coord read d) (BegunCoord read d) _ _ n (coord_part read d n))
     body_part kind.LineString d =
-        map_part (Ring read d) (BegunRing read true d) Anything (line_string_at read d n) (line_string_f read d n) n
+        map_part (Ring read d) (BegunRing read d) Anything (line_string_at read d n) (line_string_f read d n) n
         (BodyPart kind.LineString d) (λ c. Value.line_string d c) (λ f c w. (w, refl, refl)) (from_line_string d) (line_string_part read d n)
     body_part kind.Polygon d =
-        map_part (Poly read d) (BegunPoly read true d) Anything (line_strings_at read d n) (line_strings_f read d n) n
+        map_part (Poly read d) (BegunPoly read d) Anything (line_strings_at read d n) (line_strings_f read d n) n
         (BodyPart kind.Polygon d) (λ c. Value.polygon d c) (λ f c w. (w, refl, refl)) (from_polygon d) (line_strings_part read d n)
     body_part kind.MultiPoint d =
-        map_part (Listed (Member read true d)) (BegunListed (Member read true d) (BegunMember read true d)) Anything (points_at read d n) (points_f read d n) n
+        map_part (Listed (Member read d)) (BegunListed (Member read d) (BegunMember read d)) Anything (points_at read d n) (points_f read d n) n
         (BodyPart kind.MultiPoint d) (λ c. Value.multi_point d c) (λ f c w. (w, refl, refl)) (from_points d)
-        (listed_part (Member read true d) (BegunMember read true d) (member_at read d) (member_f read d) n (member_part read d n))
+        (listed_part (Member read d) (BegunMember read d) (member_at read d) (member_f read d) n (member_part read d n))
     body_part kind.MultiLineString d =
-        map_part (Poly read d) (BegunPoly read true d) Anything (line_strings_at read d n) (line_strings_f read d n) n
+        map_part (Poly read d) (BegunPoly read d) Anything (line_strings_at read d n) (line_strings_f read d n) n
         (BodyPart kind.MultiLineString d) (λ c. Value.multi_line_string d c) (λ f c w. (w, refl, refl)) (from_line_strings d) (line_strings_part read d n)
     body_part kind.MultiPolygon d =
-        map_part (Listed (Poly read d)) (BegunListed (Poly read d) (BegunPoly read true d)) Anything (polygons_at read d n) (polygons_f read d n) n
+        map_part (Listed (Poly read d)) (BegunListed (Poly read d) (BegunPoly read d)) Anything (polygons_at read d n) (polygons_f read d n) n
         (BodyPart kind.MultiPolygon d) (λ c. Value.multi_polygon d c) (λ f c w. (w, refl, refl)) (from_polygons d)
-        (listed_part (Poly read d) (BegunPoly read true d) (line_strings_at read d n) (line_strings_f read d n) n (line_strings_part read d n))
+        (listed_part (Poly read d) (BegunPoly read d) (line_strings_at read d n) (line_strings_f read d n) n (line_strings_part read d n))
     body_part kind.GeometryCollection d =
-        map_part (Listed (Geometry read true)) (BegunListed (Geometry read true) Begun) Anything (members_at read (value_at read n) n) (framed_f [] (many_f (value_f read n) n)) n
+        map_part (Listed (StandFor read)) (BegunListed (StandFor read) Begun) Anything (members_at read (value_at read n) n) (framed_f [] (many_f (value_f read n) n)) n
         (BodyPart kind.GeometryCollection d) (λ vs. Value.collection d (members_read vs)) (λ f xs w. (geometries_to read xs f w, refl, refl)) (from_members d)
-        (listed_part (Geometry read true) Begun (value_at read n) (value_f read n) n value)
+        (listed_part (StandFor read) Begun (value_at read n) (value_f read n) n value)
 
-  geometry_of : (v : Value N) (f : List Lexeme) → WithHeader (kind_of v) (dim_of v) (λ b. BodyOf read true b v) f → Geometry read true f v
+  geometry_of : (v : Value N) (f : List Lexeme) → WithHeader (kind_of v) (dim_of v) (λ b. BodyOf read b v) f → StandFor read f v
   geometry_of (Value.point d c) f p = p
   geometry_of (Value.line_string d c) f p = p
   geometry_of (Value.polygon d c) f p = p
@@ -213,23 +213,23 @@ module _ {N : Type 0} (read : List ℕ → Option N) where
   geometry_of (Value.multi_polygon d c) f p = p
   geometry_of (Value.collection d c) f p = p
 
-  after_header : (k : GeometryType) (d : Dimension) (g h : List Lexeme) (v : Value N) → Header k d g → BodyPart k d h v → Geometry read true (g ++ h) v
+  after_header : (k : GeometryType) (d : Dimension) (g h : List Lexeme) (v : Value N) → Header k d g → BodyPart k d h v → StandFor read (g ++ h) v
   after_header k d g h v header (body, ek, ed) =
       geometry_of v (g ++ h) (g, h, refl, subst (λ k. Header k (dim_of v) g) (sym ek) (subst (λ d. Header k d g) (sym ed) header), body)
 
   -- from one depth to any, and back
-  next_up : (n : ℕ) (b : List Lexeme) → BegunNext (BegunAt read true n) b → BegunNext Begun b
+  next_up : (n : ℕ) (b : List Lexeme) → BegunNext (BegunAt read n) b → BegunNext Begun b
   next_up n b (inl e) = inl e
   next_up n b (inr (k, e, h)) = inr (k, e, (n, h))
 
-  listed_up : (n : ℕ) (b : List Lexeme) → BegunListed (Geometry read true) (BegunAt read true n) b → BegunListed (Geometry read true) Begun b
+  listed_up : (n : ℕ) (b : List Lexeme) → BegunListed (StandFor read) (BegunAt read n) b → BegunListed (StandFor read) Begun b
   listed_up n b (inl e) = inl e
   listed_up n b (inr (inl e)) = inr (inl e)
   listed_up n b (inr (inr (inl (k, e, inl h)))) = inr (inr (inl (k, e, inl (n, h))))
   listed_up n b (inr (inr (inl (k, e, inr (xs, a, c, e2, m, next))))) = inr (inr (inl (k, e, inr (xs, a, c, e2, m, next_up n c next))))
   listed_up n b (inr (inr (inr w))) = inr (inr (inr w))
 
-  body_up : (n : ℕ) (k : GeometryType) (d : Dimension) (b : List Lexeme) → BegunBody read true (BegunAt read true n) k d b → BegunBody read true Begun k d b
+  body_up : (n : ℕ) (k : GeometryType) (d : Dimension) (b : List Lexeme) → BegunBody read (BegunAt read n) k d b → BegunBody read Begun k d b
   body_up n kind.Point d b h = h
   body_up n kind.LineString d b h = h
   body_up n kind.Polygon d b h = h
@@ -238,18 +238,18 @@ module _ {N : Type 0} (read : List ℕ → Option N) where
   body_up n kind.MultiPolygon d b h = h
   body_up n kind.GeometryCollection d b h = listed_up n b h
 
-  body_at_depth : (k : GeometryType) (d : Dimension) (b : List Lexeme) → BegunBody read true Begun k d b → (n : ℕ) × BegunBody read true (BegunAt read true n) k d b
+  body_at_depth : (k : GeometryType) (d : Dimension) (b : List Lexeme) → BegunBody read Begun k d b → (n : ℕ) × BegunBody read (BegunAt read n) k d b
   body_at_depth kind.Point d b h = (0, h)
   body_at_depth kind.LineString d b h = (0, h)
   body_at_depth kind.Polygon d b h = (0, h)
   body_at_depth kind.MultiPoint d b h = (0, h)
   body_at_depth kind.MultiLineString d b h = (0, h)
   body_at_depth kind.MultiPolygon d b h = (0, h)
-  body_at_depth kind.GeometryCollection d b h = begun_listed_at read true (Geometry read true) (BegunAt read true) b h
+  body_at_depth kind.GeometryCollection d b h = begun_listed_at read (StandFor read) (BegunAt read) b h
 
   -- nothing, or a header and what is begun after it
   abbrev pub BegunWithHeader : List Lexeme → Type 0
-  BegunWithHeader ls = (ls ≡ []) ⊎ ((k : GeometryType) × (d : Dimension) × (h : List Lexeme) × (b : List Lexeme) × (ls ≡ h ++ b) × Header k d h × BegunBody read true Begun k d b)
+  BegunWithHeader ls = (ls ≡ []) ⊎ ((k : GeometryType) × (d : Dimension) × (h : List Lexeme) × (b : List Lexeme) × (ls ≡ h ++ b) × Header k d h × BegunBody read Begun k d b)
 
   open_begun : (ls : List Lexeme) → Begun ls → BegunWithHeader ls
   open_begun ls (zero, h) = absurd h
@@ -262,7 +262,7 @@ module _ {N : Type 0} (read : List ℕ → Option N) where
 
   header_begun : (f : List Lexeme) → BegunHeader f → Begun f
   header_begun f (inl e) = (1, inl e)
-  header_begun f (inr (k, d, header)) = (1, inr (k, d, f, [], sym (append-nil f), header, body_nothing read true (BegunAt read true 0) k d))
+  header_begun f (inr (k, d, header)) = (1, inr (k, d, f, [], sym (append-nil f), header, body_nothing read (BegunAt read 0) k d))
 
   -- what is begun after a header is nothing, or shows that the header has ended
   listed_follows : (Whole B : List Lexeme → Type 0) (b : List Lexeme) → BegunEmpty b ⊎ BegunWithin Whole B b → (b ≡ []) ⊎ BeginsBody b
@@ -272,7 +272,7 @@ module _ {N : Type 0} (read : List ℕ → Option N) where
   listed_follows Whole B b (inr (inr (inl (k, e, h)))) = inr (inl (k, e))
   listed_follows Whole B b (inr (inr (inr (k, e, h)))) = inr (inl (k ++ (Close ∷ []), e))
 
-  body_follows : (k : GeometryType) (d : Dimension) (b : List Lexeme) → BegunBody read true Begun k d b → (b ≡ []) ⊎ BeginsBody b
+  body_follows : (k : GeometryType) (d : Dimension) (b : List Lexeme) → BegunBody read Begun k d b → (b ≡ []) ⊎ BeginsBody b
   body_follows kind.Point d b h = listed_follows _ _ b h
   body_follows kind.LineString d b h = listed_follows _ _ b h
   body_follows kind.Polygon d b h = listed_follows _ _ b h
@@ -281,31 +281,31 @@ module _ {N : Type 0} (read : List ℕ → Option N) where
   body_follows kind.MultiPolygon d b h = listed_follows _ _ b h
   body_follows kind.GeometryCollection d b h = listed_follows _ _ b h
 
-  module _ (n : ℕ) (value : Part (Geometry read true) Begun Anything (value_at read n) (value_f read n) n) where
-    with_header_told : (ls : List Lexeme) → length ls ≤ suc n → Told (Geometry read true) Begun ls (andthen (header_f read ls) (λ h. body_f read (value_f read n) n h.0.0 h.0.1 h.1))
+  module _ (n : ℕ) (value : Part (StandFor read) Begun Anything (value_at read n) (value_f read n) n) where
+    with_header_told : (ls : List Lexeme) → length ls ≤ suc n → Told (StandFor read) Begun ls (andthen (header_f read ls) (λ h. body_f read (value_f read n) n h.0.0 h.0.1 h.1))
     with_header_told ls le =
-        told_then HeaderPart BegunHeader (λ k. BodyPart k.0 k.1) (λ k. BegunBody read true Begun k.0 k.1) (Geometry read true) Begun ls (header_f read ls) _ (told_header ls)
+        told_then HeaderPart BegunHeader (λ k. BodyPart k.0 k.1) (λ k. BegunBody read Begun k.0 k.1) (StandFor read) Begun ls (header_f read ls) _ (told_header ls)
         (λ p g e header. (body_part n value p.0.0 p.0.1).told p.1 (let long = header_long p.0.0 p.0.1 g header in omega (arith, le, ap length e, length-append g p.1)))
         header_begun
         (λ k g v h header body. after_header k.0 k.1 g h v header body)
         (λ k g h header body. close_begun (g ++ h) (inr (k.0, k.1, g, h, refl, header, body)))
 
-    with_header_exact : (v : Value N) (f r : List Lexeme) → Geometry read true f v → length (f ++ r) ≤ suc n → andthen (header_f read (f ++ r)) (λ h. body_f read (value_f read n) n h.0.0 h.0.1 h.1) ≡ Ok (v, r)
+    with_header_exact : (v : Value N) (f r : List Lexeme) → StandFor read f v → length (f ++ r) ≤ suc n → andthen (header_f read (f ++ r)) (λ h. body_f read (value_f read n) n h.0.0 h.0.1 h.1) ≡ Ok (v, r)
     with_header_exact v f r g le =
-        let (h, b, e, header, body) = geometry_body read true f v g in
+        let (h, b, e, header, body) = geometry_body read f v g in
         let long = header_long (kind_of v) (dim_of v) h header in
         let e2 : f ++ r ≡ h ++ (b ++ r) = ap (λ l. l ++ r) e ∙ append_assoc h b r in
         ap (λ l. andthen (header_f read l) (λ h. body_f read (value_f read n) n h.0.0 h.0.1 h.1)) e2
-        ∙ ap (λ t. andthen t (λ h. body_f read (value_f read n) n h.0.0 h.0.1 h.1)) (header_exact (kind_of v) (dim_of v) h (b ++ r) header (begins_more b r (body_begins read true b v body)))
+        ∙ ap (λ t. andthen t (λ h. body_f read (value_f read n) n h.0.0 h.0.1 h.1)) (header_exact (kind_of v) (dim_of v) h (b ++ r) header (begins_more b r (body_begins read b v body)))
         ∙ (body_part n value (kind_of v) (dim_of v)).exact v b r (body, refl, refl) tt (omega (arith, le, ap length e2, length-append h (b ++ r)))
 
     nothing_reach : (k : GeometryType) (d : Dimension) (ls : List Lexeme) → length ls ≤ n → reach (body_f read (value_f read n) n k d ls) ≤ length ls
-    nothing_reach k d ls le = told_reach (BodyPart k d) (BegunBody read true Begun k d) ls (body_f read (value_f read n) n k d ls) ((body_part n value k d).told ls le)
+    nothing_reach k d ls le = told_reach (BodyPart k d) (BegunBody read Begun k d) ls (body_f read (value_f read n) n k d ls) ((body_part n value k d).told ls le)
 
     with_header_reach : (b c : List Lexeme) → BegunWithHeader b → length (b ++ c) ≤ suc n → reach (andthen (header_f read (b ++ c)) (λ h. body_f read (value_f read n) n h.0.0 h.0.1 h.1)) ≤ length c
     with_header_reach b c (inl e) le =
         subst (λ l. reach (andthen (header_f read (l ++ c)) (λ h. body_f read (value_f read n) n h.0.0 h.0.1 h.1)) ≤ length c) (sym e)
-        (told_reach (Geometry read true) Begun c (andthen (header_f read c) (λ h. body_f read (value_f read n) n h.0.0 h.0.1 h.1)) (with_header_told c (omega (arith, le, length-append b c))))
+        (told_reach (StandFor read) Begun c (andthen (header_f read c) (λ h. body_f read (value_f read n) n h.0.0 h.0.1 h.1)) (with_header_told c (omega (arith, le, length-append b c))))
     with_header_reach b c (inr (k, d, h, s, e, header, body)) le =
         let long = header_long k d h header in
         let e2 : b ++ c ≡ h ++ (s ++ c) = ap (λ l. l ++ c) e ∙ append_assoc h s c in
@@ -332,23 +332,23 @@ module _ {N : Type 0} (read : List ℕ → Option N) where
             header_only (inr (i, hd)) = header_begun (x ∷ a) (inr (k, i, hd))
         go (Earlier u e1 e2) =
             let long = header_long k d h header in
-            close_begun (x ∷ a) (inr (k, d, h, u, e1, header, (body_part n value k d).begun u b (omega (arith, le, ap length e, length-append h s, ap length e2)) (subst (BegunBody read true Begun k d) e2 body)))
+            close_begun (x ∷ a) (inr (k, d, h, u, e1, header, (body_part n value k d).begun u b (omega (arith, le, ap length e, length-append h s, ap length e2)) (subst (BegunBody read Begun k d) e2 body)))
 
-  geometry_long : (v : Value N) (f : List Lexeme) → Geometry read true f v → 0 < length f
-  geometry_long v f g = let (h, b, e, header, body) = geometry_body read true f v g in let long = header_long (kind_of v) (dim_of v) h header in omega (arith, ap length e, length-append h b)
+  geometry_long : (v : Value N) (f : List Lexeme) → StandFor read f v → 0 < length f
+  geometry_long v f g = let (h, b, e, header, body) = geometry_body read f v g in let long = header_long (kind_of v) (dim_of v) h header in omega (arith, ap length e, length-append h b)
 
-  pub value_part : (n : ℕ) → Part (Geometry read true) Begun Anything (value_at read n) (value_f read n) n
+  pub value_part : (n : ℕ) → Part (StandFor read) Begun Anything (value_at read n) (value_f read n) n
   unfolding value_at value_f
   value_part zero = record {
     same = λ ls. refl;
     told = λ ls le. none ls le;
     exact = λ v f r g k le. let long = geometry_long v f g in absurd (omega (arith, le, length-append f r));
     reaches = λ b c h le. omega arith;
-    cuts = cuts_geometry read true;
+    cuts = cuts_geometry read;
     begun = λ a b le h. (1, inl (nil a b le));
   }
     where
-      none : (ls : List Lexeme) → length ls ≤ 0 → Told (Geometry read true) Begun ls (Err ([], ls))
+      none : (ls : List Lexeme) → length ls ≤ 0 → Told (StandFor read) Begun ls (Err ([], ls))
       none [] le = ([], [], refl, refl, (1, inl refl), omega arith)
       none (x ∷ ls) le = absurd (omega arith)
 
@@ -362,20 +362,20 @@ module _ {N : Type 0} (read : List ℕ → Option N) where
         told = with_header_told n value;
         exact = λ v f r g k le. with_header_exact n value v f r g le;
         reaches = λ b c h le. with_header_reach n value b c (open_begun b h) le;
-        cuts = cuts_geometry read true;
+        cuts = cuts_geometry read;
         begun = λ a b le h. with_header_cut n value a b le (open_begun (a ++ b) h);
       }
 
   -- what is read is in the grammar
-  pub sound : (n : ℕ) (ls : List Lexeme) (p : Value N × List Lexeme) → length ls ≤ n → value_at read n ls ≡ Ok p → (f : List Lexeme) × (ls ≡ f ++ p.1) × Geometry read true f p.0
+  pub sound : (n : ℕ) (ls : List Lexeme) (p : Value N × List Lexeme) → length ls ≤ n → value_at read n ls ≡ Ok p → (f : List Lexeme) × (ls ≡ f ++ p.1) × StandFor read f p.0
   sound n ls p le e =
       let part = value_part n in
       let t : value_f read n ls ≡ Ok p = ok_told (value_f read n ls) p (part.same ls ∙ e) in
-      let (f, e2, g, bal) = subst (Told (Geometry read true) Begun ls) t (part.told ls le) in
+      let (f, e2, g, bal) = subst (Told (StandFor read) Begun ls) t (part.told ls le) in
       (f, e2, g)
 
   -- what is in the grammar is read, whatever follows
-  pub complete : (n : ℕ) (v : Value N) (f r : List Lexeme) → Geometry read true f v → length (f ++ r) ≤ n → value_at read n (f ++ r) ≡ Ok (v, r)
+  pub complete : (n : ℕ) (v : Value N) (f r : List Lexeme) → StandFor read f v → length (f ++ r) ≤ n → value_at read n (f ++ r) ≡ Ok (v, r)
   complete n v f r g le =
       let part = value_part n in
       sym (part.same (f ++ r)) ∙ ap plain (part.exact v f r g tt le)

@@ -1,11 +1,11 @@
 -- When no geometry can come any more: what a reader shows at each error, part by part.
-use Rattle.std.proofs.Common.{◌≡◌, ◌≢◌, ℕ, ◌<◌, List, [], ◌∷◌, ◌++◌, length, Bool, Option, Some, sym, ap, ◌∙◌, append_assoc, arith}
+use Rattle.std.proofs.Common.{◌≡◌, ◌≢◌, ℕ, ◌<◌, List, [], ◌∷◌, ◌++◌, length, Option, Some, sym, ap, ◌∙◌, append_assoc, arith}
 use Rattle.wkt_num.specs.Bytes.{Lexeme, Open, Close, Comma, Word, Num}
 use Rattle.wkt_access.specs.declared.dimensions.Dimension.{Dimension}
 use Rattle.wkt_access.specs.Values.{size, Value}
 use Rattle.wkt_types.specs.declared.geometry_type.GeometryType.{GeometryType}
 use Rattle.wkt_read.specs.Kinds.{kind_of, dim_of}
-use Rattle.wkt_read.specs.Grammar.{Header, IsEmptyWord, More, Many, Listed, Numbers, Coord, Geometry}
+use Rattle.wkt_read.specs.Grammar.{Header, IsEmptyWord, More, Many, Listed, Numbers, Coord, StandFor}
 use Rattle.wkt_read.proofs.LawLemmas.OneForm.{OneForm, header_one, begins_no_dim, StartsNoDim, BodyOf, geometry_body, body_begins}
 
 -- no list that begins with these lexemes has a beginning that P holds of
@@ -97,11 +97,11 @@ dead_opening P l shut ne f more rest (x ∷ xs) (body, ef, m) e =
     let q : l ∷ more ≡ Open ∷ ((body ++ Close ∷ []) ++ rest) = rw ef at e in shut cc
 
 -- after a header
-module _ {N : Type 0} (read : List ℕ → Option N) (empties : Bool) where
-  pub dead_with_header : (k : GeometryType) (d : Dimension) (h ls : List Lexeme) → Header k d h → StartsNoDim ls → ((v : Value N) (b more rest : List Lexeme) → kind_of v ≡ k → dim_of v ≡ d → BodyOf read empties b v → ls ++ more ≡ b ++ rest → ⊥) → DeadFor (Geometry read empties) (h ++ ls)
+module _ {N : Type 0} (read : List ℕ → Option N) where
+  pub dead_with_header : (k : GeometryType) (d : Dimension) (h ls : List Lexeme) → Header k d h → StartsNoDim ls → ((v : Value N) (b more rest : List Lexeme) → kind_of v ≡ k → dim_of v ≡ d → BodyOf read b v → ls ++ more ≡ b ++ rest → ⊥) → DeadFor (StandFor read) (h ++ ls)
   dead_with_header k d h ls hh st bad f more rest v g e =
-      let (h', b, ef, hv, body) = geometry_body read empties f v g in
-      let bb = body_begins read empties b v body in
+      let (h', b, ef, hv, body) = geometry_body read f v g in
+      let bb = body_begins read b v body in
       let q : (h ++ ls) ++ more ≡ (h' ++ b) ++ rest = rw ef at e in
       let s = header_one k (kind_of v) d (dim_of v) h h' ls b more rest hh hv st (begins_no_dim b bb) (sym (append_assoc h ls more) ∙ q ∙ append_assoc h' b rest) in
       bad v b more rest (sym s.kind) (sym s.dim) body s.rest

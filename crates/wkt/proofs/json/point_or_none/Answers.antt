@@ -1,4 +1,4 @@
-use Rattle.std.proofs.Common.{◌≡◌, ap, rules, codes}
+use Rattle.std.proofs.Common.{◌≡◌, ap, rules}
 use Rattle.wkt_flat.specs.Tree.{flat_tree}
 use Rattle.wkt_convert.proofs.FlatKinds.{no_point}
 use Rattle.wkt.proofs.JsonPoints.{gives_no_point}

@@ -1,6 +1,6 @@
 use Rattle.std.proofs.Common.{◌≡◌, map, take}
-use Rattle.wkt.specs.Literals.{path_through}
+use Rattle.wkt.specs.Literals.{line_string_through}
 use Rattle.wkt.proofs.literals.polygon.Given as goal
 
 abbrev pub invariant-loop-ring : goal.invariant-loop-ring
-invariant-loop-ring g l = l.all.items ≡ map (λ r. path_through r.now) (take l.ring-index l.rings)
+invariant-loop-ring g l = l.all.items ≡ map (λ r. line_string_through r.now) (take l.ring-index l.rings)

@@ -1,9 +1,9 @@
-use Rattle.std.proofs.Common.{◌∙◌, sym, subst, true}
+use Rattle.std.proofs.Common.{◌∙◌, sym, subst}
 use Rattle.wkt_types.specs.declared.geometry.Wkt.{Wkt}
 use Rattle.wkt_read.specs.Ahead.{rest}
-use Rattle.wkt_read.specs.Begun.{NoneBeginsBy}
+use Rattle.wkt_read.specs.Begun.{NoneBegins}
 use Rattle.wkt_read.specs.Bad.{HasBad}
-use Rattle.wkt_read.specs.Front.{FrontBy, HasNoFront}
+use Rattle.wkt_read.specs.Front.{Front, HasNoFront}
 use Rattle.wkt_read.specs.Answered.{HasBadNumber}
 use Rattle.wkt_read.specs.Items.{bad_number}
 use Rattle.wkt_read.specs.Placed.{AreEnds}
@@ -14,7 +14,7 @@ use Rattle.wkt_read.proofs.api.read_text.Goals as goal
 pub returns-in-Ok-clause-found : goal.returns-in-Ok-clause-found
 returns-in-Ok-clause-found g c =
     let (v, begins, is) = c.in-Ok.ensures.found in
-    (v, subst (FrontBy g.T.WktNum.read true c.args.text.now v) (sym c.end.ensures) (to-front g.T.WktNum.read c.args.text.now _ _ v (subst (AreEnds c.args.text.now) (sym c.new-tokens.ensures.left) c.from_str.ensures.ends) (c.new-tokens.ensures.end ∙ c.from_str.ensures.start) c.in-Ok.ensures.advances begins), is)
+    (v, subst (Front g.T.WktNum.read c.args.text.now v) (sym c.end.ensures) (to-front g.T.WktNum.read c.args.text.now _ _ v (subst (AreEnds c.args.text.now) (sym c.new-tokens.ensures.left) c.from_str.ensures.ends) (c.new-tokens.ensures.end ∙ c.from_str.ensures.start) c.in-Ok.ensures.advances begins), is)
 
 pub returns-in-Ok-clause-some : goal.returns-in-Ok-clause-some
 returns-in-Ok-clause-some g c = let (v, front, is) = returns-in-Ok-clause-found g c in front-some g.T.WktNum.read c.args.text.now v _ front
@@ -27,7 +27,7 @@ returns-in-Ok-clause-boundary g c = let (v, front, is) = returns-in-Ok-clause-fo
 
 pub returns-in-Err-clause-no_front : goal.returns-in-Err-clause-no_front
 returns-in-Err-clause-no_front g c =
-    text-map (Wkt g.row.T.Denot) (Wkt g.row.T.Denot) c.in-Err.error (NoneBeginsBy g.T.WktNum.read true (rest c.new-tokens.result)) (HasNoFront g.T.WktNum.read c.args.text.now)
+    text-map (Wkt g.row.T.Denot) (Wkt g.row.T.Denot) c.in-Err.error (NoneBegins g.T.WktNum.read (rest c.new-tokens.result)) (HasNoFront g.T.WktNum.read c.args.text.now)
     (no-front g.T.WktNum.read c.args.text.now c.new-tokens.result (c.new-tokens.ensures.left ∙ c.from_str.ensures.placed)) c.in-Err.ensures.no_geometry
 
 pub returns-in-Err-clause-bad : goal.returns-in-Err-clause-bad

@@ -2,4 +2,4 @@ use Rattle.wkt_read.proofs.LawLemmas.Headers.{front_header}
 use Rattle.wkt_read.proofs.laws.header_names.Goals as goal
 
 pub returns : goal.returns
-returns g c empties text v end u f = front_header g.T.WktNum.read empties text v end u f
+returns g c text v end u f = front_header g.T.WktNum.read text v end u f

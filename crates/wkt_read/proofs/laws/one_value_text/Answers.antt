@@ -4,5 +4,5 @@ use Rattle.wkt_read.proofs.LawLemmas.Spelled.{text_one}
 use Rattle.wkt_read.proofs.laws.one_value_text.Goals as goal
 
 pub returns : goal.returns
-returns g c empties v w h k =
-    (λ e. text_one g.T.WktNum.is_value g.T.WktNum.num g.T.WktNum.read (record { reads_back = g.met.T.WktNum.reads_back; number_text = g.met.T.WktNum.number_text }) empties v w h k e, λ e. ap (text g.T.WktNum.num) e)
+returns g c v w h k =
+    (λ e. text_one g.T.WktNum.is_value g.T.WktNum.num g.T.WktNum.read (record { reads_back = g.met.T.WktNum.reads_back; number_text = g.met.T.WktNum.number_text }) v w h k e, λ e. ap (text g.T.WktNum.num) e)

@@ -1,4 +1,4 @@
-use Rattle.std.proofs.Common.{◌≡◌, sym, ap, subst, true}
+use Rattle.std.proofs.Common.{◌≡◌, sym, ap, subst}
 use Rattle.wkt_access.specs.Shapes.{shape_of}
 use Rattle.wkt_access.specs.Faults.{fault}
 use Rattle.wkt_access.specs.Lawful.{IsLawful}
@@ -9,7 +9,7 @@ use Rattle.wkt_read.proofs.laws.read_values_are_writable.Goals as goal
 
 pub returns : goal.returns
 returns g c text v end t f w =
-    let fits = geometry_fits g.T.WktNum.is_value g.T.WktNum.read g.met.T.WktNum.reads_values true v f.lexemes f.reads in
+    let fits = geometry_fits g.T.WktNum.is_value g.T.WktNum.read g.met.T.WktNum.reads_values v f.lexemes f.reads in
     let p = writable g.T.WktNum.is_value v fits in
     let same = ap shape_of w.value in
     (same, subst (λ s. fault s ≡ None) (sym same) p.0, subst (IsLawful g.T.WktNum.is_value) (sym same) p.1)

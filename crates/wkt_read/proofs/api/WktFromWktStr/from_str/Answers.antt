@@ -1,6 +1,6 @@
-use Rattle.std.proofs.Common.{◌∙◌, sym, subst, true}
+use Rattle.std.proofs.Common.{◌∙◌, sym, subst}
 use Rattle.wkt_read.specs.Ahead.{rest}
-use Rattle.wkt_read.specs.Begun.{NoneBeginsBy}
+use Rattle.wkt_read.specs.Begun.{NoneBegins}
 use Rattle.wkt_read.specs.Bad.{HasBad}
 use Rattle.wkt_read.specs.Front.{HasNoFront}
 use Rattle.wkt_read.specs.Answered.{HasBadNumber}
@@ -16,7 +16,7 @@ returns-clause-found g c =
 
 pub returns-clause-no_front : goal.returns-clause-no_front
 returns-clause-no_front g c =
-    on-text c.value.result (NoneBeginsBy g.T.WktNum.read true (rest c.new-tokens.result)) (HasNoFront g.T.WktNum.read c.args.text.now)
+    on-text c.value.result (NoneBegins g.T.WktNum.read (rest c.new-tokens.result)) (HasNoFront g.T.WktNum.read c.args.text.now)
     (no-front g.T.WktNum.read c.args.text.now c.new-tokens.result (c.new-tokens.ensures.left ∙ c.from_str.ensures.placed)) (none g.T.WktNum.read c.new-tokens.result c.value.new.tokens c.value.result c.value.ensures.exact)
 
 pub returns-clause-bad : goal.returns-clause-bad

@@ -1,4 +1,4 @@
-use Rattle.std.proofs.Common.{◌≡◌, ℕ, List, subst, true, string_bytes}
+use Rattle.std.proofs.Common.{◌≡◌, ℕ, List, subst, string_bytes}
 use Rattle.std.specs.Prelude.{IfOk, OnOk}
 use Rattle.wkt_access.specs.WellFormed.{IsWellFormed}
 use Rattle.wkt_flat.specs.Shape.{flat_shape}
@@ -29,4 +29,4 @@ returns-clause-refused g c =
 
 pub returns-clause-lawful : goal.returns-clause-lawful
 returns-clause-lawful g c =
-    subst (λ s. OnOk c.string_of.result (IsWellFormed g.T.WktNum.is_value true s)) (same (g.G.FlatValue.value c.args.self.now)) c.string_of.ensures.lawful
+    subst (λ s. OnOk c.string_of.result (IsWellFormed g.T.WktNum.is_value s)) (same (g.G.FlatValue.value c.args.self.now)) c.string_of.ensures.lawful

@@ -1,4 +1,4 @@
-use Rattle.std.proofs.Common.{ℕ, List, OnOk, subst, true}
+use Rattle.std.proofs.Common.{ℕ, List, OnOk, subst}
 use Rattle.std.specs.Io.KnownBytes.{Appends}
 use Rattle.wkt_bytes.specs.Sinks.{BeginningOut}
 use Rattle.wkt_access.specs.WellFormed.{IsWellFormed}
@@ -20,7 +20,7 @@ returns-clause-sound g c = ok_any c.send.result (clear (g.G.FlatValue.value c.ar
 
 pub returns-clause-lawful : goal.returns-clause-lawful
 returns-clause-lawful g c =
-    subst (λ s. OnOk c.send.result (IsWellFormed g.T.WktNum.is_value true s)) (same (g.G.FlatValue.value c.args.self.now)) c.send.ensures.lawful
+    subst (λ s. OnOk c.send.result (IsWellFormed g.T.WktNum.is_value s)) (same (g.G.FlatValue.value c.args.self.now)) c.send.ensures.lawful
 
 pub returns-clause-io : goal.returns-clause-io
 returns-clause-io g c =

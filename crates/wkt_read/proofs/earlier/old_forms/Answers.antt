@@ -1,0 +1,5 @@
+use Rattle.wkt_read.proofs.LawLemmas.OldForms.{value_new, value_old}
+use Rattle.wkt_read.proofs.earlier.old_forms.Goals as goal
+
+pub returns : goal.returns
+returns g c ls v = (λ p. value_new g.T.WktNum.read v ls p, λ p. value_old g.T.WktNum.read v ls p.0 p.1)
