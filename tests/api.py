@@ -11,6 +11,8 @@ import re
 
 ROOT = os.path.join(os.path.dirname(os.path.abspath(__file__)), os.pardir)
 DOORS = ["wkt", "wkt_lines", "wkt_stream"]
+# What a source calls a type that a caller names otherwise.
+NAMED = {"wkt_access::Error": "wkt::error::Error", "WriteError": "wkt::error::Error"}
 ITEM = re.compile(r"\s*(pub(\(\w+\))? )?(unsafe )?((fn|struct|enum|trait|const|type|impl|mod|static)\b|ghost \w+[:= ]|macro_rules!)")
 
 
@@ -171,6 +173,7 @@ def tell(name, item, calls):
     elif item.head[0].startswith("pub enum"):
         rows = [row.strip().replace("#[from] ", "") for row in item.body if re.match(r"    [A-Z]", row)]
         variants = [re.match(r"\w+(\(.*\))?", row).group() for row in rows]
+        variants = [re.sub(r"[\w:]+", lambda it: NAMED.get(it.group(), it.group()), variant) for variant in variants]
         page.append("  - variants: " + ", ".join(f"`{variant}`" for variant in variants))
     else:
         fields = [re.match(r"    pub ([\w]+: .*?),?$", row).group(1) for row in item.body if re.match(r"    pub ", row)]
