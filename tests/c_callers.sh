@@ -4,7 +4,7 @@
 # It needs crates/wkt_c proved: the gate runs it on what rt ci has just proved; alone, run rt check in crates/wkt_c first.
 set -u
 cd "$(dirname "$0")/.."
-(cd crates/wkt_c && rt lib > /dev/null) || { echo "wkt_c: rt lib fails"; exit 1; }
+tests/lib_for_c.py 2> /dev/null || (cd crates/wkt_c && rt lib > /dev/null) || { echo "wkt_c: rt lib fails"; exit 1; }
 
 cc=${CC:-$(command -v gcc || command -v clang || command -v cc)}
 [ -n "$cc" ] || { echo "no C compiler: the callers weren't run"; exit 0; }

@@ -1,0 +1,60 @@
+#!/usr/bin/env python3
+"""Builds crates/wkt_c/out/libwkt_c.a over the libraries that `rt ci` left where it has just proved them.
+
+`rt lib` would prove them all once more: it takes only libraries that a check of its own left, and which later checks can
+begin with. Where `rt ci` left none, or what it left doesn't serve, the status isn't 0: then `rt lib` is to be run.
+"""
+
+import os
+import shutil
+import subprocess
+import sys
+
+TOP = os.path.dirname(os.path.dirname(os.path.abspath(__file__)))
+CRATE = "wkt_c"
+
+
+def uses_of():
+    """The libraries that each crate uses, as crates.txt has them."""
+    uses = {}
+    with open(f"{TOP}/crates.txt", encoding="utf-8") as rows:
+        for row in rows:
+            name, _, libraries = row.partition(":")
+            if name.split() and not name.startswith("#"):
+                uses[name.split()[0]] = libraries.split()
+    return uses
+
+
+def below(name, uses):
+    """The crates of this repository that a crate rests on, each after those that it uses."""
+    found = []
+    for one in uses[name]:
+        if one in uses:
+            found += [it for it in [*below(one, uses), one] if it not in found]
+    return found
+
+
+def main():
+    rt = shutil.which("rt")
+    if not rt:
+        return 2
+    kit = os.path.dirname(os.path.dirname(os.path.realpath(rt)))
+    uses = uses_of()
+    made = {name: f"{TOP}/crates/{name}/out/rlib" for name in below(CRATE, uses)}
+    # A stamp beside a library says that a check of rt's own left it: rt lib takes those.
+    if not all(os.path.isdir(f"{it}/{name}.rlib") and not os.path.exists(f"{it}/stamp") for name, it in made.items()):
+        return 2
+    words = ["--crate-name", CRATE, "src/lib.rt", "--crate-type", "staticlib"]
+    words += ["--extern", f"std={kit}/rlibs/std.rlib", "-L", f"dependency={kit}/rlibs"]
+    for name in uses[CRATE]:
+        words += ["--extern", f"{name}={made[name]}/{name}.rlib"]
+    for it in made.values():
+        words += ["-L", f"dependency={it}"]
+    words += ["--antt-project", f"{kit}/rattle/logic/antt-project.json", "--logic-built", f"{kit}/logic_built"]
+    words += ["--jobs", str(min(4, len(os.sched_getaffinity(0)))), "--toolchain", f"{kit}/toolchain", "--backend", "llvm"]
+    how = {"cwd": f"{TOP}/crates/{CRATE}", "stdout": subprocess.DEVNULL}
+    return subprocess.run([f"{kit}/bin/rattle", "build", *words, "-o", f"out/lib{CRATE}.a"], **how).returncode
+
+
+if __name__ == "__main__":
+    sys.exit(main())
