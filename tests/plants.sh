@@ -20,6 +20,10 @@ wkt_uses answers: \{ Err\(RunError::(Write|Memory)\(.*\)\) \}
 wkt_uses answers: \{ .*\(alloc, input, 0\) \}
 # That two calls differ says nothing of the text: the tables take it for wrong.
 wkt_answers answer: \{ Err\(AnswerError::Differ\) \}
+# Which error a sink gives is no part of a contract. That it comes unchanged is tested.
+wkt_bytes put_all: \{ .*Err\(_\) => Err\(io::Error::from\(.*\)\) .*\}
+# What an explanation is displayed as is tested, as the texts of errors are.
+wkt_explain <Explanation<'a> as fmt::Display>::fmt: \{ Ok\(\(\)\) \}
 # Which fault a source gives is no part of a contract.
 wkt_stream Block::fill: \{ .*Err\(.*\).* \}
 # The lines that ended within what was seen before are none, so to look from the start finds the same.
