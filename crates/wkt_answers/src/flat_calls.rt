@@ -20,8 +20,12 @@ pub(crate) fn flat_alike<T: WktNum>(
     geometry: &Wkt<T>,
 ) -> Result<bool, AllocError> {
     let flat = told(alloc, try_into_geometry(alloc, geometry))?;
-    let read_alike = same(&by_text(alloc, text)?, &flat) && same(&by_bytes(alloc, text)?, &flat);
-    Ok(read_alike && json_alike(alloc, text, geometry, &flat)? && told_alike(alloc, &flat)?)
+    Ok(
+        by_text_alike(alloc, text, &flat)?
+            && by_bytes_alike(alloc, text, &flat)?
+            && json_alike(alloc, text, geometry, &flat)?
+            && told_alike(alloc, &flat)?,
+    )
 }
 
 /// Whether two calls answered alike.
@@ -41,15 +45,21 @@ fn told_alike<T: WktNum>(alloc: Global, told: &Told<T>) -> Result<bool, AllocErr
     }
 }
 
-/// The flat value of a text.
-fn by_text<T: WktNum>(alloc: Global, text: &str) -> Result<Told<T>, AllocError> {
-    told(alloc, Geometry::try_from_wkt_str(alloc, text))
+/// Whether a text gives that flat value or error.
+fn by_text_alike<T: WktNum>(alloc: Global, text: &str, flat: &Told<T>) -> Result<bool, AllocError> {
+    let read = told(alloc, Geometry::try_from_wkt_str(alloc, text))?;
+    Ok(same(&read, flat))
 }
 
-/// The flat value of the bytes of a text.
-fn by_bytes<T: WktNum>(alloc: Global, text: &str) -> Result<Told<T>, AllocError> {
+/// Whether the bytes of a text give that flat value or error.
+fn by_bytes_alike<T: WktNum>(
+    alloc: Global,
+    text: &str,
+    flat: &Told<T>,
+) -> Result<bool, AllocError> {
     let mut bytes = Counted::new(text.as_bytes());
-    told(alloc, Geometry::try_from_wkt_reader(alloc, &mut bytes))
+    let read = told(alloc, Geometry::try_from_wkt_reader(alloc, &mut bytes))?;
+    Ok(same(&read, flat))
 }
 
 /// Whether a text as a JSON string gives that geometry, and that flat value or error.
@@ -60,13 +70,30 @@ fn json_alike<T: WktNum>(
     flat: &Told<T>,
 ) -> Result<bool, AllocError> {
     let json = Value::String(String::from_str(alloc, text)?);
-    let again = match deserialize_geometry(alloc, &json) {
-        Ok(geometry) => Ok(geometry),
-        Err(ValueError::Fault(error)) => told(alloc, Err(error))?,
-        Err(ValueError::NotAString) => return Ok(false),
-    };
-    match wkt_from_value(alloc, &json) {
-        Ok(wkt) => Ok(wkt == *geometry && same(&again, flat)),
+    Ok(flat_from_json(alloc, &json, flat)? && is_from_json(alloc, &json, geometry)?)
+}
+
+/// Whether a JSON value gives that flat value or error.
+fn flat_from_json<T: WktNum>(
+    alloc: Global,
+    json: &Value,
+    flat: &Told<T>,
+) -> Result<bool, AllocError> {
+    match deserialize_geometry(alloc, json) {
+        Ok(geometry) => Ok(same(&Ok(geometry), flat)),
+        Err(ValueError::Fault(error)) => Ok(same(&told(alloc, Err(error))?, flat)),
+        Err(ValueError::NotAString) => Ok(false),
+    }
+}
+
+/// Whether a JSON value gives that geometry.
+fn is_from_json<T: WktNum>(
+    alloc: Global,
+    json: &Value,
+    geometry: &Wkt<T>,
+) -> Result<bool, AllocError> {
+    match wkt_from_value(alloc, json) {
+        Ok(wkt) => Ok(wkt == *geometry),
         Err(ValueError::Fault(ReadError::Memory(e))) => Err(e),
         Err(_) => Ok(false),
     }
@@ -86,21 +113,46 @@ fn told<T: WktNum>(
 
 /// Whether the three calls that write a flat value give one text, which reads back as one text.
 fn written_alike<T: WktNum>(alloc: Global, flat: &Geometry<T>) -> Result<bool, AllocError> {
-    let displayed = format!(in alloc; "{}", flat.to_wkt(alloc)?)?;
-    let string = match flat.wkt_string(alloc) {
-        Ok(string) => string,
-        Err(Error::Memory(e)) => return Err(e),
-        Err(_) => return Ok(false),
-    };
+    match flat.wkt_string(alloc) {
+        Ok(string) => Ok(
+            is_displayed(alloc, flat, &string)?
+                && goes_out(alloc, flat, &string)?
+                && reads_back::<T>(alloc, &string)?,
+        ),
+        Err(Error::Memory(e)) => Err(e),
+        Err(_) => Ok(false),
+    }
+}
+
+/// Whether that is what the `Wkt` of a flat value displays.
+fn is_displayed<T: WktNum>(
+    alloc: Global,
+    flat: &Geometry<T>,
+    string: &str,
+) -> Result<bool, AllocError> {
+    let wkt = flat.to_wkt(alloc)?;
+    Ok(format!(in alloc; "{wkt}")?.as_str() == string)
+}
+
+/// Whether that is what goes out to a list of bytes.
+fn goes_out<T: WktNum>(
+    alloc: Global,
+    flat: &Geometry<T>,
+    string: &str,
+) -> Result<bool, AllocError> {
     let mut out = Vec::new(alloc);
-    let alike = match flat.write_wkt(alloc, &mut Counted::new(&mut out)) {
-        Ok(()) => string == displayed && out.as_slice() == string.as_bytes(),
+    match flat.write_wkt(alloc, &mut Counted::new(&mut out)) {
+        Ok(()) => Ok(out.as_slice() == string.as_bytes()),
         // A list takes no bytes only when out of memory.
-        Err(ToWktError::Io(_)) => return Err(AllocError),
-        Err(ToWktError::Shape(_)) => false,
-    };
-    match Wkt::<T>::from_str(alloc, &string) {
-        Ok(again) => Ok(alike && format!(in alloc; "{again}")? == string),
+        Err(ToWktError::Io(_)) => Err(AllocError),
+        Err(ToWktError::Shape(_)) => Ok(false),
+    }
+}
+
+/// Whether a text is read as what has that text.
+fn reads_back<T: WktNum>(alloc: Global, string: &str) -> Result<bool, AllocError> {
+    match Wkt::<T>::from_str(alloc, string) {
+        Ok(again) => Ok(format!(in alloc; "{again}")?.as_str() == string),
         Err(ReadError::Memory(e)) => Err(e),
         Err(ReadError::Text(_)) => Ok(false),
     }

@@ -53,7 +53,7 @@ pub fn answer<T: WktNum>(alloc: Global, text: &str) -> Result<String, AnswerErro
         Ok(answer) => answer,
         Err(e) => return Err(AnswerError::Memory(e)),
     };
-    match all_alike(alloc, text, geometry, &answer) {
+    match all_alike(alloc, text, &geometry, &answer) {
         Ok(true) => Ok(answer),
         Ok(false) => Err(AnswerError::Differ),
         Err(e) => Err(AnswerError::Memory(e)),
@@ -87,31 +87,58 @@ pub fn told(alloc: Global, answer: Result<String, AnswerError>) -> Result<String
 fn all_alike<T: WktNum>(
     alloc: Global,
     text: &str,
-    geometry: Wkt<T>,
+    geometry: &Wkt<T>,
+    answer: &str,
+) -> Result<bool, AllocError> {
+    Ok(
+        again_alike(alloc, geometry, answer)?
+            && read_alike(alloc, text, geometry)?
+            && flat_alike(alloc, text, geometry)?,
+    )
+}
+
+/// Whether what is put together of the parts of a copy is that geometry, and displays that answer.
+fn again_alike<T: WktNum>(
+    alloc: Global,
+    geometry: &Wkt<T>,
     answer: &str,
 ) -> Result<bool, AllocError> {
     let again = rebuilt(alloc, geometry.try_clone(alloc)?)?;
-    let displayed = format!(in alloc; "{again}")?;
-    Ok(
-        again == geometry
-            && displayed.as_str() == answer
-            && read_alike(alloc, text, &geometry)?
-            && flat_alike(alloc, text, &geometry)?,
-    )
+    Ok(again == *geometry && format!(in alloc; "{again}")?.as_str() == answer)
 }
 
 /// Whether the two calls that tell where the front ends read that geometry, to one end.
 fn read_alike<T: WktNum>(alloc: Global, text: &str, geometry: &Wkt<T>) -> Result<bool, AllocError> {
+    match end_by_text(alloc, text, geometry)? {
+        None => Ok(false),
+        end => Ok(end_by_stream(alloc, text, geometry)? == end),
+    }
+}
+
+/// Where the front ends, if it is read as that geometry.
+fn end_by_text<T: WktNum>(
+    alloc: Global,
+    text: &str,
+    geometry: &Wkt<T>,
+) -> Result<Option<usize>, AllocError> {
+    match Wkt::<T>::read_front(alloc, text) {
+        Ok((front, end)) => Ok((front == *geometry).then_some(end)),
+        Err(ReadError::Text(_)) => Ok(None),
+        Err(ReadError::Memory(e)) => Err(e),
+    }
+}
+
+/// Where the front ends of which the lexemes are read as that geometry.
+fn end_by_stream<T: WktNum>(
+    alloc: Global,
+    text: &str,
+    geometry: &Wkt<T>,
+) -> Result<Option<usize>, AllocError> {
     let mut tokens = PeekableTokens::new(Tokens::<T>::from_str(text));
-    match (
-        Wkt::<T>::read_front(alloc, text),
-        Wkt::<T>::read_tokens(alloc, &mut tokens),
-    ) {
-        (Ok((front, end)), Ok(streamed)) => {
-            Ok(front == *geometry && streamed == *geometry && tokens.end() == end)
-        }
-        (Err(ReadError::Memory(e)), _) | (_, Err(ReadError::Memory(e))) => Err(e),
-        _ => Ok(false),
+    match Wkt::<T>::read_tokens(alloc, &mut tokens) {
+        Ok(streamed) => Ok((streamed == *geometry).then_some(tokens.end())),
+        Err(ReadError::Text(_)) => Ok(None),
+        Err(ReadError::Memory(e)) => Err(e),
     }
 }
 

@@ -46,23 +46,27 @@ pub(crate) fn canonical(alloc: Global, text: &str) -> Result<String, AnyError> {
 /// The two-dimensional geometry of a text, behind a word, by the writer of its kind; of a line string also as the kind
 /// that is asked for.
 pub(crate) fn pushed(alloc: Global, of: &str, text: &str) -> Result<String, AnyError> {
+    let geometry = Geometry::<Number>::try_from_wkt_str(alloc, text)?;
     let mut out = String::from_str(alloc, "is ")?;
-    let result = match Geometry::<Number>::try_from_wkt_str(alloc, text)? {
-        Geometry::Point(x) => push_point(&mut out, &x),
-        Geometry::LineString(x) => push_line_string(&mut out, of, &x),
-        Geometry::Polygon(x) => push_polygon(&mut out, &x),
-        Geometry::MultiPoint(x) => push_multi_point(&mut out, &x),
-        Geometry::MultiLineString(x) => push_multi_linestring(&mut out, &x),
-        Geometry::MultiPolygon(x) => push_multi_polygon(&mut out, &x),
-        Geometry::GeometryCollection(x) => push_geometry_collection(&mut out, &x),
-        // No text is read as one of these.
-        Geometry::Line(_) | Geometry::Rect(_) | Geometry::Triangle(_) => Ok(()),
-    };
-    match result {
+    match push_by_kind(&mut out, of, &geometry) {
         Ok(()) => Ok(out),
         // The string couldn't grow.
         Err(WriteError::FmtError(_)) => Err(AnyError::Memory(AllocError)),
         Err(error) => Err(AnyError::Write(error)),
+    }
+}
+
+fn push_by_kind(out: &mut String, of: &str, geometry: &Geometry<Number>) -> Result<(), WriteError> {
+    match geometry {
+        Geometry::Point(x) => push_point(out, x),
+        Geometry::LineString(x) => push_line_string(out, of, x),
+        Geometry::Polygon(x) => push_polygon(out, x),
+        Geometry::MultiPoint(x) => push_multi_point(out, x),
+        Geometry::MultiLineString(x) => push_multi_linestring(out, x),
+        Geometry::MultiPolygon(x) => push_multi_polygon(out, x),
+        Geometry::GeometryCollection(x) => push_geometry_collection(out, x),
+        // No text is read as one of these.
+        Geometry::Line(_) | Geometry::Rect(_) | Geometry::Triangle(_) => Ok(()),
     }
 }
 

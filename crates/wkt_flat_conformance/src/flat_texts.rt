@@ -1,9 +1,11 @@
 //! The text of a value of each two-dimensional type, by each call that writes it, and the texts of the errors.
+use crate::asserts::equal;
 use std::alloc::{AllocError, Global};
+use std::io;
+use std::io::ErrorKind;
 use std::process::Abort;
 use std::test::Fail;
 use wkt::error::Error as WriteError;
-use wkt::geo_traits::GeometryTrait;
 use wkt::geo_types::{
     Coord, Geometry, GeometryCollection, Line, LineString, MultiLineString, MultiPoint,
     MultiPolygon, Point, Polygon, Rect, Triangle,
@@ -48,45 +50,32 @@ pub(crate) fn holed(
 /// The three calls of `ToWkt` give that text.
 fn gives<G: ToWkt<i32>>(rt: &impl Abort, alloc: Global, value: &G, want: &str) -> Result<(), Fail> {
     let displayed = format!(in alloc; "{}", value.to_wkt(alloc)?)?;
-    assert_eq!(rt; displayed.as_str(), want);
-    assert_eq!(rt; value.wkt_string(alloc)?.as_str(), want);
+    equal(rt, displayed.as_str(), want);
+    equal(rt, value.wkt_string(alloc)?.as_str(), want);
     let mut out = Vec::new(alloc);
     value.write_wkt(alloc, &mut Counted::new(&mut out))?;
-    assert_eq!(rt; out.as_slice(), want.as_bytes());
+    equal(rt, out.as_slice(), want.as_bytes());
     Ok(())
 }
 
-/// So they do, and so does `write_geometry`.
-fn writes<G: ToWkt<i32> + GeometryTrait>(
-    rt: &impl Abort,
-    alloc: Global,
-    value: &G,
-    want: &str,
-) -> Result<(), Fail> {
-    let mut text = String::new(alloc);
-    write_geometry(&mut CountedText::new(&mut text), value)?;
-    assert_eq!(rt; text.as_str(), want);
-    gives(rt, alloc, value, want)
-}
-
 /// The value as what it is gives that text.
-fn writes_by_kind(
+fn gives_by_kind(
     rt: &impl Abort,
     alloc: Global,
     value: &Geometry<i32>,
     want: &str,
 ) -> Result<(), Fail> {
     match value {
-        Geometry::Point(x) => writes(rt, alloc, x, want),
-        Geometry::Line(x) => writes(rt, alloc, x, want),
-        Geometry::LineString(x) => writes(rt, alloc, x, want),
-        Geometry::Polygon(x) => writes(rt, alloc, x, want),
-        Geometry::MultiPoint(x) => writes(rt, alloc, x, want),
-        Geometry::MultiLineString(x) => writes(rt, alloc, x, want),
-        Geometry::MultiPolygon(x) => writes(rt, alloc, x, want),
+        Geometry::Point(x) => gives(rt, alloc, x, want),
+        Geometry::Line(x) => gives(rt, alloc, x, want),
+        Geometry::LineString(x) => gives(rt, alloc, x, want),
+        Geometry::Polygon(x) => gives(rt, alloc, x, want),
+        Geometry::MultiPoint(x) => gives(rt, alloc, x, want),
+        Geometry::MultiLineString(x) => gives(rt, alloc, x, want),
+        Geometry::MultiPolygon(x) => gives(rt, alloc, x, want),
         Geometry::GeometryCollection(x) => gives(rt, alloc, x, want),
-        Geometry::Rect(x) => writes(rt, alloc, x, want),
-        Geometry::Triangle(x) => writes(rt, alloc, x, want),
+        Geometry::Rect(x) => gives(rt, alloc, x, want),
+        Geometry::Triangle(x) => gives(rt, alloc, x, want),
     }
 }
 
@@ -107,6 +96,25 @@ fn write_by_kind(text: &mut String, value: &Geometry<i32>) -> Result<(), WriteEr
     }
 }
 
+/// The copy of the value is equal, and is written so by the writers of its kind and of any.
+fn copy_is_written(
+    rt: &impl Abort,
+    alloc: Global,
+    value: &Geometry<i32>,
+    want: &str,
+) -> Result<(), Fail> {
+    let copy = value.try_clone(alloc)?;
+    let same = copy == *value;
+    assert!(rt; same);
+    let mut text = String::new(alloc);
+    write_by_kind(&mut text, &copy)?;
+    equal(rt, text.as_str(), want);
+    let mut text = String::new(alloc);
+    write_geometry(&mut CountedText::new(&mut text), &copy)?;
+    equal(rt, text.as_str(), want);
+    Ok(())
+}
+
 /// The value, its copy and what it is are written so, by every call.
 fn is_written(
     rt: &impl Abort,
@@ -114,15 +122,9 @@ fn is_written(
     value: Geometry<i32>,
     want: &str,
 ) -> Result<(), Fail> {
-    writes(rt, alloc, &value, want)?;
-    writes_by_kind(rt, alloc, &value, want)?;
-    let copy = value.try_clone(alloc)?;
-    let same = copy == value;
-    assert!(rt; same);
-    let mut text = String::new(alloc);
-    write_by_kind(&mut text, &copy)?;
-    assert_eq!(rt; text.as_str(), want);
-    Ok(())
+    gives(rt, alloc, &value, want)?;
+    gives_by_kind(rt, alloc, &value, want)?;
+    copy_is_written(rt, alloc, &value, want)
 }
 
 #[test]
@@ -134,10 +136,10 @@ fn single_values(rt: HostRuntime) -> Result<(), Fail> {
     is_written(&rt, alloc, Geometry::from(Point::new(1, 2)), "POINT(1 2)")?;
     is_written(&rt, alloc, Geometry::from(line), "LINESTRING(1 2,3 4)")?;
     let want = "POLYGON((8 1,8 6,4 6,4 1,8 1))";
-    writes(&rt, alloc, &rect.to_polygon(alloc)?, want)?;
+    gives(&rt, alloc, &rect.to_polygon(alloc)?, want)?;
     is_written(&rt, alloc, Geometry::from(rect), want)?;
     let want = "POLYGON((0 0,4 0,2 4,0 0))";
-    writes(&rt, alloc, &triangle.to_polygon(alloc)?, want)?;
+    gives(&rt, alloc, &triangle.to_polygon(alloc)?, want)?;
     is_written(&rt, alloc, Geometry::from(triangle), want)
 }
 
@@ -153,8 +155,8 @@ fn polygons(rt: HostRuntime) -> Result<(), Fail> {
     let want = "POLYGON((1 2),(7 3,4 1,1 4,7 3))";
     is_written(&rt, alloc, Geometry::from(open), want)?;
     let hollow = holed(alloc, &[], &[(1, 2)])?;
-    assert_eq!(rt; hollow.exterior().0.len(), 0);
-    assert_eq!(rt; hollow.interiors().len(), 1);
+    equal(&rt, hollow.exterior().0.len(), 0);
+    equal(&rt, hollow.interiors().len(), 1);
     is_written(&rt, alloc, Geometry::from(hollow), "POLYGON EMPTY")
 }
 
@@ -210,8 +212,8 @@ fn a_point_is_read(rt: HostRuntime) -> Result<(), Fail> {
     let Ok(point) = Point::<Decimal<6>>::try_from_wkt_str(rt.alloc(), "POINT(10 20)") else {
         panic!(rt; "a point wasn't read");
     };
-    assert_eq!(rt; point.x().units(), 10_000_000);
-    assert_eq!(rt; point.y().units(), 20_000_000);
+    equal(&rt, point.x().units(), 10_000_000);
+    equal(&rt, point.y().units(), 20_000_000);
     Ok(())
 }
 
@@ -222,38 +224,41 @@ fn an_empty_point_is_refused(rt: HostRuntime) {
     assert!(rt; matches!(Point::try_from(empty), Err(Error::PointConversionError)));
 }
 
+/// The error has that text.
+fn says(rt: &impl Abort, alloc: Global, error: Error, want: &str) -> Result<(), AllocError> {
+    equal(rt, format!(in alloc; "{error}")?.as_str(), want);
+    Ok(())
+}
+
 #[test]
 fn refusals_have_texts(rt: HostRuntime) -> Result<(), Fail> {
     let alloc = rt.alloc();
-    for (error, want) in [
-        (
-            Error::PointConversionError,
-            "The WKT Point was empty, but geo_type::Points cannot be empty",
-        ),
-        (
-            Error::MismatchedGeometry {
-                expected: "Point",
-                found: "MultiPoint",
-            },
-            "Mismatched geometry (expected \"Point\", found \"MultiPoint\")",
-        ),
-        (
-            Error::WrongNumberOfGeometries(3),
-            "Wrong number of Geometries: 3",
-        ),
-        (
-            Error::InvalidWKT("End of stream"),
-            "Invalid WKT: End of stream",
-        ),
-        (
-            Error::Reader(std::io::Error::from(std::io::ErrorKind::Other)),
-            "External error: read fault",
-        ),
-        (Error::Utf8, "External error: not UTF-8"),
-        (Error::Memory(AllocError), "out of memory"),
-    ] {
-        let text = format!(in alloc; "{error}")?;
-        assert_eq!(rt; text.as_str(), want);
-    }
+    let want = "The WKT Point was empty, but geo_type::Points cannot be empty";
+    says(&rt, alloc, Error::PointConversionError, want)?;
+    let (expected, found) = ("Point", "MultiPoint");
+    let want = "Mismatched geometry (expected \"Point\", found \"MultiPoint\")";
+    says(
+        &rt,
+        alloc,
+        Error::MismatchedGeometry { expected, found },
+        want,
+    )?;
+    let want = "Wrong number of Geometries: 3";
+    says(&rt, alloc, Error::WrongNumberOfGeometries(3), want)?;
+    says(
+        &rt,
+        alloc,
+        Error::InvalidWKT("End of stream"),
+        "Invalid WKT: End of stream",
+    )?;
+    let fault = io::Error::from(ErrorKind::Other);
+    says(
+        &rt,
+        alloc,
+        Error::Reader(fault),
+        "External error: read fault",
+    )?;
+    says(&rt, alloc, Error::Utf8, "External error: not UTF-8")?;
+    says(&rt, alloc, Error::Memory(AllocError), "out of memory")?;
     Ok(())
 }

@@ -1,4 +1,5 @@
 //! The readers against the plain program of the definitions, on all short texts of some words.
+use crate::asserts::{equal, equal_at};
 use crate::reference::{Lexeme, front, lexemes, whole};
 use std::alloc::{AllocError, Global};
 use std::test::Fail;
@@ -151,6 +152,14 @@ fn lists(words: usize, longest: usize) -> usize {
     all
 }
 
+// Notes what of a text differs.
+fn note(wrong: &mut String, what: &str, text: &str) -> Result<(), AllocError> {
+    for piece in [what, " of ", text, "\n"] {
+        wrong.push_str(piece)?;
+    }
+    Ok(())
+}
+
 // The texts that go on from a first word with at most so many of the words, and at which a reader
 // and the plain program differ.
 fn differences(
@@ -164,13 +173,13 @@ fn differences(
     for n in 0..lists(words.len(), longest) {
         let text = nth(alloc, first, words, between, longest, n)?;
         if !same_lexemes(alloc, &text)? {
-            wrong.push_str(&format!(in alloc; "lexemes of {text}\n")?)?;
+            note(&mut wrong, "lexemes", &text)?;
         }
         if !same_front(alloc, &text)? {
-            wrong.push_str(&format!(in alloc; "front of {text}\n")?)?;
+            note(&mut wrong, "front", &text)?;
         }
         if !same_header(alloc, &text)? {
-            wrong.push_str(&format!(in alloc; "header of {text}\n")?)?;
+            note(&mut wrong, "header", &text)?;
         }
     }
     Ok(wrong)
@@ -200,7 +209,7 @@ fn plain_program(rt: HostRuntime) -> Result<(), Fail> {
             Some(given) => given,
             None => String::from_str(alloc, "none")?,
         };
-        assert_eq!(rt; given.as_str(), wanted, "at {text}");
+        equal_at(&rt, text, given.as_str(), wanted);
     }
     Ok(())
 }
@@ -218,11 +227,11 @@ const LISTS_OF_NUMBERS: [&str; 7] = [
 #[test]
 fn short_lists(rt: HostRuntime) -> Result<(), Fail> {
     let alloc = rt.alloc();
-    assert_eq!(rt; lists(9, 5), 66430);
+    equal(&rt, lists(9, 5), 66430);
     for kind in LISTS_OF_NUMBERS {
         let words = [kind, "point", "m", "empty", "(", ")", ",", "1", "1x"];
         let wrong = differences(alloc, "", &words, " ", 5)?;
-        assert_eq!(rt; wrong.as_str(), "");
+        equal(&rt, wrong.as_str(), "");
     }
     Ok(())
 }
@@ -241,7 +250,7 @@ fn longer_lists(rt: HostRuntime) -> Result<(), Fail> {
     let alloc = rt.alloc();
     for first in BEGINNINGS {
         let wrong = differences(alloc, first, &["(", ")", ",", "1 +-2", "empty"], " ", 6)?;
-        assert_eq!(rt; wrong.as_str(), "");
+        equal(&rt, wrong.as_str(), "");
     }
     Ok(())
 }
@@ -251,11 +260,11 @@ fn short_texts(rt: HostRuntime) -> Result<(), Fail> {
     let alloc = rt.alloc();
     let characters = ["1", "+", "-", ".", "a", "(", " ", "\0", "¾"];
     let wrong = differences(alloc, "", &characters, "", 5)?;
-    assert_eq!(rt; wrong.as_str(), "");
+    equal(&rt, wrong.as_str(), "");
     let pieces = ["Z", "m", "EMPTY", "(", " ", "\t", "empt", "\0", "\n"];
     for first in ["", " point", "LINEARRING", "MultiPolygonZ"] {
         let wrong = differences(alloc, first, &pieces, "", 4)?;
-        assert_eq!(rt; wrong.as_str(), "");
+        equal(&rt, wrong.as_str(), "");
     }
     Ok(())
 }

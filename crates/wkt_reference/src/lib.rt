@@ -4,4 +4,6 @@
 #[cfg(test)]
 mod against_reference;
 #[cfg(test)]
+mod asserts;
+#[cfg(test)]
 mod reference;

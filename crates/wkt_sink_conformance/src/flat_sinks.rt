@@ -1,5 +1,6 @@
 //! Flat values to writers, and from readers, which are slow or fail.
 
+use crate::asserts::equal;
 use crate::slow_sinks::{Slow, source};
 use std::alloc::Global;
 use std::io;
@@ -40,8 +41,8 @@ fn writes_bytewise<T: WktNum, G: ToWkt<T>>(
 ) -> Result<(), Fail> {
     let mut writer = Slow::new(1, 100);
     value.write_wkt(alloc, &mut writer)?;
-    assert_eq!(rt; writer.taken(), want);
-    assert_eq!(rt; writer.calls, 100usize.wrapping_sub(want.len()));
+    equal(rt, writer.taken(), want);
+    equal(rt, writer.calls, 100usize.wrapping_sub(want.len()));
     Ok(())
 }
 
@@ -54,33 +55,43 @@ fn one_byte_a_call(rt: HostRuntime) -> Result<(), Fail> {
     writes_bytewise(&rt, alloc, &rect, b"POLYGON((8 4,8 8,4 8,4 4,8 4))")
 }
 
+/// The value isn't written: the writer's pipe is broken, when it has taken that.
+fn breaks<G: ToWkt<Number>>(
+    rt: &impl Abort,
+    alloc: Global,
+    value: &G,
+    mut writer: Slow,
+    want: &[u8],
+) {
+    let answer = value.write_wkt(alloc, &mut writer);
+    equal(rt, io_kind(answer), Some(ErrorKind::BrokenPipe));
+    equal(rt, writer.taken(), want);
+}
+
 #[test]
-fn fails_at_each_call(rt: HostRuntime) -> Result<(), Fail> {
+fn fails_at_each_call(rt: HostRuntime) {
     let alloc = rt.alloc();
-    for k in 1..=14 {
-        let mut writer = Slow::new(1, k - 1);
-        let answer = point().write_wkt(alloc, &mut writer);
-        assert_eq!(rt; io_kind(answer), Some(ErrorKind::BrokenPipe));
-        assert_eq!(rt; writer.taken(), &TEXT[..k - 1]);
-        let mut writer = Slow::new(1, k - 1);
-        let answer = Geometry::from(point()).write_wkt(alloc, &mut writer);
-        assert_eq!(rt; io_kind(answer), Some(ErrorKind::BrokenPipe));
-        assert_eq!(rt; writer.taken(), &TEXT[..k - 1]);
+    for calls in 0..14 {
+        let want = &TEXT[..calls];
+        breaks(&rt, alloc, &point(), Slow::new(1, calls), want);
+        breaks(
+            &rt,
+            alloc,
+            &Geometry::from(point()),
+            Slow::new(1, calls),
+            want,
+        );
     }
-    let mut writer = Slow::new(5, 1);
-    let answer = point().write_wkt(alloc, &mut writer);
-    assert_eq!(rt; io_kind(answer), Some(ErrorKind::BrokenPipe));
-    assert_eq!(rt; writer.taken(), b"POINT".as_slice());
-    Ok(())
+    breaks(&rt, alloc, &point(), Slow::new(5, 1), b"POINT");
 }
 
 #[test]
 fn takes_nothing(rt: HostRuntime) -> Result<(), Fail> {
     let mut writer = Slow::new(0, 100);
     let answer = point().write_wkt(rt.alloc(), &mut writer);
-    assert_eq!(rt; io_kind(answer), Some(ErrorKind::WriteZero));
-    assert_eq!(rt; writer.taken().len(), 0);
-    assert_eq!(rt; writer.calls, 99);
+    equal(&rt, io_kind(answer), Some(ErrorKind::WriteZero));
+    equal(&rt, writer.taken().len(), 0);
+    equal(&rt, writer.calls, 99);
     Ok(())
 }
 
@@ -94,12 +105,12 @@ fn gathers_256_bytes(rt: HostRuntime) -> Result<(), Fail> {
     let line = LineString(coords);
     let mut writer = Slow::new(1000, 100);
     line.write_wkt(alloc, &mut writer)?;
-    assert_eq!(rt; writer.len, 411);
-    assert_eq!(rt; writer.calls, 98);
+    equal(&rt, writer.len, 411);
+    equal(&rt, writer.calls, 98);
     let mut writer = Slow::new(1000, 1);
     let answer = line.write_wkt(alloc, &mut writer);
-    assert_eq!(rt; io_kind(answer), Some(ErrorKind::BrokenPipe));
-    assert_eq!(rt; writer.len, 256);
+    equal(&rt, io_kind(answer), Some(ErrorKind::BrokenPipe));
+    equal(&rt, writer.len, 256);
     Ok(())
 }
 
@@ -112,8 +123,8 @@ fn gathers_pieces(rt: HostRuntime) -> Result<(), Fail> {
     assert!(rt; wrapper.write_str(&piece).is_ok());
     assert!(rt; wrapper.finish().is_ok());
     wrapper.into_writer();
-    assert_eq!(rt; writer.len, 256);
-    assert_eq!(rt; writer.calls, 99);
+    equal(&rt, writer.len, 256);
+    equal(&rt, writer.calls, 99);
     Ok(())
 }
 
@@ -124,9 +135,9 @@ fn reads_one_byte_a_call(rt: HostRuntime) -> Result<(), Fail> {
     let Ok(point) = Point::<Number>::try_from_wkt_reader(alloc, &mut reader) else {
         panic!(rt; "a point wasn't read");
     };
-    assert_eq!(rt; point.x().units(), 10_000_000);
-    assert_eq!(rt; point.y().units(), 20_000_000);
-    assert_eq!(rt; reader.rest.len(), 0);
+    equal(&rt, point.x().units(), 10_000_000);
+    equal(&rt, point.y().units(), 20_000_000);
+    equal(&rt, reader.rest.len(), 0);
     Ok(())
 }
 
@@ -138,8 +149,8 @@ fn reads_past_the_front(rt: HostRuntime) -> Result<(), Fail> {
     let Ok(line) = LineString::<i32>::try_from_wkt_reader(alloc, &mut reader) else {
         panic!(rt; "a line string wasn't read");
     };
-    assert_eq!(rt; line.0.len(), 2);
-    assert_eq!(rt; reader.rest.len(), 0);
+    equal(&rt, line.0.len(), 2);
+    equal(&rt, reader.rest.len(), 0);
     Ok(())
 }
 
@@ -150,42 +161,47 @@ fn reader_fails(rt: HostRuntime) -> Result<(), Fail> {
         Err(Error::Reader(e)) => assert!(rt; e.kind() == ErrorKind::Interrupted),
         _ => panic!(rt; "a reader that failed was answered otherwise"),
     }
-    assert_eq!(rt; reader.failures, 1);
+    equal(&rt, reader.failures, 1);
     Ok(())
 }
 
+/// Whether bytes are no text, however many of them come at once.
+fn is_no_text(alloc: Global, bytes: &[u8], step: usize) -> bool {
+    let mut reader = source(bytes, step.max(1), 100);
+    let geometry = Geometry::<Number>::try_from_wkt_reader(alloc, &mut reader);
+    let mut reader = source(bytes, step.max(1), 100);
+    let point = Point::<Number>::try_from_wkt_reader(alloc, &mut reader);
+    matches!(geometry, Err(Error::Utf8)) && matches!(point, Err(Error::Utf8))
+}
+
+const NO_TEXTS: [&[u8]; 3] = [b"POINT (1 2)\xc2", b"\xc2", b"LINESTRING(\xff"];
+
 #[test]
-fn bytes_that_are_no_text(rt: HostRuntime) -> Result<(), Fail> {
-    let alloc = rt.alloc();
-    for bytes in [
-        b"POINT (1 2)\xc2".as_slice(),
-        b"\xc2".as_slice(),
-        b"LINESTRING(\xff".as_slice(),
-    ] {
-        for step in [1usize, 1000] {
-            let answer = Geometry::<Number>::try_from_wkt_reader(
-                alloc,
-                &mut source(bytes, step, 100),
-            );
-            assert!(rt; matches!(answer, Err(Error::Utf8)));
-            let answer = Point::<Number>::try_from_wkt_reader(alloc, &mut source(bytes, step, 100));
-            assert!(rt; matches!(answer, Err(Error::Utf8)));
-        }
+fn bytes_that_are_no_text(rt: HostRuntime) {
+    for bytes in NO_TEXTS {
+        assert!(rt; is_no_text(rt.alloc(), bytes, 1));
+        assert!(rt; is_no_text(rt.alloc(), bytes, 1000));
     }
+}
+
+#[test]
+fn a_point_is_no_line(rt: HostRuntime) {
     let mut reader = source(b"POINT (1 2)", 4, 100);
-    match Line::<Number>::try_from_wkt_reader(alloc, &mut reader) {
+    match Line::<Number>::try_from_wkt_reader(rt.alloc(), &mut reader) {
         Err(Error::MismatchedGeometry { expected, found }) => {
-            assert_eq!(rt; expected, "Line");
-            assert_eq!(rt; found, "Point");
+            equal(&rt, (expected, found), ("Line", "Point"));
         }
         _ => panic!(rt; "a point became a line"),
     }
+}
+
+#[test]
+fn nothing_is_no_collection(rt: HostRuntime) {
     let mut reader = source(b"", 4, 100);
-    match GeometryCollection::<Number>::try_from_wkt_reader(alloc, &mut reader) {
-        Err(Error::InvalidWKT(message)) => assert_eq!(rt; message, "Invalid WKT format"),
+    match GeometryCollection::<Number>::try_from_wkt_reader(rt.alloc(), &mut reader) {
+        Err(Error::InvalidWKT(message)) => equal(&rt, message, "Invalid WKT format"),
         _ => panic!(rt; "nothing was read as a collection"),
     }
-    Ok(())
 }
 
 #[test]
@@ -193,14 +209,15 @@ fn errors_have_texts(rt: HostRuntime) -> Result<(), Fail> {
     let alloc = rt.alloc();
     let shape = ToWktError::Shape(WriteError::TooFewNumbers);
     let text = format!(in alloc; "{shape}")?;
-    assert_eq!(rt;
+    equal(
+        &rt,
         text.as_str(),
-        "A coordinate has fewer numbers than its dimension."
+        "A coordinate has fewer numbers than its dimension.",
     );
     let fault = io::Error::from(ErrorKind::WriteZero);
     let want = format!(in alloc; "{fault}")?;
     let fault = ToWktError::Io(fault);
     let text = format!(in alloc; "{fault}")?;
-    assert_eq!(rt; text.as_str(), want.as_str());
+    equal(&rt, text.as_str(), want.as_str());
     Ok(())
 }

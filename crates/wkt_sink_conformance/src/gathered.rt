@@ -1,6 +1,7 @@
 //! How a wrapper gathers text: the calls that it makes on a sink that counts them.
 ghost use Rattle.std.specs.Prelude.{◌≡◌};
 
+use crate::asserts::equal;
 use std::io;
 use std::io::ErrorKind;
 use std::test::Fail;
@@ -55,14 +56,14 @@ fn gathers_pieces(rt: HostRuntime) -> Result<(), Fail> {
             wrapper.write_str(PIECE)?;
         }
         let mut calls = wrapper.into_writer();
-        assert_eq!(rt; calls.lengths.as_slice(), before);
+        equal(&rt, calls.lengths.as_slice(), before);
         calls.lengths.clear();
         let mut wrapper = WriterWrapper::new(calls);
         for _ in 0..pieces {
             wrapper.write_str(PIECE)?;
         }
         wrapper.finish()?;
-        assert_eq!(rt; wrapper.into_writer().lengths.as_slice(), after);
+        equal(&rt, wrapper.into_writer().lengths.as_slice(), after);
     }
     Ok(())
 }
@@ -82,9 +83,10 @@ fn hands_a_long_piece_on_in_arrays(rt: HostRuntime) -> Result<(), Fail> {
     wrapper.write_str("(")?;
     wrapper.write_str(piece.as_str())?;
     wrapper.finish()?;
-    assert_eq!(rt;
+    equal(
+        &rt,
         wrapper.into_writer().lengths.as_slice(),
-        [256, 256, 129].as_slice()
+        [256, 256, 129].as_slice(),
     );
     Ok(())
 }

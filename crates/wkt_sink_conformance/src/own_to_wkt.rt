@@ -1,4 +1,5 @@
 //! A type of one's own that has `to_wkt` alone: its text comes by the bodies that `ToWkt` has.
+use crate::asserts::equal;
 use crate::slow_sinks::Slow;
 use std::alloc::{AllocError, Global};
 use std::io::ErrorKind;
@@ -52,19 +53,21 @@ fn written(alloc: Global, drawing: &Drawing) -> Result<String, Fail> {
     }
 }
 
+const WRITTEN: [(&str, &str); 3] = [
+    ("point z (1 2 3)", "POINT Z(1 2 3)"),
+    ("LINESTRING ZM EMPTY", "LINESTRING ZM EMPTY"),
+    (
+        "GEOMETRYCOLLECTION(POLYGON((0 0,1 0,0 1)), MULTIPOINT(1 2, EMPTY))",
+        "GEOMETRYCOLLECTION(POLYGON((0 0,1 0,0 1)),MULTIPOINT((1 2),EMPTY))",
+    ),
+];
+
 #[test]
 fn writes(rt: HostRuntime) -> Result<(), Fail> {
     let alloc = rt.alloc();
-    for (text, want) in [
-        ("point z (1 2 3)", "POINT Z(1 2 3)"),
-        ("LINESTRING ZM EMPTY", "LINESTRING ZM EMPTY"),
-        (
-            "GEOMETRYCOLLECTION(POLYGON((0 0,1 0,0 1)), MULTIPOINT(1 2, EMPTY))",
-            "GEOMETRYCOLLECTION(POLYGON((0 0,1 0,0 1)),MULTIPOINT((1 2),EMPTY))",
-        ),
-    ] {
+    for (text, want) in WRITTEN {
         let text = written(alloc, &drawing_of(alloc, text)?)?;
-        assert_eq!(rt; text.as_str(), want);
+        equal(&rt, text.as_str(), want);
     }
     Ok(())
 }
@@ -86,14 +89,19 @@ fn is_refused(alloc: Global, drawing: &Drawing) -> bool {
         && broken.failures == 0
 }
 
+/// A point and another under that header.
+fn with_short(alloc: Global, dimension: Dimension) -> Result<Wkt<i32>, AllocError> {
+    let members = vec![in alloc; short(Dimension::XY), short(dimension)]?;
+    Ok(Wkt::GeometryCollection(GeometryCollection::new(members, Dimension::XY)))
+}
+
 #[test]
 fn refuses(rt: HostRuntime) -> Result<(), Fail> {
     let alloc = rt.alloc();
     for dimension in [Dimension::XYZ, Dimension::XYM, Dimension::XYZM] {
         let told = short(dimension);
         assert!(rt; is_refused(alloc, &Drawing { told }));
-        let members = vec![in alloc; short(Dimension::XY), short(dimension)]?;
-        let told = Wkt::GeometryCollection(GeometryCollection::new(members, Dimension::XY));
+        let told = with_short(alloc, dimension)?;
         assert!(rt; is_refused(alloc, &Drawing { told }));
     }
     let told = short(Dimension::XY);
@@ -112,14 +120,14 @@ fn fails_with_the_sink(rt: HostRuntime) -> Result<(), Fail> {
             Err(ToWktError::Io(e)) => assert!(rt; e.kind() == ErrorKind::BrokenPipe),
             _ => assert!(rt; false),
         }
-        assert_eq!(rt; writer.taken(), &text.as_bytes()[..calls]);
-        assert_eq!(rt; writer.failures, 1);
+        equal(&rt, writer.taken(), &text.as_bytes()[..calls]);
+        equal(&rt, writer.failures, 1);
     }
     let mut writer = Slow::full(1, 4);
     match drawing.write_wkt(alloc, &mut writer) {
         Err(ToWktError::Io(e)) => assert!(rt; e.kind() == ErrorKind::WriteZero),
         _ => assert!(rt; false),
     }
-    assert_eq!(rt; writer.taken(), b"POIN".as_slice());
+    equal(&rt, writer.taken(), b"POIN".as_slice());
     Ok(())
 }

@@ -1,4 +1,5 @@
 //! Sources that give their bytes in pieces, and that fail between two.
+use crate::asserts::equal;
 use std::io;
 use std::io::ErrorKind;
 use std::test::Fail;
@@ -70,8 +71,8 @@ fn answers_pieces(rt: HostRuntime) -> Result<(), Fail> {
             Err(RunError::Write(_)) => "write",
             Err(RunError::Memory(_)) => "memory",
         };
-        assert_eq!(rt; ended, whole);
-        assert_eq!(rt; sink.into_inner().as_slice(), expected.as_bytes());
+        equal(&rt, ended, whole);
+        equal(&rt, sink.into_inner().as_slice(), expected.as_bytes());
     }
     Ok(())
 }

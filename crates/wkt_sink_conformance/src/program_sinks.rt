@@ -1,4 +1,5 @@
 //! What the program does over sinks and sources that are slow or fail.
+use crate::asserts::equal;
 use crate::slow_sinks::{Slow, source};
 use std::io::ErrorKind;
 use std::test::Fail;
@@ -27,8 +28,8 @@ fn answers_lines(rt: HostRuntime) -> Result<(), Fail> {
         let mut reader = source(input, 1000, 1000);
         let mut writer = Slow::new(1000, 1000);
         run(rt.alloc(), &mut reader, &mut writer)?;
-        assert_eq!(rt; writer.taken(), want);
-        assert_eq!(rt; reader.rest.len(), 0);
+        equal(&rt, writer.taken(), want);
+        equal(&rt, reader.rest.len(), 0);
     }
     Ok(())
 }
@@ -38,8 +39,8 @@ fn one_byte_a_call(rt: HostRuntime) -> Result<(), Fail> {
     let mut reader = source(INPUT, 1, 1000);
     let mut writer = Slow::new(1, 1000);
     run(rt.alloc(), &mut reader, &mut writer)?;
-    assert_eq!(rt; writer.taken(), OUTPUT);
-    assert_eq!(rt; writer.calls, 1000 - 67);
+    equal(&rt, writer.taken(), OUTPUT);
+    equal(&rt, writer.calls, 1000 - 67);
     Ok(())
 }
 
@@ -52,8 +53,8 @@ fn faults_of_the_writer(rt: HostRuntime) {
             Err(RunError::Write(e)) => assert!(rt; e.kind() == ErrorKind::BrokenPipe),
             _ => assert!(rt; false),
         }
-        assert_eq!(rt; writer.taken(), &OUTPUT[..calls]);
-        assert_eq!(rt; writer.failures, 1);
+        equal(&rt, writer.taken(), &OUTPUT[..calls]);
+        equal(&rt, writer.failures, 1);
     }
 }
 
@@ -66,8 +67,8 @@ fn a_full_writer(rt: HostRuntime) {
             Err(RunError::Write(e)) => assert!(rt; e.kind() == ErrorKind::WriteZero),
             _ => assert!(rt; false),
         }
-        assert_eq!(rt; writer.taken(), &OUTPUT[..calls]);
-        assert_eq!(rt; writer.failures, 1);
+        equal(&rt, writer.taken(), &OUTPUT[..calls]);
+        equal(&rt, writer.failures, 1);
     }
 }
 
@@ -80,9 +81,9 @@ fn faults_of_the_reader(rt: HostRuntime) {
             Err(RunError::Read(e)) => assert!(rt; e.kind() == ErrorKind::Interrupted),
             _ => assert!(rt; false),
         }
-        assert_eq!(rt; writer.len, 0);
-        assert_eq!(rt; writer.calls, 1000);
-        assert_eq!(rt; reader.failures, 1);
+        equal(&rt, writer.len, 0);
+        equal(&rt, writer.calls, 1000);
+        equal(&rt, reader.failures, 1);
     }
 }
 
@@ -94,10 +95,10 @@ fn over_whole_numbers(rt: HostRuntime) -> Result<(), Fail> {
     let mut reader = source(input, 1000, 1000);
     let mut writer = Slow::new(1000, 1000);
     run_over::<i64, _, _>(rt.alloc(), &mut reader, &mut writer)?;
-    assert_eq!(rt; writer.taken(), want);
+    equal(&rt, writer.taken(), want);
     let mut reader = source(input, 7, 1000);
     let mut writer = Slow::new(1000, 1000);
     stream_over::<i64, _, _>(rt.alloc(), &mut reader, &mut writer)?;
-    assert_eq!(rt; writer.taken(), want);
+    equal(&rt, writer.taken(), want);
     Ok(())
 }

@@ -1,10 +1,12 @@
 //! Lines read one by one, and answered by answers of one's own.
 ghost use Rattle.std.specs.Prelude.{◌≡◌};
 
-use crate::slow_sinks::{Slow, source};
+use crate::asserts::equal;
+use crate::slow_sinks::{Pieces, Slow, source};
 use std::alloc::{AllocError, Global};
 use std::io;
 use std::io::ErrorKind;
+use std::process::Abort;
 use std::test::Fail;
 use wkt::to_wkt::{ByteSource, ReadAllError, TextSink};
 use wkt_lines::{AnswerError, Canonical, Reply, RunError, line_end};
@@ -85,19 +87,31 @@ const INPUTS: [(&[u8], &[&[u8]], &[u8]); 6] = [
     ),
 ];
 
+/// The next line is that one.
+fn gives(rt: &impl Abort, lines: &mut Lines<Pieces<'_>>, want: &[u8]) -> Result<(), ReadAllError> {
+    assert!(rt; lines.advance()?);
+    equal(rt, lines.line(), want);
+    Ok(())
+}
+
+/// No line is left.
+fn ends(rt: &impl Abort, lines: &mut Lines<Pieces<'_>>) -> Result<(), ReadAllError> {
+    assert!(rt; !lines.advance()?);
+    equal(rt, lines.line().len(), 0);
+    Ok(())
+}
+
 #[test]
 fn gives_lines(rt: HostRuntime) -> Result<(), Fail> {
     for (input, want, _) in INPUTS {
         for step in [1usize, 7, 1000] {
             let mut lines = Lines::new(rt.alloc(), source(input, step.max(1), 1000));
             for line in want {
-                assert!(rt; lines.advance()?);
-                assert_eq!(rt; lines.line(), *line);
+                gives(&rt, &mut lines, line)?;
             }
-            assert!(rt; !lines.advance()?);
-            assert!(rt; !lines.advance()?);
-            assert_eq!(rt; lines.line().len(), 0);
-            assert_eq!(rt; lines.into_source().rest.len(), 0);
+            ends(&rt, &mut lines)?;
+            ends(&rt, &mut lines)?;
+            equal(&rt, lines.into_source().rest.len(), 0);
         }
     }
     Ok(())
@@ -116,13 +130,13 @@ fn goes_on_after_a_fault(rt: HostRuntime) {
         for _ in 0..200 {
             match lines.advance() {
                 Ok(true) => match left.next() {
-                    Some(line) => assert_eq!(rt; lines.line(), *line),
+                    Some(line) => equal(&rt, lines.line(), *line),
                     None => assert!(rt; false),
                 },
                 Ok(false) => break,
                 Err(ReadAllError::Read(error)) => {
                     assert!(rt; error.kind() == ErrorKind::Interrupted);
-                    assert_eq!(rt; lines.line().len(), 0);
+                    equal(&rt, lines.line().len(), 0);
                 }
                 Err(ReadAllError::Memory(_)) => assert!(rt; false),
             }
@@ -131,23 +145,26 @@ fn goes_on_after_a_fault(rt: HostRuntime) {
     }
 }
 
+/// A line of that size, an empty one and a short one are given, so many bytes a call.
+fn gives_line_of(rt: &impl Abort, alloc: Global, size: usize, step: usize) -> Result<(), Fail> {
+    let mut input = vec![in alloc; b'a'; size]?;
+    input.extend_from_slice(b"\n\nb")?;
+    let mut lines = Lines::new(alloc, source(&input, step.max(1), 1000));
+    assert!(rt; lines.advance()?);
+    equal(rt, lines.line().len(), size);
+    assert!(rt; input.starts_with(lines.line()));
+    gives(rt, &mut lines, b"")?;
+    gives(rt, &mut lines, b"b")?;
+    ends(rt, &mut lines)?;
+    Ok(())
+}
+
 // A reader that gives up above a size fails here.
 #[test]
 fn gives_lines_of_ample_size(rt: HostRuntime) -> Result<(), Fail> {
-    let alloc = rt.alloc();
     for size in [131_071, 131_072, 131_073, 400_000] {
-        let mut input = vec![in alloc; b'a'; size]?;
-        input.extend_from_slice(b"\n\nb")?;
         for step in [1000usize, 100_000] {
-            let mut lines = Lines::new(alloc, source(&input, step.max(1), 1000));
-            assert!(rt; lines.advance()?);
-            assert_eq!(rt; lines.line().len(), size);
-            assert!(rt; input.starts_with(lines.line()));
-            assert!(rt; lines.advance()?);
-            assert_eq!(rt; lines.line().len(), 0);
-            assert!(rt; lines.advance()?);
-            assert_eq!(rt; lines.line(), b"b".as_slice());
-            assert!(rt; !lines.advance()?);
+            gives_line_of(&rt, rt.alloc(), size, step)?;
         }
     }
     Ok(())
@@ -155,10 +172,10 @@ fn gives_lines_of_ample_size(rt: HostRuntime) -> Result<(), Fail> {
 
 #[test]
 fn lines_end(rt: HostRuntime) {
-    assert_eq!(rt; line_end(b""), 0);
-    assert_eq!(rt; line_end(b"\n"), 0);
-    assert_eq!(rt; line_end(b"POINT(1 2)\nPOINT(3 4)"), 10);
-    assert_eq!(rt; line_end(&[b'a'; 100]), 100);
+    equal(&rt, line_end(b""), 0);
+    equal(&rt, line_end(b"\n"), 0);
+    equal(&rt, line_end(b"POINT(1 2)\nPOINT(3 4)"), 10);
+    equal(&rt, line_end(&[b'a'; 100]), 100);
 }
 
 #[test]
@@ -169,8 +186,8 @@ fn answers_by_a_word(rt: HostRuntime) -> Result<(), Fail> {
             let mut reader = source(input, step.max(1), 1000);
             let mut writer = Slow::new(1000, 1000);
             stream_with(rt.alloc(), &word, &mut reader, &mut writer)?;
-            assert_eq!(rt; writer.taken(), want);
-            assert_eq!(rt; reader.rest.len(), 0);
+            equal(&rt, writer.taken(), want);
+            equal(&rt, reader.rest.len(), 0);
         }
     }
     Ok(())
@@ -188,8 +205,8 @@ fn faults_of_a_writer_of_answers(rt: HostRuntime) {
             Err(RunError::Write(error)) => assert!(rt; error.kind() == ErrorKind::BrokenPipe),
             _ => assert!(rt; false),
         }
-        assert_eq!(rt; writer.taken(), &SEEN[..calls]);
-        assert_eq!(rt; writer.failures, 1);
+        equal(&rt, writer.taken(), &SEEN[..calls]);
+        equal(&rt, writer.failures, 1);
     }
 }
 
@@ -213,8 +230,8 @@ fn faults_of_a_reader_of_lines(rt: HostRuntime) {
             Err(RunError::Read(error)) => assert!(rt; error.kind() == ErrorKind::Interrupted),
             _ => assert!(rt; false),
         }
-        assert_eq!(rt; writer.taken(), want);
-        assert_eq!(rt; reader.failures, 1);
+        equal(&rt, writer.taken(), want);
+        equal(&rt, reader.failures, 1);
     }
 }
 
@@ -234,8 +251,8 @@ fn refused_growths_of_answers(rt: HostRuntime) {
             let mut writer = Slow::new(1000, 1000);
             let answer = stream_with(rt.alloc(), &word, &mut reader, &mut writer);
             assert!(rt; matches!(answer, Err(RunError::Memory(_))));
-            assert_eq!(rt; writer.taken(), want);
-            assert_eq!(rt; writer.failures, 0);
+            equal(&rt, writer.taken(), want);
+            equal(&rt, writer.failures, 0);
         }
     }
 }
@@ -252,6 +269,6 @@ fn answers_by_geometries(rt: HostRuntime) -> Result<(), Fail> {
         &mut writer,
     )?;
     let want: &[u8] = b"POINT(1 2)\nrefused\nrefused\nPOINT(1 -9223372036854775808)\n";
-    assert_eq!(rt; writer.taken(), want);
+    equal(&rt, writer.taken(), want);
     Ok(())
 }

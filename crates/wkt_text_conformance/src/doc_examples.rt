@@ -1,4 +1,5 @@
 //! The examples of the doc comments, line for line, with what they give.
+use crate::asserts::equal;
 use serde_json::Value;
 use std::alloc::Global;
 use std::test::Fail;
@@ -16,13 +17,14 @@ use wkt::{
 fn reads(rt: HostRuntime) -> Result<(), Fail> {
     let alloc = rt.alloc();
     let geometry = Wkt::<Decimal<6>>::from_str(alloc, "linestring z (1 2 3, 4 5.50 6)")?;
-    assert_eq!(rt;
+    equal(
+        &rt,
         geometry.to_string(alloc)?.as_str(),
-        "LINESTRING Z(1 2 3,4 5.5 6)"
+        "LINESTRING Z(1 2 3,4 5.5 6)",
     );
     let (first, end) = Wkt::<i32>::read_front(alloc, "POINT(1 2) POINT(3 4)")?;
-    assert_eq!(rt; first.to_string(alloc)?.as_str(), "POINT(1 2)");
-    assert_eq!(rt; end, 10);
+    equal(&rt, first.to_string(alloc)?.as_str(), "POINT(1 2)");
+    equal(&rt, end, 10);
     Ok(())
 }
 
@@ -36,19 +38,20 @@ fn flat_of_whole(alloc: Global, text: &str) -> Result<String, AnyError> {
 fn reads_whole(rt: HostRuntime) -> Result<(), Fail> {
     let alloc = rt.alloc();
     let geometry = read_whole::<i32>(alloc, " POINT(1 2)\n")?;
-    assert_eq!(rt; geometry.to_string(alloc)?.as_str(), "POINT(1 2)");
+    equal(&rt, geometry.to_string(alloc)?.as_str(), "POINT(1 2)");
     assert!(rt;
         matches!(
             read_whole::<i32>(alloc, "POINT(1 2) x"),
             Err(WholeError::Rest(10))
         )
     );
-    assert_eq!(rt;
+    equal(
+        &rt,
         flat_of_whole(alloc, "POINT Z(1 2 3) ")?.as_str(),
-        "POINT(1 2)"
+        "POINT(1 2)",
     );
     match flat_of_whole(alloc, "POINT(1 2) x") {
-        Err(AnyError::Whole(WholeError::Rest(at))) => assert_eq!(rt; at, 10),
+        Err(AnyError::Whole(WholeError::Rest(at))) => equal(&rt, at, 10),
         _ => assert!(rt; false),
     }
     Ok(())
@@ -68,10 +71,10 @@ fn compares(rt: HostRuntime) -> Result<(), Fail> {
 fn reads_flat(rt: HostRuntime) -> Result<(), Fail> {
     let alloc = rt.alloc();
     let geometry = Geometry::<Decimal<6>>::try_from_wkt_str(alloc, "POINT (10 20)")?;
-    assert_eq!(rt; geometry.wkt_string(alloc)?.as_str(), "POINT(10 20)");
+    equal(&rt, geometry.wkt_string(alloc)?.as_str(), "POINT(10 20)");
     let flat = Geometry::<i32>::try_from_wkt_str(alloc, "POINT M(1 2 9)")?;
-    assert_eq!(rt; flat.wkt_string(alloc)?.as_str(), "POINT(1 2)");
-    assert_eq!(rt; of_bytes(alloc, "point(1 2)")?.as_str(), "POINT(1 2)");
+    equal(&rt, flat.wkt_string(alloc)?.as_str(), "POINT(1 2)");
+    equal(&rt, of_bytes(alloc, "point(1 2)")?.as_str(), "POINT(1 2)");
     Ok(())
 }
 
@@ -93,16 +96,21 @@ fn infers(rt: HostRuntime) -> Result<(), Fail> {
 fn writes(rt: HostRuntime) -> Result<(), Fail> {
     let alloc = rt.alloc();
     let rect = Rect::<i32>::new(Coord { x: 4, y: 4 }, Coord { x: 8, y: 8 });
-    assert_eq!(rt;
+    equal(
+        &rt,
         rect.wkt_string(alloc)?.as_str(),
-        "POLYGON((8 4,8 8,4 8,4 4,8 4))"
+        "POLYGON((8 4,8 8,4 8,4 4,8 4))",
     );
     let mut bytes = Vec::new(alloc);
     rect.write_wkt(alloc, &mut Counted::new(&mut bytes))?;
-    assert_eq!(rt; str::from_utf8(&bytes)?, "POLYGON((8 4,8 8,4 8,4 4,8 4))");
+    equal(
+        &rt,
+        str::from_utf8(&bytes)?,
+        "POLYGON((8 4,8 8,4 8,4 4,8 4))",
+    );
     let mut out = String::new(alloc);
     push_geometry(&mut out, &rect)?;
-    assert_eq!(rt; out.as_str(), "POLYGON((8 4,8 8,4 8,4 4,8 4))");
+    equal(&rt, out.as_str(), "POLYGON((8 4,8 8,4 8,4 4,8 4))");
     Ok(())
 }
 
@@ -111,7 +119,7 @@ fn converts(rt: HostRuntime) -> Result<(), Fail> {
     let alloc = rt.alloc();
     let wkt = Wkt::<i32>::from_str(alloc, "POINT Z(1 2 3)")?;
     let flat = try_into_geometry(alloc, &wkt)?;
-    assert_eq!(rt; flat.wkt_string(alloc)?.as_str(), "POINT(1 2)");
+    equal(&rt, flat.wkt_string(alloc)?.as_str(), "POINT(1 2)");
     Ok(())
 }
 
@@ -120,7 +128,7 @@ fn reads_json(rt: HostRuntime) -> Result<(), Fail> {
     let alloc = rt.alloc();
     let value = Value::from_str(alloc, "\"POINT (42 3.14)\"")?;
     let point = wkt_from_value::<Decimal<6>>(alloc, &value)?;
-    assert_eq!(rt; point.to_string(alloc)?.as_str(), "POINT(42 3.14)");
+    equal(&rt, point.to_string(alloc)?.as_str(), "POINT(42 3.14)");
     Ok(())
 }
 
@@ -134,18 +142,23 @@ fn flat_text(alloc: Global, text: &str) -> Result<String, AnyError> {
 #[test]
 fn one_error(rt: HostRuntime) -> Result<(), Fail> {
     let alloc = rt.alloc();
-    assert_eq!(rt; flat_text(alloc, "POINT Z(1 2 3)")?.as_str(), "POINT(1 2)");
+    equal(
+        &rt,
+        flat_text(alloc, "POINT Z(1 2 3)")?.as_str(),
+        "POINT(1 2)",
+    );
     match flat_text(alloc, "POINT(1)") {
         Err(AnyError::Read(ReadError::Text(message))) => {
-            assert_eq!(rt; message, "Missing closing parenthesis for type");
+            equal(&rt, message, "Missing closing parenthesis for type");
         }
         _ => assert!(rt; false),
     }
     match flat_text(alloc, "MULTIPOINT(EMPTY)") {
         Err(AnyError::Convert(error)) => {
-            assert_eq!(rt;
+            equal(
+                &rt,
                 error.to_string(alloc)?.as_str(),
-                "The WKT Point was empty, but geo_type::Points cannot be empty"
+                "The WKT Point was empty, but geo_type::Points cannot be empty",
             );
         }
         _ => assert!(rt; false),

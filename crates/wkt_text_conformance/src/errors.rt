@@ -1,4 +1,5 @@
 //! The texts of the errors of writing.
+use crate::asserts::equal;
 use std::alloc::AllocError;
 use std::fmt;
 use std::test::Fail;
@@ -26,7 +27,7 @@ fn why_a_geometry_is_not_written(rt: HostRuntime) -> Result<(), Fail> {
         ),
         (Error::Memory(AllocError), "out of memory"),
     ] {
-        assert_eq!(rt; error.to_string(alloc)?.as_str(), text);
+        equal(&rt, error.to_string(alloc)?.as_str(), text);
     }
     Ok(())
 }

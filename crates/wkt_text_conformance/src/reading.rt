@@ -1,4 +1,5 @@
 //! What is read, and what of the text was taken.
+use crate::asserts::equal;
 use std::alloc::Global;
 use std::test::Fail;
 use wkt::tokenizer::{PeekableTokens, Token, Tokens};
@@ -104,25 +105,27 @@ fn peeked(tokens: &mut PeekableTokens<'_, i32>) -> Option<i32> {
 #[test]
 fn gives_lexemes(rt: HostRuntime) {
     let mut tokens = Tokens::<Decimal<6>>::from_str(".4 -2");
-    assert_eq!(rt;
+    equal(
+        &rt,
         tokens.next(),
-        Some(Ok(Token::Number(Decimal::from_units(400000))))
+        Some(Ok(Token::Number(Decimal::from_units(400000)))),
     );
-    assert_eq!(rt; (tokens.end(), tokens.taken()), (2, 3));
-    assert_eq!(rt;
+    equal(&rt, (tokens.end(), tokens.taken()), (2, 3));
+    equal(
+        &rt,
         tokens.next(),
-        Some(Ok(Token::Number(Decimal::from_units(-2000000))))
+        Some(Ok(Token::Number(Decimal::from_units(-2000000)))),
     );
-    assert_eq!(rt; tokens.next(), None);
+    equal(&rt, tokens.next(), None);
     let mut tokens = PeekableTokens::new(Tokens::<i32>::from_str("4.2p 7(¾"));
-    assert_eq!(rt; tokens.next(), Some(Err(BAD_NUMBER)));
-    assert_eq!(rt; peeked(&mut tokens), Some(7));
-    assert_eq!(rt; (tokens.end(), tokens.taken()), (4, 7));
-    assert_eq!(rt; tokens.next(), Some(Ok(Token::Number(7))));
-    assert_eq!(rt; tokens.next(), Some(Ok(Token::ParenOpen)));
-    assert_eq!(rt; tokens.next(), Some(Ok(Token::Word("¾"))));
-    assert_eq!(rt; peeked(&mut tokens), None);
-    assert_eq!(rt; tokens.next(), None);
+    equal(&rt, tokens.next(), Some(Err(BAD_NUMBER)));
+    equal(&rt, peeked(&mut tokens), Some(7));
+    equal(&rt, (tokens.end(), tokens.taken()), (4, 7));
+    equal(&rt, tokens.next(), Some(Ok(Token::Number(7))));
+    equal(&rt, tokens.next(), Some(Ok(Token::ParenOpen)));
+    equal(&rt, tokens.next(), Some(Ok(Token::Word("¾"))));
+    equal(&rt, peeked(&mut tokens), None);
+    equal(&rt, tokens.next(), None);
 }
 
 // The texts of all geometries of a text, each read where the one before it ends.
@@ -143,7 +146,7 @@ fn reads_one_front_after_the_other(rt: HostRuntime) -> Result<(), Fail> {
     let alloc = rt.alloc();
     let text = "point ( +1 2 ) Linestring z empty MULTIPOINT((1 2),3 4)";
     let want = "POINT(1 2);LINESTRING Z EMPTY;MULTIPOINT((1 2),(3 4));";
-    assert_eq!(rt; rewritten(alloc, text)?.as_str(), want);
+    equal(&rt, rewritten(alloc, text)?.as_str(), want);
     assert!(rt; rewritten(alloc, "POINT(1 2) x").is_err());
     Ok(())
 }
@@ -153,12 +156,12 @@ fn goes_on_after_a_geometry(rt: HostRuntime) -> Result<(), Fail> {
     let alloc = rt.alloc();
     let mut tokens = PeekableTokens::new(Tokens::from_str("POINT(1 2)LINESTRING EMPTY x"));
     assert!(rt; Wkt::<i32>::read_tokens(alloc, &mut tokens).is_ok());
-    assert_eq!(rt; tokens.end(), 10);
+    equal(&rt, tokens.end(), 10);
     assert!(rt; Wkt::<i32>::read_tokens(alloc, &mut tokens).is_ok());
-    assert_eq!(rt; tokens.end(), 26);
+    equal(&rt, tokens.end(), 26);
     for want in ["Invalid type encountered", "Invalid WKT format"] {
         match Wkt::<i32>::read_tokens(alloc, &mut tokens) {
-            Err(ReadError::Text(message)) => assert_eq!(rt; message, want),
+            Err(ReadError::Text(message)) => equal(&rt, message, want),
             _ => return Err(Fail::from("read")),
         }
     }
@@ -170,9 +173,9 @@ fn goes_on_after_a_geometry(rt: HostRuntime) -> Result<(), Fail> {
 fn goes_on_after_a_fault(rt: HostRuntime) -> Result<(), Fail> {
     let mut tokens = PeekableTokens::new(Tokens::<i32>::from_str("POLYGON((1 2,x),3 4"));
     match Wkt::<i32>::read_tokens(rt.alloc(), &mut tokens) {
-        Err(ReadError::Text(message)) => assert_eq!(rt; message, NO_CLOSING),
+        Err(ReadError::Text(message)) => equal(&rt, message, NO_CLOSING),
         _ => return Err(Fail::from("read")),
     }
-    assert_eq!(rt; tokens.next(), Some(Ok(Token::Number(3))));
+    equal(&rt, tokens.next(), Some(Ok(Token::Number(3))));
     Ok(())
 }

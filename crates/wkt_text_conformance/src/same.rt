@@ -1,4 +1,5 @@
 //! Geometries that are one, in whatever way they are put together.
+use crate::asserts::equal;
 use std::alloc::{AllocError, Global};
 use std::test::Fail;
 use wkt::types::{Coord, Dimension, GeometryCollection, LineString};
@@ -70,9 +71,9 @@ fn spare_numbers(rt: HostRuntime) -> Result<(), Fail> {
     for ((z, m, dim), (other_z, other_m, other_dim), same) in SPARE {
         let one = line(alloc, z, m, dim)?;
         let other = line(alloc, other_z, other_m, other_dim)?;
-        assert_eq!(rt; same_geometry(&one, &other), same);
-        let equal = one.into_canonical() == other.into_canonical();
-        assert_eq!(rt; equal, same);
+        equal(&rt, same_geometry(&one, &other), same);
+        let alike = one.into_canonical() == other.into_canonical();
+        equal(&rt, alike, same);
     }
     Ok(())
 }
@@ -123,7 +124,7 @@ fn canonical_geometries(rt: HostRuntime) -> Result<(), Fail> {
         let second = Wkt::<i32>::from_str(alloc, other)?;
         assert!(rt; first != second, "at {one}");
         let canonical = first.into_canonical();
-        assert_eq!(rt; canonical.to_string(alloc)?.as_str(), *other);
+        equal(&rt, canonical.to_string(alloc)?.as_str(), *other);
         assert!(rt; canonical == second, "at {one}");
         assert!(rt; second.into_canonical() == canonical, "at {one}");
     }

@@ -1,4 +1,5 @@
 //! Texts that are deep or long.
+use crate::asserts::equal;
 use std::alloc::{AllocError, Global};
 use std::process::Abort;
 use std::test::Fail;
@@ -33,15 +34,16 @@ fn nested(alloc: Global, opened: usize, closed: usize) -> Result<String, AllocEr
 fn depth(rt: HostRuntime) -> Result<(), Fail> {
     let alloc = rt.alloc();
     let text = nested(alloc, 300, 300)?;
-    assert_eq!(rt; text.len(), 6010);
+    equal(&rt, text.len(), 6010);
     assert!(rt; gives(alloc, &text)?.as_str() == text.as_str());
     let open = nested(alloc, 300, 299)?;
-    assert_eq!(rt; gives(alloc, &open)?.as_str(), NO_CLOSING);
+    equal(&rt, gives(alloc, &open)?.as_str(), NO_CLOSING);
     for text in [text.as_str(), open.as_str()] {
         let (kind, dimension) = infer_type(alloc, text)?;
-        assert_eq!(rt;
+        equal(
+            &rt,
             format!(in alloc; "{kind:?} {dimension:?}")?.as_str(),
-            "GeometryCollection XY"
+            "GeometryCollection XY",
         );
     }
     Ok(())
@@ -102,7 +104,7 @@ fn conversions_at_any_depth(rt: HostRuntime) -> Result<(), Fail> {
     let text = nested(alloc, 200_000, 200_000)?;
     let flat = Geometry::<i32>::try_from_wkt_str(alloc, &text)?;
     let back = flat.to_wkt(alloc)?;
-    assert_eq!(rt; levels(&back, 200_001), 200_000);
+    equal(&rt, levels(&back, 200_001), 200_000);
     Ok(())
 }
 
@@ -169,9 +171,9 @@ fn long_numbers(rt: HostRuntime) -> Result<(), Fail> {
     let alloc = rt.alloc();
     let zeros = "0".repeat(alloc, 100000)?;
     let text = format!(in alloc; "POINT({zeros}1 0.5{zeros})")?;
-    assert_eq!(rt; gives(alloc, &text)?.as_str(), "POINT(1 0.5)");
+    equal(&rt, gives(alloc, &text)?.as_str(), "POINT(1 0.5)");
     let word = "A".repeat(alloc, 100000)?;
-    assert_eq!(rt; gives(alloc, &word)?.as_str(), NO_KIND);
+    equal(&rt, gives(alloc, &word)?.as_str(), NO_KIND);
     Ok(())
 }
 

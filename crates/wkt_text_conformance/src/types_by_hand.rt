@@ -1,4 +1,5 @@
 //! Values that are made by hand, displayed, copied and compared.
+use crate::asserts::equal;
 use std::alloc::{AllocError, Global};
 use std::process::Abort;
 use std::test::Fail;
@@ -30,14 +31,14 @@ fn line_string(alloc: Global, numbers: &[i32]) -> Result<LineString<i32>, AllocE
 /// The geometry is displayed so; `none` stands for one that can't be written.
 fn shows(rt: &impl Abort, alloc: Global, wkt: &Wkt<i32>, want: &str) {
     match wkt.to_string(alloc) {
-        Ok(text) => assert_eq!(rt; text.as_str(), want),
-        Err(_) => assert_eq!(rt; "none", want),
+        Ok(text) => equal(rt, text.as_str(), want),
+        Err(_) => equal(rt, "none", want),
     }
 }
 
 #[test]
 fn without_a_dimension_named(rt: HostRuntime) {
-    assert_eq!(rt; Dimension::default(), Dimension::XY);
+    equal(&rt, Dimension::default(), Dimension::XY);
 }
 
 #[test]
@@ -118,9 +119,10 @@ fn collections(rt: HostRuntime) -> Result<(), Fail> {
     let first = Wkt::from(Point::from_coord(xy(1, 2)));
     let second = Wkt::from(Point::from_coord(measured));
     let both = GeometryCollection::new(vec![in alloc; first, second]?, Dimension::XYZ);
-    assert_eq!(rt;
+    equal(
+        &rt,
         both.to_string(alloc)?.as_str(),
-        "GEOMETRYCOLLECTION Z(POINT(1 2),POINT M(1 2 3))"
+        "GEOMETRYCOLLECTION Z(POINT(1 2),POINT M(1 2 3))",
     );
     shows(
         &rt,
@@ -192,7 +194,11 @@ fn options_change_nothing(rt: HostRuntime) -> Result<(), Fail> {
         m: Some(Decimal::from_units(10_000_000)),
     });
     let text = format!(in rt.alloc(); "<{point:>60.2}>")?;
-    assert_eq!(rt; text.as_str(), "<POINT ZM(10.12345 20.67891 -32.56455 10)>");
+    equal(
+        &rt,
+        text.as_str(),
+        "<POINT ZM(10.12345 20.67891 -32.56455 10)>",
+    );
     Ok(())
 }
 
@@ -215,7 +221,7 @@ fn copies_are_equal(rt: HostRuntime) -> Result<(), Fail> {
     let differs = deep != other;
     assert!(rt; same);
     assert!(rt; differs);
-    assert_eq!(rt; copy.to_string(alloc)?.len(), 300 * 22 + 19);
+    equal(&rt, copy.to_string(alloc)?.len(), 300 * 22 + 19);
     Ok(())
 }
 
@@ -231,7 +237,7 @@ fn long_copies(rt: HostRuntime) -> Result<(), Fail> {
         let copy = line.try_clone(alloc)?;
         let same = line == copy;
         assert!(rt; same);
-        assert_eq!(rt; copy.coords().len(), n);
+        equal(&rt, copy.coords().len(), n);
     }
     Ok(())
 }

@@ -1,6 +1,8 @@
 //! The callers of `wkt_uses`, each called.
+use crate::asserts::{equal, equal_at};
 use serde_json::Value;
 use std::alloc::Global;
+use std::process::Abort;
 use std::test::Fail;
 use wkt::deserialize::ValueError;
 use wkt::geo_traits::{Dimensions, GeometryTrait};
@@ -36,14 +38,15 @@ fn writes_members(rt: HostRuntime) -> Result<(), Fail> {
         header: Dimensions::Xy,
         figures,
     };
-    assert_eq!(rt; count_members(&map), 2);
+    equal(&rt, count_members(&map), 2);
     let mut out = String::new(alloc);
     let mut sink = CountedText::new(&mut out);
     write_members(&mut sink, &map)?;
     sink.into_writer();
-    assert_eq!(rt;
+    equal(
+        &rt,
         out.as_str(),
-        "GEOMETRYCOLLECTION Z EMPTY\nGEOMETRYCOLLECTION EMPTY\n"
+        "GEOMETRYCOLLECTION Z EMPTY\nGEOMETRYCOLLECTION EMPTY\n",
     );
     Ok(())
 }
@@ -68,11 +71,11 @@ fn finds_members(rt: HostRuntime) -> Result<(), Fail> {
 fn reads_all(rt: HostRuntime) -> Result<(), Fail> {
     let alloc = rt.alloc();
     let (all, rest) = every_geometry::<i32>(alloc, "POINT(1 2) point empty\nLINESTRING(1 2)x")?;
-    assert_eq!(rt; all.len(), 3);
-    assert_eq!(rt; rest, "x");
+    equal(&rt, all.len(), 3);
+    equal(&rt, rest, "x");
     let mut tokens = PeekableTokens::new(Tokens::from_str("POINT(1 2) POINT EMPTY "));
     let all = every_geometry_of_stream::<i32>(alloc, &mut tokens)?;
-    assert_eq!(rt; all.len(), 2);
+    equal(&rt, all.len(), 2);
     let mut tokens = PeekableTokens::new(Tokens::from_str("POINT(1 2) x"));
     assert!(rt; every_geometry_of_stream::<i32>(alloc, &mut tokens).is_err());
     Ok(())
@@ -97,9 +100,23 @@ fn copied(alloc: Global, text: &[u8]) -> Result<Vec<u8>, CopyError> {
 fn copies(rt: HostRuntime) -> Result<(), Fail> {
     let alloc = rt.alloc();
     let text = copied(alloc, b"POLYGON Z ((0 0 1, 4 0 2, 2 4 3))")?;
-    assert_eq!(rt; text.as_slice(), b"POLYGON((0 0,4 0,2 4,0 0))".as_slice());
+    equal(
+        &rt,
+        text.as_slice(),
+        b"POLYGON((0 0,4 0,2 4,0 0))".as_slice(),
+    );
     assert!(rt; copied(alloc, b"POINT (1 2)").is_err());
     Ok(())
+}
+
+/// The text of the geometry in a field, or a mark of why there is none.
+fn field(alloc: Global, document: &Value, name: &str) -> Result<String, Fail> {
+    match geometry_in::<i32>(alloc, document, name) {
+        Some(Ok(geometry)) => Ok(geometry.to_string(alloc)?),
+        Some(Err(ValueError::NotAString)) => Ok(String::from_str(alloc, "?")?),
+        Some(Err(ValueError::Fault(_))) => Ok(String::from_str(alloc, "!")?),
+        None => Ok(String::new(alloc)),
+    }
 }
 
 #[test]
@@ -108,13 +125,7 @@ fn reads_fields(rt: HostRuntime) -> Result<(), Fail> {
     let json = "{\"at\":\"POINT (4 2)\",\"id\":7,\"name\":\"x\"}";
     let document = Value::from_str(alloc, json)?;
     for (name, want) in [("at", "POINT(4 2)"), ("id", "?"), ("name", "!"), ("to", "")] {
-        let text = match geometry_in::<i32>(alloc, &document, name) {
-            Some(Ok(geometry)) => geometry.to_string(alloc)?,
-            Some(Err(ValueError::NotAString)) => String::from_str(alloc, "?")?,
-            Some(Err(ValueError::Fault(_))) => String::from_str(alloc, "!")?,
-            None => String::new(alloc),
-        };
-        assert_eq!(rt; text.as_str(), want);
+        equal(&rt, field(alloc, &document, name)?.as_str(), want);
     }
     Ok(())
 }
@@ -125,7 +136,7 @@ fn keys(rt: HostRuntime) -> Result<(), Fail> {
         start: Coord { x: 3u8, y: 4 },
         end: Coord { x: 5, y: 6 },
     };
-    assert_eq!(rt; key(rt.alloc(), &line)?.as_str(), "LINESTRING(3 4,5 6)");
+    equal(&rt, key(rt.alloc(), &line)?.as_str(), "LINESTRING(3 4,5 6)");
     Ok(())
 }
 
@@ -139,16 +150,67 @@ const FLAT_KEYS: [(&str, &str); 4] = [
     ),
 ];
 
+/// The key of a flat geometry, and whether it reads back as that one.
+fn key_of(alloc: Global, geometry: &Geometry<Decimal<6>>) -> Result<(String, bool), Fail> {
+    let key = flat_key(alloc, geometry)?;
+    let reads_back = Geometry::try_from_wkt_str(alloc, &key)? == *geometry;
+    Ok((key, reads_back))
+}
+
 #[test]
 fn flat_keys(rt: HostRuntime) -> Result<(), Fail> {
     let alloc = rt.alloc();
     for (text, want) in &FLAT_KEYS {
         let geometry = Geometry::<Decimal<6>>::try_from_wkt_str(alloc, text)?;
-        let key = flat_key(alloc, &geometry)?;
-        assert_eq!(rt; key.as_str(), *want);
-        assert!(rt; Geometry::try_from_wkt_str(alloc, &key)? == geometry);
+        let (key, reads_back) = key_of(alloc, &geometry)?;
+        equal(&rt, key.as_str(), *want);
+        assert!(rt; reads_back, "{key}");
     }
     Ok(())
+}
+
+/// A page with room for so many bytes.
+fn page(alloc: Global, room: usize) -> Page {
+    Page {
+        text: Vec::new(alloc),
+        room,
+        failures: 0,
+    }
+}
+
+/// A page with room for the key has it, and it reads back.
+fn takes_key(
+    rt: &impl Abort,
+    alloc: Global,
+    geometry: &Geometry<Decimal<6>>,
+    want: &str,
+) -> Result<(), Fail> {
+    let mut page = page(alloc, want.len());
+    write_flat_key(alloc, geometry, &mut page)?;
+    equal(rt, page.text.as_slice(), want.as_bytes());
+    let mut source = Piecewise {
+        rest: page.text.as_slice(),
+        step: 7,
+    };
+    let read = Geometry::<Decimal<6>>::try_from_wkt_reader(alloc, &mut source)?;
+    assert!(rt; read == *geometry);
+    Ok(())
+}
+
+/// A page with less room takes a beginning of the key, and fails once.
+fn is_full(
+    rt: &impl Abort,
+    alloc: Global,
+    geometry: &Geometry<Decimal<6>>,
+    want: &str,
+    room: usize,
+) {
+    let mut page = page(alloc, room);
+    let answer = write_flat_key(alloc, geometry, &mut page);
+    assert!(rt; matches!(answer, Err(ToWktError::Io(_))));
+    equal(rt, page.text.len(), room);
+    assert!(rt; want.as_bytes().starts_with(page.text.as_slice()));
+    equal(rt, page.failures, 1);
 }
 
 #[test]
@@ -156,28 +218,9 @@ fn flat_keys_to_sinks(rt: HostRuntime) -> Result<(), Fail> {
     let alloc = rt.alloc();
     for (text, want) in &FLAT_KEYS {
         let geometry = Geometry::<Decimal<6>>::try_from_wkt_str(alloc, text)?;
-        for room in [want.len(), want.len().saturating_sub(1), 0] {
-            let mut page = Page {
-                text: Vec::new(alloc),
-                room,
-                failures: 0,
-            };
-            let answer = write_flat_key(alloc, &geometry, &mut page);
-            assert_eq!(rt; page.text.len(), room);
-            assert!(rt; want.as_bytes().starts_with(page.text.as_slice()));
-            if room < want.len() {
-                assert!(rt; matches!(answer, Err(ToWktError::Io(_))));
-                assert_eq!(rt; page.failures, 1);
-                continue;
-            }
-            assert!(rt; answer.is_ok());
-            let mut source = Piecewise {
-                rest: page.text.as_slice(),
-                step: 7,
-            };
-            let read = Geometry::<Decimal<6>>::try_from_wkt_reader(alloc, &mut source)?;
-            assert!(rt; read == geometry);
-        }
+        takes_key(&rt, alloc, &geometry, want)?;
+        is_full(&rt, alloc, &geometry, want, want.len().saturating_sub(1));
+        is_full(&rt, alloc, &geometry, want, 0);
     }
     Ok(())
 }
@@ -186,7 +229,7 @@ fn flat_keys_to_sinks(rt: HostRuntime) -> Result<(), Fail> {
 fn reads_halves(rt: HostRuntime) -> Result<(), Fail> {
     let alloc = rt.alloc();
     let line = tidy::<Half>(alloc, "linestring (0 .5, 1 +1)")?;
-    assert_eq!(rt; line.as_str(), "LINESTRING(0 .5,1 1)");
+    equal(&rt, line.as_str(), "LINESTRING(0 .5,1 1)");
     assert!(rt; tidy::<Half>(alloc, "POINT (0 0.5)").is_err());
     Ok(())
 }
@@ -196,7 +239,11 @@ fn runs(rt: HostRuntime) -> Result<(), Fail> {
     let alloc = rt.alloc();
     let input = b"point ( 10 -20.50 )\nPOINT (10)\n";
     let text = answers(alloc, input, 24)?;
-    assert_eq!(rt; text.as_slice(), b"POINT(10 -20.5)\nrefused\n".as_slice());
+    equal(
+        &rt,
+        text.as_slice(),
+        b"POINT(10 -20.5)\nrefused\n".as_slice(),
+    );
     assert!(rt; matches!(answers(alloc, input, 23), Err(RunError::Write(_))));
     Ok(())
 }
@@ -205,15 +252,16 @@ fn runs(rt: HostRuntime) -> Result<(), Fail> {
 fn reads_and_writes(rt: HostRuntime) -> Result<(), Fail> {
     let alloc = rt.alloc();
     let text = tidy::<Decimal<6>>(alloc, "linestring z (1 2 3, 4 5.50 6)")?;
-    assert_eq!(rt; text.as_str(), "LINESTRING Z(1 2 3,4 5.5 6)");
+    equal(&rt, text.as_str(), "LINESTRING Z(1 2 3,4 5.5 6)");
     let pair = tidy_pair::<Decimal<6>>(alloc, "POINT (1 2)", "LINESTRING EMPTY")?;
-    assert_eq!(rt;
+    equal(
+        &rt,
         pair.as_str(),
-        "GEOMETRYCOLLECTION(POINT(1 2),LINESTRING EMPTY)"
+        "GEOMETRYCOLLECTION(POINT(1 2),LINESTRING EMPTY)",
     );
     assert!(rt; tidy_if_any::<Decimal<6>>(alloc, "POINT (1)")?.is_none());
     match tidy::<Decimal<6>>(alloc, "CIRCLE (1 2)") {
-        Err(ReadError::Text(message)) => assert_eq!(rt; message, "Invalid type encountered"),
+        Err(ReadError::Text(message)) => equal(&rt, message, "Invalid type encountered"),
         _ => assert!(rt; false),
     }
     Ok(())
@@ -231,11 +279,7 @@ const PLACES: [(&str, &str, bool); 5] = [
 fn compares(rt: HostRuntime) -> Result<(), Fail> {
     let alloc = rt.alloc();
     for (one, other, same) in PLACES {
-        assert_eq!(rt;
-            same_place::<Decimal<6>>(alloc, one, other)?,
-            same,
-            "of {one} and {other}"
-        );
+        equal_at(&rt, one, same_place::<Decimal<6>>(alloc, one, other)?, same);
     }
     Ok(())
 }
@@ -257,11 +301,11 @@ fn serves(rt: HostRuntime) -> Result<(), Fail> {
             failures: 0,
         };
         let answer = serve::<Decimal<6>, _, _>(alloc, &mut source, &mut page);
-        assert_eq!(rt; page.text.len(), room);
+        equal(&rt, page.text.len(), room);
         assert!(rt; want.as_bytes().starts_with(page.text.as_slice()));
         if room < want.len() {
             assert!(rt; matches!(answer, Err(RunError::Write(_))));
-            assert_eq!(rt; page.failures, 1);
+            equal(&rt, page.failures, 1);
         } else {
             assert!(rt; answer.is_ok());
         }
@@ -278,9 +322,10 @@ fn scenes(rt: HostRuntime) -> Result<(), Fail> {
     let nothing = Layer::Group(String::new(alloc), Vec::new(alloc));
     let all = vec![in alloc; Layer::Mark(Point::new(0, 7)), paths, nothing]?;
     let scene = Layer::Group(String::from_str(alloc, "all")?, all);
-    assert_eq!(rt;
+    equal(
+        &rt,
         scene_text(alloc, &scene)?.as_str(),
-        "GEOMETRYCOLLECTION(POINT(0 7),GEOMETRYCOLLECTION(LINESTRING(1 -2,3 4)),GEOMETRYCOLLECTION EMPTY)"
+        "GEOMETRYCOLLECTION(POINT(0 7),GEOMETRYCOLLECTION(LINESTRING(1 -2,3 4)),GEOMETRYCOLLECTION EMPTY)",
     );
     Ok(())
 }
@@ -289,13 +334,13 @@ fn scenes(rt: HostRuntime) -> Result<(), Fail> {
 fn answers_texts(rt: HostRuntime) -> Result<(), Fail> {
     let alloc = rt.alloc();
     match answer_to::<Decimal<6>>(alloc, "point ( 1 2.50 )")? {
-        Answer::Text(text) => assert_eq!(rt; text.as_str(), "POINT(1 2.5)"),
+        Answer::Text(text) => equal(&rt, text.as_str(), "POINT(1 2.5)"),
         Answer::Refused(..) => assert!(rt; false, "refused"),
     }
     match answer_to::<Decimal<6>>(alloc, "POINT(1)")? {
         Answer::Text(_) => assert!(rt; false, "read"),
         Answer::Refused(start, end, expected) => {
-            assert_eq!(rt; (start, end), (7, 8));
+            equal(&rt, (start, end), (7, 8));
             assert!(rt; expected == Expected::Y);
         }
     }

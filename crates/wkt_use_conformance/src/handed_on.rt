@@ -1,7 +1,9 @@
 //! The error that a sink or a source gave is the one that comes: its kind, its code and its words.
+use crate::asserts::equal;
 use std::alloc::Global;
 use std::io;
 use std::io::ErrorKind;
+use std::process::Abort;
 use std::test::Fail;
 use wkt::geo_types::{Geometry, LineString, Point, Polygon};
 use wkt::geo_types_from_wkt::Error as FlatError;
@@ -100,90 +102,118 @@ fn of_reading<G: Drop>(answer: Result<G, FlatError>) -> Option<io::Error> {
     }
 }
 
-/// What comes of each call that takes a sink, or of text that is gathered for one.
-fn of_sinks(alloc: Global, failing: &mut Failing) -> Result<Vec<Option<io::Error>>, Fail> {
-    let mut all = Vec::new(alloc);
-    all.push(put_all(failing, b"POINT").err())?;
-    let point = Point::new(1i32, 2);
-    all.push(of_writing(point.write_wkt(alloc, failing)))?;
-    let geometry = Geometry::from(point);
-    all.push(of_writing(geometry.write_wkt(alloc, failing)))?;
-    all.push(of_writing(write_flat_key(alloc, &geometry, failing)))?;
-    let mut input = Piecewise {
-        rest: b"POINT(1 2)\n",
-        step: 7,
-    };
-    all.push(of_run(run(alloc, &mut input, failing)))?;
-    let mut input = Piecewise {
-        rest: b"POINT(1 2)\n",
-        step: 7,
-    };
-    all.push(of_run(stream(alloc, &mut input, failing)))?;
-    let mut input = Piecewise {
-        rest: b"POLYGON((0 0,4 0,2 4))",
-        step: 7,
-    };
-    all.push(of_copy(copy_polygon::<i32, Piecewise<'_>, Failing>(alloc, &mut input, failing)))?;
+/// A source of these bytes.
+fn piecewise(rest: &[u8]) -> Piecewise<'_> {
+    Piecewise { rest, step: 7 }
+}
+
+/// What a wrapper tells that had text for the sink.
+fn of_wrapper(failing: &mut Failing) -> Option<io::Error> {
     let mut wrapper = WriterWrapper::new(failing);
     let _ = wrapper.write_str("POINT");
     let _ = wrapper.finish();
-    all.push(wrapper.take_error())?;
-    let failing = wrapper.into_writer();
+    wrapper.take_error()
+}
+
+/// What a gatherer tells that had text for the sink.
+fn of_gatherer(failing: &mut Failing) -> Option<io::Error> {
     let mut gatherer = Gatherer::new(failing);
     let _ = gatherer.write_str("POINT");
     let _ = gatherer.finish();
-    all.push(gatherer.take_error())?;
-    gatherer.into_writer();
-    Ok(all)
+    gatherer.take_error()
 }
 
-/// What comes of each call that takes a source.
-fn of_sources(alloc: Global, failing: &mut Failing) -> Result<Vec<Option<io::Error>>, Fail> {
-    let mut all = Vec::new(alloc);
-    all.push(match read_all(alloc, failing) {
+/// What comes of each of nine calls that take a sink, or text that is gathered for one.
+fn of_sink(alloc: Global, call: usize, failing: &mut Failing) -> Option<io::Error> {
+    let point = Point::new(1i32, 2);
+    match call {
+        0 => put_all(failing, b"POINT").err(),
+        1 => of_writing(point.write_wkt(alloc, failing)),
+        2 => of_writing(Geometry::from(point).write_wkt(alloc, failing)),
+        3 => of_writing(write_flat_key(alloc, &Geometry::from(point), failing)),
+        4 => of_run(run(alloc, &mut piecewise(b"POINT(1 2)\n"), failing)),
+        5 => of_run(stream(alloc, &mut piecewise(b"POINT(1 2)\n"), failing)),
+        6 => {
+            let mut polygon = piecewise(b"POLYGON((0 0,4 0,2 4))");
+            of_copy(copy_polygon::<i32, Piecewise<'_>, Failing>(alloc, &mut polygon, failing))
+        }
+        7 => of_wrapper(failing),
+        _ => of_gatherer(failing),
+    }
+}
+
+fn of_read_all(answer: Result<Vec<u8>, ReadAllError>) -> Option<io::Error> {
+    match answer {
         Err(ReadAllError::Read(e)) => Some(e),
         _ => None,
-    })?;
-    all.push(of_reading(Point::<i32>::try_from_wkt_reader(alloc, failing)))?;
-    all.push(of_reading(LineString::<i32>::try_from_wkt_reader(alloc, failing)))?;
-    all.push(of_reading(Polygon::<i32>::try_from_wkt_reader(alloc, failing)))?;
-    all.push(of_reading(Geometry::<i32>::try_from_wkt_reader(alloc, failing)))?;
+    }
+}
+
+/// What comes of each of eight calls that take a source.
+fn of_source(alloc: Global, call: usize, failing: &mut Failing) -> Option<io::Error> {
     let mut page = Page {
         text: Vec::new(alloc),
         room: 100,
         failures: 0,
     };
-    all.push(of_run(run(alloc, failing, &mut page)))?;
-    all.push(of_run(stream(alloc, failing, &mut page)))?;
-    all.push(of_copy(copy_polygon::<i32, Failing, Page>(alloc, failing, &mut page)))?;
-    Ok(all)
+    match call {
+        0 => of_read_all(read_all(alloc, failing)),
+        1 => of_reading(Point::<i32>::try_from_wkt_reader(alloc, failing)),
+        2 => of_reading(LineString::<i32>::try_from_wkt_reader(alloc, failing)),
+        3 => of_reading(Polygon::<i32>::try_from_wkt_reader(alloc, failing)),
+        4 => of_reading(Geometry::<i32>::try_from_wkt_reader(alloc, failing)),
+        5 => of_run(run(alloc, failing, &mut page)),
+        6 => of_run(stream(alloc, failing, &mut page)),
+        _ => of_copy(copy_polygon::<i32, Failing, Page>(alloc, failing, &mut page)),
+    }
+}
+
+/// The error that came has the kind, the code and the words of the one that was given.
+fn came_unchanged(
+    rt: &impl Abort,
+    alloc: Global,
+    call: usize,
+    came: Option<io::Error>,
+    given: Given,
+) -> Result<(), Fail> {
+    let Some(came) = came else {
+        panic!(rt; "call {call} told no error of its sink or source");
+    };
+    let want = error(given);
+    assert!(rt; came.kind() == want.kind(), "of call {call}");
+    assert!(rt;
+        came.raw_os_error() == want.raw_os_error(),
+        "of call {call}"
+    );
+    let (words, wanted) = (format!(in alloc; "{came}")?, format!(in alloc; "{want}")?);
+    assert!(rt; words == wanted, "of call {call}");
+    Ok(())
 }
 
 #[test]
-fn comes_unchanged(rt: HostRuntime) -> Result<(), Fail> {
+fn comes_unchanged_from_sinks(rt: HostRuntime) -> Result<(), Fail> {
     let alloc = rt.alloc();
     for given in GIVEN {
-        let mut sink = Failing { given, failures: 0 };
-        let mut source = Failing { given, failures: 0 };
-        let want = error(given);
-        let words = format!(in alloc; "{want}")?;
-        let of_sinks = of_sinks(alloc, &mut sink)?;
-        let of_sources = of_sources(alloc, &mut source)?;
-        assert_eq!(rt; of_sinks.len(), 9);
-        assert_eq!(rt; of_sources.len(), 8);
-        for (i, answer) in of_sinks.iter().chain(of_sources.iter()).enumerate() {
-            let Some(came) = answer else {
-                panic!(rt; "call {i} told no error of its sink or source");
-            };
-            assert!(rt; came.kind() == want.kind(), "of call {i}");
-            assert_eq!(rt; came.raw_os_error(), want.raw_os_error(), "of call {i}");
-            assert_eq!(rt;
-                format!(in alloc; "{came}")?.as_str(),
-                words.as_str(),
-                "of call {i}"
-            );
+        for call in 0..9 {
+            let mut sink = Failing { given, failures: 0 };
+            let came = of_sink(alloc, call, &mut sink);
+            came_unchanged(&rt, alloc, call, came, given)?;
+            equal(&rt, sink.failures, 1);
         }
-        assert_eq!(rt; (sink.failures, source.failures), (9, 8));
+    }
+    Ok(())
+}
+
+#[test]
+fn comes_unchanged_from_sources(rt: HostRuntime) -> Result<(), Fail> {
+    let alloc = rt.alloc();
+    for given in GIVEN {
+        for call in 0..8 {
+            let mut source = Failing { given, failures: 0 };
+            let came = of_source(alloc, call, &mut source);
+            came_unchanged(&rt, alloc, call, came, given)?;
+            equal(&rt, source.failures, 1);
+        }
     }
     Ok(())
 }

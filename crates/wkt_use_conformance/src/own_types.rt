@@ -1,10 +1,12 @@
 //! The representation of one's own in `wkt_uses`, written by all eleven writers.
+use crate::asserts::equal;
 use std::alloc::{AllocError, Global};
+use std::process::Abort;
 use std::test::Fail;
 use wkt::error::Error;
 use wkt::geo_traits::Dimensions;
 use wkt::to_wkt::{
-    CountedText, push_geometry, write_geometry, write_geometry_collection, write_line,
+    CountedText, TextSink, push_geometry, write_geometry, write_geometry_collection, write_line,
     write_linestring, write_multi_linestring, write_multi_point, write_multi_polygon, write_point,
     write_polygon, write_rect, write_triangle,
 };
@@ -107,45 +109,76 @@ fn areas(alloc: Global) -> Result<Areas, AllocError> {
 
 /// A figure of each kind, the last of them a group of an empty group.
 fn figures(alloc: Global) -> Result<Vec<Figure>, AllocError> {
-    let mut inner = Vec::new(alloc);
-    inner.push(Figure::Group(Dimensions::Xyzm, Vec::new(alloc)))?;
     let mut figures = Vec::new(alloc);
+    push_parts(alloc, &mut figures)?;
+    push_lists(alloc, &mut figures)?;
+    push_others(alloc, &mut figures)?;
+    Ok(figures)
+}
+
+fn push_parts(alloc: Global, figures: &mut Vec<Figure>) -> Result<(), AllocError> {
     figures.push(Figure::Point(dot(alloc, Dimensions::Xyz, &[3, 4])?))?;
     figures.push(Figure::Line(track(alloc, Dimensions::Xym, &[])?))?;
     figures.push(Figure::Polygon(area(alloc, Some(ring(alloc)?))?))?;
+    Ok(())
+}
+
+fn push_lists(alloc: Global, figures: &mut Vec<Figure>) -> Result<(), AllocError> {
     figures.push(Figure::Points(dots(alloc)?))?;
     figures.push(Figure::Lines(tracks(alloc)?))?;
     figures.push(Figure::Polygons(areas(alloc)?))?;
+    Ok(())
+}
+
+fn push_others(alloc: Global, figures: &mut Vec<Figure>) -> Result<(), AllocError> {
     figures.push(Figure::Rect(corners(alloc, Dimensions::Unknown(2), &[])?))?;
     figures.push(Figure::Triangle(corners(alloc, Dimensions::Xym, &[7])?))?;
     figures.push(Figure::Segment(segment(alloc)?))?;
+    let inner = vec![in alloc; Figure::Group(Dimensions::Xyzm, Vec::new(alloc))]?;
     figures.push(Figure::Group(Dimensions::Unknown(3), inner))?;
-    Ok(figures)
+    Ok(())
 }
 
 const ALL: &str =
     "GEOMETRYCOLLECTION(POINT Z(1 2 3),LINESTRING M EMPTY,POLYGON((0 0,1 0,0 1,0 0),EMPTY),MULTIPOINT((1 2),EMPTY),MULTILINESTRING((1 2,3 4),EMPTY),MULTIPOLYGON(((0 0,1 0,0 1,0 0),EMPTY),EMPTY,EMPTY),POLYGON((3 2,3 4,1 4,1 2,3 2)),POLYGON M((1 2 7,3 4 7,5 6 7,1 2 7)),LINESTRING ZM(1 2 7 8,3 4 7 8),GEOMETRYCOLLECTION Z(GEOMETRYCOLLECTION ZM EMPTY))";
 
+/// Writes a part of each kind.
+fn write_parts<W: TextSink>(sink: &mut W, alloc: Global) -> Result<(), Fail> {
+    write_point(sink, &dot(alloc, Dimensions::Xym, &[3])?)?;
+    write_linestring(sink, &track(alloc, Dimensions::Xy, &[(1, -2)])?)?;
+    write_polygon(sink, &area(alloc, None)?)?;
+    Ok(())
+}
+
+/// Writes a list of each kind.
+fn write_lists<W: TextSink>(sink: &mut W, alloc: Global) -> Result<(), Fail> {
+    write_multi_point(sink, &dots(alloc)?)?;
+    write_multi_linestring(sink, &tracks(alloc)?)?;
+    write_multi_polygon(sink, &areas(alloc)?)?;
+    Ok(())
+}
+
+/// Writes what is written as another kind.
+fn write_others<W: TextSink>(sink: &mut W, alloc: Global) -> Result<(), Fail> {
+    write_rect(sink, &corners(alloc, Dimensions::Unknown(2), &[])?)?;
+    write_triangle(sink, &corners(alloc, Dimensions::Xy, &[])?)?;
+    write_line(sink, &segment(alloc)?)?;
+    Ok(())
+}
+
+const EACH: &str =
+    "POINT M(1 2 3)LINESTRING(1 -2)POLYGON EMPTYMULTIPOINT((1 2),EMPTY)MULTILINESTRING((1 2,3 4),EMPTY)MULTIPOLYGON(((0 0,1 0,0 1,0 0),EMPTY),EMPTY,EMPTY)POLYGON((3 2,3 4,1 4,1 2,3 2))POLYGON((1 2,3 4,5 6,1 2))LINESTRING ZM(1 2 7 8,3 4 7 8)";
+
 #[test]
 fn writes_each_kind(rt: HostRuntime) -> Result<(), Fail> {
     let alloc = rt.alloc();
-    let header = Dimensions::Xy;
     let mut text = String::new(alloc);
     let mut sink = CountedText::new(&mut text);
-    write_point(&mut sink, &dot(alloc, Dimensions::Xym, &[3])?)?;
-    write_linestring(&mut sink, &track(alloc, header, &[(1, -2)])?)?;
-    write_polygon(&mut sink, &area(alloc, None)?)?;
-    write_multi_point(&mut sink, &dots(alloc)?)?;
-    write_multi_linestring(&mut sink, &tracks(alloc)?)?;
-    write_multi_polygon(&mut sink, &areas(alloc)?)?;
-    write_rect(&mut sink, &corners(alloc, Dimensions::Unknown(2), &[])?)?;
-    write_triangle(&mut sink, &corners(alloc, header, &[])?)?;
-    write_line(&mut sink, &segment(alloc)?)?;
+    write_parts(&mut sink, alloc)?;
+    write_lists(&mut sink, alloc)?;
+    write_others(&mut sink, alloc)?;
     sink.into_writer();
-    assert_eq!(rt;
-        text.as_str(),
-        "POINT M(1 2 3)LINESTRING(1 -2)POLYGON EMPTYMULTIPOINT((1 2),EMPTY)MULTILINESTRING((1 2,3 4),EMPTY)MULTIPOLYGON(((0 0,1 0,0 1,0 0),EMPTY),EMPTY,EMPTY)POLYGON((3 2,3 4,1 4,1 2,3 2))POLYGON((1 2,3 4,5 6,1 2))LINESTRING ZM(1 2 7 8,3 4 7 8)"
-    );
+    equal(&rt, text.as_str(), EACH);
     Ok(())
 }
 
@@ -159,35 +192,44 @@ fn writes_collections(rt: HostRuntime) -> Result<(), Fail> {
     let mut sink = CountedText::new(&mut text);
     write_geometry_collection(&mut sink, &map)?;
     sink.into_writer();
-    assert_eq!(rt; text.as_str(), ALL);
+    equal(&rt, text.as_str(), ALL);
     let group = Figure::Group(header, map.figures);
     let mut text = String::new(alloc);
     push_geometry(&mut text, &group)?;
-    assert_eq!(rt; text.as_str(), ALL);
+    equal(&rt, text.as_str(), ALL);
+    Ok(())
+}
+
+/// Why a figure isn't written; nothing of it is.
+fn fault_of(alloc: Global, figure: &Figure) -> Result<Error, Fail> {
+    let mut text = String::new(alloc);
+    match push_geometry(&mut text, figure) {
+        Err(error) if text.is_empty() => Ok(error),
+        _ => Err(Fail::from("something is written")),
+    }
+}
+
+#[test]
+fn refuses_few_numbers(rt: HostRuntime) -> Result<(), Fail> {
+    let alloc = rt.alloc();
+    let short = Figure::Point(dot(alloc, Dimensions::Xyzm, &[3])?);
+    assert!(rt; matches!(fault_of(alloc, &short)?, Error::TooFewNumbers));
     Ok(())
 }
 
 #[test]
-fn refuses(rt: HostRuntime) -> Result<(), Fail> {
+fn refuses_an_unknown_dimension(rt: HostRuntime) -> Result<(), Fail> {
     let alloc = rt.alloc();
-    let mut text = String::new(alloc);
-    let short = Figure::Point(dot(alloc, Dimensions::Xyzm, &[3])?);
-    assert!(rt; matches!(push_geometry(&mut text, &short), Err(Error::TooFewNumbers)));
     let line = Figure::Line(track(alloc, Dimensions::Unknown(5), &[(1, 2)])?);
-    assert!(rt;
-        matches!(
-            push_geometry(&mut text, &line),
-            Err(Error::UnknownDimension)
-        )
-    );
+    assert!(rt; matches!(fault_of(alloc, &line)?, Error::UnknownDimension));
+    Ok(())
+}
+
+#[test]
+fn refuses_a_rectangle_with_z(rt: HostRuntime) -> Result<(), Fail> {
+    let alloc = rt.alloc();
     let rect = Figure::Rect(corners(alloc, Dimensions::Xyz, &[7])?);
-    assert!(rt;
-        matches!(
-            push_geometry(&mut text, &rect),
-            Err(Error::RectUnsupportedDimension)
-        )
-    );
-    assert_eq!(rt; text.as_str(), "");
+    assert!(rt; matches!(fault_of(alloc, &rect)?, Error::RectUnsupportedDimension));
     Ok(())
 }
 
@@ -199,8 +241,17 @@ fn drops_spare_numbers(rt: HostRuntime) -> Result<(), Fail> {
     let header = Dimensions::Unknown(3);
     let mut text = String::from_str(alloc, "at: ")?;
     push_geometry(&mut text, &Figure::Line(Track { header, spots }))?;
-    assert_eq!(rt; text.as_str(), "at: LINESTRING Z(1 2 3)");
+    equal(&rt, text.as_str(), "at: LINESTRING Z(1 2 3)");
     Ok(())
+}
+
+/// A paper with so little left takes a beginning of the group, and fails once.
+fn fails_at(rt: &impl Abort, alloc: Global, group: &Figure, left: usize) {
+    let mut paper = Paper::new(alloc, left);
+    assert!(rt; matches!(write_geometry(&mut paper, group), Err(Error::FmtError(_))));
+    assert!(rt; ALL.as_bytes().starts_with(paper.bytes.as_slice()));
+    assert!(rt; paper.bytes.len() < ALL.len());
+    equal(rt, paper.failures, 1);
 }
 
 #[test]
@@ -209,13 +260,9 @@ fn fails_with_the_sink(rt: HostRuntime) -> Result<(), Fail> {
     let group = Figure::Group(Dimensions::Xy, figures(alloc)?);
     let mut whole = Paper::new(alloc, 1000);
     write_geometry(&mut whole, &group)?;
-    assert_eq!(rt; whole.bytes.as_slice(), ALL.as_bytes());
+    equal(&rt, whole.bytes.as_slice(), ALL.as_bytes());
     for left in 0..1000usize.saturating_sub(whole.left) {
-        let mut paper = Paper::new(alloc, left);
-        assert!(rt; matches!(write_geometry(&mut paper, &group), Err(Error::FmtError(_))));
-        assert!(rt; ALL.as_bytes().starts_with(paper.bytes.as_slice()));
-        assert!(rt; paper.bytes.len() < ALL.len());
-        assert_eq!(rt; paper.failures, 1);
+        fails_at(&rt, alloc, &group, left);
     }
     Ok(())
 }

@@ -1,4 +1,6 @@
 //! Walks over the coordinates of two-dimensional geometries, and the callers that make them.
+use crate::asserts::{equal, equal_at};
+use std::alloc::{AllocError, Global};
 use std::test::Fail;
 use wkt::geo_types::{Coord, Geometry, Line, Rect, Triangle};
 use wkt::walks::{Mapper, Visitor, bounding_rect, map_coords, num_coords, visit_coords};
@@ -55,7 +57,7 @@ fn counted_and_bounded(rt: HostRuntime) -> Result<(), Fail> {
     let alloc = rt.alloc();
     for (text, count, around) in &WALKED {
         let geometry = Geometry::<i64>::try_from_wkt_str(alloc, text)?;
-        assert_eq!(rt; num_coords(&geometry), *count, "at {text}");
+        equal_at(&rt, text, num_coords(&geometry), *count);
         let Ok(found) = box_of_text::<i64>(alloc, text) else {
             panic!(rt; "{text} wasn't read");
         };
@@ -63,7 +65,7 @@ fn counted_and_bounded(rt: HostRuntime) -> Result<(), Fail> {
             Some(rect) => rect.wkt_string(alloc)?,
             None => String::new(alloc),
         };
-        assert_eq!(rt; given.as_str(), *around, "at {text}");
+        equal_at(&rt, text, given.as_str(), *around);
     }
     assert!(rt; box_of_text::<i64>(alloc, "POINT(1)").is_err());
     Ok(())
@@ -89,7 +91,6 @@ impl Visitor<i64> for Seen {
 #[test]
 fn in_order(rt: HostRuntime) -> Result<(), Fail> {
     let alloc = rt.alloc();
-    let at = |x: i64, y: i64| Coord { x, y };
     let mut seen = Seen {
         text: String::new(alloc),
         failed: false,
@@ -103,9 +104,10 @@ fn in_order(rt: HostRuntime) -> Result<(), Fail> {
     let polygon = Geometry::try_from_wkt_str(alloc, "POLYGON((0 0,9 0,0 9),(1 1,2 1,1 2))")?;
     visit_coords(&polygon, &mut seen);
     assert!(rt; !seen.failed);
-    assert_eq!(rt;
+    equal(
+        &rt,
         seen.text.as_str(),
-        "0 1;0 8;4 8;4 1;7 7;6 6;1 1;2 2;3 3;0 0;9 0;0 9;0 0;1 1;2 1;1 2;1 1;"
+        "0 1;0 8;4 8;4 1;7 7;6 6;1 1;2 2;3 3;0 0;9 0;0 9;0 0;1 1;2 1;1 2;1 1;",
     );
     Ok(())
 }
@@ -116,9 +118,10 @@ fn decimals_are_bounded(rt: HostRuntime) -> Result<(), Fail> {
     let geometry = Geometry::<Decimal<2>>::try_from_wkt_str(alloc, "MULTIPOINT(1.5 -2,-0.25 7)")?;
     match bounding_rect(&geometry) {
         Some(rect) => {
-            assert_eq!(rt;
+            equal(
+                &rt,
                 rect.wkt_string(alloc)?.as_str(),
-                "POLYGON((1.5 -2,1.5 7,-0.25 7,-0.25 -2,1.5 -2))"
+                "POLYGON((1.5 -2,1.5 7,-0.25 7,-0.25 -2,1.5 -2))",
             );
         }
         None => assert!(rt; false, "no rectangle"),
@@ -137,11 +140,11 @@ fn keys_are_counted(rt: HostRuntime) -> Result<(), Fail> {
         "POLYGON EMPTY",
     ];
     let all = keys::<Decimal<6>>(alloc, &lines)?;
-    assert_eq!(rt; all.len(), 4);
+    equal(&rt, all.len(), 4);
     let counted = counts(alloc, &all)?;
-    assert_eq!(rt; counted.len(), 2);
-    assert_eq!(rt; counted.get("POINT(1.5 2)").copied(), Some(2));
-    assert_eq!(rt; counted.get("POLYGON EMPTY").copied(), Some(2));
+    equal(&rt, counted.len(), 2);
+    equal(&rt, counted.get("POINT(1.5 2)").copied(), Some(2));
+    equal(&rt, counted.get("POLYGON EMPTY").copied(), Some(2));
     Ok(())
 }
 
@@ -202,40 +205,64 @@ const SWAPPED: [(&str, &str); 11] = [
     ("GEOMETRYCOLLECTION EMPTY", "GEOMETRYCOLLECTION EMPTY"),
 ];
 
+/// The text of the geometry of a text, with x for y.
+fn swapped_text(alloc: Global, text: &str) -> Result<String, Fail> {
+    let geometry = Geometry::<i64>::try_from_wkt_str(alloc, text)?;
+    let found = map_coords(alloc, &geometry, &Swapped)?;
+    Ok(found.wkt_string(alloc)?)
+}
+
 #[test]
 fn mapped(rt: HostRuntime) -> Result<(), Fail> {
-    let alloc = rt.alloc();
-    for (text, swapped) in &SWAPPED {
-        let geometry = Geometry::<i64>::try_from_wkt_str(alloc, text)?;
-        let found = map_coords(alloc, &geometry, &Swapped)?;
-        assert_eq!(rt; found.wkt_string(alloc)?.as_str(), *swapped, "at {text}");
+    for (text, want) in &SWAPPED {
+        equal_at(&rt, text, swapped_text(rt.alloc(), text)?.as_str(), *want);
     }
     Ok(())
+}
+
+fn at(x: i64, y: i64) -> Coord<i64> {
+    Coord { x, y }
+}
+
+/// Whether the geometry is the other one, with x for y.
+fn is_swapped(
+    alloc: Global,
+    geometry: &Geometry<i64>,
+    want: &Geometry<i64>,
+) -> Result<bool, AllocError> {
+    Ok(map_coords(alloc, geometry, &Swapped)? == *want)
 }
 
 #[test]
 fn plain_kinds_are_mapped(rt: HostRuntime) -> Result<(), Fail> {
     let alloc = rt.alloc();
-    let at = |x: i64, y: i64| Coord { x, y };
     let rect = Geometry::Rect(Rect::new(at(4, 8), at(0, 1)));
-    let same = map_coords(alloc, &rect, &Swapped)? == Geometry::Rect(Rect::new(at(1, 0), at(8, 4)));
-    assert!(rt; same);
+    let turned = Geometry::Rect(Rect::new(at(1, 0), at(8, 4)));
+    assert!(rt; is_swapped(alloc, &rect, &turned)?);
     let line = Geometry::Line(Line::new(at(7, 8), at(6, 5)));
-    let same = map_coords(alloc, &line, &Swapped)? == Geometry::Line(Line::new(at(8, 7), at(5, 6)));
-    assert!(rt; same);
-    let triangle = Geometry::Triangle(Triangle::new(at(1, 2), at(3, 4), at(5, 6)));
-    let turned = Geometry::Triangle(Triangle::new(at(2, 1), at(4, 3), at(6, 5)));
-    let same = map_coords(alloc, &triangle, &Swapped)? == turned;
-    assert!(rt; same);
+    let turned = Geometry::Line(Line::new(at(8, 7), at(5, 6)));
+    assert!(rt; is_swapped(alloc, &line, &turned)?);
     Ok(())
 }
 
 #[test]
+fn triangles_are_mapped(rt: HostRuntime) -> Result<(), Fail> {
+    let triangle = Geometry::Triangle(Triangle::new(at(1, 2), at(3, 4), at(5, 6)));
+    let turned = Geometry::Triangle(Triangle::new(at(2, 1), at(4, 3), at(6, 5)));
+    assert!(rt; is_swapped(rt.alloc(), &triangle, &turned)?);
+    Ok(())
+}
+
+/// The text of the geometry of a text, in a wider type.
+fn widened_text(alloc: Global, text: &str) -> Result<String, Fail> {
+    let geometry = Geometry::<i8>::try_from_wkt_str(alloc, text)?;
+    let found = map_coords(alloc, &geometry, &Widened)?;
+    Ok(found.wkt_string(alloc)?)
+}
+
+#[test]
 fn mapped_into_another_type(rt: HostRuntime) -> Result<(), Fail> {
-    let alloc = rt.alloc();
-    let geometry = Geometry::<i8>::try_from_wkt_str(alloc, "LINESTRING(-128 1,127 0)")?;
-    let wide = Geometry::<i64>::try_from_wkt_str(alloc, "LINESTRING(-128 1,127 0)")?;
-    let same = map_coords(alloc, &geometry, &Widened)? == wide;
-    assert!(rt; same);
+    let text = "LINESTRING(-128 1,127 0)";
+    equal(&rt, widened_text(rt.alloc(), text)?.as_str(), text);
     Ok(())
 }

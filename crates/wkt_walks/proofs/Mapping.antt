@@ -1,13 +1,14 @@
 -- Rings that are closed stay closed when they are mapped, and members are mapped one by one.
 use Rattle.std.proofs.Common.{◌≡◌, ℕ, ◌+◌, ◌<◌, refl, ap, ap₂, sym, ◌∙◌, List, [], ◌∷◌, ◌++◌, length, get_or, take, map, Option, Bool, true, if◌then◌else◌, Result, Ok, Err}
-use Rattle.std.proofs.lemmas.List.{append-nil, take_more, map-append}
+use Rattle.std.proofs.lemmas.List.{append-nil, take_more, map-append, map_more}
 use Rattle.std.specs.Prelude.{IfOk}
 use Rattle.std.specs.List.{AllByRecursion}
 use Rattle.std.specs.declared.cmp.Ordering.{Ordering}
 use Rattle.wkt_flat.specs.Exact.{IsExact}
 use Rattle.wkt_flat.specs.Rings.{Rings, close, closed_rings, last_from, IsClosed}
-use Rattle.wkt_flat.specs.Tree.{Flat, Flats, flats_of}
+use Rattle.wkt_flat.specs.Tree.{Flat, Flats, flat_tree, flats_of}
 use Rattle.wkt_flat.specs.declared.coord.Coord.{Coord}
+use Rattle.wkt_flat.specs.declared.geometry.Geometry.{Geometry}
 use Rattle.wkt_walks.specs.Mapped.{mapped, each_mapped}
 
 last_mapped : {A B : Type 0} (f : A → B) (c : A) (cs : List A) → last_from (f c) (map f cs) ≡ f (last_from c cs)
@@ -44,6 +45,12 @@ pub if_ok : {X F : Type 0} (r : Result X F) (P Q : X → Type 0) → ((x : X) �
 if_ok (Ok x) P Q f h = f x h
 if_ok (Err e) P Q f h = tt
 
+-- a geometry that is made of another, kind by kind
+pub tree_mapped : {T U : Type 0} (compare : U → U → Option Ordering) (f : Coord T → Coord U) (now seen : Geometry T) (made : Geometry U) (s : Flat T) (t : Flat U) →
+    now ≡ seen → flat_tree seen ≡ s → flat_tree made ≡ t → t ≡ mapped compare f s → flat_tree made ≡ mapped compare f (flat_tree now)
+tree_mapped compare f now seen made s t is of_seen of_made same =
+    of_made ∙ (same ∙ sym (ap (mapped compare f) (ap flat_tree is ∙ of_seen)))
+
 -- one item more, and what it was made of
 pub next_mapped : {X Y V W : Type 0} (see : Y → W) (f : V → W) (look : X → V) (xs : List X) (ys more : List Y) (i : ℕ) (x : X) (y : Y) →
     i < length xs → x ≡ get_or xs i x → map see ys ≡ map f (map look (take i xs)) → more ≡ ys ++ y ∷ [] → see y ≡ f (look x) →
@@ -54,3 +61,9 @@ next_mapped see f look xs ys more i x y below is so_far added one =
     ap (map see) added
     ∙ (map-append see ys (y ∷ [])
     ∙ (ap₂ (λ l z. l ++ z ∷ []) so_far one ∙ sym (ap (map f) looked ∙ map-append f (map look (take i xs)) (look x ∷ []))))
+
+-- a list of what each of the first members of another becomes, with one more
+pub grown : {X Y : Type 0} (f : X → Y) (xs : List X) (i : ℕ) (x : X) (all new : List Y) (y : Y) → i < length xs → x ≡ get_or xs i x →
+    all ≡ map f (take i xs) → y ≡ f x → new ≡ all ++ y ∷ [] → new ≡ map f (take (i + 1) xs)
+grown f xs i x all new y lt e h k n =
+    n ∙ (ap₂ (λ l z. l ++ z ∷ []) h (k ∙ ap f e) ∙ sym (map_more f xs i x lt))

@@ -169,35 +169,35 @@ fn map_geometry<T: Copy, U: WktNum, M: Mapper<T, U>>(
 ) -> Result<Geometry<U>, AllocError>
     ensures { IfOk result (λ g. flat_tree g ≡ mapped U.partial_cmp (M.maps mapper.now) (flat_tree geometry.now)) }
 {
-    let mapped = match geometry {
-        Geometry::Point(point) => Geometry::Point(map_point(point, mapper)),
-        Geometry::Line(line) => Geometry::Line(map_line(line, mapper)),
-        Geometry::LineString(line_string) => Geometry::LineString(map_line_string(
-            alloc,
-            line_string,
-            mapper,
-        )?),
-        Geometry::Polygon(polygon) => Geometry::Polygon(map_polygon(alloc, polygon, mapper)?),
+    match geometry {
+        Geometry::Point(point) => Ok(Geometry::Point(map_point(point, mapper))),
+        Geometry::Line(line) => Ok(Geometry::Line(map_line(line, mapper))),
+        Geometry::LineString(line_string) => {
+            let mapped = map_line_string(alloc, line_string, mapper)?;
+            Ok(Geometry::LineString(mapped))
+        }
+        Geometry::Polygon(polygon) => {
+            Ok(Geometry::Polygon(map_polygon(alloc, polygon, mapper)?))
+        }
         Geometry::MultiPoint(points) => {
-            Geometry::MultiPoint(MultiPoint(map_points(alloc, &points.0, mapper)?))
+            let mapped = map_points(alloc, &points.0, mapper)?;
+            Ok(Geometry::MultiPoint(MultiPoint(mapped)))
         }
         Geometry::MultiLineString(line_strings) => {
-            Geometry::MultiLineString(MultiLineString(map_line_strings(
-                alloc,
-                &line_strings.0,
-                mapper,
-            )?))
+            let mapped = map_line_strings(alloc, &line_strings.0, mapper)?;
+            Ok(Geometry::MultiLineString(MultiLineString(mapped)))
         }
         Geometry::MultiPolygon(polygons) => {
-            Geometry::MultiPolygon(MultiPolygon(map_polygons(alloc, &polygons.0, mapper)?))
+            let mapped = map_polygons(alloc, &polygons.0, mapper)?;
+            Ok(Geometry::MultiPolygon(MultiPolygon(mapped)))
         }
         Geometry::GeometryCollection(collection) => {
-            Geometry::GeometryCollection(map_collection(alloc, collection, mapper)?)
+            let mapped = map_collection(alloc, collection, mapper)?;
+            Ok(Geometry::GeometryCollection(mapped))
         }
-        Geometry::Rect(rect) => Geometry::Rect(map_rect(rect, mapper)),
-        Geometry::Triangle(triangle) => Geometry::Triangle(map_triangle(triangle, mapper)),
-    };
-    Ok(mapped)
+        Geometry::Rect(rect) => Ok(Geometry::Rect(map_rect(rect, mapper))),
+        Geometry::Triangle(triangle) => Ok(Geometry::Triangle(map_triangle(triangle, mapper))),
+    }
 }
 
 #[cycle(map)]
