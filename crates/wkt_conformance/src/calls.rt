@@ -5,7 +5,7 @@ use crate::json_calls::json_given;
 use crate::made::{canonical, lines, pushed, turned};
 use crate::numbers::{answer_of, number_of};
 use crate::refusals::{message, place, shown};
-use std::alloc::Global;
+use std::alloc::{AllocError, Global};
 use wkt::{AnyError, Decimal, FromWktStr, Wkt, infer_type, read_whole, same_geometry};
 
 /// The number type of the rows that name none.
@@ -59,10 +59,14 @@ fn header(alloc: Global, text: &str) -> Result<String, AnyError> {
 fn same(alloc: Global, one: &str, other: &str) -> Result<String, AnyError> {
     let one = Wkt::<Number>::from_str(alloc, one)?;
     let other = Wkt::<Number>::from_str(alloc, other)?;
-    let same = same_geometry(&one, &other);
+    Ok(told_same(alloc, &one, &other)?)
+}
+
+fn told_same(alloc: Global, one: &Wkt<Number>, other: &Wkt<Number>) -> Result<String, AllocError> {
+    let same = same_geometry(one, other);
     let texts = one.to_string(alloc)? == other.to_string(alloc)?;
-    if same_geometry(&other, &one) != same || texts != same {
-        return Ok(String::from_str(alloc, "the calls differ")?);
+    if same_geometry(other, one) != same || texts != same {
+        return String::from_str(alloc, "the calls differ");
     }
-    Ok(format!(in alloc; "{same}")?)
+    format!(in alloc; "{same}")
 }

@@ -9,7 +9,7 @@ use wkt::to_wkt::{
     push_rect, push_triangle,
 };
 use wkt::walks::{Mapper, map_coords};
-use wkt::{AnyError, FromWktStr, ToWkt, TryFromWkt, Wkt};
+use wkt::{AnyError, FromWktStr, ReadError, ToWkt, TryFromWkt, Wkt};
 use wkt_stream::Lines;
 
 /// Each coordinate with x for y.
@@ -30,25 +30,39 @@ impl Mapper<Number, Number> for Swapped {
 /// The two-dimensional geometry of a text, with x for y.
 pub(crate) fn turned(alloc: Global, text: &str) -> Result<String, AnyError> {
     let geometry = Geometry::<Number>::try_from_wkt_str(alloc, text)?;
-    Ok(map_coords(alloc, &geometry, &Swapped)?.wkt_string(alloc)?)
+    let turned = map_coords(alloc, &geometry, &Swapped)?;
+    text_of(alloc, &turned)
+}
+
+fn text_of(alloc: Global, geometry: &Geometry<Number>) -> Result<String, AnyError> {
+    Ok(geometry.wkt_string(alloc)?)
 }
 
 /// The geometry of a text made canonical, if its text is read as the same.
 pub(crate) fn canonical(alloc: Global, text: &str) -> Result<String, AnyError> {
     let geometry = Wkt::<Number>::from_str(alloc, text)?.into_canonical();
     let text = geometry.to_string(alloc)?;
-    if Wkt::from_str(alloc, text.as_str())? != geometry {
-        return Ok(String::from_str(alloc, "another geometry")?);
+    if reads_as(alloc, &text, &geometry)? {
+        Ok(text)
+    } else {
+        Ok(String::from_str(alloc, "another geometry")?)
     }
-    Ok(text)
+}
+
+fn reads_as(alloc: Global, text: &str, geometry: &Wkt<Number>) -> Result<bool, ReadError> {
+    Ok(Wkt::from_str(alloc, text)? == *geometry)
 }
 
 /// The two-dimensional geometry of a text, behind a word, by the writer of its kind; of a line string also as the kind
 /// that is asked for.
 pub(crate) fn pushed(alloc: Global, of: &str, text: &str) -> Result<String, AnyError> {
     let geometry = Geometry::<Number>::try_from_wkt_str(alloc, text)?;
+    behind_word(alloc, of, &geometry)
+}
+
+fn behind_word(alloc: Global, of: &str, geometry: &Geometry<Number>) -> Result<String, AnyError> {
     let mut out = String::from_str(alloc, "is ")?;
-    match push_by_kind(&mut out, of, &geometry) {
+    match push_by_kind(&mut out, of, geometry) {
         Ok(()) => Ok(out),
         // The string couldn't grow.
         Err(WriteError::FmtError(_)) => Err(AnyError::Memory(AllocError)),
