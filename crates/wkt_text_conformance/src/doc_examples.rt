@@ -22,6 +22,12 @@ fn reads(rt: HostRuntime) -> Result<(), Fail> {
         geometry.to_string(alloc)?.as_str(),
         "LINESTRING Z(1 2 3,4 5.5 6)",
     );
+    Ok(())
+}
+
+#[test]
+fn reads_fronts(rt: HostRuntime) -> Result<(), Fail> {
+    let alloc = rt.alloc();
     let (first, end) = Wkt::<i32>::read_front(alloc, "POINT(1 2) POINT(3 4)")?;
     equal(&rt, first.to_string(alloc)?.as_str(), "POINT(1 2)");
     equal(&rt, end, 10);
@@ -39,12 +45,18 @@ fn reads_whole(rt: HostRuntime) -> Result<(), Fail> {
     let alloc = rt.alloc();
     let geometry = read_whole::<i32>(alloc, " POINT(1 2)\n")?;
     equal(&rt, geometry.to_string(alloc)?.as_str(), "POINT(1 2)");
-    assert!(rt;
-        matches!(
-            read_whole::<i32>(alloc, "POINT(1 2) x"),
-            Err(WholeError::Rest(10))
-        )
-    );
+    Ok(())
+}
+
+#[test]
+fn refuses_a_rest(rt: HostRuntime) {
+    let answer = read_whole::<i32>(rt.alloc(), "POINT(1 2) x");
+    assert!(rt; matches!(answer, Err(WholeError::Rest(10))));
+}
+
+#[test]
+fn reads_whole_into_flat(rt: HostRuntime) -> Result<(), Fail> {
+    let alloc = rt.alloc();
     equal(
         &rt,
         flat_of_whole(alloc, "POINT Z(1 2 3) ")?.as_str(),
@@ -72,9 +84,24 @@ fn reads_flat(rt: HostRuntime) -> Result<(), Fail> {
     let alloc = rt.alloc();
     let geometry = Geometry::<Decimal<6>>::try_from_wkt_str(alloc, "POINT (10 20)")?;
     equal(&rt, geometry.wkt_string(alloc)?.as_str(), "POINT(10 20)");
+    Ok(())
+}
+
+#[test]
+fn reads_flat_without_m(rt: HostRuntime) -> Result<(), Fail> {
+    let alloc = rt.alloc();
     let flat = Geometry::<i32>::try_from_wkt_str(alloc, "POINT M(1 2 9)")?;
     equal(&rt, flat.wkt_string(alloc)?.as_str(), "POINT(1 2)");
-    equal(&rt, of_bytes(alloc, "point(1 2)")?.as_str(), "POINT(1 2)");
+    Ok(())
+}
+
+#[test]
+fn reads_bytes(rt: HostRuntime) -> Result<(), Fail> {
+    equal(
+        &rt,
+        of_bytes(rt.alloc(), "point(1 2)")?.as_str(),
+        "POINT(1 2)",
+    );
     Ok(())
 }
 
@@ -141,31 +168,36 @@ fn flat_text(alloc: Global, text: &str) -> Result<String, AnyError> {
 
 #[test]
 fn one_error(rt: HostRuntime) -> Result<(), Fail> {
-    let alloc = rt.alloc();
     equal(
         &rt,
-        flat_text(alloc, "POINT Z(1 2 3)")?.as_str(),
+        flat_text(rt.alloc(), "POINT Z(1 2 3)")?.as_str(),
         "POINT(1 2)",
     );
-    match flat_text(alloc, "POINT(1)") {
+    match flat_text(rt.alloc(), "POINT(1)") {
         Err(AnyError::Read(ReadError::Text(message))) => {
             equal(&rt, message, "Missing closing parenthesis for type");
         }
         _ => assert!(rt; false),
     }
-    match flat_text(alloc, "MULTIPOINT(EMPTY)") {
+    Ok(())
+}
+
+#[test]
+fn an_error_of_conversion(rt: HostRuntime) -> Result<(), Fail> {
+    let want = "The WKT Point was empty, but geo_type::Points cannot be empty";
+    match flat_text(rt.alloc(), "MULTIPOINT(EMPTY)") {
         Err(AnyError::Convert(error)) => {
-            equal(
-                &rt,
-                error.to_string(alloc)?.as_str(),
-                "The WKT Point was empty, but geo_type::Points cannot be empty",
-            );
+            equal(&rt, error.to_string(rt.alloc())?.as_str(), want);
         }
         _ => assert!(rt; false),
     }
-    let mut out = String::new(alloc);
-    assert!(rt; pushed(alloc, &mut out).is_ok() && out.as_str() == "POINT(1 2)");
     Ok(())
+}
+
+#[test]
+fn each_error_under_one(rt: HostRuntime) {
+    let mut out = String::new(rt.alloc());
+    assert!(rt; pushed(rt.alloc(), &mut out).is_ok() && out.as_str() == "POINT(1 2)");
 }
 
 // Each call with an error of its own under one `?`.

@@ -107,25 +107,25 @@ fn gives_lexemes(rt: HostRuntime) {
     let mut tokens = Tokens::<Decimal<6>>::from_str(".4 -2");
     equal(
         &rt,
-        tokens.next(),
-        Some(Ok(Token::Number(Decimal::from_units(400000)))),
+        &tokens.next(),
+        &Some(Ok(Token::Number(Decimal::from_units(400000)))),
     );
     equal(&rt, (tokens.end(), tokens.taken()), (2, 3));
     equal(
         &rt,
-        tokens.next(),
-        Some(Ok(Token::Number(Decimal::from_units(-2000000)))),
+        &tokens.next(),
+        &Some(Ok(Token::Number(Decimal::from_units(-2000000)))),
     );
-    equal(&rt, tokens.next(), None);
+    equal(&rt, &tokens.next(), &None);
     let mut tokens = PeekableTokens::new(Tokens::<i32>::from_str("4.2p 7(¾"));
-    equal(&rt, tokens.next(), Some(Err(BAD_NUMBER)));
+    equal(&rt, &tokens.next(), &Some(Err(BAD_NUMBER)));
     equal(&rt, peeked(&mut tokens), Some(7));
     equal(&rt, (tokens.end(), tokens.taken()), (4, 7));
-    equal(&rt, tokens.next(), Some(Ok(Token::Number(7))));
-    equal(&rt, tokens.next(), Some(Ok(Token::ParenOpen)));
-    equal(&rt, tokens.next(), Some(Ok(Token::Word("¾"))));
+    equal(&rt, &tokens.next(), &Some(Ok(Token::Number(7))));
+    equal(&rt, &tokens.next(), &Some(Ok(Token::ParenOpen)));
+    equal(&rt, &tokens.next(), &Some(Ok(Token::Word("¾"))));
     equal(&rt, peeked(&mut tokens), None);
-    equal(&rt, tokens.next(), None);
+    equal(&rt, &tokens.next(), &None);
 }
 
 // The texts of all geometries of a text, each read where the one before it ends.

@@ -1,6 +1,7 @@
 //! Geometries that are one, in whatever way they are put together.
 use crate::asserts::equal;
 use std::alloc::{AllocError, Global};
+use std::process::Abort;
 use std::test::Fail;
 use wkt::types::{Coord, Dimension, GeometryCollection, LineString};
 use wkt::{FromWktStr, Wkt, same_geometry};
@@ -65,35 +66,49 @@ const SPARE: [(
     ),
 ];
 
+/// Whether two geometries are one by the call that compares, and by what each is made canonical to.
+fn are_one(one: Wkt<i32>, other: Wkt<i32>) -> (bool, bool) {
+    let same = same_geometry(&one, &other);
+    (same, one.into_canonical() == other.into_canonical())
+}
+
 #[test]
 fn spare_numbers(rt: HostRuntime) -> Result<(), Fail> {
     let alloc = rt.alloc();
     for ((z, m, dim), (other_z, other_m, other_dim), same) in SPARE {
         let one = line(alloc, z, m, dim)?;
         let other = line(alloc, other_z, other_m, other_dim)?;
-        equal(&rt, same_geometry(&one, &other), same);
-        let alike = one.into_canonical() == other.into_canonical();
-        equal(&rt, alike, same);
+        equal(&rt, are_one(one, other), (same, same));
     }
     Ok(())
+}
+
+/// A geometry in so many collections.
+fn nested(alloc: Global, text: &str, depth: u32) -> Result<Wkt<i32>, Fail> {
+    let mut all = Wkt::<i32>::from_str(alloc, text)?;
+    for _ in 0..depth {
+        all = Wkt::from(GeometryCollection::new(vec![in alloc; all]?, Dimension::XY));
+    }
+    Ok(all)
 }
 
 #[test]
 fn nested_collections(rt: HostRuntime) -> Result<(), Fail> {
     let alloc = rt.alloc();
-    let mut one = Wkt::<i32>::from_str(alloc, "POLYGON(EMPTY)")?;
-    let mut other = Wkt::<i32>::from_str(alloc, "POLYGON EMPTY")?;
-    for _ in 0..300u32 {
-        one = Wkt::from(GeometryCollection::new(vec![in alloc; one]?, Dimension::XY));
-        other = Wkt::from(GeometryCollection::new(vec![in alloc; other]?, Dimension::XY));
-    }
-    assert!(rt; same_geometry(&one, &other));
-    one = one.into_canonical();
-    assert!(rt; one == other);
-    let deeper = GeometryCollection::new(vec![in alloc; one]?, Dimension::XY);
-    let deeper = Wkt::from(deeper);
-    assert!(rt; !same_geometry(&deeper, &other));
-    assert!(rt; deeper.into_canonical() != other);
+    let one = nested(alloc, "POLYGON(EMPTY)", 300)?;
+    let other = nested(alloc, "POLYGON EMPTY", 300)?;
+    equal(&rt, are_one(one, other), (true, true));
+    let deeper = nested(alloc, "POLYGON(EMPTY)", 301)?;
+    let other = nested(alloc, "POLYGON EMPTY", 300)?;
+    equal(&rt, are_one(deeper, other), (false, false));
+    Ok(())
+}
+
+#[test]
+fn a_nested_collection_is_made_canonical(rt: HostRuntime) -> Result<(), Fail> {
+    let alloc = rt.alloc();
+    let one = nested(alloc, "POLYGON(EMPTY)", 300)?.into_canonical();
+    assert!(rt; one == nested(alloc, "POLYGON EMPTY", 300)?);
     Ok(())
 }
 
@@ -116,17 +131,29 @@ const ONE: [(&str, &str); 6] = [
     ("MULTIPOLYGON((EMPTY),(EMPTY))", "MULTIPOLYGON(EMPTY,EMPTY)"),
 ];
 
+/// The first is made canonical to the second, which is so already, and has the text of it.
+fn becomes(
+    rt: &impl Abort,
+    alloc: Global,
+    first: Wkt<i32>,
+    second: Wkt<i32>,
+    text: &str,
+) -> Result<(), Fail> {
+    assert!(rt; first != second, "at {text}");
+    let canonical = first.into_canonical();
+    assert!(rt; canonical == second, "at {text}");
+    equal(rt, canonical.to_string(alloc)?.as_str(), text);
+    assert!(rt; second.into_canonical() == canonical, "at {text}");
+    Ok(())
+}
+
 #[test]
 fn canonical_geometries(rt: HostRuntime) -> Result<(), Fail> {
     let alloc = rt.alloc();
     for (one, other) in &ONE {
         let first = Wkt::<i32>::from_str(alloc, one)?;
         let second = Wkt::<i32>::from_str(alloc, other)?;
-        assert!(rt; first != second, "at {one}");
-        let canonical = first.into_canonical();
-        equal(&rt, canonical.to_string(alloc)?.as_str(), *other);
-        assert!(rt; canonical == second, "at {one}");
-        assert!(rt; second.into_canonical() == canonical, "at {one}");
+        becomes(&rt, alloc, first, second, other)?;
     }
     Ok(())
 }
@@ -144,13 +171,17 @@ const KEPT: [&str; 9] = [
     "GEOMETRYCOLLECTION EMPTY",
 ];
 
+/// Whether the geometry is canonical.
+fn is_kept(alloc: Global, geometry: &Wkt<i32>) -> Result<bool, AllocError> {
+    Ok(geometry.try_clone(alloc)?.into_canonical() == *geometry)
+}
+
 #[test]
 fn canonical_ones_are_kept(rt: HostRuntime) -> Result<(), Fail> {
     let alloc = rt.alloc();
     for text in &KEPT {
         let geometry = Wkt::<i32>::from_str(alloc, text)?;
-        let same = geometry.try_clone(alloc)?.into_canonical() == geometry;
-        assert!(rt; same, "at {text}");
+        assert!(rt; is_kept(alloc, &geometry)?, "at {text}");
     }
     Ok(())
 }

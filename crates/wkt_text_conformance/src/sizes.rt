@@ -52,8 +52,12 @@ fn depth(rt: HostRuntime) -> Result<(), Fail> {
 // The text of a copy of the geometry, if the copy is equal.
 fn copied(alloc: Global, text: &str) -> Result<String, Fail> {
     let geometry = Wkt::<Decimal<6>>::from_str(alloc, text)?;
+    copy_text(alloc, &geometry)
+}
+
+fn copy_text(alloc: Global, geometry: &Wkt<Decimal<6>>) -> Result<String, Fail> {
     let copy = geometry.try_clone(alloc)?;
-    if copy == geometry {
+    if copy == *geometry {
         Ok(copy.to_string(alloc)?)
     } else {
         Err(Fail::from("a copy that is equal"))
@@ -63,12 +67,20 @@ fn copied(alloc: Global, text: &str) -> Result<String, Fail> {
 // The text of the two-dimensional geometry of the text, if its `Wkt` has the same.
 fn converted(alloc: Global, text: &str) -> Result<String, Fail> {
     let geometry = Geometry::<Decimal<6>>::try_from_wkt_str(alloc, text)?;
-    let back = geometry.to_wkt(alloc)?.to_string(alloc)?;
-    if geometry.wkt_string(alloc)?.as_str() == back.as_str() {
-        Ok(back)
+    flat_text(alloc, &geometry)
+}
+
+fn flat_text(alloc: Global, geometry: &Geometry<Decimal<6>>) -> Result<String, Fail> {
+    let text = geometry.wkt_string(alloc)?;
+    if back_text(alloc, geometry)?.as_str() == text.as_str() {
+        Ok(text)
     } else {
         Err(Fail::from("a text that is the same"))
     }
+}
+
+fn back_text(alloc: Global, geometry: &Geometry<Decimal<6>>) -> Result<String, AllocError> {
+    geometry.to_wkt(alloc)?.to_string(alloc)
 }
 
 #[test]

@@ -138,51 +138,27 @@ fn collections(rt: HostRuntime) -> Result<(), Fail> {
 }
 
 #[test]
-fn empty_geometries(rt: HostRuntime) {
+fn empty_points_and_line_strings(rt: HostRuntime) {
     let alloc = rt.alloc();
-    let dim = Dimension::XYM;
-    shows(
-        &rt,
-        alloc,
-        &Wkt::from(Point::empty(Dimension::XYZM)),
-        "POINT ZM EMPTY",
-    );
-    shows(
-        &rt,
-        alloc,
-        &Wkt::from(LineString::empty(alloc, Dimension::XY)),
-        "LINESTRING EMPTY",
-    );
-    shows(
-        &rt,
-        alloc,
-        &Wkt::from(Polygon::empty(alloc, dim)),
-        "POLYGON M EMPTY",
-    );
-    shows(
-        &rt,
-        alloc,
-        &Wkt::from(MultiPoint::empty(alloc, dim)),
-        "MULTIPOINT M EMPTY",
-    );
-    shows(
-        &rt,
-        alloc,
-        &Wkt::from(MultiLineString::empty(alloc, dim)),
-        "MULTILINESTRING M EMPTY",
-    );
-    shows(
-        &rt,
-        alloc,
-        &Wkt::from(MultiPolygon::empty(alloc, dim)),
-        "MULTIPOLYGON M EMPTY",
-    );
-    shows(
-        &rt,
-        alloc,
-        &Wkt::from(GeometryCollection::empty(alloc, dim)),
-        "GEOMETRYCOLLECTION M EMPTY",
-    );
+    let point = Point::empty(Dimension::XYZM);
+    shows(&rt, alloc, &Wkt::from(point), "POINT ZM EMPTY");
+    let line = LineString::empty(alloc, Dimension::XY);
+    shows(&rt, alloc, &Wkt::from(line), "LINESTRING EMPTY");
+    let polygon = Polygon::empty(alloc, Dimension::XYM);
+    shows(&rt, alloc, &Wkt::from(polygon), "POLYGON M EMPTY");
+}
+
+#[test]
+fn empty_lists(rt: HostRuntime) {
+    let alloc = rt.alloc();
+    let points = MultiPoint::empty(alloc, Dimension::XYM);
+    shows(&rt, alloc, &Wkt::from(points), "MULTIPOINT M EMPTY");
+    let lines = MultiLineString::empty(alloc, Dimension::XYM);
+    shows(&rt, alloc, &Wkt::from(lines), "MULTILINESTRING M EMPTY");
+    let polygons = MultiPolygon::empty(alloc, Dimension::XYM);
+    shows(&rt, alloc, &Wkt::from(polygons), "MULTIPOLYGON M EMPTY");
+    let all = GeometryCollection::empty(alloc, Dimension::XYM);
+    shows(&rt, alloc, &Wkt::from(all), "GEOMETRYCOLLECTION M EMPTY");
 }
 
 #[test]
@@ -211,29 +187,38 @@ fn nested(alloc: Global, depth: u32) -> Result<Wkt<i32>, AllocError> {
     Ok(all)
 }
 
+// Whether the copy of a line in so many collections is one in that many others.
+fn copy_is_nested(alloc: Global, depth: u32, other: u32) -> Result<bool, AllocError> {
+    Ok(nested(alloc, depth)?.try_clone(alloc)? == nested(alloc, other)?)
+}
+
 #[test]
 fn copies_are_equal(rt: HostRuntime) -> Result<(), Fail> {
     let alloc = rt.alloc();
-    let deep = nested(alloc, 300)?;
-    let copy = deep.try_clone(alloc)?;
-    let other = nested(alloc, 299)?;
-    let same = deep == copy;
-    let differs = deep != other;
-    assert!(rt; same);
-    assert!(rt; differs);
-    equal(&rt, copy.to_string(alloc)?.len(), 300 * 22 + 19);
+    assert!(rt; copy_is_nested(alloc, 300, 300)?);
+    assert!(rt; !copy_is_nested(alloc, 300, 299)?);
+    equal(
+        &rt,
+        nested(alloc, 300)?.to_string(alloc)?.len(),
+        300 * 22 + 19,
+    );
     Ok(())
+}
+
+// A line string of so many coordinates.
+fn long(alloc: Global, n: usize) -> Result<LineString<i32>, Fail> {
+    let mut coords = Vec::new(alloc);
+    for _ in 0..n {
+        coords.push(xy(1, 1))?;
+    }
+    Ok(LineString::from_coords(alloc, coords.into_iter())?.ok_or("coordinates")?)
 }
 
 #[test]
 fn long_copies(rt: HostRuntime) -> Result<(), Fail> {
     let alloc = rt.alloc();
     for n in [1usize, 2, 300, 100_000] {
-        let mut coords = Vec::new(alloc);
-        for _ in 0..n {
-            coords.push(xy(1, 1))?;
-        }
-        let line = LineString::from_coords(alloc, coords.into_iter())?.ok_or("coordinates")?;
+        let line = long(alloc, n)?;
         let copy = line.try_clone(alloc)?;
         let same = line == copy;
         assert!(rt; same);
