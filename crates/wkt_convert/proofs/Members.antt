@@ -1,6 +1,5 @@
 -- The members of a collection, one after the other; and multipoints.
-use Rattle.std.proofs.Common.{◌≡◌, ℕ, ◌+◌, ◌<◌, refl, ap, ap₂, sym, ◌∙◌, List, [], ◌∷◌, ◌++◌, length, map, get_or, take, Bool}
-use Rattle.std.proofs.lemmas.List.{append_assoc, map_more}
+use Rattle.std.proofs.Common.{◌≡◌, refl, ap, sym, ◌∙◌, List, [], ◌∷◌, Bool}
 use Rattle.wkt_types.specs.Held.{Held, HeldPoint}
 use Rattle.wkt_types.specs.Tree.{Tree, tree, members, wkt_step, collection_step}
 use Rattle.wkt_types.specs.declared.coord.Coord.{Coord}
@@ -40,16 +39,3 @@ pub tree-line_string : {T : Type 0} (l : Held (Coord T)) → tree (variants.Line
 tree-line_string {T} l =
     ap tree (sym (variants.rolls-LineString l))
     ∙ folds.fold-roll-Wkt T (Tree T) (Tree T) wkt_step collection_step (opened.Wkt-F.LineString l)
-
-module _ {X Y : Type 0} (f : X → Y) where
-  -- behind a list, what each of the first members of another becomes, with one more
-  pub grown_after : (first : List Y) (xs : List X) (i : ℕ) (x : X) (all new : List Y) (y : Y) → i < length xs → x ≡ get_or xs i x →
-      all ≡ first ++ map f (take i xs) → y ≡ f x → new ≡ all ++ y ∷ [] → new ≡ first ++ map f (take (i + 1) xs)
-  grown_after first xs i x all new y lt e h k n =
-      n
-      ∙ (ap₂ (λ l z. l ++ z ∷ []) h (k ∙ ap f e)
-      ∙ (append_assoc first (map f (take i xs)) (f (get_or xs i x) ∷ []) ∙ ap (λ l. first ++ l) (sym (map_more f xs i x lt))))
-
-  pub grown : (xs : List X) (i : ℕ) (x : X) (all new : List Y) (y : Y) → i < length xs → x ≡ get_or xs i x →
-      all ≡ map f (take i xs) → y ≡ f x → new ≡ all ++ y ∷ [] → new ≡ map f (take (i + 1) xs)
-  grown xs i x all new y lt e h k n = grown_after [] xs i x all new y lt e h k n

@@ -1,6 +1,6 @@
 -- Rings that are closed stay closed when they are mapped, and members are mapped one by one.
 use Rattle.std.proofs.Common.{◌≡◌, ℕ, ◌+◌, ◌<◌, refl, ap, ap₂, sym, ◌∙◌, List, [], ◌∷◌, ◌++◌, length, get_or, take, map, Option, Bool, true, if◌then◌else◌, Result, Ok, Err}
-use Rattle.std.proofs.lemmas.List.{append-nil, take_more, map-append, map_more}
+use Rattle.std.proofs.lemmas.List.{append-nil, take_more, map-append}
 use Rattle.std.specs.Prelude.{IfOk}
 use Rattle.std.specs.List.{AllByRecursion}
 use Rattle.std.specs.declared.cmp.Ordering.{Ordering}
@@ -61,9 +61,3 @@ next_mapped see f look xs ys more i x y below is so_far added one =
     ap (map see) added
     ∙ (map-append see ys (y ∷ [])
     ∙ (ap₂ (λ l z. l ++ z ∷ []) so_far one ∙ sym (ap (map f) looked ∙ map-append f (map look (take i xs)) (look x ∷ []))))
-
--- a list of what each of the first members of another becomes, with one more
-pub grown : {X Y : Type 0} (f : X → Y) (xs : List X) (i : ℕ) (x : X) (all new : List Y) (y : Y) → i < length xs → x ≡ get_or xs i x →
-    all ≡ map f (take i xs) → y ≡ f x → new ≡ all ++ y ∷ [] → new ≡ map f (take (i + 1) xs)
-grown f xs i x all new y lt e h k n =
-    n ∙ (ap₂ (λ l z. l ++ z ∷ []) h (k ∙ ap f e) ∙ sym (map_more f xs i x lt))

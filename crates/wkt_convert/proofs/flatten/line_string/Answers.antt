@@ -1,5 +1,5 @@
 use Rattle.wkt_types.specs.Flattened.{xy}
-use Rattle.wkt_convert.proofs.Members.{grown}
+use Rattle.wkt_flat.proofs.Members.{grown}
 use Rattle.wkt_convert.proofs.flatten.line_string.Goals as goal
 
 pub loop-c-preserved : goal.loop-c-preserved

@@ -1,5 +1,5 @@
 use Rattle.wkt_convert.specs.Flatten.{sequence}
-use Rattle.wkt_convert.proofs.Members.{grown}
+use Rattle.wkt_flat.proofs.Members.{grown}
 use Rattle.wkt_convert.proofs.flatten.line_strings.Goals as goal
 
 pub loop-l-preserved : goal.loop-l-preserved

@@ -1,6 +1,6 @@
 use Rattle.wkt_flat.specs.Equal.{coord_eq}
 use Rattle.wkt_convert.specs.Flatten.{rings}
-use Rattle.wkt_convert.proofs.Members.{grown}
+use Rattle.wkt_flat.proofs.Members.{grown}
 use Rattle.wkt_convert.proofs.flatten.polygons.Goals as goal
 
 pub loop-y-preserved : goal.loop-y-preserved

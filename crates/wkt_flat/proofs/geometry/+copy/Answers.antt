@@ -1,4 +1,5 @@
-use Rattle.std.proofs.Common.{◌≡◌, ◌++◌, ap, ◌∙◌, map}
+use Rattle.std.proofs.Common.{◌≡◌, refl, ◌++◌, ap, ◌∙◌, map}
+use Rattle.wkt_flat.proofs.Members.{grown_after}
 use Rattle.wkt_flat.specs.Tree.{flat_tree, collection}
 use Rattle.wkt_flat.proofs.TreeLemmas.{flat-point, flat-line, flat-line_string, flat-polygon, flat-multi_point, flat-multi_line_string, flat-multi_polygon, flat-rect, flat-triangle, flat-collection, flat-members, copied, copied-in, on-ok-map}
 use Rattle.wkt_flat.proofs.geometry.+copy.Goals as goal
@@ -39,3 +40,7 @@ push_copy-returns-in-Rect g t c = copied c.push_rect.result _ _ _ _ c.in-Rect.is
 
 pub push_copy-returns-in-Triangle : goal.push_copy-returns-in-Triangle
 push_copy-returns-in-Triangle g t c = copied c.push_triangle.result _ _ _ _ c.in-Triangle.is (flat-triangle c.in-Triangle.t) c.push_triangle.ensures
+
+pub push_copies-loop-g-preserved : goal.push_copies-loop-g-preserved
+push_copies-loop-g-preserved g t c =
+    grown_after flat_tree (map flat_tree c.args.copies.now.items) _ _ _ _ _ _ c.loop-g-test.true c.g-item.is c.loop-g.invariant refl c.in_ok-push_copy.ensures

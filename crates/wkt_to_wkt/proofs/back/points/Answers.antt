@@ -1,5 +1,5 @@
 use Rattle.wkt_to_wkt.specs.Back.{point_back}
-use Rattle.wkt_convert.proofs.Members.{grown}
+use Rattle.wkt_flat.proofs.Members.{grown}
 use Rattle.wkt_to_wkt.proofs.back.points.Goals as goal
 
 pub loop-p-preserved : goal.loop-p-preserved

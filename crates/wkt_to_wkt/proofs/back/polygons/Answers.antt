@@ -1,5 +1,5 @@
 use Rattle.wkt_to_wkt.specs.Back.{polygon_back}
-use Rattle.wkt_convert.proofs.Members.{grown}
+use Rattle.wkt_flat.proofs.Members.{grown}
 use Rattle.wkt_to_wkt.proofs.back.polygons.Goals as goal
 
 pub loop-y-preserved : goal.loop-y-preserved

@@ -1,5 +1,5 @@
 use Rattle.wkt_to_wkt.specs.Back.{line_string_back}
-use Rattle.wkt_convert.proofs.Members.{grown_after}
+use Rattle.wkt_flat.proofs.Members.{grown_after}
 use Rattle.wkt_to_wkt.proofs.back.push_line_strings.Goals as goal
 
 pub loop-l-preserved : goal.loop-l-preserved

@@ -1,4 +1,4 @@
-use Rattle.wkt_walks.proofs.Mapping.{grown}
+use Rattle.wkt_flat.proofs.Members.{grown}
 use Rattle.wkt_walks.proofs.map.map_each.Goals as goal
 
 pub loop-coord-preserved : goal.loop-coord-preserved

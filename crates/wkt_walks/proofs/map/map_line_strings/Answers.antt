@@ -1,5 +1,5 @@
 use Rattle.std.proofs.Common.{map}
-use Rattle.wkt_walks.proofs.Mapping.{grown}
+use Rattle.wkt_flat.proofs.Members.{grown}
 use Rattle.wkt_walks.proofs.map.map_line_strings.Goals as goal
 
 pub loop-line_string-preserved : goal.loop-line_string-preserved

@@ -1,5 +1,5 @@
 use Rattle.wkt_walks.specs.Mapped.{point_mapped}
-use Rattle.wkt_walks.proofs.Mapping.{grown}
+use Rattle.wkt_flat.proofs.Members.{grown}
 use Rattle.wkt_walks.proofs.map.map_points.Goals as goal
 
 pub loop-point-preserved : goal.loop-point-preserved

@@ -1,5 +1,5 @@
 use Rattle.wkt_walks.specs.Mapped.{rings_mapped}
-use Rattle.wkt_walks.proofs.Mapping.{grown}
+use Rattle.wkt_flat.proofs.Members.{grown}
 use Rattle.wkt_walks.proofs.map.map_polygons.Goals as goal
 
 pub loop-polygon-preserved : goal.loop-polygon-preserved
