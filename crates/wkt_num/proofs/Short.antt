@@ -16,7 +16,7 @@ use Rattle.wkt_num.specs.DecimalLaws.{before_digits, after_digits, digits_append
 use Rattle.wkt_num.specs.Units.{units_is, after_split, ten_pos}
 
 -- one digit more
-digits-suc : (body : List ℕ) (from at : ℕ) → from ≤ at → at < length body → slice_range body from (at + 1) ≡ slice_range body from at ++ get_or body at 0 ∷ []
+pub digits-suc : (body : List ℕ) (from at : ℕ) → from ≤ at → at < length body → slice_range body from (at + 1) ≡ slice_range body from at ++ get_or body at 0 ∷ []
 digits-suc body from at h k =
     ap (λ (n : ℕ). take n (drop from body)) {x = at + 1 - from} {y = suc (at - from)} (omega arith)
     ∙ take-suc (drop from body) (at - from) 0 (omega (arith, length-drop from body))

@@ -82,7 +82,7 @@ value-after-zeros : (k : ℕ) (ds : List ℕ) → lanes_value (replicate k 0 ++ 
 value-after-zeros zero ds = refl
 value-after-zeros (suc k) ds = value-after-zeros k ds
 
-byte-digit : (b : ℕ) → b < 256 → digit b ≤ 9 → (digit_value b ≡ digit b) × (digit_value b < 10)
+pub byte-digit : (b : ℕ) → b < 256 → digit b ≤ 9 → (digit_value b ≡ digit b) × (digit_value b < 10)
 byte-digit b h k = let r : (48 ≤ b) × (b ≤ 57) = (omega (arith, h, k), omega (arith, h, k)) in go r.0 r.1
   where
     value : 48 ≤ b → b ≤ 57 → digit_value b ≡ b - 48

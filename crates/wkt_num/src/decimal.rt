@@ -7,6 +7,7 @@ ghost use Rattle.wkt_num.specs.Halves.{upper_half, lower_half, upper_back, lower
 ghost use Rattle.wkt_num.specs.DecimalLaws.{decimal_reads_back, decimal_reads_values, decimal_number_text, decimal_same};
 
 use crate::formatted::FormatterText;
+use crate::kept::kept_decimal;
 use crate::number::WktNum;
 use crate::printing::write_units;
 use crate::reading::{read_signed, split_sign};
@@ -151,6 +152,11 @@ impl<const D: u32> WktNum for Decimal<D> {
         let _ = &self.high;
         let units = self.units();
         write_units(D, units < 0, units.unsigned_abs(), f)
+    }
+
+    #[inline(always)]
+    fn kept_text(bytes: &[u8]) -> Option<(usize, usize)> {
+        kept_decimal(D, bytes)
     }
 
     fn known(&self) {

@@ -2,6 +2,7 @@
 ghost use Rattle.std.specs.Prelude.{◌≡◌, ℕ, true, List, Option, Some, IfSome, ◌↔◌};
 ghost use Rattle.wkt_num.specs.Sink.{Puts};
 ghost use Rattle.wkt_num.specs.Number.{IsNumberText};
+ghost use Rattle.wkt_num.specs.Kept.{KeepsText};
 
 use crate::sink::TextSink;
 use std::fmt;
@@ -28,6 +29,14 @@ pub trait WktNum: Copy + PartialEq + PartialOrd + Debug {
     /// Adds the number's text to the sink. An error is the sink's.
     fn write_number<W: TextSink>(&self, f: &mut W) -> fmt::Result
         ensures { Puts W.sink f.old (num self.now) f.new result };
+
+    /// Where the number run that the bytes begin with ends, and where its number's text does, which is a
+    /// beginning of it. `None` says nothing of the bytes.
+    fn kept_text(bytes: &[u8]) -> Option<(usize, usize)>
+        ensures { IfSome result (λ r. KeepsText read num bytes.now r.0 r.1) }
+    {
+        None
+    }
 
     /// Does nothing. Its contract tells that the number is a value of the type.
     fn known(&self)

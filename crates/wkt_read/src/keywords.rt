@@ -77,7 +77,14 @@ pub(crate) fn kind(header: &[u8]) -> Option<(GeometryType, &[u8])>
 pub fn kind_of(word: &str) -> Option<(GeometryType, Option<Dimension>)>
     ensures { Names result (kind_word word.now) }
 {
-    let word = word.as_bytes();
+    kind_in(word.as_bytes())
+}
+
+/// The same of a word as its bytes.
+#[inline(always)]
+pub fn kind_in(word: &[u8]) -> Option<(GeometryType, Option<Dimension>)>
+    ensures { Names result (kind_word word.now) }
+{
     let (kind, rest) = kind(word)?;
     if rest.is_empty() {
         return Some((kind, None));
@@ -99,7 +106,7 @@ pub fn dimension_of(word: &str) -> Option<Dimension>
 
 /// The dimension that the letters name, whatever their case.
 #[tactic(auto, unfolding(crate::specs::Grammar::dim_word))]
-fn dimension_in(letters: &[u8]) -> Option<Dimension>
+pub fn dimension_in(letters: &[u8]) -> Option<Dimension>
     ensures { result ≡ dim_word letters.now }
 {
     match letters {
@@ -115,4 +122,11 @@ pub fn is_empty(word: &str) -> bool
     ensures { result ≡ is_empty_word word.now }
 {
     word.eq_ignore_ascii_case("EMPTY")
+}
+
+/// The same of a word as its bytes.
+pub fn is_empty_in(word: &[u8]) -> bool
+    ensures { result ≡ is_empty_word word.now }
+{
+    word.eq_ignore_ascii_case(b"EMPTY")
 }

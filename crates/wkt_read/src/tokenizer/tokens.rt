@@ -32,7 +32,7 @@ pub enum Token<'a, T> {
 
 /// A lexeme whose number is not read yet, or the end of the text.
 #[derive(Clone, Copy)]
-pub(crate) enum Lexeme<'a> {
+pub enum Lexeme<'a> {
     End,
     Comma,
     Close,
@@ -150,9 +150,9 @@ impl<'a, T: WktNum> Tokens<'a, T> {
         }
     }
 
-    // The next lexeme, its number not read.
+    /// The next lexeme, its number not read.
     #[inline(always)]
-    pub(crate) fn next_lexeme(&mut self) -> Lexeme<'a>
+    pub fn next_lexeme(&mut self) -> Lexeme<'a>
         ensures { Steps self.old (found result) self.new }
     {
         let mark = match first_class(&mut self.bytes, self.ahead) {

@@ -1,0 +1,161 @@
+-- The digits in a window of bytes.
+use Rattle.std.proofs.Common.{◌≡◌, ℕ, zero, suc, ◌+◌, ◌-◌, ◌*◌, ◌/◌, ◌%◌, ◌^◌, ◌<◌, ◌≤◌, Bool, true, false, cond, min, ◌==◌, nat_lt, bit_and, List, [], ◌∷◌, length, take, drop, map, get_or, slice_range, replicate, refl, sym, ap, subst, ◌∙◌, arith, Fits, w8}
+use Rattle.std.specs.Prelude.{not}
+use Rattle.std.specs.List.{prefix_len}
+use Rattle.std.specs.Fmt.{sign_text}
+use Rattle.std.specs.Str.Parse.{AllDigits}
+use Rattle.std.specs.Int.Bits.{and_self}
+use Rattle.std.proofs.lemmas.List.{length-take-le, length-map, take-take, drop-take, map-id}
+use Rattle.std.proofs.lemmas.Simd.{chunk-fits, trailing_mask_l, zip2_splat, map-map}
+use borrow.Author.Tests.{ltb-false}
+use lib.Bits.{and_step}
+use lib.Count.{count_trailing_zeros}
+use lib.Lanes.{zip2, Each1, chunk, mask_l, top}
+use mir.Val.{bits, hbits}
+use Rattle.wkt_num.specs.Parts.{is_other, bits_from, others_mask, IsFirstOther}
+use Rattle.wkt_num.proofs.Vectors.{over-mask, byte-digit}
+
+-- ---- a mask without its lowest bit
+
+abbrev without_first : List Bool → List Bool
+without_first [] = []
+without_first (true ∷ ms) = false ∷ ms
+without_first (false ∷ ms) = false ∷ without_first ms
+
+-- how many bits stand below the first that is set
+abbrev zeros_below : List Bool → ℕ
+zeros_below ms = prefix_len (λ b. not b) ms
+
+less-and : (ms : List Bool) → 0 < mask_l ms → bit_and (mask_l ms) (mask_l ms - 1) ≡ mask_l (without_first ms)
+less-and [] some = absurd (omega (arith, some))
+less-and (true ∷ ms) some =
+    let m : ℕ = mask_l ms in
+    and_step (1 + 2 * m) (1 + 2 * m - 1)
+    ∙ ap (λ (n : ℕ). bit_and n ((1 + 2 * m - 1) / 2) * 2 + min ((1 + 2 * m) % 2) ((1 + 2 * m - 1) % 2)) {x = (1 + 2 * m) / 2} {y = m} (omega arith)
+    ∙ ap (λ (n : ℕ). bit_and m n * 2 + min ((1 + 2 * m) % 2) ((1 + 2 * m - 1) % 2)) {x = (1 + 2 * m - 1) / 2} {y = m} (omega arith)
+    ∙ omega (arith, and_self m)
+less-and (false ∷ ms) some =
+    let m : ℕ = mask_l ms in
+    and_step (0 + 2 * m) (0 + 2 * m - 1)
+    ∙ ap (λ (n : ℕ). bit_and n ((0 + 2 * m - 1) / 2) * 2 + min ((0 + 2 * m) % 2) ((0 + 2 * m - 1) % 2)) {x = (0 + 2 * m) / 2} {y = m} (omega arith)
+    ∙ ap (λ (n : ℕ). bit_and m n * 2 + min ((0 + 2 * m) % 2) ((0 + 2 * m - 1) % 2)) {x = (0 + 2 * m - 1) / 2} {y = m - 1} (omega (arith, some))
+    ∙ omega (arith, less-and ms (omega (arith, some)))
+
+-- what is left of the bits from a place on
+next-bits : (i : ℕ) (ms : List Bool) → 0 < mask_l (bits_from i ms) → without_first (bits_from i ms) ≡ bits_from (zeros_below (bits_from i ms) + 1) ms
+next-bits zero [] some = absurd (omega (arith, some))
+next-bits zero (true ∷ ms) some = ap (λ (n : ℕ). bits_from n (true ∷ ms)) {x = 1} {y = 0 + 1} (omega arith)
+next-bits zero (false ∷ ms) some =
+    ap (λ l. false ∷ l) (next-bits zero ms (omega (arith, some)))
+    ∙ ap (λ (n : ℕ). bits_from n (false ∷ ms)) {x = suc (zeros_below ms + 1)} {y = 1 + zeros_below ms + 1} (omega arith)
+next-bits (suc i) [] some = absurd (omega (arith, some))
+next-bits (suc i) (m ∷ ms) some =
+    ap (λ l. false ∷ l) (next-bits i ms (omega (arith, some)))
+    ∙ ap (λ (n : ℕ). bits_from n (m ∷ ms)) {x = suc (zeros_below (bits_from i ms) + 1)} {y = 1 + zeros_below (bits_from i ms) + 1} (omega arith)
+
+-- ---- the bytes before the first that is no digit
+
+pub record Digits (xs : List ℕ) (from at : ℕ) : Type 0 where
+  pub order : from ≤ at
+  pub within : at < length xs
+  pub digits : AllDigits 10 (slice_range xs from at)
+
+-- one byte more in front
+digits-next : (x : ℕ) (xs : List ℕ) (from at : ℕ) → Digits xs from at → Digits (x ∷ xs) (suc from) (1 + at)
+digits-next x xs from at d = record {
+  order = omega (arith, d.order);
+  within = omega (arith, d.within);
+  digits = subst (λ (n : ℕ). AllDigits 10 (take n (drop from xs))) {x = at - from} {y = 1 + at - suc from} (omega arith) d.digits;
+}
+
+digits-one : (x : ℕ) (xs : List ℕ) (at : ℕ) → x < 256 → is_other x ≡ false → Digits xs 0 at → Digits (x ∷ xs) 0 (1 + at)
+digits-one x xs at byte e d = record {
+  order = omega arith;
+  within = omega (arith, d.within);
+  digits = subst (λ (n : ℕ). AllDigits 10 (take n (x ∷ xs))) {x = suc (at - 0)} {y = 1 + at - 0} (omega arith) ((byte-digit x byte (ltb-false 9 ((x + 208) % 256) e)).1, d.digits);
+}
+
+digits-below : (from : ℕ) (xs : List ℕ) → Each1 (Fits w8) xs → 0 < mask_l (bits_from from (map is_other xs)) → Digits xs from (zeros_below (bits_from from (map is_other xs)))
+digits-below zero [] f some = absurd (omega (arith, some))
+digits-below zero (x ∷ xs) f some = go (is_other x) refl some (digits-below zero xs f.1)
+  where
+    go : (b : Bool) → is_other x ≡ b → 0 < cond b 1 0 + 2 * mask_l (map is_other xs) → (0 < mask_l (map is_other xs) → Digits xs 0 (zeros_below (map is_other xs))) → Digits (x ∷ xs) 0 (cond (not b) (1 + zeros_below (map is_other xs)) 0)
+    go true e some more = record { order = omega arith; within = omega arith; digits = subst (λ (n : ℕ). AllDigits 10 (take n (x ∷ xs))) {x = 0} {y = 0 - 0} (omega arith) tt }
+    go false e some more = digits-one x xs (zeros_below (map is_other xs)) f.0.fits e (more (omega (arith, some)))
+digits-below (suc i) [] f some = absurd (omega (arith, some))
+digits-below (suc i) (x ∷ xs) f some = digits-next x xs i _ (digits-below i xs f.1 (omega (arith, some)))
+
+length-bits : (i : ℕ) (ms : List Bool) → length (bits_from i ms) ≡ length ms
+length-bits zero ms = refl
+length-bits (suc i) [] = refl
+length-bits (suc i) (m ∷ ms) = ap suc (length-bits i ms)
+
+-- the lowest bit is the place of the first that is no digit
+pub is-first : (bs : List ℕ) (from others : ℕ) → ((k : ℕ) → Fits w8 (get_or bs k 0)) → 32 ≤ length bs → others ≡ others_mask bs from → 0 < others → IsFirstOther bs from others (count_trailing_zeros 64 others)
+is-first bs from others fits window e some = record {
+  order = omega (arith, count, d.order);
+  within = omega (arith, count, d.within, long);
+  digits = subst (λ (n : ℕ). AllDigits 10 (slice_range bs from n)) (sym count) (subst (AllDigits 10) same d.digits);
+  some = some;
+  next = ap (λ (n : ℕ). bit_and n (n - 1)) e ∙ less-and ms some' ∙ ap mask_l (next-bits from (map is_other xs) some') ∙ ap (λ (n : ℕ). others_mask bs (n + 1)) (sym count);
+}
+  where
+    xs : List ℕ
+    xs = take 32 bs
+
+    ms : List Bool
+    ms = bits_from from (map is_other xs)
+
+    long : length xs ≡ 32
+    long = length-take-le 32 bs window
+
+    some' : 0 < mask_l ms
+    some' = subst (λ n. 0 < n) e some
+
+    d : Digits xs from (zeros_below ms)
+    d = digits-below from xs (chunk-fits w8 0 32 bs fits) some'
+
+    all : mask_l (map (λ b. b) ms) ≡ mask_l ms
+    all = ap mask_l (map-id ms)
+
+    count : count_trailing_zeros 64 others ≡ zeros_below ms
+    count =
+        ap (count_trailing_zeros 64) (e ∙ sym all)
+        ∙ trailing_mask_l (λ (b : Bool). b) 64 ms (omega (arith, length-bits from (map is_other xs), length-map xs is_other, long)) (subst (λ n. 0 < n) (sym all) some')
+
+    same : slice_range xs from (zeros_below ms) ≡ slice_range bs from (zeros_below ms)
+    same =
+        ap (λ (n : ℕ). take (zeros_below ms - from) (drop from (take n bs))) {x = 32} {y = from + (32 - from)} (omega (arith, d.order, d.within, long))
+        ∙ ap (take (zeros_below ms - from)) (drop-take from (32 - from) bs)
+        ∙ take-take (zeros_below ms - from) (32 - from) (drop from bs) (omega (arith, d.within, long))
+
+-- ---- a minus
+
+-- a minus that stands first has the lowest bit
+minus-bit : (bs : List ℕ) → 32 ≤ length bs → take 1 bs ≡ 45 ∷ [] → (0 < others_mask bs 0) × (bit_and (others_mask bs 0) (others_mask bs 0 - 1) ≡ others_mask bs 1)
+minus-bit [] window sign = absurd (omega (arith, window))
+minus-bit (b ∷ bs) window sign =
+    let ms : List Bool = map is_other (take 32 (b ∷ bs)) in
+    let is : b ≡ 45 = ap (λ (l : List ℕ). get_or l 0 0) sign in
+    let front : ms ≡ true ∷ map is_other (take 31 bs) = ap (λ (n : ℕ). is_other n ∷ map is_other (take 31 bs)) is in
+    let some : 0 < mask_l ms = subst (λ (l : List Bool). 0 < mask_l l) (sym front) (omega arith) in
+    (some, less-and ms some ∙ ap (λ (l : List Bool). mask_l (without_first l)) front)
+
+pub minus-less : (bs : List ℕ) (first all : ℕ) → 32 ≤ length bs → first ≤ 1 → take first bs ≡ sign_text (first == 1) → all ≡ others_mask bs 0 → (first ≤ all) × (bit_and all (all - first) ≡ others_mask bs first)
+minus-less bs zero all window minus sign e = (omega arith, ap (bit_and all) {x = all - 0} {y = all} (omega arith) ∙ and_self all ∙ e)
+minus-less bs (suc zero) all window minus sign e =
+    let m = minus-bit bs window sign in
+    (omega (arith, e, m.0), ap (λ (n : ℕ). bit_and n (n - 1)) e ∙ m.1)
+minus-less bs (suc (suc n)) all window minus sign e = absurd (omega (arith, minus))
+
+-- ---- what the lanes tell
+
+pub mask-of : (bs : List ℕ) → 32 ≤ length bs
+    → mask_l (map (top (hbits w8)) (zip2 (λ a b. cond (nat_lt a b) (2 ^ bits w8 - 1) 0) (replicate 32 9) (zip2 (λ a b. (a + (256 - b)) % 256) (chunk 0 32 bs) (replicate 32 48)))) % 2 ^ 64 ≡ others_mask bs 0
+mask-of bs window =
+    let xs : List ℕ = take 32 bs in
+    let long : length xs ≡ 32 = length-take-le 32 bs window in
+    let lanes : zip2 (λ a b. (a + (256 - b)) % 256) (chunk 0 32 bs) (replicate 32 48) ≡ map (λ b. (b + 208) % 256) xs = zip2_splat (λ a b. (a + (256 - b)) % 256) xs 32 48 long in
+    over-mask 32 _ (ap length lanes ∙ length-map xs (λ b. (b + 208) % 256) ∙ long) (omega arith)
+    ∙ ap (λ l. mask_l (map (λ x. nat_lt 9 x) l)) lanes
+    ∙ ap mask_l (map-map (λ x. nat_lt 9 x) (λ b. (b + 208) % 256) xs)

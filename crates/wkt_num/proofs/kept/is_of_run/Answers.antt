@@ -1,0 +1,5 @@
+use Rattle.wkt_num.proofs.Stops.{table-tells}
+use Rattle.wkt_num.proofs.kept.is_of_run.Goals as goal
+
+pub returns : goal.returns
+returns c = table-tells c.args.byte c.ranges.byte.fits

@@ -1,0 +1,5 @@
+use Rattle.wkt_num.proofs.Window.{mask-of}
+use Rattle.wkt_num.proofs.kept.others.Goals as goal
+
+pub returns : goal.returns
+returns c = mask-of c.args.bytes.now c.requires

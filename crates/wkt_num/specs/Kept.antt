@@ -1,0 +1,19 @@
+-- The text of a number inside the text that it is read from.
+use Rattle.std.specs.Prelude.{◌≡◌, ◌≢◌, ℕ, ◌≤◌, List, [], ◌∷◌, length, take, drop, Option, Some}
+use Rattle.wkt_num.specs.Bytes.{Run, class_of}
+use Rattle.wkt_num.specs.Number.{IsNumberText}
+
+-- No run goes on into these bytes.
+abbrev pub StopsRun : List ℕ → Type 0
+StopsRun [] = Unit {0}
+StopsRun (b ∷ bs) = class_of b ≢ Run
+
+-- The bytes begin with a number run of `end` bytes, whose first `kept` are the text of the number that it is read as.
+pub record KeepsText {T : Type 0} (read : List ℕ → Option T) (num : T → List ℕ) (bs : List ℕ) (end kept : ℕ) : Type 0 where
+  pub number : T
+  pub within : end ≤ length bs
+  pub shorter : kept ≤ end
+  pub run : IsNumberText (take end bs)
+  pub stops : StopsRun (drop end bs)
+  pub reads : read (take end bs) ≡ Some number
+  pub text : num number ≡ take kept bs

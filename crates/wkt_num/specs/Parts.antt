@@ -1,0 +1,47 @@
+-- The parts of a decimal's text, by their places in the bytes. Only private contracts cite this file.
+use Rattle.std.specs.Prelude.{zero, suc, false, [], ◌∷◌, bit_and, ◌≡◌, ◌≢◌, ℕ, ◌+◌, ◌-◌, ◌%◌, ◌<◌, ◌≤◌, Bool, List, take, map, length, nat_lt, slice_index, slice_range}
+use Rattle.std.specs.Str.Parse.{AllDigits}
+use lib.Lanes.{mask_l}
+use Rattle.wkt_num.specs.Padded.{zeros}
+
+-- The digits before the point, as they are printed, and few enough that the units fit.
+pub record IsWholePart (bs : List ℕ) (first point : ℕ) : Type 0 where
+  pub some : first < point
+  pub few : point ≤ first + 20
+  pub within : point ≤ length bs
+  pub digits : AllDigits 10 (slice_range bs first point)
+  pub plain : slice_index bs first ≡ 48 → point ≡ first + 1
+
+-- No zero stands first or last, nor the point, and all is so short that the units fit.
+pub record IsPlain (D : ℕ) (bs : List ℕ) (first end : ℕ) : Type 0 where
+  pub starts : 48 < slice_index bs first
+  pub last : 48 < slice_index bs (end - 1)
+  pub short : end ≤ D + 2
+
+-- From `kept` on the bytes are zeros, and none stands before it.
+pub record HasZeros (bs : List ℕ) (kept end : ℕ) : Type 0 where
+  pub within : kept ≤ end
+  pub zeros : slice_range bs kept end ≡ zeros (end - kept)
+  pub last : slice_index bs (kept - 1) ≢ 48
+
+-- The byte is no digit, as a lane of bytes tells, which wrap.
+abbrev pub is_other : ℕ → Bool
+is_other b = nat_lt 9 ((b + 208) % 256)
+
+-- The bits from a place on.
+abbrev pub bits_from : ℕ → List Bool → List Bool
+bits_from zero ms = ms
+bits_from (suc i) [] = []
+bits_from (suc i) (m ∷ ms) = false ∷ bits_from i ms
+
+-- Of the first 32 bytes those from a place on that are no digits, as bits.
+abbrev pub others_mask : List ℕ → ℕ → ℕ
+others_mask bs from = mask_l (bits_from from (map is_other (take 32 bs)))
+
+-- The digits from a place on end at `at`, and what is left of the bits.
+pub record IsFirstOther (bs : List ℕ) (from others at : ℕ) : Type 0 where
+  pub order : from ≤ at
+  pub within : at < 32
+  pub digits : AllDigits 10 (slice_range bs from at)
+  pub some : 0 < others
+  pub next : bit_and others (others - 1) ≡ others_mask bs (at + 1)

@@ -1,0 +1,284 @@
+//! The text of a decimal inside the text that it is read from.
+ghost use Rattle.std.specs.Prelude.{◌≡◌, ◌≢◌, ◌≤◌, ◌<◌, ◌+◌, ◌==◌, IfSome, MatchBool, length, take, slice_range, slice_index};
+ghost use Rattle.std.specs.Bool.{OnTrue, OnFalse};
+ghost use Rattle.std.specs.Fmt.{sign_text};
+ghost use Rattle.std.specs.Str.Parse.{AllDigits};
+ghost use Rattle.wkt_num.specs.Bytes.{class_of, Run};
+ghost use Rattle.wkt_num.specs.Decimal.{read_decimal, decimal_text};
+ghost use Rattle.wkt_num.specs.Kept.{KeepsText};
+ghost use Rattle.wkt_num.specs.Parts.{IsWholePart, IsPlain, HasZeros, IsFirstOther, others_mask};
+
+use crate::powers::SHORT_PLACES;
+use std::simd::prelude::*;
+
+/// The most digits before the point with which the units surely fit.
+const MOST_WHOLE: usize = 20;
+
+/// The bytes of a window, in which most numbers end.
+const WINDOW: usize = 32;
+
+/// Where the number run that the bytes begin with ends, and where its number's text does. `None` says
+/// nothing: the run is none, or no canonical text with zeros after its fraction or none.
+#[inline(always)]
+pub fn kept_decimal(places: u32, bytes: &[u8]) -> Option<(usize, usize)>
+    ensures { IfSome result (λ r. KeepsText (read_decimal 127 36 places) (decimal_text places) bytes.now r.0 r.1) }
+{
+    if places > SHORT_PLACES {
+        return None;
+    }
+    if bytes.len() >= WINDOW {
+        if let Some((end, kept)) = kept_in_window(places, bytes) {
+            return Some((end, kept));
+        }
+    }
+    kept_apart(places, bytes)
+}
+
+/// The same of a run that ends in a window.
+#[inline(always)]
+pub fn kept_in_window(places: u32, bytes: &[u8]) -> Option<(usize, usize)>
+    requires { 32 ≤ length bytes.now }
+    ensures keeps { IfSome result (λ r. KeepsText (read_decimal 127 36 places) (decimal_text places) bytes.now r.0 r.1) }
+    ensures within { IfSome result (λ r. r.0 < 32) }
+{
+    if places > SHORT_PLACES {
+        return None;
+    }
+    let first = after_minus(bytes);
+    let others = others_from(bytes, first);
+    let Some(point) = first_other(bytes, first, others) else {
+        return None;
+    };
+    if bytes[point] != b'.' {
+        if !is_whole_part(bytes, first, point)
+            || is_minus_zero(bytes, first)
+            || is_of_run(bytes[point])
+        {
+            return None;
+        }
+        return Some((point, point));
+    }
+    let Some(end) = first_other(bytes, point + 1, others & (others - 1)) else {
+        return None;
+    };
+    if is_of_run(bytes[end]) {
+        return None;
+    }
+    if is_plain(places, bytes, first, end) {
+        return Some((end, end));
+    }
+    if !is_whole_part(bytes, first, point) {
+        return None;
+    }
+    kept_fraction(places, bytes, first, point, end)
+}
+
+/// The bytes of the window after a minus or none that are no digits, as bits.
+#[inline(always)]
+fn others_from(bytes: &[u8], first: usize) -> u64
+    requires window { 32 ≤ length bytes.now }
+    requires minus { first ≤ 1 }
+    requires sign { take first bytes.now ≡ sign_text (first == 1) }
+    ensures { result ≡ others_mask bytes.now first }
+{
+    // To take one away turns the lowest bit and those below it, which is that of the minus.
+    let all = others(bytes);
+    all & (all - first as u64)
+}
+
+/// The bytes of the window that are no digits, as bits.
+#[inline(always)]
+fn others(bytes: &[u8]) -> u64
+    requires { 32 ≤ length bytes.now }
+    ensures { result ≡ others_mask bytes.now 0 }
+{
+    let digits = u8x32::from_slice(bytes) - u8x32::splat(48);
+    digits.simd_gt(u8x32::splat(9)).to_bitmask()
+}
+
+/// Where the digits from `from` on end, if they do so in the window: the lowest of these bits.
+#[inline(always)]
+fn first_other(bytes: &[u8], from: usize, others: u64) -> Option<usize>
+    requires window { 32 ≤ length bytes.now }
+    requires others { others ≡ others_mask bytes.now from }
+    ensures { IfSome result (λ at. IsFirstOther bytes.now from others at) }
+{
+    if others == 0 {
+        return None;
+    }
+    Some(others.trailing_zeros() as usize)
+}
+
+/// The same for a number that may end anywhere. What it answers comes through memory, whose place is
+/// cleared here, away from the way before it, which answers in registers.
+#[inline(always)]
+fn kept_apart(places: u32, bytes: &[u8]) -> Option<(usize, usize)>
+    requires { places ≤ 18 }
+    ensures { IfSome result (λ r. KeepsText (read_decimal 127 36 places) (decimal_text places) bytes.now r.0 r.1) }
+{
+    kept_anywhere(places, bytes)
+}
+
+#[inline(never)]
+fn kept_anywhere(places: u32, bytes: &[u8]) -> Option<(usize, usize)>
+    requires { places ≤ 18 }
+    ensures { IfSome result (λ r. KeepsText (read_decimal 127 36 places) (decimal_text places) bytes.now r.0 r.1) }
+{
+    let first = after_minus(bytes);
+    let point = digits_end(bytes, first);
+    if point == bytes.len() || bytes[point] != b'.' {
+        if !is_whole_part(bytes, first, point)
+            || is_minus_zero(bytes, first)
+            || !stops(bytes, point)
+        {
+            return None;
+        }
+        return Some((point, point));
+    }
+    let end = digits_end(bytes, point + 1);
+    if !is_whole_part(bytes, first, point) || !stops(bytes, end) {
+        return None;
+    }
+    kept_fraction(places, bytes, first, point, end)
+}
+
+/// The same of digits around a point, where the run ends with them.
+#[inline(always)]
+fn kept_fraction(
+    places: u32,
+    bytes: &[u8],
+    first: usize,
+    point: usize,
+    end: usize,
+) -> Option<(usize, usize)>
+    requires few { places ≤ 18 }
+    requires sign { take first bytes.now ≡ sign_text (first == 1) }
+    requires whole { IsWholePart bytes.now first point }
+    requires after { point < end }
+    requires within { end ≤ length bytes.now }
+    requires point { slice_index bytes.now point ≡ 46 }
+    requires fraction { AllDigits 10 (slice_range bytes.now (point + 1) end) }
+    requires stops { end < length bytes.now → class_of (slice_index bytes.now end) ≢ Run }
+    ensures keeps { IfSome result (λ r. KeepsText (read_decimal 127 36 places) (decimal_text places) bytes.now r.0 r.1) }
+    ensures end { IfSome result (λ r. r.0 ≡ end) }
+{
+    let kept = before_zeros(bytes, point, end);
+    if kept == point + 1 {
+        return if is_minus_zero(bytes, first) {
+            None
+        } else {
+            Some((end, point))
+        };
+    }
+    if kept - point - 1 > places as usize {
+        return None;
+    }
+    Some((end, kept))
+}
+
+/// Where the digits begin: after a minus, if one stands first.
+#[inline(always)]
+fn after_minus(bytes: &[u8]) -> usize
+    ensures within { result ≤ length bytes.now }
+    ensures minus { result ≤ 1 }
+    ensures sign { take result bytes.now ≡ sign_text (result == 1) }
+{
+    match bytes {
+        [b'-', ..] => 1,
+        _ => 0,
+    }
+}
+
+/// Where digits from `from` on end, or earlier.
+#[inline(always)]
+fn digits_end(bytes: &[u8], from: usize) -> usize
+    requires { from ≤ length bytes.now }
+    ensures from { from ≤ result }
+    ensures within { result ≤ length bytes.now }
+    ensures digits { AllDigits 10 (slice_range bytes.now from result) }
+{
+    let mut at = from;
+    while at < bytes.len() && bytes[at].is_ascii_digit() {
+        at += 1;
+    }
+    at
+}
+
+/// Whether these digits are a whole part as it is printed, with which the units fit.
+#[inline(always)]
+fn is_whole_part(bytes: &[u8], first: usize, point: usize) -> bool
+    requires order { first ≤ point }
+    requires within { point ≤ length bytes.now }
+    requires digits { AllDigits 10 (slice_range bytes.now first point) }
+    ensures { OnTrue result (IsWholePart bytes.now first point) }
+{
+    let count = point - first;
+    if count == 0 || count > MOST_WHOLE {
+        return false;
+    }
+    bytes[first] != b'0' || count == 1
+}
+
+/// Whether no zero stands first or last, nor the point, and all is so short that the units fit.
+#[inline(always)]
+fn is_plain(places: u32, bytes: &[u8], first: usize, end: usize) -> bool
+    requires order { first < end }
+    requires within { end ≤ length bytes.now }
+    ensures { OnTrue result (IsPlain places bytes.now first end) }
+{
+    bytes[first] > b'0' && bytes[end - 1] > b'0' && end <= places as usize + 2
+}
+
+/// Whether a minus stands before a zero.
+#[inline(always)]
+fn is_minus_zero(bytes: &[u8], first: usize) -> bool
+    requires { first < length bytes.now }
+    ensures { OnFalse result (first ≡ 1 → slice_index bytes.now first ≢ 48) }
+{
+    bytes[first] == b'0' && first == 1
+}
+
+/// Whether no run goes on at `end`.
+#[inline(always)]
+fn stops(bytes: &[u8], end: usize) -> bool
+    requires { end ≤ length bytes.now }
+    ensures { OnTrue result (end < length bytes.now → class_of (slice_index bytes.now end) ≢ Run) }
+{
+    end == bytes.len() || !is_of_run(bytes[end])
+}
+
+/// For each byte whether it is no part of a run: NUL, white space and marks.
+static STOPS: [u8; 256] = [
+    1, 0, 0, 0, 0, 0, 0, 0, 0, 1, 1, 0, 0, 1, 0, 0, 0, 0, 0, 0, 0, 0, 0, 0, 0, 0, 0, 0, 0, 0, 0, 0,
+    1, 0, 0, 0, 0, 0, 0, 0, 1, 1, 0, 0, 1, 0, 0, 0, 0, 0, 0, 0, 0, 0, 0, 0, 0, 0, 0, 0, 0, 0, 0, 0,
+    0, 0, 0, 0, 0, 0, 0, 0, 0, 0, 0, 0, 0, 0, 0, 0, 0, 0, 0, 0, 0, 0, 0, 0, 0, 0, 0, 0, 0, 0, 0, 0,
+    0, 0, 0, 0, 0, 0, 0, 0, 0, 0, 0, 0, 0, 0, 0, 0, 0, 0, 0, 0, 0, 0, 0, 0, 0, 0, 0, 0, 0, 0, 0, 0,
+    0, 0, 0, 0, 0, 0, 0, 0, 0, 0, 0, 0, 0, 0, 0, 0, 0, 0, 0, 0, 0, 0, 0, 0, 0, 0, 0, 0, 0, 0, 0, 0,
+    0, 0, 0, 0, 0, 0, 0, 0, 0, 0, 0, 0, 0, 0, 0, 0, 0, 0, 0, 0, 0, 0, 0, 0, 0, 0, 0, 0, 0, 0, 0, 0,
+    0, 0, 0, 0, 0, 0, 0, 0, 0, 0, 0, 0, 0, 0, 0, 0, 0, 0, 0, 0, 0, 0, 0, 0, 0, 0, 0, 0, 0, 0, 0, 0,
+    0, 0, 0, 0, 0, 0, 0, 0, 0, 0, 0, 0, 0, 0, 0, 0, 0, 0, 0, 0, 0, 0, 0, 0, 0, 0, 0, 0, 0, 0, 0, 0,
+];
+
+/// Whether a byte is a part of a run.
+#[inline(always)]
+fn is_of_run(byte: u8) -> bool
+    ensures { MatchBool result (class_of byte ≡ Run) (class_of byte ≢ Run) }
+{
+    STOPS[byte as usize] == 0
+}
+
+/// Where the zeros begin that end a fraction.
+#[inline(always)]
+fn before_zeros(bytes: &[u8], point: usize, end: usize) -> usize
+    requires order { point < end }
+    requires within { end ≤ length bytes.now }
+    requires point { slice_index bytes.now point ≡ 46 }
+    ensures after { point < result }
+    ensures zeros { HasZeros bytes.now result end }
+{
+    let mut kept = end;
+    while bytes[kept - 1] == b'0' {
+        kept -= 1;
+    }
+    kept
+}

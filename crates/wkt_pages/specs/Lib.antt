@@ -1,0 +1,10 @@
+pub mod Lines
+pub mod Splitting
+pub mod Laws
+pub mod Replies
+pub mod Output
+pub mod Numbers
+pub mod Feeds
+pub mod Blocks
+pub mod Streaming
+pub mod Pages

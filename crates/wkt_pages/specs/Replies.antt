@@ -1,0 +1,53 @@
+-- Answers of any kind to the lines of an input: `is line answer` says that the line may have this answer.
+use Rattle.std.specs.Prelude.{◌≡◌, ℕ, List, [], ◌∷◌, ◌++◌, Option}
+use Rattle.std.specs.Io.KnownBytes.{Appends}
+use Rattle.wkt_bytes.specs.Sinks.{SinkOfBytes}
+use Rattle.wkt_pages.specs.Lines.{input_lines}
+
+module _ (is : List ℕ → List ℕ → Type 0) where
+  -- Each line's answer, followed by a line feed.
+  abbrev pub AreReplies : List (List ℕ) → List ℕ → Type 0
+  AreReplies [] out = out ≡ []
+  AreReplies (line ∷ lines) out =
+      (answer : List ℕ) × (rest : List ℕ) × (out ≡ (answer ++ 10 ∷ []) ++ rest) × is line answer × AreReplies lines rest
+
+  -- The answers to all lines of the input went out.
+  abbrev pub AllReplied : Option (List ℕ) → Option (List ℕ) → List ℕ → Type 0
+  AllReplied old new input = (out : List ℕ) × AreReplies (input_lines input) out × Appends old new out
+
+  -- The whole answers to some first lines went out, and nothing else.
+  pub record FirstReplied (old new : Option (List ℕ)) (input : List ℕ) : Type 0 where
+    pub first : List (List ℕ)
+    pub others : List (List ℕ)
+    pub lines : first ++ others ≡ input_lines input
+    pub out : List ℕ
+    pub answers : AreReplies first out
+    pub went : Appends old new out
+
+  -- The whole answers to some first lines went out, and then a beginning of the next line's.
+  pub record PartReplied (old new : Option (List ℕ)) (input : List ℕ) : Type 0 where
+    pub first : List (List ℕ)
+    pub line : List ℕ
+    pub others : List (List ℕ)
+    pub lines : first ++ (line ∷ others) ≡ input_lines input
+    pub out : List ℕ
+    pub answers : AreReplies first out
+    pub answer : List ℕ
+    pub is_answer : is line answer
+    pub part : List ℕ
+    pub lost : List ℕ
+    pub whole : answer ++ 10 ∷ [] ≡ part ++ lost
+    pub went : Appends old new (out ++ part)
+
+  module _ {D : Type 0} (sink : SinkOfBytes D) where
+    -- The answers to all lines went out, by the sink that tells its bytes.
+    abbrev pub IsAllReplied : D → D → List ℕ → Type 0
+    IsAllReplied old new = AllReplied (sink.bytes old) (sink.bytes new)
+
+    -- The same of the whole answers to some first lines.
+    abbrev pub IsFirstReplied : D → D → List ℕ → Type 0
+    IsFirstReplied old new = FirstReplied (sink.bytes old) (sink.bytes new)
+
+    -- The same of some first answers, and a beginning of the next.
+    abbrev pub IsPartReplied : D → D → List ℕ → Type 0
+    IsPartReplied old new = PartReplied (sink.bytes old) (sink.bytes new)

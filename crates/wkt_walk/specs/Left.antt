@@ -1,0 +1,61 @@
+-- The lexemes that are left in a text from a place of its bytes. A text ends at its first NUL or with its last byte; where `feed` is true, at its first LF too, which else is white space.
+use Rattle.std.specs.Prelude.{◌≡◌, ◌≢◌, ℕ, ◌≤◌, ◌<◌, List, [], ◌∷◌, ◌++◌, ◌==◌, if◌then◌else◌, Bool, true, false, drop, length, get_or, slice_range}
+use Rattle.wkt_num.specs.Bytes.{Lexeme, Open, Close, Comma, Word, Num, Class, Nul, Run, AllRun, class_of}
+use Rattle.wkt_read.specs.Placed.{Placed, lexemes_of, placed_from}
+
+-- what stands before the first line feed
+abbrev pub before_feed : List ℕ → List ℕ
+before_feed [] = []
+before_feed (b ∷ bs) = if b == 10 then [] else b ∷ before_feed bs
+
+-- the bytes in which a text's lexemes are
+abbrev pub line_of : Bool → List ℕ → List ℕ
+line_of false bytes = bytes
+line_of true bytes = before_feed bytes
+
+-- what a byte is in a text: a line feed that ends it is as a NUL
+unfoldable pub class_in : Bool → ℕ → Class
+class_in false b = class_of b
+class_in true b = if b == 10 then Nul else class_of b
+
+-- the lexemes that are left in a text from this place, each with its end in the text
+unfoldable pub left_placed : Bool → List ℕ → ℕ → List Placed
+left_placed feed text at = placed_from at (line_of feed (drop at text))
+
+-- the lexemes that are left in a text from this place
+unfoldable pub left : Bool → List ℕ → ℕ → List Lexeme
+left feed text at = lexemes_of (left_placed feed text at)
+
+-- The run that goes on at `from`, or that is none there, ends at `end`.
+pub record IsRunEnd (text : List ℕ) (from end : ℕ) : Type 0 where
+  pub order : from ≤ end
+  pub inside : end ≤ length text
+  pub run : AllRun (slice_range text from end)
+  pub stops : class_of (get_or text end 0) ≢ Run
+
+-- This lexeme comes next, and ends at `to`.
+pub record TakesOne (feed : Bool) (text : List ℕ) (at : ℕ) (lexeme : Lexeme) (to : ℕ) : Type 0 where
+  pub grows : at < to
+  pub inside : to ≤ length text
+  pub next : left_placed feed text at ≡ record { lexeme = lexeme; end = to } ∷ left_placed feed text to
+
+-- Some lexemes stand from `at` on, and the last of them ends at `to`.
+pub record Goes (feed : Bool) (text : List ℕ) (at to : ℕ) : Type 0 where
+  pub grows : at < to
+  pub inside : to ≤ length text
+  pub given : List Placed
+  pub last : Placed
+  pub split : left_placed feed text at ≡ given ++ (last ∷ left_placed feed text to)
+  pub ends : last.end ≡ to
+
+-- a parenthesis or a comma
+abbrev pub IsMark : Lexeme → Type 0
+IsMark Open = Unit {0}
+IsMark Close = Unit {0}
+IsMark Comma = Unit {0}
+IsMark (Word run) = ⊥
+IsMark (Num run) = ⊥
+
+-- The lexemes do not begin with this one.
+abbrev pub BeginsOther : Lexeme → List Lexeme → Type 0
+BeginsOther l lexemes = (rest : List Lexeme) → lexemes ≢ l ∷ rest

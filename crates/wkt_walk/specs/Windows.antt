@@ -1,0 +1,8 @@
+-- The low bytes of a window, as bits. Only private contracts cite this file.
+use Rattle.std.specs.Prelude.{ℕ, List, map}
+use Rattle.std.specs.Simd.Lanes.{chunk, mask_l}
+use lib.Dec.{leb}
+
+-- of the 32 bytes from a place on those that are no more than a comma, as bits
+unfoldable pub low_mask : List ℕ → ℕ → ℕ
+low_mask text from = mask_l (map (λ b. leb b 44) (chunk from 32 text))
