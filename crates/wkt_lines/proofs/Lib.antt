@@ -1,6 +1,5 @@
 pub mod Answering
 pub mod Adding
-mod Feeds
+pub mod Firsts
 pub mod Parts
 pub mod Ones
-mod Nesting

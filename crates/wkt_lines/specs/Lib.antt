@@ -6,4 +6,4 @@ pub mod Output
 pub mod Laws
 pub mod Answer
 pub mod Added
-pub mod Nested
+pub mod First

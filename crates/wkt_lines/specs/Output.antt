@@ -2,36 +2,16 @@
 use Rattle.std.specs.Prelude.{◌≡◌, ℕ, List, [], ◌∷◌, ◌++◌, ◌⊎◌, Option, codes, IsUtf8, Result, Ok, Err}
 use Rattle.wkt_num.specs.Sink.{Sink}
 use Rattle.wkt_bytes.specs.Sinks.{SinkOfBytes, IsOut, IsPartOut}
-use Rattle.wkt_access.specs.Values.{Value}
-use Rattle.wkt_access.specs.Shapes.{shape_of}
-use Rattle.wkt_access.specs.Texts.{shape_text}
-use Rattle.wkt_read.specs.Front.{Front, HasNoFront}
 use Rattle.wkt_lines.specs.Lines.{input_lines}
 use Rattle.wkt_lines.specs.Replies.{AreReplies, AllReplied, FirstReplied, PartReplied, AddsReply, BreaksReply}
 use Rattle.wkt_lines.specs.declared.lines.RunError.{RunError}
 use Rattle.wkt_lines.specs.declared.lines.RunError.TheVariants as run
+pub use Rattle.wkt_walk.specs.Answers.{IsText, IsRefusedLine, IsAnswer}
 
 module _ {N : Type 0} (read : List ℕ → Option N) (num : N → List ℕ) where
-  -- The line is UTF-8 and has a front, and the answer is the text of the front's value.
-  pub record IsText (line answer : List ℕ) : Type 0 where
-    pub utf8 : IsUtf8 line
-    pub value : Value N
-    pub end : ℕ
-    pub front : Front read line value end
-    pub text : answer ≡ shape_text num (shape_of value)
-
-  -- The line isn't UTF-8 or has no front, and the answer is `refused`.
-  pub record IsRefusedLine (line answer : List ℕ) : Type 0 where
-    pub cause : (IsUtf8 line → ⊥) ⊎ HasNoFront read line
-    pub refused : answer ≡ codes "refused"
-
-  -- What a line is answered with.
-  abbrev pub IsAnswer : List ℕ → List ℕ → Type 0
-  IsAnswer line answer = IsText line answer ⊎ IsRefusedLine line answer
-
   -- Each line's answer, followed by a line feed.
   abbrev pub AreAnswers : List (List ℕ) → List ℕ → Type 0
-  AreAnswers = AreReplies IsAnswer
+  AreAnswers = AreReplies (IsAnswer read num)
 
   -- The answers to all lines of the input.
   abbrev pub IsOutput : List ℕ → List ℕ → Type 0
@@ -39,15 +19,15 @@ module _ {N : Type 0} (read : List ℕ → Option N) (num : N → List ℕ) wher
 
   -- The output went out whole.
   abbrev pub AllOut : Option (List ℕ) → Option (List ℕ) → List ℕ → Type 0
-  AllOut = AllReplied IsAnswer
+  AllOut = AllReplied (IsAnswer read num)
 
   -- The whole answers to some first lines went out, and nothing else.
   abbrev pub FirstOut : Option (List ℕ) → Option (List ℕ) → List ℕ → Type 0
-  FirstOut = FirstReplied IsAnswer
+  FirstOut = FirstReplied (IsAnswer read num)
 
   -- The whole answers to some first lines went out, and then a beginning of the next line's.
   abbrev pub PartOut : Option (List ℕ) → Option (List ℕ) → List ℕ → Type 0
-  PartOut = PartReplied IsAnswer
+  PartOut = PartReplied (IsAnswer read num)
 
   module _ {D : Type 0} (sink : SinkOfBytes D) where
     -- The output for an input went out whole, by the sink that tells its bytes.
@@ -64,20 +44,20 @@ module _ {N : Type 0} (read : List ℕ → Option N) (num : N → List ℕ) wher
 
     -- The answer to one line went out with its line feed.
     abbrev pub IsLineOut : D → D → List ℕ → Type 0
-    IsLineOut old new line = (answer : List ℕ) × IsAnswer line answer × IsOut sink old new (answer ++ 10 ∷ [])
+    IsLineOut old new line = (answer : List ℕ) × IsAnswer read num line answer × IsOut sink old new (answer ++ 10 ∷ [])
 
     -- A beginning of the answer to one line and its line feed went out.
     abbrev pub IsLinePartOut : D → D → List ℕ → Type 0
-    IsLinePartOut old new line = (answer : List ℕ) × IsAnswer line answer × IsPartOut sink old new (answer ++ 10 ∷ [])
+    IsLinePartOut old new line = (answer : List ℕ) × IsAnswer read num line answer × IsPartOut sink old new (answer ++ 10 ∷ [])
 
   module _ {S : Type 0} (sink : Sink S) where
     -- The answer to a line was added to a sink of text.
     abbrev pub AddsAnswer : S → S → List ℕ → Type 0
-    AddsAnswer = AddsReply IsAnswer sink
+    AddsAnswer = AddsReply (IsAnswer read num) sink
 
     -- A beginning of the answer to a line was added to a sink of text.
     abbrev pub BreaksAnswer : S → S → List ℕ → Type 0
-    BreaksAnswer = BreaksReply IsAnswer sink
+    BreaksAnswer = BreaksReply (IsAnswer read num) sink
 
 -- The fact is claimed where the reader failed.
 abbrev pub OnRunRead : {A : Type 0} → Result A RunError → Type 0 → Type 0

@@ -2,15 +2,8 @@
 use Rattle.std.specs.Prelude.{◌≡◌, ℕ, List, [], ◌∷◌, ◌==◌, if◌then◌else◌, true, false, refl, ◌⊎◌}
 use Rattle.std.proofs.Common.{inl, inr, sym, ◌∙◌, ap, subst}
 use Rattle.wkt_lines.specs.Lines.{onto_first, pieces, without_last_empty, input_lines}
-
--- What stands before the first line feed, and what after it.
-abbrev pub before_feed : List ℕ → List ℕ
-before_feed [] = []
-before_feed (b ∷ bs) = if b == 10 then [] else b ∷ before_feed bs
-
-abbrev pub after_feed : List ℕ → List ℕ
-after_feed [] = []
-after_feed (b ∷ bs) = if b == 10 then bs else after_feed bs
+pub use Rattle.wkt_walk.specs.Left.{before_feed}
+pub use Rattle.wkt_walk.specs.Feeds.{after_feed}
 
 pieces_split : (bs : List ℕ) → (pieces bs ≡ before_feed bs ∷ pieces (after_feed bs)) ⊎ ((pieces bs ≡ bs ∷ []) × (after_feed bs ≡ []) × (before_feed bs ≡ bs))
 pieces_split [] = inr (refl, refl, refl)

@@ -1,7 +1,7 @@
 //! Laws of the output: each function does nothing, and its contract is the law.
 ghost use Rattle.wkt_lines.specs.Laws.{OneOutput, OutputOfParts, PartsOfOutput};
 
-use wkt::WktNum;
+use wkt_num::WktNum;
 
 /// An input has at most one output.
 pub fn one_output<T: WktNum>()

@@ -12,12 +12,13 @@
 
 mod answer;
 mod answers;
+mod first;
 pub mod laws;
 mod lines;
-mod nested;
 mod reply;
 
 pub use answer::AnswerError;
 pub use answers::write_answers;
-pub use lines::{RunError, line_end, run, run_over};
+pub use lines::{RunError, run, run_over};
 pub use reply::{Canonical, Reply, write_replies};
+pub use wkt_walk::ends::line_end;

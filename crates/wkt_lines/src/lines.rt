@@ -1,23 +1,19 @@
 //! Answers each line of a whole input.
-ghost use Rattle.std.specs.Prelude.{◌≡◌, ◌≤◌, ◌+◌, [], ◌∷◌, IfSome, OnOk, OnErr, true, not, ◌==◌, length, take, drop};
-ghost use Rattle.std.specs.List.{prefix_len};
-ghost use Rattle.std.specs.Str.{IsAscii};
-ghost use Rattle.std.specs.Simd.Lanes.{chunk};
-ghost use Rattle.std.specs.Io.KnownBytes.{IsAtEnd};
+ghost use Rattle.std.specs.Prelude.{◌≡◌, ℕ, ◌≤◌, ◌+◌, IfSome, IfOk, OnOk, OnErr, length, take, drop};
+ghost use Rattle.std.specs.Io.KnownBytes.{IsAtEnd, Appends};
 ghost use Rattle.wkt_num.specs.Sink.{next_count};
-ghost use Rattle.wkt_bytes.specs.Wrapper.{is_well, held_bytes, wrapped_writer, Gathers, BreaksOff};
 ghost use Rattle.wkt_lines.specs.Numbers.{read_line, print_line};
 ghost use Rattle.wkt_lines.specs.Output.{IsAllOut, IsFirstOut, IsSomeOut, IsLineOut, IsLinePartOut, OnRunRead, OnRunWrite, OnRunMemory};
-ghost use Rattle.wkt_lines.specs.Splitting.{before_feed, after_feed};
+ghost use Rattle.wkt_lines.specs.First.{EndsLine};
+ghost use Rattle.wkt_walk.specs.Left.{before_feed};
 
-use crate::answer::{AnswerError, write_answer};
+use crate::first::Room;
 use std::alloc::{AllocError, Global};
-use std::simd::prelude::*;
-use std::{fmt, io};
+use std::io;
 use thiserror::Error;
-use wkt::to_wkt::{ByteSink, ByteSource, ReadAllError, TextSink, WriterWrapper, read_all};
-use wkt::{Decimal, WktNum};
-use wkt_bytes::error_of;
+use wkt_bytes::{ByteSink, ByteSource, ReadAllError, put_all, read_all};
+use wkt_num::Decimal;
+use wkt_walk::TextNumber;
 
 /// Why a run ended before its input.
 #[derive(Debug, Drop, Error)]
@@ -68,7 +64,7 @@ pub fn run<R: ByteSource, W: ByteSink>(
 ///
 /// # Errors
 /// Those of [`run`].
-pub fn run_over<T: WktNum, R: ByteSource, W: ByteSink>(
+pub fn run_over<T: TextNumber, R: ByteSource, W: ByteSink>(
     alloc: Global,
     reader: &mut R,
     writer: &mut W,
@@ -84,14 +80,14 @@ pub fn run_over<T: WktNum, R: ByteSource, W: ByteSink>(
         (IfSome (R.left reader.old) (IsFirstOut T.read T.num W.sink writer.old writer.new)) }
 {
     match read_all(alloc, reader) {
-        Ok(bytes) => answer_all::<T, W>(alloc, &bytes, writer),
+        Ok(bytes) => answer_lines::<T, W>(alloc, &bytes, writer),
         Err(ReadAllError::Read(e)) => Err(RunError::Read(e)),
         Err(ReadAllError::Memory(e)) => Err(RunError::Memory(e)),
     }
 }
 
 /// Writes the answers to all lines of the input.
-fn answer_all<T: WktNum, W: ByteSink>(
+fn answer_lines<T: TextNumber, W: ByteSink>(
     alloc: Global,
     input: &[u8],
     writer: &mut W,
@@ -102,82 +98,15 @@ fn answer_all<T: WktNum, W: ByteSink>(
     ensures memory { OnRunMemory result (IsFirstOut T.read T.num W.sink writer.old writer.new input.now) }
     ensures read { OnRunRead result ⊥ }
 {
-    let mut wrapper = WriterWrapper::new(writer);
-    let answer = answer_lines::<T, &mut W>(alloc, input, &mut wrapper);
-    wrapper.into_writer();
-    answer
-}
-
-/// Writes the answers to all lines of the input through a wrapper that holds nothing.
-fn answer_lines<T: WktNum, W: ByteSink>(
-    alloc: Global,
-    input: &[u8],
-    wrapper: &mut WriterWrapper<W>,
-) -> Result<(), RunError>
-    requires well { is_well wrapper.old ≡ true }
-    requires held { held_bytes wrapper.old ≡ [] }
-    ensures ok { OnOk result
-        (IsAllOut T.read T.num W.sink (wrapped_writer wrapper.old) (wrapped_writer wrapper.new) input.now) }
-    ensures write { OnRunWrite result
-        (IsSomeOut T.read T.num W.sink (wrapped_writer wrapper.old) (wrapped_writer wrapper.new) input.now) }
-    ensures write_count { OnRunWrite result
-        (W.sink.failures (wrapped_writer wrapper.new) ≡ next_count (W.sink.failures (wrapped_writer wrapper.old))) }
-    ensures memory { OnRunMemory result
-        (IsFirstOut T.read T.num W.sink (wrapped_writer wrapper.old) (wrapped_writer wrapper.new) input.now) }
-    ensures read { OnRunRead result ⊥ }
-    ensures keeps { W.sink.keeps (wrapped_writer wrapper.old) (wrapped_writer wrapper.new) }
-{
-    // Most inputs are ASCII, which is told faster of all lines at once than of each.
-    let ascii = input.is_ascii();
+    let mut room = Room::new(alloc);
     let mut rest = input;
     'lines: while !rest.is_empty() {
-        let end = line_end(rest);
-        match answer_line::<T, W>(alloc, &rest[..end], ascii, wrapper) {
-            Ok(()) => rest = after_line(rest, end),
+        match answer_first::<T, W>(&mut room, rest, writer) {
+            Ok(end) => rest = after_line(rest, end),
             Err(e) => return Err(e),
         }
     }
     Ok(())
-}
-
-/// Where the first line ends: before its line feed, or where the bytes end.
-///
-/// ```text
-/// line_end(b"POINT(1 2)\nPOINT(3 4)") // 10
-/// ```
-pub fn line_end(rest: &[u8]) -> usize
-    ensures within { result ≤ length rest.now }
-    ensures before { take result rest.now ≡ before_feed rest.now }
-    ensures after { drop (result + 1) rest.now ≡ after_feed rest.now }
-{
-    let mut at = 0;
-    'wide: while rest.len() - at >= 32 {
-        let feed = feed_in(rest, at);
-        if feed < 32 {
-            return at + feed;
-        }
-        at += 32;
-    }
-    'bytes: while at < rest.len() && rest[at] != b'\n' {
-        at += 1;
-    }
-    at
-}
-
-/// The place of the first line feed among the 32 bytes from `at` on, or 32.
-#[inline(always)]
-fn feed_in(rest: &[u8], at: usize) -> usize
-    requires { at + 32 ≤ length rest.now }
-    ensures { result ≡ prefix_len (λ b. not (b == 10)) (chunk at 32 rest.now) }
-{
-    let feeds = u8x32::from_slice(&rest[at..])
-        .simd_eq(u8x32::splat(b'\n'))
-        .to_bitmask();
-    if feeds == 0 {
-        32
-    } else {
-        feeds.trailing_zeros() as usize
-    }
 }
 
 /// What follows a line and its line feed.
@@ -191,48 +120,46 @@ pub(crate) fn after_line(rest: &[u8], end: usize) -> &[u8]
     &rest[end + 1..]
 }
 
-/// Puts out the answer to a line and a line feed; `ascii` is true only where the line is known to be ASCII.
-fn answer_line<T: WktNum, W: ByteSink>(
-    alloc: Global,
-    line: &[u8],
-    ascii: bool,
-    wrapper: &mut WriterWrapper<W>,
-) -> Result<(), RunError>
-    requires ascii { ascii ≡ true → IsAscii line.now }
-    requires well { is_well wrapper.old ≡ true }
-    requires held { held_bytes wrapper.old ≡ [] }
-    ensures ok { OnOk result
-        (IsLineOut T.read T.num W.sink (wrapped_writer wrapper.old) (wrapped_writer wrapper.new) line.now) }
-    ensures well { OnOk result (is_well wrapper.new ≡ true) }
-    ensures held { OnOk result (held_bytes wrapper.new ≡ []) }
-    ensures count { OnOk result
-        (W.sink.failures (wrapped_writer wrapper.new) ≡ W.sink.failures (wrapped_writer wrapper.old)) }
-    ensures write { OnRunWrite result
-        (IsLinePartOut T.read T.num W.sink (wrapped_writer wrapper.old) (wrapped_writer wrapper.new) line.now) }
-    ensures write_count { OnRunWrite result
-        (W.sink.failures (wrapped_writer wrapper.new) ≡ next_count (W.sink.failures (wrapped_writer wrapper.old))) }
-    ensures memory { OnRunMemory result (wrapper.new ≡ wrapper.old) }
+/// Puts out the answer to the first line and a line feed, and answers where the line ends.
+fn answer_first<T: TextNumber, W: ByteSink>(
+    room: &mut Room,
+    rest: &[u8],
+    writer: &mut W,
+) -> Result<usize, RunError>
+    ensures end { IfOk result (λ end. EndsLine rest.now end) }
+    ensures ok { OnOk result (IsLineOut T.read T.num W.sink writer.old writer.new (before_feed rest.now)) }
+    ensures count { OnOk result (W.sink.failures writer.new ≡ W.sink.failures writer.old) }
+    ensures write { OnRunWrite result (IsLinePartOut T.read T.num W.sink writer.old writer.new (before_feed rest.now)) }
+    ensures write_count { OnRunWrite result (W.sink.failures writer.new ≡ next_count (W.sink.failures writer.old)) }
+    ensures memory { OnRunMemory result (writer.new ≡ writer.old) }
     ensures read { OnRunRead result ⊥ }
-    ensures keeps { W.sink.keeps (wrapped_writer wrapper.old) (wrapped_writer wrapper.new) }
+    ensures keeps { W.sink.keeps writer.old writer.new }
 {
-    match write_answer::<T, WriterWrapper<W>>(alloc, line, ascii, wrapper) {
-        Err(AnswerError::Memory(e)) => Err(RunError::Memory(e)),
-        Err(AnswerError::Sink(_)) => Err(RunError::Write(error_of(wrapper))),
-        Ok(()) => match end_line(wrapper) {
-            Ok(()) => Ok(()),
-            Err(_) => Err(RunError::Write(error_of(wrapper))),
+    match room.first::<T>(rest) {
+        Ok(answer) => match put_pieces(writer, room.written(answer.len)) {
+            Ok(()) => Ok(answer.taken - 1),
+            Err(e) => Err(RunError::Write(e)),
         },
+        Err(e) => Err(RunError::Memory(e)),
     }
 }
 
-/// Ends a line, and puts it out.
-fn end_line<W: ByteSink>(wrapper: &mut WriterWrapper<W>) -> fmt::Result
-    ensures ok { OnOk result (Gathers W.sink wrapper.old (10 ∷ []) wrapper.new) }
-    ensures held { OnOk result (held_bytes wrapper.new ≡ []) }
-    ensures err { OnErr result (BreaksOff W.sink wrapper.old (10 ∷ []) wrapper.new) }
+/// Puts out the bytes, 256 at a time.
+fn put_pieces<W: ByteSink>(writer: &mut W, bytes: &[u8]) -> Result<(), io::Error>
+    ensures ok { OnOk result (Appends (W.sink.bytes writer.old) (W.sink.bytes writer.new) bytes.now) }
+    ensures kept { OnOk result (W.sink.failures writer.new ≡ W.sink.failures writer.old) }
+    ensures err { OnErr result
+        ((k : ℕ) × Appends (W.sink.bytes writer.old) (W.sink.bytes writer.new) (take k bytes.now)) }
+    ensures failed { OnErr result (W.sink.failures writer.new ≡ next_count (W.sink.failures writer.old)) }
+    ensures keeps { W.sink.keeps writer.old writer.new }
 {
-    match wrapper.write_str("\n") {
-        Ok(()) => wrapper.finish(),
-        Err(e) => Err(e),
+    let mut rest = bytes;
+    'pieces: while rest.len() > 256 {
+        let (piece, more) = rest.split_at(256);
+        match put_all(writer, piece) {
+            Ok(()) => rest = more,
+            Err(e) => return Err(e),
+        }
     }
+    put_all(writer, rest)
 }

@@ -5,11 +5,12 @@ ghost use Rattle.wkt_lines.specs.Output.{IsAnswer};
 ghost use Rattle.wkt_lines.specs.Replies.{AddsReply, BreaksReply, AddsReplyLine, BreaksReplyLine, AddsReplies, AddsFirstReplies, BreaksReplies};
 
 use crate::answer::{AnswerError, write_answer};
-use crate::lines::{after_line, line_end};
+use crate::lines::after_line;
 use std::alloc::Global;
 use std::marker::PhantomData;
-use wkt::WktNum;
-use wkt::to_wkt::TextSink;
+use wkt_num::TextSink;
+use wkt_walk::TextNumber;
+use wkt_walk::ends::line_end;
 
 /// What the lines of an input are answered with.
 ///
@@ -106,7 +107,7 @@ impl<T> Canonical<T> {
     }
 }
 
-impl<T: WktNum> Reply for Canonical<T> {
+impl<T: TextNumber> Reply for Canonical<T> {
     ghost answers = { λ _. IsAnswer T.read T.num };
 
     fn reply<W: TextSink>(
@@ -115,6 +116,6 @@ impl<T: WktNum> Reply for Canonical<T> {
         line: &[u8],
         sink: &mut W,
     ) -> Result<(), AnswerError> {
-        write_answer::<T, W>(alloc, line, false, sink)
+        write_answer::<T, W>(alloc, line, sink)
     }
 }

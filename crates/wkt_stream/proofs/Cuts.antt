@@ -91,7 +91,7 @@ module _ (is : List ℕ → List ℕ → Type 0) where
   cut_some (l ∷ ls) z p q n h e = cut l ls z p q h e
 
   -- a beginning of the answers to some first lines went out
-  part_out : (ls others : List (List ℕ)) (z p q input : List ℕ) (old new : Option (List ℕ)) → ls ≢ [] → AreReplies is ls z → z ≡ p ++ q → ls ++ others ≡ input_lines input → Appends old new p → PartReplied is old new input
+  pub part_out : (ls others : List (List ℕ)) (z p q input : List ℕ) (old new : Option (List ℕ)) → ls ≢ [] → AreReplies is ls z → z ≡ p ++ q → ls ++ others ≡ input_lines input → Appends old new p → PartReplied is old new input
   part_out ls others z p q input old new n h e l w =
       let c = cut_some ls z p q n h e in
       record {
@@ -113,7 +113,7 @@ module _ (is : List ℕ → List ℕ → Type 0) where
   some_line [] l e = cc
   some_line (x ∷ xs) l e = cc
 
-  no_answers : (ls : List (List ℕ)) (z : List ℕ) → AreReplies is ls z → 0 < length z → ls ≢ []
+  pub no_answers : (ls : List (List ℕ)) (z : List ℕ) → AreReplies is ls z → 0 < length z → ls ≢ []
   no_answers [] z h n e = let k : length z ≡ 0 = ap length h in omega (arith, n, k)
   no_answers (l ∷ ls) z h n e = cc
 

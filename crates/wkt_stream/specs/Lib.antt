@@ -2,3 +2,4 @@ pub mod Blocks
 pub mod Feeds
 pub mod Streaming
 pub mod Reading
+pub mod Pages

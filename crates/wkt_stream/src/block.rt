@@ -7,7 +7,7 @@ ghost use Rattle.wkt_stream.specs.Feeds.{HasNoFeed};
 
 use std::alloc::{AllocError, Global};
 use std::io;
-use wkt::to_wkt::ByteSource;
+use wkt_bytes::ByteSource;
 
 // How many bytes of room are made at once.
 const BLOCK: usize = 131072;

@@ -10,6 +10,8 @@
 #![tactic(auto)]
 
 mod block;
+mod page;
+mod pages;
 mod reading;
 mod streaming;
 

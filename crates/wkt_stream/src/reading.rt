@@ -8,7 +8,7 @@ ghost use Rattle.wkt_stream.specs.Blocks.{unanswered};
 
 use crate::block::Block;
 use std::alloc::{AllocError, Global};
-use wkt::to_wkt::{ByteSource, ReadAllError};
+use wkt_bytes::{ByteSource, ReadAllError};
 use wkt_lines::line_end;
 
 /// The lines of a source, in their order, each as its bytes, in the memory of a block and the longest line.

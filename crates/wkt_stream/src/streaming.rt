@@ -10,12 +10,14 @@ ghost use Rattle.wkt_lines.specs.Replies.{IsAllReplied, IsFirstReplied, IsPartRe
 ghost use Rattle.wkt_stream.specs.Streaming.{IsTakenOut, IsTakenReplied};
 
 use crate::block::Block;
+use crate::page::Page;
+use crate::pages::answer_block;
 use std::alloc::{AllocError, Global};
 use std::io;
-use wkt::to_wkt::{ByteSink, ByteSource, TextSink};
-use wkt::{Decimal, WktNum};
-use wkt_bytes::Gatherer;
-use wkt_lines::{AnswerError, Canonical, Reply, RunError, write_answers, write_replies};
+use wkt_bytes::{ByteSink, ByteSource, Gatherer};
+use wkt_lines::{AnswerError, Reply, RunError, write_replies};
+use wkt_num::Decimal;
+use wkt_walk::TextNumber;
 
 /// Writes the answers to all lines of the source, as [`run`](wkt_lines::run) does, in the memory of the longest line.
 ///
@@ -51,7 +53,7 @@ pub fn stream<R: ByteSource, W: ByteSink>(
 ///
 /// # Errors
 /// Those of [`stream`].
-pub fn stream_over<T: WktNum, R: ByteSource, W: ByteSink>(
+pub fn stream_over<T: TextNumber, R: ByteSource, W: ByteSink>(
     alloc: Global,
     reader: &mut R,
     writer: &mut W,
@@ -69,7 +71,27 @@ pub fn stream_over<T: WktNum, R: ByteSource, W: ByteSink>(
     ensures memory { OnRunMemory result
         (IfSome (R.left reader.old) (IsFirstOut T.read T.num W.sink writer.old writer.new)) }
 {
-    stream_blocks(alloc, &Canonical::<T>::new(), reader, writer)
+    let mut block = Block::new(alloc);
+    let mut page = Page::new(alloc);
+    'turns: for _ in 0..u64::MAX {
+        if let Err(e) = block.make_room() {
+            return Err(RunError::Memory(e));
+        }
+        let seen = block.len();
+        match block.fill(reader) {
+            Err(fault) => return Err(RunError::Read(fault)),
+            Ok(0) => return answer_block::<T, W>(block.front(), &mut page, writer),
+            Ok(_) => {
+                let whole = block.whole(seen);
+                match answer_block::<T, W>(&block.front()[..whole], &mut page, writer) {
+                    Ok(()) => block.forget(whole),
+                    Err(e) => return Err(e),
+                }
+            }
+        }
+    }
+    // The source never ends.
+    Err(RunError::Memory(AllocError))
 }
 
 /// Writes answers of any kind to all lines of the source, as [`stream`] does.
@@ -96,62 +118,11 @@ pub fn stream_with<A: Reply, R: ByteSource, W: ByteSink>(
     ensures memory { OnRunMemory result
         (IfSome (R.left reader.old) (IsFirstReplied (A.answers reply.now) W.sink writer.old writer.new)) }
 {
-    stream_blocks(alloc, &Each { reply }, reader, writer)
-}
-
-/// What all lines of a block are answered with.
-trait BlockReply {
-    /// Which answers a line may have.
-    ghost answers: { Self → List ℕ → List ℕ → Type 0 };
-
-    /// Adds the answers to all lines of the block, each followed by a line feed.
-    fn reply_to_block<W: TextSink>(
-        &self,
-        alloc: Global,
-        block: &[u8],
-        sink: &mut W,
-    ) -> Result<(), AnswerError>
-        ensures ok { OnOk result (AddsReplies (answers self.now) W.sink sink.old sink.new block.now) }
-        ensures sink { OnSink result (BreaksReplies (answers self.now) W.sink sink.old sink.new block.now) }
-        ensures memory { OnAnswerMemory result
-            (AddsFirstReplies (answers self.now) W.sink sink.old sink.new block.now) };
-}
-
-impl<T: WktNum> BlockReply for Canonical<T> {
-    ghost answers = { λ _. IsAnswer T.read T.num };
-
-    fn reply_to_block<W: TextSink>(
-        &self,
-        alloc: Global,
-        block: &[u8],
-        sink: &mut W,
-    ) -> Result<(), AnswerError> {
-        // All lines at once are answered faster than each.
-        write_answers::<T, W>(alloc, block, sink)
-    }
-}
-
-/// The answers of a [`Reply`], line by line.
-#[derive(Clone, Copy)]
-struct Each<'a, A> {
-    reply: &'a A,
-}
-
-impl<A: Reply> BlockReply for Each<'_, A> {
-    ghost answers = { λ s. A.answers s.reply.now };
-
-    fn reply_to_block<W: TextSink>(
-        &self,
-        alloc: Global,
-        block: &[u8],
-        sink: &mut W,
-    ) -> Result<(), AnswerError> {
-        write_replies(alloc, self.reply, block, sink)
-    }
+    stream_blocks(alloc, reply, reader, writer)
 }
 
 /// Writes the answers to all lines of the source.
-fn stream_blocks<A: BlockReply, R: ByteSource, W: ByteSink>(
+fn stream_blocks<A: Reply, R: ByteSource, W: ByteSink>(
     alloc: Global,
     reply: &A,
     reader: &mut R,
@@ -178,7 +149,7 @@ fn stream_blocks<A: BlockReply, R: ByteSource, W: ByteSink>(
 }
 
 /// Writes the answers to all lines of the source through a gatherer that holds nothing.
-fn answer_source<A: BlockReply, R: ByteSource, W: ByteSink>(
+fn answer_source<A: Reply, R: ByteSource, W: ByteSink>(
     alloc: Global,
     reply: &A,
     reader: &mut R,
@@ -210,10 +181,10 @@ fn answer_source<A: BlockReply, R: ByteSource, W: ByteSink>(
         let seen = block.len();
         match block.fill(reader) {
             Err(e) => return Err(RunError::Read(e)),
-            Ok(0) => return answer_block(alloc, reply, block.front(), gatherer),
+            Ok(0) => return reply_to_block(alloc, reply, block.front(), gatherer),
             Ok(_) => {
                 let whole = block.whole(seen);
-                match answer_block(alloc, reply, &block.front()[..whole], gatherer) {
+                match reply_to_block(alloc, reply, &block.front()[..whole], gatherer) {
                     Ok(()) => block.forget(whole),
                     Err(e) => return Err(e),
                 }
@@ -225,7 +196,7 @@ fn answer_source<A: BlockReply, R: ByteSource, W: ByteSink>(
 }
 
 /// Writes the answers to the lines of a block, and puts out all that were written.
-fn answer_block<A: BlockReply, W: ByteSink>(
+fn reply_to_block<A: Reply, W: ByteSink>(
     alloc: Global,
     reply: &A,
     input: &[u8],
@@ -251,7 +222,7 @@ fn answer_block<A: BlockReply, W: ByteSink>(
     ensures read { OnRunRead result ⊥ }
     ensures keeps { W.sink.keeps (gathering_writer gatherer.old) (gathering_writer gatherer.new) }
 {
-    match reply.reply_to_block(alloc, input, gatherer) {
+    match write_replies(alloc, reply, input, gatherer) {
         Err(AnswerError::Sink(_)) => Err(RunError::Write(error_of(gatherer))),
         Err(AnswerError::Memory(e)) => match gatherer.finish() {
             Ok(()) => Err(RunError::Memory(e)),

@@ -3,7 +3,7 @@
 #![tactic(auto)]
 
 use std::process::ExitCode;
-use wkt::to_wkt::Counted;
+use wkt_bytes::Counted;
 use wkt_lines::{RunError, run};
 
 fn main(rt: HostRuntime) -> ExitCode {

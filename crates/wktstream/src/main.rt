@@ -2,7 +2,7 @@
 #![tactic(auto)]
 
 use std::process::ExitCode;
-use wkt::to_wkt::Counted;
+use wkt_bytes::Counted;
 use wkt_lines::RunError;
 use wkt_stream::stream;
 

@@ -1,20 +1,19 @@
 use Rattle.std.proofs.Common.{◌≡◌, [], ◌∷◌, ◌++◌, ◌≢◌, ◌∙◌, ap, Err, length, refl, arith}
 use Rattle.std.proofs.lemmas.Grind.{common_steps}
-use Rattle.std.proofs.lemmas.Str.{IsAscii-take, IsAscii-drop}
 use Rattle.wkt_lines.specs.Output.{IsAnswer}
 use Rattle.wkt_lines.proofs.Answering.{one_more, one_answer}
 use Rattle.wkt_lines.proofs.Adding.{sink_map, memory_map, adds_none, adds_more, breaks_next, adds_first}
 use Rattle.wkt_lines.proofs.answers.write_answers.Goals as goal
 
 pub lines-init : goal.lines-init
-lines-init g c = record { ascii = λ h. rw h at c.is_ascii-ascii.ensures.cases; first = []; out = []; lines = refl; answers = refl; added = adds_none g.W.TextSink.sink c.args.f.now }
+lines-init g c = record { first = []; out = []; lines = refl; answers = refl; added = adds_none g.W.TextSink.sink c.args.f.now }
 
 pub returns-in-Err-clause-sink : goal.returns-in-Err-clause-sink
 returns-in-Err-clause-sink g c =
     let i = c.lines.invariant in
     let some : c.lines.rest.now ≢ [] = λ e. let n : length c.lines.rest.now ≡ 0 = ap length e in grind (arith, common_steps, n) in
     sink_map {A = Unit {0}} (Err c.in-Err.e)
-    (λ h. breaks_next g.W.TextSink.sink (IsAnswer g.T.WktNum.read g.T.WktNum.num) i.first i.out c.lines.rest.now c.args.input.now i.lines i.answers _ _ _ i.added _ some c.line_end-end.ensures.before h) c.in-Err.ensures.sink
+    (λ h. breaks_next g.W.TextSink.sink (IsAnswer g.T.WktNum.read g.T.WktNum.num) i.first i.out c.lines.rest.now c.args.input.now i.lines i.answers _ _ _ i.added _ some refl h) c.in-Err.ensures.sink
 
 pub returns-in-Err-clause-memory : goal.returns-in-Err-clause-memory
 returns-in-Err-clause-memory g c =
@@ -28,10 +27,9 @@ lines-preserved g c =
     let a = c.in-Ok.ensures.ok in
     let some : c.lines.rest.now ≢ [] = λ e. let n : length c.lines.rest.now ≡ 0 = ap length e in grind (arith, common_steps, n) in
     record {
-      ascii = λ h. rw c.after_line-rest.ensures (IsAscii-drop c.lines.rest.now _ (i.ascii h));
       first = i.first ++ (_ ∷ []);
       out = i.out ++ (a.0 ++ 10 ∷ []);
-      lines = one_more i.first c.lines.rest.now c.args.input.now _ _ i.lines some c.line_end-end.ensures.before (c.after_line-rest.ensures ∙ c.line_end-end.ensures.after);
+      lines = one_more i.first c.lines.rest.now c.args.input.now _ _ i.lines some refl (c.after_line-rest.ensures ∙ c.in-Ok.ensures.end.after);
       answers = one_answer i.first i.out _ a.0 i.answers a.1;
       added = adds_more g.W.TextSink.sink _ _ _ _ _ i.added a.2;
     }

@@ -1,5 +1,4 @@
-use Rattle.std.proofs.Common.{◌≡◌, ◌++◌, List, ℕ, true, length}
-use Rattle.std.specs.Str.{IsAscii}
+use Rattle.std.proofs.Common.{◌≡◌, ◌++◌, List, ℕ, length}
 use Rattle.wkt_num.specs.Sink.{Adds}
 use Rattle.wkt_lines.specs.Lines.{input_lines}
 use Rattle.wkt_lines.specs.Output.{AreAnswers}
@@ -7,7 +6,6 @@ use Rattle.wkt_lines.proofs.answers.write_answers.Given as goal
 
 abbrev pub invariant-lines : goal.invariant-lines
 invariant-lines g l = record {
-  ascii : l.ascii ≡ true → IsAscii l.rest;
   first : List (List ℕ);
   out : List ℕ;
   lines : first ++ input_lines l.rest ≡ input_lines l.fn.input;

@@ -11,7 +11,7 @@ use Rattle.wkt_stream.proofs.streaming.answer_source.Goals as goal
 
 pub turns-init : goal.turns-init
 turns-init g c = record {
-  base = begins (g.A.BlockReply.answers c.args.reply.now) g.W.ByteSink.sink (g.R.ByteSource.left c.args.reader.now) (gathering_writer c.args.gatherer.now) _ c.new-block.ensures;
+  base = begins (g.A.Reply.answers c.args.reply.now) g.W.ByteSink.sink (g.R.ByteSource.left c.args.reader.now) (gathering_writer c.args.gatherer.now) _ c.new-block.ensures;
   none = none_in_nothing _ c.new-block.ensures;
   count = refl;
   sound = c.requires.sound;
@@ -19,17 +19,17 @@ turns-init g c = record {
 }
 
 pub returns-in-Err-clause-memory : goal.returns-in-Err-clause-memory
-returns-in-Err-clause-memory g c = so_far (g.A.BlockReply.answers c.args.reply.now) g.W.ByteSink.sink _ _ _ _ _ c.turns.invariant.base
+returns-in-Err-clause-memory g c = so_far (g.A.Reply.answers c.args.reply.now) g.W.ByteSink.sink _ _ _ _ _ c.turns.invariant.base
 
 pub returns-in-Err-clause-keeps : goal.returns-in-Err-clause-keeps
 returns-in-Err-clause-keeps g c = c.turns.invariant.base.tied
 
 pub returns-in-Err-fill-clause-read : goal.returns-in-Err-fill-clause-read
 returns-in-Err-fill-clause-read g c =
-    broke_off (g.A.BlockReply.answers c.args.reply.now) g.W.ByteSink.sink _ _ _ _ _ c.turns.invariant.base _ c.in-Err-fill.ensures.left c.turns.invariant.none
+    broke_off (g.A.Reply.answers c.args.reply.now) g.W.ByteSink.sink _ _ _ _ _ c.turns.invariant.base _ c.in-Err-fill.ensures.left c.turns.invariant.none
 
 pub returns-in-Err-fill-clause-read_first : goal.returns-in-Err-fill-clause-read_first
-returns-in-Err-fill-clause-read_first g c = so_far (g.A.BlockReply.answers c.args.reply.now) g.W.ByteSink.sink _ _ _ _ _ c.turns.invariant.base
+returns-in-Err-fill-clause-read_first g c = so_far (g.A.Reply.answers c.args.reply.now) g.W.ByteSink.sink _ _ _ _ _ c.turns.invariant.base
 
 pub returns-in-Err-fill-clause-read_count : goal.returns-in-Err-fill-clause-read_count
 returns-in-Err-fill-clause-read_count g c = c.in-Err-fill.ensures.failed ∙ ap next_count c.turns.invariant.count
@@ -40,30 +40,30 @@ returns-in-Err-fill-clause-keeps g c = c.turns.invariant.base.tied
 pub returns-in-Ok-eq0-clause-ok : goal.returns-in-Ok-eq0-clause-ok
 returns-in-Ok-eq0-clause-ok g c =
     let h = c.in-Ok-eq0.ensures.ok in
-    let d = filled (g.A.BlockReply.answers c.args.reply.now) g.W.ByteSink.sink _ _ _ _ _ c.turns.invariant.base _ h.0 c.front.result.now h.3 (c.front.ensures ∙ (h.1 ∙ ap (λ (xs : List ℕ). xs ++ h.0) c.make_room.ensures.front)) in
-    ok_map c.answer_block.result (all (g.A.BlockReply.answers c.args.reply.now) g.W.ByteSink.sink _ _ _ _ _ d _ (c.in-Ok-eq0.ensures.end c.in-Ok-eq0.field-0-test)) c.answer_block.ensures.ok
+    let d = filled (g.A.Reply.answers c.args.reply.now) g.W.ByteSink.sink _ _ _ _ _ c.turns.invariant.base _ h.0 c.front.result.now h.3 (c.front.ensures ∙ (h.1 ∙ ap (λ (xs : List ℕ). xs ++ h.0) c.make_room.ensures.front)) in
+    ok_map c.reply_to_block.result (all (g.A.Reply.answers c.args.reply.now) g.W.ByteSink.sink _ _ _ _ _ d _ (c.in-Ok-eq0.ensures.end c.in-Ok-eq0.field-0-test)) c.reply_to_block.ensures.ok
 
 pub returns-in-Ok-eq0-clause-write : goal.returns-in-Ok-eq0-clause-write
 returns-in-Ok-eq0-clause-write g c =
     let h = c.in-Ok-eq0.ensures.ok in
-    let d = filled (g.A.BlockReply.answers c.args.reply.now) g.W.ByteSink.sink _ _ _ _ _ c.turns.invariant.base _ h.0 c.front.result.now h.3 (c.front.ensures ∙ (h.1 ∙ ap (λ (xs : List ℕ). xs ++ h.0) c.make_room.ensures.front)) in
-    let f = fits_end (g.A.BlockReply.answers c.args.reply.now) g.W.ByteSink.sink _ _ _ _ _ d (c.in-Ok-eq0.ensures.end c.in-Ok-eq0.field-0-test) in
-    write_map c.answer_block.result (part (g.A.BlockReply.answers c.args.reply.now) g.W.ByteSink.sink _ _ _ _ _ d _ _ f) c.answer_block.ensures.write
+    let d = filled (g.A.Reply.answers c.args.reply.now) g.W.ByteSink.sink _ _ _ _ _ c.turns.invariant.base _ h.0 c.front.result.now h.3 (c.front.ensures ∙ (h.1 ∙ ap (λ (xs : List ℕ). xs ++ h.0) c.make_room.ensures.front)) in
+    let f = fits_end (g.A.Reply.answers c.args.reply.now) g.W.ByteSink.sink _ _ _ _ _ d (c.in-Ok-eq0.ensures.end c.in-Ok-eq0.field-0-test) in
+    write_map c.reply_to_block.result (part (g.A.Reply.answers c.args.reply.now) g.W.ByteSink.sink _ _ _ _ _ d _ _ f) c.reply_to_block.ensures.write
 
 pub returns-in-Ok-eq0-clause-write_count : goal.returns-in-Ok-eq0-clause-write_count
 returns-in-Ok-eq0-clause-write_count g c =
     let same = c.turns.invariant.base.count in
-    write_map c.answer_block.result (λ e. e ∙ ap next_count same) c.answer_block.ensures.write_count
+    write_map c.reply_to_block.result (λ e. e ∙ ap next_count same) c.reply_to_block.ensures.write_count
 
 pub returns-in-Ok-eq0-clause-memory : goal.returns-in-Ok-eq0-clause-memory
 returns-in-Ok-eq0-clause-memory g c =
     let h = c.in-Ok-eq0.ensures.ok in
-    let d = filled (g.A.BlockReply.answers c.args.reply.now) g.W.ByteSink.sink _ _ _ _ _ c.turns.invariant.base _ h.0 c.front.result.now h.3 (c.front.ensures ∙ (h.1 ∙ ap (λ (xs : List ℕ). xs ++ h.0) c.make_room.ensures.front)) in
-    let f = fits_end (g.A.BlockReply.answers c.args.reply.now) g.W.ByteSink.sink _ _ _ _ _ d (c.in-Ok-eq0.ensures.end c.in-Ok-eq0.field-0-test) in
-    memory_map c.answer_block.result (firsts (g.A.BlockReply.answers c.args.reply.now) g.W.ByteSink.sink _ _ _ _ _ d _ _ f) c.answer_block.ensures.memory
+    let d = filled (g.A.Reply.answers c.args.reply.now) g.W.ByteSink.sink _ _ _ _ _ c.turns.invariant.base _ h.0 c.front.result.now h.3 (c.front.ensures ∙ (h.1 ∙ ap (λ (xs : List ℕ). xs ++ h.0) c.make_room.ensures.front)) in
+    let f = fits_end (g.A.Reply.answers c.args.reply.now) g.W.ByteSink.sink _ _ _ _ _ d (c.in-Ok-eq0.ensures.end c.in-Ok-eq0.field-0-test) in
+    memory_map c.reply_to_block.result (firsts (g.A.Reply.answers c.args.reply.now) g.W.ByteSink.sink _ _ _ _ _ d _ _ f) c.reply_to_block.ensures.memory
 
 pub returns-in-Ok-eq0-clause-keeps : goal.returns-in-Ok-eq0-clause-keeps
-returns-in-Ok-eq0-clause-keeps g c = g.W.ByteSink.sink.keeps_more _ _ _ c.turns.invariant.base.tied c.answer_block.ensures.keeps
+returns-in-Ok-eq0-clause-keeps g c = g.W.ByteSink.sink.keeps_more _ _ _ c.turns.invariant.base.tied c.reply_to_block.ensures.keeps
 
 pub whole-whole-requires-clause-none : goal.whole-whole-requires-clause-none
 whole-whole-requires-clause-none g c =
@@ -71,33 +71,33 @@ whole-whole-requires-clause-none g c =
     let none = subst (λ (xs : List ℕ). HasNoFeed xs) (sym c.make_room.ensures.front) c.turns.invariant.none in
     seen_none c.len-seen.result (unanswered c.make_room.new.self) h.0 (unanswered c.fill.new.self) c.len-seen.ensures h.1 none
 
-pub returns-in-Err-answer_block-clause-write : goal.returns-in-Err-answer_block-clause-write
-returns-in-Err-answer_block-clause-write g c =
+pub returns-in-Err-reply_to_block-clause-write : goal.returns-in-Err-reply_to_block-clause-write
+returns-in-Err-reply_to_block-clause-write g c =
     let h = c.in-Ok.ensures.ok in
     let n = c.whole-whole.result in
     let held = c.front-in-Ok.result.now in
-    let d = filled (g.A.BlockReply.answers c.args.reply.now) g.W.ByteSink.sink _ _ _ _ _ c.turns.invariant.base _ h.0 held h.3 (c.front-in-Ok.ensures ∙ (h.1 ∙ ap (λ (xs : List ℕ). xs ++ h.0) c.make_room.ensures.front)) in
+    let d = filled (g.A.Reply.answers c.args.reply.now) g.W.ByteSink.sink _ _ _ _ _ c.turns.invariant.base _ h.0 held h.3 (c.front-in-Ok.ensures ∙ (h.1 ∙ ap (λ (xs : List ℕ). xs ++ h.0) c.make_room.ensures.front)) in
     let w = subst (λ (xs : List ℕ). IsWhole (take n xs)) (sym c.front-in-Ok.ensures) c.whole-whole.ensures.whole in
-    let f = fits_here (g.A.BlockReply.answers c.args.reply.now) g.W.ByteSink.sink _ _ _ _ _ d (take n held) (drop n held) (sym (take-append-drop n held)) w in
-    write_map {A = Unit {0}} (Err c.in-Err-answer_block.e) (part (g.A.BlockReply.answers c.args.reply.now) g.W.ByteSink.sink _ _ _ _ _ d _ _ f) c.in-Err-answer_block.ensures.write
+    let f = fits_here (g.A.Reply.answers c.args.reply.now) g.W.ByteSink.sink _ _ _ _ _ d (take n held) (drop n held) (sym (take-append-drop n held)) w in
+    write_map {A = Unit {0}} (Err c.in-Err-reply_to_block.e) (part (g.A.Reply.answers c.args.reply.now) g.W.ByteSink.sink _ _ _ _ _ d _ _ f) c.in-Err-reply_to_block.ensures.write
 
-pub returns-in-Err-answer_block-clause-write_count : goal.returns-in-Err-answer_block-clause-write_count
-returns-in-Err-answer_block-clause-write_count g c =
+pub returns-in-Err-reply_to_block-clause-write_count : goal.returns-in-Err-reply_to_block-clause-write_count
+returns-in-Err-reply_to_block-clause-write_count g c =
     let same = c.turns.invariant.base.count in
-    write_map {A = Unit {0}} (Err c.in-Err-answer_block.e) (λ e. e ∙ ap next_count same) c.in-Err-answer_block.ensures.write_count
+    write_map {A = Unit {0}} (Err c.in-Err-reply_to_block.e) (λ e. e ∙ ap next_count same) c.in-Err-reply_to_block.ensures.write_count
 
-pub returns-in-Err-answer_block-clause-memory : goal.returns-in-Err-answer_block-clause-memory
-returns-in-Err-answer_block-clause-memory g c =
+pub returns-in-Err-reply_to_block-clause-memory : goal.returns-in-Err-reply_to_block-clause-memory
+returns-in-Err-reply_to_block-clause-memory g c =
     let h = c.in-Ok.ensures.ok in
     let n = c.whole-whole.result in
     let held = c.front-in-Ok.result.now in
-    let d = filled (g.A.BlockReply.answers c.args.reply.now) g.W.ByteSink.sink _ _ _ _ _ c.turns.invariant.base _ h.0 held h.3 (c.front-in-Ok.ensures ∙ (h.1 ∙ ap (λ (xs : List ℕ). xs ++ h.0) c.make_room.ensures.front)) in
+    let d = filled (g.A.Reply.answers c.args.reply.now) g.W.ByteSink.sink _ _ _ _ _ c.turns.invariant.base _ h.0 held h.3 (c.front-in-Ok.ensures ∙ (h.1 ∙ ap (λ (xs : List ℕ). xs ++ h.0) c.make_room.ensures.front)) in
     let w = subst (λ (xs : List ℕ). IsWhole (take n xs)) (sym c.front-in-Ok.ensures) c.whole-whole.ensures.whole in
-    let f = fits_here (g.A.BlockReply.answers c.args.reply.now) g.W.ByteSink.sink _ _ _ _ _ d (take n held) (drop n held) (sym (take-append-drop n held)) w in
-    memory_map {A = Unit {0}} (Err c.in-Err-answer_block.e) (firsts (g.A.BlockReply.answers c.args.reply.now) g.W.ByteSink.sink _ _ _ _ _ d _ _ f) c.in-Err-answer_block.ensures.memory
+    let f = fits_here (g.A.Reply.answers c.args.reply.now) g.W.ByteSink.sink _ _ _ _ _ d (take n held) (drop n held) (sym (take-append-drop n held)) w in
+    memory_map {A = Unit {0}} (Err c.in-Err-reply_to_block.e) (firsts (g.A.Reply.answers c.args.reply.now) g.W.ByteSink.sink _ _ _ _ _ d _ _ f) c.in-Err-reply_to_block.ensures.memory
 
-pub returns-in-Err-answer_block-clause-keeps : goal.returns-in-Err-answer_block-clause-keeps
-returns-in-Err-answer_block-clause-keeps g c = g.W.ByteSink.sink.keeps_more _ _ _ c.turns.invariant.base.tied c.answer_block-in-Ok.ensures.keeps
+pub returns-in-Err-reply_to_block-clause-keeps : goal.returns-in-Err-reply_to_block-clause-keeps
+returns-in-Err-reply_to_block-clause-keeps g c = g.W.ByteSink.sink.keeps_more _ _ _ c.turns.invariant.base.tied c.reply_to_block-in-Ok.ensures.keeps
 
 pub turns-preserved : goal.turns-preserved
 turns-preserved g c =
@@ -105,19 +105,19 @@ turns-preserved g c =
     let n = c.whole-whole.result in
     let held = c.front-in-Ok.result.now in
     let rest = unanswered c.forget.new.self in
-    let d = filled (g.A.BlockReply.answers c.args.reply.now) g.W.ByteSink.sink _ _ _ _ _ c.turns.invariant.base _ h.0 held h.3 (c.front-in-Ok.ensures ∙ (h.1 ∙ ap (λ (xs : List ℕ). xs ++ h.0) c.make_room.ensures.front)) in
+    let d = filled (g.A.Reply.answers c.args.reply.now) g.W.ByteSink.sink _ _ _ _ _ c.turns.invariant.base _ h.0 held h.3 (c.front-in-Ok.ensures ∙ (h.1 ∙ ap (λ (xs : List ℕ). xs ++ h.0) c.make_room.ensures.front)) in
     let w = subst (λ (xs : List ℕ). IsWhole (take n xs)) (sym c.front-in-Ok.ensures) c.whole-whole.ensures.whole in
     let parts : held ≡ take n held ++ rest = sym (take-append-drop n held) ∙ ap (λ (xs : List ℕ). take n held ++ xs) (ap (λ (xs : List ℕ). drop n xs) c.front-in-Ok.ensures ∙ sym c.forget.ensures) in
     record {
-      base = answered (g.A.BlockReply.answers c.args.reply.now) g.W.ByteSink.sink _ _ _ _ _ d _ (take n held) rest parts w c.in-Ok-answer_block.ensures.ok c.in-Ok-answer_block.ensures.count c.answer_block-in-Ok.ensures.keeps;
+      base = answered (g.A.Reply.answers c.args.reply.now) g.W.ByteSink.sink _ _ _ _ _ d _ (take n held) rest parts w c.in-Ok-reply_to_block.ensures.ok c.in-Ok-reply_to_block.ensures.count c.reply_to_block-in-Ok.ensures.keeps;
       none = subst (λ (xs : List ℕ). HasNoFeed xs) (sym c.forget.ensures) c.whole-whole.ensures.rest;
       count = c.in-Ok.ensures.count ∙ c.turns.invariant.count;
-      sound = c.in-Ok-answer_block.ensures.sound;
-      held = c.in-Ok-answer_block.ensures.held;
+      sound = c.in-Ok-reply_to_block.ensures.sound;
+      held = c.in-Ok-reply_to_block.ensures.held;
     }
 
 pub returns-clause-memory : goal.returns-clause-memory
-returns-clause-memory g c = so_far (g.A.BlockReply.answers c.args.reply.now) g.W.ByteSink.sink _ _ _ _ _ c.turns.invariant.base
+returns-clause-memory g c = so_far (g.A.Reply.answers c.args.reply.now) g.W.ByteSink.sink _ _ _ _ _ c.turns.invariant.base
 
 pub returns-clause-keeps : goal.returns-clause-keeps
 returns-clause-keeps g c = c.turns.invariant.base.tied

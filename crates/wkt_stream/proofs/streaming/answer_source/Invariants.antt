@@ -7,7 +7,7 @@ use Rattle.wkt_stream.proofs.streaming.answer_source.Given as goal
 
 abbrev pub invariant-turns : goal.invariant-turns
 invariant-turns g l = record {
-  base : Base (g.A.BlockReply.answers l.reply) g.W.ByteSink.sink (g.R.ByteSource.left l.initial.reader) (g.R.ByteSource.left l.reader) (gathering_writer l.initial.gatherer) (gathering_writer l.gatherer) (unanswered l.block);
+  base : Base (g.A.Reply.answers l.reply) g.W.ByteSink.sink (g.R.ByteSource.left l.initial.reader) (g.R.ByteSource.left l.reader) (gathering_writer l.initial.gatherer) (gathering_writer l.gatherer) (unanswered l.block);
   none : HasNoFeed (unanswered l.block);
   count : g.R.ByteSource.failures l.reader ≡ g.R.ByteSource.failures l.initial.reader;
   sound : is_sound l.gatherer ≡ true;

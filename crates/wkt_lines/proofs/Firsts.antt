@@ -1,0 +1,93 @@
+-- The answer to the first line, from a part of what is left.
+use Rattle.std.proofs.Common.{◌≡◌, ℕ, zero, suc, ◌+◌, ◌-◌, ◌<◌, ◌≤◌, List, [], ◌∷◌, ◌++◌, length, take, drop, refl, sym, ap, ◌∙◌, subst, arith, Option, Some, None, Bool, true, false, IsUtf8, codes, inl, inr, append_assoc, Result, Ok, Err}
+use Rattle.std.specs.Prelude.{IfSome, IfOk, ◌⊎◌, ◌==◌, if◌then◌else◌}
+use Rattle.std.proofs.lemmas.Str.{IsUtf8-append}
+use Rattle.std.proofs.Math.Seq.{take-append_seam}
+use Rattle.std.proofs.lemmas.List.{take-append-drop}
+use lib.Utf8.{encode}
+use Rattle.wkt_access.specs.Shapes.{shape_of}
+use Rattle.wkt_access.specs.Texts.{shape_text}
+use Rattle.wkt_walk.specs.Left.{before_feed}
+use Rattle.wkt_walk.specs.Feeds.{after_feed}
+use Rattle.wkt_walk.specs.Answers.{IsAnswer, IsText, IsRefusedLine}
+use Rattle.wkt_walk.proofs.TextsUtf8.{front-utf8}
+use Rattle.wkt_lines.specs.First.{AnswersFirst, WritesText, EndsLine}
+
+drop-one : (b : ℕ) (rest : List ℕ) (n : ℕ) (after : List ℕ) → drop (n + 1) rest ≡ after → drop (suc n + 1) (b ∷ rest) ≡ after
+drop-one b rest n after e = let s : suc n + 1 ≡ suc (n + 1) = omega arith in ap (λ k. drop k (b ∷ rest)) s ∙ e
+
+-- the first line ends before its feed
+splits : (rest : List ℕ) → (take (length (before_feed rest)) rest ≡ before_feed rest) × (drop (length (before_feed rest) + 1) rest ≡ after_feed rest) × (length (before_feed rest) ≤ length rest)
+splits [] = (refl, refl, omega arith)
+splits (b ∷ rest) =
+    let h = splits rest in
+    elim (b == 10) as (λ t. (take (length (if t then [] else b ∷ before_feed rest)) (b ∷ rest) ≡ (if t then [] else b ∷ before_feed rest))
+    × (drop (length (if t then [] else b ∷ before_feed rest) + 1) (b ∷ rest) ≡ (if t then rest else after_feed rest))
+    × (length (if t then [] else b ∷ before_feed rest) ≤ length (b ∷ rest))) [
+      | true ↦ (refl, refl, omega arith)
+      | false ↦ (ap (λ l. b ∷ l) h.0, drop-one b rest (length (before_feed rest)) (after_feed rest) h.1, omega (arith, h.2))
+    ]
+
+pub ends-line : (rest : List ℕ) (taken end : ℕ) → taken ≡ length (before_feed rest) + 1 → end ≡ taken - 1 → EndsLine rest end
+ends-line rest taken end e f =
+    let h = splits rest in
+    subst (EndsLine rest) (omega (arith, e, f)) (record { before = h.0; after = h.1; within = h.2 })
+
+-- a line that ends within a part is the whole's
+pub near-line : (k : ℕ) (rest : List ℕ) → length (before_feed (take k rest)) < length (take k rest) → before_feed (take k rest) ≡ before_feed rest
+near-line zero rest h = absurd (omega (arith, h))
+near-line (suc k) [] h = refl
+near-line (suc k) (b ∷ rest) h = elim (b == 10) as (λ t. length (if t then [] else b ∷ before_feed (take k rest)) < suc (length (take k rest))
+    → (if t then [] else b ∷ before_feed (take k rest)) ≡ (if t then [] else b ∷ before_feed rest)) [
+      | true ↦ λ less. refl
+      | false ↦ λ less. ap (λ l. b ∷ l) (near-line k rest (omega (arith, less)))
+    ] h
+
+-- a line has no feed
+line-of : (b : ℕ) (rest : List ℕ) (t : Bool) → (b == 10) ≡ t → before_feed (before_feed rest) ≡ before_feed rest
+    → before_feed (if t then [] else b ∷ before_feed rest) ≡ (if t then [] else b ∷ before_feed rest)
+line-of b rest true e h = refl
+line-of b rest false e h = ap (λ t. if t then [] else b ∷ before_feed (before_feed rest)) e ∙ ap (λ l. b ∷ l) h
+
+pub line-alone : (rest : List ℕ) → before_feed (before_feed rest) ≡ before_feed rest
+line-alone [] = refl
+line-alone (b ∷ rest) = line-of b rest (b == 10) refl (line-alone rest)
+
+-- the answer to a part's first line is the whole's
+pub first-of : {N : Type 0} (read : List ℕ → Option N) (num : N → List ℕ) (part rest written : List ℕ) → before_feed part ≡ before_feed rest → AnswersFirst read num part written → AnswersFirst read num rest written
+first-of read num part rest written e h = record { answer = h.answer; is = subst (λ l. IsAnswer read num l h.answer) e h.is; text = h.text }
+
+pub ok-map : {A E : Type 0} (r : Result A E) (P Q : A → Type 0) → ((x : A) → P x → Q x) → IfOk r P → IfOk r Q
+ok-map (Ok x) P Q f h = f x h
+ok-map (Err e) P Q f h = tt
+
+-- a beginning of a list
+begins : (a b c : List ℕ) → a ++ b ≡ c → a ≡ take (length a) c
+begins a b c e = subst (λ l. a ≡ take (length a) l) e (sym (take-append_seam a b))
+
+pub part-out : (out piece more whole : List ℕ) (k : ℕ) → out ++ (piece ++ more) ≡ whole → out ++ take k piece ≡ take (length (out ++ take k piece)) whole
+part-out out piece more whole k e =
+    begins (out ++ take k piece) (drop k piece ++ more) whole
+    (append_assoc out (take k piece) (drop k piece ++ more) ∙ ap (λ l. out ++ l) (sym (append_assoc (take k piece) (drop k piece) more) ∙ ap (λ l. l ++ more) (take-append-drop k piece)) ∙ e)
+
+-- what was written stands in front
+pub text-back : {N : Type 0} (read : List ℕ → Option N) (num : N → List ℕ) (text out rest : List ℕ) (n len : ℕ) → length out ≡ n → WritesText read num text out len → WritesText read num text (take n (out ++ rest)) len
+text-back read num text out rest n len e h = subst (λ l. WritesText read num text l len) (sym (ap (λ k. take k (out ++ rest)) (sym e) ∙ take-append_seam out rest)) h
+
+module _ {N : Type 0} (read : List ℕ → Option N) (num : N → List ℕ) (is_value : N → Type 0) (values : (bs : List ℕ) → IfSome (read bs) is_value)
+    (back : (x : N) → is_value x → read (num x) ≡ Some x) (utf8 : (bs : List ℕ) → IfSome (read bs) (λ _. IsUtf8 bs)) where
+  answer-utf8 : (line answer : List ℕ) → IsAnswer read num line answer → IsUtf8 answer
+  unfolding encode
+  answer-utf8 line answer (inl h) = subst IsUtf8 (sym h.text) (front-utf8 read num is_value values back utf8 line h.value h.end h.front)
+  answer-utf8 line answer (inr h) = subst IsUtf8 (sym h.refused) (codes "refused", (refl, refl))
+
+  feed-utf8 : IsUtf8 (10 ∷ [])
+  unfolding encode
+  feed-utf8 = (10 ∷ [], (refl, refl))
+
+  -- an answer and a line feed are text
+  pub first-utf8 : (rest written : List ℕ) → AnswersFirst read num rest written → IsUtf8 written
+  first-utf8 rest written h = subst IsUtf8 (sym h.text) (IsUtf8-append h.answer (10 ∷ []) (answer-utf8 (before_feed rest) h.answer h.is) feed-utf8)
+
+  pub text-utf8 : (text bytes : List ℕ) (len : ℕ) → WritesText read num text bytes len → IsUtf8 (take len bytes)
+  text-utf8 text bytes len h = subst IsUtf8 (sym h.written) (front-utf8 read num is_value values back utf8 text h.value h.end h.front)
