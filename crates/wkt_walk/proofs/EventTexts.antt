@@ -82,8 +82,14 @@ module _ {N : Type 0} (num : N → List ℕ) where
     member-is c = items-text part.Point (coordinate count) (λ c. coordinate_text num (take count c)) coordinate-is part.Point (option_to_list c)
         ∙ ap listed_text (some-map c)
 
+    -- of a hollow polygon nothing is written
+    filled : (whole : Part) (rings : List (List (List N))) → events_text num (polygon whole count rings) ≡ events_text num (listed whole part.Line (line count) (rings_of (polygon_of rings)))
+    filled whole [] = refl
+    filled whole ([] ∷ rings) = refl
+    filled whole ((c ∷ cs) ∷ rings) = refl
+
     polygon-is : (rings : List (List (List N))) → events_text num (polygon part.Polygon count rings) ≡ polygon_text num (map (map (take count)) (rings_of (polygon_of rings)))
-    polygon-is rings = items-text part.Line (line count) (λ cs. coordinates_text num (map (take count) cs)) line-is part.Polygon (rings_of (polygon_of rings))
+    polygon-is rings = filled part.Polygon rings ∙ items-text part.Line (line count) (λ cs. coordinates_text num (map (take count) cs)) line-is part.Polygon (rings_of (polygon_of rings))
         ∙ ap listed_text (sym (fused (coordinates_text num) (map (take count)) (rings_of (polygon_of rings))))
 
   -- a header and the items behind it
@@ -118,7 +124,7 @@ module _ {N : Type 0} (num : N → List ℕ) where
         (items-text part.Point (coordinate (size d)) (λ c. coordinate_text num (take (size d) c)) (coordinate-is (size d)) part.Geometry cs)
         (sym (fused (coordinate_text num) (take (size d)) cs) ∙ ap (λ x. map (coordinate_text num) (map (take (size x)) cs)) (sym (header_back d)))
     events-text (Value.polygon d rings) = headed-is kind.Polygon d (dimension (header_of d)) (events_text num (body (Value.polygon d rings))) (map (λ cs. coordinates_text num (map (take (size d)) cs)) (rings_of (polygon_of rings))) _ (header_back d)
-        (items-text part.Line (line (size d)) (λ cs. coordinates_text num (map (take (size d)) cs)) (line-is (size d)) part.Geometry (rings_of (polygon_of rings)))
+        (filled (size d) part.Geometry rings ∙ items-text part.Line (line (size d)) (λ cs. coordinates_text num (map (take (size d)) cs)) (line-is (size d)) part.Geometry (rings_of (polygon_of rings)))
         (sym (fused (coordinates_text num) (map (take (size d))) (rings_of (polygon_of rings))) ∙ ap (λ x. map (coordinates_text num) (map (map (take (size x))) (rings_of (polygon_of rings)))) (sym (header_back d)))
     events-text (Value.multi_point d ps) = headed-is kind.MultiPoint d (dimension (header_of d)) (events_text num (body (Value.multi_point d ps))) (map (λ c. coordinates_text num (option_to_list (option_map (take (size d)) c))) ps) _ (header_back d)
         (items-text part.Point (member (size d)) (λ c. coordinates_text num (option_to_list (option_map (take (size d)) c))) (member-is (size d)) part.Geometry ps)

@@ -32,8 +32,8 @@ module _ {N : Type 0} (read : List ℕ → Option N) (count : ℕ) where
       → Event.Open whole ∷ inner whole part.Line (line count) rings ≡ polygon whole count rings
   full-events whole c cs rs rings e = subst (λ ys. Event.Open whole ∷ inner whole part.Line (line count) ys ≡ polygon whole count ys) (sym e) refl
 
-  hollow-events : (whole : Part) (rs rings : List (List (List N))) → rings ≡ [] ∷ rs → Event.Empty whole ∷ [] ≡ polygon whole count rings
-  hollow-events whole rs rings e = subst (λ ys. Event.Empty whole ∷ [] ≡ polygon whole count ys) (sym e) refl
+  hollow-events : (whole : Part) (rs rings : List (List (List N))) → rings ≡ [] ∷ rs → Event.Hollow whole count rs ∷ [] ≡ polygon whole count rings
+  hollow-events whole rs rings e = subst (λ ys. Event.Hollow whole count rs ∷ [] ≡ polygon whole count ys) (sym e) refl
 
   hollow-inner : (whole : Part) (rs rings : List (List (List N))) → rings ≡ [] ∷ rs
       → inner whole part.Line (line count) rings ≡ Event.Empty part.Line ∷ (further part.Line (line count) rs ++ (Event.Close whole ∷ []))
@@ -76,7 +76,7 @@ module _ {N : Type 0} (read : List ℕ → Option N) (count : ℕ) where
           goes = h.goes;
           reads = h.reads;
           makes = subst (λ es. maker.makes start es now) (hollow-events whole rs h.value is)
-              (hollows.made start (further part.Line (line count) rs ++ (Event.Close whole ∷ [])) begun.amount
+              (hollows.made start count rs begun.amount
               (subst (λ es. maker.makes start (Event.Open whole ∷ es) made) (hollow-inner whole rs h.value is)
               (maker.more start opened made (Event.Open whole ∷ []) (inner whole part.Line (line count) h.value) begun.made h.makes)));
         }

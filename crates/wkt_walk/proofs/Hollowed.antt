@@ -4,7 +4,7 @@ use Rattle.std.proofs.lemmas.List.{take-take, take_at, append-nil}
 use Rattle.wkt_walk.specs.declared.builder.Part.{Part}
 use Rattle.wkt_walk.specs.declared.builder.Part.TheVariants as part
 use Rattle.wkt_walk.specs.declared.text.Pen.{Pen}
-use Rattle.wkt_walk.specs.Events.{Event}
+use Rattle.wkt_walk.specs.Events.{Event, inner, line}
 use Rattle.wkt_walk.specs.Makers.{Hollows, HasHollow}
 use Rattle.wkt_walk.specs.Written.{Extends, Wrote, empty_text}
 use Rattle.wkt_walk.specs.PenMaker.{pen_maker, events_text}
@@ -20,14 +20,14 @@ front-kept : (n m : ℕ) (xs ys zs : List ℕ) → n ≤ m → take m xs ≡ tak
 front-kept n m xs ys zs order e within = sym (take-take n m xs order) ∙ ap (take n) e ∙ take_at (take n ys) zs n (length-take-le n ys within)
 
 module _ {N : Type 0} (num : N → List ℕ) (whole : Part) (s t : Pen N) (n : ℕ) (room : s.len + 64 ≤ length s.out.now) where
-  made-empty : (again : Extends (record s { len = n }) (empty_text whole) t) (start : Pen N) (rest : List (Event N)) → start.len ≡ n → Wrote start (events_text num (Event.Open whole ∷ Event.Empty part.Line ∷ rest)) s → Wrote start (events_text num (Event.Empty whole ∷ [])) t
-  made-empty again start rest e w =
+  made-empty : (again : Extends (record s { len = n }) (empty_text whole) t) (start : Pen N) (count : ℕ) (rings : List (List (List N))) → start.len ≡ n → Wrote start (events_text num (Event.Open whole ∷ inner whole part.Line (line count) ([] ∷ rings))) s → Wrote start (events_text num (Event.Hollow whole count rings ∷ [])) t
+  made-empty again start count rings e w =
       let shorter = w.shorter in let as_long = again.whole in
       record {
         shorter = omega (arith, shorter, as_long);
         unless = λ f.
             let h = w.unless (sym as_long ∙ f) in
-            let kept : take n s.out.now ≡ take start.len start.out.now = ap (λ (k : ℕ). take k s.out.now) (sym e) ∙ front-kept start.len s.len s.out.now start.out.now (events_text num (Event.Open whole ∷ Event.Empty part.Line ∷ rest)) (omega (arith, h.len)) h.written (omega (arith, h.len, h.whole, room)) in
+            let kept : take n s.out.now ≡ take start.len start.out.now = ap (λ (k : ℕ). take k s.out.now) (sym e) ∙ front-kept start.len s.len s.out.now start.out.now (events_text num (Event.Open whole ∷ inner whole part.Line (line count) ([] ∷ rings))) (omega (arith, h.len)) h.written (omega (arith, h.len, h.whole, room)) in
             subst (λ l. Extends start l t) (sym (append-nil (empty_text whole))) (record {
               origin = again.origin ∙ h.origin;
               whole = again.whole ∙ h.whole;
@@ -45,6 +45,6 @@ module _ {N : Type 0} (num : N → List ℕ) (whole : Part) (s t : Pen N) (n : �
 -- A pen that has written less is stuck, and stays as it is.
 pub stuck-hollowed : {N : Type 0} (num : N → List ℕ) (whole : Part) (s : Pen N) (n : ℕ) → s.len < n + 6 → Hollows (pen_maker num) n whole s s
 stuck-hollowed num whole s n less = record {
-  made = λ start rest e w. record { shorter = w.shorter; unless = λ f. let h = w.unless f in absurd (omega (arith, less, e, h.len)) };
+  made = λ start count rings e w. record { shorter = w.shorter; unless = λ f. let h = w.unless f in absurd (omega (arith, less, e, h.len)) };
   leaves = λ m f. f;
 }

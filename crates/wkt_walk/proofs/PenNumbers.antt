@@ -12,7 +12,7 @@ use Rattle.wkt_walk.specs.declared.text.Pen.{Pen}
 use Rattle.wkt_walk.specs.Left.{class_in, left, IsMark, TakesOne}
 use Rattle.wkt_walk.specs.Walking.{GivesNumberIfAny, Legible}
 use Rattle.wkt_walk.specs.Written.{Extends, Wrote, IsStuck, separator}
-use Rattle.wkt_walk.specs.Numbers.{IsNumberAt, NoNumber, Numbered}
+use Rattle.wkt_walk.specs.Numbers.{IsNumberAt, NoNumber, Numbered, ReadsNumberIfAny}
 use Rattle.wkt_walk.specs.PenMaker.{pen_maker, wrote_of, wrote_more}
 use Rattle.wkt_walk.proofs.Lefts.{takes-mark, takes-run, takes-left, left-nul}
 use Rattle.wkt_walk.proofs.RunTexts.{number-text}
@@ -106,6 +106,12 @@ module _ {N : Type 0} (read : List ℕ → Option N) (num : N → List ℕ) (fee
             let same : h.end ≡ at = omega (arith, none, h.ends.order) in
             absurd (h.ends.stops (ap (λ (i : ℕ). class_of (get_or text i 0)) same ∙ run-in feed (get_or text at 0) e))
       ]
+
+  -- The number itself.
+  pub reads-number : (result : Option (N × ℕ)) → class_in feed (get_or text at 0) ≢ White → IfSome result (λ p. IsNumberAt read text at p.1 p.0) → IfNone result (NoNumber read text at)
+      → ReadsNumberIfAny read feed text at result
+  reads-number (Some p) other some none = (without_plus (slice_range text at p.1), takes-number p.1 p.0 some, some.reads)
+  reads-number None other some none = λ l. refuses l other none
 
   -- What the pen gives is the number at a place of a coordinate.
   pub gives-number : (place count : ℕ) (self pen : Pen N) (result : Option (At (Pen N))) → class_in feed (get_or text at 0) ≢ White → Extends self (separator place) pen

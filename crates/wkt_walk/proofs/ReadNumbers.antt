@@ -8,7 +8,6 @@ use Rattle.wkt_num.specs.Bytes.{Lexeme, Open, Close, Comma, Word, Num}
 use Rattle.wkt_access.specs.declared.dimensions.Dimension.{Dimension}
 use Rattle.wkt_access.specs.declared.dimensions.Dimension.TheVariants.{XY, XYZ, XYM, XYZM}
 use Rattle.wkt_access.specs.Values.{size, Value, Values}
-use Rattle.wkt_access.specs.Shapes.{polygon_of, rings_of}
 use Rattle.wkt_access.specs.Texts.{suffix}
 use Rattle.wkt_types.specs.declared.geometry_type.GeometryType.{GeometryType}
 use Rattle.wkt_types.specs.declared.geometry_type.GeometryType.TheVariants as kind
@@ -28,6 +27,7 @@ EachNumber P (Event.Open p ∷ es) = EachNumber P es
 EachNumber P (Event.Comma p ∷ es) = EachNumber P es
 EachNumber P (Event.Close p ∷ es) = EachNumber P es
 EachNumber P (Event.Empty p ∷ es) = EachNumber P es
+EachNumber P (Event.Hollow p count rings ∷ es) = EachNumber P es
 
 module _ {N : Type 0} (P : N → Type 0) where
   each-append : (es fs : List (Event N)) → EachNumber P es → EachNumber P fs → EachNumber P (es ++ fs)
@@ -38,6 +38,7 @@ module _ {N : Type 0} (P : N → Type 0) where
   each-append (Event.Comma p ∷ es) fs h k = each-append es fs h k
   each-append (Event.Close p ∷ es) fs h k = each-append es fs h k
   each-append (Event.Empty p ∷ es) fs h k = each-append es fs h k
+  each-append (Event.Hollow p count rings ∷ es) fs h k = each-append es fs h k
 
   all-take : (n : ℕ) (xs : List N) → AllByRecursion P xs → AllByRecursion P (take n xs)
   all-take zero xs h = tt
@@ -73,13 +74,10 @@ module _ {N : Type 0} (P : N → Type 0) where
   each-line : (count : ℕ) (cs : List (List N)) → EachLine cs → EachNumber P (line count cs)
   each-line count cs h = each-listed EachOf part.Point (coordinate count) (each-coordinate count) part.Line cs h
 
-  each-rings : (rs : List (List (List N))) → EachPolygon rs → EachPolygon (rings_of (polygon_of rs))
-  each-rings [] h = tt
-  each-rings ([] ∷ rs) h = tt
-  each-rings ((c ∷ cs) ∷ rs) h = h
-
   each-polygon : (whole : Part) (count : ℕ) (rs : List (List (List N))) → EachPolygon rs → EachNumber P (polygon whole count rs)
-  each-polygon whole count rs h = each-listed EachLine part.Line (line count) (each-line count) whole (rings_of (polygon_of rs)) (each-rings rs h)
+  each-polygon whole count [] h = tt
+  each-polygon whole count ([] ∷ rs) h = tt
+  each-polygon whole count ((c ∷ cs) ∷ rs) h = each-listed EachLine part.Line (line count) (each-line count) whole ((c ∷ cs) ∷ rs) h
 
   abbrev pub EachMember : Option (List N) → Type 0
   EachMember c = EachLine (option_to_list c)
@@ -181,3 +179,4 @@ module _ {N : Type 0} (num : N → List ℕ) where
   events-utf8 (Event.Comma p ∷ es) h = IsUtf8-append (codes ",") (events_text num es) (codes ",", (refl, refl)) (events-utf8 es h)
   events-utf8 (Event.Close p ∷ es) h = IsUtf8-append (codes ")") (events_text num es) (codes ")", (refl, refl)) (events-utf8 es h)
   events-utf8 (Event.Empty p ∷ es) h = IsUtf8-append (empty_text p) (events_text num es) (empty-utf8 p) (events-utf8 es h)
+  events-utf8 (Event.Hollow p count rings ∷ es) h = IsUtf8-append (empty_text p) (events_text num es) (empty-utf8 p) (events-utf8 es h)

@@ -2,13 +2,12 @@
 use Rattle.std.specs.Prelude.{ℕ, suc, List, [], ◌∷◌, ◌++◌, take, option_to_list, Option}
 use Rattle.wkt_access.specs.declared.dimensions.Dimension.{Dimension}
 use Rattle.wkt_access.specs.Values.{size, Value, Values}
-use Rattle.wkt_access.specs.Shapes.{polygon_of, rings_of}
 use Rattle.wkt_types.specs.declared.geometry_type.GeometryType.{GeometryType}
 use Rattle.wkt_types.specs.declared.geometry_type.GeometryType.TheVariants as kind
 use Rattle.wkt_walk.specs.declared.builder.Part.{Part}
 use Rattle.wkt_walk.specs.declared.builder.Part.TheVariants as part
 
--- What one call makes: a header, the parentheses and commas of parts, a part that is empty, or a number at a place of a coordinate of so many.
+-- What one call makes: a header, the parentheses and commas of parts, a part that is empty, a number at a place of a coordinate of so many, or a polygon of which the first ring has no point, with the rings behind that.
 pub data Event (N : Type 0) : Type 0 where
   Header : GeometryType → Dimension → Event N
   Open : Part → Event N
@@ -16,6 +15,7 @@ pub data Event (N : Type 0) : Type 0 where
   Close : Part → Event N
   Empty : Part → Event N
   Number : (place count : ℕ) → N → Event N
+  Hollow : Part → ℕ → List (List (List N)) → Event N
 
 -- Items, each after a comma.
 abbrev pub further : {N A : Type 0} → Part → (A → List (Event N)) → List A → List (Event N)
@@ -50,9 +50,11 @@ coordinate count c = numbers count 0 (take count c)
 abbrev pub line : {N : Type 0} → ℕ → List (List N) → List (Event N)
 line count cs = listed part.Line part.Point (coordinate count) cs
 
--- The rings of a polygon: none where the first has no point.
+-- The rings of a polygon: it is hollow where the first has no point.
 abbrev pub polygon : {N : Type 0} → Part → ℕ → List (List (List N)) → List (Event N)
-polygon whole count rings = listed whole part.Line (line count) (rings_of (polygon_of rings))
+polygon whole count [] = Event.Empty whole ∷ []
+polygon whole count ([] ∷ rings) = Event.Hollow whole count rings ∷ []
+polygon whole count ((c ∷ cs) ∷ rings) = listed whole part.Line (line count) ((c ∷ cs) ∷ rings)
 
 -- A member of a multipoint.
 abbrev pub member : {N : Type 0} → ℕ → Option (List N) → List (Event N)
@@ -86,6 +88,6 @@ abbrev mutual
   bodies Values.no_values = []
   bodies (Values.more_values v vs) = Event.Comma part.Geometry ∷ (header v ∷ (body v ++ bodies vs))
 
--- A value as events: a polygon whose first ring has no point is empty.
+-- A value as events.
 abbrev pub events : {N : Type 0} → Value N → List (Event N)
 events v = header v ∷ body v

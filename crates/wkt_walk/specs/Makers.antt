@@ -4,7 +4,7 @@ use Rattle.wkt_types.specs.declared.geometry_type.GeometryType.{GeometryType}
 use Rattle.wkt_types.specs.declared.geometry_type.GeometryType.TheVariants as kind
 use Rattle.wkt_walk.specs.declared.builder.Part.{Part}
 use Rattle.wkt_walk.specs.declared.builder.Part.TheVariants as part
-use Rattle.wkt_walk.specs.Events.{Event}
+use Rattle.wkt_walk.specs.Events.{Event, inner, line}
 
 -- Of numbers of type N a thing of type S is made.
 pub record Maker (N S : Type 0) : Type 1 where
@@ -52,10 +52,10 @@ module _ {N S : Type 0} (maker : Maker N S) where
     pub rest : List (Event N)
     pub made : maker.makes start (Event.Open whole ∷ Event.Empty part.Line ∷ rest) t
 
-  -- Of all that only an empty part is left, which takes no more room.
+  -- Of all that a hollow polygon is made, which takes no more room.
   pub record Hollows (before : ℕ) (whole : Part) (s t : S) : Type 0 where
-    pub made : (start : S) (rest : List (Event N)) → maker.amount start ≡ before
-        → maker.makes start (Event.Open whole ∷ Event.Empty part.Line ∷ rest) s → maker.makes start (Event.Empty whole ∷ []) t
+    pub made : (start : S) (count : ℕ) (rings : List (List (List N))) → maker.amount start ≡ before
+        → maker.makes start (Event.Open whole ∷ inner whole part.Line (line count) ([] ∷ rings)) s → maker.makes start (Event.Hollow whole count rings ∷ []) t
     pub leaves : (m : ℕ) → maker.fits s m → maker.fits t m
 
   -- There is room for what the text from `at` on gives, each byte two at most, and for one more, though `short` of it may be lacking.

@@ -1,7 +1,11 @@
 -- A number at a place of a text, and what a pen makes of it.
-use Rattle.std.specs.Prelude.{◌≡◌, ℕ, ◌+◌, ◌-◌, ◌*◌, ◌≤◌, ◌<◌, List, length, get_or, slice_range, Option, Some, None, IsTrue, IsUtf8}
+use Rattle.std.specs.Prelude.{◌≡◌, ℕ, ◌+◌, ◌-◌, ◌*◌, ◌≤◌, ◌<◌, List, length, get_or, slice_range, Option, Some, None, IsTrue, IsUtf8, Bool}
 use Rattle.wkt_read.specs.Lexemes.{starts_number, without_plus}
-use Rattle.wkt_walk.specs.Left.{IsRunEnd}
+use Rattle.std.specs.Result.{IsErr}
+use Rattle.wkt_num.specs.Bytes as lex
+use Rattle.wkt_read.specs.Parser.Reading.{number_at}
+use Rattle.wkt_walk.specs.Left.{IsRunEnd, TakesOne, left}
+use Rattle.wkt_walk.specs.Walking.{Legible}
 use Rattle.wkt_walk.specs.Written.{Wrote}
 use Rattle.wkt_walk.specs.declared.text.Pen.{Pen}
 
@@ -24,3 +28,8 @@ pub record Numbered {T : Type 0} (read : List ℕ → Option T) (num : T → Lis
   pub there : IsNumberAt read text at end number
   pub wrote : Wrote before (num number) after
   pub room : (m : ℕ) → m ≤ 2 * (length text - end) + 1 → before.len + m + (2 * (end - at) - 1) + 64 ≤ length before.out.now → after.len + m + 64 ≤ length after.out.now
+
+-- The number that comes next, and its end; or none can be read there.
+abbrev pub ReadsNumberIfAny : {T : Type 0} → (List ℕ → Option T) → Bool → List ℕ → ℕ → Option (T × ℕ) → Type 0
+ReadsNumberIfAny read feed text at (Some p) = (run : List ℕ) × TakesOne feed text at (lex.Num run) p.1 × (read run ≡ Some p.0)
+ReadsNumberIfAny read feed text at None = Legible feed text at → IsErr (number_at read (left feed text at))

@@ -17,6 +17,7 @@ event_text num (Event.Comma p) = codes ","
 event_text num (Event.Close p) = codes ")"
 event_text num (Event.Empty p) = empty_text p
 event_text num (Event.Number place count x) = separator place ++ num x
+event_text num (Event.Hollow p count rings) = empty_text p
 
 -- What is written for events, one after another.
 abbrev pub events_text : {N : Type 0} → (N → List ℕ) → List (Event N) → List ℕ

@@ -10,6 +10,7 @@ mod items;
 mod lines;
 mod marks;
 mod numbers;
+mod reading;
 mod shapes;
 mod text;
 mod texts;
@@ -18,5 +19,6 @@ mod walk;
 
 pub use canonical::{NoRoom, write_canonical};
 pub use lines::{Answer, answer_line};
+pub use reading::read_number_at;
 pub use texts::TextNumber;
 pub use walk::geometry;

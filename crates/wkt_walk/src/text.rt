@@ -172,14 +172,14 @@ impl TextSink for Space<'_> {
     }
 }
 
-fn begins_number(byte: u8) -> bool
+pub(crate) fn begins_number(byte: u8) -> bool
     ensures { result ≡ starts_number byte }
 {
     byte.is_ascii_digit() || byte == b'.' || byte == b'-' || byte == b'+'
 }
 
 /// Past the plus, if one stands here.
-fn past_plus(text: &[u8], at: usize) -> usize
+pub(crate) fn past_plus(text: &[u8], at: usize) -> usize
     requires { at + 1 ≤ length text.now }
     ensures { result ≡ at + plus_len (slice_index text.now at) }
 {

@@ -1,0 +1,4 @@
+pub mod Growth
+pub mod Doing
+pub mod Holding
+pub mod Finished

@@ -1,0 +1,5 @@
+pub mod Arrays
+pub mod Filling
+pub mod Growing
+pub mod Filled
+pub mod Fronts
