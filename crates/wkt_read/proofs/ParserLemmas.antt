@@ -1,4 +1,6 @@
 pub mod Parts
+pub mod Quiet
+pub mod Blamed
 pub mod Coords
 pub mod Readings
 pub mod Many
@@ -10,5 +12,7 @@ pub mod Reaches
 pub mod Early
 pub mod Free
 pub mod Answering
+pub mod Bridge
+pub mod OneMessage
 pub mod Valued
 pub mod Refusals

@@ -1,6 +1,7 @@
 pub mod Reading
+pub mod Outcome
+pub mod Promises
 pub mod Reads
 pub mod Walks
 pub mod Frames
 pub mod Errors
-pub mod Blames

@@ -10,6 +10,7 @@ ghost use Rattle.wkt_read.specs.Begun.{NoneBegins};
 ghost use Rattle.wkt_read.specs.Early.{StopsEarly};
 ghost use Rattle.wkt_read.specs.Bad.{HasBad};
 ghost use Rattle.wkt_read.specs.Ahead.{rest, Advances, IsNear};
+ghost use Rattle.wkt_read.specs.Refusal.{IsRefused, IsTextRefused, IfText};
 ghost use Rattle.wkt_read.specs.Answered.{IsFront, IsFrontTo, Begins, IsReadOff, HasBadNumber, OnText, OnMessage};
 
 use crate::error::ReadError;
@@ -25,6 +26,7 @@ fn read<T: WktNum>(alloc: Global, tokens: &mut PeekableTokens<'_, T>) -> Result<
     ensures no_geometry { OnText result (NoneBegins T.read (rest tokens.old)) }
     ensures early { OnText result (StopsEarly T.read (rest tokens.old) (rest tokens.new)) }
     ensures bad { OnMessage result bad_number (HasBad T.read (rest tokens.old)) }
+    ensures refusal { IfText result (λ said. IsRefused T.read (rest tokens.old) said (rest tokens.new)) }
     ensures free { (v after : _) → Begins T.read (rest tokens.old) v after → NeedsNoMemory v → IsOk result }
     ensures taken { OnOk result (length (rest tokens.new) < length (rest tokens.old)) }
     ensures advances { Advances tokens.old tokens.new }
@@ -40,6 +42,7 @@ fn read_text<T: WktNum>(alloc: Global, text: &str) -> Result<(Wkt<T>, usize), Re
     ensures boundary { IfOk result (λ r. IsCharBoundary text.now r.1) }
     ensures no_front { OnText result (HasNoFront T.read text.now) }
     ensures bad { OnMessage result bad_number (HasBadNumber T.read text.now) }
+    ensures refusal { IfText result (λ said. IsTextRefused T.read text.now said) }
     ensures free { (v end : _) → Front T.read text.now v end → NeedsNoMemory v → IsOk result }
 {
     let mut tokens = PeekableTokens::new(Tokens::from_str(text));
@@ -71,6 +74,7 @@ pub trait FromWktStr {
         ensures found { IfOk result (λ w. IsFront Self.Num.read text.now (tree w)) }
         ensures no_front { OnText result (HasNoFront Self.Num.read text.now) }
         ensures bad { OnMessage result bad_number (HasBadNumber Self.Num.read text.now) }
+        ensures refusal { IfText result (λ said. IsTextRefused Self.Num.read text.now said) }
         ensures free { (v end : _) → Front Self.Num.read text.now v end → NeedsNoMemory v → IsOk result };
 
     /// The geometry at the front of the text, and where its last lexeme ends, in bytes. The end is past
@@ -91,6 +95,7 @@ pub trait FromWktStr {
         ensures boundary { IfOk result (λ r. IsCharBoundary text.now r.1) }
         ensures no_front { OnText result (HasNoFront Self.Num.read text.now) }
         ensures bad { OnMessage result bad_number (HasBadNumber Self.Num.read text.now) }
+        ensures refusal { IfText result (λ said. IsTextRefused Self.Num.read text.now said) }
         ensures free { (v end : _) → Front Self.Num.read text.now v end → NeedsNoMemory v → IsOk result };
 
     /// The geometry at the front of the lexemes, which are taken; those after it are left.
@@ -107,6 +112,7 @@ pub trait FromWktStr {
         ensures no_geometry { OnText result (NoneBegins Self.Num.read (rest tokens.old)) }
         ensures early { OnText result (StopsEarly Self.Num.read (rest tokens.old) (rest tokens.new)) }
         ensures bad { OnMessage result bad_number (HasBad Self.Num.read (rest tokens.old)) }
+        ensures refusal { IfText result (λ said. IsRefused Self.Num.read (rest tokens.old) said (rest tokens.new)) }
         ensures free { (v after : _) → Begins Self.Num.read (rest tokens.old) v after → NeedsNoMemory v → IsOk result }
         ensures taken { OnOk result (length (rest tokens.new) < length (rest tokens.old)) }
         ensures advances { Advances tokens.old tokens.new }

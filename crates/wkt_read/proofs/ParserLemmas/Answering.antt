@@ -9,15 +9,10 @@ use Rattle.wkt_read.specs.Front.{Front, HasNoFront}
 use Rattle.wkt_read.specs.Placed.{Placed, lexemes_of, end_after, AreEnds, placed}
 use Rattle.wkt_read.specs.Ahead.{left, rest, end_of, taken_of, IfLast, Advances}
 use Rattle.wkt_read.specs.Parser.Walks.{GoesOn}
-use Rattle.wkt_read.specs.Messages.{message_text, Says}
-use Rattle.wkt_read.specs.Parser.Errors.{OnBad}
-use Rattle.wkt_read.specs.Items.{bad_number}
 use Rattle.wkt_read.specs.Answered.{Begins, OnText, OnMessage}
 use Rattle.wkt_read.specs.Begun.{NoneBegins}
 use Rattle.wkt_read.specs.declared.error.ReadError.{ReadError}
 use Rattle.wkt_read.specs.declared.error.ReadError.TheVariants.{Text, Memory}
-use Rattle.wkt_read.specs.declared.messages.Message.{Message}
-use Rattle.wkt_read.specs.declared.messages.Message.TheVariants as message
 use Rattle.wkt_read.specs.declared.tokenizer.peekable.PeekableTokens.{PeekableTokens}
 use Rattle.wkt_read.proofs.TokenizerLemmas.Afters.{lexemes_of-append}
 use Rattle.wkt_read.proofs.TokenizerLemmas.Placings.{placed-split}
@@ -99,24 +94,3 @@ text-map X Y (Memory m) P Q f h = tt
 pub message-map : (X Y : Type 0) (e : ReadError) (m : List ℕ) (P Q : Type 0) → (P → Q) → OnMessage {X = X} (Err e) m P → OnMessage {X = Y} (Err e) m Q
 message-map X Y (Text t) m P Q f h = λ e. f (h e)
 message-map X Y (Memory t) m P Q f h = tt
-
--- no other message is that of a bad number
-pub bad-text : (X : Type 0) (m : Message) (P : Type 0) → message_text m ≡ message_text message.BadNumber → OnBad {X = X} (Err m) P → P
-bad-text X message.BadNumber P e h = h
-bad-text X message.Format P e h = absurd (omega (arith, ap length e))
-bad-text X message.NonAscii P e h = absurd (omega (arith, ap length e))
-bad-text X message.Kind P e h = absurd (omega (arith, ap length e))
-bad-text X message.Word P e h = absurd (omega (arith, ap length e))
-bad-text X message.End P e h = absurd (omega (arith, ap length e))
-bad-text X message.Open P e h = absurd (omega (arith, ap length e))
-bad-text X message.Close P e h = absurd (omega (arith, ap length e))
-bad-text X message.X P e h = absurd (omega (arith, ap length e))
-bad-text X message.Y P e h = absurd (omega (arith, ap length e))
-bad-text X message.Z P e h = absurd (omega (arith, ap length e))
-bad-text X message.M P e h = absurd (omega (arith, ap length e))
-bad-text X message.Member P e h = absurd (omega (arith, ap length e))
-
--- a message that is passed on as a text
-pub said-bad : (X Y : Type 0) (e : ReadError) (m : Message) (P : Type 0) → Says e m → OnBad {X = X} (Err m) P → OnMessage {X = Y} (Err e) bad_number P
-said-bad X Y (Text t) m P says h = λ is. bad-text X m P (sym says ∙ is) h
-said-bad X Y (Memory f) m P says h = tt

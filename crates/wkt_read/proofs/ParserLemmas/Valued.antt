@@ -1,22 +1,20 @@
 -- What `read` answers, by what the parser's `value` does.
-use Rattle.std.proofs.Common.{◌≡◌, ℕ, ◌<◌, List, [], length, refl, arith, Option, Result, Ok, Err}
+use Rattle.std.proofs.Common.{◌≡◌, ℕ, ◌<◌, List, length, refl, arith, Option, Result, Ok, Err}
 use Rattle.std.specs.Prelude.{OnOk, IfOk}
 use Rattle.std.specs.Result.{IsOk}
 use Rattle.wkt_access.specs.Values.{Value}
 use Rattle.wkt_types.specs.Tree.{tree}
 use Rattle.wkt_types.specs.declared.geometry.Wkt.{Wkt}
 use Rattle.wkt_num.specs.Bytes.{Lexeme}
-use Rattle.wkt_read.specs.Items.{bad_number}
 use Rattle.wkt_read.specs.Front.{NeedsNoMemory}
 use Rattle.wkt_read.specs.Begun.{NoneBegins}
 use Rattle.wkt_read.specs.Early.{StopsEarly}
-use Rattle.wkt_read.specs.Bad.{HasBad}
 use Rattle.wkt_read.specs.Placed.{AreEnds}
 use Rattle.wkt_read.specs.Ahead.{left, rest, end_of, Advances}
 use Rattle.wkt_read.specs.Answered.{Begins, IsReadOff, IsFront, OnText, OnMessage}
 use Rattle.wkt_read.specs.Parser.Errors.{OnMemory}
 use Rattle.wkt_read.specs.Parser.Reading.{value_at, HasMembers}
-use Rattle.wkt_read.specs.Parser.Reads.{ReadsAll, BlamesIn, wkt_value, UniformWkt}
+use Rattle.wkt_read.specs.Parser.Reads.{ReadsAll, wkt_value, UniformWkt}
 use Rattle.wkt_read.specs.declared.error.ReadError.{ReadError}
 use Rattle.wkt_read.specs.declared.error.ReadError.TheVariants.{Text, Memory}
 use Rattle.wkt_read.specs.declared.tokenizer.peekable.PeekableTokens.{PeekableTokens}
@@ -50,10 +48,6 @@ module _ {T : Type 0} (read : List ℕ → Option T) (s t : PeekableTokens T) wh
   free (Ok w) exact memory v after begins small = refl
   free (Err (Text m)) exact memory v after (f, split, geometry) small = absurd (none (Err (Text m)) exact f after v split geometry)
   free (Err (Memory e)) exact memory v after (f, split, geometry) small = absurd (no_members read v (rest s) f after split geometry small memory)
-
-  pub bad : (r : Result (Wkt T) ReadError) → BlamesIn read s r → OnMessage r bad_number (HasBad read (rest s))
-  unfolding rest
-  bad r blames = blames (left s) (record { given = []; split = refl; last = tt })
 
 module _ {T : Type 0} (read : List ℕ → Option T) (text : List ℕ) (s t : PeekableTokens T) where
   -- what was read off all lexemes of a text is its front's

@@ -1,14 +1,7 @@
 -- One lexeme further.
-use Rattle.std.proofs.Common.{◌≤◌, ◌≡◌, ℕ, length, arith, List, [], ◌∷◌, ◌++◌, sym, refl, ap, ◌∙◌, subst, append_assoc, Option, Some, None, Err, ◌≢◌}
+use Rattle.std.proofs.Common.{◌≤◌, ◌≡◌, length, arith, List, [], ◌∷◌, ◌++◌, sym, refl, ap, ◌∙◌, subst, append_assoc, Option, Some, None}
 use Rattle.wkt_num.specs.Bytes.{Lexeme}
 use Rattle.wkt_read.specs.Placed.{Placed, lexemes_of}
-use Rattle.wkt_read.specs.declared.tokenizer.tokens.Lexeme as code
-use Rattle.wkt_read.specs.declared.tokenizer.tokens.Lexeme.TheVariants as lexeme
-use Rattle.wkt_read.specs.Tokenizer.Unread.{found}
-use Rattle.wkt_read.specs.Parser.Blames.{BlamesLexeme}
-use Rattle.wkt_read.specs.declared.messages.Message.{Message}
-use Rattle.wkt_read.specs.declared.messages.Message.TheVariants as message
-use Rattle.wkt_read.specs.Parser.Errors.{OnBad}
 use Rattle.wkt_read.specs.declared.tokenizer.peekable.PeekableTokens.{PeekableTokens}
 use Rattle.wkt_read.specs.Ahead.{left, end_of, taken_of, rest, Moves}
 use Rattle.wkt_read.specs.Parser.Walks.{GoesOn, TakesNext}
@@ -45,33 +38,3 @@ module _ {T : Type 0} where
 pub lexemes_of-append : (xs ys : List Placed) → lexemes_of (xs ++ ys) ≡ lexemes_of xs ++ lexemes_of ys
 lexemes_of-append [] ys = refl
 lexemes_of-append (x ∷ xs) ys = ap (λ l. x.lexeme ∷ l) (lexemes_of-append xs ys)
-
-module _ {T : Type 0} (read : List ℕ → Option T) where
-  pub blames-lexeme : (s : PeekableTokens T) (r : code.Lexeme) (t : PeekableTokens T) → Moves s (found r) t → BlamesLexeme read s r
-  blames-lexeme s lexeme.End t h = tt
-  blames-lexeme s lexeme.Comma t h = tt
-  blames-lexeme s lexeme.Close t h = tt
-  blames-lexeme s lexeme.Open t h = tt
-  blames-lexeme s (lexeme.Word w) t h = tt
-  blames-lexeme s (lexeme.Number digits) t h = λ bad start b. record {
-    before = lexemes_of b.given;
-    run = digits.now;
-    after = lexemes_of (left t);
-    split = ap lexemes_of (b.split ∙ ap (λ l. b.given ++ l) h.0) ∙ lexemes_of-append b.given _;
-    unread = bad;
-  }
-
-pub other-message : (X : Type 0) (m : Message) (P : Type 0) → m ≢ message.BadNumber → OnBad {X = X} (Err m) P
-other-message X message.BadNumber P h = absurd (h refl)
-other-message X message.Format P h = tt
-other-message X message.NonAscii P h = tt
-other-message X message.Kind P h = tt
-other-message X message.Word P h = tt
-other-message X message.End P h = tt
-other-message X message.Open P h = tt
-other-message X message.Close P h = tt
-other-message X message.X P h = tt
-other-message X message.Y P h = tt
-other-message X message.Z P h = tt
-other-message X message.M P h = tt
-other-message X message.Member P h = tt

@@ -1,19 +1,21 @@
 -- Collections that are open while a geometry is read. Only private contracts cite this file.
-use Rattle.std.specs.Prelude.{◌≡◌, ℕ, ◌≤◌, List, [], ◌∷◌, ◌++◌, length, map, Vec, Option, Result, Ok, Err}
+use Rattle.std.specs.Prelude.{◌≡◌, ℕ, ◌≤◌, ◌<◌, OnOk, List, [], ◌∷◌, ◌++◌, length, map, Vec, Option, Result, Ok, Err, true}
 use Rattle.std.specs.declared.alloc.Global.{Global}
 use Rattle.wkt_num.specs.Bytes.{Lexeme}
 use Rattle.wkt_access.specs.declared.dimensions.Dimension.{Dimension}
 use Rattle.wkt_access.specs.Values.{Value}
-use Rattle.wkt_types.specs.declared.geometry_type.GeometryType.{GeometryType}
 use Rattle.wkt_types.specs.declared.geometry.Wkt.{Wkt}
 use Rattle.wkt_read.specs.declared.error.ReadError.{ReadError}
 use Rattle.wkt_read.specs.declared.error.ReadError.TheVariants.{Text, Memory}
 use Rattle.wkt_read.specs.declared.parser.geometries.Frame.{Frame}
 use Rattle.wkt_read.specs.declared.parser.geometries.Start.{Start}
 use Rattle.wkt_read.specs.declared.parser.geometries.Start.TheVariants.{Whole, Opened}
-use Rattle.wkt_read.specs.Parser.Reading.{Reading, ◌>>=◌, with_front, closed, many_at, tail_at, body_at, value_at, members_read}
-use Rattle.wkt_read.specs.Parser.Reads.{ReadsIn, wkt_value}
-use Rattle.wkt_read.specs.Ahead.{rest}
+use Rattle.wkt_read.specs.Parser.Reading.{members_read}
+use Rattle.wkt_read.specs.Parser.Outcome.{Outcome, ◌>>=◌, with_front, closed, many_at, tail_at, value_at}
+use Rattle.wkt_read.specs.Parser.Promises.{TellsIn, Refuses, each, All}
+use Rattle.wkt_read.specs.Parser.Reads.{wkt_value, UniformWkt}
+use Rattle.wkt_read.specs.Parser.Walks.{GoesOn}
+use Rattle.wkt_read.specs.Ahead.{rest, IsNear}
 use Rattle.wkt_read.specs.declared.tokenizer.peekable.PeekableTokens.{PeekableTokens}
 
 -- A whole geometry was read, and then this holds of it.
@@ -47,35 +49,36 @@ Wants (Err (Text m)) P = Unit {0}
 Wants (Err (Memory e)) P = P
 
 -- The members of a collection, as they are read, with what is after them and the closing place: the collection.
-abbrev pub shut_at : {N : Type 0} → Dimension → Reading (List (Value N)) → Reading (Value N)
-shut_at d body = closed body >>= λ p. Ok (Value.collection d (members_read p.0), p.1)
+abbrev pub shut_at : {N : Type 0} → (List ℕ → Option N) → Dimension → Outcome (List (Value N)) → Outcome (Value N)
+shut_at read d body = closed read body >>= λ p. Ok (Value.collection d (members_read p.0), p.1)
 
 -- What was read where a geometry begins, by what there is to read, unless memory runs out.
-abbrev pub Starts : {T : Type 0} → (List ℕ → Option T) → Result (Start T) ReadError → Reading (Value T) → List Lexeme → Type 0
-Starts read (Ok (Whole w)) whole left = whole ≡ Ok (wkt_value w, left)
-Starts read (Ok (Opened d)) whole left = (n : ℕ) × (length left ≤ n) × (whole ≡ shut_at d (many_at (value_at read n) n left))
-Starts read (Err (Text m)) whole left = whole ≡ Err left
+abbrev pub Starts : {T : Type 0} → (List ℕ → Option T) → Result (Start T) ReadError → Outcome (Value T) → List Lexeme → Type 0
+Starts read (Ok (Whole w)) whole left = (whole ≡ Ok (wkt_value w, left)) × UniformWkt w
+Starts read (Ok (Opened d)) whole left = (n : ℕ) × (length left ≤ n) × (whole ≡ shut_at read d (many_at read (value_at read n true) n left))
+Starts read (Err (Text text)) whole left = Refuses text whole left
 Starts read (Err (Memory e)) whole left = Unit {0}
 
--- The same, of all lexemes that are left, whatever fuel is enough for them.
-abbrev pub StartsAll : {T : Type 0} → (List ℕ → Option T) → (ℕ → List Lexeme → Reading (Value T)) → PeekableTokens T → Result (Start T) ReadError → PeekableTokens T → Type 0
-StartsAll read reading old result new =
-    (fuel : ℕ) → length (rest old) ≤ fuel → Starts read result (reading fuel (rest old)) (rest new)
+-- A reader of what begins at a place, which wants memory only where this holds.
+pub record ReadsStart {T : Type 0} (read : List ℕ → Option T) (needs : Type 0) (reading : ℕ → List Lexeme → Outcome (Value T)) (old : PeekableTokens T) (result : Result (Start T) ReadError) (new : PeekableTokens T) : Type 0 where
+  pub exact : (fuel : ℕ) → length (rest old) ≤ fuel → Starts read result (reading fuel (rest old)) (rest new)
+  pub memory : Wants result needs
+  pub near : OnWhole result (IsNear new)
+  pub taken : OnOk result (length (rest new) < length (rest old))
+  pub goes_on : GoesOn old new
 
--- What stands after a header of this kind and dimension, or its opening place alone where it is a collection's.
-abbrev pub StartsBody : {T : Type 0} → (List ℕ → Option T) → GeometryType → Dimension → PeekableTokens T → Result (Start T) ReadError → PeekableTokens T → Type 0
-StartsBody read kind d old result new = StartsAll read (λ fuel. body_at read (value_at read fuel) fuel kind d) old result new
-
--- The collection of the members is read, where they and its closing place are.
-abbrev pub Shuts : {T : Type 0} → (List ℕ → Option T) → Dimension → PeekableTokens T → Result (Vec (Wkt T) Global) ReadError → Result (Start T) ReadError → PeekableTokens T → Type 0
-Shuts {T} read d old body result new =
-    (whole : Reading (List (Value T))) → ReadsIn (λ (v : Vec (Wkt T) Global). map wkt_value v.items) body whole (rest old) → Starts read result (shut_at d whole) (rest new)
+-- A reader of the closing place of a collection, after its members.
+pub record Shuts {T : Type 0} (read : List ℕ → Option T) (d : Dimension) (body : Result (Vec (Wkt T) Global) ReadError) (old : PeekableTokens T) (result : Result (Start T) ReadError) (new : PeekableTokens T) : Type 0 where
+  pub exact : (whole : Outcome (List (Value T))) → TellsIn (each wkt_value) (All UniformWkt) whole body (rest old) → Starts read result (shut_at read d whole) (rest new)
+  pub lighter : weight result ≤ most_after body
+  pub near : OnWhole result (IsNear new)
+  pub goes_on : GoesOn old new
 
 -- What an open collection makes of what is read at the place of its next member.
-abbrev pub put_in : {T : Type 0} → (List ℕ → Option T) → ℕ → ℕ → Frame T → Reading (Value T) → Reading (Value T)
-put_in read n m o now = shut_at o.dim (now >>= λ p. with_front (map wkt_value o.members.items ++ (p.0 ∷ [])) (tail_at (value_at read n) m p.1))
+abbrev pub put_in : {T : Type 0} → (List ℕ → Option T) → ℕ → ℕ → Frame T → Outcome (Value T) → Outcome (Value T)
+put_in read n m o now = shut_at read o.dim (now >>= λ p. with_front (map wkt_value o.members.items ++ (p.0 ∷ [])) (tail_at read (value_at read n true) m p.1))
 
 -- What is read where the first of the open collections begins, by what is read inside the last of them.
-abbrev pub Nested : {T : Type 0} → (List ℕ → Option T) → List (Frame T) → ℕ → Reading (Value T) → Reading (Value T) → Type 0
+abbrev pub Nested : {T : Type 0} → (List ℕ → Option T) → List (Frame T) → ℕ → Outcome (Value T) → Outcome (Value T) → Type 0
 Nested read [] k whole now = whole ≡ now
-Nested {T} read (o ∷ os) k whole now = (n m : ℕ) × (inner : Reading (Value T)) × (k ≤ n) × (k ≤ m) × (whole ≡ put_in read n m o inner) × Nested read os k inner now
+Nested {T} read (o ∷ os) k whole now = (n m : ℕ) × (inner : Outcome (Value T)) × (k ≤ n) × (k ≤ m) × (whole ≡ put_in read n m o inner) × Nested read os k inner now

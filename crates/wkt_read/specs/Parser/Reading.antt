@@ -1,4 +1,4 @@
--- What the readers do, as functions on lists of lexemes: a value and the lexemes after it, or the lexemes that an error leaves. Only private contracts cite this file.
+-- What the readers do, without the messages (`Outcome` has these): a value and the lexemes after it, or the lexemes that an error leaves.
 use Rattle.std.specs.Prelude.{◌≡◌, ◌≢◌, ℕ, suc, zero, List, [], ◌∷◌, ◌++◌, Option, Some, None, Result, Ok, Err, Bool, true, false, codes, if◌then◌else◌}
 use Rattle.std.specs.Str.{str_to_ascii_uppercase, bytes_eq}
 use Rattle.wkt_num.specs.Bytes.{Lexeme, Open, Close, Comma, Word, Num}
@@ -32,11 +32,6 @@ with_front front (Err rest) = Err rest
 abbrev pub left_by : {A : Type 0} → Reading A → List Lexeme
 left_by (Ok p) = p.1
 left_by (Err rest) = rest
-
--- A reader answers what is read, as its result shows it, and leaves the lexemes that the reading leaves.
-abbrev pub Reads : {A X E : Type 0} → (X → A) → Result X E → Reading A → List Lexeme → Type 0
-Reads view (Ok x) read left = read ≡ Ok (view x, left)
-Reads view (Err e) read left = read ≡ Err left
 
 -- Whether a run is the word EMPTY, whatever the case of its letters.
 unfoldable pub is_empty_word : List ℕ → Bool

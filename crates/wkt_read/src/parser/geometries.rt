@@ -1,16 +1,15 @@
 //! Readers of geometries with their headers.
-ghost use Rattle.std.specs.Prelude.{◌≡◌, ◌≤◌, ◌<◌, length, map, option_map, OnOk, IfOk};
+ghost use Rattle.std.specs.Prelude.{◌≡◌, map, option_map};
 ghost use Rattle.std.specs.List.{AllByRecursion};
 ghost use Rattle.wkt_access.specs.Values.{Value};
 ghost use Rattle.wkt_types.specs.Coords.{numbers_of};
 ghost use Rattle.wkt_types.specs.Values.{HasDim, HasDimIfAny, IsPointIn, IsLineStringIn, IsPolygonIn, point_numbers, line_string_numbers, polygon_numbers};
 ghost use Rattle.wkt_read.specs.Ahead.{rest};
-ghost use Rattle.wkt_read.specs.Parser.Walks.{GoesOn};
-ghost use Rattle.wkt_read.specs.Ahead.{IsNear};
-ghost use Rattle.wkt_read.specs.Parser.Reading.{Reads, dimension_at, header_at, value_at, members_read, IsOpened, HasMembers};
-ghost use Rattle.wkt_read.specs.Parser.Reads.{ReadsAll, ReadsBody, Blames, BlamesIn, BlamesAs, wkt_value, UniformWkt};
-ghost use Rattle.wkt_read.specs.Parser.Errors.{OnMemory};
-ghost use Rattle.wkt_read.specs.Parser.Frames.{StartsAll, StartsBody, Shuts, IfWhole, OnWhole, Wants, weight, most_after};
+ghost use Rattle.wkt_read.specs.Parser.Reading.{members_read};
+ghost use Rattle.wkt_read.specs.Parser.Outcome.{dimension_at, no_kind, header_at, value_at, follows_at, IsOpened, HasMembers};
+ghost use Rattle.wkt_read.specs.Parser.Promises.{Anything, Reads, ReadsPart};
+ghost use Rattle.wkt_read.specs.Parser.Reads.{wkt_value, UniformWkt};
+ghost use Rattle.wkt_read.specs.Parser.Frames.{ReadsStart, Shuts};
 
 use crate::error::ReadError;
 use crate::keywords::{dimension_of, is_empty, kind_of};
@@ -28,11 +27,9 @@ use wkt_types::{
 };
 
 // The dimension after a kind word alone.
-#[tactic(auto, unfolding(crate::specs::Parser::Reading::dimension_at))]
+#[tactic(auto, unfolding(crate::specs::Parser::Outcome::dimension_at))]
 fn dimension<T: WktNum>(tokens: &mut PeekableTokens<'_, T>) -> Result<Dimension, Message>
-    ensures exact { Reads (λ x. x) result (dimension_at T.read (rest tokens.old)) (rest tokens.new) }
-    ensures bad { Blames T.read tokens.old result }
-    ensures goes_on { GoesOn tokens.old tokens.new }
+    ensures { Reads (λ x. x) Anything (dimension_at T.read) tokens.old result tokens.new }
 {
     match tokens.look() {
         Lexeme::Word(word) => match dimension_of(word) {
@@ -54,16 +51,27 @@ fn dimension<T: WktNum>(tokens: &mut PeekableTokens<'_, T>) -> Result<Dimension,
     }
 }
 
+// The message of a word that is no kind word.
+fn no_kind(word: &str, inside: bool) -> Message
+    ensures { result ≡ no_kind inside word.now }
+{
+    if inside {
+        return Message::Kind;
+    }
+    if word.is_ascii() {
+        Message::Kind
+    } else {
+        Message::NonAscii
+    }
+}
+
 // The header of a geometry.
-#[tactic(auto, unfolding(crate::specs::Parser::Reading::header_at))]
+#[tactic(auto, unfolding(crate::specs::Parser::Outcome::header_at))]
 fn header<T: WktNum>(
     tokens: &mut PeekableTokens<'_, T>,
     inside: bool,
 ) -> Result<(GeometryType, Dimension), Message>
-    ensures exact { Reads (λ x. x) result (header_at T.read (rest tokens.old)) (rest tokens.new) }
-    ensures bad { Blames T.read tokens.old result }
-    ensures goes_on { GoesOn tokens.old tokens.new }
-    ensures taken { OnOk result (length (rest tokens.new) < length (rest tokens.old)) }
+    ensures { Reads (λ x. x) Anything (header_at T.read inside) tokens.old result tokens.new }
 {
     let word = match tokens.take() {
         Lexeme::Word(word) => word,
@@ -82,11 +90,7 @@ fn header<T: WktNum>(
             let dim = dimension(tokens)?;
             Ok((kind, dim))
         }
-        None => Err(if inside || word.is_ascii() {
-            Message::Kind
-        } else {
-            Message::NonAscii
-        }),
+        None => Err(no_kind(word, inside)),
     }
 }
 
@@ -144,12 +148,7 @@ fn read_point<T: WktNum>(
     tokens: &mut PeekableTokens<'_, T>,
     dim: Dimension,
 ) -> Result<Wkt<T>, ReadError>
-    ensures exact { ReadsBody T.read GeometryType.Point dim tokens.old result tokens.new }
-    ensures uniform { IfOk result UniformWkt }
-    ensures memory { OnMemory result ⊥ }
-    ensures near { OnOk result (IsNear tokens.new) }
-    ensures bad { BlamesIn T.read tokens.old result }
-    ensures goes_on { GoesOn tokens.old tokens.new }
+    ensures { ReadsPart wkt_value UniformWkt ⊥ (follows_at T.read GeometryType.Point dim) tokens.old result tokens.new }
 {
     let coord = point(tokens, dim)?;
     Ok(point_of(coord, dim))
@@ -161,12 +160,7 @@ fn read_line_string<T: WktNum>(
     tokens: &mut PeekableTokens<'_, T>,
     dim: Dimension,
 ) -> Result<Wkt<T>, ReadError>
-    ensures exact { ReadsBody T.read GeometryType.LineString dim tokens.old result tokens.new }
-    ensures uniform { IfOk result UniformWkt }
-    ensures memory { OnMemory result (IsOpened (rest tokens.old)) }
-    ensures near { OnOk result (IsNear tokens.new) }
-    ensures bad { BlamesIn T.read tokens.old result }
-    ensures goes_on { GoesOn tokens.old tokens.new }
+    ensures { ReadsPart wkt_value UniformWkt (IsOpened T.read (rest tokens.old)) (follows_at T.read GeometryType.LineString dim) tokens.old result tokens.new }
 {
     let coords = list(alloc, tokens, dim)?;
     Ok(line_string_of(coords, dim))
@@ -178,12 +172,7 @@ fn read_polygon<T: WktNum>(
     tokens: &mut PeekableTokens<'_, T>,
     dim: Dimension,
 ) -> Result<Wkt<T>, ReadError>
-    ensures exact { ReadsBody T.read GeometryType.Polygon dim tokens.old result tokens.new }
-    ensures uniform { IfOk result UniformWkt }
-    ensures memory { OnMemory result (IsOpened (rest tokens.old)) }
-    ensures near { OnOk result (IsNear tokens.new) }
-    ensures bad { BlamesIn T.read tokens.old result }
-    ensures goes_on { GoesOn tokens.old tokens.new }
+    ensures { ReadsPart wkt_value UniformWkt (IsOpened T.read (rest tokens.old)) (follows_at T.read GeometryType.Polygon dim) tokens.old result tokens.new }
 {
     let rings = list(alloc, tokens, dim)?;
     Ok(polygon_of(rings, dim))
@@ -195,12 +184,7 @@ fn read_multi_point<T: WktNum>(
     tokens: &mut PeekableTokens<'_, T>,
     dim: Dimension,
 ) -> Result<Wkt<T>, ReadError>
-    ensures exact { ReadsBody T.read GeometryType.MultiPoint dim tokens.old result tokens.new }
-    ensures uniform { IfOk result UniformWkt }
-    ensures memory { OnMemory result (IsOpened (rest tokens.old)) }
-    ensures near { OnOk result (IsNear tokens.new) }
-    ensures bad { BlamesIn T.read tokens.old result }
-    ensures goes_on { GoesOn tokens.old tokens.new }
+    ensures { ReadsPart wkt_value UniformWkt (IsOpened T.read (rest tokens.old)) (follows_at T.read GeometryType.MultiPoint dim) tokens.old result tokens.new }
 {
     let points = list(alloc, tokens, dim)?;
     Ok(points_of(points, dim))
@@ -212,12 +196,7 @@ fn read_multi_line_string<T: WktNum>(
     tokens: &mut PeekableTokens<'_, T>,
     dim: Dimension,
 ) -> Result<Wkt<T>, ReadError>
-    ensures exact { ReadsBody T.read GeometryType.MultiLineString dim tokens.old result tokens.new }
-    ensures uniform { IfOk result UniformWkt }
-    ensures memory { OnMemory result (IsOpened (rest tokens.old)) }
-    ensures near { OnOk result (IsNear tokens.new) }
-    ensures bad { BlamesIn T.read tokens.old result }
-    ensures goes_on { GoesOn tokens.old tokens.new }
+    ensures { ReadsPart wkt_value UniformWkt (IsOpened T.read (rest tokens.old)) (follows_at T.read GeometryType.MultiLineString dim) tokens.old result tokens.new }
 {
     let lines = list(alloc, tokens, dim)?;
     Ok(line_strings_of(lines, dim))
@@ -229,12 +208,7 @@ fn read_multi_polygon<T: WktNum>(
     tokens: &mut PeekableTokens<'_, T>,
     dim: Dimension,
 ) -> Result<Wkt<T>, ReadError>
-    ensures exact { ReadsBody T.read GeometryType.MultiPolygon dim tokens.old result tokens.new }
-    ensures uniform { IfOk result UniformWkt }
-    ensures memory { OnMemory result (IsOpened (rest tokens.old)) }
-    ensures near { OnOk result (IsNear tokens.new) }
-    ensures bad { BlamesIn T.read tokens.old result }
-    ensures goes_on { GoesOn tokens.old tokens.new }
+    ensures { ReadsPart wkt_value UniformWkt (IsOpened T.read (rest tokens.old)) (follows_at T.read GeometryType.MultiPolygon dim) tokens.old result tokens.new }
 {
     let polygons = list(alloc, tokens, dim)?;
     Ok(polygons_of(polygons, dim))
@@ -261,12 +235,7 @@ fn begin_collection<T: WktNum>(
     tokens: &mut PeekableTokens<'_, T>,
     dim: Dimension,
 ) -> Result<Start<T>, ReadError>
-    ensures exact { StartsBody T.read GeometryType.GeometryCollection dim tokens.old result tokens.new }
-    ensures uniform { IfWhole result UniformWkt }
-    ensures memory { Wants result (IsOpened (rest tokens.old)) }
-    ensures near { OnWhole result (IsNear tokens.new) }
-    ensures bad { BlamesIn T.read tokens.old result }
-    ensures goes_on { GoesOn tokens.old tokens.new }
+    ensures { ReadsStart T.read (IsOpened T.read (rest tokens.old)) (follows_at T.read GeometryType.GeometryCollection dim) tokens.old result tokens.new }
 {
     let paren = opening(tokens)?;
     if paren {
@@ -281,13 +250,7 @@ fn begin<T: WktNum>(
     tokens: &mut PeekableTokens<'_, T>,
     inside: bool,
 ) -> Result<Start<T>, ReadError>
-    ensures exact { StartsAll T.read (value_at T.read) tokens.old result tokens.new }
-    ensures uniform { IfWhole result UniformWkt }
-    ensures memory { Wants result (HasMembers T.read (rest tokens.old)) }
-    ensures near { OnWhole result (IsNear tokens.new) }
-    ensures bad { BlamesIn T.read tokens.old result }
-    ensures goes_on { GoesOn tokens.old tokens.new }
-    ensures taken { OnOk result (length (rest tokens.new) < length (rest tokens.old)) }
+    ensures { ReadsStart T.read (HasMembers T.read inside (rest tokens.old)) (λ n. value_at T.read n inside) tokens.old result tokens.new }
 {
     let (kind, dim) = header(tokens, inside)?;
     match kind {
@@ -309,12 +272,7 @@ fn shut<T: WktNum>(
     body: Result<Vec<Wkt<T>>, ReadError>,
     dim: Dimension,
 ) -> Result<Start<T>, ReadError>
-    ensures exact { Shuts T.read dim tokens.old body result tokens.new }
-    ensures uniform { IfOk body (λ v. AllByRecursion UniformWkt v.items) → IfWhole result UniformWkt }
-    ensures lighter { weight result ≤ most_after body }
-    ensures near { OnWhole result (IsNear tokens.new) }
-    ensures bad { BlamesAs T.read tokens.old body result }
-    ensures goes_on { GoesOn tokens.old tokens.new }
+    ensures { Shuts T.read dim body tokens.old result tokens.new }
 {
     let members = close(tokens, body)?;
     Ok(Start::Whole(collection_of(members, dim)))
@@ -328,12 +286,7 @@ fn read_collection<T: WktNum>(
     tokens: &mut PeekableTokens<'_, T>,
     dim: Dimension,
 ) -> Result<Wkt<T>, ReadError>
-    ensures exact { ReadsBody T.read GeometryType.GeometryCollection dim tokens.old result tokens.new }
-    ensures uniform { IfOk result UniformWkt }
-    ensures memory { OnMemory result (IsOpened (rest tokens.old)) }
-    ensures near { OnOk result (IsNear tokens.new) }
-    ensures bad { BlamesIn T.read tokens.old result }
-    ensures goes_on { GoesOn tokens.old tokens.new }
+    ensures { ReadsPart wkt_value UniformWkt (IsOpened T.read (rest tokens.old)) (follows_at T.read GeometryType.GeometryCollection dim) tokens.old result tokens.new }
 {
     let mut open = Vec::new(alloc);
     let mut now = begin_collection(alloc, tokens, dim);
@@ -374,12 +327,7 @@ pub(crate) fn value<T: WktNum>(
     tokens: &mut PeekableTokens<'_, T>,
     inside: bool,
 ) -> Result<Wkt<T>, ReadError>
-    ensures exact { ReadsAll wkt_value (value_at T.read) tokens.old result tokens.new }
-    ensures uniform { IfOk result UniformWkt }
-    ensures memory { OnMemory result (HasMembers T.read (rest tokens.old)) }
-    ensures near { OnOk result (IsNear tokens.new) }
-    ensures bad { BlamesIn T.read tokens.old result }
-    ensures goes_on { GoesOn tokens.old tokens.new }
+    ensures { ReadsPart wkt_value UniformWkt (HasMembers T.read inside (rest tokens.old)) (λ n. value_at T.read n inside) tokens.old result tokens.new }
 {
     let (kind, dim) = header(tokens, inside)?;
     match kind {

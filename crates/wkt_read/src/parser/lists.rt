@@ -1,12 +1,8 @@
 //! Lists, with a comma between neighbours, of whatever stands between the commas.
-ghost use Rattle.std.specs.Prelude.{◌≡◌, OnOk, IfOk};
-ghost use Rattle.std.specs.List.{AllByRecursion};
 ghost use Rattle.wkt_types.specs.Values.{IsPointIn, point_numbers};
-ghost use Rattle.wkt_read.specs.Ahead.{rest, IsNear};
-ghost use Rattle.wkt_read.specs.Parser.Walks.{GoesOn};
-ghost use Rattle.wkt_read.specs.Parser.Reading.{Reads, member_at, many_at, list_at, IsOpened};
-ghost use Rattle.wkt_read.specs.Parser.Reads.{ReadsList, PushesAll, Blames, BlamesIn};
-ghost use Rattle.wkt_read.specs.Parser.Errors.{OnMemory};
+ghost use Rattle.wkt_read.specs.Ahead.{rest};
+ghost use Rattle.wkt_read.specs.Parser.Outcome.{member_at, many_at, list_at, IsOpened};
+ghost use Rattle.wkt_read.specs.Parser.Promises.{Reads, ReadsAll, ReadsPart, Pushes, each, All};
 
 use crate::error::ReadError;
 use crate::keywords::is_empty;
@@ -21,9 +17,10 @@ use wkt_types::{Coord, LineString, Point, Polygon};
 
 /// What stands between the commas of a list.
 pub(crate) trait Item<T: WktNum>: Drop {
-    ghost use Rattle.std.specs.Prelude.{ℕ};
+    ghost use Rattle.std.specs.Prelude.{ℕ, List};
+    ghost use Rattle.wkt_num.specs.Bytes.{Lexeme};
     ghost use Rattle.wkt_access.specs.declared.dimensions.Dimension.{Dimension};
-    ghost use Rattle.wkt_read.specs.Parser.Reading.{Reader};
+    ghost use Rattle.wkt_read.specs.Parser.Outcome.{Outcome};
 
     /// What an item shows of what was read.
     ghost View: { Type 0 };
@@ -31,7 +28,7 @@ pub(crate) trait Item<T: WktNum>: Drop {
     ghost view: { Self → View };
 
     /// The reading of an item.
-    ghost item_at: { Dimension → ℕ → Reader View };
+    ghost item_at: { Dimension → ℕ → List Lexeme → Outcome View };
 
     /// All parts of an item carry the dimension.
     ghost IsIn: { Dimension → Self → Type 0 };
@@ -43,9 +40,7 @@ pub(crate) trait Item<T: WktNum>: Drop {
         dim: Dimension,
         items: &mut Vec<Self>,
     ) -> Result<(), ReadError>
-        ensures exact { PushesAll view (IsIn dim) (item_at dim) tokens.old items.old.items result tokens.new items.new.items }
-        ensures bad { BlamesIn T.read tokens.old result }
-        ensures goes_on { GoesOn tokens.old tokens.new };
+        ensures { Pushes view (IsIn dim) (item_at dim) tokens.old items.old.items result tokens.new items.new.items };
 }
 
 // One item or more.
@@ -54,10 +49,7 @@ fn many<T: WktNum, X: Item<T>>(
     tokens: &mut PeekableTokens<'_, T>,
     dim: Dimension,
 ) -> Result<Vec<X>, ReadError>
-    ensures exact { ReadsList X.view (λ n. many_at (X.item_at dim n) n) tokens.old result tokens.new }
-    ensures uniform { IfOk result (λ v. AllByRecursion (X.IsIn dim) v.items) }
-    ensures bad { BlamesIn T.read tokens.old result }
-    ensures goes_on { GoesOn tokens.old tokens.new }
+    ensures { ReadsAll (each X.view) (All (X.IsIn dim)) (λ n. many_at T.read (X.item_at dim n) n) tokens.old result tokens.new }
 {
     let mut items = Vec::new(alloc);
     X::push(alloc, tokens, dim, &mut items)?;
@@ -74,12 +66,7 @@ pub(crate) fn list<T: WktNum, X: Item<T>>(
     tokens: &mut PeekableTokens<'_, T>,
     dim: Dimension,
 ) -> Result<Vec<X>, ReadError>
-    ensures exact { ReadsList X.view (λ n. list_at (X.item_at dim n) n) tokens.old result tokens.new }
-    ensures uniform { IfOk result (λ v. AllByRecursion (X.IsIn dim) v.items) }
-    ensures memory { OnMemory result (IsOpened (rest tokens.old)) }
-    ensures near { OnOk result (IsNear tokens.new) }
-    ensures bad { BlamesIn T.read tokens.old result }
-    ensures goes_on { GoesOn tokens.old tokens.new }
+    ensures { ReadsPart (each X.view) (All (X.IsIn dim)) (IsOpened T.read (rest tokens.old)) (λ n. list_at T.read (X.item_at dim n) n) tokens.old result tokens.new }
 {
     let paren = opening(tokens)?;
     if !paren {
@@ -94,7 +81,7 @@ impl<T: WktNum> Item<T> for Coord<T> {
     ghost use Rattle.std.specs.Prelude.{List};
     ghost use Rattle.wkt_types.specs.Coords.{numbers_of};
     ghost use Rattle.wkt_types.specs.Values.{HasDim};
-    ghost use Rattle.wkt_read.specs.Parser.Reading.{coord_at};
+    ghost use Rattle.wkt_read.specs.Parser.Outcome.{coord_at};
 
     ghost View = { List T };
 
@@ -105,7 +92,7 @@ impl<T: WktNum> Item<T> for Coord<T> {
     ghost IsIn = { HasDim };
 
     #[inline(always)]
-    #[tactic(auto, unfolding(crate::specs::Parser::Reading::coord_at))]
+    #[tactic(auto, unfolding(crate::specs::Parser::Outcome::coord_at))]
     fn push(
         _alloc: Global,
         tokens: &mut PeekableTokens<'_, T>,
@@ -137,7 +124,7 @@ impl<T: WktNum> Item<T> for Coord<T> {
 impl<T: WktNum> Item<T> for LineString<T> {
     ghost use Rattle.std.specs.Prelude.{List};
     ghost use Rattle.wkt_types.specs.Values.{IsLineStringIn, line_string_numbers};
-    ghost use Rattle.wkt_read.specs.Parser.Reading.{line_string_at};
+    ghost use Rattle.wkt_read.specs.Parser.Outcome.{line_string_at};
 
     ghost View = { List (List T) };
 
@@ -163,7 +150,7 @@ impl<T: WktNum> Item<T> for LineString<T> {
 impl<T: WktNum> Item<T> for Polygon<T> {
     ghost use Rattle.std.specs.Prelude.{List};
     ghost use Rattle.wkt_types.specs.Values.{IsPolygonIn, polygon_numbers};
-    ghost use Rattle.wkt_read.specs.Parser.Reading.{line_strings_at};
+    ghost use Rattle.wkt_read.specs.Parser.Outcome.{line_strings_at};
 
     ghost View = { List (List (List T)) };
 
@@ -186,15 +173,12 @@ impl<T: WktNum> Item<T> for Polygon<T> {
 }
 
 // A member of a multi point: a coordinate, in parentheses or not, or EMPTY.
-#[tactic(auto, unfolding(crate::specs::Parser::Reading::member_at, crate::specs::Parser::Reading::framed, crate::specs::Parser::Reading::opening_at))]
+#[tactic(auto, unfolding(crate::specs::Parser::Outcome::member_at, crate::specs::Parser::Outcome::framed, crate::specs::Parser::Outcome::opening_at))]
 fn member<T: WktNum>(
     tokens: &mut PeekableTokens<'_, T>,
     dim: Dimension,
 ) -> Result<Point<T>, Message>
-    ensures exact { Reads point_numbers result (member_at T.read dim (rest tokens.old)) (rest tokens.new) }
-    ensures uniform { IfOk result (IsPointIn dim) }
-    ensures bad { Blames T.read tokens.old result }
-    ensures goes_on { GoesOn tokens.old tokens.new }
+    ensures { Reads point_numbers (IsPointIn dim) (member_at T.read dim) tokens.old result tokens.new }
 {
     let framed = match tokens.look() {
         Lexeme::Open => true,
@@ -213,7 +197,7 @@ fn member<T: WktNum>(
 impl<T: WktNum> Item<T> for Point<T> {
     ghost use Rattle.std.specs.Prelude.{List, Option};
     ghost use Rattle.wkt_types.specs.Values.{IsPointIn, point_numbers};
-    ghost use Rattle.wkt_read.specs.Parser.Reading.{member_at};
+    ghost use Rattle.wkt_read.specs.Parser.Outcome.{member_at};
 
     ghost View = { Option (List T) };
 

@@ -24,7 +24,6 @@ impl<'a, T: WktNum> PeekableTokens<'a, T> {
     ghost use Rattle.wkt_read.specs.Stream.{coming, bytes_taken, end_of_last};
     ghost use Rattle.wkt_read.specs.Items.{IsItem};
     ghost use Rattle.wkt_read.specs.Ahead.{left, taken_of, end_of, rest, first_of, Moves};
-    ghost use Rattle.wkt_read.specs.Parser.Blames.{BlamesLexeme};
     ghost use Rattle.wkt_read.specs.Parser.Walks.{TakesNext, IsFirst, BeginsWithoutComma, GoesOn};
     ghost use Rattle.wkt_read.specs.Ahead.{IsNear};
 
@@ -82,7 +81,6 @@ impl<'a, T: WktNum> PeekableTokens<'a, T> {
         ensures goes_on { GoesOn self.old self.new }
         ensures near { OnSome (found result) (IsNear self.new) }
         ensures takes { TakesNext (found result) (rest self.old) (rest self.new) }
-        ensures bad { BlamesLexeme T.read self.old result }
     {
         self.step()
     }

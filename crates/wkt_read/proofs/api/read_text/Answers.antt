@@ -9,6 +9,8 @@ use Rattle.wkt_read.specs.Items.{bad_number}
 use Rattle.wkt_read.specs.Placed.{AreEnds}
 use Rattle.wkt_read.proofs.LawLemmas.FrontEnds.{front-some, front-within, front-boundary}
 use Rattle.wkt_read.proofs.ParserLemmas.Answering.{to-front, from-front, no-front, split-of, text-map, message-map}
+use Rattle.wkt_read.specs.Refusal.{IsRefused, IsTextRefused}
+use Rattle.wkt_read.proofs.ParserLemmas.Bridge.{if-text-err}
 use Rattle.wkt_read.proofs.api.read_text.Goals as goal
 
 pub returns-in-Ok-clause-found : goal.returns-in-Ok-clause-found
@@ -34,6 +36,11 @@ pub returns-in-Err-clause-bad : goal.returns-in-Err-clause-bad
 returns-in-Err-clause-bad g c =
     message-map (Wkt g.row.T.Denot) (Wkt g.row.T.Denot) c.in-Err.error bad_number (HasBad g.T.WktNum.read (rest c.new-tokens.result)) (HasBadNumber g.T.WktNum.read c.args.text.now)
     (λ bad. (rest c.new-tokens.result, split-of g.T.WktNum.read c.args.text.now c.new-tokens.result (c.new-tokens.ensures.left ∙ c.from_str.ensures.placed), bad)) c.in-Err.ensures.bad
+
+pub returns-in-Err-clause-refusal : goal.returns-in-Err-clause-refusal
+returns-in-Err-clause-refusal g c =
+    if-text-err (Wkt g.row.T.Denot) (Wkt g.row.T.Denot) c.in-Err.error (λ said. IsRefused g.T.WktNum.read (rest c.new-tokens.result) said (rest c.read.new.tokens)) (IsTextRefused g.T.WktNum.read c.args.text.now)
+    (λ said is. (rest c.new-tokens.result, rest c.read.new.tokens, split-of g.T.WktNum.read c.args.text.now c.new-tokens.result (c.new-tokens.ensures.left ∙ c.from_str.ensures.placed), is)) c.in-Err.ensures.refusal
 
 pub returns-in-Err-clause-free : goal.returns-in-Err-clause-free
 returns-in-Err-clause-free g c = λ v end front small.

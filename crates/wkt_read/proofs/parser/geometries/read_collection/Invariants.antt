@@ -1,14 +1,10 @@
 use Rattle.std.proofs.Common.{◌≤◌, ◌+◌, ◌*◌, ℕ, length}
 use Rattle.std.specs.List.{AllByRecursion}
 use Rattle.wkt_types.specs.declared.geometry_type.GeometryType.TheVariants.{GeometryCollection}
-use Rattle.wkt_read.specs.Placed.{lexemes_of}
-use Rattle.wkt_read.specs.Ahead.{rest, IsAfter, IsNear}
+use Rattle.wkt_read.specs.Ahead.{rest, IsNear}
 use Rattle.wkt_read.specs.Parser.Walks.{GoesOn}
-use Rattle.wkt_read.specs.Bad.{HasBad}
-use Rattle.wkt_read.specs.Items.{bad_number}
-use Rattle.wkt_read.specs.Answered.{OnMessage}
 use Rattle.wkt_read.specs.Parser.Reads.{UniformWkt}
-use Rattle.wkt_read.specs.Parser.Reading.{value_at, body_at, IsOpened}
+use Rattle.wkt_read.specs.Parser.Outcome.{follows_at, IsOpened}
 use Rattle.wkt_read.specs.Parser.Frames.{IfWhole, OnWhole, Wants, weight}
 use Rattle.wkt_read.proofs.ParserLemmas.Frames.{IfAny, Inside}
 use Rattle.wkt_read.proofs.parser.geometries.read_collection.Given as goal
@@ -20,11 +16,10 @@ invariant-levels g l =
       goes_on : GoesOn l.fn.tokens l.tokens;
       members : AllByRecursion (λ o. AllByRecursion UniformWkt o.members.items) l.open.items;
       uniform : IfWhole l.now UniformWkt;
-      opened : IfAny l.open.items (IsOpened (rest l.fn.tokens));
-      memory : Wants l.now (IsOpened (rest l.fn.tokens));
+      opened : IfAny l.open.items (IsOpened read (rest l.fn.tokens));
+      memory : Wants l.now (IsOpened read (rest l.fn.tokens));
       near : OnWhole l.now (IsNear l.tokens);
-      bad : (start : _) → IsAfter start l.fn.tokens → OnMessage l.now bad_number (HasBad read (lexemes_of start));
-      exact : (fuel : ℕ) → length (rest l.fn.tokens) ≤ fuel → Inside read l.open.items l.now (rest l.tokens) (body_at read (value_at read fuel) fuel GeometryCollection l.fn.dim (rest l.fn.tokens));
+      exact : (fuel : ℕ) → length (rest l.fn.tokens) ≤ fuel → Inside read l.open.items l.now (rest l.tokens) (follows_at read GeometryCollection l.fn.dim fuel (rest l.fn.tokens));
     }
 
 abbrev pub decreases-levels : goal.decreases-levels

@@ -1,18 +1,14 @@
-use Rattle.std.proofs.Common.{ap, sym, ◌∙◌, Ok}
-use Rattle.std.specs.Prelude.{map, Vec}
-use Rattle.std.specs.declared.alloc.Global.{Global}
 use Rattle.wkt_access.specs.Values.{Value}
-use Rattle.wkt_types.specs.declared.coord.Coord.{Coord}
-use Rattle.wkt_types.specs.Held.{Held}
-use Rattle.wkt_types.specs.Values.{polygon_numbers}
+use Rattle.wkt_types.specs.Values.{IsPolygonIn, polygon_numbers}
 use Rattle.wkt_read.specs.Ahead.{rest}
-use Rattle.wkt_read.specs.Parser.Reads.{wkt_value}
-use Rattle.wkt_read.specs.Parser.Reading.{◌>>=◌}
-use Rattle.wkt_read.proofs.ParserLemmas.Many.{reads-pass}
+use Rattle.wkt_read.specs.Parser.Reads.{wkt_value, UniformWkt}
+use Rattle.wkt_read.specs.Parser.Outcome.{IsOpened, polygons_at}
+use Rattle.wkt_read.specs.Parser.Promises.{each, All}
+use Rattle.wkt_read.proofs.ParserLemmas.Many.{mapped-pass, mapped-ok}
 use Rattle.wkt_read.proofs.parser.geometries.read_multi_polygon.Goals as goal
 
-pub returns-in_err-polygons-clause-exact : goal.returns-in_err-polygons-clause-exact
-returns-in_err-polygons-clause-exact g c = λ fuel h. reads-pass wkt_value (λ (v : Vec (Held (Held (Coord g.row.T.Denot))) Global). map polygon_numbers v.items) _ _ _ _ _ c.from_residual.ensures.1 (c.in_err-polygons.ensures.exact fuel h) (λ e. ap (λ t. t >>= (λ p. Ok (Value.multi_polygon c.args.dim p.0, p.1))) e)
+pub returns-in_err-polygons : goal.returns-in_err-polygons
+returns-in_err-polygons g c = mapped-pass (λ x. Value.multi_polygon c.args.dim x) wkt_value UniformWkt (IsOpened g.T.WktNum.read (rest c.args.tokens.now)) (each polygon_numbers) (All (IsPolygonIn c.args.dim)) (λ n. polygons_at g.T.WktNum.read c.args.dim n) c.args.tokens.now c.list.new.tokens _ _ c.from_residual.ensures.1 c.in_err-polygons.ensures
 
-pub returns-clause-exact : goal.returns-clause-exact
-returns-clause-exact g c = λ fuel h. ap (λ t. t >>= (λ p. Ok (Value.multi_polygon c.args.dim p.0, p.1))) (c.in_ok-polygons.ensures.exact fuel h) ∙ ap (λ v. Ok (v, rest c.list.new.tokens)) (sym c.polygons_of.ensures.value)
+pub returns : goal.returns
+returns g c = mapped-ok (λ x. Value.multi_polygon c.args.dim x) wkt_value UniformWkt (IsOpened g.T.WktNum.read (rest c.args.tokens.now)) (each polygon_numbers) (All (IsPolygonIn c.args.dim)) (λ n. polygons_at g.T.WktNum.read c.args.dim n) c.args.tokens.now c.list.new.tokens _ _ c.in_ok-polygons.ensures c.polygons_of.ensures.value c.polygons_of.ensures.uniform

@@ -1,4 +1,4 @@
-use Rattle.wkt_read.proofs.TokenizerLemmas.Afters.{goes-moves, takes-moves, blames-lexeme}
+use Rattle.wkt_read.proofs.TokenizerLemmas.Afters.{goes-moves, takes-moves}
 use Rattle.wkt_read.proofs.tokenizer.peekable.PeekableTokens.take.Goals as goal
 
 pub returns-clause-goes_on : goal.returns-clause-goes_on
@@ -6,6 +6,3 @@ returns-clause-goes_on g c = goes-moves _ _ _ c.step.ensures
 
 pub returns-clause-takes : goal.returns-clause-takes
 returns-clause-takes g c = takes-moves _ _ _ c.step.ensures
-
-pub returns-clause-bad : goal.returns-clause-bad
-returns-clause-bad g c = blames-lexeme g.T.WktNum.read _ _ _ c.step.ensures
