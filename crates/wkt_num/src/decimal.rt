@@ -7,7 +7,7 @@ ghost use Rattle.wkt_num.specs.Halves.{upper_half, lower_half, upper_back, lower
 ghost use Rattle.wkt_num.specs.DecimalLaws.{decimal_reads_back, decimal_reads_values, decimal_number_text, decimal_same};
 
 use crate::formatted::FormatterText;
-use crate::kept::kept_decimal;
+use crate::kept::{kept_decimal, kept_in_window};
 use crate::number::WktNum;
 use crate::printing::write_units;
 use crate::reading::{read_signed, split_sign};
@@ -157,6 +157,16 @@ impl<const D: u32> WktNum for Decimal<D> {
     #[inline(always)]
     fn kept_text(bytes: &[u8]) -> Option<(usize, usize)> {
         kept_decimal(D, bytes)
+    }
+
+    #[inline(always)]
+    fn kept_in_window(bytes: &[u8]) -> Option<(usize, usize)> {
+        kept_in_window(D, bytes)
+    }
+
+    #[inline(always)]
+    fn reads_texts() -> bool {
+        true
     }
 
     fn known(&self) {

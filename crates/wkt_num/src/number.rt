@@ -1,7 +1,7 @@
 //! The numbers that coordinates are made of.
-ghost use Rattle.std.specs.Prelude.{◌≡◌, ℕ, true, List, Option, Some, IfSome, ◌↔◌};
+ghost use Rattle.std.specs.Prelude.{◌≡◌, ◌≤◌, ◌<◌, ℕ, true, List, Option, Some, IfSome, length, ◌↔◌};
 ghost use Rattle.wkt_num.specs.Sink.{Puts};
-ghost use Rattle.wkt_num.specs.Number.{IsNumberText};
+ghost use Rattle.wkt_num.specs.Number.{IsNumberText, ReadsTexts};
 ghost use Rattle.wkt_num.specs.Kept.{KeepsText};
 
 use crate::sink::TextSink;
@@ -36,6 +36,23 @@ pub trait WktNum: Copy + PartialEq + PartialOrd + Debug {
         ensures { IfSome result (λ r. KeepsText read num bytes.now r.0 r.1) }
     {
         None
+    }
+
+    /// As [`kept_text`](WktNum::kept_text), of 32 bytes or more, where the run ends within the first 32.
+    /// `None` says nothing of the bytes.
+    fn kept_in_window(bytes: &[u8]) -> Option<(usize, usize)>
+        requires { 32 ≤ length bytes.now }
+        ensures keeps { IfSome result (λ r. KeepsText read num bytes.now r.0 r.1) }
+        ensures within { IfSome result (λ r. r.0 < 32) }
+    {
+        None
+    }
+
+    /// Whether only bytes that are UTF-8 are read as numbers. `false` says nothing.
+    fn reads_texts() -> bool
+        ensures { result ≡ true → ReadsTexts read }
+    {
+        false
     }
 
     /// Does nothing. Its contract tells that the number is a value of the type.
