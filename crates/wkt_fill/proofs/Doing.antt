@@ -2,10 +2,10 @@
 use Rattle.std.proofs.Common.{◌≡◌, ℕ, suc, ℤ, List, [], ◌∷◌, ◌++◌, take, refl, sym, ap, subst, ◌∙◌, Option}
 use Rattle.std.specs.Prelude.{option_to_list}
 use Rattle.wkt_types.specs.declared.geometry_type.GeometryType.{GeometryType}
-use Rattle.wkt_walk.specs.declared.builder.Part.{Part}
-use Rattle.wkt_walk.specs.declared.builder.Part.TheVariants as part
-use Rattle.wkt_walk.specs.Events.{Event, further, inner, listed, numbers, coordinate, line, member, polygon}
-use Rattle.wkt_walk.specs.Makers.{Hollows}
+use Rattle.wkt_events.specs.declared.builder.Part.{Part}
+use Rattle.wkt_events.specs.declared.builder.Part.TheVariants as part
+use Rattle.wkt_events.specs.Events.{Event, further, inner, listed, numbers, coordinate, line, member, polygon}
+use Rattle.wkt_events.specs.Makers.{Hollows}
 use Rattle.wkt_fill.specs.Filling.{Flat, Headed, each, ended, put, put_all, put_coordinate, put_line, put_member, put_polygon, on, step, steps}
 use Rattle.wkt_fill.specs.Filled.{Becomes, Fills, filler_maker, view}
 use Rattle.wkt_fill.specs.Growing.{steps-append}

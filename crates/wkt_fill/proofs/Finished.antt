@@ -13,12 +13,12 @@ use Rattle.wkt_read.specs.Front.{Front, HasNoFront}
 use Rattle.wkt_read.specs.Kinds.{kind_of, dim_of}
 use Rattle.wkt_read.specs.Parser.Reading.{value_at}
 use Rattle.wkt_read.proofs.LawLemmas.Fits.{geometry_fits}
-use Rattle.wkt_walk.specs.declared.builder.At.{At}
-use Rattle.wkt_walk.specs.declared.builder.Part.{Part}
-use Rattle.wkt_walk.specs.declared.builder.Part.TheVariants as part
-use Rattle.wkt_walk.specs.Events.{Event, coordinate, line, member, polygon, body, events}
-use Rattle.wkt_walk.specs.Walking.{Gives, Refuses}
-use Rattle.wkt_walk.proofs.Fronts.{front-of, none-of}
+use Rattle.wkt_events.specs.declared.builder.At.{At}
+use Rattle.wkt_events.specs.declared.builder.Part.{Part}
+use Rattle.wkt_events.specs.declared.builder.Part.TheVariants as part
+use Rattle.wkt_events.specs.Events.{Event, coordinate, line, member, polygon, body, events}
+use Rattle.wkt_events.specs.Walking.{Gives, Refuses}
+use Rattle.wkt_events.proofs.Fronts.{front-of, none-of}
 use Rattle.wkt_fill.specs.Arrays.{parts_of, joined, numbers_in, offsets, HasLarge, IsUnheld}
 use Rattle.wkt_fill.specs.Filling.{Flat, Headed, nothing, is_collection, end_part, push, each, ended, put, put_all, put_coordinate, put_line, put_member, put_polygon, step, steps, arrays_of}
 use Rattle.wkt_fill.specs.Filled.{Fills, filler_maker, view, Begins, Tells}

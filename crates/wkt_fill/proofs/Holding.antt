@@ -8,8 +8,8 @@ use Rattle.wkt_access.specs.declared.dimensions.Dimension.TheVariants as dim
 use Rattle.wkt_access.specs.Values.{size}
 use Rattle.wkt_access.specs.WellFormed.{CoordFits, LineStringFits, PolygonFits, PointFits}
 use Rattle.wkt_types.specs.declared.geometry_type.GeometryType.{GeometryType}
-use Rattle.wkt_walk.specs.declared.builder.Part.{Part}
-use Rattle.wkt_walk.specs.declared.builder.Part.TheVariants as part
+use Rattle.wkt_events.specs.declared.builder.Part.{Part}
+use Rattle.wkt_events.specs.declared.builder.Part.TheVariants as part
 use Rattle.wkt_fill.specs.Arrays.{joined, numbers_in, offsets}
 use Rattle.wkt_fill.specs.Filling.{Flat, is_collection, push, end_ring, end_polygon, end_part, each, ended, put, put_all, put_coordinate, put_line, put_member, put_polygon}
 use Rattle.wkt_fill.proofs.Growth.{joined-push, ring-numbers, ring-offsets, ring-count, ring-rings, closed-rings, closed-offsets}

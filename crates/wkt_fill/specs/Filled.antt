@@ -2,8 +2,8 @@
 use Rattle.std.specs.Prelude.{◌≡◌, ◌≢◌, ℕ, ℤ, ◌⊎◌, List, [], ◌∷◌, ◌++◌, true, false}
 use Rattle.std.proofs.Common.{inl, inr, refl, sym, ◌∙◌, ap, subst, arith, zero, suc}
 use Rattle.std.specs.List.{Contains}
-use Rattle.wkt_walk.specs.Events.{Event}
-use Rattle.wkt_walk.specs.Makers.{Maker}
+use Rattle.wkt_events.specs.Events.{Event}
+use Rattle.wkt_events.specs.Makers.{Maker}
 use Rattle.wkt_fill.specs.Arrays.{HasLarge}
 use Rattle.wkt_fill.specs.Filling.{Flat, Headed, steps, unheaded, is_collection}
 use Rattle.wkt_fill.specs.declared.filler.Filler.{Filler}

@@ -4,9 +4,9 @@ use Rattle.wkt_access.specs.declared.dimensions.Dimension.{Dimension}
 use Rattle.wkt_access.specs.declared.dimensions.Dimension.TheVariants as dim
 use Rattle.wkt_types.specs.declared.geometry_type.GeometryType.{GeometryType}
 use Rattle.wkt_types.specs.declared.geometry_type.GeometryType.TheVariants as kind
-use Rattle.wkt_walk.specs.declared.builder.Part.{Part}
-use Rattle.wkt_walk.specs.declared.builder.Part.TheVariants as part
-use Rattle.wkt_walk.specs.Events.{Event}
+use Rattle.wkt_events.specs.declared.builder.Part.{Part}
+use Rattle.wkt_events.specs.declared.builder.Part.TheVariants as part
+use Rattle.wkt_events.specs.Events.{Event}
 
 -- All numbers in order; where each ring begins among the coordinates and each polygon among the rings, with the end of the last; and how many coordinates and rings there are.
 pub record Flat : Type 0 where

@@ -5,9 +5,9 @@ use Rattle.std.specs.List.{Contains}
 use Rattle.std.proofs.lemmas.List.Elements.{Contains-append_left}
 use Rattle.wkt_types.specs.declared.geometry_type.GeometryType.{GeometryType}
 use Rattle.wkt_types.specs.declared.geometry_type.GeometryType.TheVariants as kind
-use Rattle.wkt_walk.specs.declared.builder.Part.{Part}
-use Rattle.wkt_walk.specs.declared.builder.Part.TheVariants as part
-use Rattle.wkt_walk.specs.Events.{Event}
+use Rattle.wkt_events.specs.declared.builder.Part.{Part}
+use Rattle.wkt_events.specs.declared.builder.Part.TheVariants as part
+use Rattle.wkt_events.specs.Events.{Event}
 use Rattle.wkt_fill.specs.Arrays.{HasLarge}
 use Rattle.wkt_fill.specs.Filling.{Flat, Headed, end_ring, end_polygon, push, end_whole, end_part, is_collection, put, ended, each, put_all, put_coordinate, put_line, put_polygon, headed, step, steps}
 

@@ -4,8 +4,8 @@ ghost use Rattle.wkt_fill.specs.Fronts.{FillsFrontIfAny};
 use crate::filler::Filler;
 use std::alloc::Global;
 use wkt_num::Decimal;
-use wkt_walk::builder::At;
-use wkt_walk::geometry;
+use wkt_events::builder::At;
+use wkt_events::geometry;
 
 /// Arrays, and where their geometry ends in the text.
 #[derive(Drop)]

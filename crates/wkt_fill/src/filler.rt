@@ -7,8 +7,8 @@ use crate::status::{MEMORY, NOT_FLAT, TOO_LARGE};
 use std::alloc::Global;
 use wkt_num::Decimal;
 use wkt_types::{Dimension, GeometryType};
-use wkt_walk::builder::{At, Builder, Part};
-use wkt_walk::read_number_at;
+use wkt_events::builder::{At, Builder, Part};
+use wkt_events::read_number_at;
 
 /// Arrays as far as they are filled. Where `status` isn't 0 it says why they are not.
 #[derive(Drop)]

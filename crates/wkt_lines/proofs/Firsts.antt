@@ -7,10 +7,10 @@ use Rattle.std.proofs.lemmas.List.{take-append-drop}
 use lib.Utf8.{encode}
 use Rattle.wkt_access.specs.Shapes.{shape_of}
 use Rattle.wkt_access.specs.Texts.{shape_text}
-use Rattle.wkt_walk.specs.Left.{before_feed}
-use Rattle.wkt_walk.specs.Feeds.{after_feed}
-use Rattle.wkt_walk.specs.Answers.{IsAnswer, IsText, IsRefusedLine}
-use Rattle.wkt_walk.proofs.TextsUtf8.{front-utf8}
+use Rattle.wkt_events.specs.Left.{before_feed}
+use Rattle.wkt_events.specs.Feeds.{after_feed}
+use Rattle.wkt_events.specs.Answers.{IsAnswer, IsText, IsRefusedLine}
+use Rattle.wkt_events.proofs.TextsUtf8.{front-utf8}
 use Rattle.wkt_lines.specs.First.{AnswersFirst, WritesText, EndsLine}
 
 drop-one : (b : ℕ) (rest : List ℕ) (n : ℕ) (after : List ℕ) → drop (n + 1) rest ≡ after → drop (suc n + 1) (b ∷ rest) ≡ after

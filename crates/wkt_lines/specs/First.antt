@@ -4,9 +4,9 @@ use Rattle.wkt_access.specs.Values.{Value}
 use Rattle.wkt_access.specs.Shapes.{shape_of}
 use Rattle.wkt_access.specs.Texts.{shape_text}
 use Rattle.wkt_read.specs.Front.{Front, HasNoFront}
-use Rattle.wkt_walk.specs.Left.{before_feed}
-use Rattle.wkt_walk.specs.Feeds.{after_feed}
-use Rattle.wkt_walk.specs.Answers.{IsAnswer}
+use Rattle.wkt_events.specs.Left.{before_feed}
+use Rattle.wkt_events.specs.Feeds.{after_feed}
+use Rattle.wkt_events.specs.Answers.{IsAnswer}
 use Rattle.wkt_lines.specs.declared.first.Room.{Room}
 
 -- The bytes of a room.

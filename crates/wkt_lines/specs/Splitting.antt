@@ -2,8 +2,8 @@
 use Rattle.std.specs.Prelude.{◌≡◌, ℕ, List, [], ◌∷◌, ◌==◌, if◌then◌else◌, true, false, refl, ◌⊎◌}
 use Rattle.std.proofs.Common.{inl, inr, sym, ◌∙◌, ap, subst}
 use Rattle.wkt_lines.specs.Lines.{onto_first, pieces, without_last_empty, input_lines}
-pub use Rattle.wkt_walk.specs.Left.{before_feed}
-pub use Rattle.wkt_walk.specs.Feeds.{after_feed}
+pub use Rattle.wkt_events.specs.Left.{before_feed}
+pub use Rattle.wkt_events.specs.Feeds.{after_feed}
 
 pieces_split : (bs : List ℕ) → (pieces bs ≡ before_feed bs ∷ pieces (after_feed bs)) ⊎ ((pieces bs ≡ bs ∷ []) × (after_feed bs ≡ []) × (before_feed bs ≡ bs))
 pieces_split [] = inr (refl, refl, refl)

@@ -8,7 +8,7 @@ use std::alloc::{AllocError, Global};
 use std::fmt;
 use thiserror::Error;
 use wkt_num::TextSink;
-use wkt_walk::TextNumber;
+use wkt_num::WktNum;
 
 /// Why lines weren't answered.
 #[derive(Debug, Drop, Error)]
@@ -22,7 +22,7 @@ pub enum AnswerError {
 }
 
 /// Writes the answer to a line.
-pub(crate) fn write_answer<T: TextNumber, W: TextSink>(
+pub(crate) fn write_answer<T: WktNum, W: TextSink>(
     alloc: Global,
     line: &[u8],
     f: &mut W,
@@ -38,7 +38,7 @@ pub(crate) fn write_answer<T: TextNumber, W: TextSink>(
 }
 
 /// Writes the answer to a line that is text.
-fn write_front<T: TextNumber, W: TextSink>(
+fn write_front<T: WktNum, W: TextSink>(
     alloc: Global,
     text: &str,
     f: &mut W,

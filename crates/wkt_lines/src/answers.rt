@@ -8,13 +8,13 @@ use crate::first::{Room, write_first};
 use crate::lines::after_line;
 use std::alloc::Global;
 use wkt_num::TextSink;
-use wkt_walk::TextNumber;
+use wkt_num::WktNum;
 
 /// Writes the answers to all lines of the input to a sink of text, each followed by a line feed.
 ///
 /// # Errors
 /// [`AnswerError`] tells when each comes, and what was added then.
-pub fn write_answers<T: TextNumber, W: TextSink>(
+pub fn write_answers<T: WktNum, W: TextSink>(
     alloc: Global,
     input: &[u8],
     f: &mut W,

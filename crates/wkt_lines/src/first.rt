@@ -1,6 +1,6 @@
 //! The answer to the first line of what is left of an input.
 ghost use Rattle.std.specs.Prelude.{◌≡◌, ◌+◌, ◌*◌, ◌≤◌, ◌<◌, OnOk, IfOk, IfSome, List, ℕ, length, take, vec_len, IsUtf8};
-ghost use Rattle.wkt_walk.specs.Left.{before_feed};
+ghost use Rattle.wkt_events.specs.Left.{before_feed};
 ghost use Rattle.wkt_lines.specs.Added.{AddsLine, BreaksLine};
 ghost use Rattle.wkt_lines.specs.Answer.{AnswersLine, OnSink, OnAnswerMemory};
 ghost use Rattle.wkt_lines.specs.First.{EndsLine};
@@ -8,8 +8,9 @@ ghost use Rattle.wkt_lines.specs.First.{EndsLine};
 use crate::answer::AnswerError;
 use std::alloc::{AllocError, Global};
 use wkt_num::TextSink;
-use wkt_walk::ends::line_end;
-use wkt_walk::{Answer, NoRoom, TextNumber, answer_line, write_canonical};
+use wkt_events::ends::line_end;
+use wkt_events::{Answer, NoRoom, answer_line, write_canonical};
+use wkt_num::WktNum;
 
 // Where a line ends is found as it is answered, if it ends within so many bytes.
 const NEAR: usize = 65536;
@@ -59,7 +60,7 @@ impl Room {
     }
 
     /// Answers the first line of the bytes, here.
-    fn answer<T: TextNumber>(&mut self, rest: &[u8]) -> Result<Answer, AllocError>
+    fn answer<T: WktNum>(&mut self, rest: &[u8]) -> Result<Answer, AllocError>
         ensures answers { IfOk result (λ a. AnswersFirst T.read T.num rest.now (take a.len (room_bytes self.new))) }
         ensures line { IfOk result (λ a. a.taken ≡ length (before_feed rest.now) + 1) }
         ensures len { IfOk result (λ a. a.len ≤ length (room_bytes self.new)) }
@@ -82,7 +83,7 @@ impl Room {
 
     /// The same, if the line ends within a part of them.
     #[inline(always)]
-    pub(crate) fn first<T: TextNumber>(&mut self, rest: &[u8]) -> Result<Answer, AllocError>
+    pub(crate) fn first<T: WktNum>(&mut self, rest: &[u8]) -> Result<Answer, AllocError>
         ensures answers { IfOk result (λ a. AnswersFirst T.read T.num rest.now (take a.len (room_bytes self.new))) }
         ensures line { IfOk result (λ a. a.taken ≡ length (before_feed rest.now) + 1) }
         ensures len { IfOk result (λ a. a.len ≤ length (room_bytes self.new)) }
@@ -104,7 +105,7 @@ impl Room {
 
     /// The same of a line that is long.
     #[inline(never)]
-    fn far<T: TextNumber>(&mut self, rest: &[u8]) -> Result<Answer, AllocError>
+    fn far<T: WktNum>(&mut self, rest: &[u8]) -> Result<Answer, AllocError>
         ensures answers { IfOk result (λ a. AnswersFirst T.read T.num rest.now (take a.len (room_bytes self.new))) }
         ensures line { IfOk result (λ a. a.taken ≡ length (before_feed rest.now) + 1) }
         ensures len { IfOk result (λ a. a.len ≤ length (room_bytes self.new)) }
@@ -124,7 +125,7 @@ impl Room {
     }
 
     /// Writes the canonical text of what a text begins with, and answers how long that is; `None` where it begins with none.
-    pub(crate) fn canonical<T: TextNumber>(
+    pub(crate) fn canonical<T: WktNum>(
         &mut self,
         text: &str,
     ) -> Result<Option<usize>, AllocError>
@@ -149,7 +150,7 @@ impl Room {
 
     /// Adds the first bytes to a sink of text. (Where the number type doesn't tell that it reads nothing but texts, they are
     /// tested; no number writes anything else.)
-    pub(crate) fn put<T: TextNumber, W: TextSink>(
+    pub(crate) fn put<T: WktNum, W: TextSink>(
         &self,
         len: usize,
         f: &mut W,
@@ -176,7 +177,7 @@ impl Room {
 }
 
 /// Adds the answer to the first line and a line feed to the sink, and answers where the line ends.
-pub(crate) fn write_first<T: TextNumber, W: TextSink>(
+pub(crate) fn write_first<T: WktNum, W: TextSink>(
     room: &mut Room,
     rest: &[u8],
     f: &mut W,

@@ -21,4 +21,4 @@ pub use answer::AnswerError;
 pub use answers::write_answers;
 pub use lines::{RunError, run, run_over};
 pub use reply::{Canonical, Reply, write_replies};
-pub use wkt_walk::ends::line_end;
+pub use wkt_events::ends::line_end;

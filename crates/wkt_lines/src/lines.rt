@@ -5,7 +5,7 @@ ghost use Rattle.wkt_num.specs.Sink.{next_count};
 ghost use Rattle.wkt_lines.specs.Numbers.{read_line, print_line};
 ghost use Rattle.wkt_lines.specs.Output.{IsAllOut, IsFirstOut, IsSomeOut, IsLineOut, IsLinePartOut, OnRunRead, OnRunWrite, OnRunMemory};
 ghost use Rattle.wkt_lines.specs.First.{EndsLine};
-ghost use Rattle.wkt_walk.specs.Left.{before_feed};
+ghost use Rattle.wkt_events.specs.Left.{before_feed};
 
 use crate::first::Room;
 use std::alloc::{AllocError, Global};
@@ -13,7 +13,7 @@ use std::io;
 use thiserror::Error;
 use wkt_bytes::{ByteSink, ByteSource, ReadAllError, put_all, read_all};
 use wkt_num::Decimal;
-use wkt_walk::TextNumber;
+use wkt_num::WktNum;
 
 /// Why a run ended before its input.
 #[derive(Debug, Drop, Error)]
@@ -64,7 +64,7 @@ pub fn run<R: ByteSource, W: ByteSink>(
 ///
 /// # Errors
 /// Those of [`run`].
-pub fn run_over<T: TextNumber, R: ByteSource, W: ByteSink>(
+pub fn run_over<T: WktNum, R: ByteSource, W: ByteSink>(
     alloc: Global,
     reader: &mut R,
     writer: &mut W,
@@ -87,7 +87,7 @@ pub fn run_over<T: TextNumber, R: ByteSource, W: ByteSink>(
 }
 
 /// Writes the answers to all lines of the input.
-fn answer_lines<T: TextNumber, W: ByteSink>(
+fn answer_lines<T: WktNum, W: ByteSink>(
     alloc: Global,
     input: &[u8],
     writer: &mut W,
@@ -121,7 +121,7 @@ pub(crate) fn after_line(rest: &[u8], end: usize) -> &[u8]
 }
 
 /// Puts out the answer to the first line and a line feed, and answers where the line ends.
-fn answer_first<T: TextNumber, W: ByteSink>(
+fn answer_first<T: WktNum, W: ByteSink>(
     room: &mut Room,
     rest: &[u8],
     writer: &mut W,

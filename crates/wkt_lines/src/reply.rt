@@ -9,8 +9,8 @@ use crate::lines::after_line;
 use std::alloc::Global;
 use std::marker::PhantomData;
 use wkt_num::TextSink;
-use wkt_walk::TextNumber;
-use wkt_walk::ends::line_end;
+use wkt_num::WktNum;
+use wkt_events::ends::line_end;
 
 /// What the lines of an input are answered with.
 ///
@@ -107,7 +107,7 @@ impl<T> Canonical<T> {
     }
 }
 
-impl<T: TextNumber> Reply for Canonical<T> {
+impl<T: WktNum> Reply for Canonical<T> {
     ghost answers = { λ _. IsAnswer T.read T.num };
 
     fn reply<W: TextSink>(

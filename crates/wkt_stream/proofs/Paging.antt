@@ -5,8 +5,8 @@ use Rattle.std.proofs.KnownBytes.{Appends-nil, Appends-trans}
 use Rattle.std.specs.Io.KnownBytes.{Appends}
 use Rattle.wkt_num.specs.Sink.{next_count}
 use Rattle.wkt_bytes.specs.Sinks.{SinkOfBytes}
-use Rattle.wkt_walk.specs.Left.{before_feed}
-use Rattle.wkt_walk.specs.Feeds.{after_feed}
+use Rattle.wkt_events.specs.Left.{before_feed}
+use Rattle.wkt_events.specs.Feeds.{after_feed}
 use Rattle.wkt_lines.specs.Lines.{input_lines}
 use Rattle.wkt_lines.specs.Replies.{AreReplies, AllReplied, FirstReplied, PartReplied}
 use Rattle.wkt_stream.specs.Pages.{Drained, Stopped, PutsOut}

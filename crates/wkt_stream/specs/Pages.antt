@@ -3,10 +3,10 @@ use Rattle.std.specs.Prelude.{◌≡◌, ℕ, ◌+◌, ◌*◌, ◌<◌, ◌≤�
 use Rattle.std.specs.Io.KnownBytes.{Appends}
 use Rattle.wkt_num.specs.Sink.{next_count}
 use Rattle.wkt_bytes.specs.Sinks.{SinkOfBytes}
-use Rattle.wkt_walk.specs.Left.{before_feed}
-use Rattle.wkt_walk.specs.Answers.{IsAnswer}
-use Rattle.wkt_walk.specs.Feeds.{after_feed}
-use Rattle.wkt_walk.specs.declared.canonical.NoRoom.{NoRoom}
+use Rattle.wkt_events.specs.Left.{before_feed}
+use Rattle.wkt_events.specs.Answers.{IsAnswer}
+use Rattle.wkt_events.specs.Feeds.{after_feed}
+use Rattle.wkt_events.specs.declared.canonical.NoRoom.{NoRoom}
 use Rattle.wkt_stream.specs.declared.page.Page.{Page}
 use Rattle.wkt_lines.specs.declared.lines.RunError.{RunError}
 use Rattle.wkt_lines.specs.declared.lines.RunError.TheVariants as run

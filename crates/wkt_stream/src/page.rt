@@ -1,9 +1,10 @@
 //! Room for answers.
 ghost use Rattle.std.specs.Prelude.{◌≡◌, ◌+◌, ◌*◌, ◌<◌, ◌≤◌, [], OnOk, length, drop, vec_len, true};
-ghost use Rattle.wkt_walk.specs.Feeds.{after_feed};
+ghost use Rattle.wkt_events.specs.Feeds.{after_feed};
 
 use std::alloc::{AllocError, Global};
-use wkt_walk::{NoRoom, TextNumber, answer_line};
+use wkt_events::{NoRoom, answer_line};
+use wkt_num::WktNum;
 
 // How much is gathered before it is put out.
 const HELD: usize = 65536;
@@ -101,7 +102,7 @@ impl Page {
     /// # Errors
     /// A number's text had no room; nothing was written then.
     #[inline(always)]
-    pub fn answer_line<T: TextNumber>(&mut self, rest: &[u8]) -> Result<usize, NoRoom>
+    pub fn answer_line<T: WktNum>(&mut self, rest: &[u8]) -> Result<usize, NoRoom>
         requires { HasRoomFor self.old (length rest.now) }
         ensures { AnswersNext T.read T.num rest.now (page_text self.old) (page_text self.new) result }
     {

@@ -1,7 +1,7 @@
 //! The answers to the lines of a block.
 ghost use Rattle.std.specs.Prelude.{◌≡◌, ◌<◌, [], OnOk, length};
 ghost use Rattle.wkt_num.specs.Sink.{next_count};
-ghost use Rattle.wkt_walk.specs.Answers.{IsAnswer};
+ghost use Rattle.wkt_events.specs.Answers.{IsAnswer};
 ghost use Rattle.wkt_lines.specs.Replies.{IsAllReplied, IsFirstReplied, IsPartReplied};
 ghost use Rattle.wkt_lines.specs.Output.{OnRunRead, OnRunWrite, OnRunMemory};
 ghost use Rattle.wkt_stream.specs.Pages.{page_text, HasRoomFor, PutsOut};
@@ -10,10 +10,10 @@ use crate::page::Page;
 use std::alloc::AllocError;
 use wkt_bytes::{ByteSink, put_all};
 use wkt_lines::RunError;
-use wkt_walk::TextNumber;
+use wkt_num::WktNum;
 
 /// Puts out the answers to all lines of the block, by a page that is empty before and after.
-pub(crate) fn answer_block<T: TextNumber, W: ByteSink>(
+pub(crate) fn answer_block<T: WktNum, W: ByteSink>(
     input: &[u8],
     page: &mut Page,
     writer: &mut W,

@@ -17,7 +17,7 @@ use std::io;
 use wkt_bytes::{ByteSink, ByteSource, Gatherer};
 use wkt_lines::{AnswerError, Reply, RunError, write_replies};
 use wkt_num::Decimal;
-use wkt_walk::TextNumber;
+use wkt_num::WktNum;
 
 /// Writes the answers to all lines of the source, as [`run`](wkt_lines::run) does, in the memory of the longest line.
 ///
@@ -53,7 +53,7 @@ pub fn stream<R: ByteSource, W: ByteSink>(
 ///
 /// # Errors
 /// Those of [`stream`].
-pub fn stream_over<T: TextNumber, R: ByteSource, W: ByteSink>(
+pub fn stream_over<T: WktNum, R: ByteSource, W: ByteSink>(
     alloc: Global,
     reader: &mut R,
     writer: &mut W,

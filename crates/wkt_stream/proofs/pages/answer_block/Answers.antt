@@ -1,5 +1,5 @@
 use Rattle.std.proofs.Common.{◌≡◌, ◌+◌, ◌≤◌, [], length, length-drop, arith, Err, subst, sym, ap}
-use Rattle.wkt_walk.specs.Answers.{IsAnswer}
+use Rattle.wkt_events.specs.Answers.{IsAnswer}
 use Rattle.wkt_stream.specs.Pages.{page_text, Drained, PutsOut}
 use Rattle.wkt_stream.proofs.Paging.{Paged, paged_none, paged_by, paged_drained, paged_next, near, on_write, on_write_count, on_memory}
 use Rattle.wkt_stream.proofs.pages.answer_block.Goals as goal

@@ -1,5 +1,5 @@
 use Rattle.std.proofs.Common.{◌≤◌, ◌+◌, ◌-◌, length}
-use Rattle.wkt_walk.specs.Answers.{IsAnswer}
+use Rattle.wkt_events.specs.Answers.{IsAnswer}
 use Rattle.wkt_stream.specs.Pages.{page_text}
 use Rattle.wkt_stream.proofs.Paging.{Paged}
 use Rattle.wkt_stream.proofs.pages.answer_block.Given as goal

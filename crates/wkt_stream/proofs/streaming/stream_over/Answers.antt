@@ -1,6 +1,6 @@
 use Rattle.std.proofs.Common.{◌≡◌, ◌++◌, ℕ, List, Err, refl, sym, ap, ◌∙◌, subst, take, drop, take-append-drop}
 use Rattle.wkt_num.specs.Sink.{next_count}
-use Rattle.wkt_walk.specs.Answers.{IsAnswer}
+use Rattle.wkt_events.specs.Answers.{IsAnswer}
 use Rattle.wkt_lines.specs.Laws.{IsWhole}
 use Rattle.wkt_lines.proofs.Answering.{write_map}
 use Rattle.wkt_stream.specs.Blocks.{unanswered}

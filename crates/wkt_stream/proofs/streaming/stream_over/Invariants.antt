@@ -1,5 +1,5 @@
 use Rattle.std.proofs.Common.{◌≡◌, [], true}
-use Rattle.wkt_walk.specs.Answers.{IsAnswer}
+use Rattle.wkt_events.specs.Answers.{IsAnswer}
 use Rattle.wkt_stream.specs.Pages.{page_text}
 use Rattle.wkt_stream.specs.Blocks.{unanswered}
 use Rattle.wkt_stream.specs.Feeds.{HasNoFeed}

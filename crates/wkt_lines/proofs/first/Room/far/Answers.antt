@@ -1,5 +1,5 @@
 use Rattle.std.proofs.Common.{◌≡◌, ◌∙◌, ap, length, take, ◌+◌}
-use Rattle.wkt_walk.specs.Left.{before_feed}
+use Rattle.wkt_events.specs.Left.{before_feed}
 use Rattle.wkt_lines.specs.First.{AnswersFirst, room_bytes}
 use Rattle.wkt_lines.proofs.Firsts.{first-of, ok-map, line-alone}
 use Rattle.wkt_lines.proofs.first.Room.far.Goals as goal

@@ -1,5 +1,5 @@
 use Rattle.std.proofs.Common.{◌≡◌, arith, ◌∙◌, ap, length, length-take, take, ◌+◌}
-use Rattle.wkt_walk.specs.Left.{before_feed}
+use Rattle.wkt_events.specs.Left.{before_feed}
 use Rattle.wkt_lines.proofs.Firsts.{first-of, near-line}
 use Rattle.wkt_lines.proofs.first.Room.first.Goals as goal
 

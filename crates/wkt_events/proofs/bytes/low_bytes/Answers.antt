@@ -1,0 +1,5 @@
+use Rattle.wkt_events.proofs.RunEnds.{low-lanes}
+use Rattle.wkt_events.proofs.bytes.low_bytes.Goals as goal
+
+pub returns : goal.returns
+returns c = low-lanes c.args.text.now c.args.from c.requires

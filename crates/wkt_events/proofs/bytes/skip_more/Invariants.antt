@@ -1,0 +1,15 @@
+use Rattle.std.proofs.Common.{◌≡◌, ◌≤◌, ◌-◌, ◌==◌, length}
+use Rattle.std.specs.Prelude.{not}
+use Rattle.wkt_events.specs.Left.{line_of, left_placed}
+use Rattle.wkt_events.proofs.bytes.skip_more.Given as goal
+
+abbrev pub invariant-loop-at : goal.invariant-loop-at
+invariant-loop-at g l = record {
+  order : l.from ≤ l.at;
+  inside : l.at ≤ length l.text;
+  line : l.from ≤ length (line_of (not (g.row.FEED_ENDS == 0)) l.text) → l.at ≤ length (line_of (not (g.row.FEED_ENDS == 0)) l.text);
+  same : left_placed (not (g.row.FEED_ENDS == 0)) l.text l.from ≡ left_placed (not (g.row.FEED_ENDS == 0)) l.text l.at;
+}
+
+abbrev pub decreases-loop-at : goal.decreases-loop-at
+decreases-loop-at g l = length l.text - l.at

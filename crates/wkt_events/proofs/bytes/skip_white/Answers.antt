@@ -1,0 +1,17 @@
+use Rattle.std.proofs.Common.{ap, ◌∙◌}
+use Rattle.wkt_events.specs.Left.{class_in}
+use Rattle.wkt_events.proofs.Classes.{past-white, white-some, space, late-byte}
+use Rattle.wkt_events.proofs.Legibles.{class-in-line}
+use Rattle.wkt_events.proofs.bytes.skip_white.Goals as goal
+
+pub returns-then-byte_at-gt32-clause-stops : goal.returns-then-byte_at-gt32-clause-stops
+returns-then-byte_at-gt32-clause-stops g c = λ w. late-byte _ c.byte_at.result c.if-byte_at-gt32.true (ap (class_in _) c.byte_at.ensures.value ∙ w)
+
+pub returns-then-byte_at-gt32-2-clause-same : goal.returns-then-byte_at-gt32-2-clause-same
+returns-then-byte_at-gt32-2-clause-same g c = (past-white _ c.args.text.now c.args.at c.byte_at-2.result c.byte_at-2.ensures.value (space _ c.byte_at-2.result c.if-byte_at-eq32.true)).1
+
+pub returns-then-byte_at-gt32-2-clause-stops : goal.returns-then-byte_at-gt32-2-clause-stops
+returns-then-byte_at-gt32-2-clause-stops g c = λ w. late-byte _ c.byte_at-then-byte_at-eq32.result c.if-byte_at-gt32-2.true (ap (class_in _) c.byte_at-then-byte_at-eq32.ensures.value ∙ w)
+
+pub returns-then-byte_at-gt32-2-clause-line : goal.returns-then-byte_at-gt32-2-clause-line
+returns-then-byte_at-gt32-2-clause-line g c = λ h. class-in-line _ c.args.text.now c.args.at (white-some _ c.args.text.now c.args.at c.byte_at-2.result c.byte_at-2.ensures.value (space _ c.byte_at-2.result c.if-byte_at-eq32.true)) h

@@ -1,0 +1,21 @@
+use Rattle.std.proofs.Common.{◌≤◌, ◌-◌, length}
+use Rattle.wkt_events.proofs.Feeds.{NoFeed}
+use Rattle.wkt_events.proofs.ends.line_end.Given as goal
+
+abbrev pub invariant-wide : goal.invariant-wide
+invariant-wide l = record {
+  within : l.at ≤ length l.rest;
+  none : NoFeed l.rest l.at;
+}
+
+abbrev pub invariant-bytes : goal.invariant-bytes
+invariant-bytes l = record {
+  within : l.at ≤ length l.rest;
+  none : NoFeed l.rest l.at;
+}
+
+abbrev pub decreases-wide : goal.decreases-wide
+decreases-wide l = length l.rest - l.at
+
+abbrev pub decreases-bytes : goal.decreases-bytes
+decreases-bytes l = length l.rest - l.at

@@ -1,0 +1,138 @@
+//! Bytes at places in a text that ends at NUL or with its last byte. Where `FEED_ENDS`, it ends at LF too, which else is
+//! white space.
+ghost use Rattle.std.specs.Prelude.{◌≡◌, ◌≢◌, ◌↔◌, ◌≤◌, ◌<◌, ◌+◌, IsTrue, MatchOption, length, get_or};
+ghost use Rattle.wkt_num.specs.Bytes.{Lexeme, White, Mark, Run, class_of};
+ghost use Rattle.wkt_events.specs.Left.{line_of, class_in, left_placed, left, IsRunEnd, TakesOne, BeginsOther};
+ghost use Rattle.wkt_events.specs.Windows.{low_mask};
+
+use std::simd::prelude::*;
+use wkt_read::words;
+
+/// The bytes of a window, in which most runs end.
+const WINDOW: usize = 32;
+
+/// The byte at this place; past the end it is NUL, which ends a text too.
+#[inline(always)]
+pub(crate) fn byte_at(text: &[u8], at: usize) -> u8
+    ensures value { result ≡ get_or text.now at 0 }
+    ensures some { 0 < result → at < length text.now }
+{
+    if at < text.len() { text[at] } else { 0 }
+}
+
+/// Whether it may stand between the lexemes of a line.
+#[inline(always)]
+pub(crate) fn is_white<const FEED_ENDS: bool>(byte: u8) -> bool
+    ensures { IsTrue result ↔ (class_in FEED_ENDS byte ≡ White) }
+{
+    if FEED_ENDS && byte == b'\n' {
+        return false;
+    }
+    words::is_white(byte)
+}
+
+/// Past white space, of which mostly there is none, or one space.
+#[inline(always)]
+pub(crate) fn skip_white<const FEED_ENDS: bool>(text: &[u8], at: usize) -> usize
+    requires { at ≤ length text.now }
+    ensures order { at ≤ result }
+    ensures inside { result ≤ length text.now }
+    ensures line { at ≤ length (line_of FEED_ENDS text.now) → result ≤ length (line_of FEED_ENDS text.now) }
+    ensures same { left_placed FEED_ENDS text.now at ≡ left_placed FEED_ENDS text.now result }
+    ensures stops { class_in FEED_ENDS (get_or text.now result 0) ≢ White }
+{
+    if byte_at(text, at) > b' ' {
+        return at;
+    }
+    if byte_at(text, at) == b' ' && byte_at(text, at + 1) > b' ' {
+        return at + 1;
+    }
+    skip_more::<FEED_ENDS>(text, at)
+}
+
+#[inline(never)]
+fn skip_more<const FEED_ENDS: bool>(text: &[u8], from: usize) -> usize
+    requires { from ≤ length text.now }
+    ensures order { from ≤ result }
+    ensures inside { result ≤ length text.now }
+    ensures line { from ≤ length (line_of FEED_ENDS text.now) → result ≤ length (line_of FEED_ENDS text.now) }
+    ensures same { left_placed FEED_ENDS text.now from ≡ left_placed FEED_ENDS text.now result }
+    ensures stops { class_in FEED_ENDS (get_or text.now result 0) ≢ White }
+{
+    let mut at = from;
+    while is_white::<FEED_ENDS>(byte_at(text, at)) {
+        at += 1;
+    }
+    at
+}
+
+/// Past this mark, where it comes next.
+#[inline(always)]
+pub(crate) fn take<const FEED_ENDS: bool>(mark: u8, text: &[u8], at: usize) -> Option<usize>
+    requires mark { (l : Lexeme) × (class_of mark ≡ Mark l) }
+    requires inside { at ≤ length text.now }
+    ensures { (l : Lexeme) → class_of mark ≡ Mark l → MatchOption result
+        (BeginsOther l (left FEED_ENDS text.now at))
+        (λ to. TakesOne FEED_ENDS text.now at l to) }
+{
+    if byte_at(text, at) == mark {
+        return Some(at + 1);
+    }
+    if byte_at(text, at) > b' ' {
+        return None;
+    }
+    let start = skip_more::<FEED_ENDS>(text, at);
+    if byte_at(text, start) == mark {
+        Some(start + 1)
+    } else {
+        None
+    }
+}
+
+#[inline(always)]
+#[tactic(auto, unfolding(wkt_num::specs::Bytes::class_of))]
+fn is_of_run(byte: u8) -> bool
+    ensures { IsTrue result ↔ (class_of byte ≡ Run) }
+{
+    byte > b',' || !matches!(byte, 0 | b' ' | b'\n' | b'\r' | b'\t' | b'(' | b')' | b',')
+}
+
+/// Where the run ends that goes on here.
+#[inline(always)]
+pub(crate) fn run_end(text: &[u8], from: usize) -> usize
+    requires { from ≤ length text.now }
+    ensures { IsRunEnd text.now from result }
+{
+    if text.len() - from >= WINDOW {
+        let low = low_bytes(text, from);
+        if low != 0 {
+            let end = from + low.trailing_zeros() as usize;
+            if !is_of_run(text[end]) {
+                return end;
+            }
+        }
+    }
+    run_end_far(text, from)
+}
+
+/// The bytes of the window that are no more than a comma, as bits: what ends a run is among them.
+#[inline(always)]
+fn low_bytes(text: &[u8], from: usize) -> u64
+    requires { from + 32 ≤ length text.now }
+    ensures { result ≡ low_mask text.now from }
+{
+    let bytes = u8x32::from_slice(&text[from..]);
+    bytes.simd_le(u8x32::splat(b',')).to_bitmask()
+}
+
+#[inline(never)]
+fn run_end_far(text: &[u8], from: usize) -> usize
+    requires { from ≤ length text.now }
+    ensures { IsRunEnd text.now from result }
+{
+    let mut at = from;
+    while at < text.len() && is_of_run(text[at]) {
+        at += 1;
+    }
+    at
+}

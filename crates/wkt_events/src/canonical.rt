@@ -1,0 +1,75 @@
+//! The canonical text of what a text begins with.
+ghost use Rattle.std.specs.Prelude.{◌≡◌, ◌+◌, ◌*◌, ◌≤◌, length, take};
+ghost use Rattle.wkt_events.specs.Canonical.{WritesCanonical, WritesFront, LeavesRoom};
+
+use crate::text::Pen;
+use wkt_num::WktNum;
+use crate::through::{Next, write_next};
+use std::marker::PhantomData;
+
+/// A number's text is longer than twice what it was read from, and there was no room for it. More room may do.
+#[derive(Debug, Clone, Copy)]
+pub struct NoRoom;
+
+/// Writes the canonical text of the geometry that the text begins with behind the first `len` bytes, and answers where it
+/// ends in the text and how much is written then; `None` where the text begins with none. There is room for twice the
+/// text, and 65 bytes more.
+///
+/// # Errors
+/// [`NoRoom`]; what stands behind the first `len` bytes means nothing then.
+pub fn write_canonical<T: WktNum>(
+    text: &str,
+    out: &mut [u8],
+    len: usize,
+) -> Result<Option<(usize, usize)>, NoRoom>
+    requires { len + 2 * length text.now + 65 ≤ length out.old }
+    ensures writes { WritesCanonical T.read T.num text.now len out.old out.new result }
+    ensures kept { take len out.new ≡ take len out.old }
+    ensures room { LeavesRoom out.old result }
+    ensures whole { length out.new ≡ length out.old }
+{
+    write_front::<T, false>(text.as_bytes(), out, len)
+}
+
+/// The same of bytes, which where `FEED_ENDS` end at the first LF. Where they are no UTF-8 the answer may be `None`.
+#[inline(always)]
+pub(crate) fn write_front<T: WktNum, const FEED_ENDS: bool>(
+    text: &[u8],
+    out: &mut [u8],
+    len: usize,
+) -> Result<Option<(usize, usize)>, NoRoom>
+    requires { len + 2 * length text.now + 65 ≤ length out.old }
+    ensures writes { WritesFront T.read T.num FEED_ENDS text.now len out.old out.new result }
+    ensures kept { take len out.new ≡ take len out.old }
+    ensures room { LeavesRoom out.old result }
+    ensures whole { length out.new ≡ length out.old }
+{
+    match write_alone::<T, FEED_ENDS>(text, &mut out[len..]) {
+        Ok(Some((end, n))) => Ok(Some((end, len + n))),
+        Ok(None) => Ok(None),
+        Err(NoRoom) => Err(NoRoom),
+    }
+}
+
+/// The same from the first byte on.
+#[inline(always)]
+fn write_alone<T: WktNum, const FEED_ENDS: bool>(
+    text: &[u8],
+    out: &mut [u8],
+) -> Result<Option<(usize, usize)>, NoRoom>
+    requires { 2 * length text.now + 65 ≤ length out.old }
+    ensures writes { WritesFront T.read T.num FEED_ENDS text.now 0 out.old out.new result }
+    ensures room { LeavesRoom out.old result }
+    ensures whole { length out.new ≡ length out.old }
+{
+    let mut pen: Pen<'_, T> = Pen {
+        out: &mut *out,
+        len: 0,
+        of: PhantomData,
+    };
+    match write_next::<T, FEED_ENDS>(text, 0, &mut pen) {
+        Next::Ends(end) => Ok(Some((end, pen.len))),
+        Next::Nothing => Ok(None),
+        Next::NoRoom => Err(NoRoom),
+    }
+}

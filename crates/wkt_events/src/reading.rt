@@ -1,0 +1,38 @@
+//! Numbers as values.
+ghost use Rattle.std.specs.Prelude.{◌≢◌, ◌≤◌, length, get_or, Bool, IfSome, IfNone};
+ghost use Rattle.wkt_num.specs.Bytes.{White};
+ghost use Rattle.wkt_events.specs.Left.{class_in};
+ghost use Rattle.wkt_events.specs.Numbers.{IsNumberAt, NoNumber, ReadsNumberIfAny};
+
+use crate::bytes::run_end;
+use crate::text::{begins_number, past_plus};
+use wkt_num::WktNum;
+
+/// The number that stands there, and where it ends.
+#[inline(always)]
+pub fn read_number_at<T: WktNum>(text: &[u8], at: usize) -> Option<(T, usize)>
+    requires { at ≤ length text.now }
+    ensures { (feed : Bool) → class_in feed (get_or text.now at 0) ≢ White → ReadsNumberIfAny T.read feed text.now at result }
+{
+    number_there(text, at)
+}
+
+#[inline(always)]
+fn number_there<T: WktNum>(text: &[u8], at: usize) -> Option<(T, usize)>
+    requires { at ≤ length text.now }
+    ensures some { IfSome result (λ p. IsNumberAt T.read text.now at p.1 p.0) }
+    ensures none { IfNone result (NoNumber T.read text.now at) }
+{
+    let end = run_end(text, at);
+    if end == at || !begins_number(text[at]) {
+        return None;
+    }
+    let start = past_plus(text, at);
+    let Ok(run) = str::from_utf8(&text[start..end]) else {
+        return None;
+    };
+    let Some(number) = T::read_number(run) else {
+        return None;
+    };
+    Some((number, end))
+}

@@ -1,6 +1,0 @@
-use Rattle.std.proofs.Common.{sym, ◌∙◌}
-use Rattle.wkt_walk.proofs.Feeds.{ends-here}
-use Rattle.wkt_walk.proofs.ends.text_end.Goals as goal
-
-pub returns-then-byte_at-eq10 : goal.returns-then-byte_at-eq10
-returns-then-byte_at-eq10 c = ends-here c.args.rest.now c.args.from c.requires.line (sym c.byte_at.ensures.value ∙ c.if-byte_at-eq10.true)

@@ -1,6 +1,0 @@
-use Rattle.std.specs.Prelude.{[]}
-use Rattle.wkt_walk.proofs.PenNumbers.{reads-number}
-use Rattle.wkt_walk.proofs.reading.read_number_at.Goals as goal
-
-pub returns : goal.returns
-returns g c = λ feed other. reads-number g.T.WktNum.read (λ _. []) feed c.args.text.now c.args.at c.number_there.result other c.number_there.ensures.some c.number_there.ensures.none
