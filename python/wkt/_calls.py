@@ -4,8 +4,9 @@ import ctypes
 import itertools
 from typing import Any, Callable, Iterator, List, NamedTuple, Optional, Sequence, Tuple, Union
 
-from . import _library
+from . import _library, _names
 from ._library import size, u32
+from ._names import DIMENSIONS, HEADER_MESSAGES, KINDS, MESSAGES
 
 try:
     import numpy
@@ -13,47 +14,6 @@ except ImportError:  # The functions then give and take sequences of numbers.
     numpy = None
 
 Text = Union[str, bytes]
-
-KINDS = (
-    "Point",
-    "LineString",
-    "Polygon",
-    "MultiPoint",
-    "MultiLineString",
-    "MultiPolygon",
-    "GeometryCollection",
-)
-DIMENSIONS = ("XY", "XYZ", "XYM", "XYZM")
-
-_MESSAGES = {
-    1: "Invalid WKT format",
-    2: "Encountered non-ascii word",
-    3: "Invalid type encountered",
-    4: "Unexpected word before open paren",
-    5: "End of stream",
-    6: "Missing open parenthesis for type",
-    7: "Missing closing parenthesis for type",
-    8: "Expected a number for the X coordinate",
-    9: "Expected a number for the Y coordinate",
-    10: "Expected a number for the Z coordinate",
-    11: "Expected a number for the M coordinate",
-    12: "Expected a word in GEOMETRYCOLLECTION",
-    13: "Unable to parse input number as the desired output type",
-    14: "Refused",
-    20: "The text is not UTF-8",
-    23: "There are no numbers of so many places",
-    24: "A collection has no flat arrays",
-    25: "A number has more units than 64 bits hold",
-    26: "The arrays are of no geometry",
-    27: "The offsets, the bits or the sizes are of no column",
-}
-_HEADER_MESSAGES = {
-    1: "No kind word",
-    2: "No space before EMPTY",
-    3: "Neither a parenthesis nor EMPTY",
-    20: "The text is not UTF-8",
-}
-_TOO_SMALL, _NO_MEMORY, _NULL = 21, 22, 28
 
 
 class WktError(ValueError):
@@ -114,8 +74,8 @@ def _encoded(text: Text) -> bytes:
     return bytes(text)
 
 
-def _check(status: int, messages=_MESSAGES) -> None:
-    if status == _NO_MEMORY:
+def _check(status: int, messages: Sequence[str] = MESSAGES) -> None:
+    if status == _names.NO_MEMORY:
         raise MemoryError
     if status:
         raise WktError(status, messages.get(status, "Status %d" % status))
@@ -123,7 +83,7 @@ def _check(status: int, messages=_MESSAGES) -> None:
 
 def _places(places: int) -> int:
     if not 0 <= places <= 18:
-        raise WktError(23, _MESSAGES[23])
+        raise WktError(_names.NO_PLACES, MESSAGES[_names.NO_PLACES])
     return places
 
 
@@ -152,7 +112,7 @@ def _answer(call: Callable[[Any, int, Any], int], likely: int) -> bytes:
     while True:
         out = ctypes.create_string_buffer(room)
         status = call(out, room, ctypes.byref(needed))
-        if status != _TOO_SMALL:
+        if status != _names.TOO_SMALL:
             _check(status)
             return out.raw[: needed.value]
         room = needed.value
@@ -165,7 +125,7 @@ def canonical(text: Any, places: int = 18) -> Any:
     if column is not None:
         answers, statuses = canonical_column(column, places)
         for status in statuses:
-            _check(0 if status == _NULL else status)
+            _check(0 if status == _names.NULL else status)
         return answers
     data, end = _encoded(text), size()
 
@@ -242,7 +202,7 @@ def infer(text: Any) -> Any:
     def one(text: Text) -> Tuple[str, str]:
         data, kind, dimension = _encoded(text), u32(), u32()
         status = _library.wkt_infer(data, len(data), ctypes.byref(kind), ctypes.byref(dimension))
-        _check(status, _HEADER_MESSAGES)
+        _check(status, HEADER_MESSAGES + MESSAGES[len(HEADER_MESSAGES) :])
         return KINDS[kind.value], DIMENSIONS[dimension.value]
 
     return _of_each(one, text)
@@ -306,7 +266,7 @@ def _three(told: Any, likely: int, call: Callable[..., int]) -> Tuple[Any, Any, 
     while True:
         held = [_buffer(c, n) for c, n in zip("qQQ", room)]
         status = call(*_parts(*held))
-        if status != _TOO_SMALL:
+        if status != _names.TOO_SMALL:
             break
         room = (told.numbers, told.rings, told.polygons)
     _check(status)
@@ -320,7 +280,7 @@ def to_arrays(text: Any, places: int = 6) -> Any:
     column = _column(text)
     if column is not None:
         rows = _rows(to_arrays_column(column, places))
-        return [arrays if status in (0, _NULL) else _check(status) for status, arrays in rows]
+        return [arrays if status in (0, _names.NULL) else _check(status) for status, arrays in rows]
     data, told = _encoded(text), _library.Sizes()
 
     def call(*three):
@@ -391,7 +351,7 @@ def from_arrays_column(arrays: ColumnArrays, places: int = 6) -> Tuple[List[Opti
     held = [_held(code, values) for code, values in zip("IIqqQqQq", arrays)]
     rows = len(held[0])
     if len(arrays.statuses) != rows:
-        raise WktError(27, _MESSAGES[27])
+        raise WktError(_names.NOT_COLUMN, MESSAGES[_names.NOT_COLUMN])
     valid = b"" if not any(arrays.statuses) else _bits([None if status else status for status in arrays.statuses])
     ends, statuses = array.array("q", bytes(8 * (rows + 1))), (u32 * rows)()
 
