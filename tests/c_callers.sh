@@ -1,5 +1,5 @@
 #!/usr/bin/env bash
-# Builds the library for C and runs its callers in C, C++, Python and Rust, and compares the keys of tests/keys.tsv.
+# Builds the library for C, in capi/out, and runs its callers in C, C++, Python and Rust, and compares the keys of tests/keys.tsv.
 #
 # It needs crates/wkt_c proved: the gate runs it on what rt ci has just proved; alone, run rt check in crates/wkt_c first,
 # or name a library that is built already by WKT_C_LIB.
@@ -36,11 +36,11 @@ fi
 
 dir=$(mktemp -d)
 trap 'rm -rf "$dir"' EXIT
-out=$dir/lib
+out=$PWD/capi/out
 if [ -z "${WKT_C_LIB:-}" ]; then
     tests/lib_for_c.py 2> /dev/null || (cd crates/wkt_c && rt lib > /dev/null) || fail "wkt_c: rt lib fails"
 fi
-CC=$cc capi/build.sh "$out" || fail "capi/build.sh fails"
+CC=$cc capi/build.sh || fail "capi/build.sh fails"
 
 # The exported names are those of the header.
 sed -n 's/.*\(wkt_[a-z_]*\)(.*/\1/p' include/wkt.h | grep -vx wkt_status | sort -u > "$dir/declared"
