@@ -133,8 +133,9 @@ def python_table(groups):
 def rust_table(groups):
     lines = []
     for name, what, items in lists(groups):
-        lines += [f"/// {what}", f"pub const {name}: [&str; {len(items)}] = ["]
-        lines += [f"    {item}," for item in items] + ["];"]
+        head, row = f"pub const {name}: [&str; {len(items)}] = [", ", ".join(items)
+        # As rustfmt lays it out.
+        lines += [f"/// {what}"] + ([head + row + "];"] if len(row) <= 58 else [head, *(f"    {it}," for it in items), "];"])
     for row in groups["status"]:
         lines += [f"/// {row.text}.", f"pub const {row.name}: u32 = {row.number};"]
     return lines
@@ -224,34 +225,38 @@ def read_file(path):
         return None
 
 
-def exchanged(path, one, other):
-    """A reader of the files in which two texts stand in each other's place in one file."""
+def swapped(text, first, second):
+    """The text with two spans of it in each other's place."""
+    (a, b), (c, d) = sorted((first, second))
+    return text[:a] + text[c:d] + text[b:c] + text[a:b] + text[d:]
 
-    def read(asked):
-        text = read_file(asked)
-        if asked == path:
-            text = text.replace(one, "\0").replace(other, one).replace("\0", other)
-        return text
 
-    return read
+def spans(path, text, groups):
+    """Pairs of spans of a file, of which each names what the list has for another row."""
+    begin, end = 0, len(text)
+    if path in TABLES:
+        begin = text.index(f"names.py: {TABLES[path]}")
+        end = text.index("names.py: end")
+    for rows in groups.values() if path in TABLES else [groups["message"]] if path.endswith(".md") else []:
+        places = [(text.find(row.text, begin, end), len(row.text)) for row in rows if len(row.text) > 3]
+        places = sorted({(at, at + length) for at, length in places if at >= 0})
+        yield from (it for it in zip(places, places[1:]) if it[0][1] <= it[1][0])
+    for file, _, pattern, _ in by_hand(groups):
+        if file == path:
+            places = [found.span(found.lastindex) for found in re.finditer(pattern, text, re.M)]
+            yield from zip(places, places[1:])
 
 
 def not_refused():
-    """The files in which two texts can be exchanged without a difference."""
+    """The files in which two names can be exchanged without a difference."""
     groups = rows_of(read_file(LIST))
     found = []
     for path in [*TABLES, *dict.fromkeys(it[0] for it in by_hand(groups)), "docs/GRAMMAR.md"]:
-        tried = 0
-        for rows in groups.values():
-            for one, other in zip(rows, rows[1:]):
-                for a, b in ((one.text, other.text), (one.name, other.name), (f"= {one.number}", f"= {other.number}")):
-                    text = read_file(path)
-                    if len(a) > 3 and len(b) > 3 and a in text and b in text and a not in b and b not in a:
-                        tried += 1
-                        if not differences(exchanged(path, a, b)):
-                            found.append(f"{path}: `{a}` and `{b}` can be exchanged")
-        if not tried and path != "crates/wkt_read/specs/Items.antt":
-            found.append(f"{path}: nothing in it could be exchanged")
+        text = read_file(path)
+        for first, second in spans(path, text, groups):
+            other = swapped(text, first, second)
+            if not differences(lambda asked: other if asked == path else read_file(asked)):
+                found.append(f"{path}: `{text[slice(*first)]}` and `{text[slice(*second)]}` can be exchanged")
     return found
 
 

@@ -78,7 +78,7 @@ def _check(status: int, messages: Sequence[str] = MESSAGES) -> None:
     if status == _names.NO_MEMORY:
         raise MemoryError
     if status:
-        raise WktError(status, messages.get(status, "Status %d" % status))
+        raise WktError(status, messages[status])
 
 
 def _places(places: int) -> int:

@@ -61,19 +61,9 @@ pub const KIND_WORDS: [&str; 7] = [
     "GEOMETRYCOLLECTION",
 ];
 /// The dimensions, at their numbers.
-pub const DIMENSIONS: [&str; 4] = [
-    "XY",
-    "XYZ",
-    "XYM",
-    "XYZM",
-];
+pub const DIMENSIONS: [&str; 4] = ["XY", "XYZ", "XYM", "XYZM"];
 /// What stands after a kind word for each.
-pub const DIMENSION_WORDS: [&str; 4] = [
-    "",
-    "Z",
-    "M",
-    "ZM",
-];
+pub const DIMENSION_WORDS: [&str; 4] = ["", "Z", "M", "ZM"];
 /// What could stand where a text is refused, at its number.
 pub const EXPECTED: [&str; 11] = [
     "a kind of geometry, such as POINT,",
