@@ -23,11 +23,15 @@ fn continues(byte: u8) -> bool {
 
 /// Goes back so many characters, or to the line's begin: where that is, and how many they are.
 fn back(text: &[u8], from: usize, most: usize) -> (usize, usize) {
-    let mut at = from.min(text.len());
+    let front = text.get(..from).unwrap_or(text);
+    let mut at = front.len();
     let mut count = 0;
-    'back: while at > 0 && count < most && text[at - 1] != b'\n' {
-        at -= 1;
-        if !continues(text[at]) {
+    for byte in front.iter().rev() {
+        if count >= most || *byte == b'\n' {
+            break;
+        }
+        at = at.saturating_sub(1);
+        if !continues(*byte) {
             count += 1;
         }
     }
@@ -38,14 +42,17 @@ fn back(text: &[u8], from: usize, most: usize) -> (usize, usize) {
 fn forth(text: &[u8], from: usize, most: usize) -> (usize, usize) {
     let mut at = from;
     let mut count = 0;
-    'forth: while at < text.len() && text[at] != b'\n' {
-        if !continues(text[at]) {
+    for byte in text.get(from..).unwrap_or(&[]) {
+        if *byte == b'\n' {
+            break;
+        }
+        if !continues(*byte) {
             if count >= most {
                 break;
             }
             count += 1;
         }
-        at += 1;
+        at = at.saturating_add(1);
     }
     (at, count)
 }
@@ -58,7 +65,7 @@ impl<'a> Excerpt<'a> {
         let (to, after) = forth(bytes, start, WIDTH.saturating_sub(before));
         let (from, _) = back(bytes, start, WIDTH.saturating_sub(after));
         let end = end.min(to).max(start);
-        let ends_line = to >= bytes.len() || bytes[to] == b'\n';
+        let ends_line = matches!(bytes.get(to), None | Some(b'\n'));
         let after = text.get(end..to).unwrap_or("");
         Excerpt {
             before: text.get(from..start).unwrap_or(""),
@@ -68,7 +75,7 @@ impl<'a> Excerpt<'a> {
             } else {
                 after
             },
-            begins_line: from == 0 || bytes.get(from.wrapping_sub(1)) == Some(&b'\n'),
+            begins_line: matches!(bytes.get(..from).and_then(|front| front.last()), None | Some(b'\n')),
             ends_line,
         }
     }

@@ -190,31 +190,26 @@ fn read_letters(
     words: &mut Words<'_>,
     options: &mut Options,
 ) -> Result<Option<Request>, UsageError> {
-    let mut letters = word.get(1..).unwrap_or("");
-    for _ in 0..u64::MAX {
-        let Some(letter) = letters.chars().next() else {
-            break;
-        };
-        letters = letters.get(letter.len_utf8()..).unwrap_or("");
+    let letters = word.get(1..).unwrap_or("");
+    for (at, letter) in letters.char_indices() {
         let Some(row) = rows()
             .into_iter()
             .find(|row| row.letter == letter && letter != ' ')
         else {
             return Err(UsageError::UnknownOption(copy(alloc, word)?));
         };
-        let asked = if !row.takes_value {
-            set(alloc, word, row.flag, "", options)?
-        } else if !letters.is_empty() {
-            let value = letters;
-            letters = "";
-            set(alloc, word, row.flag, value, options)?
-        } else {
-            match words.next() {
-                Some(value) => set(alloc, word, row.flag, value, options)?,
-                None => return Err(UsageError::NoValue(copy(alloc, word)?)),
-            }
-        };
-        match asked {
+        if row.takes_value {
+            let rest = at.saturating_add(letter.len_utf8());
+            let value = match letters.get(rest..) {
+                None | Some("") => words.next(),
+                joined => joined,
+            };
+            return match value {
+                Some(value) => set(alloc, word, row.flag, value, options),
+                None => Err(UsageError::NoValue(copy(alloc, word)?)),
+            };
+        }
+        match set(alloc, word, row.flag, "", options)? {
             Some(request) => return Ok(Some(request)),
             None => {}
         }

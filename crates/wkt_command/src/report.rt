@@ -101,18 +101,21 @@ pub struct Thousands(pub u64);
 
 impl fmt::Display for Thousands {
     fn fmt<W: fmt::Write>(&self, f: &mut Formatter<W>) -> fmt::Result {
-        let mut unit = 1_000_000_000_000_000_000u64;
-        let mut begun = false;
-        for _ in 0..7u8 {
-            let group = self.0 / unit % 1000;
-            if begun {
-                write!(f, ",{group:03}")?;
-            } else if group > 0 || unit == 1 {
-                write!(f, "{group}")?;
-                begun = true;
-            }
-            unit = (unit / 1000).max(1);
+        let mut groups = [0u64; 7];
+        let mut rest = self.0;
+        for group in groups.iter_mut() {
+            *group = rest % 1000;
+            rest /= 1000;
         }
-        Ok(())
+        let mut is_begun = false;
+        for group in groups.iter().rev() {
+            if is_begun {
+                write!(f, ",{group:03}")?;
+            } else if *group > 0 {
+                write!(f, "{group}")?;
+                is_begun = true;
+            }
+        }
+        if is_begun { Ok(()) } else { f.write_char('0') }
     }
 }
