@@ -49,7 +49,7 @@ done
 echo "examples: the output of wktline"
 
 if command -v python3 > /dev/null; then
-    WKT_LIB=$out/libwkt.so PYTHONDONTWRITEBYTECODE=1 PYTHONPATH=python python3 -W error -m unittest -q python/tests/test_*.py > "$dir/said" 2>&1 ||
+    WKT_LIB=$out/libwkt.so PYTHONDONTWRITEBYTECODE=1 PYTHONPATH=python python3 -W error -m unittest -q python/tests/test_wkt.py > "$dir/said" 2>&1 ||
         { cat "$dir/said"; fail "Python: the tests fail"; }
     echo "Python: $(grep '^Ran' "$dir/said"), $(tail -n 1 "$dir/said")"
 else
