@@ -12,10 +12,10 @@ use std::alloc::Global;
 /// Standard output fails, or out of memory.
 pub fn status(rt: &HostRuntime, options: &Options) -> Result<u8, RunError> {
     let alloc = rt.alloc();
-    let mut rooms = [Room::new(alloc), Room::new(alloc)];
-    let [one, other] = &mut rooms;
-    let first = canonical(rt, options, 0, one)?;
-    let second = canonical(rt, options, 1, other)?;
+    let mut one = Room::new(alloc);
+    let mut other = Room::new(alloc);
+    let first = canonical(rt, options, 0, &mut one)?;
+    let second = canonical(rt, options, 1, &mut other)?;
     let (Some(first), Some(second)) = (first, second) else {
         return Ok(2);
     };
