@@ -14,7 +14,6 @@ use Rattle.wkt_flats.specs.Arrays.{AreOf, IsNotFlat, IsNoArrays}
 pub out_of_memory : {N : Type 0} (read : List ℕ → Option N) (text : List ℕ) (status : ℕ) → status ≡ 22 → Refuses read text status
 out_of_memory read text status e = record {
   no_front = λ _ h. absurd (omega (arith, e, h));
-  message = λ _ h. absurd (omega (arith, e, h));
   bad = λ h. absurd (omega (arith, e, h));
   not_utf8 = λ h _. absurd (omega (arith, e, h));
   others = inr (inr e);
@@ -25,7 +24,6 @@ out_of_memory read text status e = record {
 pub no-text : {N : Type 0} (read : List ℕ → Option N) (text : List ℕ) (status : ℕ) → status ≡ 20 → (IsUtf8 text → ⊥) → Refuses read text status
 no-text read text status e bad = record {
   no_front = λ _ h. absurd (omega (arith, e, h));
-  message = λ _ h. absurd (omega (arith, e, h));
   bad = λ h. absurd (omega (arith, e, h));
   not_utf8 = λ _ u. bad u;
   others = inr (inl e);
