@@ -5,7 +5,28 @@ use std::test::Fail;
 use wkt::geo_types::{Coord, Geometry, Rect};
 use wkt::geo_types_from_wkt::ConvertFrom;
 use wkt::to_wkt::{Counted, push_geometry};
-use wkt::{AnyError, FromWktStr, ToWkt, Wkt, infer_type, read_whole};
+use wkt::{AnyError, FromWktStr, ToWkt, WholeError, Wkt, infer_type, read_whole};
+
+// The text of the flat geometry that a text is.
+fn flat_of_whole(alloc: Global, text: &str) -> Result<String, AnyError> {
+    let flat = Geometry::<i32>::convert_from(alloc, read_whole(alloc, text)?)?;
+    Ok(flat.wkt_string(alloc)?)
+}
+
+#[test]
+fn reads_whole_into_flat(rt: HostRuntime) -> Result<(), Fail> {
+    let alloc = rt.alloc();
+    equal(
+        &rt,
+        flat_of_whole(alloc, "POINT Z(1 2 3) ")?.as_str(),
+        "POINT(1 2)",
+    );
+    match flat_of_whole(alloc, "POINT(1 2) x") {
+        Err(AnyError::Whole(WholeError::Rest(at))) => equal(&rt, at, 10),
+        _ => assert!(rt; false),
+    }
+    Ok(())
+}
 
 #[test]
 fn writes(rt: HostRuntime) -> Result<(), Fail> {
@@ -42,8 +63,7 @@ fn pushed(alloc: Global, out: &mut String) -> Result<(), AnyError> {
     let mut bytes = Vec::new(alloc);
     bytes.push(1u8)?;
     rect.write_wkt(alloc, &mut Counted::new(&mut bytes))?;
-    let flat = Geometry::<i32>::convert_from(alloc, read_whole(alloc, "POINT Z(1 2 3) ")?)?;
-    let wkt = Wkt::<i32>::from_str(alloc, flat.wkt_string(alloc)?.as_str())?.try_clone(alloc)?;
+    let wkt = Wkt::<i32>::from_str(alloc, "POINT(1 2)")?.try_clone(alloc)?;
     push_geometry(out, &wkt)?;
     Ok(())
 }
