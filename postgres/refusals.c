@@ -125,7 +125,7 @@ Datum refuse(Node *context, const Question *asked, const Refusal *why) {
     Place place;
 
     if (place_of(asked, why, &place)) {
-        hint = hint_of(asked, &place);
+        if (why->status != FOLLOWED) hint = hint_of(asked, &place);
         detail = psprintf("At character %zu: %s was expected.", characters(asked->utf8, place.start) + 1, place.expected);
     } else
         detail = psprintf("%s.", message_of(why));
