@@ -1,0 +1,37 @@
+"""What the programs in Python share: the doubles, the keys, and the lines that are printed."""
+import sys
+
+import wkt
+
+
+def key_of(text, places=18):
+    """The key of a whole text, or None where it is refused."""
+    try:
+        return wkt.canonical(text, places)
+    except wkt.WktError:
+        return None
+
+
+def rows(program, call, write, read, is_refused, places=18):
+    """A line for each sort of doubles.
+
+    write(x, y) gives the texts of points; read(texts) gives their numbers again. is_refused(x) is the rule.
+    """
+    sorts = {}
+    with open(sys.argv[1], encoding="utf-8") as doubles:
+        for line in doubles:
+            sort, x, y = line.split("\t")
+            sorts.setdefault(sort, []).append((float(x), float(y)))
+    for sort, points in sorts.items():
+        texts = write(points)
+        keys = [key_of(text, places) for text in texts]
+        against = sum((key is None) != (is_refused(x) or is_refused(y)) for key, (x, y) in zip(keys, points))
+        kept = [(key, point) for key, point in zip(keys, points) if key is not None]
+        again = read([key for key, _ in kept])
+        same = sum(key_of(text, places) == key for text, (key, _) in zip(write(again), kept))
+        exact = sum(found == point for found, (_, point) in zip(again, kept))
+        print(program, call, sort, len(texts), len(kept), same, exact, against, sep="\t")
+
+
+# The number of the greatest size that 18 places hold, and so the least double above it.
+TOO_LARGE = 170141183460469231731.687303715884105727
