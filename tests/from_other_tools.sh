@@ -23,14 +23,17 @@ python=python3
 printf '%-12s %-44s %-8s %7s %7s %7s %7s\n' program call doubles texts read same exact
 # told FILE: lines of program, call, sort of doubles, texts, read, kept the same, those with both numbers exact, against the rule
 told() {
+    grep -E "^([^	]*	){2}[^	]*$" "$1" >> "$work/again" || true
+    grep -vE "^([^	]*	){2}[^	]*$" "$1" > "$work/counts"
+    cut -f 1 "$work/counts" | uniq >> "$work/programs"
     while IFS=$'\t' read -r program call sort texts read same exact against; do
         printf '%-12s %-44s %-8s %7s %7s %7s %7s\n' "$program" "$call" "$sort" "$texts" "$read" "$same" "$exact"
         [ "$against" = 0 ] && [ "$read" = "$same" ] && [ "$read" -gt 0 ] || { echo "wrong: $against against the rule, or not the same"; status=1; }
-    done < "$1"
+    done < "$work/counts"
 }
 
 for tool in shapely gdal; do
-    if WKT_LIB=$wkt/libwkt.so PYTHONDONTWRITEBYTECODE=1 PYTHONPATH=$root/python "$python" "$there/$tool.py" "$work/doubles" > "$work/$tool" 2> "$work/err"; then
+    if WKT_LIB=$wkt/libwkt.so PYTHONDONTWRITEBYTECODE=1 PYTHONPATH=$root/python "$python" "$there/$tool.py" "$work/doubles" "$there/kinds" > "$work/$tool" 2> "$work/err"; then
         told "$work/$tool"
     else
         echo "$tool: $(tail -n 1 "$work/err")"
@@ -39,14 +42,15 @@ for tool in shapely gdal; do
 done
 if echo '#include <geos_c.h>' | gcc -E - > /dev/null 2>&1; then
     gcc -O2 -Wall -Wextra -I"$wkt" "$there/geos.c" "$wkt/libwkt.a" -lgeos_c -lm -o "$work/geos_texts"
-    "$work/geos_texts" < "$work/doubles" > "$work/geos"
+    "$work/geos_texts" "$work/doubles" "$there/kinds" > "$work/geos"
     told "$work/geos"
 else
     echo "no headers of GEOS"
 fi
 if command -v sqlite3 > /dev/null && sqlite3 :memory: "select load_extension('mod_spatialite')" > /dev/null 2>&1; then
     cp "$root"/sqlite/{Makefile,wkt_sqlite.c} "$work" && make -s -C "$work" WKT="$wkt" > "$work/make.log" 2>&1 || { cat "$work/make.log"; exit 1; }
-    sqlite3 -cmd ".load $work/mod_wkt" -cmd ".load mod_spatialite" "$work/db" ".mode tabs" "create table doubles (sort text, x real, y real)" ".import $work/doubles doubles" ".read $there/spatialite.sql" > "$work/spatialite"
+    sqlite3 -cmd ".load $work/mod_wkt" -cmd ".load mod_spatialite" "$work/db" ".mode tabs" "create table doubles (sort text, x real, y real)" ".import $work/doubles doubles" \
+        "create table kinds (key text)" ".import $there/kinds kinds" ".read $there/spatialite.sql" > "$work/spatialite"
     told "$work/spatialite"
 else
     echo "no SpatiaLite"
@@ -54,12 +58,17 @@ fi
 (
     start_server -c jit=off > "$work/server" || { cat "$work/server"; exit 1; }
     "$bin/psql" -X -q -At -F $'\t' -v ON_ERROR_STOP=1 -c "create extension wkt" -c "create extension postgis" \
-        -c "create table doubles (sort text, x float8, y float8)" -c "\\copy doubles from '$work/doubles'" -f "$there/postgis.sql"
+        -c "create table doubles (sort text, x float8, y float8)" -c "\\copy doubles from '$work/doubles'" -c "create table kinds (n serial, key text)" -c "\\copy kinds (key) from '$there/kinds'" -f "$there/postgis.sql"
 ) > "$work/postgis" || { cat "$work/postgis"; status=1; }
 case $(head -n 1 "$work/postgis") in
     *"not run") cat "$work/postgis" ;;
     *) told "$work/postgis" ;;
 esac
+# The keys of other kinds that don't stay the same, of the programs that are there.
+grep -f <(sed 's/.*/^&	/' "$work/programs" | sort -u) "$there/kinds.expected" | diff - "$work/again" > "$work/differ" ||
+    { echo "wrong: of tests/other_tools/kinds other keys stay the same"; cat "$work/differ"; status=1; }
+echo "of $(wc -l < "$there/kinds") keys of all kinds, these don't stay the same:"
+column -t -s $'\t' "$work/again" 2> /dev/null || cat "$work/again"
 echo "DuckDB: no package of it for Debian 12, so not tried"
 [ $status = 0 ] && echo "as docs/FROM_OTHER_TOOLS.md says"
 exit $status

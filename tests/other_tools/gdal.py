@@ -1,4 +1,4 @@
-"""GDAL's texts: gdal.py DOUBLES"""
+"""GDAL's texts: gdal.py DOUBLES KINDS"""
 import csv
 import os
 import subprocess
@@ -6,7 +6,7 @@ import sys
 import tempfile
 
 from osgeo import ogr
-from rows import rows
+from rows import kinds, rows
 
 
 def point(p):
@@ -34,6 +34,15 @@ def has_exponent(x):
     return abs(x) >= 1e15
 
 
-rows("GDAL", "g.ExportToWkt()", lambda points: [point(p).ExportToWkt() for p in points], read, has_exponent)
+rows("GDAL", "g.ExportToIsoWkt()", lambda points: [point(p).ExportToIsoWkt() for p in points], read, has_exponent)
 rows("GDAL", "ogr2ogr -f CSV -lco GEOMETRY=AS_WKT", lambda points: written([f"POINT({x!r} {y!r})" for x, y in points]),
      read, has_exponent)
+
+
+def again(key):
+    ogr.DontUseExceptions()
+    g = ogr.CreateGeometryFromWkt(key)
+    return g and g.ExportToIsoWkt()
+
+
+kinds("GDAL", again)

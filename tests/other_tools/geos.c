@@ -1,4 +1,4 @@
-/* GEOS's texts by its C API, with 15 places and with 6, of the doubles on standard input. */
+/* GEOS's texts by its C API, with 15 places and with 6: geos DOUBLES KINDS */
 #include <geos_c.h>
 #include <math.h>
 #include <stdio.h>
@@ -51,22 +51,43 @@ static void count(Counts *c, GEOSWKTWriter *writer, GEOSWKTReader *reader, uint3
     GEOSGeom_destroy(g);
 }
 
-int main(void) {
+/* The keys of the file that don't stay the same. */
+static void kinds(const char *file, GEOSWKTWriter *writer, GEOSWKTReader *reader) {
+    char key[256], again[256];
+    FILE *keys = fopen(file, "r");
+    while (keys && fgets(key, sizeof key, keys)) {
+        key[strcspn(key, "\n")] = 0;
+        GEOSGeometry *g = GEOSWKTReader_read(reader, key);
+        char *text = g ? GEOSWKTWriter_write(writer, g) : NULL;
+        if (!text)
+            strcpy(again, "not read there");
+        else if (!key_of(text, 18, again, sizeof again))
+            strcpy(again, "refused");
+        if (strcmp(key, again) != 0) printf("GEOS\t%s\t%s\n", key, again);
+        GEOSFree(text);
+        GEOSGeom_destroy(g);
+    }
+}
+
+int main(int count_of_words, char **words) {
     static const uint32_t digits[] = {15, 6};
     Counts counts[2][3];
     char line[256], sort[16];
     double x, y;
     int sorts = 0;
+    FILE *doubles = count_of_words == 3 ? fopen(words[1], "r") : NULL;
+    if (!doubles) return 2;
     initGEOS(silent, silent);
     GEOSWKTReader *reader = GEOSWKTReader_create();
     GEOSWKTWriter *writers[2];
     for (int i = 0; i < 2; i++) {
         writers[i] = GEOSWKTWriter_create();
         GEOSWKTWriter_setTrim(writers[i], 1);
+        GEOSWKTWriter_setOutputDimension(writers[i], 3);
         GEOSWKTWriter_setRoundingPrecision(writers[i], (int)digits[i]);
     }
     memset(counts, 0, sizeof counts);
-    while (fgets(line, sizeof line, stdin) && sscanf(line, "%15s %lf %lf", sort, &x, &y) == 3) {
+    while (fgets(line, sizeof line, doubles) && sscanf(line, "%15s %lf %lf", sort, &x, &y) == 3) {
         if (sorts == 0 || strcmp(counts[0][sorts - 1].sort, sort) != 0) {
             strcpy(counts[0][sorts].sort, sort);
             strcpy(counts[1][sorts++].sort, sort);
@@ -79,5 +100,6 @@ int main(void) {
             printf("GEOS\tGEOSWKTWriter: trim 1, precision %u\t%s\t%d\t%d\t%d\t%d\t%d\n", digits[i], c->sort, c->texts,
                    c->read, c->same, c->exact, c->against);
         }
+    kinds(words[2], writers[0], reader);
     return 0;
 }

@@ -11,3 +11,7 @@ select 'PostGIS', format('ST_AsText(g, %s)', n), sort, count(*), count(key),
        count(*) filter (where ST_X(ST_GeomFromText(key)) = x and ST_Y(ST_GeomFromText(key)) = y),
        count(*) filter (where (key is null) <> refused)
 from keys group by n, sort order by n desc, sort;
+
+create table again as
+    select n, key, wkt_canonical(ST_AsText(ST_GeomFromText(key), 15)) as again from kinds;
+select 'PostGIS', key, again from again where key <> again order by n;

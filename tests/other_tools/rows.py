@@ -1,4 +1,4 @@
-"""What the programs in Python share: the doubles, the keys, and the lines that are printed."""
+"""What the programs in Python share: NAME.py DOUBLES KINDS prints the lines that from_other_tools.sh takes."""
 import sys
 
 import wkt
@@ -31,6 +31,16 @@ def rows(program, call, write, read, is_refused, places=18):
         same = sum(key_of(text, places) == key for text, (key, _) in zip(write(again), kept))
         exact = sum(found == point for found, (_, point) in zip(again, kept))
         print(program, call, sort, len(texts), len(kept), same, exact, against, sep="\t")
+
+
+def kinds(program, again):
+    """The keys of the file `kinds` that don't stay the same: again(key) is the text of what the program reads, or None."""
+    with open(sys.argv[2], encoding="utf-8") as keys:
+        for key in keys.read().splitlines():
+            text = again(key)
+            found = "not read there" if text is None else key_of(text) or "refused"
+            if found != key:
+                print(program, key, found, sep="\t")
 
 
 # The number of the greatest size that 18 places hold, and so the least double above it.

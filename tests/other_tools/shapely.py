@@ -1,4 +1,4 @@
-"""Shapely's texts: shapely.py DOUBLES"""
+"""Shapely's texts: shapely.py DOUBLES KINDS"""
 import os
 import sys
 
@@ -8,7 +8,7 @@ import shapely.wkt
 from shapely.geometry import Point
 
 sys.path.append(os.path.dirname(os.path.abspath(__file__)))
-from rows import TOO_LARGE, rows
+from rows import TOO_LARGE, kinds, rows
 
 for places in 15, 6:
     rows(
@@ -19,3 +19,13 @@ for places in 15, 6:
         lambda x: abs(x) >= TOO_LARGE,
         places if places < 15 else 18,
     )
+
+
+def again(key):
+    try:
+        return shapely.wkt.dumps(shapely.wkt.loads(key), trim=True, rounding_precision=15)
+    except Exception:  # Each version has other errors.
+        return None
+
+
+kinds("Shapely", again)
