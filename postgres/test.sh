@@ -35,6 +35,8 @@ objects="select string_agg(pg_describe_object(classid, objid, objsubid), ',' ord
 
 # The statements of sql/, whose answers are in expected/.
 cd "$dir/work"
+# Over a library that takes stack for nesting, deep texts are refused.
+if grep -q WKT_NO_STACK "$wkt/wkt.h"; then rm expected/nested_1.out; else mv expected/nested_1.out expected/nested.out; fi
 tests=$(cd sql && printf '%s\n' *.sql | sed 's/\.sql$//')
 as "$regress" --inputdir=. --outputdir=. --bindir="$bin" --host="$PGHOST" --user=wkt --dbname=contrib_regression $tests \
     > regress.log 2>&1 || { status=1; cat regress.log regression.diffs; }
