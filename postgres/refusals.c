@@ -139,21 +139,14 @@ Datum refuse(Node *context, const Question *asked, const Refusal *why) {
 
 static size_t back_from(const uint8_t *utf8, size_t start) {
     size_t at = start, count = 0;
-    while (at > 0 && utf8[at - 1] != '\n' && count < AROUND) {
-        at--;
-        count += (utf8[at] & 0xC0) != 0x80;
-    }
-    while ((utf8[at] & 0xC0) == 0x80) at++;
+    while (at > 0 && utf8[at - 1] != '\n' && count < AROUND) count += (utf8[--at] & 0xC0) != 0x80;
     return at;
 }
 
 static size_t on_from(const uint8_t *utf8, size_t start, size_t length) {
     size_t at = start, count = 0;
-    while (at < length && utf8[at] != '\n' && utf8[at] != '\r') {
-        count += (utf8[at] & 0xC0) != 0x80;
-        if (count > AROUND) break;
-        at++;
-    }
+    for (; at < length && utf8[at] != '\n' && utf8[at] != '\r'; at++)
+        if ((utf8[at] & 0xC0) != 0x80 && ++count > AROUND) break;
     return at;
 }
 

@@ -9,12 +9,6 @@
 
 #include <wkt.h>
 
-#ifndef WKT_KIND_WORDS
-#define WKT_KIND_WORDS \
-    { "POINT", "LINESTRING", "POLYGON", "MULTIPOINT", "MULTILINESTRING", "MULTIPOLYGON", "GEOMETRYCOLLECTION" }
-#define WKT_DIMENSION_WORDS { "", "Z", "M", "ZM" }
-#endif
-
 #define MOST_PLACES 18
 
 /* A status of the extension's own, beside those of wkt.h: more than white space follows the geometry. */

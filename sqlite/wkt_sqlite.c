@@ -8,12 +8,6 @@ SQLITE_EXTENSION_INIT1
 #include <string.h>
 #include <wkt.h>
 
-#ifndef WKT_KIND_WORDS
-#define WKT_KIND_WORDS \
-    { "POINT", "LINESTRING", "POLYGON", "MULTIPOINT", "MULTILINESTRING", "MULTIPOLYGON", "GEOMETRYCOLLECTION" }
-#define WKT_DIMENSION_WORDS { "", "Z", "M", "ZM" }
-#endif
-
 #define MOST_PLACES 18
 /* How deep collections may nest where the library takes stack for each level, some 150 bytes: a thread may have little. */
 #ifndef DEEPEST
