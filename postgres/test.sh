@@ -2,7 +2,8 @@
 # Tests the extension over the library in FOLDER, in a server of its own: test.sh [FOLDER]
 #
 # FOLDER has wkt.h and libwkt.a; it is WKT_LIB_DIR without an argument, and capi/out without that. It needs PostgreSQL
-# with the headers of its server, gcc and make, and no root. RESULTS=FOLDER keeps what the statements print.
+# with the headers of its server, gcc and make, and no root. RESULTS=FOLDER keeps what the statements print, VERBOSE=1
+# says more.
 set -eu
 . "$(dirname "$0")/server.sh"
 library "${1:-}"
