@@ -12,6 +12,7 @@ use Rattle.wkt_events.specs.Walking.{Gives}
 use Rattle.wkt_events.specs.declared.text.Pen.{Pen}
 use Rattle.wkt_events.specs.declared.canonical.NoRoom.{NoRoom}
 use Rattle.wkt_events.proofs.EventTexts.{events-text}
+use Rattle.wkt_events.proofs.ReadNumbers.{events-utf8}
 use Rattle.wkt_events.proofs.Fronts.{front-of}
 
 -- what stands up to the end of what was written
@@ -25,11 +26,12 @@ behind at k n xs ys within long =
 module _ {N : Type 0} (read : List ℕ → Option N) (num : N → List ℕ) where
   -- a pen that had written nothing holds the text alone
   pub wrote-alone : (feed : Bool) (text : List ℕ) (end : ℕ) (old new : List ℕ) (before after : Pen N) → before.len ≡ 0 → length after.out.now ≡ length before.out.now
-      → Gives (pen_maker num) feed text (value_at read) events 0 before end after → new ≡ after.out.now → HasWritten read num (line_of feed text) 0 old new end after.len
+      → Gives (pen_maker read num) feed text (value_at read) events 0 before end after → new ≡ after.out.now → HasWritten read num (line_of feed text) 0 old new end after.len
   wrote-alone feed text end old new before after none free g tie = record {
     value = g.value;
-    front = front-of read feed text (pen_maker num) before after end g;
-    written = ap (take after.len) tie ∙ (let w = g.makes.unless free in w.written) ∙ ap (λ (n : ℕ). take n before.out.now ++ events_text num (events g.value)) none ∙ events-text num g.value;
+    front = front-of read feed text (pen_maker read num) before after end g;
+    utf8 = subst IsUtf8 (events-text num g.value) (events-utf8 num (events g.value) (g.makes.texts free));
+    written = ap (take after.len) tie ∙ (let w = g.makes.wrote.unless free in w.written) ∙ ap (λ (n : ℕ). take n before.out.now ++ events_text num (events g.value)) none ∙ events-text num g.value;
   }
 
   -- it stands behind what stood there
@@ -37,6 +39,7 @@ module _ {N : Type 0} (read : List ℕ → Option N) (num : N → List ℕ) wher
   wrote-behind t at k end n old back new within long h = record {
     value = h.value;
     front = h.front;
+    utf8 = h.utf8;
     written = behind at k n old new within long ∙ ap (λ l. take at old ++ l) h.written;
   }
 
@@ -44,4 +47,4 @@ module _ {N : Type 0} (read : List ℕ → Option N) (num : N → List ℕ) wher
   pub whole-text : (text bytes : List ℕ) (at : ℕ) (old new : List ℕ) (r : Result (Option (ℕ × ℕ)) NoRoom) → bytes ≡ text → IsUtf8 text → WritesFront read num false bytes at old new r → WritesCanonical read num text at old new r
   whole-text text bytes at old new (Ok (Some p)) same utf8 w = subst (λ (t : List ℕ). HasWritten read num t at old new p.0 p.1) same w
   whole-text text bytes at old new (Ok None) same utf8 w = subst (λ (t : List ℕ). WritesFront read num false t at old new (Ok None)) same w utf8
-  whole-text text bytes at old new (Err e) same utf8 w = tt
+  whole-text text bytes at old new (Err e) same utf8 w = w

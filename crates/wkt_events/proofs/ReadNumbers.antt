@@ -16,29 +16,11 @@ use Rattle.wkt_events.specs.declared.builder.Part.{Part}
 use Rattle.wkt_events.specs.declared.builder.Part.TheVariants as part
 use Rattle.wkt_events.specs.Events.{Event, further, inner, listed, numbers, coordinate, line, polygon, member, header, body, bodies, events}
 use Rattle.wkt_events.specs.Written.{kind_text, empty_text, separator}
-use Rattle.wkt_events.specs.PenMaker.{event_text, events_text}
-
--- The fact holds of each number of the events.
-abbrev pub EachNumber : {N : Type 0} → (N → Type 0) → List (Event N) → Type 0
-EachNumber P [] = Unit {0}
-EachNumber P (Event.Number place count x ∷ es) = P x × EachNumber P es
-EachNumber P (Event.Header k d ∷ es) = EachNumber P es
-EachNumber P (Event.Open p ∷ es) = EachNumber P es
-EachNumber P (Event.Comma p ∷ es) = EachNumber P es
-EachNumber P (Event.Close p ∷ es) = EachNumber P es
-EachNumber P (Event.Empty p ∷ es) = EachNumber P es
-EachNumber P (Event.Hollow p count rings ∷ es) = EachNumber P es
+use Rattle.wkt_events.specs.PenMaker.{event_text, events_text, EachNumber, each_append}
 
 module _ {N : Type 0} (P : N → Type 0) where
   each-append : (es fs : List (Event N)) → EachNumber P es → EachNumber P fs → EachNumber P (es ++ fs)
-  each-append [] fs h k = k
-  each-append (Event.Number place count x ∷ es) fs h k = (h.0, each-append es fs h.1 k)
-  each-append (Event.Header l d ∷ es) fs h k = each-append es fs h k
-  each-append (Event.Open p ∷ es) fs h k = each-append es fs h k
-  each-append (Event.Comma p ∷ es) fs h k = each-append es fs h k
-  each-append (Event.Close p ∷ es) fs h k = each-append es fs h k
-  each-append (Event.Empty p ∷ es) fs h k = each-append es fs h k
-  each-append (Event.Hollow p count rings ∷ es) fs h k = each-append es fs h k
+  each-append = each_append P
 
   all-take : (n : ℕ) (xs : List N) → AllByRecursion P xs → AllByRecursion P (take n xs)
   all-take zero xs h = tt

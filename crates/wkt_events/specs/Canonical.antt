@@ -5,26 +5,38 @@ use Rattle.wkt_access.specs.Shapes.{shape_of}
 use Rattle.wkt_access.specs.Texts.{shape_text}
 use Rattle.wkt_read.specs.Front.{Front, HasNoFront}
 use Rattle.wkt_events.specs.Left.{line_of}
+use Rattle.wkt_events.specs.LongTexts.{HasLongText}
 use Rattle.wkt_events.specs.declared.canonical.NoRoom.{NoRoom}
 
 module _ {N : Type 0} (read : List ℕ → Option N) (num : N → List ℕ) where
-  -- The text has a front that ends at `end`, and up to `n` stands what stood up to `len` and then the canonical text of its value.
+  -- The text has a front that ends at `end`, and the other text is the canonical one of the front's value.
+  pub record IsCanonicalTo (text canonical : List ℕ) (end : ℕ) : Type 0 where
+    pub value : Value N
+    pub front : Front read text value end
+    pub is : canonical ≡ shape_text num (shape_of value)
+
+  -- The text has a front, and the other text is the canonical one of the front's value.
+  abbrev pub IsCanonical : List ℕ → List ℕ → Type 0
+  IsCanonical text canonical = (end : ℕ) × IsCanonicalTo text canonical end
+
+  -- The text has a front that ends at `end`, and up to `n` stands what stood up to `len` and then the canonical text of its value, which is UTF-8.
   pub record HasWritten (text : List ℕ) (len : ℕ) (old new : List ℕ) (end n : ℕ) : Type 0 where
     pub value : Value N
     pub front : Front read text value end
     pub written : take n new ≡ take len old ++ shape_text num (shape_of value)
+    pub utf8 : IsUtf8 (shape_text num (shape_of value))
 
-  -- That, or the text has no front.
+  -- That, or the text has no front; or a number's text was too long.
   abbrev pub WritesCanonical : List ℕ → ℕ → List ℕ → List ℕ → Result (Option (ℕ × ℕ)) NoRoom → Type 0
   WritesCanonical text len old new (Ok (Some p)) = HasWritten text len old new p.0 p.1
   WritesCanonical text len old new (Ok None) = HasNoFront read text
-  WritesCanonical text len old new (Err e) = Unit {0}
+  WritesCanonical text len old new (Err e) = HasLongText read num
 
   -- The same of the first line of bytes, if they end at a line feed: it has no front where it is UTF-8.
   abbrev pub WritesFront : Bool → List ℕ → ℕ → List ℕ → List ℕ → Result (Option (ℕ × ℕ)) NoRoom → Type 0
   WritesFront feed text len old new (Ok (Some p)) = HasWritten (line_of feed text) len old new p.0 p.1
   WritesFront feed text len old new (Ok None) = IsUtf8 (line_of feed text) → HasNoFront read (line_of feed text)
-  WritesFront feed text len old new (Err e) = Unit {0}
+  WritesFront feed text len old new (Err e) = HasLongText read num
 
 -- What was written ends so far before the end of the room.
 abbrev pub LeavesRoom : List ℕ → Result (Option (ℕ × ℕ)) NoRoom → Type 0

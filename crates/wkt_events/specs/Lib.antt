@@ -7,6 +7,7 @@ pub mod Heads
 pub mod Behind
 pub mod Whole
 pub mod Numbers
+pub mod LongTexts
 pub mod PenMaker
 pub mod Plus
 pub mod Spaces
