@@ -1,10 +1,10 @@
 -- What bytes hold when a pen wrote there, from the first on or behind others.
-use Rattle.std.proofs.Common.{◌≡◌, ℕ, ◌+◌, ◌≤◌, List, ◌++◌, length, take, drop, Option, Some, None, Result, Ok, Err, Bool, false, ap, subst, ◌∙◌, arith, IsUtf8}
+use Rattle.std.proofs.Common.{◌≡◌, ℕ, ◌+◌, ◌≤◌, List, ◌++◌, length, take, drop, Option, Some, None, Result, Ok, Err, Bool, false, ap, sym, subst, ◌∙◌, arith, IsUtf8}
 use Rattle.std.proofs.Math.Seq.{take-append-add}
 use Rattle.std.proofs.lemmas.List.{take-append-le, length-take-le}
 use borrow.Rule.Slice.PartMut.{put_mid}
 use Rattle.wkt_read.specs.Parser.Reading.{value_at}
-use Rattle.wkt_events.specs.Canonical.{HasWritten, WritesFront, WritesCanonical}
+use Rattle.wkt_events.specs.Canonical.{IsCanonicalTo, HasWritten, WritesFront, WritesCanonical}
 use Rattle.wkt_events.specs.Events.{events}
 use Rattle.wkt_events.specs.Left.{line_of}
 use Rattle.wkt_events.specs.PenMaker.{pen_maker, events_text}
@@ -42,6 +42,10 @@ module _ {N : Type 0} (read : List ℕ → Option N) (num : N → List ℕ) wher
     utf8 = h.utf8;
     written = behind at k n old new within long ∙ ap (λ l. take at old ++ l) h.written;
   }
+
+  -- it stands at the front
+  pub wrote-into : (t : List ℕ) (old new : List ℕ) (end n : ℕ) → n ≤ length new → HasWritten read num t 0 old new end n → IsCanonicalTo read num t (take n new) end × (n ≤ length new) × IsUtf8 (take n new)
+  wrote-into t old new end n within h = (record { value = h.value; front = h.front; is = h.written }, within, subst IsUtf8 (sym h.written) h.utf8)
 
   -- a text is its own line where no line feed ends it
   pub whole-text : (text bytes : List ℕ) (at : ℕ) (old new : List ℕ) (r : Result (Option (ℕ × ℕ)) NoRoom) → bytes ≡ text → IsUtf8 text → WritesFront read num false bytes at old new r → WritesCanonical read num text at old new r

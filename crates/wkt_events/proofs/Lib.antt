@@ -22,6 +22,7 @@ pub mod LineTexts
 pub mod Listing
 pub mod Members
 pub mod Nests
+pub mod Nothings
 pub mod NextWords
 pub mod PenNumbers
 pub mod PointHead
@@ -30,6 +31,7 @@ pub mod Rooms
 pub mod RunEnds
 pub mod RunTexts
 pub mod Runs
+pub mod ShortTexts
 pub mod Stores
 pub mod TextsUtf8
 pub mod Utf8Front

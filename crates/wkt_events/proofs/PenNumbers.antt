@@ -69,14 +69,14 @@ module _ {N : Type 0} (read : List ℕ → Option N) (num : N → List ℕ) (fee
   first end order = get_or-between text at end 0 0 (omega arith) ∙ ap (λ (i : ℕ). get_or text i 0) (omega arith)
 
   -- a number is the lexeme that comes next
-  takes-number : (end : ℕ) (x : N) → IsNumberAt read text at end x → TakesOne feed text at (Num (without_plus (slice_range text at end))) end
+  pub takes-number : (end : ℕ) (x : N) → IsNumberAt read text at end x → TakesOne feed text at (Num (without_plus (slice_range text at end))) end
   takes-number end x h =
       let long : length (slice_range text at end) ≡ end - at = length-between text at end h.ends.inside in
       let is : lexeme_of (slice_range text at end) ≡ Num (without_plus (slice_range text at end)) = number-lexeme (slice_range text at end) (omega (arith, long, h.order)) (subst (λ b. IsTrue (starts_number b)) (sym (first end h.order)) h.begins) in
       subst (λ l. TakesOne feed text at l end) is (takes-run feed text at end h.ends h.order)
 
   -- where there is none, none is read
-  refuses : Legible feed text at → class_in feed (get_or text at 0) ≢ White → NoNumber read text at → IsErr (number_at read (left feed text at))
+  pub refuses : Legible feed text at → class_in feed (get_or text at 0) ≢ White → NoNumber read text at → IsErr (number_at read (left feed text at))
   unfolding number_at
   refuses legible other h = go (class_in feed (get_or text at 0)) refl (mark-in feed (get_or text at 0))
     where

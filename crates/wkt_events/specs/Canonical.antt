@@ -1,5 +1,5 @@
 -- The canonical text of what a text begins with.
-use Rattle.std.specs.Prelude.{◌≡◌, ℕ, ◌++◌, List, length, take, ◌+◌, ◌≤◌, Option, Some, None, Result, Ok, Err, Bool, IsUtf8}
+use Rattle.std.specs.Prelude.{◌≡◌, ℕ, ◌++◌, List, length, take, ◌+◌, ◌*◌, ◌<◌, ◌≤◌, ◌⊎◌, Option, Some, None, Result, Ok, Err, Bool, IsUtf8}
 use Rattle.wkt_access.specs.Values.{Value}
 use Rattle.wkt_access.specs.Shapes.{shape_of}
 use Rattle.wkt_access.specs.Texts.{shape_text}
@@ -7,6 +7,11 @@ use Rattle.wkt_read.specs.Front.{Front, HasNoFront}
 use Rattle.wkt_events.specs.Left.{line_of}
 use Rattle.wkt_events.specs.LongTexts.{HasLongText}
 use Rattle.wkt_events.specs.declared.canonical.NoRoom.{NoRoom}
+use Rattle.wkt_events.specs.declared.canonical.Written.{Written}
+
+-- The text has a front that ends at `end`.
+abbrev pub EndsFront : {N : Type 0} → (List ℕ → Option N) → List ℕ → ℕ → Type 0
+EndsFront {N} read text end = (value : Value N) × Front read text value end
 
 module _ {N : Type 0} (read : List ℕ → Option N) (num : N → List ℕ) where
   -- The text has a front that ends at `end`, and the other text is the canonical one of the front's value.
@@ -31,6 +36,12 @@ module _ {N : Type 0} (read : List ℕ → Option N) (num : N → List ℕ) wher
   WritesCanonical text len old new (Ok (Some p)) = HasWritten text len old new p.0 p.1
   WritesCanonical text len old new (Ok None) = HasNoFront read text
   WritesCanonical text len old new (Err e) = HasLongText read num
+
+  -- The canonical text stands at the front of a buffer; or the text has no front; or the buffer was too short, or a number's text too long.
+  abbrev pub WritesInto : List ℕ → List ℕ → List ℕ → Result (Option Written) NoRoom → Type 0
+  WritesInto text old new (Ok (Some w)) = IsCanonicalTo text (take w.len new) w.end × (w.len ≤ length new) × IsUtf8 (take w.len new)
+  WritesInto text old new (Ok None) = HasNoFront read text
+  WritesInto text old new (Err e) = (length old < 2 * length text + 65) ⊎ HasLongText read num
 
   -- The same of the first line of bytes, if they end at a line feed: it has no front where it is UTF-8.
   abbrev pub WritesFront : Bool → List ℕ → ℕ → List ℕ → List ℕ → Result (Option (ℕ × ℕ)) NoRoom → Type 0

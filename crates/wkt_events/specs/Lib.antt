@@ -13,7 +13,7 @@ pub mod Plus
 pub mod Spaces
 pub mod Written
 pub mod Canonical
+pub mod NothingMaker
 pub mod Feeds
 pub mod Through
-pub mod ReadTexts
 pub mod Answers

@@ -16,6 +16,10 @@ pub record IsNumberAt {T : Type 0} (read : List ℕ → Option T) (text : List �
   pub begins : IsTrue (starts_number (get_or text at 0))
   pub reads : read (without_plus (slice_range text at end)) ≡ Some x
 
+-- A number stands there up to `end`.
+abbrev pub EndsNumber : {T : Type 0} → (List ℕ → Option T) → List ℕ → ℕ → ℕ → Type 0
+EndsNumber {T} read text at end = (x : T) × IsNumberAt read text at end x
+
 -- A run ends at `end`, or none begins at `at`, and no number that is read stands there, if the run is UTF-8.
 pub record NoNumber {T : Type 0} (read : List ℕ → Option T) (text : List ℕ) (at : ℕ) : Type 0 where
   pub end : ℕ
