@@ -1,13 +1,12 @@
-use Rattle.std.proofs.Common.{subst, codes}
+-- The name stands there, and a parenthesis behind it.
+use Rattle.std.proofs.Common.{◌≡◌, subst, sym, arith, length, take, drop, ap, ◌∙◌, codes}
 use Rattle.std.proofs.lemmas.List.{take_rest}
-use Rattle.wkt_events.specs.Behind.{BeginsBytes}
-use Rattle.wkt_events.proofs.PointHead.{point-next, point-apart}
+use Rattle.wkt_events.specs.Behind.{OpensThere}
+use Rattle.wkt_events.proofs.NamedHeads.{point-opens}
 use Rattle.wkt_events.proofs.header.point_head.Goals as goal
 
-pub returns-then-is_point : goal.returns-then-is_point
-returns-then-is_point g c =
-    point-next g.T.WktNum.read _ c.args.text.now c.args.at c.requires (subst (BeginsBytes (codes "POINT(")) (take_rest c.args.text.now c.args.at) c.if-is_point.ensures)
-
-pub returns-then-is_point_apart : goal.returns-then-is_point_apart
-returns-then-is_point_apart g c =
-    point-apart g.T.WktNum.read _ c.args.text.now c.args.at c.requires (subst (BeginsBytes (codes "POINT (")) (take_rest c.args.text.now c.args.at) c.if-is_point_apart.ensures)
+pub returns-in-Some : goal.returns-in-Some
+returns-in-Some g c =
+    let rest = take_rest c.args.text.now c.args.at in
+    point-opens g.T.WktNum.read _ c.args.text.now c.args.at c.requires (ap (take 5) (sym rest) ∙ c.if-not-is_point.ensures) c.in-Some.n (subst (λ l. OpensThere l 5 c.in-Some.n) rest c.in-Some.ensures)
+    (omega (arith, ap length rest, c.if-rest-lt8.false))
