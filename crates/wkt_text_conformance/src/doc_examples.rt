@@ -4,13 +4,14 @@ use serde_json::Value;
 use std::alloc::Global;
 use std::test::Fail;
 use wkt::deserialize::wkt_from_value;
+use wkt::events::NoRoom;
 use wkt::geo_types::{Coord, Geometry, Rect};
 use wkt::geo_types_from_wkt::{ConvertFrom, try_into_geometry};
 use wkt::to_wkt::{Counted, push_geometry};
 use wkt::types::{Dimension, GeometryType};
 use wkt::{
-    AnyError, Decimal, FromWktStr, ReadError, ToWkt, TryFromWkt, WholeError, Wkt, infer_type,
-    read_whole, same_geometry,
+    AnyError, Decimal, FromWktStr, ReadError, ToWkt, TryFromWkt, WholeError, Wkt, canonical_into,
+    canonical_text, front_end, infer_type, read_whole, same_geometry,
 };
 
 #[test]
@@ -23,6 +24,34 @@ fn reads(rt: HostRuntime) -> Result<(), Fail> {
         "LINESTRING Z(1 2 3,4 5.5 6)",
     );
     Ok(())
+}
+
+#[test]
+fn writes_the_canonical_text(rt: HostRuntime) -> Result<(), Fail> {
+    let alloc = rt.alloc();
+    let key = canonical_text::<Decimal<6>>(alloc, "point z (1.50 2 -0) and more")?;
+    equal(&rt, key.as_str(), "POINT Z(1.5 2 0)");
+    Ok(())
+}
+
+#[test]
+fn writes_it_into_a_buffer(rt: HostRuntime) {
+    let mut buffer = [b'x'; 111];
+    let text = "point (1.50 2) and more";
+    let Ok(Some(written)) = canonical_into::<Decimal<6>>(text, &mut buffer) else {
+        panic!(rt; "nothing was written");
+    };
+    assert_eq!(rt; written.end, 14);
+    assert!(rt; &buffer[..written.len] == b"POINT(1.5 2)");
+    let short = canonical_into::<Decimal<6>>(text, &mut buffer[..110]);
+    assert!(rt; matches!(short, Err(NoRoom)));
+    assert!(rt; matches!(canonical_into::<Decimal<6>>("POINT(1)", &mut buffer), Ok(None)));
+}
+
+#[test]
+fn ends_the_front(rt: HostRuntime) {
+    assert!(rt; front_end::<Decimal<6>>("POINT(1 2) and more") == Some(10));
+    assert!(rt; front_end::<Decimal<6>>("POINT(1)").is_none());
 }
 
 #[test]
