@@ -20,6 +20,18 @@ first-eight (a ∷ b ∷ c ∷ d ∷ e ∷ f ∷ []) h = absurd (omega (arith, h
 first-eight (a ∷ b ∷ c ∷ d ∷ e ∷ f ∷ g ∷ []) h = absurd (omega (arith, h))
 first-eight (a ∷ b ∷ c ∷ d ∷ e ∷ f ∷ g ∷ i ∷ l) h = refl
 
+-- Bytes of a list of bytes are bytes.
+pub eight-below : (l : List ℕ) → ((i : ℕ) → get_or l i 0 < 256) → (i : ℕ) → get_or (get_or l 0 0 ∷ get_or l 1 0 ∷ get_or l 2 0 ∷ get_or l 3 0 ∷ get_or l 4 0 ∷ get_or l 5 0 ∷ get_or l 6 0 ∷ get_or l 7 0 ∷ []) i 0 < 256
+eight-below l h zero = h 0
+eight-below l h (suc zero) = h 1
+eight-below l h (suc (suc zero)) = h 2
+eight-below l h (suc (suc (suc zero))) = h 3
+eight-below l h (suc (suc (suc (suc zero)))) = h 4
+eight-below l h (suc (suc (suc (suc (suc zero))))) = h 5
+eight-below l h (suc (suc (suc (suc (suc (suc zero)))))) = h 6
+eight-below l h (suc (suc (suc (suc (suc (suc (suc zero))))))) = h 7
+eight-below l h (suc (suc (suc (suc (suc (suc (suc (suc i)))))))) = omega arith
+
 -- one byte more
 take-suc-at : (i : ℕ) (l : List ℕ) → i < length l → take (suc i) l ≡ take i l ++ (get_or l i 0 ∷ [])
 take-suc-at zero [] h = absurd (omega (arith, h))

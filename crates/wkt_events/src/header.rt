@@ -1,6 +1,6 @@
 //! Headers: kinds, dimensions, EMPTY.
 ghost use Rattle.std.specs.Bool.{OnTrue};
-ghost use Rattle.std.specs.Prelude.{◌≡◌, ◌≢◌, ◌≤◌, ◌+◌, length, get_or, take, drop, Option, true, codes, IfSome};
+ghost use Rattle.std.specs.Prelude.{◌≡◌, ◌≢◌, ◌≤◌, ◌+◌, length, get_or, take, Option, true, codes, IfSome};
 ghost use Rattle.std.specs.Int.{w32, w64, to_le_bytes};
 ghost use Rattle.wkt_access.specs.declared.dimensions.Dimension.TheVariants.{XY};
 ghost use Rattle.wkt_types.specs.declared.geometry_type.GeometryType.TheVariants as kind_of;
@@ -155,7 +155,13 @@ fn is_point(bytes: &[u8]) -> bool
     requires { 5 ≤ length bytes.now }
     ensures { OnTrue result (take 5 bytes.now ≡ codes "POINT") }
 {
-    four_bytes(bytes) == POIN && bytes[4] == b'T'
+    if four_bytes(bytes) != POIN {
+        return false;
+    }
+    if bytes[4] != b'T' {
+        return false;
+    }
+    true
 }
 
 /// Whether the bytes begin with `GEOMETRYCOLLECTION`.
@@ -164,10 +170,19 @@ fn is_collection(bytes: &[u8]) -> bool
     requires { 18 ≤ length bytes.now }
     ensures { OnTrue result (take 18 bytes.now ≡ codes "GEOMETRYCOLLECTION") }
 {
-    eight_bytes(bytes, 0) == GEOMETRY
-        && eight_bytes(bytes, 8) == COLLECTI
-        && bytes[16] == b'O'
-        && bytes[17] == b'N'
+    if eight_bytes(bytes) != GEOMETRY {
+        return false;
+    }
+    if eight_bytes(&bytes[8..]) != COLLECTI {
+        return false;
+    }
+    if bytes[16] != b'O' {
+        return false;
+    }
+    if bytes[17] != b'N' {
+        return false;
+    }
+    true
 }
 
 /// The first four bytes as one number, the lowest first.
@@ -179,14 +194,13 @@ fn four_bytes(bytes: &[u8]) -> u32
     u32::from_le_bytes([bytes[0], bytes[1], bytes[2], bytes[3]])
 }
 
-/// Eight bytes as one number.
+/// The first eight.
 #[inline(always)]
-fn eight_bytes(bytes: &[u8], at: usize) -> u64
-    requires { at + 8 ≤ length bytes.now }
-    ensures { to_le_bytes w64 result ≡ take 8 (drop at bytes.now) }
+fn eight_bytes(bytes: &[u8]) -> u64
+    requires { 8 ≤ length bytes.now }
+    ensures { to_le_bytes w64 result ≡ take 8 bytes.now }
 {
-    let part = &bytes[at..];
     u64::from_le_bytes([
-        part[0], part[1], part[2], part[3], part[4], part[5], part[6], part[7],
+        bytes[0], bytes[1], bytes[2], bytes[3], bytes[4], bytes[5], bytes[6], bytes[7],
     ])
 }

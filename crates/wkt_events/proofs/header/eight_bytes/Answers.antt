@@ -1,8 +1,10 @@
--- The number's bytes are those eight.
-use Rattle.std.proofs.Common.{◌≡◌, ◌∙◌, sym, arith, rules}
+-- The number's bytes are the first eight.
+use Rattle.std.proofs.Common.{◌≡◌, ◌<◌, ◌∙◌, ℕ, get_or, sym, arith, rules}
 use Rattle.std.proofs.lemmas.Nat.{le_bytes_8}
-use Rattle.wkt_events.proofs.FirstBytes.{first-eight}
+use Rattle.wkt_events.proofs.FirstBytes.{first-eight, eight-below}
 use Rattle.wkt_events.proofs.header.eight_bytes.Goals as goal
 
 pub returns : goal.returns
-returns c = ?
+returns c =
+    let below = λ (i : ℕ). (c.type_inv.bytes i).fits in
+    le_bytes_8 _ _ (search rules) (eight-below c.args.bytes.now below) c.from_le_bytes.ensures ∙ sym (first-eight c.args.bytes.now c.requires)

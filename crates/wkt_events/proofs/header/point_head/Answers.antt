@@ -1,12 +1,16 @@
--- The name stands there, and a parenthesis behind it.
-use Rattle.std.proofs.Common.{◌≡◌, subst, sym, arith, length, take, drop, ap, ◌∙◌, codes}
+-- The name stands there, and a parenthesis behind it, or a space and a parenthesis.
+use Rattle.std.proofs.Common.{◌≡◌, subst, sym, arith, length, take, drop, ap, ◌∙◌, codes, inl, inr}
 use Rattle.std.proofs.lemmas.List.{take_rest}
 use Rattle.wkt_events.specs.Behind.{OpensThere}
 use Rattle.wkt_events.proofs.NamedHeads.{point-opens}
 use Rattle.wkt_events.proofs.header.point_head.Goals as goal
 
-pub returns-in-Some : goal.returns-in-Some
-returns-in-Some g c =
+pub returns-then-rest-eq40 : goal.returns-then-rest-eq40
+returns-then-rest-eq40 g c =
     let rest = take_rest c.args.text.now c.args.at in
-    point-opens g.T.WktNum.read _ c.args.text.now c.args.at c.requires (ap (take 5) (sym rest) ∙ c.if-not-is_point.ensures) c.in-Some.n (subst (λ l. OpensThere l 5 c.in-Some.n) rest c.in-Some.ensures)
-    (omega (arith, ap length rest, c.if-rest-lt8.false))
+    point-opens g.T.WktNum.read _ c.args.text.now c.args.at c.requires (ap (take 5) (sym rest) ∙ c.if-not-is_point.ensures) 6 (subst (λ l. OpensThere l 5 6) rest (inl (omega arith, omega arith))) (omega (arith, ap length rest))
+
+pub returns-then-rest-eq40-2 : goal.returns-then-rest-eq40-2
+returns-then-rest-eq40-2 g c =
+    let rest = take_rest c.args.text.now c.args.at in
+    point-opens g.T.WktNum.read _ c.args.text.now c.args.at c.requires (ap (take 5) (sym rest) ∙ c.if-not-is_point.ensures) 7 (subst (λ l. OpensThere l 5 7) rest (inr (omega arith, omega arith, omega arith))) (omega (arith, ap length rest))
