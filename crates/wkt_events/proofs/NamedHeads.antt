@@ -1,5 +1,5 @@
 -- The headers `POINT(` and `GEOMETRYCOLLECTION(`, in their bytes.
-use Rattle.std.proofs.Common.{◌≡◌, ◌≢◌, ℕ, ◌+◌, ◌-◌, ◌<◌, ◌≤◌, List, [], ◌∷◌, ◌++◌, length, get_or, take, drop, slice_range, Bool, true, Option, Some, None, refl, sym, ap, ◌∙◌, subst, arith, codes, ◌⊎◌, inl, inr}
+use Rattle.std.proofs.Common.{◌≡◌, ◌≢◌, ℕ, ◌+◌, ◌-◌, ◌<◌, ◌≤◌, List, length, get_or, take, drop, slice_range, Bool, true, Option, Some, None, refl, sym, ap, ◌∙◌, subst, arith, codes, ◌⊎◌, inl, inr}
 use Rattle.std.proofs.lemmas.List.{get_or-drop, get_or-take, length-drop}
 use Rattle.wkt_num.specs.Bytes.{Open, Mark, White, Run, AllRun, class_of}
 use Rattle.wkt_access.specs.declared.dimensions.Dimension.TheVariants.{XY}

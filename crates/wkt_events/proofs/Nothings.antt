@@ -1,5 +1,5 @@
 -- A number of which nothing is kept.
-use Rattle.std.proofs.Common.{◌≡◌, ◌≢◌, ℕ, List, [], get_or, slice_range, Option, Some, None, IfSome, IfNone, Bool}
+use Rattle.std.proofs.Common.{◌≢◌, ℕ, List, [], get_or, slice_range, Option, Some, None, IfSome, IfNone, Bool}
 use Rattle.wkt_num.specs.Bytes.{White}
 use Rattle.wkt_read.specs.Lexemes.{without_plus}
 use Rattle.wkt_events.specs.declared.builder.At.{At}

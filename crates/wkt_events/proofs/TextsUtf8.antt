@@ -1,5 +1,5 @@
 -- The text of what a text begins with is UTF-8.
-use Rattle.std.proofs.Common.{◌≡◌, ℕ, List, subst, Option, Some, None, IsUtf8}
+use Rattle.std.proofs.Common.{◌≡◌, ℕ, List, subst, Option, Some, IsUtf8}
 use Rattle.std.specs.Prelude.{IfSome}
 use Rattle.wkt_access.specs.Shapes.{shape_of}
 use Rattle.wkt_access.specs.Texts.{shape_text}

@@ -1,5 +1,4 @@
 -- What is made where nothing is kept.
-use Rattle.std.specs.Prelude.{ℕ, List}
 use Rattle.wkt_events.specs.Makers.{Maker}
 use Rattle.wkt_events.specs.declared.front.Nothing.{Nothing}
 

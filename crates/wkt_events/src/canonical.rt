@@ -3,9 +3,9 @@ ghost use Rattle.std.specs.Prelude.{◌≡◌, ◌+◌, ◌*◌, ◌≤◌, leng
 ghost use Rattle.wkt_events.specs.Canonical.{WritesCanonical, WritesFront, WritesInto, LeavesRoom};
 
 use crate::text::Pen;
-use wkt_num::WktNum;
 use crate::through::{Next, write_next};
 use std::marker::PhantomData;
+use wkt_num::WktNum;
 
 /// A number's text is at least twice as long as what it was read from, and there was no room for it: more may do. Decimals
 /// and whole numbers have no such texts.
@@ -30,10 +30,7 @@ pub struct Written {
 /// # Errors
 /// [`NoRoom`]: the buffer is shorter than twice the text and 65 bytes more; or a number's text is at least twice as long
 /// as what it was read from.
-pub fn canonical_into<T: WktNum>(
-    text: &str,
-    buffer: &mut [u8],
-) -> Result<Option<Written>, NoRoom>
+pub fn canonical_into<T: WktNum>(text: &str, buffer: &mut [u8]) -> Result<Option<Written>, NoRoom>
     ensures writes { WritesInto T.read T.num text.now buffer.old buffer.new result }
     ensures whole { length buffer.new ≡ length buffer.old }
 {

@@ -8,12 +8,11 @@ ghost use Rattle.wkt_events.specs.Numbers.{Numbered, NoNumber};
 
 use crate::builder::{At, Builder, Part};
 use crate::bytes::run_end;
-use wkt_num::WktNum;
 use std::fmt;
 use std::marker::PhantomData;
 use std::simd::prelude::*;
 use wkt_access::Dimension;
-use wkt_num::TextSink;
+use wkt_num::{TextSink, WktNum};
 use wkt_types::GeometryType;
 
 /// Bytes with room, of which the first `len` are written. What is written after them may be taken back.

@@ -6,9 +6,9 @@ ghost use Rattle.wkt_events.specs.Through.{IfEnds, WritesNext};
 
 use crate::builder::At;
 use crate::text::Pen;
-use wkt_num::WktNum;
 use crate::walk::geometry;
 use std::marker::PhantomData;
+use wkt_num::WktNum;
 
 /// What came of the geometry that comes next.
 pub(crate) enum Next {

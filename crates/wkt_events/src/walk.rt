@@ -145,7 +145,9 @@ fn collection<T: WktNum, B: Builder<T> + Drop, const FEED_ENDS: bool>(
     ensures room { HasRoom B.maker text.now 0 result.at result.made }
 {
     let _ = text;
-    let made = a.made.header(GeometryType::GeometryCollection, Dimension::XY);
+    let made = a
+        .made
+        .header(GeometryType::GeometryCollection, Dimension::XY);
     At {
         at: end,
         made: made.open(Part::Geometry),

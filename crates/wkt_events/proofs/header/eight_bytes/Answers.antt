@@ -1,5 +1,5 @@
 -- The number's bytes are the first eight.
-use Rattle.std.proofs.Common.{◌≡◌, ◌<◌, ◌∙◌, ℕ, get_or, sym, arith, rules}
+use Rattle.std.proofs.Common.{◌∙◌, ℕ, sym, rules}
 use Rattle.std.proofs.lemmas.Nat.{le_bytes_8}
 use Rattle.wkt_events.proofs.FirstBytes.{first-eight, eight-below}
 use Rattle.wkt_events.proofs.header.eight_bytes.Goals as goal

@@ -1,5 +1,5 @@
 -- The number's bytes are the first four.
-use Rattle.std.proofs.Common.{◌≡◌, ◌∙◌, sym, arith, rules}
+use Rattle.std.proofs.Common.{◌∙◌, sym, rules}
 use Rattle.std.proofs.lemmas.Nat.{le_bytes_4}
 use Rattle.wkt_events.proofs.FirstBytes.{first-four}
 use Rattle.wkt_events.proofs.header.four_bytes.Goals as goal

@@ -1,5 +1,5 @@
 -- The name stands there, and a parenthesis behind it, or a space and a parenthesis.
-use Rattle.std.proofs.Common.{◌≡◌, subst, sym, arith, length, take, drop, ap, ◌∙◌, codes, inl, inr}
+use Rattle.std.proofs.Common.{subst, sym, arith, length, take, ap, ◌∙◌, inl, inr}
 use Rattle.std.proofs.lemmas.List.{take_rest}
 use Rattle.wkt_events.specs.Behind.{OpensThere}
 use Rattle.wkt_events.proofs.NamedHeads.{point-opens}

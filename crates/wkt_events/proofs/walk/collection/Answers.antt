@@ -1,5 +1,5 @@
 -- A collection's parenthesis is opened, for which the text gives room.
-use Rattle.std.proofs.Common.{◌≡◌, ◌+◌, ◌-◌, ◌*◌, length, arith, refl, true}
+use Rattle.std.proofs.Common.{◌+◌, ◌-◌, ◌*◌, length, arith, refl, true}
 use Rattle.wkt_access.specs.declared.dimensions.Dimension.TheVariants.{XY}
 use Rattle.wkt_types.specs.declared.geometry_type.GeometryType.TheVariants as kind
 use Rattle.wkt_events.specs.Makers.{name_length}
