@@ -2,10 +2,42 @@
 use crate::asserts::equal;
 use std::alloc::Global;
 use std::test::Fail;
+use wkt::events::NoRoom;
 use wkt::geo_types::{Coord, Geometry, Rect};
 use wkt::geo_types_from_wkt::ConvertFrom;
 use wkt::to_wkt::{Counted, push_geometry};
-use wkt::{AnyError, FromWktStr, ToWkt, WholeError, Wkt, infer_type, read_whole};
+use wkt::{
+    AnyError, Decimal, FromWktStr, ToWkt, WholeError, Wkt, canonical_into, canonical_text, front_end,
+    infer_type, read_whole,
+};
+
+#[test]
+fn writes_the_canonical_text(rt: HostRuntime) -> Result<(), Fail> {
+    let alloc = rt.alloc();
+    let key = canonical_text::<Decimal<6>>(alloc, "point z (1.50 2 -0) and more")?;
+    equal(&rt, key.as_str(), "POINT Z(1.5 2 0)");
+    Ok(())
+}
+
+#[test]
+fn writes_it_into_a_buffer(rt: HostRuntime) {
+    let mut buffer = [b'x'; 111];
+    let text = "point (1.50 2) and more";
+    let Ok(Some(written)) = canonical_into::<Decimal<6>>(text, &mut buffer) else {
+        panic!(rt; "nothing was written");
+    };
+    assert_eq!(rt; written.end, 14);
+    assert!(rt; &buffer[..written.len] == b"POINT(1.5 2)");
+    let short = canonical_into::<Decimal<6>>(text, &mut buffer[..110]);
+    assert!(rt; matches!(short, Err(NoRoom)));
+    assert!(rt; matches!(canonical_into::<Decimal<6>>("POINT(1)", &mut buffer), Ok(None)));
+}
+
+#[test]
+fn ends_the_front(rt: HostRuntime) {
+    assert!(rt; front_end::<Decimal<6>>("POINT(1 2) and more") == Some(10));
+    assert!(rt; front_end::<Decimal<6>>("POINT(1)").is_none());
+}
 
 // The text of the flat geometry that a text is.
 fn flat_of_whole(alloc: Global, text: &str) -> Result<String, AnyError> {
