@@ -8,8 +8,9 @@ ghost use Rattle.wkt_events.specs.Canonical.{IsCanonical};
 
 use std::alloc::{AllocError, Global};
 use wkt_events::{NoRoom, Written, canonical_into};
+use wkt_explain::refusal;
 use wkt_num::WktNum;
-use wkt_read::{FromWktStr, ReadError};
+use wkt_read::ReadError;
 use wkt_types::Wkt;
 
 /// Room for what a text of so many bytes is written as, unless a number's text is very long.
@@ -43,14 +44,14 @@ fn widen(bytes: &mut Vec<u8>) -> Result<(), AllocError>
 /// Why a text that has no geometry at its front is refused.
 #[cold]
 #[inline(never)]
-fn refusal<T: WktNum>(alloc: Global, text: &str) -> ReadError
+fn refused<T: WktNum>(text: &str) -> ReadError
     requires { HasNoFront T.read text.now }
     ensures bad { OnMessage (Err {A = Wkt T} result) bad_number (HasBadNumber T.read text.now) }
     ensures refusal { IfText (Err {A = Wkt T} result) (λ said. IsTextRefused T.read text.now said) }
 {
-    match Wkt::<T>::from_str(alloc, text) {
-        Ok(_) => unreachable!(),
-        Err(error) => error,
+    match refusal::<T>(text) {
+        Some(why) => ReadError::Text(why.message.text()),
+        None => unreachable!(),
     }
 }
 
@@ -64,8 +65,8 @@ fn refusal<T: WktNum>(alloc: Global, text: &str) -> ReadError
 /// ```
 ///
 /// # Errors
-/// `Text` where no beginning of the text is a geometry, with the message of `from_str`; `Memory` where the string
-/// couldn't grow.
+/// `Text` where no beginning of the text is a geometry, with the message of `from_str`, which takes no memory; `Memory`
+/// where the string couldn't grow.
 pub fn canonical_text<T: WktNum>(alloc: Global, text: &str) -> Result<String, ReadError>
     ensures text { IfOk result (λ s. IsCanonical T.read T.num text.now (string_bytes s)) }
     ensures no_front { OnText result (HasNoFront T.read text.now) }
@@ -80,7 +81,7 @@ pub fn canonical_text<T: WktNum>(alloc: Global, text: &str) -> Result<String, Re
                 bytes.shrink_to_fit();
                 return Ok(unsafe { String::from_utf8_unchecked(bytes) });
             }
-            Ok(None) => return Err(refusal::<T>(alloc, text)),
+            Ok(None) => return Err(refused::<T>(text)),
             Err(NoRoom) => {}
         }
         widen(&mut bytes)?;
