@@ -86,7 +86,7 @@ pub use json::{
 };
 pub use same::same_geometry;
 pub use whole::{WholeError, read_whole};
-pub use wkt_events::{Written, canonical_into, front_end};
+pub use wkt_events::{TextWritten, canonical_into, front_end};
 pub use wkt_explain::{Expected, Explanation, explain};
 pub use wkt_num::{Decimal, WktNum};
 pub use wkt_read::{FromWktStr, InferError, ReadError, infer_type};
