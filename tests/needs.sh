@@ -11,20 +11,16 @@ there() {
         valgrind) command -v valgrind ;;
         rust) command -v cargo ;;
         python) command -v python3 ;;
-        numpy | pandas | shapely) module "$1" ;;
+        numpy | pandas | shapely | mypy | tqdm | matplotlib) module "$1" ;;
+        dask) module dask && module distributed ;;
         wheel) module setuptools && module wheel && module pip && module venv && [ -e "$(headers)/Python.h" ] ;;
         postgres) command -v pg_config && [ -e "$(pg_config --includedir-server)/postgres.h" ] && [ -x "$(pg_config --bindir)/initdb" ] ;;
         sqlite) command -v sqlite3 && [ -e /usr/include/sqlite3.h ] ;;
         fuzz) command -v clang && command -v ld.lld ;;
     esac > /dev/null 2>&1
 }
-# module NAME: some Python that the tests use has it
-module() {
-    for python in python3 /usr/bin/python3; do
-        "$python" -c "import importlib.util, sys; sys.exit(not importlib.util.find_spec('$1'))" 2> /dev/null && return
-    done
-    return 1
-}
+# module NAME: the system's Python has it, for which the packages are
+module() { /usr/bin/python3 -c "import importlib.util, sys; sys.exit(not importlib.util.find_spec('$1'))"; }
 headers() { /usr/bin/python3 -c 'import sysconfig; print(sysconfig.get_paths()["include"])'; }
 
 packages=(
@@ -36,6 +32,10 @@ packages=(
     "numpy python3-numpy"
     "pandas python3-pandas"
     "shapely python3-shapely"
+    "mypy mypy"
+    "tqdm python3-tqdm"
+    "matplotlib python3-matplotlib"
+    "dask python3-dask python3-distributed"
     "wheel python3-setuptools python3-wheel python3-pip python3-venv python3-dev"
     "postgres postgresql postgresql-server-dev-all"
     "sqlite sqlite3 libsqlite3-dev"
