@@ -64,25 +64,23 @@ def lost_links(path, text):
 
 
 def commands(text):
-    """The commands of a page's shell blocks, each as its words, and the code spans that are a path of this repository."""
-    for block in re.findall(r"^```(?:sh|console)\n(.*?)^```", text, re.S | re.M):
+    """The commands of a page's shell blocks, each as its words. In a block of a session they stand after a `$`."""
+    for kind, block in re.findall(r"^```(sh|console)\n(.*?)^```", text, re.S | re.M):
         for line in block.split("\n"):
-            line = line.strip().removeprefix("$ ")
-            line = re.sub(r"\s#.*$", "", line)
+            if kind == "console" and not line.startswith("$ "):
+                continue
+            line = re.sub(r"(^|\s)#.*$", "", line.removeprefix("$ "))
             for command in re.split(r"&&|\|\||[|;()]", line):
                 words = command.split()
                 while words and re.match(r"\w+=", words[0]):
                     words = words[1:]
-                if words and not line.startswith("#"):
+                if words:
                     yield words
 
 
 def lost_commands(path, text):
     """The commands of a page whose program isn't here."""
-    shown = {line.strip() for block in re.findall(r"^```console\n(.*?)^```", text, re.S | re.M) for line in block.split("\n") if not line.startswith("$")}
     for words in commands(text):
-        if " ".join(words) in shown:
-            continue
         program = words[0]
         if program == "cd":
             if len(words) > 1 and not os.path.isdir(f"{TOP}/{words[1]}"):
@@ -99,8 +97,8 @@ def wrong():
     total = 0
     for path in pages():
         text = text_of(path)
-        yield from lost_links(path, text)
         if path not in MADE:
+            yield from lost_links(path, text)
             total += len(text.encode())
     readme = text_of("README.md")
     size = len(readme.encode())
