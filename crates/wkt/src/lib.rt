@@ -136,7 +136,7 @@ pub mod types {
 /// ```
 pub mod to_wkt {
     pub use wkt_bytes::{
-        ByteSink, ByteSource, Counted, Gatherer, ReadAllError, WriterWrapper, put_all, read_all,
+        ByteSink, ByteSource, Counted, ReadAllError, WriterWrapper, put_all, read_all,
     };
     pub use wkt_num::{CountedText, FormatterText, TextSink};
     pub use wkt_to_wkt::{ToWkt, ToWktError};

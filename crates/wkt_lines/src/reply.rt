@@ -70,7 +70,7 @@ pub fn write_replies<A: Reply, W: TextSink>(
 }
 
 /// Writes the answer to a line and a line feed.
-fn reply_to_line<A: Reply, W: TextSink>(
+pub(crate) fn reply_to_line<A: Reply, W: TextSink>(
     alloc: Global,
     reply: &A,
     line: &[u8],

@@ -3,8 +3,7 @@ use crate::asserts::equal;
 use crate::slow_sinks::{Slow, source};
 use std::io::ErrorKind;
 use std::test::Fail;
-use wkt_lines::{RunError, run, run_over};
-use wkt_stream::stream_over;
+use wkt_lines::{RunError, run, run_over, stream_over};
 
 const INPUT: &[u8] = b"point ( 10 -20.50 )\nPOINT ZM EMPTY\nPOINTZ(-117 33 10)\nPOINT (10)\n\n";
 

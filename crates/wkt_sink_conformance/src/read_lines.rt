@@ -9,8 +9,7 @@ use std::io::ErrorKind;
 use std::process::Abort;
 use std::test::Fail;
 use wkt::to_wkt::{ByteSource, ReadAllError, TextSink};
-use wkt_lines::{AnswerError, Canonical, Reply, RunError, line_end};
-use wkt_stream::{Lines, stream_with};
+use wkt_lines::{AnswerError, Canonical, Lines, Reply, RunError, line_end, stream_with};
 
 /// A source whose every second call fails, the first among them.
 #[derive(Drop)]
