@@ -14,10 +14,10 @@ use wkt_events::ends::line_end;
 const BLOCK: usize = 131072;
 
 // How much of an input is answered at once, where all of it is at hand.
-const NEAR: usize = 65536;
+const NEAR: usize = 1_048_576;
 
 /// How many bytes some whole lines take at the front of an input, with their line feeds: those that end within its first
-/// 64 KiB, or the first. Zero where no line feed is left.
+/// MiB, or the first. Zero where no line feed is left.
 pub(crate) fn whole_lines(rest: &[u8]) -> usize
     ensures within { result ≤ length rest.now }
     ensures whole { IsWhole (take result rest.now) }

@@ -66,18 +66,20 @@ fn give_up<W: ByteSink>(
 }
 
 /// Makes the page ready for the answer to a text of so many bytes; it has to be put out.
-#[inline(never)]
+#[inline(always)]
 fn turn<W: ByteSink>(n: usize, page: &mut Page, writer: &mut W) -> Result<(), RunError>
     ensures puts { PutsOut W.sink result (page_text page.old) (page_text page.new) writer.old writer.new }
     ensures room { OnOk result (HasRoomFor page.new n) }
     ensures keeps { W.sink.keeps writer.old writer.new }
 {
-    match put_out(page, writer) {
+    let put = put_pieces(writer, page.written(), page.piece());
+    page.cut(0);
+    match put {
         Ok(()) => match page.make_room(n) {
             Ok(()) => Ok(()),
             Err(e) => Err(RunError::Memory(e)),
         },
-        Err(e) => Err(e),
+        Err(e) => Err(RunError::Write(e)),
     }
 }
 
@@ -98,6 +100,7 @@ fn put_out<W: ByteSink>(page: &mut Page, writer: &mut W) -> Result<(), RunError>
 }
 
 /// Puts out the bytes, so many at a time.
+#[inline(always)]
 fn put_pieces<W: ByteSink>(writer: &mut W, bytes: &[u8], piece: usize) -> Result<(), io::Error>
     requires { 0 < piece }
     ensures ok { OnOk result (Appends (W.sink.bytes writer.old) (W.sink.bytes writer.new) bytes.now) }

@@ -11,7 +11,7 @@ parts-init g c = record { base = at_hand (g.A.Answers.answers c.args.answers.now
 pub parts-preserved : goal.parts-preserved
 parts-preserved g c = record {
   base = answered (g.A.Answers.answers c.args.answers.now) g.W.ByteSink.sink (Some c.args.input.now) (Some []) c.args.writer.now c.parts.writer c.parts.rest.now c.parts.invariant.base _ (take c.whole_lines-whole.result c.parts.rest.now) _ (parted c.whole_lines-whole.result c.parts.rest.now)
-      c.whole_lines-whole.ensures.whole c.in-Ok.ensures.ok c.in-Ok.ensures.count c.answer_block-2.ensures.keeps;
+      c.whole_lines-whole.ensures.whole c.in-Ok.ensures.ok c.in-Ok.ensures.count c.answer_block-in-parts.ensures.keeps;
   empty = c.in-Ok.ensures.empty;
 }
 

@@ -14,7 +14,7 @@ turns-init g c = record {
   base = begins (g.A.Answers.answers c.args.answers.now) g.W.ByteSink.sink (g.R.ByteSource.left c.args.reader.now) c.args.writer.now _ c.new-block.ensures;
   none = none_in_nothing _ c.new-block.ensures;
   count = refl;
-  empty = c.new-page.ensures;
+  empty = c.of_blocks-page.ensures;
 }
 
 pub returns-in-Err-clause-memory : goal.returns-in-Err-clause-memory
