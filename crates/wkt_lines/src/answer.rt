@@ -49,7 +49,7 @@ fn write_front<T: WktNum, W: TextSink>(
 {
     let mut room = Room::new(alloc);
     match room.canonical::<T>(text) {
-        Ok(Some(len)) => room.put::<T, W>(len, f),
+        Ok(Some(len)) => room.put(len, f),
         Ok(None) => refuse(f),
         Err(e) => Err(AnswerError::Memory(e)),
     }
