@@ -7,8 +7,7 @@ use crate::first::Room;
 use std::alloc::{AllocError, Global};
 use std::fmt;
 use thiserror::Error;
-use wkt_num::TextSink;
-use wkt_num::WktNum;
+use wkt_num::{TextSink, WktNum};
 
 /// Why lines weren't answered.
 #[derive(Debug, Drop, Error)]

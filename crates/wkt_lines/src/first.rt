@@ -7,10 +7,9 @@ ghost use Rattle.wkt_lines.specs.First.{EndsLine};
 
 use crate::answer::AnswerError;
 use std::alloc::{AllocError, Global};
-use wkt_num::TextSink;
 use wkt_events::ends::line_end;
 use wkt_events::{Answer, NoRoom, answer_line, write_canonical};
-use wkt_num::WktNum;
+use wkt_num::{TextSink, WktNum};
 
 // Where a line ends is found as it is answered, if it ends within so many bytes.
 const NEAR: usize = 65536;
@@ -125,10 +124,7 @@ impl Room {
     }
 
     /// Writes the canonical text of what a text begins with, and answers how long that is; `None` where it begins with none.
-    pub(crate) fn canonical<T: WktNum>(
-        &mut self,
-        text: &str,
-    ) -> Result<Option<usize>, AllocError>
+    pub(crate) fn canonical<T: WktNum>(&mut self, text: &str) -> Result<Option<usize>, AllocError>
         ensures { WritesTextIfAny T.read T.num text.now (room_bytes self.new) result }
     {
         match self.grow(text.len()) {

@@ -7,16 +7,15 @@ ghost use Rattle.wkt_lines.specs.Output.{IsAllOut, IsFirstOut, IsBeforeOut, IsSo
 ghost use Rattle.wkt_lines.specs.Replies.{IsAllReplied, IsBeforeReplied, IsPartReplied};
 ghost use Rattle.wkt_lines.specs.Streaming.{AllTaken};
 
-use crate::on_page::{Answers, ByWalk};
 use crate::block::whole_lines;
+use crate::on_page::{Answers, ByWalk};
 use crate::page::Page;
 use crate::pages::answer_block;
 use std::alloc::{AllocError, Global};
 use std::io;
 use thiserror::Error;
 use wkt_bytes::{ByteSink, ByteSource, ReadAllError, read_all};
-use wkt_num::Decimal;
-use wkt_num::WktNum;
+use wkt_num::{Decimal, WktNum};
 
 /// Why a run ended before its input.
 #[derive(Debug, Drop, Error)]

@@ -6,8 +6,8 @@ ghost use Rattle.wkt_lines.specs.Replies.{IsAllReplied, IsBeforeReplied, IsPartR
 ghost use Rattle.wkt_lines.specs.Output.{OnRunRead, OnRunWrite, OnRunMemory, UnlessRunWrite};
 ghost use Rattle.wkt_lines.specs.Pages.{page_text, HasRoomFor, PutsOut};
 
-use crate::on_page::Answers;
 use crate::lines::RunError;
+use crate::on_page::Answers;
 use crate::page::Page;
 use std::alloc::AllocError;
 use std::io;
@@ -50,11 +50,7 @@ pub(crate) fn answer_block<A: Answers, W: ByteSink>(
 /// Puts out what is written, and answers that memory ran out then.
 #[cold]
 #[inline(never)]
-fn give_up<W: ByteSink>(
-    error: AllocError,
-    page: &mut Page,
-    writer: &mut W,
-) -> Result<(), RunError>
+fn give_up<W: ByteSink>(error: AllocError, page: &mut Page, writer: &mut W) -> Result<(), RunError>
     ensures puts { PutsOut W.sink result (page_text page.old) [] writer.old writer.new }
     ensures never { OnOk result ⊥ }
     ensures keeps { W.sink.keeps writer.old writer.new }

@@ -7,16 +7,15 @@ ghost use Rattle.wkt_lines.specs.Output.{IsAllOut, IsFirstOut, IsBeforeOut, IsSo
 ghost use Rattle.wkt_lines.specs.Replies.{IsAllReplied, IsFirstReplied, IsBeforeReplied, IsPartReplied};
 ghost use Rattle.wkt_lines.specs.Streaming.{AllTaken, LinesTaken, IsTakenOut, IsTakenReplied};
 
-use crate::on_page::{Answers, ByReply, ByWalk};
 use crate::block::Block;
 use crate::lines::RunError;
+use crate::on_page::{Answers, ByReply, ByWalk};
 use crate::page::Page;
 use crate::pages::answer_block;
 use crate::reply::Reply;
 use std::alloc::{AllocError, Global};
 use wkt_bytes::{ByteSink, ByteSource};
-use wkt_num::Decimal;
-use wkt_num::WktNum;
+use wkt_num::{Decimal, WktNum};
 
 /// Writes the answers to all lines of the source, as [`run`](crate::run) does, in the memory of the longest line.
 ///

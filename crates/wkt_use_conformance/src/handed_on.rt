@@ -7,9 +7,7 @@ use std::process::Abort;
 use std::test::Fail;
 use wkt::geo_types::{Geometry, LineString, Point, Polygon};
 use wkt::geo_types_from_wkt::Error as FlatError;
-use wkt::to_wkt::{
-    ByteSink, ByteSource, ReadAllError, TextSink, WriterWrapper, put_all, read_all,
-};
+use wkt::to_wkt::{ByteSink, ByteSource, ReadAllError, TextSink, WriterWrapper, put_all, read_all};
 use wkt::{ToWkt, ToWktError, TryFromWkt};
 use wkt_lines::{RunError, run, stream};
 use wkt_uses::flat_from_reader::{CopyError, copy_polygon};
