@@ -1,4 +1,6 @@
 //! Whether a text is read.
+ghost use Rattle.std.specs.Prelude.{◌+◌, ◌*◌, ◌≤◌, OnOk, vec_len};
+
 use std::alloc::{AllocError, Global};
 use wkt::{Explanation, WktNum, explain};
 use wkt_events::{NoRoom, write_canonical};
@@ -23,7 +25,9 @@ impl Room {
     }
 
     /// Makes room for what a text of so many bytes is written as, mostly.
-    fn grow(&mut self, n: usize) -> Result<(), AllocError> {
+    fn grow(&mut self, n: usize) -> Result<(), AllocError>
+        ensures { OnOk result (2 * n + 65 ≤ vec_len self.new.bytes) }
+    {
         let Some(twice) = n.checked_mul(2) else {
             return Err(AllocError);
         };
@@ -64,15 +68,6 @@ pub enum Verdict<'a> {
     Rest(usize),
 }
 
-/// The first place from here on where no white space stands.
-fn past_white(bytes: &[u8], from: usize) -> usize {
-    let mut at = from;
-    'white: while at < bytes.len() && is_white(bytes[at]) {
-        at += 1;
-    }
-    at
-}
-
 /// Whether the text is read, with its canonical text in the room.
 pub fn judge<'a, T: WktNum>(
     alloc: Global,
@@ -82,11 +77,10 @@ pub fn judge<'a, T: WktNum>(
 ) -> Result<Verdict<'a>, AllocError> {
     match room.canonical::<T>(text)? {
         Some((end, len)) => {
-            let rest = past_white(text.as_bytes(), end);
-            if front || rest >= text.len() {
-                Ok(Verdict::Read(len))
-            } else {
-                Ok(Verdict::Rest(rest))
+            let rest = text.as_bytes().get(end..).unwrap_or(&[]);
+            match rest.iter().position(|byte| !is_white(*byte)) {
+                Some(blanks) if !front => Ok(Verdict::Rest(end.saturating_add(blanks))),
+                _ => Ok(Verdict::Read(len)),
             }
         }
         None => match explain::<T>(alloc, text)? {
