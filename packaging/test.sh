@@ -71,9 +71,10 @@ debs() {
 vendor() {
     mkdir -p "$dir/other/crates"
     cp "$root/HANDLES" "$dir/other"
-    echo 'mine: wkt' > "$dir/other/crates.txt"
+    : > "$dir/other/crates.txt"
     (cd "$dir/other" && rt new crates/mine start_io > /dev/null) || fail "rt new"
-    rm -rf "$dir"/other/crates/mine/{specs,proofs,src}/*
+    echo 'mine: wkt' > "$dir/other/crates.txt"
+    rm -rf "$dir"/other/crates/mine/{specs,proofs,src/*,stdin,stdout}
     "$here/vendor.sh" "$dir/other" > /dev/null || fail "vendor.sh"
     cat > "$dir/other/crates/mine/src/main.rt" << 'RT'
 #![tactic(auto)]

@@ -13,6 +13,8 @@ pub enum RunError {
     /// Standard output fails.
     #[error("standard output: {0}")]
     Output(io::Error),
+    #[error("an argument isn't UTF-8")]
+    Argument,
     #[error("out of memory")]
     Memory(#[from] AllocError),
 }

@@ -254,6 +254,14 @@ impl<'a> Run<'a> {
                 let _ = rt.eprint(count.as_str());
             }
         }
+        self.put_out()
+    }
+
+    /// Writes out what is gathered.
+    ///
+    /// # Errors
+    /// Standard output fails.
+    pub fn put_out(&mut self) -> Result<(), RunError> {
         self.out.finish().map_err(RunError::output)
     }
 
