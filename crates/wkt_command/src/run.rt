@@ -177,7 +177,7 @@ impl<'a> Run<'a> {
         let refusal = match verdict_at(self.alloc, text, places, front, &mut self.room)? {
             Verdict::Read(len) => return self.put_answer(origin, text, len),
             Verdict::Refused(why) => Refusal::Text(why),
-            Verdict::Rest(at) => Refusal::Rest(text, at),
+            Verdict::Rest(end) => Refusal::Rest(text, end),
         };
         if !self.options.quiet {
             push_refusal(&mut self.report, origin, refusal, places)?;
