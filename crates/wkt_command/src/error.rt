@@ -2,7 +2,7 @@
 use std::alloc::AllocError;
 use std::io::{self, ErrorKind};
 use thiserror::Error;
-use wkt::to_wkt::ReadAllError;
+use wkt_bytes::ReadAllError;
 
 /// Why a run can't go on.
 #[derive(Debug, Drop, Error)]

@@ -5,7 +5,7 @@ ghost use Rattle.wkt_command.specs.Verdicts.{IsVerdict, room_bytes};
 
 use crate::verdict::{Room, Verdict, judge};
 use std::alloc::{AllocError, Global};
-use wkt::Decimal;
+use wkt_num::Decimal;
 
 /// Whether the text is read, with its canonical text in the room, over decimals of so many places (18 where more are
 /// asked for).

@@ -5,7 +5,7 @@ use crate::place::place_after;
 use std::alloc::AllocError;
 use std::fmt;
 use std::fmt::Formatter;
-use wkt::Explanation;
+use wkt_explain::Explanation;
 use wkt_read::words::is_white;
 
 /// Where a text stands: its file's name, and the number of its first line.

@@ -11,7 +11,7 @@ use crate::report::{Origin, Refusal, Thousands, push_not_utf8, push_refusal};
 use crate::verdict::{Room, Verdict};
 use crate::{canon, kind};
 use std::alloc::Global;
-use wkt::to_wkt::{ByteSource, Counted, ReadAllError, read_all};
+use wkt_bytes::{ByteSource, Counted, ReadAllError, read_all};
 use wkt_stream::Lines;
 
 /// A run over files, and what came of it so far.

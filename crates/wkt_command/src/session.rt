@@ -74,7 +74,11 @@ fn do_run(rt: &HostRuntime, options: &Options) -> Result<u8, RunError> {
     match read_all(rt, &mut run, options) {
         Ok(status) => {
             run.finish(rt)?;
-            Ok(if run.tally().refused > 0 { status.max(REFUSED) } else { status })
+            Ok(if run.tally().refused > 0 {
+                status.max(REFUSED)
+            } else {
+                status
+            })
         }
         Err(RunError::Output(error)) => Err(RunError::Output(error)),
         Err(error) => {

@@ -4,8 +4,9 @@ ghost use Rattle.wkt_num.specs.Bytes.{AllWhite};
 ghost use Rattle.wkt_command.specs.Verdicts.{IsVerdict, room_bytes};
 
 use std::alloc::{AllocError, Global};
-use wkt::{Explanation, WktNum, explain};
 use wkt_events::{NoRoom, write_canonical};
+use wkt_explain::{Explanation, explain};
+use wkt_num::WktNum;
 use wkt_read::words::is_white;
 
 /// Room for a canonical text.
