@@ -17,7 +17,7 @@ use Rattle.wkt_read.specs.Kinds.{kind_of, dim_of}
 use Rattle.wkt_read.specs.Front.{Front}
 use Rattle.wkt_read.specs.Laws.{ReadsBack}
 use Rattle.wkt_c.specs.Answer.{Refuses, IsWritten, kind_number, dimension_number, read_at}
-use Rattle.wkt_c.specs.Arrays.{parts_of, joined, numbers_in, offsets, AreArrays, IsTextOf, IsNotFlat, HasLarge, HasLargeNumber}
+use Rattle.wkt_c.specs.Arrays.{parts_of, joined, numbers_in, offsets, AreArrays, IsTextOf, HasLarge}
 use Rattle.wkt_c.specs.Growing.{HoldsAll, IsUnheld, AreSame}
 use Rattle.wkt_c.specs.declared.arrays.Arrays.{Arrays}
 
@@ -63,14 +63,6 @@ arrays-of a t value kind dimension e (parts, flat, holds) k d = record {
   rings_are = holds.rings ∙ ap (offsets 0) (append-nil (joined parts));
   polygons_are = holds.polygons;
 }
-
--- why there are none
-pub no-arrays : (places status end : ℕ) (text : List ℕ) (t : Tree ℤ) (value : Value ℤ) → Front (read_at places) text value end → value_of t ≡ value →
-    IsUnheld (value_of t) status → IsNotFlat places text status
-no-arrays places status end text t value front e h = elim h [
-  | inl m ↦ inr (inr (out_of_memory (read_at places) text status m))
-  | inr k ↦ inr (inl (record { value = value; end = end; front = front; why = elim k [ inl c ↦ inl (c.0, sym (ap parts_of e) ∙ c.1) | inr l ↦ inr (l.0, subst HasLargeNumber e l.1) ] }))
-]
 
 -- the text of a tree whose arrays these are
 pub text-of : (D kind dimension : ℕ) (a : Arrays) (t : Tree ℤ) (numbers : List ℤ) (rings polygons text : List ℕ) (is_value : ℤ → Type 0) →

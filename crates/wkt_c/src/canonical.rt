@@ -1,17 +1,19 @@
-//! The one text of what a text begins with, and texts compared by it.
-ghost use Rattle.std.specs.Prelude.{◌≡◌, ◌↔◌, IsTrue, MatchResult};
+//! The one text of what a text begins with.
+ghost use Rattle.std.specs.Prelude.{◌≡◌, ◌≤◌, ◌↔◌, IsTrue, MatchResult, IfOk, IsUtf8, take, vec_len};
 ghost use Rattle.wkt_types.specs.Tree.{tree};
 ghost use Rattle.wkt_types.specs.Values.{tree_shape};
 ghost use Rattle.wkt_c.specs.Answer.{read_at, print_at, IsCanonical, IsWritten, IsUnwritten, Compares, Refuses, RefusesAt, RefusesOne, RefusesOneAt};
 
 use crate::gathered::Gathered;
-use crate::read::read;
-use crate::status::{MEMORY, NO_PLACES, NOT_ARRAYS};
+use crate::refusal::refusal;
+use crate::room::{make_room, no_room};
+use crate::status::{MEMORY, NO_PLACES, NOT_ARRAYS, NOT_TEXT};
 use std::alloc::Global;
 use wkt::error::Error as WriteError;
-use wkt::laws::{front_is_writable, one_text, read_values_are_writable};
+use wkt::laws::{front_is_writable, one_text};
 use wkt::to_wkt::write_geometry;
 use wkt::{Decimal, Wkt, WktNum};
+use wkt_events::{NoRoom, write_canonical};
 
 /// The text of a geometry, if it can be written.
 pub(crate) fn write_any<T: WktNum>(
@@ -32,15 +34,60 @@ pub(crate) fn write_any<T: WktNum>(
     }
 }
 
+/// Writes the one text of what a text begins with to the front of the room, and tells where that ends, and how long its text is.
+pub(crate) fn canonical_in<T: WktNum>(
+    alloc: Global,
+    text: &[u8],
+    room: &mut Vec<u8>,
+) -> Result<(usize, usize), u32>
+    ensures canonical { MatchResult result (λ r. IsCanonical T.read T.num text.now (take r.1 room.new.items) r.0) (Refuses T.read text.now) }
+    ensures within { IfOk result (λ r. r.1 ≤ vec_len room.new) }
+{
+    match str::from_utf8(text) {
+        Ok(text) => canonical_text::<T>(alloc, text, room),
+        Err(_) => Err(NOT_TEXT),
+    }
+}
+
+fn canonical_text<T: WktNum>(
+    alloc: Global,
+    text: &str,
+    room: &mut Vec<u8>,
+) -> Result<(usize, usize), u32>
+    requires utf8 { IsUtf8 text.now }
+    ensures canonical { MatchResult result (λ r. IsCanonical T.read T.num text.now (take r.1 room.new.items) r.0) (Refuses T.read text.now) }
+    ensures within { IfOk result (λ r. r.1 ≤ vec_len room.new) }
+{
+    let mut likely = text.len();
+    // The text of a number may be so long that twice the text is no room for it.
+    for _turn in 0..64 {
+        match make_room(room, likely) {
+            Ok(()) => {}
+            Err(status) => return Err(status),
+        }
+        match write_canonical::<T>(text, room.as_mut_slice(), 0) {
+            Ok(Some((end, n))) => return Ok((end, n)),
+            Ok(None) => return Err(refusal::<T>(alloc, text)),
+            Err(NoRoom) => {}
+        }
+        let Some(more) = likely.checked_mul(2) else {
+            return Err(MEMORY);
+        };
+        likely = more;
+    }
+    Err(MEMORY)
+}
+
 /// The one text of what a text begins with, and where that ends.
 pub(crate) fn canonical<T: WktNum>(alloc: Global, text: &[u8]) -> Result<(Vec<u8>, usize), u32>
     ensures { MatchResult result (λ r. IsCanonical T.read T.num text.now r.0.items r.1) (Refuses T.read text.now) }
 {
-    let (wkt, end) = read::<T>(alloc, text)?;
-    // No effect at run time. The proof reads that what was read can be written.
-    read_values_are_writable::<T>();
-    match write_any(alloc, &wkt, text.len()) {
-        Ok(answer) => Ok((answer, end)),
+    let mut room = no_room(alloc);
+    match canonical_in::<T>(alloc, text, &mut room) {
+        Ok((end, n)) => {
+            room.truncate(n);
+            Ok((room, end))
+        }
         Err(status) => Err(status),
     }
 }

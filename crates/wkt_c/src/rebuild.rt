@@ -14,9 +14,8 @@ ghost use Rattle.wkt_c.specs.Growing.{AreSame};
 ghost use Rattle.wkt_c.specs.Rebuilding.{IsRing, IsPolygon, ArePolygons};
 ghost use Rattle.wkt_c.specs.Answer.{IsRefused, dimension_number};
 
-use crate::arrays::Arrays;
+use crate::arrays::{Arrays, kind_of};
 use crate::canonical::write_any;
-use crate::flat::kind_of;
 use crate::infer::{number_of_dimension, number_of_kind};
 use crate::status::{MEMORY, NO_PLACES, NOT_ARRAYS};
 use std::alloc::Global;

@@ -1,4 +1,4 @@
--- What is handed out of what was filled.
+-- The arrays of what was filled, or why there are none.
 use Rattle.std.proofs.Common.{◌≡◌, ◌≢◌, inl, inr, sym, ap, ◌∙◌, subst, arith, ℕ, ℤ, List, Option}
 use Rattle.std.specs.Prelude.{IsUtf8}
 use Rattle.wkt_num.specs.Decimal.{read_decimal}
@@ -8,17 +8,9 @@ use Rattle.wkt_read.specs.Kinds.{kind_of, dim_of}
 use Rattle.wkt_fill.specs.Arrays.{IsUnheld}
 use Rattle.wkt_fill.specs.Fronts.{FillsFront, HoldsAll}
 use Rattle.wkt_fill.specs.declared.filler.Filler.{Filler}
-use Rattle.wkt_flats.specs.Answer.{Refuses, kind_number, dimension_number, read_at}
-use Rattle.wkt_flats.specs.Arrays.{AreOf, IsNotFlat, IsNoArrays}
-
-pub out_of_memory : {N : Type 0} (read : List ℕ → Option N) (text : List ℕ) (status : ℕ) → status ≡ 22 → Refuses read text status
-out_of_memory read text status e = record {
-  no_front = λ _ h. absurd (omega (arith, e, h));
-  bad = λ h. absurd (omega (arith, e, h));
-  not_utf8 = λ h _. absurd (omega (arith, e, h));
-  others = inr (inr e);
-  some = omega (arith, e);
-}
+use Rattle.wkt_c.specs.Answer.{Refuses, kind_number, dimension_number, read_at}
+use Rattle.wkt_c.proofs.Handing.{out_of_memory}
+use Rattle.wkt_c.specs.Arrays.{AreOf, IsNotFlat, IsNoArrays}
 
 -- a text that isn't UTF-8
 pub no-text : {N : Type 0} (read : List ℕ → Option N) (text : List ℕ) (status : ℕ) → status ≡ 20 → (IsUtf8 text → ⊥) → Refuses read text status
