@@ -16,9 +16,17 @@ fail() { echo "$*"; exit 1; }
 
 # The exported names are those of the header.
 sed -n 's/.*\(wkt_[a-z_]*\)(.*/\1/p' include/wkt.h | grep -vx wkt_status | sort -u > "$dir/declared"
-nm -D --defined-only "$out/libwkt.so" | sed 's/.* //' | sort > "$dir/exported"
+nm -D --defined-only "$out/libwkt.so" | sed 's/.* //' | grep -vx WKT_0 > "$dir/versioned"
+grep -vqE '@@WKT_0$' "$dir/versioned" && fail "libwkt.so: a name of another version"
+sed 's/@.*//' "$dir/versioned" | sort > "$dir/exported"
 cmp -s "$dir/declared" "$dir/exported" || { diff "$dir/declared" "$dir/exported"; fail "libwkt.so: other names"; }
 echo "libwkt.so exports the $(wc -l < "$dir/exported") functions of wkt.h, and nothing else"
+
+# On a processor that lacks what the library is built for, the program ends with words.
+"$cc" -O2 '-DWKT_HAS_CPU=0' -c capi/heap.c -o "$dir/heap.o" && printf 'int main(void) { return 0; }\n' > "$dir/nothing.c" &&
+    "$cc" "$dir/nothing.c" "$dir/heap.o" -o "$dir/nothing" || fail "heap.c: not compiled"
+"$dir/nothing" > "$dir/said" 2>&1 && fail "another processor isn't refused"
+grep -q 'x86-64-v2' "$dir/said" || fail "another processor is refused without words"
 
 wrap="-Wl,--wrap=malloc -Wl,--wrap=realloc"
 # each NAME COMPILER FLAG..: the tests in C, compiled so
@@ -39,6 +47,13 @@ else
 fi
 each "C under ASan and UBSan" "$cc" -O1 -g -fsanitize=address,undefined -fno-sanitize-recover
 if command -v g++ > /dev/null; then each C++ g++ -O2 -x c++; else echo "no g++"; fi
+
+# A million levels on a small stack, and eight threads at once.
+for flags in "-O2" "-O1 -g -fsanitize=thread"; do
+    "$cc" $flags -Wall -Wextra -Werror -I"$out" -o "$dir/deep" capi/tests/deep.c "$out/libwkt.a" -pthread || fail "deep: not compiled"
+    "$dir/deep" > "$dir/said" 2>&1 || { cat "$dir/said"; fail "deep: the tests fail ($flags)"; }
+    echo "nesting and threads ($flags): $(cat "$dir/said")"
+done
 
 # The examples, and the output of wktline where that is built.
 for example in show lines; do

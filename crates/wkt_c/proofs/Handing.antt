@@ -66,11 +66,12 @@ arrays-of a t value kind dimension e (parts, flat, holds) k d = record {
 
 -- the text of a tree whose arrays these are
 pub text-of : (D kind dimension : ℕ) (a : Arrays) (t : Tree ℤ) (numbers : List ℤ) (rings polygons text : List ℕ) (is_value : ℤ → Type 0) →
-    AreArrays (value_of t) kind dimension a.numbers.items a.rings.items a.polygons.items → AreSame a numbers rings polygons →
+    IsWellFormed (IsUnits D) (value_of t) → AreArrays (value_of t) kind dimension a.numbers.items a.rings.items a.polygons.items → AreSame a numbers rings polygons →
     ReadsBack is_value (decimal_text D) (read_decimal 127 36 D) → IsWritten is_value (decimal_text D) (tree_shape t) text →
     IsTextOf D kind dimension numbers rings polygons text
-text-of D kind dimension a t numbers rings polygons text is_value are same back w = record {
+text-of D kind dimension a t numbers rings polygons text is_value fits are same back w = record {
   value = value_of t;
+  fits = fits;
   arrays = record {
     parts = are.parts;
     flat = are.flat;

@@ -10,3 +10,4 @@ pub mod Columns
 pub mod ArrayColumns
 pub mod TextColumns
 pub mod Filled
+pub mod Fitting

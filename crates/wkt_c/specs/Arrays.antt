@@ -1,5 +1,5 @@
 -- A value as flat arrays.
-use Rattle.std.specs.Prelude.{◌≡◌, ◌+◌, ◌⊎◌, ℕ, ℤ, List, [], ◌∷◌, map, flat_map, length, Option, Some, None, option_to_list, IsUtf8}
+use Rattle.std.specs.Prelude.{◌≡◌, ◌+◌, ◌⊎◌, ℕ, ℤ, List, [], ◌∷◌, map, flat_map, length, Option, Some, None, option_to_list, IsUtf8, Bool}
 use Rattle.std.specs.List.{All, Contains}
 use Rattle.wkt_num.specs.Whole.{IsSigned}
 use Rattle.wkt_num.specs.Decimal.{IsUnits}
@@ -13,7 +13,7 @@ use Rattle.wkt_types.specs.declared.coord.Coord.{Coord}
 use Rattle.wkt_read.specs.Front.{Front}
 use Rattle.wkt_read.specs.Kinds.{kind_of, dim_of}
 pub use Rattle.wkt_fill.specs.Arrays.{parts_of, joined, offsets, numbers_in, HasLarge, HasLargeNumber}
-use Rattle.wkt_c.specs.Answer.{read_at, print_at, kind_number, dimension_number, HasNoPlaces, Refuses}
+use Rattle.wkt_c.specs.Answer.{read_at, print_at, kind_number, dimension_number, HasNoPlaces, Refuses, HasMore}
 
 -- The arrays of a value: its kind, its dimension, all its numbers in order, where each ring begins among the coordinates, and where each polygon begins among the rings, with the end of the last.
 pub record AreArrays {N : Type 0} (value : Value N) (kind dimension : ℕ) (numbers : List N) (rings polygons : List ℕ) : Type 0 where
@@ -40,9 +40,10 @@ pub record IsNoArrays (places : ℕ) (text : List ℕ) (status : ℕ) : Type 0 w
   pub front : Front (read_at places) text value end
   pub why : ((status ≡ 24) × (parts_of value ≡ None)) ⊎ ((status ≡ 25) × HasLargeNumber value)
 
--- The text is that of the value of these arrays, and reads back as its canonical value.
+-- The text is that of the value of these arrays, each of whose coordinates has as many numbers as the dimension says, and reads back as its canonical value.
 pub record IsTextOf (places kind dimension : ℕ) (numbers : List ℤ) (rings polygons text : List ℕ) : Type 0 where
   pub value : Value ℤ
+  pub fits : IsWellFormed (IsUnits places) value
   pub arrays : AreArrays value kind dimension numbers rings polygons
   pub is : text ≡ shape_text (print_at places) (shape_of value)
   pub reads : Front (read_at places) text (canon (shape_of value)) (length text)
@@ -50,6 +51,10 @@ pub record IsTextOf (places kind dimension : ℕ) (numbers : List ℤ) (rings po
 -- A point of a multipoint as a ring. Only private contracts cite this.
 abbrev pub member_numbers : {T : Type 0} → HeldPoint (Coord T) → List (List T)
 member_numbers p = option_to_list (point_numbers p)
+
+-- Whole texts are asked for, and more than white space follows the geometry that the text begins with, which ends here.
+abbrev pub HasMoreAt : ℕ → Bool → List ℕ → ℕ → Type 0
+HasMoreAt places whole text end = HasMore (read_at places) whole text end
 
 -- Why a text has no arrays: there are no numbers of so many places, its front is a collection, a number has more units than 64 bits hold, or the text is refused.
 abbrev pub IsNotFlat : ℕ → List ℕ → ℕ → Type 0

@@ -11,3 +11,5 @@ pub mod ArrayRows
 pub mod TextRows
 pub mod Rows
 pub mod Rebuilding
+pub mod Calls
+pub mod Explained

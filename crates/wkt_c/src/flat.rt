@@ -1,11 +1,13 @@
 //! The flat arrays of the geometry that a text begins with.
-ghost use Rattle.std.specs.Prelude.{◌≡◌, MatchResult};
+ghost use Rattle.std.specs.Prelude.{◌≡◌, ◌≤◌, MatchResult};
+ghost use Rattle.wkt_c.specs.Answer.{places_in};
 ghost use Rattle.wkt_c.specs.Flat.{IsFlat};
 ghost use Rattle.wkt_c.specs.Arrays.{IsNotFlat};
 
+use crate::asked::places_of;
 use crate::infer::{number_of_dimension, number_of_kind};
 use crate::refusal::refusal;
-use crate::status::{NO_PLACES, NOT_TEXT};
+use crate::status::NOT_TEXT;
 use std::alloc::Global;
 use wkt::Decimal;
 use wkt_fill::{Filler, fill_arrays};
@@ -42,7 +44,8 @@ pub(crate) fn make_flat<const D: u32>(alloc: Global, text: &[u8]) -> Result<Flat
 }
 
 /// The same, with decimals of so many places.
-pub(crate) fn flat_at(alloc: Global, text: &[u8], places: u32) -> Result<Flat, u32>
+fn flat_at(alloc: Global, text: &[u8], places: u32) -> Result<Flat, u32>
+    requires { places ≤ 18 }
     ensures { MatchResult result (IsFlat places text.now) (IsNotFlat places text.now) }
 {
     match places {
@@ -65,6 +68,14 @@ pub(crate) fn flat_at(alloc: Global, text: &[u8], places: u32) -> Result<Flat, u
         16 => make_flat::<16>(alloc, text),
         17 => make_flat::<17>(alloc, text),
         18 => make_flat::<18>(alloc, text),
-        _ => Err(NO_PLACES),
+        _ => unreachable!(),
     }
+}
+
+/// The same, with decimals of as many places as are asked for.
+pub(crate) fn flat_asked(alloc: Global, text: &[u8], asked: u32) -> Result<Flat, u32>
+    requires { places_in asked ≤ 18 }
+    ensures { MatchResult result (IsFlat (places_in asked) text.now) (IsNotFlat (places_in asked) text.now) }
+{
+    flat_at(alloc, text, places_of(asked))
 }

@@ -5,10 +5,12 @@
 #![tactic(auto)]
 
 mod arrays;
+mod asked;
 mod canonical;
 mod column;
 mod column_arrays;
 mod column_texts;
+mod explain;
 mod exports;
 mod exports_arrays;
 mod fill;

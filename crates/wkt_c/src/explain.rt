@@ -1,0 +1,83 @@
+//! Where a text is refused.
+ghost use Rattle.std.specs.Prelude.{◌≡◌, ◌≤◌, MatchResult};
+ghost use Rattle.wkt_c.specs.Answer.{read_at};
+ghost use Rattle.wkt_c.specs.Explained.{IsExplained, IsUnexplained, expected_number};
+
+use crate::status::{ACCEPTED, MEMORY, NOT_TEXT, message_number};
+use std::alloc::Global;
+use wkt::{Decimal, Expected, WktNum, explain};
+
+/// Where a text is refused, from which byte to which; the number of its message, and that of what could stand there.
+#[derive(Clone, Copy)]
+pub(crate) struct Place {
+    pub(crate) message: u32,
+    pub(crate) start: usize,
+    pub(crate) stop: usize,
+    pub(crate) expected: u32,
+}
+
+fn number_of(expected: Expected) -> u32
+    ensures { result ≡ expected_number expected }
+{
+    match expected {
+        Expected::Kind => 0,
+        Expected::Member => 1,
+        Expected::Dimension => 2,
+        Expected::Opening => 3,
+        Expected::Point => 4,
+        Expected::X => 5,
+        Expected::Y => 6,
+        Expected::Z => 7,
+        Expected::M => 8,
+        Expected::More => 9,
+        Expected::Closing => 10,
+    }
+}
+
+/// Where the text is refused, or the status that says why that isn't told.
+fn explained<T: WktNum>(alloc: Global, text: &[u8]) -> Result<Place, u32>
+    ensures { MatchResult result (λ p. IsExplained T.read text.now p.message p.start p.stop p.expected) (IsUnexplained T.read text.now) }
+{
+    let Ok(text) = str::from_utf8(text) else {
+        return Err(NOT_TEXT);
+    };
+    match explain::<T>(alloc, text) {
+        Ok(Some(why)) => Ok(Place {
+            message: message_number(why.message),
+            start: why.start,
+            stop: why.end,
+            expected: number_of(why.expected),
+        }),
+        Ok(None) => Err(ACCEPTED),
+        Err(_) => Err(MEMORY),
+    }
+}
+
+/// The same, with decimals of so many places.
+pub(crate) fn explained_at(alloc: Global, text: &[u8], places: u32) -> Result<Place, u32>
+    requires { places ≤ 18 }
+    ensures { MatchResult result (λ p. IsExplained (read_at places) text.now p.message p.start p.stop p.expected) (IsUnexplained (read_at places) text.now) }
+{
+    match places {
+        0 => explained::<Decimal<0>>(alloc, text),
+        1 => explained::<Decimal<1>>(alloc, text),
+        2 => explained::<Decimal<2>>(alloc, text),
+        3 => explained::<Decimal<3>>(alloc, text),
+        4 => explained::<Decimal<4>>(alloc, text),
+        5 => explained::<Decimal<5>>(alloc, text),
+        6 => explained::<Decimal<6>>(alloc, text),
+        7 => explained::<Decimal<7>>(alloc, text),
+        8 => explained::<Decimal<8>>(alloc, text),
+        9 => explained::<Decimal<9>>(alloc, text),
+        10 => explained::<Decimal<10>>(alloc, text),
+        11 => explained::<Decimal<11>>(alloc, text),
+        12 => explained::<Decimal<12>>(alloc, text),
+        13 => explained::<Decimal<13>>(alloc, text),
+        14 => explained::<Decimal<14>>(alloc, text),
+        15 => explained::<Decimal<15>>(alloc, text),
+        16 => explained::<Decimal<16>>(alloc, text),
+        17 => explained::<Decimal<17>>(alloc, text),
+        18 => explained::<Decimal<18>>(alloc, text),
+        _ => unreachable!(),
+    }
+}
