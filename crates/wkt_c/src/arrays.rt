@@ -9,8 +9,8 @@ ghost use Rattle.wkt_c.specs.Arrays.{member_numbers, joined, numbers_in};
 
 use crate::status::{MEMORY, NOT_FLAT, TOO_LARGE};
 use std::alloc::Global;
-use wkt::types::{Coord, GeometryType, LineString, Point, Polygon};
-use wkt::{Decimal, Wkt};
+use wkt_num::Decimal;
+use wkt_types::{Coord, GeometryType, LineString, Point, Polygon, Wkt};
 
 /// Flat arrays, as far as they have grown.
 #[derive(Drop)]

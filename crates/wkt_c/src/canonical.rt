@@ -14,8 +14,8 @@ use crate::refusal::refusal_at;
 use crate::room::{make_room, no_room};
 use crate::status::{DONE, MEMORY, NOT_TEXT, NOT_WHOLE, SMALL};
 use std::alloc::Global;
-use wkt::Decimal;
-use wkt::laws::{front_is_writable, one_text};
+use wkt_num::Decimal;
+use wkt_read::laws::{front_is_writable, one_text};
 use wkt_events::{NoRoom, write_canonical};
 
 /// How long a text may be that is answered with no memory.

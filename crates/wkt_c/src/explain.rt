@@ -5,7 +5,8 @@ ghost use Rattle.wkt_c.specs.Explained.{IsExplained, IsUnexplained, expected_num
 
 use crate::status::{ACCEPTED, MEMORY, NOT_TEXT, message_number};
 use std::alloc::Global;
-use wkt::{Decimal, Expected, WktNum, explain};
+use wkt_explain::{Expected, explain};
+use wkt_num::{Decimal, WktNum};
 
 /// Where a text is refused, from which byte to which; the number of its message, and that of what could stand there.
 #[derive(Clone, Copy)]

@@ -6,7 +6,7 @@ ghost use Rattle.wkt_c.specs.Answer.{read_at, print_at, HasNoPlaces};
 use crate::gathered::Gathered;
 use crate::status::{MEMORY, NO_PLACES};
 use std::alloc::Global;
-use wkt::{Decimal, WktNum};
+use wkt_num::{Decimal, WktNum};
 use wkt_lines::write_answers;
 
 /// The answers to all lines of the input.

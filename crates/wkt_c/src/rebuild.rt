@@ -19,13 +19,13 @@ use crate::gathered::Gathered;
 use crate::infer::{number_of_dimension, number_of_kind};
 use crate::status::{MEMORY, NO_PLACES, NOT_ARRAYS};
 use std::alloc::Global;
-use wkt::error::Error as WriteError;
-use wkt::laws::reads_back;
-use wkt::to_wkt::write_geometry;
-use wkt::types::{
-    Coord, Dimension, LineString, MultiLineString, MultiPoint, MultiPolygon, Point, Polygon,
+use wkt_access::Error as WriteError;
+use wkt_num::{Decimal, WktNum};
+use wkt_read::laws::reads_back;
+use wkt_types::{
+    Coord, Dimension, LineString, MultiLineString, MultiPoint, MultiPolygon, Point, Polygon, Wkt,
 };
-use wkt::{Decimal, Wkt, WktNum};
+use wkt_write::write_geometry;
 
 /// Flat arrays of the caller's.
 #[derive(Clone, Copy)]
