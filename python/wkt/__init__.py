@@ -1,39 +1,41 @@
-"""Well-known text by the proved library: canonical texts, comparison, headers, lines, arrays.
+"""Well-known text by the proved library: one canonical text for one geometry, exact decimals, exact refusals.
 
 Numbers are decimals of `places` digits after the point, 0 to 18: nothing is rounded, and a text with more digits is
-refused. Each function but `lines` takes one text, or a list, a NumPy array or an Arrow column of texts, and then gives
-a list; `None` stays `None`. A text that has no answer is a `WktError`;
-`canonical_column`, `to_arrays_column` and `from_arrays_column` give each row's status in its place.
+refused. Most functions take one text, or a column of them: a list, a NumPy array, a Series of pandas, or what lends its
+buffers by Arrow's C data interface. A null row stays null. A text that has no answer is a `WktError`.
+
+    >>> import wkt
+    >>> wkt.canonical("point ( 1.0 2 )")
+    'POINT(1 2)'
+    >>> wkt.canonical(["point(1 2)", None, "POINT(3"], invalid="null")
+    ['POINT(1 2)', None, None]
 """
-from ._calls import (
-    DIMENSIONS,
-    KINDS,
-    Arrays,
-    ColumnArrays,
-    WktError,
-    canonical,
-    canonical_column,
-    from_arrays,
-    from_arrays_column,
-    infer,
-    lines,
-    same,
-    to_arrays,
-    to_arrays_column,
-)
+from ._arrays import Arrays, ColumnArrays, from_arrays, from_arrays_column, to_arrays, to_arrays_column
+from ._arrow import ArrowTexts
+from ._calls import canonical, canonical_column, explain, infer, lines, reads, same
+from ._errors import WktError
+from ._explain import Explanation
+from ._names import DIMENSIONS, KINDS
+
+__version__ = "0.14.0"
 
 __all__ = [
     "DIMENSIONS",
     "KINDS",
     "Arrays",
+    "ArrowTexts",
     "ColumnArrays",
+    "Explanation",
     "WktError",
+    "__version__",
     "canonical",
     "canonical_column",
+    "explain",
     "from_arrays",
     "from_arrays_column",
     "infer",
     "lines",
+    "reads",
     "same",
     "to_arrays",
     "to_arrays_column",

@@ -1,406 +1,200 @@
-"""The functions of the package."""
-import array
+"""The functions on texts."""
 import ctypes
-import itertools
-from typing import Any, Callable, Iterator, List, NamedTuple, Optional, Sequence, Tuple, Union
+from typing import Any, Callable, Iterator, List, Optional, Sequence, Tuple
 
-from . import _library
+from . import _arrow, _library
+from ._blocks import Progress, Room, canonical_blocks
+from ._columns import canonical_like, canonical_rows, check_invalid, column_of, is_series, like, refused_of, rows_of
+from ._errors import check
+from ._explain import Explanation, explained, refusal
 from ._library import size, u32
+from ._names import DIMENSIONS, HEADER_MESSAGES, KINDS, LAST_REFUSAL, MESSAGES, NULL, TOO_SMALL
+from ._values import TEXTS, Text, encoded, is_null, numpy, places_of, zeros
 
-try:
-    import numpy
-except ImportError:  # The functions then give and take sequences of numbers.
-    numpy = None
-
-Text = Union[str, bytes]
-
-KINDS = (
-    "Point",
-    "LineString",
-    "Polygon",
-    "MultiPoint",
-    "MultiLineString",
-    "MultiPolygon",
-    "GeometryCollection",
-)
-DIMENSIONS = ("XY", "XYZ", "XYM", "XYZM")
-
-_MESSAGES = {
-    1: "Invalid WKT format",
-    2: "Encountered non-ascii word",
-    3: "Invalid type encountered",
-    4: "Unexpected word before open paren",
-    5: "End of stream",
-    6: "Missing open parenthesis for type",
-    7: "Missing closing parenthesis for type",
-    8: "Expected a number for the X coordinate",
-    9: "Expected a number for the Y coordinate",
-    10: "Expected a number for the Z coordinate",
-    11: "Expected a number for the M coordinate",
-    12: "Expected a word in GEOMETRYCOLLECTION",
-    13: "Unable to parse input number as the desired output type",
-    14: "Refused",
-    20: "The text is not UTF-8",
-    23: "There are no numbers of so many places",
-    24: "A collection has no flat arrays",
-    25: "A number has more units than 64 bits hold",
-    26: "The arrays are of no geometry",
-    27: "The offsets, the bits or the sizes are of no column",
-}
-_HEADER_MESSAGES = {
-    1: "No kind word",
-    2: "No space before EMPTY",
-    3: "Neither a parenthesis nor EMPTY",
-    20: "The text is not UTF-8",
-}
-_TOO_SMALL, _NO_MEMORY, _NULL = 21, 22, 28
+_INFERRED = HEADER_MESSAGES + MESSAGES[len(HEADER_MESSAGES) :]
 
 
-class WktError(ValueError):
-    """A text, or arrays, without an answer: `message` says why, and `status` is its number."""
-
-    def __init__(self, status: int, message: str) -> None:
-        super().__init__(message)
-        self.status = status
-        self.message = message
+def _is_column(values: Any) -> bool:
+    return not isinstance(values, TEXTS) and (_arrow.is_texts(values) or rows_of(values) is not None)
 
 
-class Arrays(NamedTuple):
-    """A geometry as flat arrays, as `wkt_arrays` in include/wkt.h gives them.
+def _text_canonical(text: Text, places: int) -> str:
+    data, end = encoded(text), size()
 
-    `numbers` are whole units of ten to the minus `places`, coordinate after coordinate. `rings` are where each ring
-    begins among the coordinates, and the end of the last; `polygons` where each polygon begins among the rings, and
-    the end of the last. They are NumPy arrays where NumPy is installed, and else of Python's `array`.
+    def call(out: Any, length: int, needed: Any) -> int:
+        status: int = _library.wkt_canonical(data, len(data), places, out, length, needed, ctypes.byref(end))
+        if 1 <= status <= LAST_REFUSAL:
+            raise refusal(status, text, places)
+        return status
+
+    return Room(len(data) + 32).text(call)
+
+
+def canonical(text: Any, places: int = 18, invalid: str = "raise", progress: Progress = None) -> Any:
+    """The one text of the geometry that a text begins with; of a column a column of the same kind.
+
+    text: str or bytes, of which what follows the geometry isn't looked at; or a column: a list or a tuple (a list
+    comes back), a NumPy array of any shape (objects come back as objects, bytes as bytes), a Series of pandas (with its
+    index and name), or what has `__arrow_c_array__` (`ArrowTexts` comes back, with no object for a row). A row that is
+    None, NaN or pandas.NA is null and stays so: it is None.
+    places: digits after the point, 0 to 18: a text with more is refused, since nothing is rounded.
+    invalid: what becomes of a refused row: "raise" (a WktError), "null", or "keep": the row as it was given.
+    progress: a function that is called with how many rows are done, or True: tqdm's bar above a million rows.
+
+    WktError: the text is refused (1 to 14), isn't UTF-8 (20), or there are no such places (23). It has the row, and as
+    `explanation` where in the text, and what was expected. TypeError: a text or a row is no text, or places no int.
+    OverflowError: places is below 0, or too large for 32 bits.
     """
+    places = places_of(places)
+    if _is_column(text):
+        return canonical_like(text, places, invalid, progress)
+    check_invalid(invalid)
+    return _text_canonical(text, places)
 
-    kind: str
-    dimension: str
-    numbers: Any
-    rings: Any
-    polygons: Any
 
+def canonical_column(texts: Any, places: int = 18, progress: Progress = None) -> Tuple[List[Optional[str]], List[int]]:
+    """The canonical texts of a column as a list, and the status of each row: no row raises.
 
-class ColumnArrays(NamedTuple):
-    """The arrays of a column of texts, as `wkt_column_arrays` in include/wkt.h gives them.
-
-    Row i has the kind `KINDS[kinds[i]]`, the dimension `DIMENSIONS[dimensions[i]]`, and what `Arrays` calls its
-    `numbers` from `number_offsets[i]` to `number_offsets[i + 1]` in `numbers`; so its `rings` and its `polygons`.
-    Where `statuses[i]` isn't 0 it has none of these: 28 of a None, and else why it has no arrays. All are NumPy arrays
-    where NumPy is installed, and else of Python's `array`.
+    A status is 0, or 28 of a null row, or why the text is refused; where it isn't 0 there is None for a text.
     """
-
-    kinds: Any
-    dimensions: Any
-    numbers: Any
-    number_offsets: Any
-    rings: Any
-    ring_offsets: Any
-    polygons: Any
-    polygon_offsets: Any
-    statuses: Any
-
-    def row(self, i: int) -> Arrays:
-        """The arrays of a row, which are parts of the column's."""
-        numbers, rings, polygons = (
-            values[offsets[i] : offsets[i + 1]]
-            for values, offsets in zip(self[2:8:2], self[3:8:2])
-        )
-        return Arrays(KINDS[self.kinds[i]], DIMENSIONS[self.dimensions[i]], numbers, rings, polygons)
+    places = places_of(places)
+    answers, statuses = canonical_rows(column_of(texts), places, "null", progress)
+    return answers, statuses.tolist()
 
 
-def _encoded(text: Text) -> bytes:
-    if isinstance(text, str):
-        return text.encode("utf-8", "surrogatepass")
-    return bytes(text)
+def _text_same(one: Text, other: Text, places: int) -> bool:
+    a, b, answer = encoded(one), encoded(other), u32()
+    status = _library.wkt_same(a, len(a), b, len(b), places, ctypes.byref(answer))
+    if 1 <= status <= LAST_REFUSAL:
+        wrong = one if explained(one, places) is not None else other
+        raise refusal(status, wrong, places)
+    check(status)
+    return answer.value == 1
 
 
-def _check(status: int, messages=_MESSAGES) -> None:
-    if status == _NO_MEMORY:
-        raise MemoryError
-    if status:
-        raise WktError(status, messages.get(status, "Status %d" % status))
+def same(one: Any, other: Any, places: int = 18, invalid: str = "raise", progress: Progress = None) -> Any:
+    """Whether two texts begin with one geometry: whether their canonical texts are equal.
 
-
-def _places(places: int) -> int:
-    if not 0 <= places <= 18:
-        raise WktError(23, _MESSAGES[23])
-    return places
-
-
-def _column(values: Any) -> Optional[Sequence[Any]]:
-    """The values of a list, a tuple, a NumPy array or an Arrow column; None of a single value."""
-    if isinstance(values, (str, bytes, bytearray, memoryview)):
-        return None
-    if isinstance(values, (list, tuple)):
-        return values
-    for method in ("to_pylist", "tolist"):
-        if hasattr(values, method):
-            return getattr(values, method)()
-    return None
-
-
-def _of_each(call: Callable[[Any], Any], values: Any) -> Any:
-    column = _column(values)
-    if column is None:
-        return call(values)
-    return [None if value is None else call(value) for value in column]
-
-
-def _answer(call: Callable[[Any, int, Any], int], likely: int) -> bytes:
-    """What a call writes, which tells how much room it needs where that is too little."""
-    room, needed = likely, size()
-    while True:
-        out = ctypes.create_string_buffer(room)
-        status = call(out, room, ctypes.byref(needed))
-        if status != _TOO_SMALL:
-            _check(status)
-            return out.raw[: needed.value]
-        room = needed.value
-
-
-def canonical(text: Any, places: int = 18) -> Any:
-    """The one text of the geometry that a text begins with; of many texts a list, by one call."""
-    places = _places(places)
-    column = _column(text)
-    if column is not None:
-        answers, statuses = canonical_column(column, places)
-        for status in statuses:
-            _check(0 if status == _NULL else status)
-        return answers
-    data, end = _encoded(text), size()
-
-    def call(out, room, needed):
-        return _library.wkt_canonical(data, len(data), places, out, room, needed, ctypes.byref(end))
-
-    return _answer(call, len(data) + 32).decode()
-
-
-def _bits(rows: Sequence[Any]) -> bytes:
-    """A bit for each row, from the lowest on, which is 0 where the row is None."""
-    bits = bytearray((len(rows) + 7) // 8)
-    for i, row in enumerate(rows):
-        bits[i // 8] |= (row is not None) << i % 8
-    return bytes(bits)
-
-
-def _packed(rows: Sequence[Any]) -> Tuple[bytes, Any, bytes]:
-    """The bytes of all rows, where each begins, with the end of the last, and their bits, if any row is None."""
-    try:
-        joined = "".join(rows)
-    except TypeError:
-        joined = "\x80"
-    if joined.isascii():
-        return joined.encode(), array.array("q", itertools.accumulate(map(len, rows), initial=0)), b""
-    held = [b"" if row is None else _encoded(row) for row in rows]
-    return b"".join(held), array.array("q", itertools.accumulate(map(len, held), initial=0)), _bits(rows)
-
-
-def canonical_column(texts: Any, places: int = 18) -> Tuple[List[Optional[str]], List[int]]:
-    """The canonical texts of a list, a NumPy array or an Arrow column of texts, and the status of each, by one call.
-
-    A status is 0, or 28 of a None, or why the text is refused; where it isn't 0 there is None for a text.
+    Of two columns of one length, or a column and a text, a list of bool, and None where a row is null in either.
+    invalid: "raise" or "null": None where a row is refused in either. places, progress, errors: as of `canonical`; the
+    WktError of a column names the first row that is refused. ValueError: the columns have different lengths.
     """
-    places = _places(places)
-    column = _column(texts)
-    if column is None:
-        raise TypeError("a column of texts is wanted, and not one text")
-    data, offsets, valid = _packed(column)
-    rows = len(column)
-    ends, statuses = array.array("q", bytes(8 * len(offsets))), (u32 * rows)()
+    places = places_of(places)
+    check_invalid(invalid, ("raise", "null"))
+    columns = [_is_column(one), _is_column(other)]
+    if not any(columns):
+        return _text_same(one, other, places)
+    ones, others = (column_of(it) if column else None for it, column in zip((one, other), columns))
+    rows = len(ones if ones is not None else others or ())
+    if ones is None or others is None:
+        return _same_as(ones if ones is not None else others or (), other if others is None else one, places, invalid, progress)
+    if len(others) != rows:
+        raise ValueError("columns of %d and of %d rows" % (rows, len(others)))
+    answers: List[Optional[bool]] = []
+    blocks = zip(canonical_blocks(ones, places, progress), canonical_blocks(others, places))
+    for (first, texts, told), (_, their_texts, their_told) in blocks:
+        if invalid == "raise":
+            _raise_of_two(((ones, told), (others, their_told)), first, places)
+        answers += [None if a is None or b is None else a == b for a, b in zip(texts, their_texts)]
+    return answers
 
-    def call(out, room, needed):
-        return _library.wkt_column_canonical(
-            data, len(data), offsets.buffer_info()[0], len(offsets), valid, len(valid), places, out, room,
-            ends.buffer_info()[0], len(ends), statuses, rows, needed,
-        )  # fmt: skip
 
-    answers = _answer(call, len(data) + len(data) // 4 + 64).decode("ascii")
-    bounds = zip(statuses, ends, ends[1:])
-    return [None if status else answers[start:end] for status, start, end in bounds], list(statuses)
+def _raise_of_two(both: Sequence[Tuple[Sequence[Any], Any]], first: int, places: int) -> None:
+    """Raises the error of the first row that is refused in one of two columns and null in neither."""
+    rows = sorted({i for _, told in both for i in refused_of(told)})
+    for i in rows:
+        if any(told[i] == NULL for _, told in both):
+            continue
+        for column, told in both:
+            if told[i]:
+                raise refusal(int(told[i]), column[first + i], places, first + i)
 
 
-def same(one: Any, other: Any, places: int = 18) -> Any:
-    """Whether two texts begin with one geometry; of two columns of one length a list, row by row."""
-    places = _places(places)
-    ones, others = _column(one), _column(other)
-    if ones is None and others is None:
-        a, b, answer = _encoded(one), _encoded(other), u32()
-        _check(_library.wkt_same(a, len(a), b, len(b), places, ctypes.byref(answer)))
-        return answer.value == 1
-    if ones is None:
-        ones = [one] * len(others)
-    if others is None:
-        others = [other] * len(ones)
-    if len(ones) != len(others):
-        raise ValueError("columns of %d and of %d rows" % (len(ones), len(others)))
-    return [None if a is None or b is None else same(a, b, places) for a, b in zip(ones, others)]
+def _same_as(column: Sequence[Any], text: Any, places: int, invalid: str, progress: Progress) -> List[Optional[bool]]:
+    """Whether each row of a column names the geometry of one text."""
+    if is_null(text):
+        return [None] * len(column)
+    wanted = _text_canonical(text, places)
+    answers, _ = canonical_rows(column, places, invalid, progress)
+    return [None if answer is None else answer == wanted for answer in answers]
+
+
+def _text_kind(text: Text, row: Optional[int] = None) -> Tuple[str, str]:
+    data, kind, dimension = encoded(text, row), u32(), u32()
+    status = _library.wkt_infer(data, len(data), ctypes.byref(kind), ctypes.byref(dimension))
+    check(status, _INFERRED, row)
+    return KINDS[kind.value], DIMENSIONS[dimension.value]
 
 
 def infer(text: Any) -> Any:
-    """The kind and the dimension that the header of a text names; of many texts a list."""
+    """The kind and the dimension that the header of a text names, by their names in KINDS and DIMENSIONS.
 
-    def one(text: Text) -> Tuple[str, str]:
-        data, kind, dimension = _encoded(text), u32(), u32()
-        status = _library.wkt_infer(data, len(data), ctypes.byref(kind), ctypes.byref(dimension))
-        _check(status, _HEADER_MESSAGES)
-        return KINDS[kind.value], DIMENSIONS[dimension.value]
+    The rest isn't read. Of a column a list, with None of a null row. WktError: the text begins with no kind word (1),
+    EMPTY comes first with no space before it (2), there is neither a parenthesis nor EMPTY (3), or it isn't UTF-8 (20).
+    """
+    if not _is_column(text):
+        return _text_kind(text)
+    return [None if is_null(row) else _text_kind(row, i) for i, row in enumerate(column_of(text))]
 
-    return _of_each(one, text)
+
+def reads(text: Any, places: int = 18, progress: Progress = None) -> Any:
+    """Whether a text begins with a geometry: whether `canonical` answers it.
+
+    Of a column a bool of each row, as an array or a Series of bool where the column is one, and else a list; of a null
+    row False. It says nothing on what Shapely calls valid: a polygon that crosses itself reads. places, progress: as of
+    `canonical`.
+    """
+    places = places_of(places)
+    if not _is_column(text):
+        data = encoded(text)
+        status = _library.wkt_canonical(data, len(data), places, None, 0, ctypes.byref(size()), ctypes.byref(size()))
+        if status > TOO_SMALL:
+            check(status)
+        return status in (0, TOO_SMALL)
+    if _arrow.is_texts(text):
+        return _arrow.statuses(text, places, progress) == 0
+    told: List[bool] = []
+    for _, _, statuses in canonical_blocks(column_of(text), places, progress):
+        told += [status == 0 for status in statuses.tolist()]
+    return like(text, told, bool)
+
+
+def explain(text: Any, places: int = 18, progress: Progress = None) -> Any:
+    """Where and why a text is refused, as an `Explanation`; None where it begins with a geometry.
+
+    Of a column a list, with None of a row that is read or null. places, progress: as of `canonical`.
+    WktError: the text isn't UTF-8 (20): it has no place that could be named. In a column it is a row of None too.
+    """
+    places = places_of(places)
+    if not _is_column(text):
+        return explained(text, places)
+    rows = column_of(text)
+    answers: List[Optional[Explanation]] = [None] * len(rows)
+    for first, _, statuses in canonical_blocks(rows, places, progress):
+        for i in refused_of(statuses):
+            if statuses[i] <= LAST_REFUSAL:
+                answers[first + i] = explained(rows[first + i], places)
+    return answers
 
 
 def lines(data: Any, places: int = 18) -> Any:
     """For each line of some bytes the canonical text of its geometry, or `refused`, and a line feed, by one call.
 
-    Of many texts, none of which holds a line feed, it gives a list of the answers.
+    data: str or bytes; bytes come back. Of a column, none of whose texts holds a line feed, a list of the answers, with
+    None of a null row. places: as of `canonical`. ValueError: a text of a column holds a line feed.
     """
-    places = _places(places)
-    column = _column(data)
-    if column is None:
-        data = _encoded(data)
+    places = places_of(places)
+    if not _is_column(data):
+        held = encoded(data)
 
-        def call(out, room, needed):
-            return _library.wkt_lines(data, len(data), places, out, room, needed)
+        def call(out: Any, length: int, needed: Any) -> int:
+            status: int = _library.wkt_lines(held, len(held), places, out, length, needed)
+            return status
 
-        return _answer(call, len(data) + len(data) // 4 + 64)
-    rows = [b"" if row is None else _encoded(row) for row in column]
+        return Room(len(held) + len(held) // 4 + 64).bytes(call)
+    column = column_of(data)
+    rows = [b"" if is_null(row) else encoded(row, i) for i, row in enumerate(column)]
     if any(b"\n" in row for row in rows):
         raise ValueError("a text of a column holds a line feed")
     answers = lines(b"".join(row + b"\n" for row in rows), places).decode().split("\n")
-    return [None if row is None else answer for row, answer in zip(column, answers)]
-
-
-_TYPES = {"q": "int64", "Q": "uint64", "I": "uint32"}
-
-
-def _buffer(code: str, length: int) -> Any:
-    if numpy is not None:
-        return numpy.zeros(length, _TYPES[code])
-    return array.array(code, bytes(array.array(code).itemsize * length))
-
-
-def _address(values: Any) -> int:
-    return values.ctypes.data if numpy is not None else values.buffer_info()[0]
-
-
-def _rows(held: ColumnArrays) -> Iterator[Tuple[int, Optional[Arrays]]]:
-    """The status and the arrays of each row."""
-
-    def parts(values: Any, offsets: Any) -> Iterator[Any]:
-        bounds = offsets.tolist()
-        return (values[start:end] for start, end in zip(bounds, bounds[1:]))
-
-    words = zip(held.statuses.tolist(), held.kinds.tolist(), held.dimensions.tolist())
-    lists = zip(*(parts(values, offsets) for values, offsets in zip(held[2:8:2], held[3:8:2])))
-    for (status, kind, dimension), three in zip(words, lists):
-        yield status, None if status else Arrays(KINDS[kind], DIMENSIONS[dimension], *three)
-
-
-def _parts(*held: Any) -> Any:
-    """Where each of these begins, and how long it is."""
-    return itertools.chain.from_iterable((_address(values), len(values)) for values in held)
-
-
-def _three(told: Any, likely: int, call: Callable[..., int]) -> Tuple[Any, Any, Any]:
-    """The numbers and the offsets of rings and of polygons that a call fills, which tells how many they are."""
-    room = (likely, likely, likely)
-    while True:
-        held = [_buffer(c, n) for c, n in zip("qQQ", room)]
-        status = call(*_parts(*held))
-        if status != _TOO_SMALL:
-            break
-        room = (told.numbers, told.rings, told.polygons)
-    _check(status)
-    numbers, rings, polygons = held
-    return numbers[: told.numbers], rings[: told.rings], polygons[: told.polygons]
-
-
-def to_arrays(text: Any, places: int = 6) -> Any:
-    """The geometry that a text begins with as flat arrays; of many texts a list, by one call. Collections have none."""
-    places = _places(places)
-    column = _column(text)
-    if column is not None:
-        rows = _rows(to_arrays_column(column, places))
-        return [arrays if status in (0, _NULL) else _check(status) for status, arrays in rows]
-    data, told = _encoded(text), _library.Sizes()
-
-    def call(*three):
-        return _library.wkt_arrays(data, len(data), places, ctypes.byref(told), *three)
-
-    three = _three(told, len(data) // 2 + 4, call)
-    return Arrays(KINDS[told.kind], DIMENSIONS[told.dimension], *three)
-
-
-def to_arrays_column(texts: Any, places: int = 6) -> ColumnArrays:
-    """The flat arrays of a list, a NumPy array or an Arrow column of texts, and the status of each, by one call."""
-    places = _places(places)
-    column = _column(texts)
-    if column is None:
-        raise TypeError("a column of texts is wanted, and not one text")
-    data, offsets, valid = _packed(column)
-    kinds, dimensions, statuses = (_buffer("I", len(column)) for _ in range(3))
-    ends = [_buffer("q", len(offsets)) for _ in range(3)]
-    told = _library.ColumnSizes()
-
-    def call(*three):
-        joined = zip(three[0::2], three[1::2], ends)
-        return _library.wkt_column_arrays(
-            data, len(data), offsets.buffer_info()[0], len(offsets), valid, len(valid), places, ctypes.byref(told),
-            *_parts(kinds, dimensions),
-            *itertools.chain.from_iterable((at, count, *_parts(end)) for at, count, end in joined),
-            *_parts(statuses),
-        )  # fmt: skip
-
-    three = _three(told, len(data) // 8 + 2 * len(column) + 8, call)
-    return ColumnArrays(kinds, dimensions, *itertools.chain.from_iterable(zip(three, ends)), statuses)
-
-
-def _held(code: str, values: Any) -> Any:
-    if numpy is not None:
-        return numpy.ascontiguousarray(values, _TYPES[code]).reshape(-1)
-    return array.array(code, values)
-
-
-def from_arrays(arrays: Any, places: int = 6) -> Any:
-    """The canonical text of the geometry of flat arrays, as `to_arrays` gives them; of a list of them a list."""
-    places = _places(places)
-
-    def one(arrays: Arrays) -> str:
-        kind, dimension, *rest = arrays
-        numbers, rings, polygons = (_held(c, values) for c, values in zip("qQQ", rest))
-
-        def call(out, room, needed):
-            return _library.wkt_from_arrays(
-                KINDS.index(kind), DIMENSIONS.index(dimension),
-                _address(numbers), len(numbers), _address(rings), len(rings), _address(polygons), len(polygons),
-                places, out, room, needed,
-            )  # fmt: skip
-
-        return _answer(call, 16 * len(numbers) + 32).decode()
-
-    # A tuple is one geometry: Arrays is one, and so is what is given in its place.
-    return one(arrays) if isinstance(arrays, tuple) else _of_each(one, arrays)
-
-
-def from_arrays_column(arrays: ColumnArrays, places: int = 6) -> Tuple[List[Optional[str]], List[int]]:
-    """The canonical texts of the arrays of a column, as `to_arrays_column` gives them, and the status of each, by one call.
-
-    A status is 0, 28 of a row whose status in `arrays` isn't 0, or 26 where a row's arrays are of no geometry; where it
-    isn't 0 there is None for a text.
-    """
-    places = _places(places)
-    held = [_held(code, values) for code, values in zip("IIqqQqQq", arrays)]
-    rows = len(held[0])
-    if len(arrays.statuses) != rows:
-        raise WktError(27, _MESSAGES[27])
-    valid = b"" if not any(arrays.statuses) else _bits([None if status else status for status in arrays.statuses])
-    ends, statuses = array.array("q", bytes(8 * (rows + 1))), (u32 * rows)()
-
-    def call(out, room, needed):
-        return _library.wkt_column_from_arrays(
-            *_parts(*held), valid, len(valid), places, out, room,
-            ends.buffer_info()[0], len(ends), statuses, rows, needed,
-        )  # fmt: skip
-
-    answers = _answer(call, 12 * len(held[2]) + 24 * rows + 64).decode("ascii")
-    bounds = zip(statuses, ends, ends[1:])
-    return [None if status else answers[start:end] for status, start, end in bounds], list(statuses)
+    return [None if is_null(row) else answer for row, answer in zip(column, answers)]

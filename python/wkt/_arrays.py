@@ -1,0 +1,280 @@
+"""Geometries as flat arrays of numbers, one by one and as columns."""
+import ctypes
+import itertools
+import operator
+from typing import Any, Callable, Iterator, List, NamedTuple, Optional, Tuple
+
+from . import _arrow, _library
+from ._blocks import Progress, Packed, Room, pack, parts, pointer, shown, unpacked
+from ._columns import check_invalid, column_of, refused_of, rows_of
+from ._errors import WktError, check, words_of
+from ._explain import refusal
+from ._names import DIMENSIONS, KINDS, NOT_COLUMN, NULL, TOO_SMALL
+from ._values import Text, encoded, integers, is_null, numpy, places_of, zeros
+
+# Rows that a call takes: with NumPy, by which the parts are joined, few enough that a signal or a callback gets its turn.
+BLOCK = 1 << 18
+CODES = dict(kinds="I", dimensions="I", numbers="q", number_offsets="q", rings="Q", ring_offsets="q", polygons="Q", polygon_offsets="q")
+
+
+class Arrays(NamedTuple):
+    """A geometry as flat arrays, as `wkt_arrays` in include/wkt.h gives them.
+
+    kind: one of KINDS. dimension: one of DIMENSIONS; a coordinate has 2, 3, 3 or 4 numbers.
+    numbers: shape (coordinates x width,), int64, whole units of ten to the minus `places`, coordinate after coordinate.
+    rings: shape (rings + 1,), uint64: where each ring begins among the coordinates, and the end of the last. A line
+    string, a line and a point count as a ring.
+    polygons: shape (polygons + 1,), uint64: where each polygon begins among the rings, and the end of the last. The
+    rings of each kind but MultiPolygon count as one polygon.
+
+    They are NumPy arrays where NumPy is installed, and else of Python's `array`.
+    """
+
+    kind: str
+    dimension: str
+    numbers: Any
+    rings: Any
+    polygons: Any
+
+
+class ColumnArrays(NamedTuple):
+    """The arrays of a column of texts, as `wkt_column_arrays` in include/wkt.h gives them.
+
+    kinds, dimensions: shape (rows,), uint32: indices of KINDS and DIMENSIONS.
+    numbers, rings, polygons: what `Arrays` has of each row, one row's after the other's.
+    number_offsets, ring_offsets, polygon_offsets: shape (rows + 1,), int64: where each row's begin in these three, and
+    the end of the last.
+    statuses: shape (rows,), uint32: 0 of a row that has arrays, 28 of a null one, and else why the row has none.
+
+    They are NumPy arrays where NumPy is installed, and else of Python's `array`.
+    """
+
+    kinds: Any
+    dimensions: Any
+    numbers: Any
+    number_offsets: Any
+    rings: Any
+    ring_offsets: Any
+    polygons: Any
+    polygon_offsets: Any
+    statuses: Any
+
+    def row(self, i: int) -> Arrays:
+        """The arrays of a row, which are parts of the column's. Indices are those of a list: -1 is the last row.
+
+        A row that is null or refused has arrays without numbers. IndexError: there is no such row.
+        """
+        rows = len(self.kinds)
+        i = operator.index(i)
+        if not -rows <= i < rows:
+            raise IndexError("row %d of a column of %d rows" % (i, rows))
+        i %= rows
+        numbers, rings, polygons = (
+            values[offsets[i] : offsets[i + 1]] for values, offsets in zip(self[2:8:2], self[3:8:2])
+        )
+        return Arrays(KINDS[self.kinds[i]], DIMENSIONS[self.dimensions[i]], numbers, rings, polygons)
+
+    def geoarrow(self, places: int = 6) -> Any:
+        """The rows as GeoArrow has them, with coordinates as doubles: see `wkt.GeoArrow`."""
+        from ._geoarrow import geoarrow
+
+        return geoarrow(self, places_of(places))
+
+
+def _parts(*held: Any) -> Any:
+    """Where each of these begins, and how long it is."""
+    return itertools.chain.from_iterable((pointer(values), len(values)) for values in held)
+
+
+def _three(told: Any, likely: int, call: Callable[..., int]) -> Tuple[Any, Any, Any]:
+    """The numbers and the offsets of rings and of polygons that a call fills, which says how many they are."""
+    room = (likely, likely, likely)
+    while True:
+        held = [zeros(code, length) for code, length in zip("qQQ", room)]
+        status = call(*_parts(*held))
+        if status != TOO_SMALL:
+            break
+        room = (told.numbers, told.rings, told.polygons)
+    check(status)
+    numbers, rings, polygons = held
+    return numbers[: told.numbers], rings[: told.rings], polygons[: told.polygons]
+
+
+def _text_arrays(text: Text, places: int) -> Arrays:
+    data, told = encoded(text), _library.Sizes()
+
+    def call(*three: Any) -> int:
+        status: int = _library.wkt_arrays(data, len(data), places, ctypes.byref(told), *three)
+        if status and status != TOO_SMALL and status < 20:
+            raise refusal(status, text, places)
+        return status
+
+    three = _three(told, len(data) // 2 + 4, call)
+    return Arrays(KINDS[told.kind], DIMENSIONS[told.dimension], *three)
+
+
+def to_arrays(text: Any, places: int = 6, invalid: str = "raise", progress: Progress = None) -> Any:
+    """The geometry that a text begins with as `Arrays`; of a column a list of them, with None of a null row.
+
+    places: digits after the point, 0 to 18; a number is whole units of ten to the minus `places`.
+    invalid: of a column, "raise" or "null": None of a row that has no arrays.
+    WktError: the text is refused (1 to 14, 20), is a collection (24), or has a number that 64 bits don't hold (25).
+    """
+    places = places_of(places)
+    check_invalid(invalid, ("raise", "null"))
+    if rows_of(text) is None and not _arrow.is_texts(text):
+        return _text_arrays(text, places)
+    held = to_arrays_column(text, places, progress)
+    if invalid == "raise":
+        for row in refused_of(held.statuses)[:1]:
+            raise refusal(int(held.statuses[row]), column_of(text)[row], places, row)
+    return list(_rows(held))
+
+
+def _rows(held: ColumnArrays) -> Iterator[Optional[Arrays]]:
+    """The arrays of each row."""
+
+    def cut(values: Any, offsets: Any) -> Iterator[Any]:
+        bounds = offsets.tolist()
+        return (values[start:end] for start, end in zip(bounds, bounds[1:]))
+
+    words = zip(held.statuses.tolist(), held.kinds.tolist(), held.dimensions.tolist())
+    lists = zip(*(cut(values, offsets) for values, offsets in zip(held[2:8:2], held[3:8:2])))
+    for (status, kind, dimension), three in zip(words, lists):
+        yield None if status else Arrays(KINDS[kind], DIMENSIONS[dimension], *three)
+
+
+def _column_call(held: Packed, places: int) -> ColumnArrays:
+    """The arrays of some rows by one call."""
+    kinds, dimensions, statuses = (zeros("I", held.rows) for _ in range(3))
+    ends = [zeros("q", held.rows + 1) for _ in range(3)]
+    told = _library.ColumnSizes()
+
+    def call(*three: Any) -> int:
+        joined = zip(three[0::2], three[1::2], ends)
+        status: int = _library.wkt_column_arrays(
+            *parts(held), places, ctypes.byref(told),
+            *_parts(kinds, dimensions),
+            *itertools.chain.from_iterable((at, count, *_parts(end)) for at, count, end in joined),
+            *_parts(statuses),
+        )  # fmt: skip
+        return status
+
+    three = _three(told, len(held.data) // 8 + 2 * held.rows + 8, call)
+    return ColumnArrays(kinds, dimensions, *itertools.chain.from_iterable(zip(three, ends)), statuses)
+
+
+def _joined(blocks: List[ColumnArrays]) -> ColumnArrays:
+    """The arrays of all blocks as those of one column."""
+    if len(blocks) == 1:
+        return blocks[0]
+    made: List[Any] = []
+    for name, several in zip(ColumnArrays._fields, zip(*blocks)):
+        if name.endswith("_offsets"):
+            before = itertools.accumulate((int(offsets[-1]) for offsets in several), initial=0)
+            several = [offsets[:-1] + base for offsets, base in zip(several, before)] + [
+                numpy.array([sum(int(offsets[-1]) for offsets in several)], numpy.int64)
+            ]
+        made.append(numpy.concatenate(several))
+    return ColumnArrays(*made)
+
+
+def to_arrays_column(texts: Any, places: int = 6, progress: Progress = None) -> ColumnArrays:
+    """The flat arrays of a column of texts and the status of each row, as `ColumnArrays`: no row raises.
+
+    texts: a list, a tuple, a NumPy array, a Series, or an Arrow column. places: as of `to_arrays`.
+    progress: a function that is called with how many rows are done, or True: tqdm's bar above a million rows.
+    """
+    places = places_of(places)
+    arrow = _arrow.is_texts(texts)
+    held, kept = _arrow.packed(texts) if arrow else (None, None)
+    rows = () if arrow else column_of(texts)
+    count = held.rows if held is not None else len(rows)
+    step = BLOCK if numpy is not None else max(count, 1)
+    blocks = []
+    with shown(progress, count) as tell:
+        for first in range(0, max(count, 1), step):
+            part = pack(rows[first : first + step], first) if held is None else _arrow.part(held, first, step)
+            blocks.append(_column_call(part, places))
+            tell(first + part.rows)
+    del kept
+    return _joined(blocks)
+
+
+def _index(names: Tuple[str, ...], name: Any, what: str) -> int:
+    if not isinstance(name, str):
+        raise TypeError("a %s is a str, and not %s" % (what, type(name).__name__))
+    if name not in names:
+        raise ValueError("a %s is one of %s, and not %r" % (what, ", ".join(names), name))
+    return names.index(name)
+
+
+def _arrays_text(arrays: Any, places: int, row: Optional[int] = None) -> str:
+    kind, dimension, *rest = arrays
+    at, width = _index(KINDS, kind, "kind"), _index(DIMENSIONS, dimension, "dimension")
+    three = [integers(c, values, what) for c, values, what in zip("qQQ", rest, ("numbers", "rings", "polygons"))]
+    room = Room(16 * len(three[0]) + 32)
+
+    def call(out: Any, length: int, needed: Any) -> int:
+        status: int = _library.wkt_from_arrays(at, width, *_parts(*three), places, out, length, needed)
+        if status != TOO_SMALL:
+            check(status, row=row)
+        return status
+
+    return room.text(call)
+
+
+def from_arrays(arrays: Any, places: int = 6) -> Any:
+    """The canonical text of the geometry of `Arrays`; of a list of them a list, with None of a None.
+
+    Each of the numbers, rings and polygons is an int: a list of int or an array of integers. They are copied before
+    they are looked at. places: as of `to_arrays`.
+    TypeError: one is a float, a bool or another type. OverflowError: one is out of the range of its 64 bits.
+    WktError: the arrays are of no geometry (26); in a list it names the row.
+    """
+    places = places_of(places)
+    # A tuple is one geometry: Arrays is one, and so is what is given in its place.
+    if isinstance(arrays, tuple):
+        return _arrays_text(arrays, places)
+    rows = rows_of(arrays)
+    if rows is None:
+        raise TypeError("arrays are wkt.Arrays or a list of them, and not %s" % type(arrays).__name__)
+    return [None if is_null(each) else _arrays_text(each, places, row) for row, each in enumerate(rows)]
+
+
+def from_arrays_column(arrays: ColumnArrays, places: int = 6) -> Tuple[List[Optional[str]], List[int]]:
+    """The canonical texts of `ColumnArrays`, and the status of each row, by one call.
+
+    A status is 0, 28 of a row whose status in `arrays` isn't 0, or 26 where a row's arrays are of no geometry; where it
+    isn't 0 there is None for a text. All arrays are copied before they are looked at.
+    TypeError, OverflowError: as of `from_arrays`. WktError: the offsets are of no column (27).
+    """
+    places = places_of(places)
+    held = [integers(code, getattr(arrays, name), name) for name, code in CODES.items()]
+    given = integers("I", arrays.statuses, "statuses")
+    rows = len(held[0])
+    if len(given) != rows:
+        raise WktError(NOT_COLUMN, words_of(NOT_COLUMN))
+    valid = _valid_bits(given)
+    ends, statuses = zeros("q", rows + 1), zeros("I", rows)
+
+    def call(out: Any, length: int, needed: Any) -> int:
+        status: int = _library.wkt_column_from_arrays(
+            *_parts(*held, valid), places, out, length, *_parts(ends, statuses), needed
+        )
+        return status
+
+    room = Room(12 * len(held[2]) + 24 * rows + 64)
+    return unpacked(room.out, room.call(call), ends, statuses), statuses.tolist()
+
+
+def _valid_bits(statuses: Any) -> bytes:
+    """The bits of the rows that have arrays; none where all have."""
+    if numpy is not None:
+        return b"" if not statuses.any() else bytes(numpy.packbits(statuses == 0, bitorder="little").tobytes())
+    if not any(statuses):
+        return b""
+    bits = bytearray((len(statuses) + 7) // 8)
+    for i, status in enumerate(statuses):
+        bits[i // 8] |= (status == 0) << i % 8
+    return bytes(bits)

@@ -1,0 +1,154 @@
+"""Columns go through the library by blocks of rows, each by one call over buffers, without the interpreter's lock."""
+import array
+import ctypes
+import itertools
+from typing import Any, Callable, Iterator, List, NamedTuple, Optional, Sequence, Tuple, Union
+
+from . import _library
+from ._errors import check
+from ._library import size, u32
+from ._names import TOO_SMALL
+from ._values import address, encoded, is_null, zeros
+
+_fast: Any
+try:
+    from . import _fast  # type: ignore[no-redef]
+except ImportError:  # The package then needs no compiler, and makes the buffers in Python.
+    _fast = None
+
+BLOCK = 1 << 16
+Progress = Union[None, bool, Callable[[int], Any]]
+
+
+class Packed(NamedTuple):
+    """Texts as Arrow's large_utf8 has them: the bytes of all, where each begins, with the end of the last, and bits."""
+
+    data: Any
+    offsets: Any
+    bits: Any
+    rows: int
+
+
+def _bits(rows: Sequence[Any]) -> bytes:
+    """A bit for each row, from the lowest on, which is 0 where the row is null."""
+    bits = bytearray((len(rows) + 7) // 8)
+    for i, row in enumerate(rows):
+        bits[i // 8] |= (not is_null(row)) << i % 8
+    return bytes(bits)
+
+
+def pack(rows: Sequence[Any], first: int = 0) -> Packed:
+    """The buffers of some rows, of which the first is this one of its column."""
+    made = None if _fast is None else _fast.pack(rows)
+    if made is not None:
+        return Packed(*made, len(rows))
+    try:
+        joined = "".join(rows)
+    except TypeError:
+        joined = "\x80"
+    if joined.isascii():
+        return Packed(joined.encode(), array.array("q", itertools.accumulate(map(len, rows), initial=0)), b"", len(rows))
+    held = [b"" if is_null(row) else encoded(row, first + i) for i, row in enumerate(rows)]
+    offsets = array.array("q", itertools.accumulate(map(len, held), initial=0))
+    return Packed(b"".join(held), offsets, _bits(rows), len(rows))
+
+
+def pointer(values: Any) -> Any:
+    """Where a buffer begins, as a call takes it."""
+    return values if isinstance(values, bytes) else address(values)
+
+
+def parts(held: Packed) -> Tuple[Any, ...]:
+    """The six arguments of a call that name a column."""
+    return (
+        pointer(held.data), len(held.data), pointer(held.offsets), held.rows + 1, pointer(held.bits), len(held.bits),
+    )  # fmt: skip
+
+
+def unpacked(out: Any, needed: int, ends: Any, statuses: Any) -> List[Optional[str]]:
+    """The texts in a buffer, and None where a status isn't 0."""
+    if _fast is not None:
+        answers: List[Optional[str]] = _fast.unpack(out, ends, statuses)
+        return answers
+    text = str(memoryview(out)[:needed], "ascii")
+    bounds = zip(statuses, ends, ends[1:])
+    return [None if status else text[start:end] for status, start, end in bounds]
+
+
+class Room:
+    """A buffer for answers, which grows where a call says that it is too small."""
+
+    def __init__(self, likely: int) -> None:
+        self.out = ctypes.create_string_buffer(max(likely, 1))
+        self.needed = size()
+
+    def call(self, call: Callable[[Any, int, Any], int]) -> int:
+        """How many bytes a call has written."""
+        while True:
+            status = call(self.out, len(self.out), ctypes.byref(self.needed))
+            if status != TOO_SMALL:
+                check(status)
+                return self.needed.value
+            self.out = ctypes.create_string_buffer(self.needed.value)
+
+    def bytes(self, call: Callable[[Any, int, Any], int]) -> bytes:
+        """What a call has written."""
+        length = self.call(call)
+        return memoryview(self.out)[:length].tobytes()
+
+    def text(self, call: Callable[[Any, int, Any], int]) -> str:
+        """The canonical text that a call has written."""
+        return self.bytes(call).decode("ascii")
+
+
+Block = Tuple[int, List[Optional[str]], Any]
+
+
+def canonical_blocks(rows: Sequence[Any], places: int, progress: Progress = None) -> Iterator[Block]:
+    """Of each block of rows where it begins, the canonical texts, and the status of each row."""
+    room = Room(1)
+    with shown(progress, len(rows)) as tell:
+        for first in range(0, len(rows), BLOCK):
+            held = pack(rows[first : first + BLOCK], first)
+            if len(room.out) < len(held.data) + len(held.data) // 8 + 64:
+                room = Room(len(held.data) + len(held.data) // 8 + 64)
+            ends, statuses = zeros("q", held.rows + 1), zeros("I", held.rows)
+            needed = _canonical_call(held, places, room, ends, statuses)
+            yield first, unpacked(room.out, needed, ends, statuses), statuses
+            tell(first + held.rows)
+
+
+def _canonical_call(held: Packed, places: int, room: Room, ends: Any, statuses: Any) -> int:
+    def call(out: Any, length: int, needed: Any) -> int:
+        status: int = _library.wkt_column_canonical(
+            *parts(held), places, out, length, pointer(ends), held.rows + 1, pointer(statuses), held.rows, needed
+        )
+        return status
+
+    return room.call(call)
+
+
+class shown:
+    """Says how many rows are done: by a callback, or by tqdm where there are more than a million."""
+
+    def __init__(self, progress: Progress, rows: int) -> None:
+        self.bar: Any = None
+        self.tell = progress if callable(progress) else None
+        if progress is True:
+            import tqdm
+
+            if rows > 1_000_000:
+                self.bar = tqdm.tqdm(total=rows, unit=" rows", unit_scale=True)
+
+    def __enter__(self) -> Callable[[int], None]:
+        def told(done: int) -> None:
+            if self.bar is not None:
+                self.bar.update(done - self.bar.n)
+            if self.tell is not None:
+                self.tell(done)
+
+        return told
+
+    def __exit__(self, *error: Any) -> None:
+        if self.bar is not None:
+            self.bar.close()

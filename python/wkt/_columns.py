@@ -1,0 +1,90 @@
+"""What counts as a column, and how its answers come back in the same kind."""
+from typing import Any, List, Optional, Sequence, Tuple
+
+from . import _arrow
+from ._blocks import Progress, canonical_blocks
+from ._explain import refusal
+from ._names import NULL
+from ._values import TEXTS, numpy, zeros
+
+INVALID = ("raise", "null", "keep")
+
+
+def is_series(values: Any) -> bool:
+    """Whether it is a Series of pandas, or what works as one."""
+    return all(hasattr(values, name) for name in ("to_numpy", "index", "name", "dtype"))
+
+
+def rows_of(values: Any) -> Optional[Sequence[Any]]:
+    """The rows of a column as a list or a tuple; None of a single value."""
+    if isinstance(values, TEXTS):
+        return None
+    if isinstance(values, (list, tuple)):
+        return values
+    if numpy is not None and isinstance(values, numpy.ndarray):
+        return None if values.ndim == 0 else list(values.reshape(-1).tolist())
+    for method in ("to_pylist", "tolist", "to_list"):
+        if hasattr(values, method):
+            rows = getattr(values, method)()
+            return rows if isinstance(rows, list) else None
+    return None
+
+
+def column_of(values: Any) -> Sequence[Any]:
+    """The rows of what has to be a column."""
+    rows = rows_of(values)
+    if rows is None:
+        raise TypeError("a column of texts is a list, an array or a Series, and not %s" % type(values).__name__)
+    return rows
+
+
+def like(values: Any, answers: List[Any], kind: Any = None) -> Any:
+    """Answers in the kind of what was given: a Series with its index and name, an array of its shape, or a list."""
+    if is_series(values):
+        text = kind is None and str(values.dtype).startswith("string")
+        dtype = values.dtype if text else kind or "object"
+        return type(values)(answers, index=values.index, name=values.name, dtype=dtype)
+    if numpy is None or not isinstance(values, numpy.ndarray):
+        return answers
+    made = numpy.empty(len(answers), kind or object)
+    made[:] = answers
+    if kind is None and values.dtype.kind in "SU":
+        # Arrays of a fixed width have no null: its place is an empty text.
+        made = numpy.array(["" if answer is None else answer for answer in answers], values.dtype.kind)
+    return made.reshape(values.shape)
+
+
+def refused_of(statuses: Any) -> Any:
+    """The rows that are neither answered nor null, by their number."""
+    if numpy is not None:
+        return numpy.flatnonzero((statuses != 0) & (statuses != NULL)).tolist()
+    return [i for i, status in enumerate(statuses) if status not in (0, NULL)]
+
+
+def check_invalid(invalid: Any, known: Sequence[str] = INVALID) -> None:
+    """A ValueError unless it is one of these words."""
+    if invalid not in known:
+        raise ValueError("invalid is %s, and not %r" % (" or ".join(map(repr, known)), invalid))
+
+
+def canonical_rows(rows: Sequence[Any], places: int, invalid: str, progress: Progress) -> Tuple[List[Any], Any]:
+    """The canonical texts of some rows, and the status of each."""
+    answers: List[Any] = []
+    told = zeros("I", len(rows))
+    for first, texts, statuses in canonical_blocks(rows, places, progress):
+        told[first : first + len(statuses)] = statuses
+        if invalid != "null":
+            for i in refused_of(statuses):
+                if invalid == "raise":
+                    raise refusal(int(statuses[i]), rows[first + i], places, first + i)
+                texts[i] = rows[first + i]
+        answers += texts
+    return answers, told
+
+
+def canonical_like(values: Any, places: int, invalid: str, progress: Progress) -> Any:
+    """The canonical texts of a column, in its kind."""
+    check_invalid(invalid)
+    if _arrow.is_texts(values):
+        return _arrow.canonical(values, places, invalid, progress)
+    return like(values, canonical_rows(column_of(values), places, invalid, progress)[0])

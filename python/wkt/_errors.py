@@ -1,0 +1,48 @@
+"""What is raised where there is no answer."""
+from typing import TYPE_CHECKING, Any, Optional, Sequence, Tuple
+
+from ._names import MESSAGES, NO_MEMORY
+
+if TYPE_CHECKING:
+    from ._explain import Explanation
+
+
+class WktError(ValueError):
+    """A text, or arrays, without an answer.
+
+    `status` is the number of the reason, as include/wkt.h has it, and `message` its words. `row` is the row of a
+    column in which it stands, from 0 on, and None of one text. `explanation` says where the text is refused and what
+    could stand there, where that is known (`wkt.explain` gives it).
+    """
+
+    def __init__(
+        self, status: int, message: str, row: Optional[int] = None, explanation: "Optional[Explanation]" = None
+    ) -> None:
+        # All arguments are kept, so that the error can be copied and goes from one process to another.
+        super().__init__(status, message, row, explanation)
+        self.status = status
+        self.message = message
+        self.row = row
+        self.explanation = explanation
+
+    def __reduce__(self) -> Tuple[Any, ...]:
+        return type(self), (self.status, self.message, self.row, self.explanation), self.__dict__
+
+    def __str__(self) -> str:
+        words = self.message if self.row is None else "row %d: %s" % (self.row, self.message)
+        if self.explanation is None:
+            return words
+        return "%s; at %d %s was expected" % (words, self.explanation.start, self.explanation.expected)
+
+
+def words_of(status: int, messages: Sequence[str] = MESSAGES) -> str:
+    """The words of a status."""
+    return (messages[status] if status < len(messages) else "") or "Status %d" % status
+
+
+def check(status: int, messages: Sequence[str] = MESSAGES, row: Optional[int] = None) -> None:
+    """Raises what belongs to a status, unless it is 0."""
+    if status == NO_MEMORY:
+        raise MemoryError
+    if status:
+        raise WktError(status, words_of(status, messages), row)

@@ -1,0 +1,102 @@
+"""The names that the package shares with the other languages."""
+# names.py: python (tests/names.py --write makes this of docs/names.tsv)
+# The words of a status, at its number.
+MESSAGES = (
+    "",
+    "Invalid WKT format",
+    "Encountered non-ascii word",
+    "Invalid type encountered",
+    "Unexpected word before open paren",
+    "End of stream",
+    "Missing open parenthesis for type",
+    "Missing closing parenthesis for type",
+    "Expected a number for the X coordinate",
+    "Expected a number for the Y coordinate",
+    "Expected a number for the Z coordinate",
+    "Expected a number for the M coordinate",
+    "Expected a word in GEOMETRYCOLLECTION",
+    "Unable to parse input number as the desired output type",
+    "Refused",
+    "",
+    "",
+    "",
+    "",
+    "",
+    "The text is not UTF-8",
+    "A buffer has no room",
+    "Out of memory",
+    "There are no numbers of so many places",
+    "A collection has no flat arrays",
+    "A number has more units than 64 bits hold",
+    "The arrays are of no geometry",
+    "The offsets, the bits or the sizes are of no column",
+    "The row is null",
+)
+# The words of the statuses 1 to 3 of wkt_infer.
+HEADER_MESSAGES = (
+    "",
+    "No kind word",
+    "No space before EMPTY",
+    "Neither a parenthesis nor EMPTY",
+)
+# The kinds, at their numbers.
+KINDS = (
+    "Point",
+    "LineString",
+    "Polygon",
+    "MultiPoint",
+    "MultiLineString",
+    "MultiPolygon",
+    "GeometryCollection",
+)
+# Their kind words.
+KIND_WORDS = (
+    "POINT",
+    "LINESTRING",
+    "POLYGON",
+    "MULTIPOINT",
+    "MULTILINESTRING",
+    "MULTIPOLYGON",
+    "GEOMETRYCOLLECTION",
+)
+# The dimensions, at their numbers.
+DIMENSIONS = (
+    "XY",
+    "XYZ",
+    "XYM",
+    "XYZM",
+)
+# What stands after a kind word for each.
+DIMENSION_WORDS = (
+    "",
+    "Z",
+    "M",
+    "ZM",
+)
+# What could stand where a text is refused, at its number.
+EXPECTED = (
+    "a kind of geometry, such as POINT,",
+    "a member of the collection",
+    "`(`, EMPTY, Z, M or ZM",
+    "`(` or EMPTY",
+    "a first number, `(` or EMPTY",
+    "a first number",
+    "a second number",
+    "a number z",
+    "a number m",
+    "`,` or `)`",
+    "`)`",
+)
+# Statuses.
+OK = 0
+LAST_REFUSAL = 14
+NOT_UTF8 = 20
+TOO_SMALL = 21
+NO_MEMORY = 22
+NO_PLACES = 23
+COLLECTION = 24
+TOO_LARGE = 25
+NOT_ARRAYS = 26
+NOT_COLUMN = 27
+NULL = 28
+# names.py: end

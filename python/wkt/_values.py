@@ -1,0 +1,127 @@
+"""The arguments of the functions: what each takes, and what it refuses."""
+import array
+import operator
+from typing import Any, Optional, Union
+
+from ._errors import WktError, words_of
+from ._names import NO_PLACES
+
+numpy: Any
+try:
+    import numpy
+except ImportError:  # The functions then give and take sequences of numbers.
+    numpy = None
+
+Text = Union[str, bytes, bytearray, memoryview]
+TEXTS = (str, bytes, bytearray, memoryview)
+# Of each kind of integers the type of an item in NumPy, the least and the largest.
+INTEGERS = {"q": ("int64", -(2**63), 2**63 - 1), "Q": ("uint64", 0, 2**64 - 1), "I": ("uint32", 0, 2**32 - 1)}
+_NULLS = ("NAType", "NaTType")
+
+
+def encoded(text: Any, row: Optional[int] = None) -> bytes:
+    """The bytes of a text. They are copied, so that nothing changes them during a call."""
+    if isinstance(text, str):
+        return text.encode("utf-8", "surrogatepass")
+    if isinstance(text, bytes):
+        return text
+    if isinstance(text, (bytearray, memoryview)):
+        return bytes(text)
+    where = "" if row is None else "row %d: " % row
+    raise TypeError("%sa text is a str or bytes, and not %s" % (where, type(text).__name__))
+
+
+def is_null(row: Any) -> bool:
+    """Whether a row of a column is null: None, NaN, or pandas' NA or NaT."""
+    if row is None:
+        return True
+    if isinstance(row, TEXTS):
+        return False
+    if isinstance(row, float) or (numpy is not None and isinstance(row, numpy.floating)):
+        return bool(row != row)
+    return type(row).__name__ in _NULLS
+
+
+def integer(value: Any, what: str) -> int:
+    """A value that is an integer, and no bool."""
+    if isinstance(value, bool) or (numpy is not None and isinstance(value, numpy.bool_)):
+        raise TypeError("%s is an int, and not bool" % what)
+    try:
+        return operator.index(value)
+    except TypeError:
+        raise TypeError("%s is an int, and not %s" % (what, type(value).__name__)) from None
+
+
+def places_of(places: Any) -> int:
+    """The places of a call: a TypeError unless it is an int, an OverflowError unless 32 bits hold it."""
+    places = integer(places, "places")
+    if not 0 <= places < 2**32:
+        raise OverflowError("places is 0 to 18, and not %d" % places)
+    if places > 18:
+        raise WktError(NO_PLACES, words_of(NO_PLACES))
+    return int(places)
+
+
+def _too_large(code: str, value: Any, what: str) -> OverflowError:
+    least, most = INTEGERS[code][1:]
+    return OverflowError("%s are of %d to %d, and not %s" % (what, least, most, value))
+
+
+def _of_numpy(code: str, values: Any, what: str) -> Any:
+    if values.dtype.kind not in "iu":
+        raise TypeError("%s are integers, and not of %s" % (what, values.dtype))
+    name, least, most = INTEGERS[code]
+    # A copy, so that nothing changes them between this check and the end of the call.
+    values = numpy.array(values, order="C").reshape(-1)
+    if values.size and values.dtype != name:
+        for value in (int(values.min()), int(values.max())):
+            if not least <= value <= most:
+                raise _too_large(code, value, what)
+    return values.astype(name, copy=False)
+
+
+def _listed(values: Any, what: str) -> Any:
+    """The ints of a list, of an array of `array`, or of another sequence."""
+    if isinstance(values, TEXTS[:3]):
+        raise TypeError("%s are a sequence of ints, and not %s" % (what, type(values).__name__))
+    if isinstance(values, (array.array, memoryview)):
+        code = values.typecode if isinstance(values, array.array) else values.format
+        if code.lstrip("@=<>!") not in list("bBhHiIlLqQnN"):
+            raise TypeError("%s are integers, and not of the type %r" % (what, code))
+    return values.tolist() if hasattr(values, "tolist") else list(values)
+
+
+def integers(code: str, values: Any, what: str) -> Any:
+    """A copy of some ints as an array of one type, of NumPy where that is installed.
+
+    A TypeError where one is no int (a float, a bool, a Decimal, a str), an OverflowError where one is out of range.
+    """
+    if numpy is not None:
+        if hasattr(values, "to_numpy"):
+            values = values.to_numpy()
+        if isinstance(values, numpy.ndarray) and values.dtype.kind != "O":
+            return _of_numpy(code, values, what)
+    values = _listed(values, what)
+    # Nearly always all are ints; others are looked at one by one.
+    if set(map(type, values)) - {int}:
+        values = [integer(value, "each of the %s" % what) for value in values]
+    try:
+        held = array.array(code, values)
+    except OverflowError:
+        least, most = INTEGERS[code][1:]
+        raise _too_large(code, next(it for it in values if not least <= it <= most), what) from None
+    return held if numpy is None else numpy.array(held, INTEGERS[code][0])
+
+
+def zeros(code: str, length: int) -> Any:
+    """An array for a call to fill."""
+    if numpy is not None:
+        return numpy.zeros(length, INTEGERS[code][0])
+    return array.array(code, bytes(array.array(code).itemsize * length))
+
+
+def address(values: Any) -> int:
+    """Where an array of `zeros` or `integers` begins."""
+    if isinstance(values, array.array):
+        return values.buffer_info()[0]
+    return int(values.ctypes.data)

@@ -1,0 +1,103 @@
+//! The names that the crate shares with the other languages.
+#![allow(dead_code)]
+// names.py: rust (tests/names.py --write makes this of docs/names.tsv)
+/// The words of a status, at its number.
+pub const MESSAGES: [&str; 29] = [
+    "",
+    "Invalid WKT format",
+    "Encountered non-ascii word",
+    "Invalid type encountered",
+    "Unexpected word before open paren",
+    "End of stream",
+    "Missing open parenthesis for type",
+    "Missing closing parenthesis for type",
+    "Expected a number for the X coordinate",
+    "Expected a number for the Y coordinate",
+    "Expected a number for the Z coordinate",
+    "Expected a number for the M coordinate",
+    "Expected a word in GEOMETRYCOLLECTION",
+    "Unable to parse input number as the desired output type",
+    "Refused",
+    "",
+    "",
+    "",
+    "",
+    "",
+    "The text is not UTF-8",
+    "A buffer has no room",
+    "Out of memory",
+    "There are no numbers of so many places",
+    "A collection has no flat arrays",
+    "A number has more units than 64 bits hold",
+    "The arrays are of no geometry",
+    "The offsets, the bits or the sizes are of no column",
+    "The row is null",
+];
+/// The words of the statuses 1 to 3 of wkt_infer.
+pub const HEADER_MESSAGES: [&str; 4] = [
+    "",
+    "No kind word",
+    "No space before EMPTY",
+    "Neither a parenthesis nor EMPTY",
+];
+/// The kinds, at their numbers.
+pub const KINDS: [&str; 7] = [
+    "Point",
+    "LineString",
+    "Polygon",
+    "MultiPoint",
+    "MultiLineString",
+    "MultiPolygon",
+    "GeometryCollection",
+];
+/// Their kind words.
+pub const KIND_WORDS: [&str; 7] = [
+    "POINT",
+    "LINESTRING",
+    "POLYGON",
+    "MULTIPOINT",
+    "MULTILINESTRING",
+    "MULTIPOLYGON",
+    "GEOMETRYCOLLECTION",
+];
+/// The dimensions, at their numbers.
+pub const DIMENSIONS: [&str; 4] = ["XY", "XYZ", "XYM", "XYZM"];
+/// What stands after a kind word for each.
+pub const DIMENSION_WORDS: [&str; 4] = ["", "Z", "M", "ZM"];
+/// What could stand where a text is refused, at its number.
+pub const EXPECTED: [&str; 11] = [
+    "a kind of geometry, such as POINT,",
+    "a member of the collection",
+    "`(`, EMPTY, Z, M or ZM",
+    "`(` or EMPTY",
+    "a first number, `(` or EMPTY",
+    "a first number",
+    "a second number",
+    "a number z",
+    "a number m",
+    "`,` or `)`",
+    "`)`",
+];
+/// Done.
+pub const OK: u32 = 0;
+/// Refused.
+pub const LAST_REFUSAL: u32 = 14;
+/// The text is not UTF-8.
+pub const NOT_UTF8: u32 = 20;
+/// A buffer has no room.
+pub const TOO_SMALL: u32 = 21;
+/// Out of memory.
+pub const NO_MEMORY: u32 = 22;
+/// There are no numbers of so many places.
+pub const NO_PLACES: u32 = 23;
+/// A collection has no flat arrays.
+pub const COLLECTION: u32 = 24;
+/// A number has more units than 64 bits hold.
+pub const TOO_LARGE: u32 = 25;
+/// The arrays are of no geometry.
+pub const NOT_ARRAYS: u32 = 26;
+/// The offsets, the bits or the sizes are of no column.
+pub const NOT_COLUMN: u32 = 27;
+/// The row is null.
+pub const NULL: u32 = 28;
+// names.py: end
