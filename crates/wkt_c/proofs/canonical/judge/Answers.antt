@@ -1,0 +1,21 @@
+use Rattle.wkt_access.specs.Shapes.{shape_of}
+use Rattle.wkt_c.proofs.Handing.{same_lists, iff-more}
+use Rattle.wkt_c.proofs.canonical.judge.Goals as goal
+
+pub returns : goal.returns
+returns c =
+    let a = c.requires.first in
+    let b = c.requires.second in
+    let first = c.laws_at.ensures.writable _ a.value _ a.front in
+    let second = c.laws_at.ensures.writable _ b.value _ b.front in
+    let texts = same_lists _ _ _ _ c.is_one.ensures a.is b.is in
+    record {
+      utf8 = a.utf8;
+      other_utf8 = b.utf8;
+      first = a.value;
+      second = b.value;
+      front = a.front;
+      other_front = b.front;
+      texts = texts;
+      values = iff-more texts (c.laws_at.ensures.text (shape_of a.value) (shape_of b.value) first.1 second.1 first.2 second.2);
+    }
