@@ -11,3 +11,4 @@ pub mod ArrayColumns
 pub mod TextColumns
 pub mod Filled
 pub mod Fitting
+pub mod Chunks

@@ -13,3 +13,4 @@ pub mod Rows
 pub mod Rebuilding
 pub mod Calls
 pub mod Explained
+pub mod Chunks

@@ -2,6 +2,7 @@
 ghost use Rattle.std.specs.Prelude.{◌≡◌, ◌≤◌, ◌≢◌, ◌⊎◌, ℕ, List, Bool, length};
 ghost use Rattle.wkt_lines.specs.Output.{IsOutput};
 ghost use Rattle.wkt_c.specs.Answer.{read_at, print_at, places_in, asks_whole, EndsAsAsked, IsCanonical, HasMore, Compares, RefusesAt, RefusesOneAt, IsNamed, NamesNone, HasNoPlaces, IsHandedOut, HasNoRoom, same_number};
+ghost use Rattle.wkt_c.specs.Chunks.{AnswersSome, AnswersNone, ends_here};
 ghost use Rattle.wkt_c.specs.Column.{AreColumnAnswers, IsColumn, IsNoColumn};
 ghost use Rattle.wkt_c.specs.Arrays.{IsTextOf, IsNoTextAt, IsNotFlat, HasMoreAt};
 ghost use Rattle.wkt_c.specs.Explained.{IsExplained, IsUnexplained};
@@ -9,6 +10,7 @@ ghost use Rattle.wkt_c.specs.Sizes.{AreHandedOut, HaveNoRoom};
 
 use crate::asked::{ends_as_asked, has_places};
 use crate::canonical::canonical;
+use crate::chunks::{is_last, some_at};
 use crate::column::{GivenColumn, Rows, answers, is_column};
 use crate::explain::explained_at;
 use crate::fill::{copy_to_front, copy_whole, hand_out};
@@ -186,6 +188,39 @@ pub extern "C" fn wkt_lines(
 {
     match answers_at(alloc, input, places) {
         Ok(text) => hand_out(&text, out, needed),
+        Err(status) => status,
+    }
+}
+
+/// Writes the answers to as many whole lines at the front of `input` as fit to the front of `out`: `taken` tells how many
+/// bytes of the input they are, and `written` how many bytes of `out` are answers; what stands behind these means nothing.
+/// Where `last` isn't 0 the input ends here, and what is left behind its last line feed is a line too. Numbers are
+/// decimals of so many places.
+#[unsafe(no_mangle)]
+pub extern "C" fn wkt_lines_some(
+    alloc: Global,
+    input: &[u8],
+    places: u32,
+    last: u32,
+    out: &mut [u8],
+    taken: &mut usize,
+    written: &mut usize,
+) -> u32
+    ensures answered { result ≡ DONE →
+        AnswersSome (read_at places) (print_at places) (ends_here last) input.now taken.new written.new out.new }
+    ensures others { 1 ≤ result → HasNoPlaces places result
+        ⊎ AnswersNone (read_at places) (print_at places) (ends_here last) input.now out.old result }
+    ensures kept { 1 ≤ result → (taken.new ≡ taken.old) × (written.new ≡ written.old) }
+{
+    if places > 18 {
+        return NO_PLACES;
+    }
+    match some_at(alloc, input, places, is_last(last), out) {
+        Ok(answered) => {
+            *taken = answered.taken;
+            *written = answered.written;
+            DONE
+        }
         Err(status) => status,
     }
 }

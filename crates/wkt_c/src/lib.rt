@@ -7,6 +7,7 @@
 mod arrays;
 mod asked;
 mod canonical;
+mod chunks;
 mod column;
 mod column_arrays;
 mod column_texts;

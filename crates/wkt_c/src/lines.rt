@@ -11,7 +11,7 @@ use wkt_lines::write_answers;
 
 /// The answers to all lines of the input.
 #[tactic(auto, using(crate::proofs::Answering::output_gathered))]
-fn answers<T: WktNum>(alloc: Global, input: &[u8]) -> Result<Vec<u8>, u32>
+pub(crate) fn answers<T: WktNum>(alloc: Global, input: &[u8]) -> Result<Vec<u8>, u32>
     ensures { MatchResult result (λ v. IsOutput T.read T.num input.now v.items) (λ s. s ≡ MEMORY) }
 {
     let Ok(mut sink) = Gathered::new(alloc, input.len()) else {
