@@ -4,8 +4,8 @@
  * text's number may have up to 2^127. Nothing is rounded: a text with more digits after the point is refused.
  * `places` is 0 to 18.
  *
- * Every function answers a status. After any status but WKT_OK the caller's buffers are as they were, and so is what a
- * call tells (*needed, *end, *same, *sizes ..), but where a comment says that it is told. Texts need no 0 at the end,
+ * Every function answers a status. After any status but WKT_OK the caller's buffers are as they were (but for
+ * wkt_lines_some), and so is what a call tells (*needed, *end, *same, *sizes ..), but where a comment says that it is told. Texts need no 0 at the end,
  * and may hold any bytes.
  *
  * Each function is proved to do what its comment says, in crates/wkt_c/src/exports.rt. Only tested, and not proved, are
@@ -22,8 +22,8 @@
  *   process with threads. Calls may run side by side on several threads: there is no state between calls;
  * - arrays that are passed to a call, offsets too, don't change while it runs.
  *
- * The library is built for x86-64 processors with SSE4.2 and POPCNT (x86-64-v2, all since about 2009). Where it is loaded
- * on another, it says so on standard error and ends the process. */
+ * The library is built for x86-64 processors with SSE4.2 and POPCNT (x86-64-v2, all since about 2009). Loaded on another
+ * it says so on standard error and ends the process. */
 #ifndef WKT_H
 #define WKT_H
 #include <stddef.h>
@@ -40,8 +40,8 @@ const char *wkt_version(void);
 #define WKT_HAS_EXPLAIN 1
 #define WKT_NO_STACK 1
 
-/* Added to `places`: each text, or each row, is to be one geometry as a whole. One that has more than white space behind
- * its geometry is answered with WKT_NOT_WHOLE; a 0 byte is more. For the calls whose comment names it. */
+/* Added to `places`: each text, or each row, is to be one geometry as a whole. One that has more than white space
+ * behind its geometry is answered with WKT_NOT_WHOLE; a 0 byte is more. For the calls whose comment names it. */
 #define WKT_WHOLE 256u
 
 typedef uint32_t wkt_status;
@@ -111,11 +111,21 @@ wkt_status wkt_infer(const uint8_t *text, size_t text_len, uint32_t *kind, uint3
 wkt_status wkt_lines(const uint8_t *input, size_t input_len, uint32_t places, uint8_t *out, size_t out_len,
                      size_t *needed);
 
+/* The same piece by piece: as many whole lines at the front of the input as fit. *taken: how many bytes of the input they
+ * are; *written: how many bytes of out are their answers; what stands behind them in out means nothing. last: 1 where the
+ * input ends here, so that what is left behind its last line feed is a line too; else 0, and the caller puts more behind
+ * what is left. The answers of successive calls, one after the other, are those of wkt_lines to all of the input. *taken is
+ * 0 only where there is no whole line. WKT_TOO_SMALL: not even the first lines' answers fit. 22, 23. After any but WKT_OK
+ * out means nothing, and nothing is taken. */
+wkt_status wkt_lines_some(const uint8_t *input, size_t input_len, uint32_t places, uint32_t last,
+                          uint8_t *out, size_t out_len, size_t *taken, size_t *written);
+
 /* A column at once, as Arrow's large_utf8 has it. Row i is the bytes of texts from offsets[i] to offsets[i + 1], so
  * there is one offset more than rows. valid: bit i % 8, from the lowest on, of byte i / 8 is 0 where row i is null;
  * NULL and 0 where no row is. out_offsets has room for as many offsets, statuses for a status of each row.
  * WKT_OK: the canonical texts of all rows are in out, one after the other, and *needed is their length; row i's is from
- * out_offsets[i] to out_offsets[i + 1]. statuses[i] is WKT_OK, or why row i has no text: 1..14, 20, WKT_NULL, or WKT_NOT_WHOLE, with WKT_WHOLE.
+ * out_offsets[i] to out_offsets[i + 1]. statuses[i] is WKT_OK, or why row i has no text: 1..14, 20, WKT_NULL, or, with
+ * WKT_WHOLE, WKT_NOT_WHOLE.
  * WKT_TOO_SMALL: *needed is their length. 22, 23. WKT_NOT_COLUMN: an offset is less than the one before it, or past
  * texts (as one below 0 is), or a size fits no such column. After any but WKT_OK the three buffers are as they were. */
 wkt_status wkt_column_canonical(const uint8_t *texts, size_t texts_len, const int64_t *offsets, size_t offsets_len,
@@ -151,8 +161,8 @@ typedef struct {
  * alone: kinds[i] and dimensions[i]; the numbers from number_offsets[i] to number_offsets[i + 1] of numbers; and so its
  * offsets of rings and of polygons, each of which begins with 0. The three buffers of offsets have room for as many
  * offsets as are given, kinds, dimensions and statuses for one of each row. statuses[i] is WKT_OK, or why row i has no
- * arrays: 1..14, 20, 24, 25, WKT_NULL, or WKT_NOT_WHOLE, with WKT_WHOLE; there are no numbers and no offsets of such a row, and its kind and dimension
- * are 0. WKT_OK: *sizes tells how much of numbers, rings and polygons is filled. WKT_TOO_SMALL: *sizes tells how much
+ * arrays: 1..14, 20, 24, 25, WKT_NULL, or, with WKT_WHOLE, WKT_NOT_WHOLE; there are no numbers and no offsets of such a
+ * row, and its kind and dimension are 0. WKT_OK: *sizes tells how much of numbers, rings and polygons is filled. WKT_TOO_SMALL: *sizes tells how much
  * each of the three needs. 22, 23. WKT_NOT_COLUMN: as of wkt_column_canonical. After any but WKT_OK the nine buffers are
  * as they were. */
 wkt_status wkt_column_arrays(const uint8_t *texts, size_t texts_len, const int64_t *offsets, size_t offsets_len,

@@ -87,11 +87,12 @@ done
 cat "$dir/said"
 
 # The examples, and the output of wktline.
-for example in show lines; do
+for example in show lines stream; do
     "$cc" -O2 -I"$out" -o "$dir/$example" capi/examples/$example.c "$out/libwkt.a" || fail "$example: not compiled"
 done
 "$dir/show" > /dev/null || fail "show fails"
 "$dir/lines" < crates/wktline/stdin | cmp - crates/wktline/stdout || fail "lines: another output than wktline's"
+"$dir/stream" < crates/wktline/stdin | cmp - crates/wktline/stdout || fail "stream: another output than wktline's"
 echo "examples: the output of wktline"
 
 for python in "${pythons[@]}"; do

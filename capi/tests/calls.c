@@ -212,6 +212,36 @@ static void many_lines(void) {
     CHECK(wkt_lines(BYTES("POINT(1 2.5)"), 0, out, ROOM, &needed) == WKT_OK && holds("refused\n"));
 }
 
+/* The same lines in chunks, by buffers of each size, are answered as all at once. */
+static void some_lines(void) {
+    const char *input = "point(1 2.50)\nnonsense\n\nPOINT EMPTY\nLINESTRING(0 0, 1 1)";
+    const char *answers = "POINT(1 2.5)\nrefused\nrefused\nPOINT EMPTY\nLINESTRING(0 0,1 1)\n";
+    size_t in_room, out_room, taken = 99, written = 99;
+    for (in_room = 21; in_room < 70; in_room++)
+        for (out_room = 21; out_room < 90; out_room++) {
+            size_t at = 0, n = 0, turns = 0, size = strlen(input);
+            uint8_t all[ROOM], piece[ROOM];
+            while (at < size && turns++ < 100) {
+                size_t left = size - at < in_room ? size - at : in_room;
+                memset(piece, '#', ROOM);
+                CHECK(wkt_lines_some((const uint8_t *)input + at, left, 18, left == size - at, piece, out_room, &taken, &written) == WKT_OK);
+                CHECK(taken > 0 && taken <= left && written <= out_room && piece[out_room] == '#');
+                memcpy(all + n, piece, written);
+                n += written;
+                at += taken;
+            }
+            CHECK(n == strlen(answers) && !memcmp(all, answers, n));
+        }
+    taken = written = 99;
+    CHECK(wkt_lines_some(BYTES("POINT(1 2)"), 18, 0, out, ROOM, &taken, &written) == WKT_OK && taken == 0 && written == 0);
+    CHECK(wkt_lines_some(BYTES("POINT(1 2)"), 18, 1, out, ROOM, &taken, &written) == WKT_OK && taken == 10 && written == 11);
+    taken = written = 99;
+    CHECK(wkt_lines_some(BYTES("POINT(1 2)\n"), 18, 0, out, 10, &taken, &written) == WKT_TOO_SMALL && taken == 99 && written == 99);
+    CHECK(wkt_lines_some(BYTES("POINT(1 2)\n"), 18, 0, out, 11, &taken, &written) == WKT_OK && taken == 11 && written == 11);
+    CHECK(wkt_lines_some(BYTES("POINT(1 2)\n"), 19, 0, out, ROOM, &taken, &written) == WKT_NO_PLACES);
+    CHECK(wkt_lines_some(NULL, 0, 18, 1, NULL, 0, &taken, &written) == WKT_OK && taken == 0 && written == 0);
+}
+
 #define ROWS 10
 static int64_t ends[ROWS + 1];
 static wkt_status statuses[ROWS];
@@ -516,6 +546,7 @@ static wkt_status call(int which) {
                                "                                                                                                      ";
     static const int64_t numbers[6] = {1, 2, 3, 4, 5, 6};
     static const size_t rings[2] = {0, 3}, polygons[2] = {0, 1};
+    uint8_t got_some[ROOM];
     int64_t got[16];
     size_t got_rings[3], got_polygons[3];
     uint32_t same;
@@ -539,6 +570,11 @@ static wkt_status call(int which) {
         return wkt_column_from_arrays(kinds, 2, dimensions, 2, numbers, 6, number_ends, 3, rings, 2, list_ends, 3, polygons,
                                       2, list_ends, 3, NULL, 0, 6, out, ROOM, ends, 3, statuses, 2, &needed);
     }
+    case 7: {
+        size_t taken, written;
+        wkt_status status = wkt_lines_some(BYTES(text), 6, 1, got_some, ROOM, &taken, &written);
+        return status;
+    }
     case 6: return wkt_arrays(BYTES(text), 6, &told, got, 16, got_rings, 3, got_polygons, 3);
     default: return wkt_from_arrays(1, 0, numbers, 6, rings, 2, polygons, 2, 6, out, ROOM, &needed);
     }
@@ -546,7 +582,7 @@ static wkt_status call(int which) {
 
 static void refusals(void) {
     int which;
-    for (which = 0; which < 8; which++) {
+    for (which = 0; which < 9; which++) {
         long all, n;
         growths = 0;
         CHECK(call(which) == WKT_OK);
@@ -573,6 +609,7 @@ int main(void) {
     comparisons();
     headers();
     many_lines();
+    some_lines();
     columns();
     whole_rows();
     arrays();
