@@ -5,8 +5,8 @@
  * `places` is 0 to 18.
  *
  * Every function answers a status. After any status but WKT_OK the caller's buffers are as they were (but for
- * wkt_lines_some), and so is what a call tells (*needed, *end, *same, *sizes ..), but where a comment says that it is told. Texts need no 0 at the end,
- * and may hold any bytes.
+ * wkt_lines_some), and so is what a call tells (*needed, *end, *same, *sizes ..), but where a comment says that it is
+ * told. Texts need no 0 at the end, and may hold any bytes.
  *
  * Each function is proved to do what its comment says, in crates/wkt_c/src/exports.rt. Only tested, and not proved, are
  * wkt_version, what a call costs, and that memory suffices: a call that always answered WKT_NO_MEMORY would be proved.
@@ -162,9 +162,9 @@ typedef struct {
  * offsets of rings and of polygons, each of which begins with 0. The three buffers of offsets have room for as many
  * offsets as are given, kinds, dimensions and statuses for one of each row. statuses[i] is WKT_OK, or why row i has no
  * arrays: 1..14, 20, 24, 25, WKT_NULL, or, with WKT_WHOLE, WKT_NOT_WHOLE; there are no numbers and no offsets of such a
- * row, and its kind and dimension are 0. WKT_OK: *sizes tells how much of numbers, rings and polygons is filled. WKT_TOO_SMALL: *sizes tells how much
- * each of the three needs. 22, 23. WKT_NOT_COLUMN: as of wkt_column_canonical. After any but WKT_OK the nine buffers are
- * as they were. */
+ * row, and its kind and dimension are 0. WKT_OK: *sizes tells how much of numbers, rings and polygons is filled.
+ * WKT_TOO_SMALL: *sizes tells how much each of the three needs. 22, 23. WKT_NOT_COLUMN: as of wkt_column_canonical. After
+ * any but WKT_OK the nine buffers are as they were. */
 wkt_status wkt_column_arrays(const uint8_t *texts, size_t texts_len, const int64_t *offsets, size_t offsets_len,
                              const uint8_t *valid, size_t valid_len, uint32_t places, WktColumnSizes *sizes,
                              uint32_t *kinds, size_t kinds_len, uint32_t *dimensions, size_t dimensions_len,
