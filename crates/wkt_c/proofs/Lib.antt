@@ -12,3 +12,4 @@ pub mod TextColumns
 pub mod Filled
 pub mod Fitting
 pub mod Chunks
+pub mod Calls

@@ -151,12 +151,27 @@ pub(crate) fn canonical(
     needed: &mut usize,
     end: &mut usize,
 ) -> u32
-    requires places { places_in asked ≤ 18 }
+    requires { places_in asked ≤ 18 }
     ensures { AnswersCanonical asked text.now result out.old out.new needed.old needed.new end.old end.new }
 {
-    let Ok(text) = str::from_utf8(text) else {
-        return NOT_TEXT;
-    };
+    match str::from_utf8(text) {
+        Ok(text) => canonical_text(alloc, text, asked, out, needed, end),
+        Err(_) => NOT_TEXT,
+    }
+}
+
+fn canonical_text(
+    alloc: Global,
+    text: &str,
+    asked: u32,
+    out: &mut [u8],
+    needed: &mut usize,
+    end: &mut usize,
+) -> u32
+    requires places { places_in asked ≤ 18 }
+    requires utf8 { IsUtf8 text.now }
+    ensures { AnswersCanonical asked text.now result out.old out.new needed.old needed.new end.old end.new }
+{
     if text.len() <= SHORT {
         let mut room = [0u8; ROOM];
         match write_in(alloc, text, asked, &mut room) {
