@@ -16,7 +16,7 @@
 //! [`read_whole`].
 //!
 //! # Explain
-//! Where and why a text has no geometry at its front says [`explain`]:
+//! Where and why a text has no geometry at its front says [`refusal`], and [`explain`] to be displayed:
 //!
 //! ```text
 //! POINT(1)
@@ -84,9 +84,9 @@ pub use json::{
 };
 pub use same::same_geometry;
 pub use whole::{WholeError, read_whole};
-pub use wkt_explain::{Expected, Explanation, explain};
+pub use wkt_explain::{Expected, Explanation, Refusal, explain, refusal};
 pub use wkt_num::{Decimal, WktNum};
-pub use wkt_read::{FromWktStr, InferError, ReadError, infer_type};
+pub use wkt_read::{FromWktStr, InferError, Message, ReadError, infer_type};
 pub use wkt_to_wkt::{ToWkt, ToWktError};
 
 /// A geometry as well-known text has it: with up to four numbers a coordinate, of any of the seven kinds.
@@ -210,7 +210,7 @@ pub mod laws {
     pub use wkt_read::earlier::old_forms;
     pub use wkt_read::laws::{
         canon_once, dead_for_good, few_lexemes, front_is_writable, front_of_lexemes, header_names,
-        headline, one_form, one_front, one_reading, one_split, one_text, one_value_text, one_wkt,
+        headline, one_form, one_front, one_message, one_reading, one_split, one_text, one_value_text, one_wkt,
         read_values_are_writable, reads_back, stable_front, value_reads_back, whole_characters,
     };
     pub use wkt_to_wkt::laws::{flat_and_back, plain_comes_back};

@@ -16,6 +16,7 @@ use Rattle.wkt_c.specs.Arrays.{AreOf, IsNotFlat, IsNoArrays}
 pub no-text : {N : Type 0} (read : List ℕ → Option N) (text : List ℕ) (status : ℕ) → status ≡ 20 → (IsUtf8 text → ⊥) → Refuses read text status
 no-text read text status e bad = record {
   no_front = λ _ h. absurd (omega (arith, e, h));
+  message = λ _ h. absurd (omega (arith, e, h));
   bad = λ h. absurd (omega (arith, e, h));
   not_utf8 = λ _ u. bad u;
   others = inr (inl e);

@@ -24,6 +24,7 @@ use Rattle.wkt_c.specs.declared.arrays.Arrays.{Arrays}
 pub out_of_memory : {N : Type 0} (read : List ℕ → Option N) (text : List ℕ) (status : ℕ) → status ≡ 22 → Refuses read text status
 out_of_memory read text status e = record {
   no_front = λ _ h. absurd (omega (arith, e, h));
+  message = λ _ h. absurd (omega (arith, e, h));
   bad = λ h. absurd (omega (arith, e, h));
   not_utf8 = λ h _. absurd (omega (arith, e, h));
   others = inr (inr e);

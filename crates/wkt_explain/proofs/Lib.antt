@@ -1,5 +1,9 @@
 mod Spots
+mod Marks
+mod Marked
 mod Steps
+mod Counts
+mod Closings
 mod Refusals
 mod Whites
 mod Named
