@@ -560,9 +560,10 @@ static wkt_status call(int which) {
         return wkt_column_canonical(BYTES(text), offsets, 3, NULL, 0, 6, out, ROOM, ends, 3, statuses, 2, &needed);
     }
     case 4: {
-        const int64_t offsets[3] = {0, (int64_t)sizeof text - 1, (int64_t)sizeof text - 1};
-        static const size_t fit[6] = {3, 3, 3, 2, 2, 2};
-        return fill_of(text, offsets, NULL, 2, 6, 32, 32, 32, fit);
+        /* One row: of a text that is refused no arrays are needed, so memory may end there. */
+        const int64_t offsets[2] = {0, (int64_t)sizeof text - 1};
+        static const size_t fit[6] = {2, 2, 2, 1, 1, 1};
+        return fill_of(text, offsets, NULL, 1, 6, 32, 32, 32, fit);
     }
     case 5: {
         static const uint32_t kinds[2] = {1, 1}, dimensions[2] = {0, 0};

@@ -11,5 +11,5 @@ pub mod ArrayColumns
 pub mod TextColumns
 pub mod Filled
 pub mod Fitting
-pub mod Chunks
+pub mod Pieces
 pub mod Calls

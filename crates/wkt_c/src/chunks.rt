@@ -62,7 +62,7 @@ fn answer_some<T: WktNum>(
     last: bool,
     out: &mut [u8],
 ) -> Result<Answered, u32>
-    ensures { MatchResult result (λ a. AnswersSome T.read T.num last input.now a.taken a.written out.new)
+    ensures answers { MatchResult result (λ a. AnswersSome T.read T.num last input.now a.taken a.written out.new)
         (AnswersNone T.read T.num last input.now out.old) }
     ensures whole { length out.new ≡ length out.old }
 {
