@@ -1,5 +1,7 @@
 -- A message has a text and a number of its own.
-use Rattle.std.proofs.Common.{◌≡◌, ◌≢◌, ◌==◌, ◌+◌, ◌*◌, ◌<◌, ◌≤◌, ℕ, List, Option, length, get_or, sym, refl, ap, ◌∙◌, subst, arith, if◌then◌else◌, ◌⊎◌, inl, inr}
+use Rattle.std.proofs.Common.{◌≡◌, ◌≢◌, ◌==◌, ◌+◌, ◌*◌, ◌<◌, ◌≤◌, ℕ, List, Option, length, get_or, sym, refl, ap, ◌∙◌, subst, arith, if◌then◌else◌, inl, inr}
+use Rattle.std.specs.Prelude.{◌⊎◌}
+use Rattle.std.proofs.lemmas.Bool.{cases_order}
 use Rattle.wkt_read.specs.Items.{bad_number}
 use Rattle.wkt_read.specs.Messages.{message_text, message_number, numbered}
 use Rattle.wkt_read.specs.Refusal.{IsTextRefused, IsRefusedWith}
@@ -94,10 +96,12 @@ abbrev pub NoneBelow : List ℕ → ℕ → Type 0
 NoneBelow said n = (m : Message) → message_number m < n → said ≢ message_text m
 
 pub none-next : (said : List ℕ) (n : ℕ) → NoneBelow said n → message_text (numbered n) ≢ said → NoneBelow said (n + 1)
-none-next said n none other m lt e = elim (cases (omega (arith, lt))) [ inl below ↦ none m below e | inr is ↦ other (ap (λ k. message_text (numbered k)) (sym is) ∙ ap message_text (numbered-number m) ∙ sym e) ]
+none-next said n none other m lt e = go (cases_order (message_number m) n)
   where
-    cases : (message_number m < n) ⊎ (message_number m ≡ n) → (message_number m < n) ⊎ (message_number m ≡ n)
-    cases h = h
+    go : (message_number m ≡ n) ⊎ ((message_number m < n) ⊎ (n < message_number m)) → ⊥
+    go (inl is) = other (ap (λ k. message_text (numbered k)) (sym is) ∙ ap message_text (numbered-number m) ∙ sym e)
+    go (inr (inl below)) = none m below e
+    go (inr (inr above)) = absurd (omega (arith, lt, above))
 
 pub none-first : (said : List ℕ) → NoneBelow said 1
 none-first said m lt e = omega (arith, lt, from-1 m)
