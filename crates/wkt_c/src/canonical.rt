@@ -210,89 +210,42 @@ fn canonical_long(
     }
 }
 
-/// What holds of decimals of so many places.
+/// What holds of decimals: one text is one value.
+fn laws<const D: u32>()
+    requires { D ≤ 36 }
+    ensures writable { FrontIsWritable (IsUnits D) (read_at D) }
+    ensures text { OneText (IsUnits D) (print_at D) (read_at D) }
+{
+    front_is_writable::<Decimal<D>>();
+    one_text::<Decimal<D>>();
+}
+
+/// The same, of so many places.
 fn laws_at(places: u32)
     requires { places ≤ 18 }
     ensures writable { FrontIsWritable (IsUnits places) (read_at places) }
     ensures text { OneText (IsUnits places) (print_at places) (read_at places) }
 {
     match places {
-        0 => {
-            front_is_writable::<Decimal<0>>();
-            one_text::<Decimal<0>>();
-        }
-        1 => {
-            front_is_writable::<Decimal<1>>();
-            one_text::<Decimal<1>>();
-        }
-        2 => {
-            front_is_writable::<Decimal<2>>();
-            one_text::<Decimal<2>>();
-        }
-        3 => {
-            front_is_writable::<Decimal<3>>();
-            one_text::<Decimal<3>>();
-        }
-        4 => {
-            front_is_writable::<Decimal<4>>();
-            one_text::<Decimal<4>>();
-        }
-        5 => {
-            front_is_writable::<Decimal<5>>();
-            one_text::<Decimal<5>>();
-        }
-        6 => {
-            front_is_writable::<Decimal<6>>();
-            one_text::<Decimal<6>>();
-        }
-        7 => {
-            front_is_writable::<Decimal<7>>();
-            one_text::<Decimal<7>>();
-        }
-        8 => {
-            front_is_writable::<Decimal<8>>();
-            one_text::<Decimal<8>>();
-        }
-        9 => {
-            front_is_writable::<Decimal<9>>();
-            one_text::<Decimal<9>>();
-        }
-        10 => {
-            front_is_writable::<Decimal<10>>();
-            one_text::<Decimal<10>>();
-        }
-        11 => {
-            front_is_writable::<Decimal<11>>();
-            one_text::<Decimal<11>>();
-        }
-        12 => {
-            front_is_writable::<Decimal<12>>();
-            one_text::<Decimal<12>>();
-        }
-        13 => {
-            front_is_writable::<Decimal<13>>();
-            one_text::<Decimal<13>>();
-        }
-        14 => {
-            front_is_writable::<Decimal<14>>();
-            one_text::<Decimal<14>>();
-        }
-        15 => {
-            front_is_writable::<Decimal<15>>();
-            one_text::<Decimal<15>>();
-        }
-        16 => {
-            front_is_writable::<Decimal<16>>();
-            one_text::<Decimal<16>>();
-        }
-        17 => {
-            front_is_writable::<Decimal<17>>();
-            one_text::<Decimal<17>>();
-        }
-        18 => {
-            front_is_writable::<Decimal<18>>();
-            one_text::<Decimal<18>>();
-        }
+        0 => laws::<0>(),
+        1 => laws::<1>(),
+        2 => laws::<2>(),
+        3 => laws::<3>(),
+        4 => laws::<4>(),
+        5 => laws::<5>(),
+        6 => laws::<6>(),
+        7 => laws::<7>(),
+        8 => laws::<8>(),
+        9 => laws::<9>(),
+        10 => laws::<10>(),
+        11 => laws::<11>(),
+        12 => laws::<12>(),
+        13 => laws::<13>(),
+        14 => laws::<14>(),
+        15 => laws::<15>(),
+        16 => laws::<16>(),
+        17 => laws::<17>(),
+        18 => laws::<18>(),
         _ => unreachable!(),
     }
 }
@@ -312,15 +265,15 @@ fn judge(
     other: &str,
     second: &[u8],
     other_end: usize,
-    places: u32,
+    asked: u32,
 ) -> bool
-    requires places { places ≤ 18 }
-    requires first { IsCanonical (read_at places) (print_at places) one.now first.now end }
-    requires second { IsCanonical (read_at places) (print_at places) other.now second.now other_end }
-    ensures { Compares (read_at places) (print_at places) one.now other.now end other_end result }
+    requires places { places_in asked ≤ 18 }
+    requires first { IsCanonical (read_at (places_in asked)) (print_at (places_in asked)) one.now first.now end }
+    requires second { IsCanonical (read_at (places_in asked)) (print_at (places_in asked)) other.now second.now other_end }
+    ensures { Compares (read_at (places_in asked)) (print_at (places_in asked)) one.now other.now end other_end result }
 {
     // No effect at run time. The proof reads that one text is one value.
-    laws_at(places);
+    laws_at(places_of(asked));
     is_one(first, second)
 }
 
@@ -362,7 +315,7 @@ fn same_short(
     let Some((other_end, m)) = other_written else {
         return Ok(None);
     };
-    let same = judge(one, &first[..n], end, other, &second[..m], other_end, places_of(asked));
+    let same = judge(one, &first[..n], end, other, &second[..m], other_end, asked);
     Ok(Some(Compared {
         same,
         end,
@@ -388,7 +341,7 @@ fn same_long(alloc: Global, one: &str, other: &str, asked: u32) -> Result<Compar
         Ok(written) => written,
         Err(status) => return Err(status),
     };
-    let same = judge(one, &first[..n], end, other, &second[..m], other_end, places_of(asked));
+    let same = judge(one, &first[..n], end, other, &second[..m], other_end, asked);
     Ok(Compared {
         same,
         end,
