@@ -1,5 +1,5 @@
 //! Where a text is refused.
-ghost use Rattle.std.specs.Prelude.{◌≡◌, ◌≤◌, MatchResult};
+ghost use Rattle.std.specs.Prelude.{◌≡◌, ◌≤◌, MatchResult, IsUtf8};
 ghost use Rattle.wkt_c.specs.Answer.{read_at};
 ghost use Rattle.wkt_c.specs.Explained.{IsExplained, IsUnexplained, expected_number};
 
@@ -39,9 +39,16 @@ fn number_of(expected: Expected) -> u32
 fn explained<T: WktNum>(alloc: Global, text: &[u8]) -> Result<Place, u32>
     ensures { MatchResult result (λ p. IsExplained T.read text.now p.message p.start p.stop p.expected) (IsUnexplained T.read text.now) }
 {
-    let Ok(text) = str::from_utf8(text) else {
-        return Err(NOT_TEXT);
-    };
+    match str::from_utf8(text) {
+        Ok(text) => explained_text::<T>(alloc, text),
+        Err(_) => Err(NOT_TEXT),
+    }
+}
+
+fn explained_text<T: WktNum>(alloc: Global, text: &str) -> Result<Place, u32>
+    requires { IsUtf8 text.now }
+    ensures { MatchResult result (λ p. IsExplained T.read text.now p.message p.start p.stop p.expected) (IsUnexplained T.read text.now) }
+{
     match explain::<T>(alloc, text) {
         Ok(Some(why)) => Ok(Place {
             message: message_number(why.message),
