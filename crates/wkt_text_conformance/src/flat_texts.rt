@@ -16,7 +16,7 @@ use wkt::to_wkt::{
     write_multi_linestring, write_multi_point, write_multi_polygon, write_point, write_polygon,
     write_rect, write_triangle,
 };
-use wkt::{Decimal, ToWkt, TryFromWkt, types};
+use wkt::{Decimal, ToWkt, types};
 
 pub(crate) fn at(x: i32, y: i32) -> Coord<i32> {
     Coord { x, y }
@@ -205,16 +205,6 @@ fn empty_lists(rt: HostRuntime) -> Result<(), Fail> {
     is_written(&rt, alloc, polygons, "MULTIPOLYGON EMPTY")?;
     let all = Geometry::from(GeometryCollection::new_from(Vec::new(alloc)));
     is_written(&rt, alloc, all, "GEOMETRYCOLLECTION EMPTY")
-}
-
-#[test]
-fn a_point_is_read(rt: HostRuntime) -> Result<(), Fail> {
-    let Ok(point) = Point::<Decimal<6>>::try_from_wkt_str(rt.alloc(), "POINT(10 20)") else {
-        panic!(rt; "a point wasn't read");
-    };
-    equal(&rt, point.x().units(), 10_000_000);
-    equal(&rt, point.y().units(), 20_000_000);
-    Ok(())
 }
 
 /// A point that has no coordinate has no flat value.

@@ -1,4 +1,4 @@
-use Rattle.wkt_reference.proofs.reference.+grammar.Given as goal
+use Rattle.wkt_long_conformance.proofs.reference.+grammar.Given as goal
 
 abbrev pub decreases-one : goal.decreases-one
 decreases-one l = l.depth
