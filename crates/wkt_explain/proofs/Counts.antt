@@ -1,6 +1,6 @@
 -- How many parentheses are open where a walk is.
-use Rattle.std.proofs.Common.{◌≡◌, ◌+◌, ℕ, zero, suc, List, [], ◌∷◌, length, refl, sym, ap, ◌∙◌, subst, arith, Option, Some, None, Bool, true, false, cond}
-use Rattle.wkt_num.specs.Bytes.{Lexeme, Open, Close, Comma, Word, Num}
+use Rattle.std.proofs.Common.{◌≡◌, ◌+◌, ℕ, zero, suc, List, [], ◌∷◌, length, refl, sym, ap, subst, arith, Option, Some, None, Bool, true, false, cond}
+use Rattle.wkt_num.specs.Bytes.{Lexeme, Open, Comma, Word, Num}
 use Rattle.wkt_access.specs.declared.dimensions.Dimension.{Dimension}
 use Rattle.wkt_access.specs.declared.dimensions.Dimension.TheVariants.{XY}
 use Rattle.wkt_types.specs.declared.geometry_type.GeometryType.{GeometryType}
@@ -16,7 +16,7 @@ use Rattle.wkt_explain.specs.declared.seen.Seen.{Seen}
 use Rattle.wkt_explain.specs.declared.seen.Seen.TheVariants as seen
 use Rattle.wkt_explain.specs.Walks.{Shows, part_of, numbers_after, inside, outside, after_kind, after_kind_word, after_joined, after_dimension, after_dimension_word, after_opening, after_member, after_number, numbers_left, after_item, again, after_geometry, at, own, next, next_from}
 use Rattle.wkt_explain.specs.Walks as walks
-use Rattle.wkt_explain.proofs.Steps.{Frame, collections, around, frames, around_kind, shown}
+use Rattle.wkt_explain.proofs.Steps.{collections, around, frames, around_kind, shown}
 
 abbrev pub parens : Walk → ℕ
 parens w = length (frames w.place w.depth)

@@ -112,8 +112,8 @@ module _ {N : Type 0} (read : List ℕ → Option N) where
         let here : value_at read (length all) false all ≡ Err bad.1 = subst (λ l. value_at read (length l) false l ≡ Err bad.1) (sym e) answer in
         (all, bad.1.1, placed-split text, here ∙ ap (λ m. Err (m, bad.1.1)) (sym is))
 
-    table_at : (start to : ℕ) (e : Expected) (k : Message) (before there : List Lexeme) (h : (r : IsRefusedAt read text start to e) × (before_place read r ≡ before)) → all ≡ before ++ there → (n : ℕ) → n + closes before ≡ opens before → k ≡ told read e n there → IsToldAt read text start to e k
-    table_at start to e k before there h split n counted is = record {
+    table_at : (from to : ℕ) (e : Expected) (k : Message) (before there : List Lexeme) (h : (r : IsRefusedAt read text from to e) × (before_place read r ≡ before)) → all ≡ before ++ there → (n : ℕ) → n + closes before ≡ opens before → k ≡ told read e n there → IsToldAt read text from to e k
+    table_at from to e k before there h split n counted is = record {
       refused = h.0;
       there = there;
       parens = n;

@@ -4,6 +4,7 @@ mod Marked
 mod Steps
 mod Counts
 mod Closings
+mod Ascii
 mod Refusals
 mod Whites
 mod Named

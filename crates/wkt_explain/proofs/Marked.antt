@@ -1,5 +1,5 @@
 -- What the readers answer, by the place at which they stop.
-use Rattle.std.proofs.Common.{◌≡◌, ℕ, zero, suc, List, [], ◌∷◌, refl, ap, ◌∙◌, sym, subst, Option, Some, None, Result, Ok, Err, Bool, true, false, cond, if◌then◌else◌}
+use Rattle.std.proofs.Common.{◌≡◌, ℕ, zero, suc, List, [], ◌∷◌, refl, ap, ◌∙◌, sym, Option, Some, None, Result, Ok, Err, Bool, true, false, cond, if◌then◌else◌}
 use Rattle.wkt_num.specs.Bytes.{Lexeme, Open, Close, Comma, Word, Num}
 use Rattle.wkt_access.specs.declared.dimensions.Dimension.{Dimension}
 use Rattle.wkt_access.specs.declared.dimensions.Dimension.TheVariants.{XY, XYZ, XYM, XYZM}
@@ -8,14 +8,13 @@ use Rattle.wkt_types.specs.declared.geometry_type.GeometryType.{GeometryType}
 use Rattle.wkt_types.specs.declared.geometry_type.GeometryType.TheVariants as kind
 use Rattle.wkt_read.specs.Grammar.{KindWord, kind_word, dim_word}
 use Rattle.wkt_read.specs.Parser.Reading.{is_empty_word, members_read}
-use Rattle.wkt_read.specs.Parser.Outcome.{Outcome, ◌>>=◌, with_front, unless_bad, opening_at, closing_at, closed, framed, tail_at, many_at, number_in, number_at, coord_at, worded, numbered, dimension_at, joined_or_at, kinded, no_word, no_kind, header_at, inside_at, member_at, line_string_at, line_strings_at, polygons_at, points_at, point_at, body_at, value_at}
+use Rattle.wkt_read.specs.Parser.Outcome.{Outcome, ◌>>=◌, with_front, unless_bad, opening_at, closing_at, closed, framed, tail_at, many_at, number_in, number_at, coord_at, worded, numbered, dimension_at, joined_or_at, kinded, no_kind, header_at, inside_at, member_at, line_string_at, line_strings_at, polygons_at, points_at, point_at, body_at, value_at}
 use Rattle.wkt_read.specs.declared.messages.Message.{Message}
 use Rattle.wkt_read.specs.declared.messages.Message.TheVariants as message
 use Rattle.wkt_explain.specs.declared.expected.Expected.{Expected}
 use Rattle.wkt_explain.specs.declared.expected.Expected.TheVariants as expected
-use Rattle.wkt_explain.specs.declared.shape.Part.TheVariants as part
 use Rattle.wkt_explain.specs.Walks.{part_of, numbers_after, number_expected}
-use Rattle.wkt_explain.specs.Table.{at_end, at_other, at_bad, at_word, at_number, at_place, left_at, is_unread, closing, unclosed}
+use Rattle.wkt_explain.specs.Table.{at_end, at_other, at_bad, at_number, at_place, left_at, is_unread, closing, unclosed}
 use Rattle.wkt_explain.proofs.Marks.{Fault, Mark, then_m, tail_m, fault, close_m, shut, opened_m, items_m, number_in_m, number_m, numbers_m, coord_m, list_m, member_m, part_m, worded_m, dimension_m, joined_m, kind_m, geometry_m, value_m}
 
 abbrev pub Answer : Type 0

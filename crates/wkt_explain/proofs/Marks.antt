@@ -1,14 +1,11 @@
 -- Readings without what they read: the lexemes after a whole part, or those from the one that is too much on, with the message of a refusal and the lexemes that it leaves.
-use Rattle.std.proofs.Common.{◌≡◌, ℕ, zero, suc, List, [], ◌∷◌, refl, ap, ◌∙◌, sym, subst, Option, Some, None, Result, Ok, Err, Bool, true, false, cond}
+use Rattle.std.proofs.Common.{◌≡◌, ℕ, zero, suc, List, [], ◌∷◌, refl, ap, ◌∙◌, Option, Some, None, Result, Ok, Err, Bool, true, false, cond}
 use Rattle.wkt_num.specs.Bytes.{Lexeme, Open, Close, Comma, Word, Num}
 use Rattle.wkt_access.specs.declared.dimensions.Dimension.{Dimension}
-use Rattle.wkt_access.specs.declared.dimensions.Dimension.TheVariants.{XY, XYZ, XYM, XYZM}
-use Rattle.wkt_access.specs.Values.{Value}
+use Rattle.wkt_access.specs.declared.dimensions.Dimension.TheVariants.{XY}
 use Rattle.wkt_types.specs.declared.geometry_type.GeometryType.{GeometryType}
-use Rattle.wkt_types.specs.declared.geometry_type.GeometryType.TheVariants as kind
 use Rattle.wkt_read.specs.Grammar.{KindWord, kind_word, dim_word}
-use Rattle.wkt_read.specs.Parser.Reading.{is_empty_word, members_read}
-use Rattle.wkt_read.specs.Parser.Outcome.{Outcome, ◌>>=◌, with_front, unless_bad, opening_at, closing_at, closed, framed, tail_at, many_at, number_in, number_at, coord_at, worded, numbered, dimension_at, joined_or_at, kinded, no_word, no_kind, is_ascii_word, header_at, inside_at, member_at, line_string_at, line_strings_at, polygons_at, points_at, body_at, value_at}
+use Rattle.wkt_read.specs.Parser.Reading.{is_empty_word}
 use Rattle.wkt_read.specs.declared.messages.Message.{Message}
 use Rattle.wkt_read.specs.declared.messages.Message.TheVariants as message
 use Rattle.wkt_explain.specs.declared.expected.Expected.{Expected}
@@ -16,8 +13,8 @@ use Rattle.wkt_explain.specs.declared.expected.Expected.TheVariants as expected
 use Rattle.wkt_explain.specs.declared.shape.Part.{Part}
 use Rattle.wkt_explain.specs.declared.shape.Part.TheVariants as part
 use Rattle.wkt_explain.specs.Walks.{part_of, numbers_after, number_expected}
-use Rattle.wkt_explain.specs.Table.{at_end, at_other, at_word, at_number, at_place, left_at, closing, unclosed}
-use Rattle.wkt_explain.proofs.Spots.{Spot, thence, close_s, opened_s, tail_s, rest_s, items_s, number_in_s, number_s, numbers_s, coord_s, one_s, list_s, member_s, item_s, after_s, part_s, worded_s, dimension_s, joined_s, kind_s, geometry_s, value_s}
+use Rattle.wkt_explain.specs.Table.{at_end, at_place, left_at, closing}
+use Rattle.wkt_explain.proofs.Spots.{Spot, thence, close_s, opened_s, tail_s, rest_s, items_s, number_in_s, number_s, numbers_s, coord_s, one_s, list_s, member_s, part_s, worded_s, dimension_s, joined_s, kind_s, geometry_s, value_s}
 
 -- the lexemes from the one that is too much on; the message, and the lexemes that are left
 abbrev pub Fault : Type 0

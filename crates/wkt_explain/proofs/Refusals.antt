@@ -115,14 +115,14 @@ end_last at [] x = refl
 end_last at (y ∷ given) x = end_last y.end given x
 
 -- what is left of a text after so many bytes
-left_at : (text rest : List ℕ) (ls : List Lexeme) (at : ℕ) → Takes text ls rest → length rest + at ≡ length text → drop at text ≡ rest
+pub left_at : (text rest : List ℕ) (ls : List Lexeme) (at : ℕ) → Takes text ls rest → length rest + at ≡ length text → drop at text ≡ rest
 left_at text rest ls at t e =
     let p = prefix ls text rest t in
     let same : length p.bytes ≡ at = omega (arith, e, ap length p.is, length-append p.bytes rest) in
     ap (λ l. drop at l) p.is ∙ drop_at p.bytes rest at same
 
 -- past the white space before what begins otherwise
-past : (text rest gap next : List ℕ) (from to : ℕ) → IsPastWhite text from to → drop from text ≡ rest → rest ≡ gap ++ next → AllWhite gap → StartsOther White next → length next + to ≡ length text
+pub past : (text rest gap next : List ℕ) (from to : ℕ) → IsPastWhite text from to → drop from text ≡ rest → rest ≡ gap ++ next → AllWhite gap → StartsOther White next → length next + to ≡ length text
 past text rest gap next from to p e split white other =
     let s = span White p.gap gap (drop to text) next p.white white p.stops other (sym p.split ∙ e ∙ split) in
     let same : drop to text ≡ next = s.1 in

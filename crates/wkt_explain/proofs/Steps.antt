@@ -1,5 +1,5 @@
 -- The steps of a walk, by what there is to read.
-use Rattle.std.proofs.Common.{◌≡◌, ◌+◌, ℕ, zero, suc, ◌≤◌, List, [], ◌∷◌, length, refl, sym, ap, ◌∙◌, subst, arith, Option, Some, None, Ok, Err, Bool, true, false, cond, inl, inr}
+use Rattle.std.proofs.Common.{◌≡◌, ℕ, zero, suc, ◌≤◌, List, [], ◌∷◌, length, refl, sym, ap, subst, arith, Option, Some, None, Ok, Err, Bool, true, false, cond, inl, inr}
 use Rattle.std.specs.Prelude.{◌⊎◌}
 use Rattle.std.specs.Borrow.{Bor}
 use Rattle.wkt_num.specs.Bytes.{Lexeme, Open, Close, Comma, Word, Num}
@@ -22,7 +22,7 @@ use Rattle.wkt_explain.specs.Walks.{Shows, part_of, numbers_after, number_expect
 use Rattle.wkt_explain.specs.Table.{at_place, closing, closings}
 use Rattle.wkt_read.specs.declared.messages.Message.{Message}
 use Rattle.wkt_read.specs.declared.messages.Message.TheVariants as message
-use Rattle.wkt_explain.proofs.Marks.{Mark, Fault, fault, then_m, close_m, shut, tail_m, number_in_m, numbers_m, coord_m, list_m, member_m, item_m, more_m, after_m, part_m, worded_m, dimension_m, joined_m, kind_m, geometry_m, value_m}
+use Rattle.wkt_explain.proofs.Marks.{Mark, Fault, fault, then_m, shut, tail_m, number_in_m, numbers_m, coord_m, list_m, member_m, item_m, after_m, part_m, worded_m, dimension_m, joined_m, kind_m, geometry_m, value_m}
 
 -- a part that is open, with its dimension
 abbrev pub Frame : Type 0
@@ -236,10 +236,10 @@ module _ {N : Type 0} (read : List ℕ → Option N) where
     step_number : (p : Part) (d : Dimension) (more : ℕ) → (s : Seen) (x : Lexeme) → Shows read s x
         → From ((p, d) ∷ around p d depth) (numbers_m read d (suc more) (x ∷ r)) → Goes (after_number p d more depth s) (Halt ((p, d) ∷ around p d depth) (number_expected d more) x) r whole
     step_number p d more = shown (λ s x. From ((p, d) ∷ around p d depth) (numbers_m read d (suc more) (x ∷ r)) → Goes (after_number p d more depth s) (Halt ((p, d) ∷ around p d depth) (number_expected d more) x) r whole)
-        (λ h. too_much ((p, d) ∷ around p d depth) _ whole _ h)
-        (λ h. too_much ((p, d) ∷ around p d depth) _ whole _ h)
-        (λ h. too_much ((p, d) ∷ around p d depth) _ whole _ h)
-        (λ w h. too_much ((p, d) ∷ around p d depth) _ whole _ h)
+        (λ h. too_much ((p, d) ∷ around p d depth) _ whole (fault read (number_expected d more) (Open ∷ r)) h)
+        (λ h. too_much ((p, d) ∷ around p d depth) _ whole (fault read (number_expected d more) (Close ∷ r)) h)
+        (λ h. too_much ((p, d) ∷ around p d depth) _ whole (fault read (number_expected d more) (Comma ∷ r)) h)
+        (λ w h. too_much ((p, d) ∷ around p d depth) _ whole (fault read (number_expected d more) (Word w.now ∷ r)) h)
         (λ run y is h. number_on p d more (Halt ((p, d) ∷ around p d depth) (number_expected d more) (Num run)) (number_read ((p, d) ∷ around p d depth) (number_expected d more) d more run y is h))
         (λ run is h. number_unread ((p, d) ∷ around p d depth) (number_expected d more) d more run is h)
 
@@ -249,8 +249,8 @@ module _ {N : Type 0} (read : List ℕ → Option N) where
     step_member : (d : Dimension) → (s : Seen) (x : Lexeme) → Shows read s x → From (members d) (member_m read d (x ∷ r)) → Goes (after_member d depth s) (Halt (members d) expected.Point x) r whole
     step_member d = shown (λ s x. From (members d) (member_m read d (x ∷ r)) → Goes (after_member d depth s) (Halt (members d) expected.Point x) r whole)
         (λ h. here (place.Number part.Member d (numbers_after d)) depth r whole (length r, length r, omega arith, omega arith, member_on d (on (members d) _ h)))
-        (λ h. too_much (members d) _ whole _ h)
-        (λ h. too_much (members d) _ whole _ h)
+        (λ h. too_much (members d) _ whole (fault read expected.Point (Close ∷ r)) h)
+        (λ h. too_much (members d) _ whole (fault read expected.Point (Comma ∷ r)) h)
         (λ w h. empty_or (members d) expected.Point (is_empty_word w.now) w.now (at depth (place.Item part.Members d)) h (here (place.Item part.Members d) depth r whole))
         (λ run y is h. number_on part.Members d (numbers_after d) (Halt (members d) expected.Point (Num run)) (number_read (members d) expected.Point d (numbers_after d) run y is h))
         (λ run is h. number_unread (members d) expected.Point d (numbers_after d) run is h)
@@ -335,12 +335,12 @@ module _ {N : Type 0} (read : List ℕ → Option N) where
       after_num part.Geometries w = rest_num value m w
 
     step_comma : (p : Part) (d : Dimension) (n m : ℕ) → suc (length r) ≤ n → suc (length r) ≤ m → From (around p d depth) (after_m read (V n) p d n m (Ok (Comma ∷ r))) → Goes (again p d depth) (closed_by (around p d depth) (unclosed_at (Comma ∷ r))) r whole
-    step_comma part.Point d n m a b h = too_much (around part.Point d depth) _ whole _ h
+    step_comma part.Point d n m a b h = too_much (around part.Point d depth) _ whole (unclosed_at (Comma ∷ r)) h
     step_comma part.Line d n m a b h = let (j, le, g) = rest_comma (around part.Line d depth) (coord_m read d) m b h in into part.Line d depth n j (closed_by (around part.Line d depth) (unclosed_at (Comma ∷ r))) r whole (omega (arith, a)) le g
     step_comma part.Rings d n m a b h = let (j, le, g) = rest_comma (around part.Rings d depth) (list_m read 1 d n) m b h in into part.Rings d depth n j (closed_by (around part.Rings d depth) (unclosed_at (Comma ∷ r))) r whole (omega (arith, a)) le g
     step_comma part.Ring d n m a b h = let (j, le, g) = rest_comma (around part.Ring d depth) (coord_m read d) m b h in into part.Ring d depth n j (closed_by (around part.Ring d depth) (unclosed_at (Comma ∷ r))) r whole (omega (arith, a)) le g
     step_comma part.Members d n m a b h = let (j, le, g) = rest_comma (around part.Members d depth) (member_m read d) m b h in into part.Members d depth n j (closed_by (around part.Members d depth) (unclosed_at (Comma ∷ r))) r whole (omega (arith, a)) le g
-    step_comma part.Member d n m a b h = too_much (around part.Member d depth) _ whole _ h
+    step_comma part.Member d n m a b h = too_much (around part.Member d depth) _ whole (unclosed_at (Comma ∷ r)) h
     step_comma part.Polygons d n m a b h = let (j, le, g) = rest_comma (around part.Polygons d depth) (list_m read 2 d n) m b h in into part.Polygons d depth n j (closed_by (around part.Polygons d depth) (unclosed_at (Comma ∷ r))) r whole (omega (arith, a)) le g
     step_comma part.PolygonRings d n m a b h = let (j, le, g) = rest_comma (around part.PolygonRings d depth) (list_m read 1 d n) m b h in into part.PolygonRings d depth n j (closed_by (around part.PolygonRings d depth) (unclosed_at (Comma ∷ r))) r whole (omega (arith, a)) le g
     step_comma part.PolygonRing d n m a b h = let (j, le, g) = rest_comma (around part.PolygonRing d depth) (coord_m read d) m b h in into part.PolygonRing d depth n j (closed_by (around part.PolygonRing d depth) (unclosed_at (Comma ∷ r))) r whole (omega (arith, a)) le g
@@ -447,8 +447,8 @@ module _ {N : Type 0} (read : List ℕ → Option N) where
   ends_at place.Kind depth o whole (n, le, h) = too_much (collections depth) _ whole _ (subst (Under (collections depth) 0 whole) (value_end n (expected_at place.Kind depth)) h)
   ends_at (place.Dimension k) depth o whole (n, le, h) = too_much (collections depth) _ whole _ h
   ends_at (place.Opening p d) depth o whole (n, le, h) = too_much (around p d depth) _ whole _ h
-  ends_at (place.Member d) depth o whole (n, le, h) = too_much ((part.Members, d) ∷ collections depth) _ whole _ h
-  ends_at (place.Number p d more) depth o whole (n, le, h) = too_much ((p, d) ∷ around p d depth) _ whole _ h
+  ends_at (place.Member d) depth o whole (n, le, h) = too_much ((part.Members, d) ∷ collections depth) _ whole (fault read expected.Point []) h
+  ends_at (place.Number p d more) depth o whole (n, le, h) = too_much ((p, d) ∷ around p d depth) _ whole (fault read (number_expected d more) []) h
   ends_at (place.Item p d) depth o whole (n, le, (i, m, a, b, h)) = too_much (around p d depth) _ whole _ (subst (Under (around p d depth) 0 whole) (after_end (V i) d i m p) h)
   ends_at place.Geometry zero o whole (n, le, h) = cc
   ends_at place.Geometry (suc depth) o whole (n, le, (i, m, a, b, h)) = too_much (collections depth) _ whole _ (subst (Under (collections depth) 0 whole) (rest_end (V i) m) h)

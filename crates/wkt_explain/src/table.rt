@@ -38,17 +38,21 @@ fn at_other(expected: Expected) -> Message
     }
 }
 
+fn at_first_word(word: &str) -> Message
+    ensures { result ≡ at_word Expected.Kind word.now }
+{
+    if word.is_ascii() {
+        Message::Kind
+    } else {
+        Message::NonAscii
+    }
+}
+
 fn at_word(expected: Expected, word: &str) -> Message
     ensures { result ≡ at_word expected word.now }
 {
     match expected {
-        Expected::Kind => {
-            if word.is_ascii() {
-                Message::Kind
-            } else {
-                Message::NonAscii
-            }
-        }
+        Expected::Kind => at_first_word(word),
         Expected::Member => Message::Kind,
         Expected::Dimension => Message::Word,
         _ => at_end(expected),
@@ -135,6 +139,42 @@ fn around(part: Part) -> usize
     }
 }
 
+// The message after so many parentheses of the parts of a geometry, and then so many of collections, had to close.
+fn closed<T: WktNum>(
+    message: Message,
+    parts: usize,
+    collections: usize,
+    tokens: &mut Tokens<'_, T>,
+) -> Message
+    ensures { result ≡ (closings T.read (parts + collections) message (lexemes_of (coming tokens.old))).0 }
+{
+    let message = closings(message, parts, tokens);
+    closings(message, collections, tokens)
+}
+
+// The same where the lexeme that was seen stands where the first of them has to close.
+fn stayed<T: WktNum>(
+    message: Message,
+    parts: usize,
+    collections: usize,
+    seen: Seen<'_>,
+    tokens: &mut Tokens<'_, T>,
+) -> Message
+    ensures { (l : Lexeme) → Shows T.read seen.entry l → result ≡ (closings T.read (parts + collections) message (l ∷ lexemes_of (coming tokens.old))).0 }
+{
+    if parts > 0 {
+        let first = closing::<T>(message, seen);
+        let last = closed(first, parts - 1, collections, tokens);
+        return last;
+    }
+    if collections > 0 {
+        let one = closing::<T>(message, seen);
+        let other = closed(one, 0, collections - 1, tokens);
+        return other;
+    }
+    message
+}
+
 /// The message of a text that is refused at the place for the lexeme that was seen.
 pub(crate) fn message_there<T: WktNum>(
     walk: &Walk,
@@ -144,29 +184,25 @@ pub(crate) fn message_there<T: WktNum>(
 ) -> Message
     ensures { (l : Lexeme) → Shows T.read seen.entry l → result ≡ told T.read expected (own walk.now.place + walk.now.depth) (l ∷ lexemes_of (coming tokens.old)) }
 {
-    let mut message = at_place::<T>(expected, seen);
-    let mut parts = own(walk.place);
-    let mut collections = walk.depth;
+    let message = at_place::<T>(expected, seen);
+    let parts = own(walk.place);
     if stays::<T>(expected, seen) {
-        if parts > 0 {
-            parts -= 1;
-            message = closing::<T>(message, seen);
-        } else if collections > 0 {
-            collections -= 1;
-            message = closing::<T>(message, seen);
-        }
+        return stayed(message, parts, walk.depth, seen, tokens);
     }
-    let message = closings(message, parts, tokens);
-    closings(message, collections, tokens)
+    closed(message, parts, walk.depth, tokens)
 }
 
 /// The message of a text that ends too early, at the place.
 pub(crate) fn message_at_end<T: WktNum>(walk: &Walk, expected: Expected) -> Message
     ensures { result ≡ told T.read expected (own walk.now.place + walk.now.depth) [] }
 {
-    if own(walk.place) == 0 && walk.depth == 0 {
-        at_end(expected)
-    } else {
-        Message::Close
+    let parts = own(walk.place);
+    if parts > 0 {
+        return Message::Close;
     }
+    let collections = walk.depth;
+    if collections > 0 {
+        return Message::Close;
+    }
+    at_end(expected)
 }
