@@ -33,8 +33,8 @@ module _ (asked : ℕ) (text : List ℕ) (status : ℕ) where
       (status ≡ 30 → (asks_whole asked ≡ true) × (AllWhite (drop end' text) → ⊥)) → (1 ≤ status → out' ≡ out) → (status ≡ 30 → needed' ≡ needed) →
       (status ≡ 0) ⊎ ((status ≡ 21) ⊎ (status ≡ 30)) → AnswersCanonical asked text status out out' needed needed' end end'
   handed-call answer out out' needed needed' end end' is ends stands lacks more kept told three = record {
-    written = λ e. (answer, (is, (ends (λ n. omega (arith, e, n)), stands e)));
-    small = λ e. (answer, (is, (ends (λ n. omega (arith, e, n)), lacks e)));
+    written = λ e. (answer, is, ends (λ n. omega (arith, e, n)), stands e);
+    small = λ e. (answer, is, ends (λ n. omega (arith, e, n)), lacks e);
     more = λ e. let h = more e in record { asked = h.0; utf8 = is.utf8; value = is.value; front = is.front; more = h.1 };
     others = λ some n m. absurd (elim three [ inl z ↦ omega (arith, z, some) | inr k ↦ elim k [ inl a ↦ n a | inr b ↦ m b ] ]);
     kept = kept;

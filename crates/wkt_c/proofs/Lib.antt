@@ -13,3 +13,5 @@ pub mod Filled
 pub mod Fitting
 pub mod Pieces
 pub mod Calls
+pub mod Blames
+pub mod Blanks

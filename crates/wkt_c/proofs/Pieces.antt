@@ -13,7 +13,7 @@ pub more-output : {N : Type 0} (read : List ℕ → Option N) (num : N → List 
     IsWhole (take taken input) → IsOutput read num (take taken input) x → IsOutput read num (take piece (drop taken input)) v → IsOutput read num (take (taken + piece) input) (x ++ v)
 more-output read num law input taken piece x v w h k =
     subst (λ bs. IsOutput read num bs (x ++ v)) (sym (take-add taken piece input))
-    (law (take taken input ∷ []) (x ∷ []) (take piece (drop taken input)) v (w, tt) (x, ([], (refl, (h, refl)))) k)
+    (law (take taken input ∷ []) (x ∷ []) (take piece (drop taken input)) v (w, tt) (x, [], refl, h, refl) k)
 
 -- whole lines after whole lines
 pub whole-more : (input : List ℕ) (taken piece : ℕ) → IsWhole (take taken input) → IsWhole (take piece (drop taken input)) → IsWhole (take (taken + piece) input)

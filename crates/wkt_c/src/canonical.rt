@@ -62,7 +62,6 @@ fn write_at(
 /// Writes the one text of what a text begins with to the front of the room, and tells where that ends, and how long its
 /// text is. `None`: the text of a number had no room.
 fn write_in(
-    alloc: Global,
     text: &str,
     asked: u32,
     room: &mut [u8],
@@ -79,14 +78,13 @@ fn write_in(
     let places = places_of(asked);
     match write_at(text, places, room) {
         Ok(Some((end, n))) => Ok(Some((end, n))),
-        Ok(None) => Err(refusal_at(alloc, text, places)),
+        Ok(None) => Err(refusal_at(text, places)),
         Err(NoRoom) => Ok(None),
     }
 }
 
 /// The same in a room that grows.
 pub(crate) fn write_long(
-    alloc: Global,
     text: &str,
     asked: u32,
     room: &mut Vec<u8>,
@@ -105,7 +103,7 @@ pub(crate) fn write_long(
             Ok(()) => {}
             Err(status) => return Err(status),
         }
-        match write_in(alloc, text, asked, room.as_mut_slice()) {
+        match write_in(text, asked, room.as_mut_slice()) {
             Ok(Some((end, n))) => return Ok((end, n)),
             Ok(None) => {}
             Err(status) => return Err(status),
@@ -174,7 +172,7 @@ fn canonical_text(
 {
     if text.len() <= SHORT {
         let mut room = [0u8; ROOM];
-        match write_in(alloc, text, asked, &mut room) {
+        match write_in(text, asked, &mut room) {
             Ok(Some((at, n))) => {
                 *end = at;
                 return hand_out_front(text.as_bytes(), at, asked, &room[..n], out, needed);
@@ -201,7 +199,7 @@ fn canonical_long(
     ensures { AnswersCanonical asked text.now result out.old out.new needed.old needed.new end.old end.new }
 {
     let mut room = no_room(alloc);
-    match write_long(alloc, text, asked, &mut room) {
+    match write_long(text, asked, &mut room) {
         Ok((at, n)) => {
             *end = at;
             hand_out_front(text.as_bytes(), at, asked, &room[..n], out, needed)
@@ -286,12 +284,7 @@ pub(crate) struct Compared {
 }
 
 /// Whether two short texts begin with one geometry. `None`: the text of a number had no room.
-fn same_short(
-    alloc: Global,
-    one: &str,
-    other: &str,
-    asked: u32,
-) -> Result<Option<Compared>, u32>
+fn same_short(one: &str, other: &str, asked: u32) -> Result<Option<Compared>, u32>
     requires places { places_in asked ≤ 18 }
     requires utf8 { IsUtf8 one.now }
     requires other_utf8 { IsUtf8 other.now }
@@ -301,11 +294,11 @@ fn same_short(
 {
     let mut first = [0u8; ROOM];
     let mut second = [0u8; ROOM];
-    let written = match write_in(alloc, one, asked, &mut first) {
+    let written = match write_in(one, asked, &mut first) {
         Ok(written) => written,
         Err(status) => return Err(status),
     };
-    let other_written = match write_in(alloc, other, asked, &mut second) {
+    let other_written = match write_in(other, asked, &mut second) {
         Ok(written) => written,
         Err(status) => return Err(status),
     };
@@ -332,12 +325,12 @@ fn same_long(alloc: Global, one: &str, other: &str, asked: u32) -> Result<Compar
     ensures { MatchResult result (AreCompared asked one.now other.now) (RefusesOne (read_at (places_in asked)) one.now other.now) }
 {
     let mut first = no_room(alloc);
-    let (end, n) = match write_long(alloc, one, asked, &mut first) {
+    let (end, n) = match write_long(one, asked, &mut first) {
         Ok(written) => written,
         Err(status) => return Err(status),
     };
     let mut second = no_room(alloc);
-    let (other_end, m) = match write_long(alloc, other, asked, &mut second) {
+    let (other_end, m) = match write_long(other, asked, &mut second) {
         Ok(written) => written,
         Err(status) => return Err(status),
     };
@@ -361,7 +354,7 @@ pub(crate) fn same(alloc: Global, one: &[u8], other: &[u8], asked: u32) -> Resul
         return Err(NOT_TEXT);
     };
     if one.len() <= SHORT && other.len() <= SHORT {
-        match same_short(alloc, one, other, asked) {
+        match same_short(one, other, asked) {
             Ok(Some(compared)) => return Ok(compared),
             Ok(None) => {}
             Err(status) => return Err(status),

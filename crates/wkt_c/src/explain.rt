@@ -3,9 +3,8 @@ ghost use Rattle.std.specs.Prelude.{◌≡◌, ◌≤◌, MatchResult, IsUtf8};
 ghost use Rattle.wkt_c.specs.Answer.{read_at};
 ghost use Rattle.wkt_c.specs.Explained.{IsExplained, IsUnexplained, expected_number};
 
-use crate::status::{ACCEPTED, MEMORY, NOT_TEXT, message_number};
-use std::alloc::Global;
-use wkt_explain::{Expected, explain};
+use crate::status::{ACCEPTED, NOT_TEXT};
+use wkt_explain::{Expected, refusal};
 use wkt_num::{Decimal, WktNum};
 
 /// Where a text is refused, from which byte to which; the number of its message, and that of what could stand there.
@@ -36,56 +35,55 @@ fn number_of(expected: Expected) -> u32
 }
 
 /// Where the text is refused, or the status that says why that isn't told.
-fn explained<T: WktNum>(alloc: Global, text: &[u8]) -> Result<Place, u32>
+fn explained<T: WktNum>(text: &[u8]) -> Result<Place, u32>
     ensures { MatchResult result (λ p. IsExplained T.read text.now p.message p.start p.stop p.expected) (IsUnexplained T.read text.now) }
 {
     match str::from_utf8(text) {
-        Ok(text) => explained_text::<T>(alloc, text),
+        Ok(text) => explained_text::<T>(text),
         Err(_) => Err(NOT_TEXT),
     }
 }
 
-fn explained_text<T: WktNum>(alloc: Global, text: &str) -> Result<Place, u32>
+fn explained_text<T: WktNum>(text: &str) -> Result<Place, u32>
     requires { IsUtf8 text.now }
     ensures { MatchResult result (λ p. IsExplained T.read text.now p.message p.start p.stop p.expected) (IsUnexplained T.read text.now) }
 {
-    match explain::<T>(alloc, text) {
-        Ok(Some(why)) => Ok(Place {
-            message: message_number(why.message),
+    match refusal::<T>(text) {
+        Some(why) => Ok(Place {
+            message: why.message.number(),
             start: why.start,
             stop: why.end,
             expected: number_of(why.expected),
         }),
-        Ok(None) => Err(ACCEPTED),
-        Err(_) => Err(MEMORY),
+        None => Err(ACCEPTED),
     }
 }
 
 /// The same, with decimals of so many places.
-pub(crate) fn explained_at(alloc: Global, text: &[u8], places: u32) -> Result<Place, u32>
+pub(crate) fn explained_at(text: &[u8], places: u32) -> Result<Place, u32>
     requires { places ≤ 18 }
     ensures { MatchResult result (λ p. IsExplained (read_at places) text.now p.message p.start p.stop p.expected) (IsUnexplained (read_at places) text.now) }
 {
     match places {
-        0 => explained::<Decimal<0>>(alloc, text),
-        1 => explained::<Decimal<1>>(alloc, text),
-        2 => explained::<Decimal<2>>(alloc, text),
-        3 => explained::<Decimal<3>>(alloc, text),
-        4 => explained::<Decimal<4>>(alloc, text),
-        5 => explained::<Decimal<5>>(alloc, text),
-        6 => explained::<Decimal<6>>(alloc, text),
-        7 => explained::<Decimal<7>>(alloc, text),
-        8 => explained::<Decimal<8>>(alloc, text),
-        9 => explained::<Decimal<9>>(alloc, text),
-        10 => explained::<Decimal<10>>(alloc, text),
-        11 => explained::<Decimal<11>>(alloc, text),
-        12 => explained::<Decimal<12>>(alloc, text),
-        13 => explained::<Decimal<13>>(alloc, text),
-        14 => explained::<Decimal<14>>(alloc, text),
-        15 => explained::<Decimal<15>>(alloc, text),
-        16 => explained::<Decimal<16>>(alloc, text),
-        17 => explained::<Decimal<17>>(alloc, text),
-        18 => explained::<Decimal<18>>(alloc, text),
+        0 => explained::<Decimal<0>>(text),
+        1 => explained::<Decimal<1>>(text),
+        2 => explained::<Decimal<2>>(text),
+        3 => explained::<Decimal<3>>(text),
+        4 => explained::<Decimal<4>>(text),
+        5 => explained::<Decimal<5>>(text),
+        6 => explained::<Decimal<6>>(text),
+        7 => explained::<Decimal<7>>(text),
+        8 => explained::<Decimal<8>>(text),
+        9 => explained::<Decimal<9>>(text),
+        10 => explained::<Decimal<10>>(text),
+        11 => explained::<Decimal<11>>(text),
+        12 => explained::<Decimal<12>>(text),
+        13 => explained::<Decimal<13>>(text),
+        14 => explained::<Decimal<14>>(text),
+        15 => explained::<Decimal<15>>(text),
+        16 => explained::<Decimal<16>>(text),
+        17 => explained::<Decimal<17>>(text),
+        18 => explained::<Decimal<18>>(text),
         _ => unreachable!(),
     }
 }

@@ -121,7 +121,6 @@ pub extern "C" fn wkt_same(
 /// status is 29 where the text isn't refused. Numbers are decimals of so many places.
 #[unsafe(no_mangle)]
 pub extern "C" fn wkt_explain(
-    alloc: Global,
     text: &[u8],
     places: u32,
     message: &mut u32,
@@ -137,7 +136,7 @@ pub extern "C" fn wkt_explain(
     if places > 18 {
         return NO_PLACES;
     }
-    match explained_at(alloc, text, places) {
+    match explained_at(text, places) {
         Ok(place) => {
             *message = place.message;
             *start = place.start;

@@ -29,7 +29,7 @@ pub(crate) fn make_flat<const D: u32>(alloc: Global, text: &[u8]) -> Result<Flat
         return Err(NOT_TEXT);
     };
     let Some(filled) = fill_arrays::<D>(alloc, text) else {
-        return Err(refusal::<Decimal<D>>(alloc, text));
+        return Err(refusal::<Decimal<D>>(text));
     };
     let status = filled.arrays.status;
     if status != 0 {

@@ -1,5 +1,5 @@
 use Rattle.std.proofs.Common.{refl}
-use Rattle.wkt.proofs.Blanks.{white_on, white_here, none_left}
+use Rattle.wkt_c.proofs.Blanks.{white_on, white_here, none_left}
 use Rattle.wkt_c.proofs.asked.is_blank.Goals as goal
 
 pub returns-then-not-is_white : goal.returns-then-not-is_white
