@@ -144,7 +144,7 @@ wkt_status wkt_same_ends(const uint8_t *one, size_t one_len, const uint8_t *othe
 /* Where a text is refused. WKT_OK: from byte *start to byte *stop of it is what is too much: those lexemes that stand
  * before it are the beginning of a geometry, and with it none can come any more. Nothing is from *start to *stop where
  * the text ends too early. *message: the number of the message, 1 to 14; *expected: of what could stand there, in
- * WKT_EXPECTED. WKT_ACCEPTED: the text begins with a geometry. 20, 22, 23. */
+ * WKT_EXPECTED. WKT_ACCEPTED: the text begins with a geometry. 20, 23. It takes no memory. */
 wkt_status wkt_explain(const uint8_t *text, size_t text_len, uint32_t places, uint32_t *message, size_t *start,
                        size_t *stop, uint32_t *expected);
 
