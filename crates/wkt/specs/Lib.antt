@@ -57,6 +57,12 @@ pub use Rattle.wkt_read.specs.OldForms
 pub use Rattle.wkt_read.specs.declared.error.ReadError
 pub use Rattle.wkt_read.specs.declared.messages.Message
 pub use Rattle.wkt_read.specs.declared.infer.InferError
+-- canonical texts, and geometries as events
+pub use Rattle.wkt_events.specs.Canonical as CanonicalText
+pub use Rattle.wkt_events.specs.LongTexts
+pub use Rattle.wkt_events.specs.Makers
+pub use Rattle.wkt_events.specs.Events
+pub use Rattle.wkt_events.specs.Walking
 -- where a text is refused
 pub use Rattle.wkt_explain.specs.Explained
 pub use Rattle.wkt_explain.specs.Table
