@@ -9,15 +9,15 @@ use Rattle.wkt_lines.specs.Output.{IsOutput}
 use Rattle.wkt_lines.specs.Splitting.{before_feed}
 
 -- the output for a piece more
-pub more-output : {N : Type 0} (read : List ℕ → Option N) (num : N → List ℕ) → OutputOfParts read num → (input : List ℕ) (taken piece : ℕ) (x v : List ℕ) →
+pub more_output : {N : Type 0} (read : List ℕ → Option N) (num : N → List ℕ) → OutputOfParts read num → (input : List ℕ) (taken piece : ℕ) (x v : List ℕ) →
     IsWhole (take taken input) → IsOutput read num (take taken input) x → IsOutput read num (take piece (drop taken input)) v → IsOutput read num (take (taken + piece) input) (x ++ v)
-more-output read num law input taken piece x v w h k =
+more_output read num law input taken piece x v w h k =
     subst (λ bs. IsOutput read num bs (x ++ v)) (sym (take-add taken piece input))
     (law (take taken input ∷ []) (x ∷ []) (take piece (drop taken input)) v (w, tt) (x, [], refl, h, refl) k)
 
 -- whole lines after whole lines
-pub whole-more : (input : List ℕ) (taken piece : ℕ) → IsWhole (take taken input) → IsWhole (take piece (drop taken input)) → IsWhole (take (taken + piece) input)
-whole-more input taken piece w h = subst IsWhole (sym (take-add taken piece input)) (elim h [
+pub whole_more : (input : List ℕ) (taken piece : ℕ) → IsWhole (take taken input) → IsWhole (take piece (drop taken input)) → IsWhole (take (taken + piece) input)
+whole_more input taken piece w h = subst IsWhole (sym (take-add taken piece input)) (elim h [
   | inl e ↦ subst IsWhole (sym (ap (λ z. take taken input ++ z) e ∙ append-nil (take taken input))) w
   | inr k ↦ inr (take taken input ++ k.0, ap (λ z. take taken input ++ z) k.1 ∙ sym (append_assoc (take taken input) k.0 (10 ∷ [])))
 ])
@@ -28,8 +28,8 @@ take-one (x ∷ xs) zero h = refl
 take-one (x ∷ xs) (suc n) h = ap (λ zs. x ∷ zs) (take-one xs n (omega (arith, h)))
 
 -- the bytes up to a line feed
-pub whole-at : (xs : List ℕ) (at : ℕ) → 0 < at → at ≤ length xs → get_or xs (at - 1) 0 ≡ 10 → IsWhole (take at xs)
-whole-at xs at p h e =
+pub whole_at : (xs : List ℕ) (at : ℕ) → 0 < at → at ≤ length xs → get_or xs (at - 1) 0 ≡ 10 → IsWhole (take at xs)
+whole_at xs at p h e =
     let same : suc (at - 1) ≡ at = omega (arith, p) in
     inr (take (at - 1) xs, ap (λ n. take n xs) (sym same) ∙ take-one xs (at - 1) (omega (arith, p, h)) ∙ ap (λ b. take (at - 1) xs ++ (b ∷ [])) e)
 
@@ -49,11 +49,11 @@ feed-there [] lt = absurd (omega (arith, lt))
 feed-there (b ∷ bs) lt = feed-step b bs (feed-there bs) lt
 
 -- a first line that ends before the text does
-pub whole-line : (bs : List ℕ) (end : ℕ) → end < length bs → take end bs ≡ before_feed bs → IsWhole (take (end + 1) bs)
-whole-line bs end lt e =
+pub whole_line : (bs : List ℕ) (end : ℕ) → end < length bs → take end bs ≡ before_feed bs → IsWhole (take (end + 1) bs)
+whole_line bs end lt e =
     let long : end ≡ length (before_feed bs) = omega (arith, lt, length-take end bs, ap length e) in
     inr (before_feed bs, ap (λ n. take n bs) {x = end + 1} {y = suc (length (before_feed bs))} (omega (arith, long)) ∙ feed-there bs (omega (arith, lt, long)))
 
 -- a first line that ends where the text does
-pub one-line : (bs : List ℕ) (end : ℕ) → length bs ≤ end → take end bs ≡ before_feed bs → before_feed bs ≡ bs
-one-line bs end le e = sym e ∙ take_all end bs le
+pub one_line : (bs : List ℕ) (end : ℕ) → length bs ≤ end → take end bs ≡ before_feed bs → before_feed bs ≡ bs
+one_line bs end le e = sym e ∙ take_all end bs le

@@ -26,6 +26,7 @@ pub(crate) fn is_last(last: u32) -> bool
 }
 
 /// The bytes of some whole lines at the front, no more than so many; else of the first line alone, if it is whole.
+#[tactic(auto, using(crate::proofs::Pieces::whole_at, crate::proofs::Pieces::whole_line, crate::proofs::Pieces::one_line))]
 fn whole_within(rest: &[u8], most: usize, last: bool) -> usize
     ensures within { result ≤ length rest.now }
     ensures whole { AreWholeLines last rest.now result }
