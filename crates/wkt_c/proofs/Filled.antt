@@ -12,17 +12,6 @@ use Rattle.wkt_c.specs.Answer.{Refuses, kind_number, dimension_number, read_at}
 use Rattle.wkt_c.proofs.Handing.{out_of_memory}
 use Rattle.wkt_c.specs.Arrays.{AreOf, IsNotFlat, IsNoArrays}
 
--- a text that isn't UTF-8
-pub no-text : {N : Type 0} (read : List ℕ → Option N) (text : List ℕ) (status : ℕ) → status ≡ 20 → (IsUtf8 text → ⊥) → Refuses read text status
-no-text read text status e bad = record {
-  no_front = λ _ h. absurd (omega (arith, e, h));
-  message = λ _ h. absurd (omega (arith, e, h));
-  bad = λ h. absurd (omega (arith, e, h));
-  not_utf8 = λ _ u. bad u;
-  others = inr (inl e);
-  some = omega (arith, e);
-}
-
 module _ (places : ℕ) (whole text : List ℕ) (same : whole ≡ text) (f : Filler) (end : ℕ) (h : FillsFront places whole f end) where
   -- the arrays of the front
   pub arrays-of : IsUtf8 text → f.status ≡ 0 → (k d : ℕ) → k ≡ kind_number f.kind → d ≡ dimension_number f.dimension → AreOf places text end k d f.numbers.items f.rings.items f.polygons.items

@@ -1,6 +1,6 @@
 -- What is handed out of what was read and written.
 use Rattle.std.proofs.Common.{◌≡◌, ◌↔◌, inl, inr, refl, sym, ap, ◌∙◌, subst, arith, ℕ, ℤ, List, Option, Result, Ok, Err, MatchResult, IfOk, IfErr, length}
-use Rattle.std.specs.Prelude.{Some, None}
+use Rattle.std.specs.Prelude.{Some, None, IsUtf8}
 use Rattle.std.proofs.lemmas.List.{append-nil}
 use Rattle.std.specs.List.{All, Contains}
 use Rattle.std.proofs.lemmas.List.Elements.{All-contains}
@@ -28,6 +28,17 @@ out_of_memory read text status e = record {
   bad = λ h. absurd (omega (arith, e, h));
   not_utf8 = λ h _. absurd (omega (arith, e, h));
   others = inr (inr e);
+  some = omega (arith, e);
+}
+
+-- a text that isn't UTF-8
+pub no-text : {N : Type 0} (read : List ℕ → Option N) (text : List ℕ) (status : ℕ) → status ≡ 20 → (IsUtf8 text → ⊥) → Refuses read text status
+no-text read text status e bad = record {
+  no_front = λ _ h. absurd (omega (arith, e, h));
+  message = λ _ h. absurd (omega (arith, e, h));
+  bad = λ h. absurd (omega (arith, e, h));
+  not_utf8 = λ _ u. bad u;
+  others = inr (inl e);
   some = omega (arith, e);
 }
 
