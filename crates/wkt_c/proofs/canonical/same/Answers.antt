@@ -4,4 +4,4 @@ use Rattle.wkt_c.proofs.Handing.{no-text}
 use Rattle.wkt_c.proofs.canonical.same.Goals as goal
 
 pub returns-in_default-from_utf8 : goal.returns-in_default-from_utf8
-returns-in_default-from_utf8 c = inr (no-text (read_at (places_in c.args.asked)) c.args.other.now 20 refl c.in_default-from_utf8.ensures.cases)
+returns-in_default-from_utf8 c = inr (no-text (read_at (places_in c.args.asked)) c.args.other.now 20 refl c.in_default-from_utf8.ensures.cases.0)
