@@ -1,7 +1,8 @@
 -- The arrays of a column, row after row.
-use Rattle.std.proofs.Common.{◌≡◌, ◌≢◌, ◌+◌, ◌<◌, inl, inr, ℕ, ℤ, List, [], Bool, true, false, length, refl, sym, ap, ◌∙◌, subst, arith, below_more}
+use Rattle.std.proofs.Common.{◌≡◌, ◌≢◌, ◌+◌, ◌<◌, inl, inr, ℕ, ℤ, List, [], Bool, true, false, length, drop, refl, sym, ap, ◌∙◌, subst, arith, below_more}
 use Rattle.std.specs.List.{slice_index}
 use Rattle.wkt_c.specs.Column.{row, is_null}
+use Rattle.wkt_num.specs.Bytes.{AllWhite}
 use Rattle.wkt_c.specs.Answer.{EndsAsAsked}
 use Rattle.wkt_c.specs.Arrays.{AreOf}
 use Rattle.wkt_c.specs.ColumnArrays.{RowArrays, row_arrays, HasNothing, HasNoRowArrays, IsRowArrays}
@@ -97,3 +98,9 @@ module _ (places : ℕ) (whole null : Bool) (text : List ℕ) (a b : ArrayRows) 
     );
     added = adds;
   }
+
+  -- there is more in it than is asked for
+  pub longer-arrays : (end kind dimension : ℕ) (ns : List ℤ) (rs ps : List ℕ) → null ≡ false → AreOf places text end kind dimension ns rs ps → whole ≡ true → (AllWhite (drop end text) → ⊥) →
+      AddsArrays (row_of 0 0 [] [] []) 30 a b → AddsRowArrays places whole null text a b
+  longer-arrays end kind dimension ns rs ps n are asked more adds =
+      refused-arrays 30 n (inr (refl, (end, record { asked = asked; utf8 = are.utf8; value = are.value; front = are.front; more = more }))) adds

@@ -3,8 +3,8 @@ use Rattle.wkt_lines.specs.Output.{IsOutput}
 use Rattle.wkt_c.specs.Chunks.{AreWholeLines}
 use Rattle.wkt_c.proofs.chunks.answer_some.Given as goal
 
-abbrev pub invariant-blocks : goal.invariant-blocks
-invariant-blocks g l = record {
+abbrev pub invariant-blocks-2 : goal.invariant-blocks-2
+invariant-blocks-2 g l = record {
   within : l.taken ≤ length l.input;
   lines : AreWholeLines l.last l.input l.taken;
   fits : l.written ≤ length l.out;
@@ -13,5 +13,5 @@ invariant-blocks g l = record {
   none : l.taken ≡ 0 → l.written ≡ 0;
 }
 
-abbrev pub decreases-blocks : goal.decreases-blocks
-decreases-blocks g l = length l.input - l.taken
+abbrev pub decreases-blocks-2 : goal.decreases-blocks-2
+decreases-blocks-2 g l = length l.input - l.taken
