@@ -1,7 +1,7 @@
 use Rattle.wkt_c.specs.Answer.{places_in, asks_whole}
 use Rattle.std.proofs.Common.{inl}
 use Rattle.wkt_c.proofs.Handing.{match-map}
-use Rattle.wkt_c.proofs.ArrayColumns.{null-arrays, refused-arrays}
+use Rattle.wkt_c.proofs.ArrayColumns.{null-arrays, refused-arrays, longer-arrays}
 use Rattle.wkt_c.proofs.column_arrays.ArrayRows.add_row.Goals as goal
 
 pub returns-then-null : goal.returns-then-null
@@ -12,3 +12,10 @@ returns-else-status-eq-MEMORY c =
     match-map c.add_none-in-Err.result
     (λ x adds. refused-arrays (places_in c.args.asked) (asks_whole c.args.asked) _ _ _ _ _ c.if-null.false (inl (c.if-status-eq-MEMORY.false, c.in-Err.ensures)) adds) (λ e h. h)
     c.add_none-in-Err.ensures
+
+pub returns-then-not-ends_as_asked : goal.returns-then-not-ends_as_asked
+returns-then-not-ends_as_asked c =
+    let more = c.ends_as_asked.ensures.no c.if-not-ends_as_asked.true in
+    match-map c.add_none-then-not-ends_as_asked.result
+    (λ x adds. longer-arrays (places_in c.args.asked) (asks_whole c.args.asked) _ _ _ _ c.in-Ok.flat.end _ _ _ _ _ c.if-null.false c.in-Ok.ensures more.0 more.1 adds) (λ e h. h)
+    c.add_none-then-not-ends_as_asked.ensures
