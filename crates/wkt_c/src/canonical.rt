@@ -14,9 +14,9 @@ use crate::refusal::refusal_at;
 use crate::room::{make_room, no_room};
 use crate::status::{DONE, MEMORY, NOT_TEXT, NOT_WHOLE, SMALL};
 use std::alloc::Global;
+use wkt_events::{NoRoom, write_canonical};
 use wkt_num::Decimal;
 use wkt_read::laws::{front_is_writable, one_text};
-use wkt_events::{NoRoom, write_canonical};
 
 /// How long a text may be that is answered with no memory.
 const SHORT: usize = 200;
@@ -24,11 +24,7 @@ const SHORT: usize = 200;
 const ROOM: usize = 512;
 
 /// Writes the one text of what a text begins with to the front of the room, with decimals of so many places.
-fn write_at(
-    text: &str,
-    places: u32,
-    room: &mut [u8],
-) -> Result<Option<(usize, usize)>, NoRoom>
+fn write_at(text: &str, places: u32, room: &mut [u8]) -> Result<Option<(usize, usize)>, NoRoom>
     requires places { places ≤ 18 }
     requires room { 2 * length text.now + 65 ≤ length room.old }
     ensures writes { WritesCanonical (read_at places) (print_at places) text.now 0 room.old room.new result }
@@ -61,11 +57,7 @@ fn write_at(
 
 /// Writes the one text of what a text begins with to the front of the room, and tells where that ends, and how long its
 /// text is. `None`: the text of a number had no room.
-fn write_in(
-    text: &str,
-    asked: u32,
-    room: &mut [u8],
-) -> Result<Option<(usize, usize)>, u32>
+fn write_in(text: &str, asked: u32, room: &mut [u8]) -> Result<Option<(usize, usize)>, u32>
     requires places { places_in asked ≤ 18 }
     requires room { 2 * length text.now + 65 ≤ length room.old }
     requires utf8 { IsUtf8 text.now }
@@ -84,11 +76,7 @@ fn write_in(
 }
 
 /// The same in a room that grows.
-pub(crate) fn write_long(
-    text: &str,
-    asked: u32,
-    room: &mut Vec<u8>,
-) -> Result<(usize, usize), u32>
+pub(crate) fn write_long(text: &str, asked: u32, room: &mut Vec<u8>) -> Result<(usize, usize), u32>
     requires places { places_in asked ≤ 18 }
     requires utf8 { IsUtf8 text.now }
     ensures canonical { MatchResult result

@@ -9,8 +9,8 @@ use crate::infer::{number_of_dimension, number_of_kind};
 use crate::refusal::refusal;
 use crate::status::NOT_TEXT;
 use std::alloc::Global;
-use wkt_num::Decimal;
 use wkt_fill::{Filler, fill_arrays};
+use wkt_num::Decimal;
 
 /// Flat arrays with the kind, the dimension and the end of their geometry.
 #[derive(Drop)]

@@ -6,8 +6,8 @@ ghost use Rattle.wkt_c.specs.Answer.{read_at, print_at, HasNoPlaces};
 use crate::gathered::Gathered;
 use crate::status::{MEMORY, NO_PLACES};
 use std::alloc::Global;
-use wkt_num::{Decimal, WktNum};
 use wkt_lines::write_answers;
+use wkt_num::{Decimal, WktNum};
 
 /// The answers to all lines of the input.
 #[tactic(auto, using(crate::proofs::Answering::output_gathered))]

@@ -17,8 +17,8 @@ blocks-2-preserved g c =
     let rest_is : take (length input - taken) (drop taken input) ≡ drop taken input = take_all (length input - taken) (drop taken input) (omega (arith, length-drop taken input)) in
     let before : IsWhole (take taken input) = elim i.lines [ inl h ↦ h | inr e ↦ absurd (omega (arith, e.1, c.blocks-2-test.true)) ] in
     let put : take (written + c.len-written.result) c.put_at.new.out ≡ take written c.blocks-2.out ++ c.in-Ok.text.items =
-        ap (λ n. take n c.put_at.new.out) {x = written + c.len-written.result} {y = written + length c.deref.result.now} (omega (arith, c.len-written.ensures, ap length c.deref.ensures.value))
-        ∙ c.put_at.ensures.put ∙ ap (λ xs. take written c.blocks-2.out ++ xs) c.deref.ensures.value in
+    ap (λ n. take n c.put_at.new.out) {x = written + c.len-written.result} {y = written + length c.deref.result.now} (omega (arith, c.len-written.ensures, ap length c.deref.ensures.value))
+    ∙ c.put_at.ensures.put ∙ ap (λ xs. take written c.blocks-2.out ++ xs) c.deref.ensures.value in
     record {
       within = omega (arith, i.within, w.within, ap length rest_is, length-drop taken input);
       lines = elim w.whole [

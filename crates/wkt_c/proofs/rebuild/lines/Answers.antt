@@ -24,9 +24,9 @@ returns-in_err-l-clause-err g c =
 pub loop-i-preserved : goal.loop-i-preserved
 loop-i-preserved g c = record {
   are = λ rs h.
-    let items : c.push.new.self.items ≡ c.loop-i.lines.items ++ c.in_ok-l.l ∷ [] = search rules in
-    ap (λ xs. map line_string_numbers xs) items ∙ map_push line_string_numbers c.loop-i.lines.items c.in_ok-l.l
-    ∙ rings-step _ _ _ _ _ rs h c.in_ok-from.from c.in_ok-from.to c.in_ok-from.ensures.ok.0 c.in_ok-from.ensures.ok.1 c.loop-i.i (omega arith) (omega arith) _ (c.loop-i.invariant.are rs h) _ c.in_ok-l.ensures.ok;
+      let items : c.push.new.self.items ≡ c.loop-i.lines.items ++ c.in_ok-l.l ∷ [] = search rules in
+      ap (λ xs. map line_string_numbers xs) items ∙ map_push line_string_numbers c.loop-i.lines.items c.in_ok-l.l
+      ∙ rings-step _ _ _ _ _ rs h c.in_ok-from.from c.in_ok-from.to c.in_ok-from.ensures.ok.0 c.in_ok-from.ensures.ok.1 c.loop-i.i (omega arith) (omega arith) _ (c.loop-i.invariant.are rs h) _ c.in_ok-l.ensures.ok;
   fits =
       let items : c.push.new.self.items ≡ c.loop-i.lines.items ++ c.in_ok-l.l ∷ [] = search rules in
       all-more (LineStringFits (IsUnits g.row.D) c.args.dimension) line_string_numbers c.loop-i.lines.items _ c.in_ok-l.l c.loop-i.invariant.fits c.in_ok-l.ensures.fits items;

@@ -25,9 +25,9 @@ returns-in_err-p-clause-err g c =
 pub loop-i-preserved : goal.loop-i-preserved
 loop-i-preserved g c = record {
   are = λ rs h.
-    let items : c.push.new.self.items ≡ c.loop-i.points.items ++ c.in_ok-p.p ∷ [] = search rules in
-    ap (λ xs. map member_numbers xs) items ∙ map_push member_numbers c.loop-i.points.items c.in_ok-p.p
-    ∙ rings-step _ _ _ _ _ rs h c.in_ok-from.from c.in_ok-from.to c.in_ok-from.ensures.ok.0 c.in_ok-from.ensures.ok.1 c.loop-i.i (omega arith) (omega arith) _ (c.loop-i.invariant.are rs h) _ c.in_ok-p.ensures.ok;
+      let items : c.push.new.self.items ≡ c.loop-i.points.items ++ c.in_ok-p.p ∷ [] = search rules in
+      ap (λ xs. map member_numbers xs) items ∙ map_push member_numbers c.loop-i.points.items c.in_ok-p.p
+      ∙ rings-step _ _ _ _ _ rs h c.in_ok-from.from c.in_ok-from.to c.in_ok-from.ensures.ok.0 c.in_ok-from.ensures.ok.1 c.loop-i.i (omega arith) (omega arith) _ (c.loop-i.invariant.are rs h) _ c.in_ok-p.ensures.ok;
   fits =
       let items : c.push.new.self.items ≡ c.loop-i.points.items ++ c.in_ok-p.p ∷ [] = search rules in
       all-more (PointFits (IsUnits g.row.D) c.args.dimension) point_numbers c.loop-i.points.items _ c.in_ok-p.p c.loop-i.invariant.fits c.in_ok-p.ensures.fits items;

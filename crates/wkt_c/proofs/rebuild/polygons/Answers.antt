@@ -18,10 +18,10 @@ returns-in_err-rings-clause-err g c =
 pub loop-i-preserved : goal.loop-i-preserved
 loop-i-preserved g c = record {
   are = λ ps h.
-    let items : c.push.new.self.items ≡ c.loop-i.polygons.items ++ c.new.result ∷ [] = search rules in
-    ap (λ xs. map polygon_numbers xs) items ∙ map_push polygon_numbers c.loop-i.polygons.items c.new.result
-    ∙ polygons-step _ _ _ _ c.loop-i.i ps _ _ h (omega arith) (c.loop-i.invariant.are ps h)
-    (ap (λ xs. map line_string_numbers xs) c.new.ensures.rings ∙ c.in_ok-rings.ensures.ok _ (polygon-at _ _ _ _ c.loop-i.i ps h (omega arith)));
+      let items : c.push.new.self.items ≡ c.loop-i.polygons.items ++ c.new.result ∷ [] = search rules in
+      ap (λ xs. map polygon_numbers xs) items ∙ map_push polygon_numbers c.loop-i.polygons.items c.new.result
+      ∙ polygons-step _ _ _ _ c.loop-i.i ps _ _ h (omega arith) (c.loop-i.invariant.are ps h)
+      (ap (λ xs. map line_string_numbers xs) c.new.ensures.rings ∙ c.in_ok-rings.ensures.ok _ (polygon-at _ _ _ _ c.loop-i.i ps h (omega arith)));
   fits =
       let items : c.push.new.self.items ≡ c.loop-i.polygons.items ++ c.new.result ∷ [] = search rules in
       all-more (PolygonFits (IsUnits g.row.D) c.args.dimension) polygon_numbers c.loop-i.polygons.items _ c.new.result c.loop-i.invariant.fits (subst (λ ls. PolygonFits (IsUnits g.row.D) c.args.dimension (map line_string_numbers ls)) (sym c.new.ensures.rings) c.in_ok-rings.ensures.fits) items;

@@ -23,9 +23,9 @@ returns-in_err-c-clause-err g c =
 pub loop-i-preserved : goal.loop-i-preserved
 loop-i-preserved g c = record {
   are = λ r h.
-    let items : c.push.new.self.items ≡ c.loop-i.coords.items ++ c.in_ok-c.c ∷ [] = search rules in
-    ap (λ xs. map numbers_of xs) items ∙ map_push numbers_of c.loop-i.coords.items c.in_ok-c.c
-    ∙ ring-step _ _ _ _ r h c.in_ok-from.from c.in_ok-from.to c.in_ok-from.ensures.ok.0 c.in_ok-from.ensures.ok.1 c.loop-i.i (omega arith) (omega arith) _ (c.loop-i.invariant.are r h) _ c.in_ok-c.ensures.ok;
+      let items : c.push.new.self.items ≡ c.loop-i.coords.items ++ c.in_ok-c.c ∷ [] = search rules in
+      ap (λ xs. map numbers_of xs) items ∙ map_push numbers_of c.loop-i.coords.items c.in_ok-c.c
+      ∙ ring-step _ _ _ _ r h c.in_ok-from.from c.in_ok-from.to c.in_ok-from.ensures.ok.0 c.in_ok-from.ensures.ok.1 c.loop-i.i (omega arith) (omega arith) _ (c.loop-i.invariant.are r h) _ c.in_ok-c.ensures.ok;
   fits =
       let items : c.push.new.self.items ≡ c.loop-i.coords.items ++ c.in_ok-c.c ∷ [] = search rules in
       all-more (CoordFits (IsUnits g.row.D) c.args.dimension) numbers_of c.loop-i.coords.items _ c.in_ok-c.c c.loop-i.invariant.fits c.in_ok-c.ensures.fits items;
