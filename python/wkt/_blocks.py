@@ -65,10 +65,10 @@ def parts(held: Packed) -> Tuple[Any, ...]:
     )  # fmt: skip
 
 
-def unpacked(out: Any, needed: int, ends: Any, statuses: Any) -> List[Optional[str]]:
-    """The texts in a buffer, and None where a status isn't 0."""
+def unpacked(out: Any, needed: int, ends: Any, statuses: Any, rows: Any = None) -> List[Optional[str]]:
+    """The texts in a buffer, and None where a status isn't 0. A row that is its own canonical text may come back."""
     if _fast is not None:
-        answers: List[Optional[str]] = _fast.unpack(out, ends, statuses)
+        answers: List[Optional[str]] = _fast.unpack(out, ends, statuses, rows)
         return answers
     text = str(memoryview(out)[:needed], "ascii")
     bounds = zip(statuses, ends, ends[1:])
@@ -81,6 +81,11 @@ class Room:
     def __init__(self, likely: int) -> None:
         self.out = ctypes.create_string_buffer(max(likely, 1))
         self.needed = size()
+
+    def holds(self, length: int) -> None:
+        """Makes room for so many bytes."""
+        if len(self.out) < length:
+            self.out = ctypes.create_string_buffer(length)
 
     def call(self, call: Callable[[Any, int, Any], int]) -> int:
         """How many bytes a call has written."""
@@ -104,41 +109,43 @@ class Room:
 Block = Tuple[int, List[Optional[str]], Any]
 
 
-def canonical_blocks(rows: Sequence[Any], places: int, progress: Progress = None) -> Iterator[Block]:
-    """Of each block of rows where it begins, the canonical texts, and the status of each row."""
+def canonical_blocks(rows: Sequence[Any], places: int, progress: Progress = None, texts: bool = True) -> Iterator[Block]:
+    """Of each block of rows where it begins, the canonical texts (if they are wanted), and the status of each row."""
     room = Room(1)
     with shown(progress, len(rows)) as tell:
         for first in range(0, len(rows), BLOCK):
-            held = pack(rows[first : first + BLOCK], first)
-            if len(room.out) < len(held.data) + len(held.data) // 8 + 64:
-                room = Room(len(held.data) + len(held.data) // 8 + 64)
+            block = rows[first : first + BLOCK]
+            held = pack(block, first)
+            room.holds(len(held.data) + len(held.data) // 8 + 64)
             ends, statuses = zeros("q", held.rows + 1), zeros("I", held.rows)
-            needed = _canonical_call(held, places, room, ends, statuses)
-            yield first, unpacked(room.out, needed, ends, statuses), statuses
+            needed = room.call(_canonical_call(held, places, ends, statuses))
+            yield first, unpacked(room.out, needed, ends, statuses, block) if texts else [], statuses
             tell(first + held.rows)
 
 
-def _canonical_call(held: Packed, places: int, room: Room, ends: Any, statuses: Any) -> int:
+def _canonical_call(held: Packed, places: int, ends: Any, statuses: Any) -> Callable[[Any, int, Any], int]:
     def call(out: Any, length: int, needed: Any) -> int:
         status: int = _library.wkt_column_canonical(
             *parts(held), places, out, length, pointer(ends), held.rows + 1, pointer(statuses), held.rows, needed
         )
         return status
 
-    return room.call(call)
+    return call
 
 
 class shown:
-    """Says how many rows are done: by a callback, or by tqdm where there are more than a million."""
+    """Says how many rows are done: by a callback, or by tqdm where there are more than a million, or nobody knows."""
 
-    def __init__(self, progress: Progress, rows: int) -> None:
+    def __init__(self, progress: Progress, total: Optional[int], unit: str = " rows", above: int = 1_000_000) -> None:
         self.bar: Any = None
         self.tell = progress if callable(progress) else None
+        if progress not in (None, False, True) and self.tell is None:
+            raise TypeError("progress is a function or a bool, and not %s" % type(progress).__name__)
         if progress is True:
             import tqdm
 
-            if rows > 1_000_000:
-                self.bar = tqdm.tqdm(total=rows, unit=" rows", unit_scale=True)
+            if total is None or total > above:
+                self.bar = tqdm.tqdm(total=total, unit=unit, unit_scale=True)
 
     def __enter__(self) -> Callable[[int], None]:
         def told(done: int) -> None:

@@ -154,7 +154,7 @@ def reads(text: Any, places: int = 18, progress: Progress = None) -> Any:
     if _arrow.is_texts(text):
         return _arrow.statuses(text, places, progress) == 0
     told: List[bool] = []
-    for _, _, statuses in canonical_blocks(column_of(text), places, progress):
+    for _, _, statuses in canonical_blocks(column_of(text), places, progress, texts=False):
         told += [status == 0 for status in statuses.tolist()]
     return like(text, told, bool)
 
@@ -170,7 +170,7 @@ def explain(text: Any, places: int = 18, progress: Progress = None) -> Any:
         return explained(text, places)
     rows = column_of(text)
     answers: List[Optional[Explanation]] = [None] * len(rows)
-    for first, _, statuses in canonical_blocks(rows, places, progress):
+    for first, _, statuses in canonical_blocks(rows, places, progress, texts=False):
         for i in refused_of(statuses):
             if statuses[i] <= LAST_REFUSAL:
                 answers[first + i] = explained(rows[first + i], places)
