@@ -161,7 +161,7 @@ def _column_call(held: Packed, places: int) -> ColumnArrays:
         return status
 
     three = _three(told, len(held.data) // 8 + 2 * held.rows + 8, call)
-    return ColumnArrays(kinds, dimensions, *itertools.chain.from_iterable(zip(three, ends)), statuses)
+    return ColumnArrays(*[kinds, dimensions, *itertools.chain.from_iterable(zip(three, ends)), statuses])
 
 
 def _joined(blocks: List[ColumnArrays]) -> ColumnArrays:

@@ -24,8 +24,8 @@ class _Array(ctypes.Structure):
     pass
 
 
-_release_schema = ctypes.CFUNCTYPE(None, ctypes.POINTER(_Schema))
-_release_array = ctypes.CFUNCTYPE(None, ctypes.POINTER(_Array))
+_release_schema: Any = ctypes.CFUNCTYPE(None, ctypes.POINTER(_Schema))
+_release_array: Any = ctypes.CFUNCTYPE(None, ctypes.POINTER(_Array))
 _Schema._fields_ = [
     ("format", ctypes.c_char_p),
     ("name", ctypes.c_char_p),
@@ -201,16 +201,17 @@ _structures: Dict[int, Any] = {}
 _keys = itertools.count(1)
 
 
-@_release_schema
-def _free_schema(schema: Any) -> None:
+def _schema_freed(schema: Any) -> None:
     schema.contents.release = _release_schema()
     _alive.pop(schema.contents.private_data, None)
 
 
-@_release_array
-def _free_array(lent: Any) -> None:
+def _array_freed(lent: Any) -> None:
     lent.contents.release = _release_array()
     _alive.pop(lent.contents.private_data, None)
+
+
+_free_schema, _free_array = _release_schema(_schema_freed), _release_array(_array_freed)
 
 
 def _freed(name: bytes) -> Any:

@@ -10,11 +10,11 @@ from ._library import size, u32
 from ._names import TOO_SMALL
 from ._values import address, encoded, is_null, zeros
 
-_fast: Any
 try:
-    from . import _fast  # type: ignore[no-redef]
+    from . import _fast as compiled
 except ImportError:  # The package then needs no compiler, and makes the buffers in Python.
-    _fast = None
+    compiled = None  # type: ignore[assignment]
+_fast: Any = compiled
 
 BLOCK = 1 << 16
 Progress = Union[None, bool, Callable[[int], Any]]
@@ -39,9 +39,10 @@ def _bits(rows: Sequence[Any]) -> bytes:
 
 def pack(rows: Sequence[Any], first: int = 0) -> Packed:
     """The buffers of some rows, of which the first is this one of its column."""
-    made = None if _fast is None else _fast.pack(rows)
+    packed = None if _fast is None else _fast.pack(rows)
     if made is not None:
-        return Packed(*made, len(rows))
+        data, offsets, bits = made
+        return Packed(data, offsets, bits, len(rows))
     try:
         joined = "".join(rows)
     except TypeError:
@@ -49,8 +50,8 @@ def pack(rows: Sequence[Any], first: int = 0) -> Packed:
     if joined.isascii():
         return Packed(joined.encode(), array.array("q", itertools.accumulate(map(len, rows), initial=0)), b"", len(rows))
     held = [b"" if is_null(row) else encoded(row, first + i) for i, row in enumerate(rows)]
-    offsets = array.array("q", itertools.accumulate(map(len, held), initial=0))
-    return Packed(b"".join(held), offsets, _bits(rows), len(rows))
+    ends = array.array("q", itertools.accumulate(map(len, held), initial=0))
+    return Packed(b"".join(held), ends, _bits(rows), len(rows))
 
 
 def pointer(values: Any) -> Any:
@@ -142,7 +143,7 @@ class shown:
         if progress not in (None, False, True) and self.tell is None:
             raise TypeError("progress is a function or a bool, and not %s" % type(progress).__name__)
         if progress is True:
-            import tqdm
+            import tqdm  # type: ignore[import]
 
             if total is None or total > above:
                 self.bar = tqdm.tqdm(total=total, unit=unit, unit_scale=True)

@@ -69,11 +69,11 @@ def explained(text: Text, places: int) -> Optional[Explanation]:
     if status == _ACCEPTED:
         return None
     check(status)
-    places_in = [start.value, stop.value]
+    shown: Union[str, bytes] = data
+    first, last = start.value, stop.value
     if isinstance(text, str):
-        places_in = [len(data[:at].decode("utf-8")) for at in places_in]
-    shown = text if isinstance(text, str) else data
-    return Explanation(shown, message.value, MESSAGES[message.value], *places_in, EXPECTED[expected.value])
+        shown, first, last = text, len(data[:first].decode("utf-8")), len(data[:last].decode("utf-8"))
+    return Explanation(shown, message.value, MESSAGES[message.value], first, last, EXPECTED[expected.value])
 
 
 def refusal(status: int, text: Text, places: int, row: Optional[int] = None) -> WktError:
