@@ -1,18 +1,46 @@
 #!/usr/bin/env bash
-# Builds the library for C and runs its callers in C, C++, Python and Rust. What a machine lacks is told and passed over.
+# Builds the library for C, in capi/out, and runs its callers in C, C++, Python and Rust, and compares the keys of tests/keys.tsv.
 #
-# It needs crates/wkt_c proved: the gate runs it on what rt ci has just proved; alone, run rt check in crates/wkt_c first.
+# It needs crates/wkt_c proved: the gate runs it on what rt ci has just proved; alone, run rt check in crates/wkt_c first,
+# or name a library that is built already by WKT_C_LIB.
+# What a machine lacks fails (tests/needs.sh installs it), unless SKIP names it: SKIP=python,rust tests/c_callers.sh.
+# Names: valgrind, c++, python, numpy, rust. The last line says what was skipped.
 set -u
 cd "$(dirname "$0")/.."
-tests/lib_for_c.py 2> /dev/null || (cd crates/wkt_c && rt lib > /dev/null) || { echo "wkt_c: rt lib fails"; exit 1; }
+fail() { echo "$*"; exit 1; }
+skips() { case ",${SKIP:-}," in *",$1,"*) true ;; *) false ;; esac; }
+# needs NAME COMMAND: the command is there, or SKIP names it
+needs() { skips "$1" || command -v "$2" > /dev/null || fail "no $2: tests/needs.sh installs it, SKIP=$1 passes it over"; }
+# has_numpy PYTHON
+has_numpy() { "$1" -c 'import numpy' 2> /dev/null; }
 
+skip=${SKIP:-}
+for name in ${skip//,/ }; do
+    case $name in valgrind | c++ | python | numpy | rust) ;; *) echo "SKIP: $name is skipped by other scripts, or no name" ;; esac
+done
 cc=${CC:-$(command -v gcc || command -v clang || command -v cc)}
-[ -n "$cc" ] || { echo "no C compiler: the callers weren't run"; exit 0; }
+[ -n "$cc" ] || fail "no C compiler: tests/needs.sh installs one"
+needs valgrind valgrind
+needs c++ g++
+needs python python3
+needs rust cargo
+# The tests run by python3, and where that has no NumPy, by the system's, if that has it.
+pythons=()
+if ! skips python; then
+    pythons=(python3)
+    if ! skips numpy && ! has_numpy python3; then
+        has_numpy /usr/bin/python3 || fail "no Python with NumPy: tests/needs.sh installs it, SKIP=numpy passes it over"
+        pythons+=(/usr/bin/python3)
+    fi
+fi
+
 dir=$(mktemp -d)
 trap 'rm -rf "$dir"' EXIT
-out=$dir/lib
-CC=$cc capi/build.sh "$out" || { echo "capi/build.sh fails"; exit 1; }
-fail() { echo "$*"; exit 1; }
+out=$PWD/capi/out
+if [ -z "${WKT_C_LIB:-}" ]; then
+    tests/lib_for_c.py 2> /dev/null || (cd crates/wkt_c && rt lib > /dev/null) || fail "wkt_c: rt lib fails"
+fi
+CC=$cc capi/build.sh || fail "capi/build.sh fails"
 
 # The exported names are those of the header.
 sed -n 's/.*\(wkt_[a-z_]*\)(.*/\1/p' include/wkt.h | grep -vx wkt_status | sort -u > "$dir/declared"
@@ -30,17 +58,20 @@ each() {
     echo "$name: $(cat "$dir/said")"
 }
 each C "$cc" -O2
-if command -v valgrind > /dev/null; then
+if ! skips valgrind; then
     valgrind -q --leak-check=full --error-exitcode=9 "$dir/calls" > "$dir/said" 2>&1 || { cat "$dir/said"; fail "valgrind: errors"; }
     [ "$(wc -l < "$dir/said")" = 1 ] || { cat "$dir/said"; fail "valgrind: words"; }
     echo "valgrind: no word"
-else
-    echo "no valgrind"
 fi
 each "C under ASan and UBSan" "$cc" -O1 -g -fsanitize=address,undefined -fno-sanitize-recover
-if command -v g++ > /dev/null; then each C++ g++ -O2 -x c++; else echo "no g++"; fi
+skips c++ || each C++ g++ -O2 -x c++
 
-# The examples, and the output of wktline where that is built.
+# The keys that stores keep.
+"$cc" -O2 -Wall -Wextra -Werror -I"$out" -o "$dir/keys" tests/keys.c "$out/libwkt.a" || fail "keys: not compiled"
+"$dir/keys" < tests/keys.tsv > "$dir/said" || { cat "$dir/said"; fail "keys: a release must not change one"; }
+cat "$dir/said"
+
+# The examples, and the output of wktline.
 for example in show lines; do
     "$cc" -O2 -I"$out" -o "$dir/$example" capi/examples/$example.c "$out/libwkt.a" || fail "$example: not compiled"
 done
@@ -48,17 +79,15 @@ done
 "$dir/lines" < crates/wktline/stdin | cmp - crates/wktline/stdout || fail "lines: another output than wktline's"
 echo "examples: the output of wktline"
 
-if command -v python3 > /dev/null; then
-    WKT_LIB=$out/libwkt.so PYTHONDONTWRITEBYTECODE=1 PYTHONPATH=python python3 -W error -m unittest -q python/tests/test_wkt.py > "$dir/said" 2>&1 ||
-        { cat "$dir/said"; fail "Python: the tests fail"; }
-    echo "Python: $(grep '^Ran' "$dir/said"), $(tail -n 1 "$dir/said")"
-else
-    echo "no python3"
-fi
-if command -v cargo > /dev/null; then
+for python in "${pythons[@]}"; do
+    WKT_LIB=$out/libwkt.so PYTHONDONTWRITEBYTECODE=1 PYTHONPATH=python "$python" -W error -m unittest -q python/tests/test_wkt.py > "$dir/said" 2>&1 ||
+        { cat "$dir/said"; fail "$python: the tests fail"; }
+    with=$(has_numpy "$python" && echo with || echo without)
+    echo "Python ($python, $with NumPy): $(grep '^Ran' "$dir/said"), $(tail -n 1 "$dir/said")"
+done
+if ! skips rust; then
     WKT_LIB_DIR=$out CARGO_TARGET_DIR=$dir/target cargo test --offline -q --manifest-path rust/Cargo.toml > "$dir/said" 2>&1 ||
         { cat "$dir/said"; fail "Rust: the tests fail"; }
     echo "Rust: $(grep -m 1 '^test result: ok. [1-9]' "$dir/said")"
-else
-    echo "no cargo"
 fi
+echo "callers of the library for C: all passed; skipped: ${SKIP:-nothing}"

@@ -1,12 +1,12 @@
--- Only ASCII is read as a decimal.
-use Rattle.std.proofs.Common.{◌≡◌, ◌≢◌, ℕ, zero, suc, ◌+◌, ◌^◌, ◌<◌, Bool, true, false, cond, ◌==◌, nat_le, if◌then◌else◌, List, [], ◌∷◌, ◌++◌, length, drop, ℤ, Option, Some, None, IfSome, refl, arith}
+-- Only ASCII is read as a decimal or as a whole number.
+use Rattle.std.proofs.Common.{◌≡◌, ◌≢◌, ℕ, zero, suc, ◌+◌, ◌^◌, ◌<◌, Bool, true, false, cond, ◌==◌, ◌&&◌, nat_le, nat_lt, if◌then◌else◌, List, [], ◌∷◌, ◌++◌, length, drop, ℤ, pos, neg_ℤ, Option, Some, None, IfSome, refl, arith}
 use Rattle.std.specs.Str.{IsUtf8, IsAscii}
 use Rattle.std.proofs.lemmas.Str.{IsUtf8-from_ascii}
 use Rattle.std.proofs.lemmas.Str.Parse.{digit_from_value}
-use Rattle.std.specs.Str.Parse.{AllDigits, digits_value, starts_with_minus, without_leading_sign}
+use Rattle.std.specs.Str.Parse.{AllDigits, digits_value, starts_with_minus, without_leading_plus, without_leading_sign}
 use borrow.Author.Tests.{eqb-true}
-use Rattle.wkt_num.specs.Whole.{is_numeral}
-use Rattle.wkt_num.specs.WholeLaws.{numeral_from}
+use Rattle.wkt_num.specs.Whole.{is_numeral, keep_if, read_unsigned, read_signed}
+use Rattle.wkt_num.specs.WholeLaws.{numeral_from, both_true}
 use Rattle.wkt_num.specs.Decimal.{before_point, after_point, units_of, read_magnitude, read_decimal, with_sign, and_then}
 
 ascii-more : (b : ℕ) (bs : List ℕ) → b < 128 → IsAscii bs → IsAscii (b ∷ bs)
@@ -55,3 +55,44 @@ decimal_utf8 D bs = go (nat_le D 36) (read_magnitude (2 ^ 127) D (without_leadin
     go true (Some m) h = all (with_sign 127 (starts_with_minus bs) m) (h m refl)
     go true None h = tt
     go false o h = tt
+
+plus-ascii : (bs : List ℕ) → IsAscii (without_leading_plus bs) → IsAscii bs
+plus-ascii [] h = λ i. omega arith
+plus-ascii (c ∷ cs) h = go (c == 43) refl h
+  where
+    go : (b : Bool) → (c == 43) ≡ b → IsAscii (drop (cond b 1 0) (c ∷ cs)) → IsAscii (c ∷ cs)
+    go true f k = ascii-more c cs (omega (arith, eqb-true c 43 f)) k
+    go false f k = k
+
+numeral-ascii : (ds : List ℕ) (b : Bool) → is_numeral ds && b ≡ true → IsAscii ds
+numeral-ascii ds b e = digits-ascii ds (numeral_from ds (both_true (is_numeral ds) b e).0).1
+
+-- Only texts are read as whole numbers without a sign.
+pub unsigned_utf8 : (k : ℕ) (bs : List ℕ) → IfSome (read_unsigned k bs) (λ u. IsUtf8 bs)
+unsigned_utf8 k bs = go (is_numeral ds && nat_lt (digits_value 10 ds) (2 ^ k)) refl
+  where
+    ds : List ℕ
+    ds = without_leading_plus bs
+
+    go : (b : Bool) → is_numeral ds && nat_lt (digits_value 10 ds) (2 ^ k) ≡ b → IfSome (keep_if b (digits_value 10 ds)) (λ u. IsUtf8 bs)
+    go true e = IsUtf8-from_ascii bs (plus-ascii bs (numeral-ascii ds (nat_lt (digits_value 10 ds) (2 ^ k)) e))
+    go false e = tt
+
+-- Nor as others.
+pub signed_utf8 : (k : ℕ) (bs : List ℕ) → IfSome (read_signed k bs) (λ u. IsUtf8 bs)
+signed_utf8 k bs = go (starts_with_minus bs) (is_numeral ds && nat_le v (2 ^ k)) (is_numeral ds && nat_lt v (2 ^ k)) refl refl
+  where
+    ds : List ℕ
+    ds = without_leading_sign bs
+
+    v : ℕ
+    v = digits_value 10 ds
+
+    text : (b : Bool) → is_numeral ds && b ≡ true → IsUtf8 bs
+    text b e = IsUtf8-from_ascii bs (sign-ascii bs (numeral-ascii ds b e))
+
+    go : (s a b : Bool) → is_numeral ds && nat_le v (2 ^ k) ≡ a → is_numeral ds && nat_lt v (2 ^ k) ≡ b → IfSome (if s then keep_if a (neg_ℤ (pos v)) else keep_if b (pos v)) (λ u. IsUtf8 bs)
+    go true true b e f = text (nat_le v (2 ^ k)) e
+    go true false b e f = tt
+    go false a true e f = text (nat_lt v (2 ^ k)) f
+    go false a false e f = tt

@@ -23,13 +23,13 @@ use Rattle.wkt_num.proofs.Shown.{Shown, decimal-is, fraction-is, magnitude-is, r
 
 -- ---- places in a list
 
-take-range : (bs : List ℕ) (i j : ℕ) → i ≤ j → take j bs ≡ take i bs ++ slice_range bs i j
+pub take-range : (bs : List ℕ) (i j : ℕ) → i ≤ j → take j bs ≡ take i bs ++ slice_range bs i j
 take-range bs i j h = ap (λ (n : ℕ). take n bs) {x = j} {y = i + (j - i)} (omega arith) ∙ take-add i (j - i) bs
 
-length-range : (bs : List ℕ) (i j : ℕ) → i ≤ j → j ≤ length bs → length (slice_range bs i j) ≡ j - i
+pub length-range : (bs : List ℕ) (i j : ℕ) → i ≤ j → j ≤ length bs → length (slice_range bs i j) ≡ j - i
 length-range bs i j h k = length-take-le (j - i) (drop i bs) (omega (arith, length-drop i bs))
 
-first-range : (bs : List ℕ) (i j : ℕ) → i < j → get_or (slice_range bs i j) 0 0 ≡ get_or bs i 0
+pub first-range : (bs : List ℕ) (i j : ℕ) → i < j → get_or (slice_range bs i j) 0 0 ≡ get_or bs i 0
 first-range bs i j h = get_or-take (j - i) (drop i bs) 0 0 (omega arith) ∙ get_or-drop i bs 0 0 ∙ ap (λ (n : ℕ). get_or bs n 0) {x = i + 0} {y = i} (omega arith)
 
 -- a range by its first byte
@@ -51,7 +51,7 @@ zero-more bs kept end some h k is before =
     ∙ ap (λ l. 48 ∷ l) before
     ∙ ap zeros {x = suc (end - kept)} {y = end - (kept - 1)} (omega arith)
 
-stops-at : (bs : List ℕ) (end : ℕ) → (end < length bs → class_of (get_or bs end 0) ≡ Run → ⊥) → StopsRun (drop end bs)
+pub stops-at : (bs : List ℕ) (end : ℕ) → (end < length bs → class_of (get_or bs end 0) ≡ Run → ⊥) → StopsRun (drop end bs)
 stops-at [] zero h = tt
 stops-at [] (suc end) h = tt
 stops-at (b ∷ bs) zero h = h (omega arith)
@@ -75,12 +75,12 @@ positive : (b : ℕ) → (b ≡ 48 → ⊥) → digit_value b < 10 → 0 < digit
 positive b other digit = omega (arith, digit-is b digit, other)
 
 -- what begins with a digit that isn't 0 is not 0
-value-first : (ds : List ℕ) → IsNumeral 10 ds → (get_or ds 0 0 ≡ 48 → ⊥) → 0 < digits_value 10 ds
+pub value-first : (ds : List ℕ) → IsNumeral 10 ds → (get_or ds 0 0 ≡ 48 → ⊥) → 0 < digits_value 10 ds
 value-first [] h other = absurd (omega (arith, h.0))
 value-first (c ∷ cs) h other = let some : 0 < digit_value c = positive c other h.1.0 in omega (arith, some, value-low (0 * 10 + digit_value c) cs)
 
 -- a sign, digits and a rest are one run
-text-run : (negative : Bool) (ws rest : List ℕ) → IsNumeral 10 ws → AllRun rest → IsNumberText (sign_text negative ++ (ws ++ rest))
+pub text-run : (negative : Bool) (ws rest : List ℕ) → IsNumeral 10 ws → AllRun rest → IsNumberText (sign_text negative ++ (ws ++ rest))
 text-run true ws rest h run = (refl, (minus_run, run_append ws rest (digits_are_run ws h.1) run))
 text-run false ws rest h run = number_first ws rest h run
 

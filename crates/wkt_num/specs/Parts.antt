@@ -1,6 +1,8 @@
 -- The parts of a decimal's text, by their places in the bytes. Only private contracts cite this file.
-use Rattle.std.specs.Prelude.{zero, suc, false, [], ◌∷◌, bit_and, ◌≡◌, ◌≢◌, ℕ, ◌+◌, ◌-◌, ◌%◌, ◌<◌, ◌≤◌, Bool, List, take, map, length, nat_lt, slice_index, slice_range}
+use Rattle.std.specs.Prelude.{zero, suc, false, [], ◌∷◌, bit_and, ◌≡◌, ◌≢◌, ℕ, ◌+◌, ◌-◌, ◌%◌, ◌<◌, ◌≤◌, ◌==◌, Bool, List, take, map, length, nat_lt, slice_index, slice_range}
+use Rattle.std.specs.Fmt.{sign_text}
 use Rattle.std.specs.Str.Parse.{AllDigits}
+use Rattle.wkt_num.specs.Bytes.{class_of, Run}
 use lib.Lanes.{mask_l}
 use Rattle.wkt_num.specs.Padded.{zeros}
 
@@ -11,6 +13,22 @@ pub record IsWholePart (bs : List ℕ) (first point : ℕ) : Type 0 where
   pub within : point ≤ length bs
   pub digits : AllDigits 10 (slice_range bs first point)
   pub plain : slice_index bs first ≡ 48 → point ≡ first + 1
+
+-- Some digits, at most so many, of which none is a zero before others or after a minus.
+pub record IsPrinted (most : ℕ) (bs : List ℕ) (first end : ℕ) : Type 0 where
+  pub some : first < end
+  pub few : end ≤ first + most
+  pub plain : slice_index bs first ≡ 48 → (end ≡ first + 1) × (first ≡ 0)
+
+-- The bytes begin with a whole number of at most so many digits, as it is printed, and no run goes on behind it.
+pub record IsWholeText (most : ℕ) (bs : List ℕ) (end : ℕ) : Type 0 where
+  pub first : ℕ
+  pub minus : first ≤ 1
+  pub sign : take first bs ≡ sign_text (first == 1)
+  pub printed : IsPrinted most bs first end
+  pub within : end ≤ length bs
+  pub digits : AllDigits 10 (slice_range bs first end)
+  pub stops : end < length bs → class_of (slice_index bs end) ≢ Run
 
 -- No zero stands first or last, nor the point, and all is so short that the units fit.
 pub record IsPlain (D : ℕ) (bs : List ℕ) (first end : ℕ) : Type 0 where

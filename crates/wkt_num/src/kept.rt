@@ -75,7 +75,7 @@ pub fn kept_in_window(places: u32, bytes: &[u8]) -> Option<(usize, usize)>
 
 /// The bytes of the window after a minus or none that are no digits, as bits.
 #[inline(always)]
-fn others_from(bytes: &[u8], first: usize) -> u64
+pub(crate) fn others_from(bytes: &[u8], first: usize) -> u64
     requires window { 32 ≤ length bytes.now }
     requires minus { first ≤ 1 }
     requires sign { take first bytes.now ≡ sign_text (first == 1) }
@@ -98,7 +98,7 @@ fn others(bytes: &[u8]) -> u64
 
 /// Where the digits from `from` on end, if they do so in the window: the lowest of these bits.
 #[inline(always)]
-fn first_other(bytes: &[u8], from: usize, others: u64) -> Option<usize>
+pub(crate) fn first_other(bytes: &[u8], from: usize, others: u64) -> Option<usize>
     requires window { 32 ≤ length bytes.now }
     requires others { others ≡ others_mask bytes.now from }
     ensures { IfSome result (λ at. IsFirstOther bytes.now from others at) }
@@ -178,7 +178,7 @@ fn kept_fraction(
 
 /// Where the digits begin: after a minus, if one stands first.
 #[inline(always)]
-fn after_minus(bytes: &[u8]) -> usize
+pub(crate) fn after_minus(bytes: &[u8]) -> usize
     ensures within { result ≤ length bytes.now }
     ensures minus { result ≤ 1 }
     ensures sign { take result bytes.now ≡ sign_text (result == 1) }
@@ -191,7 +191,7 @@ fn after_minus(bytes: &[u8]) -> usize
 
 /// Where digits from `from` on end, or earlier.
 #[inline(always)]
-fn digits_end(bytes: &[u8], from: usize) -> usize
+pub(crate) fn digits_end(bytes: &[u8], from: usize) -> usize
     requires { from ≤ length bytes.now }
     ensures from { from ≤ result }
     ensures within { result ≤ length bytes.now }
@@ -240,7 +240,7 @@ fn is_minus_zero(bytes: &[u8], first: usize) -> bool
 
 /// Whether no run goes on at `end`.
 #[inline(always)]
-fn stops(bytes: &[u8], end: usize) -> bool
+pub(crate) fn stops(bytes: &[u8], end: usize) -> bool
     requires { end ≤ length bytes.now }
     ensures { OnTrue result (end < length bytes.now → class_of (slice_index bytes.now end) ≢ Run) }
 {
@@ -261,7 +261,7 @@ static STOPS: [u8; 256] = [
 
 /// Whether a byte is a part of a run.
 #[inline(always)]
-fn is_of_run(byte: u8) -> bool
+pub(crate) fn is_of_run(byte: u8) -> bool
     ensures { MatchBool result (class_of byte ≡ Run) (class_of byte ≢ Run) }
 {
     STOPS[byte as usize] == 0

@@ -1,0 +1,108 @@
+/* Calls of libwkt on whole texts of the database. */
+#include "wkt_pg.h"
+
+#include "mb/pg_wchar.h"
+#include "miscadmin.h"
+#include "utils/builtins.h"
+#include "utils/memutils.h"
+
+/* How deep collections may nest where the library takes stack for each level: some 150 bytes of the 2 MB that
+ * max_stack_depth allows by default. Without the bound a text could end the server. */
+#ifndef DEEPEST
+#define DEEPEST 4000
+#endif
+
+static const char *const kinds[] = {"POINT", "LINESTRING", "POLYGON", "MULTIPOINT", "MULTILINESTRING", "MULTIPOLYGON",
+                                    "GEOMETRYCOLLECTION"};
+static const char *const dimensions[] = {"", " Z", " M", " ZM"};
+
+uint32_t places_of(int32 places) {
+    if (places < 0 || places > MOST_PLACES)
+        ereport(ERROR,
+                (errcode(ERRCODE_INVALID_PARAMETER_VALUE), errmsg("places must be between 0 and %d", MOST_PLACES)));
+    return (uint32_t)places;
+}
+
+static bool is_ascii(const char *given, size_t length) {
+    unsigned char all = 0;
+    for (size_t i = 0; i < length; i++) all |= (unsigned char)given[i];
+    return all < 0x80;
+}
+
+/* A database in SQL_ASCII holds any bytes: there the library says whether they are UTF-8. */
+Question question_of(const char *given, size_t length, uint32_t places) {
+    Question asked = {given, length, (const uint8_t *)given, length, places};
+    if (GetDatabaseEncoding() != PG_UTF8 && GetDatabaseEncoding() != PG_SQL_ASCII && !is_ascii(given, length)) {
+        char *converted = pg_server_to_any(given, (int)length, PG_UTF8);
+        asked.utf8 = (const uint8_t *)converted;
+        asked.length = strlen(converted);
+    }
+    return asked;
+}
+
+Question question_of_text(text *given, uint32_t places) {
+    return question_of(VARDATA_ANY(given), VARSIZE_ANY_EXHDR(given), places);
+}
+
+static void check_depth(const Question *asked) {
+#ifndef WKT_NO_STACK
+    size_t depth = 0;
+    for (size_t i = 0; i < asked->length; i++) {
+        if (asked->utf8[i] == '(' && ++depth > DEEPEST)
+            ereport(ERROR, (errcode(ERRCODE_STATEMENT_TOO_COMPLEX),
+                            errmsg("well-known text nests more than %d deep", DEEPEST)));
+        if (asked->utf8[i] == ')' && depth > 0) depth--;
+    }
+#endif
+}
+
+/* Of a call that a cancel ended the error is the cancel's: see heap.c. */
+static void out_of_memory(void) {
+    CHECK_FOR_INTERRUPTS();
+    ereport(ERROR, (errcode(ERRCODE_OUT_OF_MEMORY), errmsg("out of memory")));
+}
+
+/* The library reads the front of a text and says where it ends; a text of the database is taken whole. */
+static wkt_status end_of(const Question *asked, size_t end, size_t *at) {
+    while (end < asked->length && strchr(" \t\r\n", asked->utf8[end])) end++;
+    *at = end;
+    return end < asked->length ? FOLLOWED : WKT_OK;
+}
+
+/* Room in which nearly every answer fits: a text of n bytes is answered in some 2n + 8. Room that isn't filled costs
+ * nothing, and an answer that doesn't fit would be made twice. */
+static size_t room_for(size_t length) {
+    return Min(2 * length + 16, MaxAllocSize - VARHDRSZ);
+}
+
+/* The canonical text of a whole text, if `answer` is asked for; or why there is none. */
+bool canonical_of(const Question *asked, text **answer, Refusal *why) {
+    size_t needed = 0, end = 0, room = answer ? room_for(asked->length) : 0;
+    text *made = answer ? palloc(VARHDRSZ + room) : NULL;
+
+    CHECK_FOR_INTERRUPTS();
+    check_depth(asked);
+    why->at = 0;
+    why->status = wkt_canonical(asked->utf8, asked->length, asked->places, made ? (uint8_t *)VARDATA(made) : NULL, room,
+                                &needed, &end);
+    if (why->status == WKT_TOO_SMALL && answer)
+        ereport(ERROR, (errcode(ERRCODE_PROGRAM_LIMIT_EXCEEDED),
+                        errmsg("the canonical text is too long: it has %zu bytes", needed)));
+    if (why->status == WKT_TOO_SMALL) why->status = WKT_OK;
+    if (why->status == WKT_NO_MEMORY) out_of_memory();
+    if (why->status == WKT_OK) why->status = end_of(asked, end, &why->at);
+    if (why->status == WKT_OK && answer) {
+        SET_VARSIZE(made, VARHDRSZ + needed);
+        *answer = made;
+    } else if (made)
+        pfree(made);
+    return why->status == WKT_OK;
+}
+
+/* The kind that the header of a text names, with its dimension; NULL where it names none. */
+text *kind_of(const Question *asked) {
+    uint32_t kind = 0, dimension = 0;
+    wkt_status status = wkt_infer(asked->utf8, asked->length, &kind, &dimension);
+    if (status == WKT_NO_MEMORY) out_of_memory();
+    return status == WKT_OK ? cstring_to_text(psprintf("%s%s", kinds[kind], dimensions[dimension])) : NULL;
+}

@@ -1,0 +1,49 @@
+#!/usr/bin/env bash
+# Tests the extension over the library in FOLDER, in a server of its own: test.sh [FOLDER]
+#
+# FOLDER has wkt.h and libwkt.a; it is WKT_LIB_DIR without an argument, and capi/out without that. It needs PostgreSQL
+# with the headers of its server, gcc and make, and no root. RESULTS=FOLDER keeps what the statements print.
+set -eu
+. "$(dirname "$0")/server.sh"
+library "${1:-}"
+here=$(cd "$(dirname "$0")" && pwd)
+start_server
+status=0
+# ask DATABASE SQL..: what the statements answer
+ask() {
+    local base=$1 sql said=()
+    shift
+    for sql in "$@"; do said+=(-c "$sql"); done
+    "$bin/psql" -X -q -At -v ON_ERROR_STOP=1 -d "$base" "${said[@]}"
+}
+wrong() {
+    echo "wrong: $*"
+    status=1
+}
+# is NAME EXPECTED ANSWER
+is() {
+    [ "$2" = "$3" ] || wrong "$1: $3, not $2"
+}
+# fails DATABASE SQL ERROR: the statement's error has these words
+fails() {
+    local said
+    if said=$(ask "$1" "$2" 2>&1); then wrong "$2: no error"; else [[ $said == *"$3"* ]] || wrong "$2: $said"; fi
+}
+# What an extension consists of.
+objects="select string_agg(pg_describe_object(classid, objid, objsubid), ',' order by pg_describe_object(classid, objid, objsubid))
+    from pg_depend d join pg_extension e on refobjid = e.oid and refclassid = 'pg_extension'::regclass where extname = 'wkt'"
+
+# The statements of sql/, whose answers are in expected/.
+cd "$dir/work"
+tests=$(cd sql && printf '%s\n' *.sql | sed 's/\.sql$//')
+as "$regress" --inputdir=. --outputdir=. --bindir="$bin" --host="$PGHOST" --user=wkt --dbname=contrib_regression $tests \
+    > regress.log 2>&1 || { status=1; cat regress.log regression.diffs; }
+[ -z "${RESULTS:-}" ] || cp results/*.out "$RESULTS"
+[ $status != 0 ] || echo "statements: $(cat sql/*.sql | grep -c ';') lines of SQL as expected"
+
+. "$here/tests/keys.sh"
+. "$here/tests/cancel.sh"
+. "$here/tests/versions.sh"
+. "$here/tests/roles.sh"
+[ $status = 0 ] && echo "PostgreSQL $("$bin/postgres" --version | sed 's/[^0-9.]* //;s/ .*//'): all as expected"
+exit $status

@@ -1,0 +1,30 @@
+# Sourced by test.sh: the tables of keys, by the functions and by the type.
+ask postgres "create database keys"
+ask keys "create extension wkt" \
+    "create function by_text(t text, places int) returns text language plpgsql as
+         \$\$ begin return wkt_canonical(t, places); exception when invalid_text_representation then return 'refused'; end \$\$" \
+    "create function by_type(t text, places int) returns text language plpgsql as
+         \$\$ declare key text; begin execute format('select \$1::wkt(%s)::text', places) into key using t; return key;
+            exception when invalid_text_representation then return 'refused'; end \$\$"
+
+# The rules of docs/KEYS.md. The table has \n, \t, \r and \\ as COPY has them.
+grep -v '^#' "$here/../tests/key_rules.tsv" > "$dir/rules"
+chmod 644 "$dir/rules"
+ask keys "create table rules (places int, t text, key text)" "copy rules from '$dir/rules'"
+is "rules: rows of the table that have another key" "" "$(ask keys "select * from (select *, by_text(t, places), by_type(t, places) from rules) r where key <> by_text or key <> by_type")"
+is "rules: a row is read exactly if it has a key" 0 "$(ask keys "select count(*) from rules where wkt_reads(t, places) <> (key <> 'refused')")"
+is "rules: two rows are the same exactly if their keys are" 0 "$(ask keys "select count(*) from rules a, rules b
+    where a.key <> 'refused' and b.key <> 'refused' and a.places = b.places and wkt_same(a.t, b.t, a.places) <> (a.key = b.key)")"
+echo "rules: $(wc -l < "$dir/rules") keys"
+
+# The keys that stores keep: a text with more after its geometry is refused here, and any other has its key.
+if [ -f "$here/../tests/keys.tsv" ]; then
+    grep -v '^#' "$here/../tests/keys.tsv" | sed 's/\\/\\\\/g' > "$dir/kept"
+    chmod 644 "$dir/kept"
+    ask keys "create table kept (t text, p0 text, p6 text, p15 text, p18 text)" "copy kept from '$dir/kept'" \
+        "create view each_kept as select t, places, key, by_text(t, places) answer, by_type(t, places) by_type
+             from kept, lateral (values (0, p0), (6, p6), (15, p15), (18, p18)) v(places, key)"
+    is "kept: rows that have another key" "" "$(ask keys "select * from each_kept where answer <> by_type or answer <> key
+        and not (answer = 'refused' and wkt_explain(t, places) like '%^ the end of the text was expected') limit 5")"
+    echo "kept: $(ask keys "select count(*) from each_kept where answer = key") keys"
+fi

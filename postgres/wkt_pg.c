@@ -1,0 +1,54 @@
+/* The functions over text. Each takes a text whole: white space may follow the geometry, and nothing else.
+ *
+ * Their names in C begin with pg_, since the library's own begin with wkt_. */
+#include "wkt_pg.h"
+
+#include "utils/builtins.h"
+
+PG_MODULE_MAGIC;
+
+PG_FUNCTION_INFO_V1(pg_wkt_canonical);
+Datum pg_wkt_canonical(PG_FUNCTION_ARGS) {
+    Question asked = question_of_text(PG_GETARG_TEXT_PP(0), places_of(PG_GETARG_INT32(1)));
+    text *answer;
+    Refusal why;
+    if (!canonical_of(&asked, &answer, &why)) return refuse(NULL, &asked, &why);
+    PG_RETURN_TEXT_P(answer);
+}
+
+PG_FUNCTION_INFO_V1(pg_wkt_reads);
+Datum pg_wkt_reads(PG_FUNCTION_ARGS) {
+    Question asked = question_of_text(PG_GETARG_TEXT_PP(0), places_of(PG_GETARG_INT32(1)));
+    Refusal why;
+    PG_RETURN_BOOL(canonical_of(&asked, NULL, &why));
+}
+
+PG_FUNCTION_INFO_V1(pg_wkt_explain);
+Datum pg_wkt_explain(PG_FUNCTION_ARGS) {
+    Question asked = question_of_text(PG_GETARG_TEXT_PP(0), places_of(PG_GETARG_INT32(1)));
+    Refusal why;
+    if (canonical_of(&asked, NULL, &why)) PG_RETURN_NULL();
+    PG_RETURN_TEXT_P(explained(&asked, &why));
+}
+
+/* Two canonical texts are compared, since the library's wkt_same doesn't say where the geometries end. */
+PG_FUNCTION_INFO_V1(pg_wkt_same);
+Datum pg_wkt_same(PG_FUNCTION_ARGS) {
+    uint32_t places = places_of(PG_GETARG_INT32(2));
+    text *answers[2];
+    for (int i = 0; i < 2; i++) {
+        Question asked = question_of_text(PG_GETARG_TEXT_PP(i), places);
+        Refusal why;
+        if (!canonical_of(&asked, &answers[i], &why)) return refuse(NULL, &asked, &why);
+    }
+    PG_RETURN_BOOL(VARSIZE(answers[0]) == VARSIZE(answers[1]) &&
+                   memcmp(VARDATA(answers[0]), VARDATA(answers[1]), VARSIZE(answers[0]) - VARHDRSZ) == 0);
+}
+
+PG_FUNCTION_INFO_V1(pg_wkt_kind);
+Datum pg_wkt_kind(PG_FUNCTION_ARGS) {
+    Question asked = question_of_text(PG_GETARG_TEXT_PP(0), MOST_PLACES);
+    text *kind = kind_of(&asked);
+    if (kind == NULL) PG_RETURN_NULL();
+    PG_RETURN_TEXT_P(kind);
+}

@@ -1,0 +1,44 @@
+/* What the files of the extension share. */
+#ifndef WKT_PG_H
+#define WKT_PG_H
+
+#include "postgres.h"
+
+#include "fmgr.h"
+#include "nodes/nodes.h"
+
+#include <wkt.h>
+
+#define MOST_PLACES 18
+
+/* A status of the extension's own, beside those of wkt.h: more than white space follows the geometry. */
+#define FOLLOWED 100
+
+/* A text as the database holds it, and as the library reads it: both are the same bytes where they are ASCII, or where
+ * the database is in UTF-8. */
+typedef struct Question {
+    const char *given;
+    size_t given_length;
+    const uint8_t *utf8;
+    size_t length;
+    uint32_t places;
+} Question;
+
+/* Why a whole text has no answer; `at` is a byte of `utf8`, for FOLLOWED alone. */
+typedef struct Refusal {
+    wkt_status status;
+    size_t at;
+} Refusal;
+
+/* answers.c */
+extern uint32_t places_of(int32 places);
+extern Question question_of(const char *given, size_t length, uint32_t places);
+extern Question question_of_text(text *given, uint32_t places);
+extern bool canonical_of(const Question *asked, text **answer, Refusal *why);
+extern text *kind_of(const Question *asked);
+
+/* refusals.c */
+extern Datum refuse(Node *context, const Question *asked, const Refusal *why);
+extern text *explained(const Question *asked, const Refusal *why);
+
+#endif

@@ -1,0 +1,110 @@
+/* The type wkt. Its bytes are those of a canonical text, and its modifier is the places. */
+#include "wkt_pg.h"
+
+#include "common/hashfn.h"
+#include "libpq/pqformat.h"
+#include "utils/array.h"
+#include "utils/builtins.h"
+#if PG_VERSION_NUM >= 160000
+#define CONTEXT(fcinfo) ((fcinfo)->context)
+#else
+#define CONTEXT(fcinfo) NULL
+#endif
+
+static uint32_t places_of_modifier(int32 modifier) {
+    return modifier < 0 ? MOST_PLACES : (uint32_t)modifier;
+}
+
+static Datum value_of(Node *context, Question asked) {
+    text *answer;
+    Refusal why;
+    if (!canonical_of(&asked, &answer, &why)) return refuse(context, &asked, &why);
+    PG_RETURN_TEXT_P(answer);
+}
+
+PG_FUNCTION_INFO_V1(pg_wkt_in);
+Datum pg_wkt_in(PG_FUNCTION_ARGS) {
+    char *given = PG_GETARG_CSTRING(0);
+    return value_of(CONTEXT(fcinfo), question_of(given, strlen(given), places_of_modifier(PG_GETARG_INT32(2))));
+}
+
+PG_FUNCTION_INFO_V1(pg_wkt_out);
+Datum pg_wkt_out(PG_FUNCTION_ARGS) {
+    PG_RETURN_CSTRING(TextDatumGetCString(PG_GETARG_DATUM(0)));
+}
+
+PG_FUNCTION_INFO_V1(pg_wkt_recv);
+Datum pg_wkt_recv(PG_FUNCTION_ARGS) {
+    StringInfo message = (StringInfo)PG_GETARG_POINTER(0);
+    int length;
+    char *given = pq_getmsgtext(message, message->len - message->cursor, &length);
+    return value_of(NULL, question_of(given, length, places_of_modifier(PG_GETARG_INT32(2))));
+}
+
+PG_FUNCTION_INFO_V1(pg_wkt_send);
+Datum pg_wkt_send(PG_FUNCTION_ARGS) {
+    text *held = PG_GETARG_TEXT_PP(0);
+    StringInfoData message;
+    pq_begintypsend(&message);
+    pq_sendtext(&message, VARDATA_ANY(held), VARSIZE_ANY_EXHDR(held));
+    PG_RETURN_BYTEA_P(pq_endtypsend(&message));
+}
+
+PG_FUNCTION_INFO_V1(pg_wkt_typmod_in);
+Datum pg_wkt_typmod_in(PG_FUNCTION_ARGS) {
+    int n;
+    int32 *given = ArrayGetIntegerTypmods(PG_GETARG_ARRAYTYPE_P(0), &n);
+    if (n != 1)
+        ereport(ERROR, (errcode(ERRCODE_INVALID_PARAMETER_VALUE), errmsg("wkt takes one modifier, the places")));
+    PG_RETURN_INT32(places_of(given[0]));
+}
+
+PG_FUNCTION_INFO_V1(pg_wkt_typmod_out);
+Datum pg_wkt_typmod_out(PG_FUNCTION_ARGS) {
+    PG_RETURN_CSTRING(psprintf("(%d)", PG_GETARG_INT32(0)));
+}
+
+/* A text as a wkt, or a wkt under another modifier: more digits than that has places for are refused. */
+PG_FUNCTION_INFO_V1(pg_wkt_cast);
+Datum pg_wkt_cast(PG_FUNCTION_ARGS) {
+    return value_of(NULL, question_of_text(PG_GETARG_TEXT_PP(0), places_of_modifier(PG_GETARG_INT32(1))));
+}
+
+/* The order is that of the bytes: there is no collation, so no index that a new C library makes wrong. */
+static int compare(FunctionCallInfo fcinfo) {
+    text *a = PG_GETARG_TEXT_PP(0), *b = PG_GETARG_TEXT_PP(1);
+    int n = VARSIZE_ANY_EXHDR(a), m = VARSIZE_ANY_EXHDR(b);
+    int order = memcmp(VARDATA_ANY(a), VARDATA_ANY(b), Min(n, m));
+    PG_FREE_IF_COPY(a, 0);
+    PG_FREE_IF_COPY(b, 1);
+    return order ? order : n < m ? -1 : n > m;
+}
+
+#define COMPARISON(name, answer)   \
+    PG_FUNCTION_INFO_V1(name);     \
+    Datum name(PG_FUNCTION_ARGS) { \
+        answer;                    \
+    }
+COMPARISON(pg_wkt_cmp, PG_RETURN_INT32(compare(fcinfo)))
+COMPARISON(pg_wkt_eq, PG_RETURN_BOOL(compare(fcinfo) == 0))
+COMPARISON(pg_wkt_ne, PG_RETURN_BOOL(compare(fcinfo) != 0))
+COMPARISON(pg_wkt_lt, PG_RETURN_BOOL(compare(fcinfo) < 0))
+COMPARISON(pg_wkt_le, PG_RETURN_BOOL(compare(fcinfo) <= 0))
+COMPARISON(pg_wkt_gt, PG_RETURN_BOOL(compare(fcinfo) > 0))
+COMPARISON(pg_wkt_ge, PG_RETURN_BOOL(compare(fcinfo) >= 0))
+
+PG_FUNCTION_INFO_V1(pg_wkt_hash);
+Datum pg_wkt_hash(PG_FUNCTION_ARGS) {
+    text *held = PG_GETARG_TEXT_PP(0);
+    Datum hash = hash_any((unsigned char *)VARDATA_ANY(held), VARSIZE_ANY_EXHDR(held));
+    PG_FREE_IF_COPY(held, 0);
+    return hash;
+}
+
+PG_FUNCTION_INFO_V1(pg_wkt_hash_extended);
+Datum pg_wkt_hash_extended(PG_FUNCTION_ARGS) {
+    text *held = PG_GETARG_TEXT_PP(0);
+    Datum hash = hash_any_extended((unsigned char *)VARDATA_ANY(held), VARSIZE_ANY_EXHDR(held), PG_GETARG_INT64(1));
+    PG_FREE_IF_COPY(held, 0);
+    return hash;
+}

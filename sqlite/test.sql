@@ -1,0 +1,57 @@
+.bail off
+.load ./mod_wkt
+.nullvalue (null)
+.headers off
+-- One text for one geometry
+select wkt_canonical('point ( 10 -20.50 )'), wkt_canonical('LineStringZ(1 2 3,+4 .5 6.0)'), wkt_canonical('point(1.50 2)', 1);
+select wkt_canonical('multipoint(.1 .1,.1 .1,.1 .1,.1 .1,.1 .1,.1 .1,.1 .1,.1 .1)');
+select wkt_same('POINT(1 2)', 'point ( 1.0 +2 )'), wkt_same('POINT(1 2)', 'POINT(2 1)'), wkt_same('POINT(0 1)', 'POINT(-0 1.0)', 1);
+select wkt_kind('polygon zm ((1'), wkt_kind('POINT(1 2)'), wkt_kind('nonsense'), wkt_kind('');
+select wkt_reads('POINT(1 2)'), wkt_reads('POINT(1)'), wkt_reads('POINT(1 2) more'), wkt_reads('POINT(1 2) '), wkt_reads(''), wkt_reads('POINT(1.5 2)', 0);
+-- Null in, null out
+select wkt_canonical(null), wkt_canonical('POINT(1 2)', null), wkt_same(null, 'POINT(1 2)'), wkt_same('POINT(1 2)', null), wkt_reads(null), wkt_kind(null), wkt_explain(null);
+-- Refusals
+select wkt_canonical('');
+select wkt_canonical('POINT(1)');
+select wkt_canonical('POINT(1 2) more');
+select wkt_canonical('POINT(1.5 2)', 0);
+select wkt_canonical('POINT(1 2)' || char(0));
+select wkt_canonical(x'ff');
+select wkt_canonical(12);
+select wkt_same('POINT(1 2)', 'POINT(1');
+select wkt_canonical('POINT(1 2)', -1);
+select wkt_canonical('POINT(1 2)', 19);
+select wkt_reads('POINT(1 2)', 'six');
+select wkt_same('POINT(1 2)', 'POINT(1 2)', 1.5);
+select wkt_explain('POINT(1 2)', 4294967296);
+-- The line of the text, and a caret at the place
+select wkt_explain('POINT(1 2)');
+select wkt_explain('POINT(1)');
+select wkt_explain('POINT(1 2) more');
+select wkt_explain('LINESTRING(0 0,' || char(10) || ' 1 1' || char(10) || ' 2 2)');
+select wkt_explain('GEOMETRYCOLLECTION(POINT(1 2),ÖÖ(1 2))');
+select wkt_explain('LINESTRING(' || replace(hex(zeroblob(100)), '00', '10 20, ') || '1 2 3, ' || replace(hex(zeroblob(100)), '00', '10 20, ') || '0 0)');
+-- A unique index on an expression
+create table texts (t text);
+create unique index one_geometry on texts (wkt_canonical(t));
+insert into texts values ('POINT(1 2)');
+insert into texts values ('point(1 2.0)');
+insert into texts values ('POINT(1 2');
+insert into texts values ('POINT(1 2.0001)'), (null), (null);
+select count(*) from texts;
+explain query plan select * from texts where wkt_canonical(t) = wkt_canonical('Point(1.0 2)');
+select t from texts where wkt_canonical(t) = wkt_canonical('Point(1.0 2)');
+-- CHECK, and generated columns, stored and not; no function is called that a schema may not
+pragma trusted_schema = off;
+create table checked (t text check (t = wkt_canonical(t)) primary key) without rowid;
+insert into checked values ('point(1 2)');
+insert into checked values ('POINT(1 2)');
+create table generated (t text, key text generated always as (wkt_canonical(t)) stored unique, kind text as (wkt_kind(t)));
+insert into generated (t) values ('point(1 2.50)');
+insert into generated (t) values ('point(1 2.5)') on conflict (key) do nothing;
+select * from generated;
+create view of_views as select wkt_canonical(t) from generated;
+select * from of_views;
+create trigger before_insert before insert on checked begin select raise(abort, 'not a point') where wkt_kind(new.t) <> 'POINT'; end;
+insert into checked values ('LINESTRING(0 0,1 1)');
+pragma integrity_check;

@@ -1,0 +1,70 @@
+#!/usr/bin/env bash
+# Installs what the tests need beyond the toolchain, as Debian packages. Where all of it is there it does nothing and says
+# nothing. `needs.sh lacking` installs nothing, and prints the names of what is missing, as SKIP takes them.
+set -u
+
+# there NAME: whether this machine has it
+there() {
+    case $1 in
+        c) command -v gcc && command -v ar && command -v make && command -v pkg-config ;;
+        c++) command -v g++ ;;
+        valgrind) command -v valgrind ;;
+        rust) command -v cargo ;;
+        python) command -v python3 ;;
+        numpy | pandas | shapely) module "$1" ;;
+        wheel) module setuptools && module wheel && module pip && module venv && [ -e "$(headers)/Python.h" ] ;;
+        postgres) command -v pg_config && [ -e "$(pg_config --includedir-server)/postgres.h" ] && [ -x "$(pg_config --bindir)/initdb" ] ;;
+        sqlite) command -v sqlite3 && [ -e /usr/include/sqlite3.h ] ;;
+        fuzz) command -v clang && command -v ld.lld ;;
+    esac > /dev/null 2>&1
+}
+# module NAME: some Python that the tests use has it
+module() {
+    for python in python3 /usr/bin/python3; do
+        "$python" -c "import importlib.util, sys; sys.exit(not importlib.util.find_spec('$1'))" 2> /dev/null && return
+    done
+    return 1
+}
+headers() { /usr/bin/python3 -c 'import sysconfig; print(sysconfig.get_paths()["include"])'; }
+
+packages=(
+    "c gcc libc6-dev binutils make pkg-config"
+    "c++ g++"
+    "valgrind valgrind"
+    "rust cargo"
+    "python python3"
+    "numpy python3-numpy"
+    "pandas python3-pandas"
+    "shapely python3-shapely"
+    "wheel python3-setuptools python3-wheel python3-pip python3-venv python3-dev"
+    "postgres postgresql postgresql-server-dev-all"
+    "sqlite sqlite3 libsqlite3-dev"
+    "fuzz clang lld libclang-rt-dev"
+)
+
+lacking=() wanted=()
+for row in "${packages[@]}"; do
+    read -r name rest <<< "$row"
+    there "$name" && continue
+    lacking+=("$name")
+    read -ra rest <<< "$rest"
+    wanted+=("${rest[@]}")
+done
+if [ "${1:-}" = lacking ]; then
+    (IFS=,; echo "${lacking[*]}")
+    exit 0
+fi
+[ "${#lacking[@]}" != 0 ] || exit 0
+
+as_root=()
+[ "$(id -u)" = 0 ] || as_root=(sudo -n)
+log=$(mktemp)
+trap 'rm -f "$log"' EXIT
+if "${as_root[@]}" apt-get update -q > "$log" 2>&1 &&
+    "${as_root[@]}" env DEBIAN_FRONTEND=noninteractive apt-get install -qy --no-install-recommends "${wanted[@]}" >> "$log" 2>&1; then
+    echo "installed for the tests: ${wanted[*]}"
+else
+    tail -n 5 "$log"
+    echo "the tests need these Debian packages, which can't be installed here: ${wanted[*]}"
+    exit 1
+fi
