@@ -39,7 +39,7 @@ def _bits(rows: Sequence[Any]) -> bytes:
 
 def pack(rows: Sequence[Any], first: int = 0) -> Packed:
     """The buffers of some rows, of which the first is this one of its column."""
-    packed = None if _fast is None else _fast.pack(rows)
+    made = None if _fast is None else _fast.pack(rows)
     if made is not None:
         data, offsets, bits = made
         return Packed(data, offsets, bits, len(rows))
