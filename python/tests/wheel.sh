@@ -1,0 +1,32 @@
+#!/usr/bin/env bash
+# wheel.sh WKT: builds the wheel of the library in the folder WKT (wkt.h, libwkt.so), with the fast module, and the one
+# without it, and runs the same tests over both; without a wheel too, over ctypes alone. It needs Python 3.11 or later with
+# its headers, pip, NumPy, pandas, Shapely and tqdm (tests/needs.sh): what is lacking fails. PYTHON names another Python.
+set -eu
+here=$(cd "$(dirname "$0")" && pwd)
+WKT=$(cd "${1:-$here/../../capi/out}" && pwd)
+python=${PYTHON:-/usr/bin/python3}
+work=$(mktemp -d)
+trap 'rm -rf "$work"' EXIT
+export PYTHONDONTWRITEBYTECODE=1
+"$python" -c 'import numpy, pandas, shapely, tqdm' || { echo "wheel.sh: $python lacks what it needs"; exit 1; }
+
+# each NAME FOLDER [VARIABLE=VALUE..]: the tests with the package of that folder; nothing is skipped but what needs pyarrow.
+each() {
+    local name=$1 folder=$2
+    shift 2
+    (cd "$work" && env "$@" PYTHONPATH="$folder:$here" "$python" -W error -m unittest -v test_wkt test_arguments \
+        test_columns) > "$work/said" 2>&1 || { cat "$work/said"; echo "$name: the tests fail"; exit 1; }
+    ! grep -E "skipped" "$work/said" || { echo "$name: a test was skipped"; exit 1; }
+    echo "$name: $(grep '^Ran' "$work/said"), $(tail -n 1 "$work/said")"
+}
+
+each "over ctypes alone" "$here/.." WKT_LIB="$WKT/libwkt.so"
+for fast in 1 0; do
+    WKT=$WKT WKT_FAST=$fast "$python" -m pip wheel -q --no-build-isolation --no-deps --no-index -w "$work/wheels$fast" "$here/.."
+    wheel=$(echo "$work/wheels$fast"/*.whl)
+    "$python" -m pip install -q --root-user-action=ignore --no-index --no-deps --target "$work/installed$fast" "$wheel"
+    [ $fast = 0 ] || "$python" -c "import sys; sys.path.insert(0, '$work/installed1'); import wkt._fast"
+    [ $fast = 1 ] || ! ls "$work/installed0/wkt/"*_fast*.so 2> /dev/null || { echo "a wheel without the fast module has it"; exit 1; }
+    each "$(basename "$wheel")" "$work/installed$fast"
+done
