@@ -113,18 +113,20 @@ def _text_arrays(text: Text, places: int) -> Arrays:
     return Arrays(KINDS[told.kind], DIMENSIONS[told.dimension], *three)
 
 
-def to_arrays(text: Any, places: int = 6, invalid: str = "raise", progress: Progress = None) -> Any:
+def to_arrays(
+    text: Any, places: int = 6, invalid: str = "raise", progress: Progress = None, whole: bool = False
+) -> Any:
     """The geometry that a text begins with as `Arrays`; of a column a list of them, with None of a null row.
 
     places: digits after the point, 0 to 18; a number is whole units of ten to the minus `places`.
-    invalid: of a column, "raise" or "null": None of a row that has no arrays.
-    WktError: the text is refused (1 to 14, 20), is a collection (24), or has a number that 64 bits don't hold (25).
+    invalid: of a column, "raise" or "null": None of a row that has no arrays. progress, whole: as of `canonical`.
+    WktError: the text is refused (1 to 14, 20, 30), is a collection (24), or has a number that 64 bits don't hold (25).
     """
-    places = places_of(places)
+    places = places_of(places, whole)
     check_invalid(invalid, ("raise", "null"))
     if rows_of(text) is None and not _arrow.is_texts(text):
         return _text_arrays(text, places)
-    held = to_arrays_column(text, places, progress)
+    held = _column_arrays(text, places, progress)
     if invalid == "raise":
         for row in refused_of(held.statuses)[:1]:
             raise refusal(int(held.statuses[row]), column_of(text)[row], places, row)
@@ -179,13 +181,16 @@ def _joined(blocks: List[ColumnArrays]) -> ColumnArrays:
     return ColumnArrays(*made)
 
 
-def to_arrays_column(texts: Any, places: int = 6, progress: Progress = None) -> ColumnArrays:
+def to_arrays_column(texts: Any, places: int = 6, progress: Progress = None, whole: bool = False) -> ColumnArrays:
     """The flat arrays of a column of texts and the status of each row, as `ColumnArrays`: no row raises.
 
     texts: a list, a tuple, a NumPy array, a Series, or an Arrow column. places: as of `to_arrays`.
-    progress: a function that is called with how many rows are done, or True: tqdm's bar above a million rows.
+    progress, whole: as of `canonical`.
     """
-    places = places_of(places)
+    return _column_arrays(texts, places_of(places, whole), progress)
+
+
+def _column_arrays(texts: Any, places: int, progress: Progress) -> ColumnArrays:
     arrow = _arrow.is_texts(texts)
     held, kept = _arrow.packed(texts) if arrow else (None, None)
     rows = () if arrow else column_of(texts)

@@ -5,10 +5,9 @@ from typing import NamedTuple, Optional, Tuple, Union
 from . import _library
 from ._errors import WktError, check, words_of
 from ._library import size, u32
-from ._names import EXPECTED, MESSAGES
-from ._values import Text, encoded
+from ._names import ACCEPTED, EXPECTED, MESSAGES
+from ._values import WHOLE, Text, encoded
 
-_ACCEPTED = 29
 _WIDTH = 72
 
 
@@ -65,8 +64,8 @@ def explained(text: Text, places: int) -> Optional[Explanation]:
         raise NotImplementedError("this libwkt.so has no wkt_explain")
     data = encoded(text)
     message, start, stop, expected = u32(), size(), size(), u32()
-    status = _library.wkt_explain(data, len(data), places, *map(ctypes.byref, (message, start, stop, expected)))
-    if status == _ACCEPTED:
+    status = _library.wkt_explain(data, len(data), places % WHOLE, *map(ctypes.byref, (message, start, stop, expected)))
+    if status == ACCEPTED:
         return None
     check(status)
     shown: Union[str, bytes] = data

@@ -1,5 +1,5 @@
 """Lines from one file to another, in bounded memory."""
-from typing import Any, Callable, Iterator
+from typing import Any, Callable, Iterator, List
 
 from . import _library
 from ._blocks import Progress, Room, shown
@@ -31,16 +31,16 @@ def _write(sink: Any, data: Any) -> None:
 
 def _whole_lines(source: Any, tell: Callable[[int], None]) -> Iterator[bytes]:
     """The input by pieces, each of whole lines; the last may end without a line feed."""
-    rest = b""
+    rest: List[bytes] = []
     for data in _pieces(source, tell):
         cut = data.rfind(b"\n") + 1
         if cut:
-            yield rest + data[:cut]
-            rest = data[cut:]
+            yield b"".join([*rest, data[:cut]])
+            rest = [data[cut:]] if cut < len(data) else []
         else:
-            rest += data
+            rest.append(data)
     if rest:
-        yield rest
+        yield b"".join(rest)
 
 
 def stream(source: Any, sink: Any, places: int = 18, progress: Progress = None) -> int:

@@ -17,6 +17,7 @@ TEXTS = (str, bytes, bytearray, memoryview)
 # Of each kind of integers the type of an item in NumPy, the least and the largest.
 INTEGERS = {"q": ("int64", -(2**63), 2**63 - 1), "Q": ("uint64", 0, 2**64 - 1), "I": ("uint32", 0, 2**32 - 1)}
 _NULLS = ("NAType", "NaTType")
+WHOLE = 256  # WKT_WHOLE of include/wkt.h
 
 
 def encoded(text: Any, row: Optional[int] = None) -> bytes:
@@ -52,14 +53,19 @@ def integer(value: Any, what: str) -> int:
         raise TypeError("%s is an int, and not %s" % (what, type(value).__name__)) from None
 
 
-def places_of(places: Any) -> int:
-    """The places of a call: a TypeError unless it is an int, an OverflowError unless 32 bits hold it."""
+def places_of(places: Any, whole: Any = False) -> int:
+    """The places of a call: a TypeError unless it is an int, an OverflowError unless 32 bits hold it.
+
+    `whole` is added as a bit: each text is to be one geometry as a whole.
+    """
+    if not isinstance(whole, bool):
+        raise TypeError("whole is a bool, and not %s" % type(whole).__name__)
     places = integer(places, "places")
     if not 0 <= places < 2**32:
         raise OverflowError("places is 0 to 18, and not %d" % places)
     if places > 18:
         raise WktError(NO_PLACES, words_of(NO_PLACES))
-    return int(places)
+    return int(places) | (WHOLE if whole else 0)
 
 
 def _too_large(code: str, value: Any, what: str) -> OverflowError:
