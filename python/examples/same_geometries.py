@@ -64,7 +64,7 @@ def plot(counts, path):
     axes.set_yticklabels([key if len(key) < 40 else key[:37] + "..." for key in shown.index])
     axes.xaxis.get_major_locator().set_params(integer=True)
     axes.set_title("Geometries that the table holds more than once")
-    axes.legend(loc="lower right")
+    axes.legend(loc="upper left", bbox_to_anchor=(1.01, 1))
     figure.tight_layout()
     figure.savefig(path, dpi=120)
 
