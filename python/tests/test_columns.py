@@ -211,6 +211,35 @@ class Kinds(unittest.TestCase):
             wkt.to_arrays(TEXTS, invalid="keep")
 
 
+class Whole(unittest.TestCase):
+    def test_texts(self):
+        for text in ("POINT(1 2)", "point(1 2) \r\n\t", b"point(1 2)\n"):
+            self.assertEqual(wkt.canonical(text, whole=True), "POINT(1 2)")
+            self.assertIs(wkt.reads(text, whole=True), True)
+        for text in ("POINT(1 2) x", "POINT(1 2)POINT(3 4)", b"POINT(1 2)\0"):
+            for call in (wkt.canonical, wkt.to_arrays, lambda it, whole: wkt.same("POINT(1 2)", it, whole=whole)):
+                call(text, whole=False)
+                with self.assertRaises(wkt.WktError) as raised:
+                    call(text, whole=True)
+                self.assertEqual(raised.exception.status, 30)
+            self.assertIs(wkt.reads(text, whole=True), False)
+        with self.assertRaises(TypeError):
+            wkt.canonical("POINT(1 2)", whole=1)
+
+    def test_columns(self):
+        texts = ["point(1 2) ", None, "POINT(1 2) x", "x"]
+        answers, statuses = wkt.canonical_column(texts, whole=True)
+        self.assertEqual((answers, statuses), (["POINT(1 2)", None, None, None], [0, 28, 30, 3]))
+        self.assertEqual(wkt.reads(texts, whole=True), [True, False, False, False])
+        self.assertEqual(wkt.canonical(texts, invalid="keep", whole=True), ["POINT(1 2)", None, "POINT(1 2) x", "x"])
+        self.assertEqual(list(wkt.to_arrays_column(texts, whole=True).statuses), [0, 28, 30, 3])
+        self.assertEqual(wkt.same(texts, texts, invalid="null", whole=True), [True, None, None, None])
+        with self.assertRaises(wkt.WktError) as raised:
+            wkt.canonical(texts, whole=True)
+        self.assertEqual((raised.exception.row, raised.exception.status), (2, 30))
+        self.assertIsNone(raised.exception.explanation)
+
+
 class Words(unittest.TestCase):
     def test_explanations(self):
         told = wkt.explain("LINESTRING(1 2,3 x)")

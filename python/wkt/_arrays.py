@@ -1,4 +1,5 @@
 """Geometries as flat arrays of numbers, one by one and as columns."""
+import array
 import ctypes
 import itertools
 import operator
@@ -218,15 +219,15 @@ def _arrays_text(arrays: Any, places: int, row: Optional[int] = None) -> str:
     kind, dimension, *rest = arrays
     at, width = _index(KINDS, kind, "kind"), _index(DIMENSIONS, dimension, "dimension")
     three = [integers(c, values, what) for c, values, what in zip("qQQ", rest, ("numbers", "rings", "polygons"))]
-    room = Room(16 * len(three[0]) + 32)
+    held = [part for values in three for part in (pointer(values), len(values))]
 
     def call(out: Any, length: int, needed: Any) -> int:
-        status: int = _library.wkt_from_arrays(at, width, *_parts(*three), places, out, length, needed)
-        if status != TOO_SMALL:
+        status: int = _library.wkt_from_arrays(at, width, *held, places, out, length, needed)
+        if status and status != TOO_SMALL:
             check(status, row=row)
         return status
 
-    return room.text(call)
+    return Room(16 * len(three[0]) + 32).text(call)
 
 
 def from_arrays(arrays: Any, places: int = 6) -> Any:
@@ -275,10 +276,10 @@ def from_arrays_column(arrays: ColumnArrays, places: int = 6) -> Tuple[List[Opti
 
 def _valid_bits(statuses: Any) -> bytes:
     """The bits of the rows that have arrays; none where all have."""
-    if numpy is not None:
-        return b"" if not statuses.any() else bytes(numpy.packbits(statuses == 0, bitorder="little").tobytes())
-    if not any(statuses):
+    if not any(statuses) if isinstance(statuses, array.array) else not statuses.any():
         return b""
+    if numpy is not None:
+        return bytes(numpy.packbits(numpy.asarray(statuses) == 0, bitorder="little").tobytes())
     bits = bytearray((len(statuses) + 7) // 8)
     for i, status in enumerate(statuses):
         bits[i // 8] |= (status == 0) << i % 8

@@ -80,7 +80,8 @@ class Room:
     """A buffer for answers, which grows where a call says that it is too small."""
 
     def __init__(self, likely: int) -> None:
-        self.out = ctypes.create_string_buffer(max(likely, 1))
+        # A multiple, so that ctypes has few types of such buffers to make.
+        self.out = (ctypes.c_char * (likely + 64 & -64))()
         self.needed = size()
 
     def holds(self, length: int) -> None:
@@ -92,15 +93,17 @@ class Room:
         """How many bytes a call has written."""
         while True:
             status = call(self.out, len(self.out), ctypes.byref(self.needed))
+            if status == 0:
+                return self.needed.value
             if status != TOO_SMALL:
                 check(status)
-                return self.needed.value
             self.out = ctypes.create_string_buffer(self.needed.value)
 
     def bytes(self, call: Callable[[Any, int, Any], int]) -> bytes:
         """What a call has written."""
         length = self.call(call)
-        return memoryview(self.out)[:length].tobytes()
+        made: bytes = self.out[:length]
+        return made
 
     def text(self, call: Callable[[Any, int, Any], int]) -> str:
         """The canonical text that a call has written."""

@@ -49,9 +49,10 @@ def canonical(
     OverflowError: places is below 0, or too large for 32 bits.
     """
     places = places_of(places, whole)
-    if _is_column(text):
+    if type(text) is not str and _is_column(text):
         return canonical_like(text, places, invalid, progress)
-    check_invalid(invalid)
+    if invalid != "raise":
+        check_invalid(invalid)
     return _text_canonical(text, places)
 
 

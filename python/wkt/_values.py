@@ -16,6 +16,8 @@ Text = Union[str, bytes, bytearray, memoryview]
 TEXTS = (str, bytes, bytearray, memoryview)
 # Of each kind of integers the type of an item in NumPy, the least and the largest.
 INTEGERS = {"q": ("int64", -(2**63), 2**63 - 1), "Q": ("uint64", 0, 2**64 - 1), "I": ("uint32", 0, 2**32 - 1)}
+# The same types as NumPy has them.
+_TYPES = {code: numpy.dtype(name) for code, (name, _, _) in INTEGERS.items()} if numpy is not None else {}
 _NULLS = ("NAType", "NaTType")
 WHOLE = 256  # WKT_WHOLE of include/wkt.h
 
@@ -58,6 +60,8 @@ def places_of(places: Any, whole: Any = False) -> int:
 
     `whole` is added as a bit: each text is to be one geometry as a whole.
     """
+    if type(places) is int and 0 <= places <= 18 and whole is False:
+        return places
     if not isinstance(whole, bool):
         raise TypeError("whole is a bool, and not %s" % type(whole).__name__)
     places = integer(places, "places")
@@ -76,14 +80,16 @@ def _too_large(code: str, value: Any, what: str) -> OverflowError:
 def _of_numpy(code: str, values: Any, what: str) -> Any:
     if values.dtype.kind not in "iu":
         raise TypeError("%s are integers, and not of %s" % (what, values.dtype))
-    name, least, most = INTEGERS[code]
     # A copy, so that nothing changes them between this check and the end of the call.
     values = numpy.array(values, order="C").reshape(-1)
-    if values.size and values.dtype != name:
+    if values.dtype is _TYPES[code]:
+        return values
+    _, least, most = INTEGERS[code]
+    if values.size:
         for value in (int(values.min()), int(values.max())):
             if not least <= value <= most:
                 raise _too_large(code, value, what)
-    return values.astype(name, copy=False)
+    return values.astype(_TYPES[code])
 
 
 def _listed(values: Any, what: str) -> Any:
@@ -98,16 +104,17 @@ def _listed(values: Any, what: str) -> Any:
 
 
 def integers(code: str, values: Any, what: str) -> Any:
-    """A copy of some ints as an array of one type, of NumPy where that is installed.
+    """A copy of some ints as an array of one type, of NumPy or of `array`.
 
     A TypeError where one is no int (a float, a bool, a Decimal, a str), an OverflowError where one is out of range.
     """
-    if numpy is not None:
+    if numpy is not None and type(values) is not list:
         if hasattr(values, "to_numpy"):
             values = values.to_numpy()
         if isinstance(values, numpy.ndarray) and values.dtype.kind != "O":
             return _of_numpy(code, values, what)
-    values = _listed(values, what)
+    if type(values) is not list:
+        values = _listed(values, what)
     # Nearly always all are ints; others are looked at one by one.
     if set(map(type, values)) - {int}:
         values = [integer(value, "each of the %s" % what) for value in values]
@@ -116,7 +123,7 @@ def integers(code: str, values: Any, what: str) -> Any:
     except OverflowError:
         least, most = INTEGERS[code][1:]
         raise _too_large(code, next(it for it in values if not least <= it <= most), what) from None
-    return held if numpy is None else numpy.array(held, INTEGERS[code][0])
+    return held
 
 
 def zeros(code: str, length: int) -> Any:
@@ -130,4 +137,4 @@ def address(values: Any) -> int:
     """Where an array of `zeros` or `integers` begins."""
     if isinstance(values, array.array):
         return values.buffer_info()[0]
-    return int(values.ctypes.data)
+    return int(values.__array_interface__["data"][0])
