@@ -22,32 +22,83 @@ extern "C" {
 #endif
 
 typedef uint32_t wkt_status;
+/* names.py: c (tests/names.py --write makes this of docs/names.tsv) */
+/* Statuses. 1 to 14: the text begins with no geometry, and WKT_MESSAGES says why. */
 enum {
-    WKT_OK = 0,
-    /* The text begins with no geometry; WKT_MESSAGES has why. */
-    WKT_BAD_NUMBER = 13, /* and some number of the text is none of so many places, or too large */
-    WKT_LAST_REFUSAL = 14,
-    WKT_NOT_UTF8 = 20,
-    WKT_TOO_SMALL = 21, /* a buffer has no room; the sizes that are needed are told, and so is the rest */
-    WKT_NO_MEMORY = 22,
-    WKT_NO_PLACES = 23,   /* `places` is more than 18 */
-    WKT_COLLECTION = 24,  /* a collection has no flat arrays */
-    WKT_TOO_LARGE = 25,   /* a number of more units than an int64_t holds */
-    WKT_NOT_ARRAYS = 26,  /* the arrays are of no geometry */
-    WKT_NOT_COLUMN = 27,  /* the offsets, the bits or the sizes are of no column */
-    WKT_NULL = 28         /* of a row alone: it is null */
+    WKT_OK = 0, /* Done */
+    WKT_BAD_NUMBER = 13, /* of the refusals, 1 to 14: some number is none of so many places, or too large */
+    WKT_LAST_REFUSAL = 14, /* Refused */
+    WKT_NOT_UTF8 = 20, /* The text is not UTF-8 */
+    WKT_TOO_SMALL = 21, /* A buffer has no room */
+    WKT_NO_MEMORY = 22, /* Out of memory */
+    WKT_NO_PLACES = 23, /* There are no numbers of so many places */
+    WKT_COLLECTION = 24, /* A collection has no flat arrays */
+    WKT_TOO_LARGE = 25, /* A number has more units than 64 bits hold */
+    WKT_NOT_ARRAYS = 26, /* The arrays are of no geometry */
+    WKT_NOT_COLUMN = 27, /* The offsets, the bits or the sizes are of no column */
+    WKT_NULL = 28 /* The row is null */
 };
-
-/* The messages of 1 to 14, at their numbers. Which of them comes is tested, and not proved (but what 13 says). */
+/* Kinds. */
+enum {
+    WKT_POINT = 0,
+    WKT_LINESTRING = 1,
+    WKT_POLYGON = 2,
+    WKT_MULTIPOINT = 3,
+    WKT_MULTILINESTRING = 4,
+    WKT_MULTIPOLYGON = 5,
+    WKT_GEOMETRYCOLLECTION = 6
+};
+/* Dimensions. */
+enum {
+    WKT_XY = 0,
+    WKT_XYZ = 1,
+    WKT_XYM = 2,
+    WKT_XYZM = 3
+};
+/* What could stand where a text is refused. */
+enum {
+    WKT_EXPECTED_KIND = 0, /* a kind of geometry, such as POINT, */
+    WKT_EXPECTED_MEMBER = 1, /* a member of the collection */
+    WKT_EXPECTED_DIMENSION = 2, /* `(`, EMPTY, Z, M or ZM */
+    WKT_EXPECTED_OPENING = 3, /* `(` or EMPTY */
+    WKT_EXPECTED_POINT = 4, /* a first number, `(` or EMPTY */
+    WKT_EXPECTED_X = 5, /* a first number */
+    WKT_EXPECTED_Y = 6, /* a second number */
+    WKT_EXPECTED_Z = 7, /* a number z */
+    WKT_EXPECTED_M = 8, /* a number m */
+    WKT_EXPECTED_MORE = 9, /* `,` or `)` */
+    WKT_EXPECTED_CLOSING = 10 /* `)` */
+};
+/* The words of a status, at its number. */
 #define WKT_MESSAGES { "", "Invalid WKT format", "Encountered non-ascii word", "Invalid type encountered", \
     "Unexpected word before open paren", "End of stream", "Missing open parenthesis for type", \
     "Missing closing parenthesis for type", "Expected a number for the X coordinate", \
     "Expected a number for the Y coordinate", "Expected a number for the Z coordinate", \
     "Expected a number for the M coordinate", "Expected a word in GEOMETRYCOLLECTION", \
-    "Unable to parse input number as the desired output type", "Refused" }
-
-/* Kinds: 0 Point, 1 LineString, 2 Polygon, 3 MultiPoint, 4 MultiLineString, 5 MultiPolygon, 6 GeometryCollection.
- * Dimensions: 0 XY, 1 XYZ, 2 XYM, 3 XYZM, with 2, 3, 3 and 4 numbers a coordinate. */
+    "Unable to parse input number as the desired output type", "Refused", "", "", "", "", "", \
+    "The text is not UTF-8", "A buffer has no room", "Out of memory", "There are no numbers of so many places", \
+    "A collection has no flat arrays", "A number has more units than 64 bits hold", "The arrays are of no geometry", \
+    "The offsets, the bits or the sizes are of no column", "The row is null" }
+/* The words of the statuses 1 to 3 of wkt_infer. */
+#define WKT_HEADER_MESSAGES { "", "No kind word", "No space before EMPTY", "Neither a parenthesis nor EMPTY" }
+/* The kinds, at their numbers. */
+#define WKT_KINDS { "Point", "LineString", "Polygon", "MultiPoint", "MultiLineString", "MultiPolygon", \
+    "GeometryCollection" }
+/* Their kind words. */
+#define WKT_KIND_WORDS { "POINT", "LINESTRING", "POLYGON", "MULTIPOINT", "MULTILINESTRING", "MULTIPOLYGON", \
+    "GEOMETRYCOLLECTION" }
+/* The dimensions, at their numbers. */
+#define WKT_DIMENSIONS { "XY", "XYZ", "XYM", "XYZM" }
+/* What stands after a kind word for each. */
+#define WKT_DIMENSION_WORDS { "", "Z", "M", "ZM" }
+/* What could stand where a text is refused, at its number. */
+#define WKT_EXPECTED { "a kind of geometry, such as POINT,", "a member of the collection", "`(`, EMPTY, Z, M or ZM", \
+    "`(` or EMPTY", "a first number, `(` or EMPTY", "a first number", "a second number", "a number z", "a number m", \
+    "`,` or `)`", "`)`" }
+/* names.py: end */
+/* Of a text that begins with no geometry the message is proved to be that of the table in docs/GRAMMAR.md; 14 never
+ * comes. After WKT_TOO_SMALL the sizes that are needed are told, and so is the rest. WKT_NULL is of a row alone. A
+ * coordinate has 2, 3, 3 and 4 numbers, by its dimension. */
 
 /* The canonical text of the geometry that the text begins with. *end: where the geometry ends in the text; what
  * follows is not looked at. WKT_OK: the text is in out, and *needed is its length. WKT_TOO_SMALL: *needed is its

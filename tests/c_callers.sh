@@ -80,7 +80,7 @@ done
 echo "examples: the output of wktline"
 
 for python in "${pythons[@]}"; do
-    WKT_LIB=$out/libwkt.so PYTHONDONTWRITEBYTECODE=1 PYTHONPATH=python "$python" -W error -m unittest -q python/tests/test_wkt.py > "$dir/said" 2>&1 ||
+    WKT_LIB=$out/libwkt.so PYTHONDONTWRITEBYTECODE=1 PYTHONPATH=python "$python" -W error -m unittest discover -q -s python/tests > "$dir/said" 2>&1 ||
         { cat "$dir/said"; fail "$python: the tests fail"; }
     with=$(has_numpy "$python" && echo with || echo without)
     echo "Python ($python, $with NumPy): $(grep '^Ran' "$dir/said"), $(tail -n 1 "$dir/said")"

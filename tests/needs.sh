@@ -11,7 +11,8 @@ there() {
         valgrind) command -v valgrind ;;
         rust) command -v cargo ;;
         python) command -v python3 ;;
-        numpy | pandas | shapely) module "$1" ;;
+        numpy | pandas | shapely | mypy | tqdm | matplotlib) module "$1" ;;
+        dask) module dask && module distributed ;;
         wheel) module setuptools && module wheel && module pip && module venv && [ -e "$(headers)/Python.h" ] ;;
         postgres) command -v pg_config && [ -e "$(pg_config --includedir-server)/postgres.h" ] && [ -x "$(pg_config --bindir)/initdb" ] ;;
         sqlite) command -v sqlite3 && [ -e /usr/include/sqlite3.h ] ;;
@@ -36,6 +37,10 @@ packages=(
     "numpy python3-numpy"
     "pandas python3-pandas"
     "shapely python3-shapely"
+    "mypy mypy"
+    "tqdm python3-tqdm"
+    "matplotlib python3-matplotlib"
+    "dask python3-dask python3-distributed"
     "wheel python3-setuptools python3-wheel python3-pip python3-venv python3-dev"
     "postgres postgresql postgresql-server-dev-all"
     "sqlite sqlite3 libsqlite3-dev"

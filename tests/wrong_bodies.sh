@@ -9,10 +9,10 @@ set -u
 cd "$(dirname "$0")/.."
 crates=("$@")
 if [ "${#crates[@]}" = 0 ]; then
-    for folder in tests/wrong_bodies/*/; do crates+=("$(basename "$folder")"); done
+    mapfile -t crates < <(ls -d tests/wrong_bodies/*/ crates/*/must-fail | sed 's|/must-fail||; s|/$||; s|.*/||' | sort -u)
 fi
 
-# Each old text stands once, when the pairs before it were applied.
+# Each old text stands once, when the pairs before it were applied; and each edit is in one place.
 python3 - "${crates[@]}" <<'PY' || exit 1
 import pathlib, sys
 
@@ -21,6 +21,10 @@ for crate in sys.argv[1:]:
     edits = [*pathlib.Path("tests/wrong_bodies", crate).glob("*.edit"), *pathlib.Path("crates", crate, "must-fail").glob("*.edit")]
     if not edits:
         sys.exit(f"{crate}: no wrong bodies")
+    names = [edit.name for edit in edits]
+    for name in {name for name in names if names.count(name) > 1}:
+        print(f"{name}: in tests/wrong_bodies/{crate} and in crates/{crate}/must-fail")
+        stale += 1
     for edit in sorted(edits):
         file, old, texts = None, None, {}
         for line in edit.read_text().splitlines():
@@ -39,6 +43,10 @@ for crate in sys.argv[1:]:
                 texts[file] = texts[file].replace(old, text)
 sys.exit(1 if stale else 0)
 PY
+if [ -n "${DRY:-}" ]; then
+    echo "each of $(find "${crates[@]/#/tests/wrong_bodies/}" "${crates[@]/#/crates/}" -name '*.edit' 2> /dev/null | wc -l) wrong bodies applies"
+    exit 0
+fi
 
 # The crates that are needed: those named and all below them.
 needed=" ${crates[*]} "

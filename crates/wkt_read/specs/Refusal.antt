@@ -13,9 +13,13 @@ module _ {N : Type 0} (read : List ℕ → Option N) where
   abbrev pub IsRefused : List Lexeme → List ℕ → List Lexeme → Type 0
   IsRefused lexemes said left = (m : Message) × (said ≡ message_text m) × (value_at read (length lexemes) false lexemes ≡ Err (m, left))
 
-  -- The text is refused with this one.
+  -- The text is refused with this message.
+  abbrev pub IsRefusedWith : List ℕ → Message → Type 0
+  IsRefusedWith text m = (lexemes left : List Lexeme) × IsSplit text lexemes × (value_at read (length lexemes) false lexemes ≡ Err (m, left))
+
+  -- The text is refused, and this is said of it.
   abbrev pub IsTextRefused : List ℕ → List ℕ → Type 0
-  IsTextRefused text said = (lexemes left : List Lexeme) × IsSplit text lexemes × IsRefused lexemes said left
+  IsTextRefused text said = (m : Message) × (said ≡ message_text m) × IsRefusedWith text m
 
 -- where the answer is `Text`, this holds of what it says
 abbrev pub IfText : {X : Type 0} → Result X ReadError → (List ℕ → Type 0) → Type 0

@@ -1,4 +1,5 @@
-//! Tests of texts that cross crates: read, told apart and written; and the examples of the docs.
+//! Tests of values that cross crates: texts read, told apart and written, two-dimensional values, and what of the docs'
+//! examples is no row of a table. A text and its answer is a row of `wkt_conformance`.
 #![tactic(auto)]
 
 #[cfg(test)]
@@ -8,6 +9,10 @@ mod doc_examples;
 #[cfg(test)]
 mod errors;
 #[cfg(test)]
+mod flat_texts;
+#[cfg(test)]
+mod flat_values;
+#[cfg(test)]
 mod headers;
 #[cfg(test)]
 mod numbers;
@@ -15,7 +20,5 @@ mod numbers;
 mod reading;
 #[cfg(test)]
 mod same;
-#[cfg(test)]
-mod sizes;
 #[cfg(test)]
 mod types_by_hand;

@@ -1,7 +1,6 @@
 //! Geometries that are one, in whatever way they are put together.
 use crate::asserts::equal;
 use std::alloc::{AllocError, Global};
-use std::process::Abort;
 use std::test::Fail;
 use wkt::types::{Coord, Dimension, GeometryCollection, LineString};
 use wkt::{FromWktStr, Wkt, same_geometry};
@@ -109,79 +108,5 @@ fn a_nested_collection_is_made_canonical(rt: HostRuntime) -> Result<(), Fail> {
     let alloc = rt.alloc();
     let one = nested(alloc, "POLYGON(EMPTY)", 300)?.into_canonical();
     assert!(rt; one == nested(alloc, "POLYGON EMPTY", 300)?);
-    Ok(())
-}
-
-// A text, and another of the same geometry, which is read as other parts.
-const ONE: [(&str, &str); 6] = [
-    ("POLYGON(EMPTY)", "POLYGON EMPTY"),
-    ("POLYGON Z(EMPTY,(1 2 3))", "POLYGON Z EMPTY"),
-    (
-        "MULTIPOLYGON((EMPTY),((1 2)))",
-        "MULTIPOLYGON(EMPTY,((1 2)))",
-    ),
-    (
-        "GEOMETRYCOLLECTION(POINT(1 2),POLYGON(EMPTY,EMPTY))",
-        "GEOMETRYCOLLECTION(POINT(1 2),POLYGON EMPTY)",
-    ),
-    (
-        "GEOMETRYCOLLECTION M(GEOMETRYCOLLECTION(POLYGON(EMPTY)),POINT M(1 2 3))",
-        "GEOMETRYCOLLECTION M(GEOMETRYCOLLECTION(POLYGON EMPTY),POINT M(1 2 3))",
-    ),
-    ("MULTIPOLYGON((EMPTY),(EMPTY))", "MULTIPOLYGON(EMPTY,EMPTY)"),
-];
-
-/// The first is made canonical to the second, which is so already, and has the text of it.
-fn becomes(
-    rt: &impl Abort,
-    alloc: Global,
-    first: Wkt<i32>,
-    second: Wkt<i32>,
-    text: &str,
-) -> Result<(), Fail> {
-    assert!(rt; first != second, "at {text}");
-    let canonical = first.into_canonical();
-    assert!(rt; canonical == second, "at {text}");
-    equal(rt, canonical.to_string(alloc)?.as_str(), text);
-    assert!(rt; second.into_canonical() == canonical, "at {text}");
-    Ok(())
-}
-
-#[test]
-fn canonical_geometries(rt: HostRuntime) -> Result<(), Fail> {
-    let alloc = rt.alloc();
-    for (one, other) in &ONE {
-        let first = Wkt::<i32>::from_str(alloc, one)?;
-        let second = Wkt::<i32>::from_str(alloc, other)?;
-        becomes(&rt, alloc, first, second, other)?;
-    }
-    Ok(())
-}
-
-// A text of each kind, which is the text of what it is read as.
-const KEPT: [&str; 9] = [
-    "POINT ZM(1 2 3 4)",
-    "POINT M EMPTY",
-    "LINESTRING M(1 2 3,4 5 6)",
-    "POLYGON Z((0 0 1,4 0 2,2 4 3,0 0 1),(1 1 1,2 1 2))",
-    "MULTIPOINT((1 2),EMPTY,(-3 4))",
-    "MULTILINESTRING ZM((1 2 3 4),EMPTY)",
-    "MULTIPOLYGON(((0 0,1 0)),EMPTY,((5 5)))",
-    "GEOMETRYCOLLECTION Z(POINT M(1 2 3),GEOMETRYCOLLECTION EMPTY,LINESTRING(1 2,3 4))",
-    "GEOMETRYCOLLECTION EMPTY",
-];
-
-/// Whether the geometry is canonical.
-fn is_kept(alloc: Global, geometry: &Wkt<i32>) -> Result<bool, AllocError> {
-    Ok(geometry.try_clone(alloc)?.into_canonical() == *geometry)
-}
-
-#[test]
-fn canonical_ones_are_kept(rt: HostRuntime) -> Result<(), Fail> {
-    let alloc = rt.alloc();
-    for text in &KEPT {
-        let geometry = Wkt::<i32>::from_str(alloc, text)?;
-        assert!(rt; is_kept(alloc, &geometry)?, "at {text}");
-    }
     Ok(())
 }

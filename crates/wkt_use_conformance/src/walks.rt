@@ -178,48 +178,6 @@ impl Mapper<i8, i64> for Widened {
     }
 }
 
-// A text, and that of its geometry with x for y.
-const SWAPPED: [(&str, &str); 11] = [
-    ("POINT(1 -2)", "POINT(-2 1)"),
-    ("LINESTRING(3 1,0 5)", "LINESTRING(1 3,5 0)"),
-    ("LINESTRING EMPTY", "LINESTRING EMPTY"),
-    (
-        "POLYGON((0 0,4 0,2 4,0 0),(1 1,9 1,1 2,1 1))",
-        "POLYGON((0 0,0 4,4 2,0 0),(1 1,1 9,2 1,1 1))",
-    ),
-    ("POLYGON((0 0,4 0,2 4))", "POLYGON((0 0,0 4,4 2,0 0))"),
-    ("POLYGON EMPTY", "POLYGON EMPTY"),
-    ("MULTIPOINT(1 2,-3 4)", "MULTIPOINT((2 1),(4 -3))"),
-    (
-        "MULTILINESTRING((1 2,3 4),EMPTY,(0 0,9 -9))",
-        "MULTILINESTRING((2 1,4 3),EMPTY,(0 0,-9 9))",
-    ),
-    (
-        "MULTIPOLYGON(((0 0,1 0,0 1)),((5 5,6 5,5 6)))",
-        "MULTIPOLYGON(((0 0,0 1,1 0,0 0)),((5 5,5 6,6 5,5 5)))",
-    ),
-    (
-        "GEOMETRYCOLLECTION(POINT(1 2),GEOMETRYCOLLECTION(LINESTRING(-3 4,5 -6)))",
-        "GEOMETRYCOLLECTION(POINT(2 1),GEOMETRYCOLLECTION(LINESTRING(4 -3,-6 5)))",
-    ),
-    ("GEOMETRYCOLLECTION EMPTY", "GEOMETRYCOLLECTION EMPTY"),
-];
-
-/// The text of the geometry of a text, with x for y.
-fn swapped_text(alloc: Global, text: &str) -> Result<String, Fail> {
-    let geometry = Geometry::<i64>::try_from_wkt_str(alloc, text)?;
-    let found = map_coords(alloc, &geometry, &Swapped)?;
-    Ok(found.wkt_string(alloc)?)
-}
-
-#[test]
-fn mapped(rt: HostRuntime) -> Result<(), Fail> {
-    for (text, want) in &SWAPPED {
-        equal_at(&rt, text, swapped_text(rt.alloc(), text)?.as_str(), *want);
-    }
-    Ok(())
-}
-
 fn at(x: i64, y: i64) -> Coord<i64> {
     Coord { x, y }
 }

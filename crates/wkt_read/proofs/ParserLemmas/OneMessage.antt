@@ -45,7 +45,7 @@ module _ {N : Type 0} (read : List ℕ → Option N) (text : List ℕ) where
       none_begins read (length lexemes) lexemes left (omega arith) e front.lexemes more v (split_one text lexemes _ (placed-split text) is) front.reads
 
   one : (m : Message) (left : List Lexeme) → value_at read (length lexemes) false lexemes ≡ Err (m, left) → (other : List ℕ) → IsTextRefused read text other → other ≡ message_text m
-  one m left e other (ls, left2, split, (k, says, e2)) =
+  one m left e other (k, says, (ls, left2, split, e2)) =
       let same : lexemes ≡ ls = split_one text lexemes ls (placed-split text) split in
       let e3 : value_at read (length lexemes) false lexemes ≡ Err (k, left2) = subst (λ l. value_at read (length l) false l ≡ Err (k, left2)) (sym same) e2 in
       let q : ◌≡◌ {A = Outcome (Value N)} (Err (m, left)) (Err (k, left2)) = sym e ∙ e3 in
@@ -56,7 +56,7 @@ module _ {N : Type 0} (read : List ℕ → Option N) (text : List ℕ) where
       → ((v : Value N) × (end : ℕ) × Front read text v end)
       ⊎ ((said : List ℕ) × IsTextRefused read text said × HasNoFront read text × ((other : List ℕ) → IsTextRefused read text other → other ≡ said))
   pick (Ok (v, left)) e = inl (has-front v left (sym (quiet_value read (length lexemes) false lexemes) ∙ ap quiet e))
-  pick (Err (m, left)) e = inr (message_text m, (lexemes, left, placed-split text, (m, refl, e)), has-none left (sym (quiet_value read (length lexemes) false lexemes) ∙ ap quiet e), one m left e)
+  pick (Err (m, left)) e = inr (message_text m, (m, refl, (lexemes, left, placed-split text, e)), has-none left (sym (quiet_value read (length lexemes) false lexemes) ∙ ap quiet e), one m left e)
 
 pub one-message : {N : Type 0} (read : List ℕ → Option N) → OneMessage read
 one-message read text = pick read text (value_at read (length (lexemes_of (placed text))) false (lexemes_of (placed text))) refl

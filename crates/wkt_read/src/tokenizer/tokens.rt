@@ -9,7 +9,7 @@ ghost use Rattle.wkt_read.specs.Tokenizer.Cursors.{taken_in};
 ghost use Rattle.wkt_read.specs.Tokenizer.Unread.{found, IsNumberIn};
 ghost use Rattle.wkt_read.specs.declared.tokenizer.scan.Class.TheVariants.{Run};
 
-use crate::messages::{Message, text};
+use crate::messages::Message;
 use crate::tokenizer::cursor::Cursor;
 use crate::tokenizer::scan::{Class, end_of_run, first_class, starts_number};
 use std::marker::PhantomData;
@@ -76,7 +76,7 @@ pub(crate) fn item_of<'a, T: WktNum>(
         Lexeme::Word(word) => Token::Word(word),
         Lexeme::Number(digits) => match T::read_number(digits) {
             Some(number) => Token::Number(number),
-            None => return Some(Err(text(Message::BadNumber))),
+            None => return Some(Err(Message::BadNumber.text())),
         },
     }))
 }

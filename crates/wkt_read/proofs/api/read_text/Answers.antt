@@ -40,7 +40,7 @@ returns-in-Err-clause-bad g c =
 pub returns-in-Err-clause-refusal : goal.returns-in-Err-clause-refusal
 returns-in-Err-clause-refusal g c =
     if-text-err (Wkt g.row.T.Denot) (Wkt g.row.T.Denot) c.in-Err.error (λ said. IsRefused g.T.WktNum.read (rest c.new-tokens.result) said (rest c.read.new.tokens)) (IsTextRefused g.T.WktNum.read c.args.text.now)
-    (λ said is. (rest c.new-tokens.result, rest c.read.new.tokens, split-of g.T.WktNum.read c.args.text.now c.new-tokens.result (c.new-tokens.ensures.left ∙ c.from_str.ensures.placed), is)) c.in-Err.ensures.refusal
+    (λ said (m, says, e). (m, says, (rest c.new-tokens.result, rest c.read.new.tokens, split-of g.T.WktNum.read c.args.text.now c.new-tokens.result (c.new-tokens.ensures.left ∙ c.from_str.ensures.placed), e))) c.in-Err.ensures.refusal
 
 pub returns-in-Err-clause-free : goal.returns-in-Err-clause-free
 returns-in-Err-clause-free g c = λ v end front small.

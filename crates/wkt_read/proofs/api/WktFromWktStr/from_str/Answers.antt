@@ -34,4 +34,4 @@ returns-clause-free g c = λ v end front small.
 pub returns-clause-refusal : goal.returns-clause-refusal
 returns-clause-refusal g c =
     if-text c.value.result (λ said. IsRefused g.T.WktNum.read (rest c.new-tokens.result) said (rest c.value.new.tokens)) (IsTextRefused g.T.WktNum.read c.args.text.now)
-    (λ said is. (rest c.new-tokens.result, rest c.value.new.tokens, split-of g.T.WktNum.read c.args.text.now c.new-tokens.result (c.new-tokens.ensures.left ∙ c.from_str.ensures.placed), is)) (to-refusal g.T.WktNum.read c.new-tokens.result c.value.new.tokens c.value.result c.value.ensures)
+    (λ said (m, says, e). (m, says, (rest c.new-tokens.result, rest c.value.new.tokens, split-of g.T.WktNum.read c.args.text.now c.new-tokens.result (c.new-tokens.ensures.left ∙ c.from_str.ensures.placed), e))) (to-refusal g.T.WktNum.read c.new-tokens.result c.value.new.tokens c.value.result c.value.ensures)

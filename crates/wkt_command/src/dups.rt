@@ -1,0 +1,58 @@
+//! `wkt dups`: the texts that name a geometry which an earlier text names.
+use crate::output::Output;
+use crate::report::Origin;
+use std::alloc::{AllocError, Global};
+use std::collections::HashMap;
+use std::hash::RandomState;
+use std::io;
+
+// Where a text stands: the number of its file in the run, and its first line.
+#[derive(Clone, Copy)]
+pub struct Spot {
+    pub file: usize,
+    pub line: u64,
+}
+
+/// The geometries that were seen, by their canonical texts, with where each was seen first.
+#[derive(Drop)]
+pub struct Seen {
+    alloc: Global,
+    first: HashMap<Vec<u8>, Spot, RandomState>,
+}
+
+impl Seen {
+    /// # Errors
+    /// The system gives no random numbers, by which the keys are spread.
+    pub fn new(rt: &HostRuntime) -> io::Result<Seen> {
+        Ok(Seen {
+            alloc: rt.alloc(),
+            first: HashMap::with_hasher(rt.alloc(), RandomState::new(rt)?),
+        })
+    }
+
+    /// Where the geometry was seen first; none where it is new, and is kept now.
+    ///
+    /// # Errors
+    /// Out of memory.
+    pub fn earlier(&mut self, canonical: &[u8], spot: Spot) -> Result<Option<Spot>, AllocError> {
+        if let Some(first) = self.first.get(canonical) {
+            return Ok(Some(*first));
+        }
+        let key = Vec::from_slice(self.alloc, canonical)?;
+        self.first.insert(key, spot)?;
+        Ok(None)
+    }
+}
+
+/// Writes that a text names the geometry of an earlier one.
+///
+/// # Errors
+/// Standard output's error, or out of memory.
+pub fn put(alloc: Global, out: &mut Output, now: Origin<'_>, first: Origin<'_>) -> io::Result<()> {
+    let name = now.name;
+    let line = now.line;
+    let first_name = first.name;
+    let first_line = first.line;
+    let text = format!(in alloc; "{name}:{line}: the geometry of {first_name}:{first_line}\n")?;
+    out.put(text.as_bytes())
+}

@@ -1,0 +1,45 @@
+//! Why a run can't go on.
+use std::alloc::AllocError;
+use std::io::{self, ErrorKind};
+use thiserror::Error;
+use wkt::to_wkt::ReadAllError;
+
+/// Why a run can't go on.
+#[derive(Debug, Drop, Error)]
+pub enum RunError {
+    /// A file can't be read; the run goes on with the next.
+    #[error("{0}")]
+    Input(io::Error),
+    /// Standard output fails.
+    #[error("standard output: {0}")]
+    Output(io::Error),
+    #[error("out of memory")]
+    Memory(#[from] AllocError),
+}
+
+impl RunError {
+    /// Reading failed; out of memory is told apart.
+    pub fn input(error: io::Error) -> RunError {
+        match error.kind() {
+            ErrorKind::OutOfMemory => RunError::Memory(AllocError),
+            _ => RunError::Input(error),
+        }
+    }
+
+    /// Writing failed; out of memory is told apart.
+    pub fn output(error: io::Error) -> RunError {
+        match error.kind() {
+            ErrorKind::OutOfMemory => RunError::Memory(AllocError),
+            _ => RunError::Output(error),
+        }
+    }
+}
+
+impl From<ReadAllError> for RunError {
+    fn from(error: ReadAllError) -> RunError {
+        match error {
+            ReadAllError::Read(error) => RunError::input(error),
+            ReadAllError::Memory(error) => RunError::Memory(error),
+        }
+    }
+}

@@ -1,0 +1,30 @@
+//! `wkt`: well-known text, for people. Where texts are refused and what was expected there, their canonical texts, their
+//! kinds, and which of them name one geometry.
+#![tactic(auto)]
+
+mod canon;
+mod dups;
+mod error;
+mod excerpt;
+mod help;
+mod hint;
+mod input;
+mod kind;
+mod numbers;
+mod options;
+mod output;
+mod parse;
+mod place;
+mod progress;
+mod report;
+mod run;
+mod same;
+mod session;
+mod usage;
+mod verdict;
+
+use std::process::ExitCode;
+
+fn main(rt: HostRuntime) -> ExitCode {
+    ExitCode::from(session::status(&rt))
+}

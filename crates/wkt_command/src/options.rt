@@ -1,0 +1,73 @@
+//! What a run was asked to do.
+use std::alloc::Global;
+
+/// The commands.
+#[derive(Clone, Copy, PartialEq, Eq, Debug)]
+pub enum Command {
+    Check,
+    Canon,
+    Kind,
+    Dups,
+    Same,
+}
+
+impl Command {
+    /// The command of this name.
+    pub fn named(word: &str) -> Option<Command> {
+        match word {
+            "check" => Some(Command::Check),
+            "canon" => Some(Command::Canon),
+            "kind" => Some(Command::Kind),
+            "dups" => Some(Command::Dups),
+            "same" => Some(Command::Same),
+            _ => None,
+        }
+    }
+}
+
+/// Where a text of a file ends.
+#[derive(Clone, Copy, PartialEq, Eq, Debug)]
+pub enum Ends {
+    /// At each line feed.
+    Line,
+    /// At each NUL.
+    Nul,
+    /// At the end of the file.
+    File,
+}
+
+/// What a run was asked to do.
+#[derive(Drop)]
+pub struct Options {
+    pub command: Command,
+    /// How many digits a number may have after its point, 0 to 18.
+    pub places: u32,
+    pub ends: Ends,
+    /// What follows a geometry in its text isn't looked at.
+    pub front: bool,
+    /// What is written in place of the answer to a refused text.
+    pub refused: Option<String>,
+    /// After how many refusals `check` ends; 0: after none.
+    pub max: u64,
+    pub quiet: bool,
+    /// Whether progress is shown, where the caller said so.
+    pub progress: Option<bool>,
+    /// The files, or the two texts of `same`.
+    pub operands: Vec<String>,
+}
+
+impl Options {
+    pub fn new(alloc: Global, command: Command) -> Options {
+        Options {
+            command,
+            places: 18,
+            ends: Ends::Line,
+            front: false,
+            refused: None,
+            max: 100,
+            quiet: false,
+            progress: None,
+            operands: Vec::new(alloc),
+        }
+    }
+}

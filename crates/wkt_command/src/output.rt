@@ -1,0 +1,54 @@
+//! Standard output.
+use std::alloc::Global;
+use std::io::{self, BufWriter, IsTerminal, Stdout, Write};
+
+// How much is gathered before it is written, where standard output is no terminal.
+const HELD: usize = 65536;
+
+/// Standard output, which gathers what is written; on a terminal, up to a text's end alone.
+#[derive(Drop)]
+pub struct Output {
+    writer: BufWriter<Stdout>,
+    is_terminal: bool,
+}
+
+impl Output {
+    /// # Errors
+    /// Out of memory.
+    pub fn new(rt: &HostRuntime, alloc: Global) -> io::Result<Output> {
+        let stdout = rt.stdout();
+        let is_terminal = stdout.is_terminal();
+        Ok(Output {
+            writer: BufWriter::with_capacity(alloc, HELD, stdout)?,
+            is_terminal,
+        })
+    }
+
+    /// Writes all bytes.
+    ///
+    /// # Errors
+    /// The writer's error.
+    pub fn put(&mut self, bytes: &[u8]) -> io::Result<()> {
+        self.writer.write_all(bytes)
+    }
+
+    /// Writes out what was gathered of a text, where people look on.
+    ///
+    /// # Errors
+    /// The writer's error.
+    pub fn end_text(&mut self) -> io::Result<()> {
+        if self.is_terminal {
+            self.writer.flush()
+        } else {
+            Ok(())
+        }
+    }
+
+    /// Writes out all that was gathered.
+    ///
+    /// # Errors
+    /// The writer's error.
+    pub fn finish(&mut self) -> io::Result<()> {
+        self.writer.flush()
+    }
+}

@@ -1,0 +1,121 @@
+//! A refusal, as it is told.
+use crate::excerpt::Excerpt;
+use crate::hint::hint_for;
+use crate::place::place_after;
+use std::alloc::AllocError;
+use std::fmt;
+use std::fmt::Formatter;
+use wkt::Explanation;
+use wkt_read::words::is_white;
+
+/// Where a text stands: its file's name, and the number of its first line.
+#[derive(Clone, Copy)]
+pub struct Origin<'a> {
+    pub name: &'a str,
+    pub line: u64,
+}
+
+impl<'a> Origin<'a> {
+    /// The number of a line of the text, whose lines count from 1.
+    fn line(self, line: usize) -> u64 {
+        self.line.saturating_add(line as u64).saturating_sub(1)
+    }
+}
+
+/// Why a text is refused.
+#[derive(Clone, Copy)]
+pub enum Refusal<'a> {
+    /// It has no geometry at its front.
+    Text(Explanation<'a>),
+    /// More than white space follows its geometry, from this byte on.
+    Rest(&'a str, usize),
+}
+
+/// The word from here on, which ends where white space, a parenthesis or a comma stands.
+fn word_at(text: &str, start: usize) -> &str {
+    let rest = text.get(start..).unwrap_or("");
+    let end = rest
+        .bytes()
+        .position(|b| is_white(b) || b == b'(' || b == b')' || b == b',')
+        .unwrap_or(rest.len());
+    rest.get(..end).unwrap_or("")
+}
+
+/// Adds what is told of a refusal: file, line, column, what was expected, and the line with a mark under the place.
+///
+/// # Errors
+/// Out of memory.
+pub fn push_refusal(
+    out: &mut String,
+    origin: Origin<'_>,
+    refusal: Refusal<'_>,
+    places: u32,
+) -> Result<(), AllocError> {
+    let (text, start, end) = match refusal {
+        Refusal::Text(why) => (why.text, why.start, why.end),
+        Refusal::Rest(text, at) => (text, at, at),
+    };
+    let bytes = text.as_bytes();
+    let place = place_after(bytes.get(..start).unwrap_or(bytes));
+    let name = origin.name;
+    let line = origin.line(place.line);
+    let column = place.column;
+    write!(out, "{name}:{line}:{column}: ")?;
+    match refusal {
+        Refusal::Text(why) => {
+            let expected = why.expected;
+            write!(out, "{expected} was expected")?;
+            if let Some(hint) = hint_for(expected, word_at(text, start), places) {
+                write!(out, " ({hint})")?;
+            }
+        }
+        Refusal::Rest(_, _) => out.push_str("more follows the geometry")?,
+    }
+    let excerpt = Excerpt::around(text, start, end);
+    write!(out, "\n{excerpt}")
+}
+
+/// Adds that a text is no UTF-8, from its byte `at` on.
+///
+/// # Errors
+/// Out of memory.
+pub fn push_not_utf8(
+    out: &mut String,
+    origin: Origin<'_>,
+    text: &[u8],
+    at: usize,
+) -> Result<(), AllocError> {
+    let before = text.get(..at).unwrap_or(text);
+    let name = origin.name;
+    let line = origin.line(place_after(before).line);
+    let byte = match before.iter().rposition(|b| *b == b'\n') {
+        Some(feed) => before.len().saturating_sub(feed),
+        None => before.len().saturating_add(1),
+    };
+    writeln!(out, "{name}:{line}: not UTF-8 at byte {byte} of the line")
+}
+
+/// A number with commas between its thousands.
+#[derive(Clone, Copy)]
+pub struct Thousands(pub u64);
+
+impl fmt::Display for Thousands {
+    fn fmt<W: fmt::Write>(&self, f: &mut Formatter<W>) -> fmt::Result {
+        let mut groups = [0u64; 7];
+        let mut rest = self.0;
+        for group in groups.iter_mut() {
+            *group = rest % 1000;
+            rest /= 1000;
+        }
+        let mut is_begun = false;
+        for group in groups.iter().rev() {
+            if is_begun {
+                write!(f, ",{group:03}")?;
+            } else if *group > 0 {
+                write!(f, "{group}")?;
+                is_begun = true;
+            }
+        }
+        if is_begun { Ok(()) } else { f.write_char('0') }
+    }
+}

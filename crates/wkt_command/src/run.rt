@@ -1,0 +1,272 @@
+//! A run over files.
+use crate::dups::{self, Seen, Spot};
+use crate::error::RunError;
+use crate::input::{Input, NulLines, swap_ends};
+use crate::numbers::verdict_at;
+use crate::options::{Command, Ends, Options};
+use crate::output::Output;
+use crate::place::place_after;
+use crate::progress::{Progress, Tally};
+use crate::report::{Origin, Refusal, Thousands, push_not_utf8, push_refusal};
+use crate::verdict::{Room, Verdict};
+use crate::{canon, kind};
+use std::alloc::Global;
+use wkt::to_wkt::{ByteSource, Counted, ReadAllError, read_all};
+use wkt_stream::Lines;
+
+/// A run over files, and what came of it so far.
+#[derive(Drop)]
+pub struct Run<'a> {
+    alloc: Global,
+    options: &'a Options,
+    out: Output,
+    room: Room,
+    report: String,
+    seen: Seen,
+    tally: Tally,
+    progress: Progress,
+    // The number of the file that is read, and the number of its next text's first line.
+    file: usize,
+    line: u64,
+}
+
+/// What standard input is called.
+const STANDARD_INPUT: &str = "standard input";
+
+/// The name by which a file is told.
+fn shown_name(name: &str) -> &str {
+    if name == "-" { STANDARD_INPUT } else { name }
+}
+
+impl<'a> Run<'a> {
+    /// # Errors
+    /// Out of memory, or the system gives no random numbers.
+    pub fn new(rt: &HostRuntime, options: &'a Options) -> Result<Run<'a>, RunError> {
+        let alloc = rt.alloc();
+        Ok(Run {
+            alloc,
+            options,
+            out: Output::new(rt, alloc).map_err(RunError::output)?,
+            room: Room::new(alloc),
+            report: String::new(alloc),
+            seen: Seen::new(rt).map_err(RunError::input)?,
+            tally: Tally {
+                texts: 0,
+                refused: 0,
+            },
+            progress: Progress::new(rt, Some(false), 0),
+            file: 0,
+            line: 1,
+        })
+    }
+
+    /// How many texts there were, and how many of them were refused.
+    pub fn tally(&self) -> Tally {
+        self.tally
+    }
+
+    /// Whether no more texts are looked at: `check` has told as many refusals as were asked for.
+    pub fn is_over(&self) -> bool {
+        let refused = self.tally.refused;
+        self.options.command == Command::Check
+            && (self.options.quiet && refused > 0
+                || self.options.max > 0 && refused >= self.options.max)
+    }
+
+    /// Reads a file, whose number in the run is given, and answers its texts.
+    ///
+    /// # Errors
+    /// The file can't be read, standard output fails, or out of memory.
+    pub fn read_file(&mut self, rt: &HostRuntime, file: usize, name: &str) -> Result<(), RunError> {
+        let input = Input::open(rt, name).map_err(RunError::input)?;
+        self.progress = Progress::new(rt, self.options.progress, input.size());
+        self.file = file;
+        self.line = 1;
+        let name = shown_name(name);
+        let source = Counted::new(input);
+        let read = match self.options.ends {
+            Ends::Line => self.read_lines(rt, name, Lines::new(self.alloc, source)),
+            Ends::Nul => self.read_nul_lines(
+                rt,
+                name,
+                Lines::new(self.alloc, NulLines::new(source)),
+            ),
+            Ends::File => self.read_whole(rt, name, source),
+        };
+        self.progress.wipe(rt);
+        read
+    }
+
+    fn read_lines<R: ByteSource + Drop>(
+        &mut self,
+        rt: &HostRuntime,
+        name: &str,
+        lines: Lines<R>,
+    ) -> Result<(), RunError> {
+        let mut lines = lines;
+        for _ in 0..u64::MAX {
+            if self.is_over() || !lines.advance()? {
+                break;
+            }
+            self.take(rt, name, lines.line())?;
+        }
+        Ok(())
+    }
+
+    fn read_nul_lines<R: ByteSource + Drop>(
+        &mut self,
+        rt: &HostRuntime,
+        name: &str,
+        lines: Lines<R>,
+    ) -> Result<(), RunError> {
+        let mut lines = lines;
+        let mut text = Vec::new(self.alloc);
+        for _ in 0..u64::MAX {
+            if self.is_over() || !lines.advance()? {
+                break;
+            }
+            text.clear();
+            text.extend_from_slice(lines.line())?;
+            swap_ends(text.as_mut_slice());
+            self.take(rt, name, text.as_slice())?;
+        }
+        Ok(())
+    }
+
+    fn read_whole<R: ByteSource + Drop>(
+        &mut self,
+        rt: &HostRuntime,
+        name: &str,
+        source: R,
+    ) -> Result<(), RunError> {
+        let mut source = source;
+        let text = read_all(self.alloc, &mut source)?;
+        self.take(rt, name, text.as_slice())
+    }
+
+    /// Answers a text, and goes on to the next.
+    fn take(&mut self, rt: &HostRuntime, name: &str, text: &[u8]) -> Result<(), RunError> {
+        self.tally.texts = self.tally.texts.saturating_add(1);
+        self.answer(rt, name, text)?;
+        self.out.end_text().map_err(RunError::output)?;
+        let lines = match self.options.ends {
+            Ends::Line => 1,
+            _ => place_after(text).line as u64,
+        };
+        self.line = self.line.saturating_add(lines);
+        self.progress
+            .advance(rt, text.len().saturating_add(1), self.tally);
+        Ok(())
+    }
+
+    fn answer(&mut self, rt: &HostRuntime, name: &str, text: &[u8]) -> Result<(), RunError> {
+        let origin = Origin {
+            name,
+            line: self.line,
+        };
+        self.report.clear();
+        let text = match str::from_utf8(text) {
+            Ok(text) => text,
+            Err(error) => {
+                push_not_utf8(&mut self.report, origin, text, error.valid_up_to())?;
+                return self.refuse(rt);
+            }
+        };
+        let places = self.options.places;
+        let front = self.options.front;
+        let refusal = match verdict_at(self.alloc, text, places, front, &mut self.room)? {
+            Verdict::Read(len) => return self.put_answer(origin, text, len),
+            Verdict::Refused(why) => Refusal::Text(why),
+            Verdict::Rest(at) => Refusal::Rest(text, at),
+        };
+        if !self.options.quiet {
+            push_refusal(&mut self.report, origin, refusal, places)?;
+        }
+        self.refuse(rt)
+    }
+
+    /// Answers a text that is read, whose canonical text has so many bytes in the room.
+    fn put_answer(&mut self, origin: Origin<'_>, text: &str, len: usize) -> Result<(), RunError> {
+        let canonical = self.room.written(len);
+        let put = match self.options.command {
+            Command::Check | Command::Same => Ok(()),
+            Command::Canon => canon::put(&mut self.out, canonical),
+            Command::Kind => kind::put(self.alloc, &mut self.out, text),
+            Command::Dups => {
+                let spot = Spot {
+                    file: self.file,
+                    line: origin.line,
+                };
+                match self.seen.earlier(canonical, spot)? {
+                    Some(first) => {
+                        let name = match self.options.operands.get(first.file) {
+                            Some(name) => shown_name(name.as_str()),
+                            None => STANDARD_INPUT,
+                        };
+                        dups::put(
+                            self.alloc,
+                            &mut self.out,
+                            origin,
+                            Origin {
+                                name,
+                                line: first.line,
+                            },
+                        )
+                    }
+                    None => Ok(()),
+                }
+            }
+        };
+        put.map_err(RunError::output)
+    }
+
+    /// Counts a refused text, and tells what stands in the report.
+    fn refuse(&mut self, rt: &HostRuntime) -> Result<(), RunError> {
+        self.tally.refused = self.tally.refused.saturating_add(1);
+        if let Some(word) = &self.options.refused {
+            canon::put(&mut self.out, word.as_bytes()).map_err(RunError::output)?;
+        }
+        if self.options.quiet {
+            return Ok(());
+        }
+        self.progress.wipe(rt);
+        if self.options.command == Command::Check {
+            return self
+                .out
+                .put(self.report.as_bytes())
+                .map_err(RunError::output);
+        }
+        // Where standard error fails, the status still tells.
+        let _ = rt.eprint(self.report.as_str());
+        Ok(())
+    }
+
+    /// Tells how many texts were refused, and writes out what is left.
+    ///
+    /// # Errors
+    /// Standard output fails, or out of memory.
+    pub fn finish(&mut self, rt: &HostRuntime) -> Result<(), RunError> {
+        if !self.options.quiet {
+            let count = self.count()?;
+            if self.options.command == Command::Check {
+                self.out.put(count.as_bytes()).map_err(RunError::output)?;
+            } else if self.tally.refused > 0 {
+                let _ = rt.eprint(count.as_str());
+            }
+        }
+        self.out.finish().map_err(RunError::output)
+    }
+
+    fn count(&self) -> Result<String, RunError> {
+        let refused = Thousands(self.tally.refused);
+        let texts = Thousands(self.tally.texts);
+        let what = match self.options.ends {
+            Ends::Line => "line",
+            _ => "text",
+        };
+        let first = if self.is_over() { "the first " } else { "" };
+        let plural = if self.tally.texts == 1 { "" } else { "s" };
+        let text = format!(in self.alloc; "{refused} of {first}{texts} {what}{plural} refused\n")?;
+        Ok(text)
+    }
+}

@@ -1,0 +1,69 @@
+//! `wkt same`: whether two texts name one geometry.
+use crate::error::RunError;
+use crate::numbers::verdict_at;
+use crate::options::Options;
+use crate::report::{Origin, Refusal, push_refusal};
+use crate::verdict::{Room, Verdict};
+use std::alloc::Global;
+
+/// Whether the two texts name one geometry: 0 or 1; 2 where one of them is refused.
+///
+/// # Errors
+/// Standard output fails, or out of memory.
+pub fn status(rt: &HostRuntime, options: &Options) -> Result<u8, RunError> {
+    let alloc = rt.alloc();
+    let mut one = Room::new(alloc);
+    let mut other = Room::new(alloc);
+    let first = canonical(rt, options, 0, &mut one)?;
+    let second = canonical(rt, options, 1, &mut other)?;
+    let (Some(first), Some(second)) = (first, second) else {
+        return Ok(2);
+    };
+    let is_one = one.written(first) == other.written(second);
+    if !options.quiet {
+        let said = if is_one {
+            "one geometry"
+        } else {
+            "two geometries"
+        };
+        println!(rt; "{said}").map_err(RunError::output)?;
+    }
+    Ok(if is_one { 0 } else { 1 })
+}
+
+/// Writes the canonical text of one of the two texts into the room: how long that is; none where it is refused, which is
+/// told.
+fn canonical(
+    rt: &HostRuntime,
+    options: &Options,
+    index: usize,
+    room: &mut Room,
+) -> Result<Option<usize>, RunError> {
+    let alloc: Global = rt.alloc();
+    let text = match options.operands.get(index) {
+        Some(text) => text.as_str(),
+        None => "",
+    };
+    let refusal = match verdict_at(alloc, text, options.places, false, room)? {
+        Verdict::Read(len) => return Ok(Some(len)),
+        Verdict::Refused(why) => Refusal::Text(why),
+        Verdict::Rest(at) => Refusal::Rest(text, at),
+    };
+    let name = if index == 0 {
+        "first text"
+    } else {
+        "second text"
+    };
+    let mut report = String::new(alloc);
+    push_refusal(
+        &mut report,
+        Origin { name, line: 1 },
+        refusal,
+        options.places,
+    )?;
+    if !options.quiet {
+        // Where standard error fails, the status still tells.
+        let _ = rt.eprint(report.as_str());
+    }
+    Ok(None)
+}

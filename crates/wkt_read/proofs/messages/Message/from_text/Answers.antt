@@ -1,0 +1,7 @@
+use Rattle.std.proofs.Common.{◌∙◌, sym, ap, arith}
+use Rattle.wkt_read.specs.Messages.{message_text}
+use Rattle.wkt_read.proofs.MessageTexts.{none-first, none-next, none-at-all, one-text}
+use Rattle.wkt_read.proofs.messages.Message.from_text.Goals as goal
+
+pub number-init : goal.number-init
+number-init c = record { least = omega arith; most = omega arith; none = none-first c.args.said.now }

@@ -1,0 +1,126 @@
+#!/usr/bin/env bash
+# Runs every stored text and the tests, and proves nothing: the rows of the table and of crates/wkt_conformance/data, the
+# tests of each crate that has some, and each program over its stored input; wktline and wktstream over the keys of
+# tests/keys.tsv too. quick.sh [CRATE..]: all of these crates, or those that are named.
+#
+# It builds each crate with checks (rt try), two at a time (JOBS=N: N at a time). Not run here, and said so:
+# wkt_long_conformance, whose texts are too many and too deep for a build with checks.
+set -u
+cd "$(dirname "$0")/.."
+jobs=${JOBS:-2}
+dir=$(mktemp -d)
+trap 'rm -rf "$dir"' EXIT
+
+# counted CRATE PASSED FAILED WORDS: what came of a crate
+counted() {
+    echo "$1: $4$2 passed, $3 failed ($((SECONDS - start)) s)"
+    echo "$2 $3" > "$dir/$1.count"
+}
+# ended FILE: whether rt try came to an end, and not to a fault or a limit
+ended() { tail -n 1 "$1" | grep -q '^run=ended '; }
+
+# tests CRATE: its tests
+tests() {
+    local said=$dir/$1.said passed failed start=$SECONDS
+    (cd "crates/$1" && rt try --test) > "$said" 2>&1 < /dev/null
+    passed=$(sed -n 's/^test result: .* \([0-9]*\) passed;.*/\1/p' "$said")
+    failed=$(sed -n 's/^test result: .*; \([0-9]*\) failed;.*/\1/p' "$said")
+    [ -n "$passed" ] || { tail -n 20 "$said"; passed=0 failed=1; }
+    grep -A 4 '^test .*FAILED$' "$said"
+    counted "$1" "$passed" "$failed" "tests: "
+}
+
+# rows: the table and the files of rows, which tell what is wrong themselves
+rows() {
+    local said=$dir/rows.said data=() passed failed start=$SECONDS
+    cd crates/wkt_conformance || return
+    for file in data/*; do data+=(--data "${file#data/}=$file"); done
+    rt try --steps 0 "${data[@]}" -- $(cat args) < stdin > "$said" 2> "$said.err"
+    passed=$(sed -n 's/^\(.*: \)\?\([0-9]*\) rows, \([0-9]*\) wrong$/\2 \3/p' "$said" | awk '{ n += $1 - $2 } END { print n + 0 }')
+    failed=$(sed -n 's/^\(.*: \)\?\([0-9]*\) rows, \([0-9]*\) wrong$/\3/p' "$said" | awk '{ n += $1 } END { print n + 0 }')
+    cat "$said"
+    # Each file has its line, and the program came to its end.
+    [ "$(grep -c ' rows, ' "$said")" = "$(($(wc -w < args) + 1))" ] && ended "$said.err" || { tail -n 20 "$said.err"; failed=$((failed + 1)); }
+    counted wkt_conformance "$passed" "$failed" "rows: "
+}
+
+# keys: what both programs answer, as cases for rt try
+keys() {
+    mkdir -p "$dir/cases"
+    grep -v '^#' tests/keys.tsv | cut -f 1 > "$dir/cases/keys"
+    grep -v '^#' tests/keys.tsv | cut -f 5 > "$dir/cases/keys.stdout"
+    cp crates/wktline/stdin "$dir/cases/stored"
+    cp crates/wktline/stdout "$dir/cases/stored.stdout"
+}
+
+# lines CRATE: wktline or wktstream over its stored input and over the keys; each line is counted
+lines() {
+    local said=$dir/$1.said passed=0 failed=0 start=$SECONDS
+    cmp crates/wktline/stdin "crates/$1/stdin" && cmp crates/wktline/stdout "crates/$1/stdout" || failed=1
+    (cd "crates/$1" && rt try --steps 0 --cases "$dir/cases") > "$said" 2>&1 < /dev/null
+    for case in keys stored; do
+        count=$(wc -l < "$dir/cases/$case.stdout")
+        if grep -q "^case=$case run=ended status=0 .*output=expected" "$said"; then
+            passed=$((passed + count))
+        else
+            failed=$((failed + count))
+        fi
+    done
+    [ "$failed" = 0 ] || tail -n 20 "$said"
+    counted "$1" "$passed" "$failed" "lines: "
+}
+
+# program CRATE: another program, over its stored input
+program() {
+    local said=$dir/$1.said data=() args=() want=0 start=$SECONDS
+    cd "crates/$1" || return
+    for file in data/*; do [ ! -f "$file" ] || data+=(--data "${file#data/}=$file"); done
+    [ ! -f args ] || mapfile -t args < args
+    [ ! -f status ] || want=$(cat status)
+    [ -f stdin ] || : > "$dir/none"
+    rt try --steps 0 "${data[@]}" -- "${args[@]}" < "$([ -f stdin ] && echo stdin || echo "$dir/none")" > "$said" 2> "$said.err"
+    if [ $? = "$want" ] && ended "$said.err" && cmp "$said" stdout; then
+        counted "$1" 1 0 "program: "
+    else
+        tail -n 20 "$said.err"
+        counted "$1" 0 1 "program: "
+    fi
+}
+
+# The longest first.
+work=("rows wkt_conformance")
+for crate in $(grep -l '^#\[test\]' crates/*/src/*.rt | cut -d / -f 2 | uniq); do
+    [ "$crate" = wkt_long_conformance ] || work+=("tests $crate")
+done
+for main in crates/*/src/main.rt; do
+    crate=$(basename "$(dirname "$(dirname "$main")")")
+    case $crate in
+        wkt_conformance) ;;
+        wktline | wktstream) work+=("lines $crate") ;;
+        *) [ ! -f "crates/$crate/stdout" ] || work+=("program $crate") ;;
+    esac
+done
+
+keys
+running=0 named=" $* " begun=()
+for one in "${work[@]}"; do
+    read -r kind crate <<< "$one"
+    [ $# = 0 ] || case $named in *" $crate "*) ;; *) continue ;; esac
+    if [ "$running" -ge "$jobs" ]; then wait -n; running=$((running - 1)); fi
+    begun+=("$crate")
+    # What it says comes in one piece.
+    { "$kind" "$crate" > "$dir/$crate.out" 2>&1; cat "$dir/$crate.out"; } &
+    running=$((running + 1))
+done
+wait
+
+passed=0 failed=0
+for crate in "${begun[@]}"; do
+    read -r p f < "$dir/$crate.count" || { echo "$crate: came to no count"; p=0 f=1; }
+    passed=$((passed + p)) failed=$((failed + f))
+done
+[ $# != 0 ] || echo "not run here: wkt_long_conformance ($(cat crates/wkt_long_conformance/src/*.rt | grep -c '^#\[test\]') tests, which the gate runs)"
+[ "${#begun[@]}" != 0 ] || failed=1
+echo "$SECONDS s"
+echo "$passed passed, $failed failed"
+[ "$failed" = 0 ]
