@@ -1,5 +1,4 @@
 """Geometries as flat arrays of numbers, one by one and as columns."""
-import array
 import ctypes
 import itertools
 import operator
@@ -11,7 +10,7 @@ from ._columns import check_invalid, column_of, refused_of, rows_of
 from ._errors import WktError, check, words_of
 from ._explain import refusal
 from ._names import DIMENSIONS, KINDS, NOT_COLUMN, NULL, TOO_SMALL
-from ._values import Text, encoded, integers, is_null, numpy, places_of, zeros
+from ._values import Ints, Text, encoded, integers, is_null, numpy, places_of, zeros
 
 # Rows that a call takes: with NumPy, by which the parts are joined, few enough that a signal or a callback gets its turn.
 BLOCK = 1 << 18
@@ -219,7 +218,7 @@ def _arrays_text(arrays: Any, places: int, row: Optional[int] = None) -> str:
     kind, dimension, *rest = arrays
     at, width = _index(KINDS, kind, "kind"), _index(DIMENSIONS, dimension, "dimension")
     three = [integers(c, values, what) for c, values, what in zip("qQQ", rest, ("numbers", "rings", "polygons"))]
-    held = [part for values in three for part in (pointer(values), len(values))]
+    held = [part for values in three for part in (pointer(values.data), values.count)]
 
     def call(out: Any, length: int, needed: Any) -> int:
         status: int = _library.wkt_from_arrays(at, width, *held, places, out, length, needed)
@@ -227,7 +226,7 @@ def _arrays_text(arrays: Any, places: int, row: Optional[int] = None) -> str:
             check(status, row=row)
         return status
 
-    return Room(16 * len(three[0]) + 32).text(call)
+    return Room(16 * three[0].count + 32).text(call)
 
 
 def from_arrays(arrays: Any, places: int = 6) -> Any:
@@ -258,29 +257,30 @@ def from_arrays_column(arrays: ColumnArrays, places: int = 6) -> Tuple[List[Opti
     places = places_of(places)
     held = [integers(code, getattr(arrays, name), name) for name, code in CODES.items()]
     given = integers("I", arrays.statuses, "statuses")
-    rows = len(held[0])
-    if len(given) != rows:
+    rows = held[0].count
+    if given.count != rows:
         raise WktError(NOT_COLUMN, words_of(NOT_COLUMN))
     valid = _valid_bits(given)
     ends, statuses = zeros("q", rows + 1), zeros("I", rows)
 
     def call(out: Any, length: int, needed: Any) -> int:
         status: int = _library.wkt_column_from_arrays(
-            *_parts(*held, valid), places, out, length, *_parts(ends, statuses), needed
-        )
+            *[part for values in held for part in (pointer(values.data), values.count)], valid, len(valid), places, out, length, *_parts(ends, statuses), needed
+        )  # fmt: skip
         return status
 
-    room = Room(12 * len(held[2]) + 24 * rows + 64)
+    room = Room(12 * held[2].count + 24 * rows + 64)
     return unpacked(room.out, room.call(call), ends, statuses), statuses.tolist()
 
 
-def _valid_bits(statuses: Any) -> bytes:
+def _valid_bits(statuses: Ints) -> bytes:
     """The bits of the rows that have arrays; none where all have."""
-    if not any(statuses) if isinstance(statuses, array.array) else not statuses.any():
+    data = bytes(statuses.data)
+    if not any(data) if numpy is None else not numpy.frombuffer(data, numpy.uint32).any():
         return b""
     if numpy is not None:
-        return bytes(numpy.packbits(numpy.asarray(statuses) == 0, bitorder="little").tobytes())
-    bits = bytearray((len(statuses) + 7) // 8)
-    for i, status in enumerate(statuses):
+        return bytes(numpy.packbits(numpy.frombuffer(data, numpy.uint32) == 0, bitorder="little").tobytes())
+    bits = bytearray((statuses.count + 7) // 8)
+    for i, status in enumerate(statuses.data):
         bits[i // 8] |= (status == 0) << i % 8
     return bytes(bits)

@@ -19,15 +19,18 @@ def _is_column(values: Any) -> bool:
 
 
 def _text_canonical(text: Text, places: int) -> str:
-    data, end = encoded(text), size()
-
-    def call(out: Any, length: int, needed: Any) -> int:
-        status: int = _library.wkt_canonical(data, len(data), places, out, length, needed, ctypes.byref(end))
+    data, end, needed = encoded(text), size(), size()
+    room = len(data) + 96 & -64
+    while True:
+        out = (ctypes.c_char * room)()
+        status = _library.wkt_canonical(data, len(data), places, out, room, ctypes.byref(needed), ctypes.byref(end))
+        if status == 0:
+            return out[: needed.value].decode("ascii")
         if 1 <= status <= LAST_REFUSAL:
             raise refusal(status, text, places)
-        return status
-
-    return Room(len(data) + 32).text(call)
+        if status != TOO_SMALL:
+            check(status)
+        room = needed.value
 
 
 def canonical(
@@ -89,6 +92,8 @@ def same(
     the WktError of a column names the first row that is refused. ValueError: the columns have different lengths.
     """
     places = places_of(places, whole)
+    if type(one) is type(other) is str and invalid == "raise":
+        return _text_same(one, other, places)
     check_invalid(invalid, ("raise", "null"))
     columns = [_is_column(one), _is_column(other)]
     if not any(columns):

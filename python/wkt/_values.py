@@ -1,7 +1,7 @@
 """The arguments of the functions: what each takes, and what it refuses."""
 import array
 import operator
-from typing import Any, Optional, Union
+from typing import Any, NamedTuple, Optional, Union
 
 from ._errors import WktError, words_of
 from ._names import NO_PLACES
@@ -77,19 +77,25 @@ def _too_large(code: str, value: Any, what: str) -> OverflowError:
     return OverflowError("%s are of %d to %d, and not %s" % (what, least, most, value))
 
 
-def _of_numpy(code: str, values: Any, what: str) -> Any:
+class Ints(NamedTuple):
+    """A copy of some ints: bytes or an array of `array`, and how many they are."""
+
+    data: Any
+    count: int
+
+
+def _of_numpy(code: str, values: Any, what: str) -> Ints:
     if values.dtype.kind not in "iu":
         raise TypeError("%s are integers, and not of %s" % (what, values.dtype))
-    # A copy, so that nothing changes them between this check and the end of the call.
-    values = numpy.array(values, order="C").reshape(-1)
     if values.dtype is _TYPES[code]:
-        return values
-    _, least, most = INTEGERS[code]
+        return Ints(values.tobytes(), values.size)
+    # A copy, so that nothing changes them between this check and the end of the call.
+    values, (_, least, most) = numpy.array(values), INTEGERS[code]
     if values.size:
         for value in (int(values.min()), int(values.max())):
             if not least <= value <= most:
                 raise _too_large(code, value, what)
-    return values.astype(_TYPES[code])
+    return Ints(values.astype(_TYPES[code]).tobytes(), values.size)
 
 
 def _listed(values: Any, what: str) -> Any:
@@ -103,13 +109,13 @@ def _listed(values: Any, what: str) -> Any:
     return values.tolist() if hasattr(values, "tolist") else list(values)
 
 
-def integers(code: str, values: Any, what: str) -> Any:
-    """A copy of some ints as an array of one type, of NumPy or of `array`.
+def integers(code: str, values: Any, what: str) -> Ints:
+    """A copy of some ints, each of the type that a code names.
 
     A TypeError where one is no int (a float, a bool, a Decimal, a str), an OverflowError where one is out of range.
     """
     if numpy is not None and type(values) is not list:
-        if hasattr(values, "to_numpy"):
+        if not isinstance(values, numpy.ndarray) and hasattr(values, "to_numpy"):
             values = values.to_numpy()
         if isinstance(values, numpy.ndarray) and values.dtype.kind != "O":
             return _of_numpy(code, values, what)
@@ -123,18 +129,18 @@ def integers(code: str, values: Any, what: str) -> Any:
     except OverflowError:
         least, most = INTEGERS[code][1:]
         raise _too_large(code, next(it for it in values if not least <= it <= most), what) from None
-    return held
+    return Ints(held, len(held))
 
 
 def zeros(code: str, length: int) -> Any:
     """An array for a call to fill."""
     if numpy is not None:
-        return numpy.zeros(length, INTEGERS[code][0])
+        return numpy.zeros(length, _TYPES[code])
     return array.array(code, bytes(array.array(code).itemsize * length))
 
 
 def address(values: Any) -> int:
-    """Where an array of `zeros` or `integers` begins."""
+    """Where an array of `zeros` or of `array` begins."""
     if isinstance(values, array.array):
         return values.buffer_info()[0]
     return int(values.__array_interface__["data"][0])
