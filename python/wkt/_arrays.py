@@ -12,9 +12,12 @@ from ._explain import refusal
 from ._names import DIMENSIONS, KINDS, NOT_COLUMN, NULL, TOO_SMALL
 from ._values import Ints, Text, encoded, integers, is_null, numpy, places_of, zeros
 
-# Rows that a call takes: with NumPy, by which the parts are joined, few enough that a signal or a callback gets its turn.
-BLOCK = 1 << 18
-CODES = dict(kinds="I", dimensions="I", numbers="q", number_offsets="q", rings="Q", ring_offsets="q", polygons="Q", polygon_offsets="q")
+# Rows that a call takes: few enough that its buffers stay near the processor, and a signal or a callback gets its turn.
+BLOCK = 1 << 16
+CODES = dict(
+    kinds="I", dimensions="I", numbers="q", number_offsets="q",
+    rings="Q", ring_offsets="q", polygons="Q", polygon_offsets="q",
+)  # fmt: skip
 
 
 class Arrays(NamedTuple):
@@ -146,39 +149,68 @@ def _rows(held: ColumnArrays) -> Iterator[Optional[Arrays]]:
         yield None if status else Arrays(KINDS[kind], DIMENSIONS[dimension], *three)
 
 
-def _column_call(held: Packed, places: int) -> ColumnArrays:
-    """The arrays of some rows by one call."""
-    kinds, dimensions, statuses = (zeros("I", held.rows) for _ in range(3))
-    ends = [zeros("q", held.rows + 1) for _ in range(3)]
+def _column_call(held: Packed, places: int, words: Any, ends: Any, three: Any) -> Tuple[int, Any]:
+    """The status of a call for the arrays of some rows, and what it says of the sizes."""
     told = _library.ColumnSizes()
-
-    def call(*three: Any) -> int:
-        joined = zip(three[0::2], three[1::2], ends)
-        status: int = _library.wkt_column_arrays(
-            *parts(held), places, ctypes.byref(told),
-            *_parts(kinds, dimensions),
-            *itertools.chain.from_iterable((at, count, *_parts(end)) for at, count, end in joined),
-            *_parts(statuses),
-        )  # fmt: skip
-        return status
-
-    three = _three(told, len(held.data) // 8 + 2 * held.rows + 8, call)
-    return ColumnArrays(*[kinds, dimensions, *itertools.chain.from_iterable(zip(three, ends)), statuses])
+    joined = (part for values, end in zip(three, ends) for part in _parts(values, end))
+    status = _library.wkt_column_arrays(
+        *parts(held), places, ctypes.byref(told), *_parts(*words[:2]), *joined, *_parts(words[2])
+    )
+    if status != TOO_SMALL:
+        check(status)
+    return status, (told.numbers, told.rings, told.polygons)
 
 
-def _joined(blocks: List[ColumnArrays]) -> ColumnArrays:
-    """The arrays of all blocks as those of one column."""
-    if len(blocks) == 1:
-        return blocks[0]
-    made: List[Any] = []
-    for name, several in zip(ColumnArrays._fields, zip(*blocks)):
-        if name.endswith("_offsets"):
-            before = itertools.accumulate((int(offsets[-1]) for offsets in several), initial=0)
-            several = [offsets[:-1] + base for offsets, base in zip(several, before)] + [
-                numpy.array([sum(int(offsets[-1]) for offsets in several)], numpy.int64)
-            ]
-        made.append(numpy.concatenate(several))
-    return ColumnArrays(*made)
+def _likely(held: Packed) -> int:
+    """How many numbers, or offsets, some rows have at most, mostly."""
+    return len(held.data) // 8 + 2 * held.rows + 8
+
+
+class _Filling:
+    """The arrays of a column, which are filled by blocks of rows, each behind the one before it."""
+
+    def __init__(self, rows: int) -> None:
+        self.words = [zeros("I", rows) for _ in range(3)]  # kinds, dimensions, statuses
+        self.ends = [zeros("q", rows + 1) for _ in range(3)]
+        self.three = [zeros(code, 0) for code in "qQQ"]  # numbers, rings, polygons
+        self.used = [0, 0, 0]
+        self.rows = rows
+
+    def holds(self, sizes: Any) -> None:
+        """Makes room for so many behind what is filled."""
+        for i, size in enumerate(sizes):
+            values, used = self.three[i], self.used[i]
+            if len(values) < used + size:
+                more = zeros("Q" if i else "q", used + size + used // 2)
+                more[:used] = values[:used]
+                self.three[i] = more
+
+    def add(self, first: int, held: Packed, places: int) -> None:
+        """The rows from one on."""
+        last = first + held.rows
+        if not first:
+            self.holds(3 * [_likely(held) * (self.rows // held.rows + 1) if held.rows else 8])
+        self.holds(3 * [_likely(held)])
+        words, ends = self.words, self.ends
+        if held.rows < self.rows:  # by NumPy, whose parts share the items
+            words = [values[first:last] for values in words]
+            ends = [values[first : last + 1] for values in ends]
+        while True:
+            behind = [values[used:] if used else values for values, used in zip(self.three, self.used)]
+            status, sizes = _column_call(held, places, words, ends, behind)
+            if status == 0:
+                break
+            self.holds(sizes)
+        for i, size in enumerate(sizes):
+            if self.used[i]:
+                ends[i] += self.used[i]
+            self.used[i] += size
+
+    def made(self) -> ColumnArrays:
+        """All of it."""
+        three = [values[:used] for values, used in zip(self.three, self.used)]
+        kinds, dimensions, statuses = self.words
+        return ColumnArrays(*[kinds, dimensions, *itertools.chain.from_iterable(zip(three, self.ends)), statuses])
 
 
 def to_arrays_column(texts: Any, places: int = 6, progress: Progress = None, whole: bool = False) -> ColumnArrays:
@@ -195,15 +227,16 @@ def _column_arrays(texts: Any, places: int, progress: Progress) -> ColumnArrays:
     held, kept = _arrow.packed(texts) if arrow else (None, None)
     rows = () if arrow else column_of(texts)
     count = held.rows if held is not None else len(rows)
+    filling = _Filling(count)
+    # Without NumPy one call takes all rows, since no other shares its arrays.
     step = BLOCK if numpy is not None else max(count, 1)
-    blocks = []
     with shown(progress, count) as tell:
         for first in range(0, max(count, 1), step):
             part = pack(rows[first : first + step], first) if held is None else _arrow.part(held, first, step)
-            blocks.append(_column_call(part, places))
+            filling.add(first, part, places)
             tell(first + part.rows)
     del kept
-    return _joined(blocks)
+    return filling.made()
 
 
 def _index(names: Tuple[str, ...], name: Any, what: str) -> int:

@@ -1,4 +1,4 @@
-"""Processor time and peak of memory for a column of points of six decimals, beside Shapely: bench.py [ROWS [FEW]]
+"""Processor time and peak of memory for a column of points of six decimals, beside Shapely: columns.py [ROWS [FEW]]
 
 Each row of the table is a process of its own: the seconds are the least of three calls, and the memory is the peak of the
 first call above what stood before it. Shapely 1.8 has a call a row, so it gets FEW rows (by default a tenth), and its
@@ -11,7 +11,7 @@ import sys
 import time
 
 HERE = os.path.dirname(os.path.abspath(__file__))
-LINES = os.path.join(HERE, os.pardir, "bench", "lines.py")
+LINES = os.path.join(HERE, "lines.py")
 
 
 def texts_of(rows):
