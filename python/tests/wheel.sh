@@ -1,7 +1,9 @@
 #!/usr/bin/env bash
 # wheel.sh WKT: builds the wheel of the library in the folder WKT (wkt.h, libwkt.so), with the fast module, and the one
-# without it, and runs the same tests over both; without a wheel too, over ctypes alone. It needs Python 3.11 or later with
-# its headers, pip, NumPy, pandas, Shapely and tqdm (tests/needs.sh): what is lacking fails. PYTHON names another Python.
+# without it, and runs the same tests over both; without a wheel too, over ctypes alone. Then the stored cases of the command
+# by `python -m wkt`, the example, and mypy over the stubs. WKT is capi/out where none is named. It needs Python 3.11 or
+# later with its headers, pip, NumPy, pandas, Shapely, tqdm, matplotlib and mypy (tests/needs.sh): what is lacking fails.
+# PYTHON names another Python.
 set -eu
 here=$(cd "$(dirname "$0")" && pwd)
 WKT=$(cd "${1:-$here/../../capi/out}" && pwd)
@@ -9,7 +11,7 @@ python=${PYTHON:-/usr/bin/python3}
 work=$(mktemp -d)
 trap 'rm -rf "$work"' EXIT
 export PYTHONDONTWRITEBYTECODE=1
-"$python" -c 'import numpy, pandas, shapely, tqdm' || { echo "wheel.sh: $python lacks what it needs"; exit 1; }
+"$python" -c 'import matplotlib, numpy, pandas, shapely, tqdm' || { echo "wheel.sh: $python lacks what it needs"; exit 1; }
 
 # each NAME FOLDER [VARIABLE=VALUE..]: the tests with the package of that folder; nothing is skipped but what needs pyarrow.
 each() {
@@ -30,3 +32,13 @@ for fast in 1 0; do
     [ $fast = 1 ] || ! ls "$work/installed0/wkt/"*_fast*.so 2> /dev/null || { echo "a wheel without the fast module has it"; exit 1; }
     each "$(basename "$wheel")" "$work/installed$fast"
 done
+
+export PYTHONPATH=$work/installed1
+if [ -d "$here/../../tests/command" ]; then
+    REST=no "$here/../../tests/command.sh" "$python" -m wkt > "$work/said" 2>&1 || { cat "$work/said"; echo "python -m wkt: other answers"; exit 1; }
+    echo "python -m wkt: $(tail -n 1 "$work/said")"
+fi
+(cd "$work" && "$python" "$here/../examples/same_geometries.py" > said 2>&1 && [ -s same_geometries.png ]) || { cat "$work/said"; echo "the example fails"; exit 1; }
+grep -q '^POINT(10.0067 53.553) * 3 * 3 ' "$work/said" || { cat "$work/said"; echo "the example: other counts"; exit 1; }
+echo "the example: $(head -n 1 <(grep geometries "$work/said"))"
+(cd "$work" && MYPYPATH=$here/.. mypy --strict "$here/typed.py" "$here/../wkt") || { echo "mypy: the stubs are wrong"; exit 1; }

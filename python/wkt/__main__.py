@@ -135,8 +135,8 @@ class Progress:
 def pieces(source: BinaryIO, end: str) -> Iterator[Tuple[List[bytes], int]]:
     """The texts of a source, many at once, and how many bytes of it are read."""
     if end == "file":
-        data = source.read()
-        yield [data], len(data)
+        whole = source.read()
+        yield [whole], len(whole)
         return
     mark = b"\0" if end == "null" else b"\n"
     rest: List[bytes] = []

@@ -251,7 +251,7 @@ def _arrays_text(arrays: Any, places: int, row: Optional[int] = None) -> str:
     kind, dimension, *rest = arrays
     at, width = _index(KINDS, kind, "kind"), _index(DIMENSIONS, dimension, "dimension")
     three = [integers(c, values, what) for c, values, what in zip("qQQ", rest, ("numbers", "rings", "polygons"))]
-    held = [part for values in three for part in (pointer(values.data), values.count)]
+    held = [part for values in three for part in (pointer(values.data), values.length)]
 
     def call(out: Any, length: int, needed: Any) -> int:
         status: int = _library.wkt_from_arrays(at, width, *held, places, out, length, needed)
@@ -259,7 +259,7 @@ def _arrays_text(arrays: Any, places: int, row: Optional[int] = None) -> str:
             check(status, row=row)
         return status
 
-    return Room(16 * three[0].count + 32).text(call)
+    return Room(16 * three[0].length + 32).text(call)
 
 
 def from_arrays(arrays: Any, places: int = 6) -> Any:
@@ -290,19 +290,19 @@ def from_arrays_column(arrays: ColumnArrays, places: int = 6) -> Tuple[List[Opti
     places = places_of(places)
     held = [integers(code, getattr(arrays, name), name) for name, code in CODES.items()]
     given = integers("I", arrays.statuses, "statuses")
-    rows = held[0].count
-    if given.count != rows:
+    rows = held[0].length
+    if given.length != rows:
         raise WktError(NOT_COLUMN, words_of(NOT_COLUMN))
     valid = _valid_bits(given)
     ends, statuses = zeros("q", rows + 1), zeros("I", rows)
 
     def call(out: Any, length: int, needed: Any) -> int:
         status: int = _library.wkt_column_from_arrays(
-            *[part for values in held for part in (pointer(values.data), values.count)], valid, len(valid), places, out, length, *_parts(ends, statuses), needed
+            *[part for values in held for part in (pointer(values.data), values.length)], valid, len(valid), places, out, length, *_parts(ends, statuses), needed
         )  # fmt: skip
         return status
 
-    room = Room(12 * held[2].count + 24 * rows + 64)
+    room = Room(12 * held[2].length + 24 * rows + 64)
     return unpacked(room.out, room.call(call), ends, statuses), statuses.tolist()
 
 
@@ -313,7 +313,7 @@ def _valid_bits(statuses: Ints) -> bytes:
         return b""
     if numpy is not None:
         return bytes(numpy.packbits(numpy.frombuffer(data, numpy.uint32) == 0, bitorder="little").tobytes())
-    bits = bytearray((statuses.count + 7) // 8)
+    bits = bytearray((statuses.length + 7) // 8)
     for i, status in enumerate(statuses.data):
         bits[i // 8] |= (status == 0) << i % 8
     return bytes(bits)

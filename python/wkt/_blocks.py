@@ -102,8 +102,7 @@ class Room:
     def bytes(self, call: Callable[[Any, int, Any], int]) -> bytes:
         """What a call has written."""
         length = self.call(call)
-        made: bytes = self.out[:length]
-        return made
+        return bytes(memoryview(self.out)[:length])
 
     def text(self, call: Callable[[Any, int, Any], int]) -> str:
         """The canonical text that a call has written."""

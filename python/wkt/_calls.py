@@ -25,7 +25,7 @@ def _text_canonical(text: Text, places: int) -> str:
         out = (ctypes.c_char * room)()
         status = _library.wkt_canonical(data, len(data), places, out, room, ctypes.byref(needed), ctypes.byref(end))
         if status == 0:
-            return out[: needed.value].decode("ascii")
+            return str(memoryview(out)[: needed.value], "ascii")
         if 1 <= status <= LAST_REFUSAL:
             raise refusal(status, text, places)
         if status != TOO_SMALL:

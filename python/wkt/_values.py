@@ -81,7 +81,7 @@ class Ints(NamedTuple):
     """A copy of some ints: bytes or an array of `array`, and how many they are."""
 
     data: Any
-    count: int
+    length: int
 
 
 def _of_numpy(code: str, values: Any, what: str) -> Ints:
