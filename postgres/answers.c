@@ -12,9 +12,8 @@
 #define DEEPEST 4000
 #endif
 
-static const char *const kinds[] = {"POINT", "LINESTRING", "POLYGON", "MULTIPOINT", "MULTILINESTRING", "MULTIPOLYGON",
-                                    "GEOMETRYCOLLECTION"};
-static const char *const dimensions[] = {"", " Z", " M", " ZM"};
+static const char *const kinds[] = WKT_KIND_WORDS;
+static const char *const dimensions[] = WKT_DIMENSION_WORDS;
 
 uint32_t places_of(int32 places) {
     if (places < 0 || places > MOST_PLACES)
@@ -104,5 +103,5 @@ text *kind_of(const Question *asked) {
     uint32_t kind = 0, dimension = 0;
     wkt_status status = wkt_infer(asked->utf8, asked->length, &kind, &dimension);
     if (status == WKT_NO_MEMORY) out_of_memory();
-    return status == WKT_OK ? cstring_to_text(psprintf("%s%s", kinds[kind], dimensions[dimension])) : NULL;
+    return status == WKT_OK ? cstring_to_text(psprintf("%s%s%s", kinds[kind], dimension ? " " : "", dimensions[dimension])) : NULL;
 }

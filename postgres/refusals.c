@@ -1,6 +1,8 @@
 /* Why a text is refused, in words: the errors, and the answers of wkt_explain. */
 #include "wkt_pg.h"
 
+#include <ctype.h>
+
 #include "lib/stringinfo.h"
 #include "mb/pg_wchar.h"
 #include "utils/builtins.h"
@@ -69,34 +71,49 @@ static const char *hint_of_number(const uint8_t *number, size_t length, uint32_t
     length = at - whole;
     after = at < stop && *at == '.' ? at + 1 : at;
     at = after + digits(after, stop - after);
-    if (at < stop && (*at == 'e' || *at == 'E')) return "A number has no exponent.";
+    if (at < stop && (*at == 'e' || *at == 'E')) return "Exponents are not read; write 0.0000001 for 1e-7.";
     if (at < stop) return NULL;
     while (at > after && at[-1] == '0') at--;
-    if (at > after + places)
-        return psprintf("places is %u: more digits after the point are refused, and nothing is rounded.", places);
+    if (at > after + places) return psprintf("Numbers have at most %u places here.", places);
     if (length + places > strlen(MOST_UNITS) ||
         (length + places == strlen(MOST_UNITS) && memcmp(whole, MOST_UNITS, length) > 0))
-        return psprintf("places is %u: the number is too large for so many.", places);
-    return "A coordinate has two numbers, unless Z, M or ZM follows the kind, and a comma stands between coordinates.";
+        return "The number is too large.";
+    return "A third number needs Z or M, as in POINT Z(1 2 3), and a fourth ZM.";
 }
 
 static bool begins(const uint8_t *lexeme, size_t length, const char *word) {
     return length >= strlen(word) && pg_strncasecmp((const char *)lexeme, word, strlen(word)) == 0;
 }
 
-/* What may be done about a text that other programs write; NULL where nothing is known. */
+static bool begins_with_one(const uint8_t *lexeme, size_t length, const char *const *words) {
+    for (; *words; words++)
+        if (begins(lexeme, length, *words)) return true;
+    return false;
+}
+
+static bool is_hexadecimal(const uint8_t *lexeme, size_t length) {
+    size_t count = 0;
+    while (count < length && isxdigit(lexeme[count])) count++;
+    return count == length && length >= 10 && lexeme[0] == '0' && lexeme[1] <= '1';
+}
+
+/* What the lexeme may come from: spellings of other programs. NULL where nothing is known. */
 static const char *hint_of(const Question *asked, const Place *place) {
-    static const char *const curves[] = {"CIRCULARSTRING", "COMPOUNDCURVE", "CURVEPOLYGON", "MULTICURVE", "MULTISURFACE",
-                                         "POLYHEDRALSURFACE", "TIN", "TRIANGLE"};
+    static const char *const curves[] = {"CIRCULARSTRING", "COMPOUNDCURVE", "CURVEPOLYGON", "MULTICURVE", "MULTISURFACE", NULL};
+    static const char *const surfaces[] = {"POLYHEDRALSURFACE", "TIN", "TRIANGLE", NULL};
     const uint8_t *lexeme = asked->utf8 + place->start;
     size_t length = place->stop - place->start;
+
     if (length == 0) return NULL;
+    if (place->start == 0 && is_hexadecimal(lexeme, length)) return "WKB in hexadecimal is not read; ST_AsText gives its text.";
     if (strchr("+-.0123456789", lexeme[0])) return hint_of_number(lexeme, length, asked->places);
-    if (begins(lexeme, length, "SRID=")) return "A text has no SRID; PostGIS writes none by ST_AsText.";
-    if (begins(lexeme, length, "nan") || begins(lexeme, length, "inf")) return "A number is finite.";
-    if (lexeme[0] == ')' && place->start > 0 && lexeme[-1] == '(') return "What holds nothing is written EMPTY, without parentheses.";
-    for (size_t i = 0; i < lengthof(curves); i++)
-        if (begins(lexeme, length, curves[i])) return "Curves and surfaces aren't read.";
+    if (begins(lexeme, length, "SRID=")) return "SRID=..; of EWKT is not read; ST_AsText leaves it out.";
+    if (begins(lexeme, length, "nan") || begins(lexeme, length, "inf"))
+        return "NaN and infinity are no decimals; EMPTY says that there is no point.";
+    if (lexeme[0] == ')' && place->start > 0 && lexeme[-1] == '(')
+        return "What holds nothing is written EMPTY, without parentheses.";
+    if (begins_with_one(lexeme, length, curves)) return "Curves are not read; ST_CurveToLine gives lines.";
+    if (begins_with_one(lexeme, length, surfaces)) return "Triangles and surfaces are not read; polygons are.";
     return NULL;
 }
 
@@ -108,7 +125,7 @@ Datum refuse(Node *context, const Question *asked, const Refusal *why) {
     Place place;
 
     if (place_of(asked, why, &place)) {
-        hint = hint_of(asked, &place);
+        if (why->status != FOLLOWED) hint = hint_of(asked, &place);
         detail = psprintf("At character %zu: %s was expected.", characters(asked->utf8, place.start) + 1, place.expected);
     } else
         detail = psprintf("%s.", message_of(why));
@@ -122,21 +139,14 @@ Datum refuse(Node *context, const Question *asked, const Refusal *why) {
 
 static size_t back_from(const uint8_t *utf8, size_t start) {
     size_t at = start, count = 0;
-    while (at > 0 && utf8[at - 1] != '\n' && count < AROUND) {
-        at--;
-        count += (utf8[at] & 0xC0) != 0x80;
-    }
-    while ((utf8[at] & 0xC0) == 0x80) at++;
+    while (at > 0 && utf8[at - 1] != '\n' && count < AROUND) count += (utf8[--at] & 0xC0) != 0x80;
     return at;
 }
 
 static size_t on_from(const uint8_t *utf8, size_t start, size_t length) {
     size_t at = start, count = 0;
-    while (at < length && utf8[at] != '\n' && utf8[at] != '\r') {
-        count += (utf8[at] & 0xC0) != 0x80;
-        if (count > AROUND) break;
-        at++;
-    }
+    for (; at < length && utf8[at] != '\n' && utf8[at] != '\r'; at++)
+        if ((utf8[at] & 0xC0) != 0x80 && ++count > AROUND) break;
     return at;
 }
 

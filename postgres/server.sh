@@ -17,12 +17,12 @@ if [ "$(id -u)" = 0 ]; then
     as() { setpriv --reuid postgres --regid postgres --clear-groups "$@"; }
 fi
 
-# Where the server is, or the end of the script where there is none.
+# Where the server is; the script fails where there is none (LACKING=0: it ends well).
 find_server() {
     config=${PG_CONFIG:-$(command -v pg_config || ls /usr/lib/postgresql/*/bin/pg_config 2> /dev/null | tail -n 1)}
-    [ -n "$config" ] || { echo "no pg_config: not run"; exit 0; }
+    [ -n "$config" ] || { echo "no pg_config: not run"; exit "${LACKING:-1}"; }
     from=$("$config" --bindir) share=$("$config" --sharedir) lib=$("$config" --pkglibdir) pgxs=$("$config" --pgxs)
-    [ -f "$pgxs" ] && [ -x "$from/initdb" ] || { echo "no PostgreSQL server, or no headers of it: not run"; exit 0; }
+    [ -f "$pgxs" ] && [ -x "$from/initdb" ] || { echo "no PostgreSQL server, or no headers of it: not run"; exit "${LACKING:-1}"; }
     regress=$(dirname "$pgxs")/../test/regress/pg_regress
 }
 

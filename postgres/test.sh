@@ -2,7 +2,8 @@
 # Tests the extension over the library in FOLDER, in a server of its own: test.sh [FOLDER]
 #
 # FOLDER has wkt.h and libwkt.a; it is WKT_LIB_DIR without an argument, and capi/out without that. It needs PostgreSQL
-# with the headers of its server, gcc and make, and no root. RESULTS=FOLDER keeps what the statements print.
+# with the headers of its server, gcc and make, and no root. RESULTS=FOLDER keeps what the statements print, VERBOSE=1
+# says more.
 set -eu
 . "$(dirname "$0")/server.sh"
 library "${1:-}"
@@ -35,6 +36,8 @@ objects="select string_agg(pg_describe_object(classid, objid, objsubid), ',' ord
 
 # The statements of sql/, whose answers are in expected/.
 cd "$dir/work"
+# Over a library that takes stack for nesting, deep texts are refused.
+if grep -q WKT_NO_STACK "$wkt/wkt.h"; then rm expected/nested_1.out; else mv expected/nested_1.out expected/nested.out; fi
 tests=$(cd sql && printf '%s\n' *.sql | sed 's/\.sql$//')
 as "$regress" --inputdir=. --outputdir=. --bindir="$bin" --host="$PGHOST" --user=wkt --dbname=contrib_regression $tests \
     > regress.log 2>&1 || { status=1; cat regress.log regression.diffs; }

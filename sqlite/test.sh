@@ -2,13 +2,13 @@
 # Tests the extension over the library in FOLDER, from SQLite's shell and from Python: test.sh [FOLDER]
 #
 # FOLDER has wkt.h and libwkt.a; it is WKT_LIB_DIR without an argument, and capi/out without that. It needs SQLite with
-# its headers, gcc and make; Python where that loads extensions.
+# its headers, gcc and make, and a Python whose sqlite3 loads extensions.
 set -eu
 here=$(cd "$(dirname "$0")" && pwd)
 wkt=${1:-${WKT_LIB_DIR:-$here/../capi/out}}
 [ -f "$wkt/libwkt.a" ] || { echo "no libwkt.a in $wkt: capi/build.sh makes it"; exit 1; }
 wkt=$(cd "$wkt" && pwd)
-command -v sqlite3 > /dev/null || { echo "no sqlite3: not run"; exit 0; }
+command -v sqlite3 > /dev/null || { echo "no sqlite3: not run"; exit 1; }
 dir=$(mktemp -d)
 trap 'rm -rf "$dir"' EXIT
 cp "$here"/{Makefile,wkt_sqlite.c,test.sql,test.py} "$dir"
@@ -22,6 +22,6 @@ echo "sqlite3: $(grep -c ';$' test.sql) statements as expected"
 for python in /usr/bin/python3 python3 none; do
     "$python" -c 'import sqlite3; sqlite3.connect(":memory:").enable_load_extension(True)' 2> /dev/null && break
 done
-[ "$python" != none ] || { echo "no Python that loads extensions"; exit 0; }
+[ "$python" != none ] || { echo "no Python that loads extensions: not run from Python"; exit 1; }
 "$python" test.py "$dir" "$wkt" "$here/.."
 echo "SQLite $(sqlite3 --version | cut -d ' ' -f 1): all as expected"

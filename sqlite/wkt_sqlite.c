@@ -17,9 +17,8 @@ SQLITE_EXTENSION_INIT1
 int sqlite3_wkt_init(sqlite3 *db, char **error, const sqlite3_api_routines *api);
 int sqlite3_modwkt_init(sqlite3 *db, char **error, const sqlite3_api_routines *api);
 
-static const char *const kinds[] = {"POINT", "LINESTRING", "POLYGON", "MULTIPOINT", "MULTILINESTRING", "MULTIPOLYGON",
-                                    "GEOMETRYCOLLECTION"};
-static const char *const dimensions[] = {"", " Z", " M", " ZM"};
+static const char *const kinds[] = WKT_KIND_WORDS;
+static const char *const dimensions[] = WKT_DIMENSION_WORDS;
 
 /* Statuses of this file, beside those of wkt.h. */
 enum {
@@ -200,7 +199,7 @@ static void kind(sqlite3_context *context, int count, sqlite3_value **values) {
     text = sqlite3_value_text(values[0]);
     status = text ? wkt_infer(text, (size_t)sqlite3_value_bytes(values[0]), &k, &d) : WKT_NO_MEMORY;
     if (is_limit(context, status) || status != WKT_OK) return;
-    said = sqlite3_mprintf("%s%s", kinds[k], dimensions[d]);
+    said = sqlite3_mprintf("%s%s%s", kinds[k], d ? " " : "", dimensions[d]);
     if (said)
         sqlite3_result_text(context, said, -1, sqlite3_free);
     else

@@ -3,10 +3,10 @@
 
 names.py: whether each table is what the list says; if not, it is named and the status is 1. A file that lacks a table
 that it should have is named too. At the end it exchanges two names in each of the files, and wants to see that refused.
-names.py --write: makes the tables of the other languages anew.
+names.py --write: makes the tables of the other languages anew, and that of docs/GRAMMAR.md.
 
 A table stands between a line with `names.py: FORM` and a line with `names.py: end`, in any file of TABLES. The Rattle
-sources and the page of the grammar are written by hand, since they are proved or read, and only compared.
+sources are written by hand, since they are proved, and only compared.
 """
 import os
 import re
@@ -14,11 +14,14 @@ import sys
 
 TOP = os.path.dirname(os.path.dirname(os.path.abspath(__file__)))
 LIST = "docs/names.tsv"
+# Where the expectations have numbers.
+NUMBERED = "crates/wkt_c/specs/Explained.antt"
 # Which file has a table, and in which form.
 TABLES = {
     "include/wkt.h": "c",
     "python/wkt/_names.py": "python",
     "rust/src/names.rs": "rust",
+    "docs/GRAMMAR.md": "page",
 }
 
 
@@ -141,7 +144,11 @@ def rust_table(groups):
     return lines
 
 
-FORMS = {"c": c_table, "python": python_table, "rust": rust_table}
+def page_table(groups):
+    return ["", "| | message |", "|---|---|", *(f"| {row.number} | `{row.text}` |" for row in groups["message"]), ""]
+
+
+FORMS = {"c": c_table, "python": python_table, "rust": rust_table, "page": page_table}
 
 
 def made(path, form, text, groups):
@@ -166,6 +173,7 @@ def by_hand(groups):
     text = [(row.name, row.text) for row in messages]
     bad = [row.text for row in messages if row.name == "BadNumber"]
     expected = [(row.name, row.text) for row in groups["expected"]]
+    expected_numbers = [(row.name, str(row.number)) for row in groups["expected"]]
     constants = [(row.constant, str(row.number)) for row in groups["status"] if row.constant]
     source, spec = "crates/wkt_read/src/messages.rt", "crates/wkt_read/specs/Messages.antt"
     answer = "crates/wkt_c/specs/Answer.antt"
@@ -182,14 +190,8 @@ def by_hand(groups):
         (answer, "kinds", r"^kind_number kind\.(\w+) = (\d+)$", [(row.name, str(row.number)) for row in kinds]),
         (answer, "dimensions", r"^dimension_number (\w+) = (\d+)$", [(row.name, str(row.number)) for row in dimensions]),
         ("crates/wkt_c/src/status.rt", "statuses", r"^pub\(crate\) const (\w+): u32 = (\d+);$", constants),
+        (NUMBERED, "expectations", r"^expected_number expected\.(\w+) = (\d+)$", expected_numbers),
     ]
-
-
-def page(groups):
-    """The messages as docs/GRAMMAR.md has them: 8 to 11 in one row."""
-    texts = {row.number: row.text for row in groups["message"]}
-    rows = [f"| {n} | `{texts[n]}` |" for n in sorted(texts) if not 8 <= n <= 11]
-    return rows + [f"| 8 to 11 | `{texts[8]}`, and the same for `Y`, `Z` and `M` |"]
 
 
 def differences(read):
@@ -204,16 +206,17 @@ def differences(read):
         elif again != text:
             found.append(f"{path}: its table isn't that of {LIST} (tests/names.py --write makes it)")
     for path, what, pattern, wanted in by_hand(groups):
-        has = pairs(pattern, read(path) or "")
+        text = read(path)
+        if text is None:
+            found += [] if path == NUMBERED else [f"{path}: there is no such file"]
+            continue
+        has = pairs(pattern, text)
         for row in wanted:
             if row not in has:
                 found.append(f"{path}: {what}: it lacks {row}")
         for row in has:
             if row not in wanted:
                 found.append(f"{path}: {what}: {row} isn't in {LIST}")
-    for row in page(groups):
-        if row + "\n" not in read("docs/GRAMMAR.md"):
-            found.append(f"docs/GRAMMAR.md: it lacks {row}")
     return found
 
 
@@ -237,7 +240,7 @@ def spans(path, text, groups):
     if path in TABLES:
         begin = text.index(f"names.py: {TABLES[path]}")
         end = text.index("names.py: end")
-    for rows in groups.values() if path in TABLES else [groups["message"]] if path.endswith(".md") else []:
+    for rows in groups.values() if path in TABLES else []:
         places = [(text.find(row.text, begin, end), len(row.text)) for row in rows if len(row.text) > 3]
         places = sorted({(at, at + length) for at, length in places if at >= 0})
         yield from (it for it in zip(places, places[1:]) if it[0][1] <= it[1][0])
@@ -251,8 +254,8 @@ def not_refused():
     """The files in which two names can be exchanged without a difference."""
     groups = rows_of(read_file(LIST))
     found = []
-    for path in [*TABLES, *dict.fromkeys(it[0] for it in by_hand(groups)), "docs/GRAMMAR.md"]:
-        text = read_file(path)
+    for path in [*TABLES, *dict.fromkeys(it[0] for it in by_hand(groups))]:
+        text = read_file(path) or ""
         for first, second in spans(path, text, groups):
             other = swapped(text, first, second)
             if not differences(lambda asked: other if asked == path else read_file(asked)):

@@ -19,13 +19,8 @@ there() {
         fuzz) command -v clang && command -v ld.lld ;;
     esac > /dev/null 2>&1
 }
-# module NAME: some Python that the tests use has it
-module() {
-    for python in python3 /usr/bin/python3; do
-        "$python" -c "import importlib.util, sys; sys.exit(not importlib.util.find_spec('$1'))" 2> /dev/null && return
-    done
-    return 1
-}
+# module NAME: the system's Python has it, for which the packages are
+module() { /usr/bin/python3 -c "import importlib.util, sys; sys.exit(not importlib.util.find_spec('$1'))"; }
 headers() { /usr/bin/python3 -c 'import sysconfig; print(sysconfig.get_paths()["include"])'; }
 
 packages=(

@@ -7,6 +7,7 @@ use Rattle.wkt_types.specs.declared.convert.ConvertError.TheVariants.{PointConve
 use Rattle.wkt_read.specs.Front.{HasNoFront}
 use Rattle.wkt_read.specs.Answered.{IsFront, HasBadNumber}
 use Rattle.wkt_read.specs.Items.{bad_number}
+use Rattle.wkt_read.specs.Refusal.{IsTextRefused}
 use Rattle.wkt_convert.specs.Kinds.{FlatKind, only_flat}
 
 module _ {T : Type 0} (read : List ℕ → Option T) where
@@ -14,9 +15,9 @@ module _ {T : Type 0} (read : List ℕ → Option T) where
   abbrev pub FrontGives : {X : Type 0} → (Tree T → Outcome X) → List ℕ → Outcome X → Type 0
   FrontGives turn text o = (t : Tree T) × IsFront read text t × (turn t ≡ o)
 
-  -- The text has no front, and the message on a bad number comes only where the number type refuses some number of it.
+  -- The text has no front, and is refused with this message; that on a bad number comes only where the number type refuses some number of it.
   abbrev pub IsNoText : List ℕ → List ℕ → Type 0
-  IsNoText text message = HasNoFront read text × (message ≡ bad_number → HasBadNumber read text)
+  IsNoText text message = HasNoFront read text × IsTextRefused read text message × (message ≡ bad_number → HasBadNumber read text)
 
   -- A text without a front is refused, and any other has the outcome of its front, out of memory aside; `see` is what the answer holds.
   abbrev pub TextAnswers : {X R : Type 0} → (R → X) → (Tree T → Outcome X) → List ℕ → Result R ConvertError → Type 0

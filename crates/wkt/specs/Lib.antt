@@ -47,15 +47,25 @@ pub use Rattle.wkt_read.specs.Items
 pub use Rattle.wkt_read.specs.Stream
 pub use Rattle.wkt_read.specs.Ahead
 pub use Rattle.wkt_read.specs.Answered
+pub use Rattle.wkt_read.specs.Messages
+pub use Rattle.wkt_read.specs.Refusal
 pub use Rattle.wkt_read.specs.Header
 pub use Rattle.wkt_read.specs.Infer
 pub use Rattle.wkt_read.specs.Headline
 pub use Rattle.wkt_read.specs.Laws as ReadLaws
 pub use Rattle.wkt_read.specs.OldForms
 pub use Rattle.wkt_read.specs.declared.error.ReadError
+pub use Rattle.wkt_read.specs.declared.messages.Message
 pub use Rattle.wkt_read.specs.declared.infer.InferError
+-- canonical texts, and geometries as events
+pub use Rattle.wkt_events.specs.Canonical as CanonicalText
+pub use Rattle.wkt_events.specs.LongTexts
+pub use Rattle.wkt_events.specs.Makers
+pub use Rattle.wkt_events.specs.Events
+pub use Rattle.wkt_events.specs.Walking
 -- where a text is refused
 pub use Rattle.wkt_explain.specs.Explained
+pub use Rattle.wkt_explain.specs.Table
 pub use Rattle.wkt_explain.specs.Words
 pub use Rattle.wkt_explain.specs.declared.expected.Expected
 pub use Rattle.wkt_explain.specs.declared.explanation.Explanation

@@ -5,6 +5,7 @@ ghost use Rattle.wkt_types.specs.Tree.{tree};
 ghost use Rattle.wkt_read.specs.Items.{bad_number};
 ghost use Rattle.wkt_read.specs.Front.{Front, HasNoFront, NeedsNoMemory};
 ghost use Rattle.wkt_read.specs.Answered.{IsFront, HasBadNumber, OnText, OnMessage};
+ghost use Rattle.wkt_read.specs.Refusal.{IsTextRefused, IfText};
 ghost use Rattle.wkt_types.specs.Outcome.{Answers, value};
 ghost use Rattle.wkt_flat.specs.Tree.{Flat, flat_tree};
 ghost use Rattle.wkt_flat.specs.Equal.{coord_eq};
@@ -55,6 +56,7 @@ pub fn wkt_from_value<T: WktNum>(
     ensures found { AsText (text_of value.now) result (λ text r. IfOk r (λ w. IsFront T.read text (tree w))) }
     ensures refused { AsText (text_of value.now) result (λ text r. OnText r (HasNoFront T.read text)) }
     ensures bad { AsText (text_of value.now) result (λ text r. OnMessage r bad_number (HasBadNumber T.read text)) }
+    ensures refusal { AsText (text_of value.now) result (λ text r. IfText r (IsTextRefused T.read text)) }
     ensures free { AsText (text_of value.now) result
         (λ text r. (v end : _) → Front T.read text v end → NeedsNoMemory v → IsOk r) }
 {

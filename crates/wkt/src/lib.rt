@@ -16,7 +16,7 @@
 //! [`read_whole`].
 //!
 //! # Explain
-//! Where and why a text has no geometry at its front says [`explain`]:
+//! Where and why a text has no geometry at its front says [`refusal`], and [`explain`] to be displayed:
 //!
 //! ```text
 //! POINT(1)
@@ -67,6 +67,7 @@
 #![tactic(auto)]
 
 mod any_error;
+mod canonical;
 mod flat_laws;
 mod from_text;
 mod json;
@@ -78,15 +79,17 @@ mod same;
 mod whole;
 
 pub use any_error::AnyError;
+pub use canonical::canonical_text;
 pub use from_text::TryFromWkt;
 pub use json::{
     ValueError, deserialize_geometry, deserialize_point, deserialize_wkt, wkt_from_value,
 };
 pub use same::same_geometry;
 pub use whole::{WholeError, read_whole};
-pub use wkt_explain::{Expected, Explanation, explain};
+pub use wkt_events::{Written, canonical_into, front_end};
+pub use wkt_explain::{Expected, Explanation, Refusal, explain, refusal};
 pub use wkt_num::{Decimal, WktNum};
-pub use wkt_read::{FromWktStr, InferError, ReadError, infer_type};
+pub use wkt_read::{FromWktStr, InferError, Message, ReadError, infer_type};
 pub use wkt_to_wkt::{ToWkt, ToWktError};
 
 /// A geometry as well-known text has it: with up to four numbers a coordinate, of any of the seven kinds.
@@ -181,6 +184,12 @@ pub mod tokenizer {
     pub use wkt_read::{PeekableTokens, Token, Tokens};
 }
 
+/// A geometry as events, in the order of its text: what a caller makes of a text that isn't read as a geometry. No memory
+/// is taken but what a [`Builder`](events::Builder) takes, and no stack for nesting.
+pub mod events {
+    pub use wkt_events::{At, Builder, NoRoom, Part, geometry, read_number_at, write_canonical};
+}
+
 /// Geometries out of JSON, where each is a string of well-known text.
 ///
 /// ```text
@@ -203,6 +212,7 @@ pub mod laws {
         back_is_read, corners_are_in_order, geometry_comes_back, members_are_listed,
         plain_reads_back,
     };
+    pub use wkt_events::laws::texts_are_short;
     pub use wkt_explain::laws::{one_refusal, refused_has_no_front};
     pub use wkt_flat::laws::{flat_is_writable, rings_are_closed};
     pub use wkt_num::earlier::{finer_keeps, wider_keeps};
@@ -210,7 +220,7 @@ pub mod laws {
     pub use wkt_read::earlier::old_forms;
     pub use wkt_read::laws::{
         canon_once, dead_for_good, few_lexemes, front_is_writable, front_of_lexemes, header_names,
-        headline, one_form, one_front, one_reading, one_split, one_text, one_value_text, one_wkt,
+        headline, one_form, one_front, one_message, one_reading, one_split, one_text, one_value_text, one_wkt,
         read_values_are_writable, reads_back, stable_front, value_reads_back, whole_characters,
     };
     pub use wkt_to_wkt::laws::{flat_and_back, plain_comes_back};

@@ -6,6 +6,7 @@ ghost use Rattle.wkt_types.specs.Tree.{tree};
 ghost use Rattle.wkt_read.specs.Items.{bad_number};
 ghost use Rattle.wkt_read.specs.Front.{Front, HasNoFront, NeedsNoMemory};
 ghost use Rattle.wkt_read.specs.Answered.{HasBadNumber, OnText, OnMessage};
+ghost use Rattle.wkt_read.specs.Refusal.{IsTextRefused, IfText};
 ghost use Rattle.wkt.specs.WholeText.{IsWhole, HasRest, OnUnread, OnRest};
 
 use std::alloc::Global;
@@ -56,6 +57,7 @@ pub fn read_whole<T: WktNum>(alloc: Global, text: &str) -> Result<Wkt<T>, WholeE
     ensures boundary { OnRest result (IsCharBoundary text.now) }
     ensures no_front { OnUnread result (λ r. OnText r (HasNoFront T.read text.now)) }
     ensures bad { OnUnread result (λ r. OnMessage r bad_number (HasBadNumber T.read text.now)) }
+    ensures refusal { OnUnread result (λ r. IfText r (IsTextRefused T.read text.now)) }
     ensures free { (v end : _) → Front T.read text.now v end → NeedsNoMemory v → OnUnread result (λ r. ⊥) }
 {
     match Wkt::<T>::read_front(alloc, text) {

@@ -5,10 +5,13 @@
 ghost use Rattle.std.specs.Prelude.{◌≡◌, IfOk, IsErr};
 ghost use Rattle.std.specs.String.{string_bytes};
 ghost use Rattle.wkt_read.specs.Front.{HasNoFront};
-ghost use Rattle.wkt_answers.specs.Answer.{IsTextOfFront, OnMemory, OnRefused};
+ghost use Rattle.wkt.specs.CanonicalText.{IsCanonical};
+ghost use Rattle.wkt_answers.specs.Answer.{OnMemory, OnRefused};
 
+mod canonical_calls;
 mod flat_calls;
 
+use canonical_calls::{is_canonical_alike, is_refused_alike};
 use flat_calls::flat_alike;
 use std::alloc::{AllocError, Global};
 use thiserror::Error;
@@ -17,7 +20,7 @@ use wkt::tokenizer::{PeekableTokens, Tokens};
 use wkt::types::{
     GeometryCollection, LineString, MultiLineString, MultiPoint, MultiPolygon, Polygon,
 };
-use wkt::{FromWktStr, InferError, ReadError, Wkt, WktNum, infer_type};
+use wkt::{FromWktStr, InferError, ReadError, Wkt, WktNum, front_end, infer_type};
 
 /// Why a text has no answer.
 #[derive(Debug, Drop, Error)]
@@ -39,12 +42,12 @@ pub enum AnswerError {
 /// # Errors
 /// `Refused` where the text has no geometry at its front; `Differ` where two calls disagree; `Memory`.
 pub fn answer<T: WktNum>(alloc: Global, text: &str) -> Result<String, AnswerError>
-    ensures text { IfOk result (λ s. IsTextOfFront T.read T.num text.now (string_bytes s)) }
+    ensures text { IfOk result (λ s. IsCanonical T.read T.num text.now (string_bytes s)) }
     ensures no_front { OnRefused result (HasNoFront T.read text.now) }
 {
     let geometry = match Wkt::<T>::from_str(alloc, text) {
         Ok(geometry) => geometry,
-        Err(ReadError::Text(message)) => return Err(refused(alloc, text, message)),
+        Err(ReadError::Text(message)) => return Err(refused::<T>(alloc, text, message)),
         Err(ReadError::Memory(e)) => return Err(AnswerError::Memory(e)),
     };
     // No effect at run time. The proof reads that what was read can be written.
@@ -60,8 +63,14 @@ pub fn answer<T: WktNum>(alloc: Global, text: &str) -> Result<String, AnswerErro
     }
 }
 
-/// That the text is refused with that message, unless memory runs out where its kind is inferred.
-fn refused(alloc: Global, text: &str, message: &'static str) -> AnswerError {
+/// That the text is refused with that message, if the calls that build no geometry refuse it too, and unless memory runs
+/// out where its kind is inferred.
+fn refused<T: WktNum>(alloc: Global, text: &str, message: &'static str) -> AnswerError {
+    match is_refused_alike::<T>(alloc, text, message) {
+        Ok(true) => {}
+        Ok(false) => return AnswerError::Differ,
+        Err(e) => return AnswerError::Memory(e),
+    }
     match infer_type(alloc, text) {
         Err(InferError::Memory(e)) => AnswerError::Memory(e),
         _ => AnswerError::Refused(message),
@@ -93,6 +102,7 @@ fn all_alike<T: WktNum>(
     Ok(
         again_alike(alloc, geometry, answer)?
             && read_alike(alloc, text, geometry)?
+            && is_canonical_alike::<T>(alloc, text, answer)?
             && flat_alike(alloc, text, geometry)?,
     )
 }
@@ -111,7 +121,7 @@ fn again_alike<T: WktNum>(
 fn read_alike<T: WktNum>(alloc: Global, text: &str, geometry: &Wkt<T>) -> Result<bool, AllocError> {
     match end_by_text(alloc, text, geometry)? {
         None => Ok(false),
-        end => Ok(end_by_stream(alloc, text, geometry)? == end),
+        end => Ok(end_by_stream(alloc, text, geometry)? == end && front_end::<T>(text) == end),
     }
 }
 

@@ -4,7 +4,7 @@ use std::alloc::Global;
 use wkt::to_wkt::CountedText;
 use wkt::{AnyError, Decimal, WktNum};
 use wkt_answers::{answer, told};
-use wkt_odd::{Dash, Letter};
+use wkt_odd::{Dash, Letter, Long};
 
 /// What reading a text gives over that number type, if all calls agree.
 pub(crate) fn answer_of(alloc: Global, number: &str, text: &str) -> Result<String, AnyError> {
@@ -12,6 +12,7 @@ pub(crate) fn answer_of(alloc: Global, number: &str, text: &str) -> Result<Strin
         "u8" => answered::<u8>(alloc, text),
         "Letter" => answered::<Letter>(alloc, text),
         "Dash" => answered::<Dash>(alloc, text),
+        "Long" => answered::<Long>(alloc, text),
         "Decimal<6>" => answered::<Number>(alloc, text),
         _ => Ok(String::from_str(alloc, "no such number type")?),
     }
@@ -36,6 +37,7 @@ pub(crate) fn number_of(alloc: Global, number: &str, text: &str) -> Result<Strin
         "i128" => printed::<i128>(alloc, text),
         "Letter" => printed::<Letter>(alloc, text),
         "Dash" => printed::<Dash>(alloc, text),
+        "Long" => printed::<Long>(alloc, text),
         _ => decimal_of(alloc, number, text),
     }
 }

@@ -4,6 +4,7 @@ use Rattle.std.specs.Prelude.{IsUtf8, IfSome, ◌⊎◌}
 use Rattle.std.specs.Str.{is_utf8}
 use Rattle.std.proofs.lemmas.Str.{IsUtf8-from_is_utf8, is_utf8-from_IsUtf8}
 use Rattle.std.proofs.lemmas.List.{take_more_set}
+use lib.Utf8.{encode}
 use Rattle.wkt_access.specs.Shapes.{shape_of}
 use Rattle.wkt_access.specs.Texts.{shape_text}
 use Rattle.wkt_read.specs.Front.{HasNoFront}
@@ -20,6 +21,10 @@ by-test : {N : Type 0} (read : List ℕ → Option N) (line : List ℕ) (b : Boo
 by-test read line true e h = inr (h (IsUtf8-from_is_utf8 line e))
 by-test read line false e h = inl (λ u. let q : false ≡ true = sym e ∙ is_utf8-from_IsUtf8 line u in cc)
 
+refused-utf8 : IsUtf8 (codes "refused")
+unfolding encode
+refused-utf8 = (codes "refused", (refl, refl))
+
 module _ {N : Type 0} (read : List ℕ → Option N) (num : N → List ℕ) where
   -- the front ends in the line
   pub end-in-line : (rest : List ℕ) (len : ℕ) (old new : List ℕ) (end n : ℕ) → HasWritten read num (before_feed rest) len old new end n → end ≤ length (before_feed rest)
@@ -33,6 +38,7 @@ module _ {N : Type 0} (read : List ℕ → Option N) (num : N → List ℕ) wher
   refused-line rest len old mid new taken n why kept written left = record {
     answer = codes "refused";
     is = inr (record { cause = why; refused = refl });
+    utf8 = refused-utf8;
     written = written ∙ ap (λ l. l ++ codes "refused\n") kept;
     left = left;
   }
@@ -70,6 +76,7 @@ module _ {N : Type 0} (read : List ℕ → Option N) (num : N → List ℕ) wher
     text-line line room ends = record {
       answer = shape_text num (shape_of h.value);
       is = inl (record { utf8 = line-text ends.utf8; value = h.value; end = end; front = h.front; text = refl });
+      utf8 = h.utf8;
       written = take_more_set new n 10 room ∙ ap (λ l. l ++ (10 ∷ [])) h.written ∙ append_assoc (take len old) (shape_text num (shape_of h.value)) (10 ∷ []);
       left = ends.after;
     }

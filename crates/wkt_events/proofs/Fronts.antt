@@ -1,5 +1,5 @@
 -- What a walk from a text's beginning says of the text's front.
-use Rattle.std.proofs.Common.{◌≡◌, ℕ, List, [], ◌∷◌, ◌++◌, length, sym, refl, ap, ◌∙◌, subst, append_assoc, arith, Option, Ok, Bool, IsUtf8}
+use Rattle.std.proofs.Common.{◌≡◌, ℕ, List, [], ◌∷◌, ◌++◌, length, sym, refl, ap, ◌∙◌, subst, append_assoc, arith, Option, Ok, Bool, false, IsUtf8}
 use Rattle.std.proofs.lemmas.List.{append_cancel_right}
 use Rattle.wkt_num.specs.Bytes.{Lexeme}
 use Rattle.wkt_access.specs.Values.{Value}
@@ -14,6 +14,7 @@ use Rattle.wkt_read.proofs.LawLemmas.Splits.{split_one}
 use Rattle.wkt_read.proofs.ParserLemmas.Free.{none_begins}
 use Rattle.wkt_read.proofs.ParserLemmas.Readings.{sound}
 use Rattle.wkt_read.proofs.TokenizerLemmas.Placings.{placed-split, placed-ends}
+use Rattle.wkt_events.specs.Canonical.{EndsFront}
 use Rattle.wkt_events.specs.Events.{events}
 use Rattle.wkt_events.specs.Left.{line_of, left, left_placed, Goes}
 use Rattle.wkt_events.specs.Makers.{Maker}
@@ -74,3 +75,11 @@ module _ {N : Type 0} (read : List ℕ → Option N) (feed : Bool) (text : List 
   none-of refuses utf8 =
       let (rest, e) = is-err (value_at read (length all) all) (refuses (utf8, omega arith) (length all) (omega arith)) in
       no-front (subst (NoneBegins read) (left-start feed text) (none_begins read (length all) all rest (omega arith) e))
+
+-- What a walk over a whole text says of it.
+module _ {N : Type 0} (read : List ℕ → Option N) (text bytes : List ℕ) (same : bytes ≡ text) where
+  pub ends-front : {S : Type 0} (maker : Maker N S) (start t : S) (to : ℕ) → Gives maker false bytes (value_at read) events 0 start to t → EndsFront read text to
+  ends-front maker start t to g = (g.value, subst (λ l. Front read l g.value to) same (front-of read false bytes maker start t to g))
+
+  pub ends-none : IsUtf8 text → Refuses false bytes (value_at read) 0 → HasNoFront read text
+  ends-none utf8 refuses = subst (HasNoFront read) same (none-of read false bytes refuses (subst IsUtf8 (sym same) utf8))

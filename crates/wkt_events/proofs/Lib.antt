@@ -6,6 +6,7 @@ pub mod Collections
 pub mod Coordinates
 pub mod EventTexts
 pub mod Feeds
+pub mod FirstBytes
 pub mod FirstWord
 pub mod Framed
 pub mod Fronts
@@ -21,15 +22,17 @@ pub mod Legibles
 pub mod LineTexts
 pub mod Listing
 pub mod Members
+pub mod NamedHeads
 pub mod Nests
+pub mod Nothings
 pub mod NextWords
 pub mod PenNumbers
-pub mod PointHead
 pub mod ReadNumbers
 pub mod Rooms
 pub mod RunEnds
 pub mod RunTexts
 pub mod Runs
+pub mod ShortTexts
 pub mod Stores
 pub mod TextsUtf8
 pub mod Utf8Front

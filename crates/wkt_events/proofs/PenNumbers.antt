@@ -1,5 +1,5 @@
 -- What a pen's number is among the lexemes that are left.
-use Rattle.std.proofs.Common.{zero, suc, ◌*◌, ◌/◌, ◌≡◌, ◌≢◌, ℕ, ◌+◌, ◌-◌, ◌<◌, ◌≤◌, List, [], ◌∷◌, ◌++◌, length, get_or, slice_range, Option, Some, None, IfSome, IfNone, IsTrue, Bool, true, false, inl, inr, refl, sym, ap, subst, ◌∙◌, arith, if◌then◌else◌, ◌||◌, ◌==◌}
+use Rattle.std.proofs.Common.{zero, suc, ◌*◌, ◌/◌, ◌≡◌, ◌≢◌, ℕ, ◌+◌, ◌-◌, ◌<◌, ◌≤◌, List, [], ◌∷◌, ◌++◌, length, get_or, slice_range, Option, Some, None, IfSome, IfNone, IsTrue, IsUtf8, Bool, true, false, inl, inr, refl, sym, ap, subst, ◌∙◌, arith, if◌then◌else◌, ◌||◌, ◌==◌}
 use Rattle.std.specs.Result.{IsErr}
 use Rattle.std.proofs.lemmas.Bool.{cases_lt}
 use Rattle.std.proofs.lemmas.List.{append-nil}
@@ -16,6 +16,7 @@ use Rattle.wkt_events.specs.Numbers.{IsNumberAt, NoNumber, Numbered, ReadsNumber
 use Rattle.wkt_events.specs.PenMaker.{pen_maker, wrote_of, wrote_more}
 use Rattle.wkt_events.proofs.Lefts.{takes-mark, takes-run, takes-left, left-nul}
 use Rattle.wkt_events.proofs.RunTexts.{number-text}
+use Rattle.wkt_events.proofs.Runs.{run-some}
 
 -- a run that begins as a number is one
 number-lexeme : (run : List ℕ) → 0 < length run → IsTrue (starts_number (get_or run 0 0)) → lexeme_of run ≡ Num (without_plus run)
@@ -68,14 +69,14 @@ module _ {N : Type 0} (read : List ℕ → Option N) (num : N → List ℕ) (fee
   first end order = get_or-between text at end 0 0 (omega arith) ∙ ap (λ (i : ℕ). get_or text i 0) (omega arith)
 
   -- a number is the lexeme that comes next
-  takes-number : (end : ℕ) (x : N) → IsNumberAt read text at end x → TakesOne feed text at (Num (without_plus (slice_range text at end))) end
+  pub takes-number : (end : ℕ) (x : N) → IsNumberAt read text at end x → TakesOne feed text at (Num (without_plus (slice_range text at end))) end
   takes-number end x h =
       let long : length (slice_range text at end) ≡ end - at = length-between text at end h.ends.inside in
       let is : lexeme_of (slice_range text at end) ≡ Num (without_plus (slice_range text at end)) = number-lexeme (slice_range text at end) (omega (arith, long, h.order)) (subst (λ b. IsTrue (starts_number b)) (sym (first end h.order)) h.begins) in
       subst (λ l. TakesOne feed text at l end) is (takes-run feed text at end h.ends h.order)
 
   -- where there is none, none is read
-  refuses : Legible feed text at → class_in feed (get_or text at 0) ≢ White → NoNumber read text at → IsErr (number_at read (left feed text at))
+  pub refuses : Legible feed text at → class_in feed (get_or text at 0) ≢ White → NoNumber read text at → IsErr (number_at read (left feed text at))
   unfolding number_at
   refuses legible other h = go (class_in feed (get_or text at 0)) refl (mark-in feed (get_or text at 0))
     where
@@ -115,13 +116,25 @@ module _ {N : Type 0} (read : List ℕ → Option N) (num : N → List ℕ) (fee
 
   -- What the pen gives is the number at a place of a coordinate.
   pub gives-number : (place count : ℕ) (self pen : Pen N) (result : Option (At (Pen N))) → class_in feed (get_or text at 0) ≢ White → Extends self (separator place) pen
-      → IfSome result (λ r. Numbered read num text at pen r.made r.at) → IfNone result (NoNumber read text at) → GivesNumberIfAny (pen_maker num) feed text read place count at self result
+      → IfSome result (λ r. Numbered read num text at pen r.made r.at) → IfNone result (NoNumber read text at) → GivesNumberIfAny (pen_maker read num) feed text read place count at self result
   gives-number place count self pen (Some r) other before some none = record {
     run = without_plus (slice_range text at r.at);
     number = some.number;
     takes = takes-number r.at some.number some.there;
     reads = some.there.reads;
-    makes = subst (λ l. Wrote self l r.made) (sym (append-nil (separator place ++ num some.number))) (wrote_more self pen r.made (separator place) (num some.number) (wrote_of self pen (separator place) before) some.wrote);
+    makes = record {
+      wrote = subst (λ l. Wrote self l r.made) (sym (append-nil (separator place ++ num some.number))) (wrote_more self pen r.made (separator place) (num some.number) (wrote_of self pen (separator place) before) some.wrote);
+      texts = λ e. (some.utf8 (omega (arith, e, before.whole)), tt);
+      stuck = λ less.
+          let inside = some.there.ends.inside in let order = some.there.order in
+          record {
+            run = slice_range text at r.at;
+            number = some.number;
+            some = run-some text at r.at order inside;
+            reads = some.there.reads;
+            long = omega (arith, some.stuck (omega (arith, less, before.whole)), length-between text at r.at inside);
+          };
+    };
   }
   gives-number place count self pen None other before some none = λ l. refuses l other none
 
@@ -140,21 +153,36 @@ leaves-number read num text at place self pen (Some r) before some = λ m most h
 
 module _ {N : Type 0} (read : List ℕ → Option N) (num : N → List ℕ) (text : List ℕ) (at end : ℕ) (x : N) (there : IsNumberAt read text at end x) (self pen : Pen N) where
   -- a number whose text left room for what follows
-  pub fitting-number : Extends self (num x) pen → pen.len ≤ length pen.out.now → length text - end + 33 ≤ (length pen.out.now - pen.len) / 2 → Numbered read num text at self pen end
-  fitting-number h within room = record {
+  pub fitting-number : Extends self (num x) pen → IsUtf8 (num x) → pen.len ≤ length pen.out.now → length text - end + 33 ≤ (length pen.out.now - pen.len) / 2 → Numbered read num text at self pen end
+  fitting-number h utf8 within room = record {
     number = x;
     there = there;
     wrote = wrote_of self pen (num x) h;
+    utf8 = λ _. utf8;
+    stuck = λ less. absurd (omega (arith, less, h.whole));
     room = λ m most _. omega (arith, most, within, room);
   }
 
+  -- a number whose text is shorter than twice its run
+  pub short-number : Extends self (num x) pen → IsUtf8 (num x) → pen.len < self.len + 2 * (end - at) → Numbered read num text at self pen end
+  short-number h utf8 short = record {
+    number = x;
+    there = there;
+    wrote = wrote_of self pen (num x) h;
+    utf8 = λ _. utf8;
+    stuck = λ less. absurd (omega (arith, less, h.whole));
+    room = λ m most f. omega (arith, most, f, short, h.whole);
+  }
+
   -- one that did not
-  pub stuck-number : IsStuck (length self.out.now) pen → Numbered read num text at self pen end
-  stuck-number stuck =
+  pub stuck-number : IsStuck (length self.out.now) pen → 2 * (end - at) ≤ length (num x) → Numbered read num text at self pen end
+  stuck-number stuck long =
       let less = stuck.less in let none = stuck.none in let order = there.order in
       record {
         number = x;
         there = there;
         wrote = record { shorter = omega (arith, less); unless = λ e. absurd (omega (arith, e, less)) };
+        utf8 = λ e. absurd (omega (arith, e, less));
+        stuck = λ _. long;
         room = λ m most h. omega (arith, h, less, none, order);
       }

@@ -1,44 +1,26 @@
 -- The text of a value that was read is UTF-8, where that of each number is.
-use Rattle.std.proofs.Common.{◌≡◌, ℕ, zero, suc, List, [], ◌∷◌, ◌++◌, length, take, refl, sym, ap, ◌∙◌, subst, arith, Option, Some, None, IsUtf8, inl, inr}
-use Rattle.std.specs.Prelude.{◌⊎◌, codes, flat_map, option_to_list}
+use Rattle.std.proofs.Common.{◌≡◌, ℕ, zero, suc, List, [], ◌∷◌, ◌++◌, take, refl, Option, Some, None, IsUtf8, inl, inr}
+use Rattle.std.specs.Prelude.{codes, option_to_list}
 use Rattle.std.specs.List.{AllByRecursion}
-use Rattle.std.proofs.lemmas.Str.{IsUtf8-nil, IsUtf8-append, IsUtf8-from_ascii}
+use Rattle.std.proofs.lemmas.Str.{IsUtf8-nil, IsUtf8-append}
 use lib.Utf8.{encode}
-use Rattle.wkt_num.specs.Bytes.{Lexeme, Open, Close, Comma, Word, Num}
+use Rattle.wkt_num.specs.Bytes.{Lexeme}
 use Rattle.wkt_access.specs.declared.dimensions.Dimension.{Dimension}
 use Rattle.wkt_access.specs.declared.dimensions.Dimension.TheVariants.{XY, XYZ, XYM, XYZM}
 use Rattle.wkt_access.specs.Values.{size, Value, Values}
 use Rattle.wkt_access.specs.Texts.{suffix}
 use Rattle.wkt_types.specs.declared.geometry_type.GeometryType.{GeometryType}
 use Rattle.wkt_types.specs.declared.geometry_type.GeometryType.TheVariants as kind
-use Rattle.wkt_read.specs.Grammar.{More, Many, Listed, Perhaps, Within, WithHeader, Numbers, Coord, Ring, Poly, Member, StandFor, Geometries, Further}
+use Rattle.wkt_read.specs.Grammar.{More, Listed, Perhaps, Numbers, Coord, Ring, Poly, Member, StandFor, Further}
 use Rattle.wkt_events.specs.declared.builder.Part.{Part}
 use Rattle.wkt_events.specs.declared.builder.Part.TheVariants as part
-use Rattle.wkt_events.specs.Events.{Event, further, inner, listed, numbers, coordinate, line, polygon, member, header, body, bodies, events}
+use Rattle.wkt_events.specs.Events.{Event, further, listed, numbers, coordinate, line, polygon, member, bodies, events}
 use Rattle.wkt_events.specs.Written.{kind_text, empty_text, separator}
-use Rattle.wkt_events.specs.PenMaker.{event_text, events_text}
-
--- The fact holds of each number of the events.
-abbrev pub EachNumber : {N : Type 0} → (N → Type 0) → List (Event N) → Type 0
-EachNumber P [] = Unit {0}
-EachNumber P (Event.Number place count x ∷ es) = P x × EachNumber P es
-EachNumber P (Event.Header k d ∷ es) = EachNumber P es
-EachNumber P (Event.Open p ∷ es) = EachNumber P es
-EachNumber P (Event.Comma p ∷ es) = EachNumber P es
-EachNumber P (Event.Close p ∷ es) = EachNumber P es
-EachNumber P (Event.Empty p ∷ es) = EachNumber P es
-EachNumber P (Event.Hollow p count rings ∷ es) = EachNumber P es
+use Rattle.wkt_events.specs.PenMaker.{events_text, EachNumber, each_append}
 
 module _ {N : Type 0} (P : N → Type 0) where
   each-append : (es fs : List (Event N)) → EachNumber P es → EachNumber P fs → EachNumber P (es ++ fs)
-  each-append [] fs h k = k
-  each-append (Event.Number place count x ∷ es) fs h k = (h.0, each-append es fs h.1 k)
-  each-append (Event.Header l d ∷ es) fs h k = each-append es fs h k
-  each-append (Event.Open p ∷ es) fs h k = each-append es fs h k
-  each-append (Event.Comma p ∷ es) fs h k = each-append es fs h k
-  each-append (Event.Close p ∷ es) fs h k = each-append es fs h k
-  each-append (Event.Empty p ∷ es) fs h k = each-append es fs h k
-  each-append (Event.Hollow p count rings ∷ es) fs h k = each-append es fs h k
+  each-append = each_append P
 
   all-take : (n : ℕ) (xs : List N) → AllByRecursion P xs → AllByRecursion P (take n xs)
   all-take zero xs h = tt

@@ -1,5 +1,5 @@
 -- Runs of bytes at places of a text, and the numbers that they are.
-use Rattle.std.proofs.Common.{◌≡◌, ◌≢◌, ℕ, ◌+◌, ◌-◌, ◌*◌, ◌<◌, ◌≤◌, List, [], ◌∷◌, length, get_or, take, drop, slice_range, Option, Some, None, IfSome, IsTrue, true, false, cond, inl, inr, ◌||◌, ◌==◌, refl, sym, ap, ◌∙◌, subst, arith}
+use Rattle.std.proofs.Common.{◌≡◌, ◌≢◌, ℕ, ◌+◌, ◌-◌, ◌*◌, ◌<◌, ◌≤◌, List, [], ◌∷◌, length, get_or, take, drop, slice_range, Option, Some, None, IfSome, IsTrue, IsUtf8, true, false, cond, inl, inr, ◌||◌, ◌==◌, refl, sym, ap, ◌∙◌, subst, arith}
 use Rattle.std.proofs.lemmas.List.{take_rest, get_or-drop, get_or-take, drop-take, length-drop, drop-drop, length-take-le}
 use Rattle.std.proofs.lemmas.List.Edits.{length-between, get_or-between}
 use Rattle.std.proofs.lemmas.Bool.{cases_eq, ne_eqb, eq-eqb}
@@ -103,9 +103,9 @@ less-twice read num text at end x order inside e law =
     omega (arith, less, length-between text at end inside)
 
 -- A number that keeps its text was written as it stands.
-pub kept-numbered : {T : Type 0} (read : List ℕ → Option T) (num : T → List ℕ) (text : List ℕ) (at end kept : ℕ) (before after : Pen T) → at ≤ length text
+pub kept-numbered : {T : Type 0} (read : List ℕ → Option T) (num : T → List ℕ) (utf8 : (run : List ℕ) (x : T) → read run ≡ Some x → IsUtf8 (num x)) (text : List ℕ) (at end kept : ℕ) (before after : Pen T) → at ≤ length text
     → KeepsText read num (take (length text - at) (drop at text)) end kept → Extends before (take kept (take (length text - at) (drop at text))) after → Numbered read num text at before after (at + end)
-kept-numbered read num text at end kept before after within keeps written =
+kept-numbered read num utf8 text at end kept before after within keeps written =
     let rest : take (length text - at) (drop at text) ≡ drop at text = take_rest text at in
     let k = subst (λ l. KeepsText read num l end kept) rest keeps in
     let there = kept-there read num text at end kept (at + end) within refl k in
@@ -114,5 +114,7 @@ kept-numbered read num text at end kept before after within keeps written =
       number = k.number;
       there = there;
       wrote = wrote_of before after (num k.number) wrote;
+      utf8 = λ _. utf8 (take end (drop at text)) k.number k.reads;
+      stuck = λ less. absurd (omega (arith, less, wrote.whole));
       room = λ m most h. omega (arith, h, there.order, wrote.len, wrote.whole, k.shorter, ap length k.text, length-take-le kept (drop at text) (omega (arith, k.shorter, k.within)));
     }

@@ -6,6 +6,7 @@ use Rattle.wkt_access.specs.Texts.{shape_text}
 use Rattle.wkt_read.specs.Front.{Front, HasNoFront}
 use Rattle.wkt_events.specs.Left.{before_feed}
 use Rattle.wkt_events.specs.Feeds.{after_feed}
+use Rattle.wkt_events.specs.LongTexts.{HasLongText}
 use Rattle.wkt_num.specs.Number.{ReadsTexts}
 use Rattle.wkt_events.specs.declared.lines.Answer.{Answer}
 use Rattle.wkt_events.specs.declared.canonical.NoRoom.{NoRoom}
@@ -28,17 +29,18 @@ module _ {N : Type 0} (read : List ℕ → Option N) (num : N → List ℕ) wher
   abbrev pub IsAnswer : List ℕ → List ℕ → Type 0
   IsAnswer line answer = IsText line answer ⊎ IsRefusedLine line answer
 
-  -- The first line is answered behind the first `len` bytes, up to `n`, and what stands behind it is left.
+  -- The first line is answered behind the first `len` bytes, up to `n`, in UTF-8, and what stands behind it is left.
   pub record AnswersLine (rest : List ℕ) (len : ℕ) (old new : List ℕ) (taken n : ℕ) : Type 0 where
     pub answer : List ℕ
     pub is : IsAnswer (before_feed rest) answer
+    pub utf8 : IsUtf8 answer
     pub written : take n new ≡ take len old ++ (answer ++ 10 ∷ [])
     pub left : drop taken rest ≡ after_feed rest
 
-  -- That, or there was no room for it.
+  -- That, or a number's text was too long.
   abbrev pub AnswersIfRoom : List ℕ → ℕ → List ℕ → List ℕ → Result Answer NoRoom → Type 0
   AnswersIfRoom rest len old new (Ok a) = AnswersLine rest len old new a.taken a.len
-  AnswersIfRoom rest len old new (Err e) = Unit {0}
+  AnswersIfRoom rest len old new (Err e) = HasLongText read num
 
 -- What holds of an answer.
 abbrev pub IfAnswered : Result Answer NoRoom → (Answer → Type 0) → Type 0

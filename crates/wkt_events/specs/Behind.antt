@@ -1,5 +1,5 @@
 -- What stands behind a kind word. Only private contracts cite this file.
-use Rattle.std.specs.Prelude.{◌≡◌, ℕ, ◌+◌, ◌≤◌, List, [], ◌∷◌, Option, Some, None, Ok, Bool, if◌then◌else◌}
+use Rattle.std.specs.Prelude.{◌≡◌, ◌⊎◌, ℕ, ◌+◌, ◌≤◌, List, get_or, Option, Some, None, Ok, Bool, if◌then◌else◌}
 use Rattle.std.specs.Result.{IsErr}
 use Rattle.wkt_access.specs.declared.dimensions.Dimension.{Dimension}
 use Rattle.wkt_types.specs.declared.geometry_type.GeometryType.{GeometryType}
@@ -27,8 +27,6 @@ abbrev pub GivesBehindIfAny : {N : Type 0} → (List ℕ → Option N) → Geome
 GivesBehindIfAny read kind joined feed text at (Some h) = GivesBehind read kind joined feed text at h
 GivesBehindIfAny read kind joined feed text at None = IsErr (behind_at read kind joined (left feed text at))
 
--- The bytes begin with these.
-abbrev pub BeginsBytes : List ℕ → List ℕ → Type 0
-BeginsBytes [] bytes = Unit {0}
-BeginsBytes (w ∷ word) [] = ⊥
-BeginsBytes (w ∷ word) (b ∷ bytes) = (b ≡ w) × BeginsBytes word bytes
+-- A parenthesis stands there, or a space and a parenthesis, and the parenthesis ends at `to`.
+abbrev pub OpensThere : List ℕ → ℕ → ℕ → Type 0
+OpensThere bytes at to = ((get_or bytes at 0 ≡ 40) × (to ≡ at + 1)) ⊎ ((get_or bytes at 0 ≡ 32) × (get_or bytes (at + 1) 0 ≡ 40) × (to ≡ at + 2))

@@ -7,12 +7,13 @@ pub mod Heads
 pub mod Behind
 pub mod Whole
 pub mod Numbers
+pub mod LongTexts
 pub mod PenMaker
 pub mod Plus
 pub mod Spaces
 pub mod Written
 pub mod Canonical
+pub mod NothingMaker
 pub mod Feeds
 pub mod Through
-pub mod ReadTexts
 pub mod Answers

@@ -16,17 +16,23 @@ pub record IsNumberAt {T : Type 0} (read : List ℕ → Option T) (text : List �
   pub begins : IsTrue (starts_number (get_or text at 0))
   pub reads : read (without_plus (slice_range text at end)) ≡ Some x
 
+-- A number stands there up to `end`.
+abbrev pub EndsNumber : {T : Type 0} → (List ℕ → Option T) → List ℕ → ℕ → ℕ → Type 0
+EndsNumber {T} read text at end = (x : T) × IsNumberAt read text at end x
+
 -- A run ends at `end`, or none begins at `at`, and no number that is read stands there, if the run is UTF-8.
 pub record NoNumber {T : Type 0} (read : List ℕ → Option T) (text : List ℕ) (at : ℕ) : Type 0 where
   pub end : ℕ
   pub ends : IsRunEnd text at end
   pub none : at < end → IsTrue (starts_number (get_or text at 0)) → IsUtf8 (without_plus (slice_range text at end)) → read (without_plus (slice_range text at end)) ≡ None
 
--- A number stands there up to `end`, and its text was written, unless the pen is stuck. Room for what follows is left, and for a byte more than was taken.
+-- A number stands there up to `end`, and its text was written and is UTF-8, unless the pen is stuck: then the text is at least twice as long as what it was read from. Room for what follows is left, and for a byte more than was taken.
 pub record Numbered {T : Type 0} (read : List ℕ → Option T) (num : T → List ℕ) (text : List ℕ) (at : ℕ) (before after : Pen T) (end : ℕ) : Type 0 where
   pub number : T
   pub there : IsNumberAt read text at end number
   pub wrote : Wrote before (num number) after
+  pub utf8 : length after.out.now ≡ length before.out.now → IsUtf8 (num number)
+  pub stuck : length after.out.now < length before.out.now → 2 * (end - at) ≤ length (num number)
   pub room : (m : ℕ) → m ≤ 2 * (length text - end) + 1 → before.len + m + (2 * (end - at) - 1) + 64 ≤ length before.out.now → after.len + m + 64 ≤ length after.out.now
 
 -- The number that comes next, and its end; or none can be read there.

@@ -1,15 +1,49 @@
 //! The canonical text of what a text begins with.
 ghost use Rattle.std.specs.Prelude.{◌≡◌, ◌+◌, ◌*◌, ◌≤◌, length, take};
-ghost use Rattle.wkt_events.specs.Canonical.{WritesCanonical, WritesFront, LeavesRoom};
+ghost use Rattle.wkt_events.specs.Canonical.{WritesCanonical, WritesFront, WritesInto, LeavesRoom};
 
 use crate::text::Pen;
-use wkt_num::WktNum;
 use crate::through::{Next, write_next};
 use std::marker::PhantomData;
+use wkt_num::WktNum;
 
-/// A number's text is longer than twice what it was read from, and there was no room for it. More room may do.
+/// A number's text is at least twice as long as what it was read from, and there was no room for it: more may do. Decimals
+/// and whole numbers have no such texts.
 #[derive(Debug, Clone, Copy)]
 pub struct NoRoom;
+
+/// Where a geometry ends in its text, and how long its canonical text is, in bytes.
+#[derive(Debug, Clone, Copy)]
+pub struct Written {
+    pub end: usize,
+    pub len: usize,
+}
+
+/// Writes the canonical text of the geometry at the front of the text to the front of the buffer; `None` where the text
+/// has none there. It takes no memory, and no stack for nesting. What the buffer holds behind the canonical text, or where
+/// nothing was written, means nothing.
+///
+/// ```text
+/// canonical_into::<Decimal<6>>("point (1.50 2) and more", &mut buffer) // `POINT(1.5 2)`: ends at 14, and has 12 bytes
+/// ```
+///
+/// # Errors
+/// [`NoRoom`]: the buffer is shorter than twice the text and 65 bytes more; or a number's text is at least twice as long
+/// as what it was read from.
+pub fn canonical_into<T: WktNum>(text: &str, buffer: &mut [u8]) -> Result<Option<Written>, NoRoom>
+    ensures writes { WritesInto T.read T.num text.now buffer.old buffer.new result }
+    ensures whole { length buffer.new ≡ length buffer.old }
+{
+    let room = buffer.len();
+    if room < 65 || (room - 65) / 2 < text.len() {
+        return Err(NoRoom);
+    }
+    match write_canonical::<T>(text, buffer, 0) {
+        Ok(Some((end, len))) => Ok(Some(Written { end, len })),
+        Ok(None) => Ok(None),
+        Err(NoRoom) => Err(NoRoom),
+    }
+}
 
 /// Writes the canonical text of the geometry that the text begins with behind the first `len` bytes, and answers where it
 /// ends in the text and how much is written then; `None` where the text begins with none. There is room for twice the

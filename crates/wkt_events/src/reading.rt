@@ -2,7 +2,7 @@
 ghost use Rattle.std.specs.Prelude.{◌≢◌, ◌≤◌, length, get_or, Bool, IfSome, IfNone};
 ghost use Rattle.wkt_num.specs.Bytes.{White};
 ghost use Rattle.wkt_events.specs.Left.{class_in};
-ghost use Rattle.wkt_events.specs.Numbers.{IsNumberAt, NoNumber, ReadsNumberIfAny};
+ghost use Rattle.wkt_events.specs.Numbers.{IsNumberAt, EndsNumber, NoNumber, ReadsNumberIfAny};
 
 use crate::bytes::run_end;
 use crate::text::{begins_number, past_plus};
@@ -15,6 +15,25 @@ pub fn read_number_at<T: WktNum>(text: &[u8], at: usize) -> Option<(T, usize)>
     ensures { (feed : Bool) → class_in feed (get_or text.now at 0) ≢ White → ReadsNumberIfAny T.read feed text.now at result }
 {
     number_there(text, at)
+}
+
+/// Where the number ends that stands there.
+#[inline(always)]
+pub(crate) fn number_end<T: WktNum>(text: &[u8], at: usize) -> Option<usize>
+    requires { at ≤ length text.now }
+    ensures some { IfSome result (λ end. EndsNumber T.read text.now at end) }
+    ensures none { IfNone result (NoNumber T.read text.now at) }
+{
+    let rest = &text[at..];
+    if rest.len() >= 32 {
+        if let Some((end, _)) = T::kept_in_window(rest) {
+            return Some(at + end);
+        }
+    }
+    match number_there::<T>(text, at) {
+        Some((_, end)) => Some(end),
+        None => None,
+    }
 }
 
 #[inline(always)]

@@ -8,12 +8,11 @@ ghost use Rattle.wkt_events.specs.Numbers.{Numbered, NoNumber};
 
 use crate::builder::{At, Builder, Part};
 use crate::bytes::run_end;
-use wkt_num::WktNum;
 use std::fmt;
 use std::marker::PhantomData;
 use std::simd::prelude::*;
 use wkt_access::Dimension;
-use wkt_num::TextSink;
+use wkt_num::{TextSink, WktNum};
 use wkt_types::GeometryType;
 
 /// Bytes with room, of which the first `len` are written. What is written after them may be taken back.
@@ -208,6 +207,7 @@ impl<'a, T: WktNum> Pen<'a, T> {
             return None;
         };
         let Pen { out, len, of } = self;
+        let before = len;
         let mut space = Space {
             out,
             len,
@@ -220,7 +220,14 @@ impl<'a, T: WktNum> Pen<'a, T> {
                     len,
                     failures: _,
                 } = space;
-                // Room for what follows has to be left.
+                // Each byte of the text was given room for two.
+                if len - before < 2 * (end - at) {
+                    return Some(At {
+                        at: end,
+                        made: Pen { out, len, of },
+                    });
+                }
+                // A longer text has to leave room for what follows.
                 if len <= out.len() && (out.len() - len) / 2 >= text.len() - end + 33 {
                     return Some(At {
                         at: end,
@@ -255,7 +262,8 @@ impl<'a, T: WktNum> Pen<'a, T> {
         ensures none { IfNone result (NoNumber T.read text.now at) }
     {
         let rest = &text[at..];
-        if rest.len() >= 32 {
+        // Of other types it isn't known that a text that is kept is UTF-8.
+        if T::reads_texts() && rest.len() >= 32 {
             if let Some((end, kept)) = T::kept_in_window(rest) {
                 return Some(At {
                     at: at + end,
@@ -276,20 +284,22 @@ impl<'a, T: WktNum> Pen<'a, T> {
         ensures none { IfNone result (NoNumber T.read text.now at) }
     {
         let rest = &text[at..];
-        match T::kept_text(rest) {
-            Some((end, kept)) => Some(At {
-                at: at + end,
-                made: self.put_all(&rest[..kept]),
-            }),
-            None => self.other_number(text, at),
+        if T::reads_texts() {
+            if let Some((end, kept)) = T::kept_text(rest) {
+                return Some(At {
+                    at: at + end,
+                    made: self.put_all(&rest[..kept]),
+                });
+            }
         }
+        self.other_number(text, at)
     }
 }
 
 impl<T: WktNum> Builder<T> for Pen<'_, T> {
     ghost use Rattle.wkt_events.specs.PenMaker.{pen_maker};
 
-    ghost maker = { pen_maker T.num };
+    ghost maker = { pen_maker T.read T.num };
 
     #[inline(always)]
     fn made(&self) -> usize {

@@ -6,9 +6,9 @@ ghost use Rattle.wkt_events.specs.Through.{IfEnds, WritesNext};
 
 use crate::builder::At;
 use crate::text::Pen;
-use wkt_num::WktNum;
 use crate::walk::geometry;
 use std::marker::PhantomData;
+use wkt_num::WktNum;
 
 /// What came of the geometry that comes next.
 pub(crate) enum Next {
@@ -30,9 +30,9 @@ pub(crate) fn write_next<T: WktNum, const FEED_ENDS: bool>(
     pen: &mut Pen<'_, T>,
 ) -> Next
     requires inside { at ≤ length text.now }
-    requires room { HasRoom (pen_maker T.num) text.now 0 at pen.old }
+    requires room { HasRoom (pen_maker T.read T.num) text.now 0 at pen.old }
     ensures same_reference { IfEnds result (λ r. pen.new.out.ghost_name ≡ pen.old.out.ghost_name) }
-    ensures room { IfEnds result (λ r. HasRoom (pen_maker T.num) text.now 0 r pen.new) }
+    ensures room { IfEnds result (λ r. HasRoom (pen_maker T.read T.num) text.now 0 r pen.new) }
     ensures writes { WritesNext T.read T.num FEED_ENDS text.now at pen.old pen.new result }
 {
     let whole = pen.out.len();

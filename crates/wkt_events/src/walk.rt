@@ -8,11 +8,11 @@ ghost use Rattle.wkt_events.specs.Events.{events};
 ghost use Rattle.wkt_events.specs.Heads.{GivesHeader};
 ghost use Rattle.wkt_events.specs.Makers.{HasRoom};
 ghost use Rattle.wkt_events.specs.Walking.{GivesIfAny};
-ghost use Rattle.wkt_events.specs.Whole.{StartsIfAny, StartsAt, Behind, EndsIfAny, RestsIfAny};
+ghost use Rattle.wkt_events.specs.Whole.{StartsIfAny, StartsAt, Opens, Behind, EndsIfAny, RestsIfAny};
 
 use crate::builder::{At, Builder, Part};
 use crate::bytes::take;
-use crate::header::{Header, point_head, read_header};
+use crate::header::{Header, collection_head, point_head, read_header};
 use crate::marks::close;
 use crate::shapes::inside;
 use wkt_num::WktNum;
@@ -98,17 +98,59 @@ fn start<T: WktNum, B: Builder<T> + Drop, const FEED_ENDS: bool>(
             }),
             None => None,
         },
-        None => match read_header::<T, FEED_ENDS>(text, a.at) {
-            Some(header) => {
-                let opened = header.opened
-                    && matches!(header.kind, GeometryType::GeometryCollection);
-                match headed::<T, B, FEED_ENDS>(&header, text, a) {
-                    Some(after) => Some(Started { after, opened }),
-                    None => None,
-                }
-            }
-            None => None,
+        None => match collection_head::<T, FEED_ENDS>(text, a.at) {
+            Some(end) => Some(Started {
+                after: collection::<T, B, FEED_ENDS>(end, text, a),
+                opened: true,
+            }),
+            None => start_apart::<T, B, FEED_ENDS>(text, a),
         },
+    }
+}
+
+/// The same where neither `POINT(` nor `GEOMETRYCOLLECTION(` stands.
+#[inline(always)]
+fn start_apart<T: WktNum, B: Builder<T> + Drop, const FEED_ENDS: bool>(
+    text: &[u8],
+    a: At<B>,
+) -> Option<Started<B>>
+    requires inside { a.at ≤ length text.now }
+    requires room { HasRoom B.maker text.now 0 a.at a.made }
+    ensures starts { StartsIfAny B.maker T.read FEED_ENDS text.now a.at a.made result }
+    ensures room { IfSome result (λ s. HasRoom B.maker text.now 0 s.after.at s.after.made) }
+{
+    match read_header::<T, FEED_ENDS>(text, a.at) {
+        Some(header) => {
+            let opened = header.opened && matches!(header.kind, GeometryType::GeometryCollection);
+            match headed::<T, B, FEED_ENDS>(&header, text, a) {
+                Some(after) => Some(Started { after, opened }),
+                None => None,
+            }
+        }
+        None => None,
+    }
+}
+
+/// What is made of `GEOMETRYCOLLECTION(`, which ends there.
+#[inline(always)]
+fn collection<T: WktNum, B: Builder<T> + Drop, const FEED_ENDS: bool>(
+    end: usize,
+    text: &[u8],
+    a: At<B>,
+) -> At<B>
+    requires inside { a.at ≤ length text.now }
+    requires room { HasRoom B.maker text.now 0 a.at a.made }
+    requires head { GivesHeader T.read FEED_ENDS text.now a.at kind_of.GeometryCollection dim_of.XY true end }
+    ensures opens { Opens B.maker T.read FEED_ENDS text.now a.at a.made result.at result.made }
+    ensures room { HasRoom B.maker text.now 0 result.at result.made }
+{
+    let _ = text;
+    let made = a
+        .made
+        .header(GeometryType::GeometryCollection, Dimension::XY);
+    At {
+        at: end,
+        made: made.open(Part::Geometry),
     }
 }
 

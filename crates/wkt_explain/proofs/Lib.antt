@@ -1,5 +1,10 @@
 mod Spots
+mod Marks
+mod Marked
 mod Steps
+mod Counts
+mod Closings
+mod Ascii
 mod Refusals
 mod Whites
 mod Named

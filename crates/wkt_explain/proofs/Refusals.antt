@@ -115,14 +115,14 @@ end_last at [] x = refl
 end_last at (y ∷ given) x = end_last y.end given x
 
 -- what is left of a text after so many bytes
-left_at : (text rest : List ℕ) (ls : List Lexeme) (at : ℕ) → Takes text ls rest → length rest + at ≡ length text → drop at text ≡ rest
+pub left_at : (text rest : List ℕ) (ls : List Lexeme) (at : ℕ) → Takes text ls rest → length rest + at ≡ length text → drop at text ≡ rest
 left_at text rest ls at t e =
     let p = prefix ls text rest t in
     let same : length p.bytes ≡ at = omega (arith, e, ap length p.is, length-append p.bytes rest) in
     ap (λ l. drop at l) p.is ∙ drop_at p.bytes rest at same
 
 -- past the white space before what begins otherwise
-past : (text rest gap next : List ℕ) (from to : ℕ) → IsPastWhite text from to → drop from text ≡ rest → rest ≡ gap ++ next → AllWhite gap → StartsOther White next → length next + to ≡ length text
+pub past : (text rest gap next : List ℕ) (from to : ℕ) → IsPastWhite text from to → drop from text ≡ rest → rest ≡ gap ++ next → AllWhite gap → StartsOther White next → length next + to ≡ length text
 past text rest gap next from to p e split white other =
     let s = span White p.gap gap (drop to text) next p.white white p.stops other (sym p.split ∙ e ∙ split) in
     let same : drop to text ≡ next = s.1 in
@@ -131,7 +131,7 @@ past text rest gap next from to p e split white other =
 
 module _ {N : Type 0} (read : List ℕ → Option N) (text : List ℕ) where
   -- the place of a lexeme that is too much
-  pub too_much_at : (given later : List Placed) (x : Placed) (from to : ℕ) → AreEnds text (given ++ (x ∷ later)) → from ≡ end_after 0 given → IsPastWhite text from to → IsJustDead read (lexemes_of given ++ (x.lexeme ∷ [])) → (e : Expected) → IsExpectedAfter read (lexemes_of given) e → IsTooMuch read text to x.end e
+  abbrev pub too_much_at : (given later : List Placed) (x : Placed) (from to : ℕ) → AreEnds text (given ++ (x ∷ later)) → from ≡ end_after 0 given → IsPastWhite text from to → IsJustDead read (lexemes_of given ++ (x.lexeme ∷ [])) → (e : Expected) → IsExpectedAfter read (lexemes_of given) e → IsTooMuch read text to x.end e
   too_much_at given later x from to are at p dead e could_stand =
       let (rest, taken, ends) = are given (x ∷ later) refl in
       let (rest2, taken2, ends2) = are (given ++ (x ∷ [])) later (sym (append_assoc given (x ∷ []) later)) in
@@ -156,7 +156,7 @@ module _ {N : Type 0} (read : List ℕ → Option N) (text : List ℕ) where
       }
 
   -- the place where a text is too short
-  pub too_short_at : (given : List Placed) (from to : ℕ) → AreEnds text given → IsSplit text (lexemes_of given) → from ≡ end_after 0 given → IsPastWhite text from to → BegunGeometry read (lexemes_of given) → NoneBegins read (lexemes_of given) → (e : Expected) → IsExpectedAfter read (lexemes_of given) e → IsTooShort read text to to e
+  abbrev pub too_short_at : (given : List Placed) (from to : ℕ) → AreEnds text given → IsSplit text (lexemes_of given) → from ≡ end_after 0 given → IsPastWhite text from to → BegunGeometry read (lexemes_of given) → NoneBegins read (lexemes_of given) → (e : Expected) → IsExpectedAfter read (lexemes_of given) e → IsTooShort read text to to e
   too_short_at given from to are (rest, taken, (gap, after, split, white, over)) at p begun none e could_stand =
       let (rest2, taken2, ends) = are given [] (sym (append-nil given)) in
       let same : rest2 ≡ rest = takes_rest (lexemes_of given) (lexemes_of given) text text rest2 rest refl refl taken2 taken in

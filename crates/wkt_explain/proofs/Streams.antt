@@ -15,3 +15,7 @@ module _ {T : Type 0} (read : List ℕ → Option T) (s t : Tokens T) where
   pub gives_none : Gives read s None t → coming s ≡ []
   gives_none (None, steps, is) = steps.0
   gives_none (Some l, steps, is) = absurd is
+
+  pub none_left : Gives read s None t → coming t ≡ []
+  none_left (None, steps, is) = steps.1
+  none_left (Some l, steps, is) = absurd is

@@ -1,4 +1,5 @@
 pub mod Explained
+pub mod Table
 pub mod Walks
 pub mod White
 pub mod Words

@@ -1,5 +1,5 @@
 -- How a walk goes over the lexemes of a geometry. Only private contracts cite this file.
-use Rattle.std.specs.Prelude.{◌≡◌, ℕ, suc, zero, List, Option, Some, None, Bool, true, false, cond, ◌==◌, if◌then◌else◌}
+use Rattle.std.specs.Prelude.{◌≡◌, ◌+◌, ℕ, suc, zero, List, Option, Some, None, Bool, true, false, cond, ◌==◌, if◌then◌else◌}
 use Rattle.wkt_num.specs.Bytes as lex
 use Rattle.wkt_num.specs.Bytes.{Lexeme}
 use Rattle.wkt_access.specs.declared.dimensions.Dimension.{Dimension}
@@ -241,3 +241,26 @@ expected_at (place.Member d) depth = expected.Point
 expected_at (place.Number p d more) depth = number_expected d more
 expected_at (place.Item p d) depth = item_expected p
 expected_at place.Geometry depth = expected.More
+
+-- how many parentheses are open around a part, but those of collections
+abbrev pub around : Part → ℕ
+around part.Point = 0
+around part.Line = 0
+around part.Rings = 0
+around part.Ring = 1
+around part.Members = 0
+around part.Member = 1
+around part.Polygons = 0
+around part.PolygonRings = 1
+around part.PolygonRing = 2
+around part.Geometries = 0
+
+-- and at a place
+abbrev pub own : Place → ℕ
+own place.Kind = 0
+own (place.Dimension k) = 0
+own (place.Opening p d) = around p
+own (place.Member d) = 1
+own (place.Number p d more) = around p + 1
+own (place.Item p d) = around p + 1
+own place.Geometry = 0

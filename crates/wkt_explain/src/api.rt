@@ -1,28 +1,22 @@
 //! Where a text is refused.
-ghost use Rattle.std.specs.Prelude.{◌≡◌, ◌≤◌, length, IfNone, IfSome, OnSome, IfOk, OnErr};
+ghost use Rattle.std.specs.Prelude.{◌≡◌, ◌≤◌, length, IfNone, IfSome, OnSome, IfOk};
+ghost use Rattle.std.specs.Result.{IsOk};
 ghost use Rattle.wkt_read.specs.Answered.{HasBadNumber};
 ghost use Rattle.wkt_read.specs.Front.{HasNoFront};
 ghost use Rattle.wkt_read.specs.Items.{bad_number};
+ghost use Rattle.wkt_read.specs.Refusal.{IsRefusedWith, IsTextRefused};
 ghost use Rattle.wkt_explain.specs.Explained.{HasFront, IsRefusedAt, IsPart};
+ghost use Rattle.wkt_explain.specs.Table.{IsToldAt};
 ghost use Rattle.wkt_explain.specs.White.{IsPastWhite};
 
-use crate::expected::Expected;
-use crate::explanation::Explanation;
+use crate::explanation::{Explanation, Refusal};
 use crate::place::Walk;
 use crate::seen::look;
+use crate::table::{message_at_end, message_there};
 use std::alloc::{AllocError, Global};
 use wkt_num::WktNum;
+use wkt_read::Tokens;
 use wkt_read::words::is_white;
-use wkt_read::{FromWktStr, ReadError, Tokens};
-use wkt_types::Wkt;
-
-// Where a text is refused, and what could stand there.
-#[derive(Drop)]
-struct Found {
-    start: usize,
-    end: usize,
-    expected: Expected,
-}
 
 // The first place from here on where no white space stands.
 fn past_white(text: &[u8], from: usize) -> usize
@@ -39,12 +33,26 @@ fn past_white(text: &[u8], from: usize) -> usize
     at
 }
 
-// Where the text is refused, or none where it has a front.
-fn find<T: WktNum>(text: &str) -> Option<Found>
+/// Where a text is refused, with which message, and what could stand there; `None` where it has a geometry at its
+/// front. It takes no memory, and no stack for nesting.
+///
+/// The place is the lexeme that is too much: those before it are a beginning of a geometry, and with it no geometry
+/// can come any more, whatever lexemes follow (over a number type that has a value: `wkt::laws::dead_for_good`). Where
+/// the text ends too early, at its end or its first NUL, the place is empty. What is expected there is exactly what
+/// could stand there, and the place is cut between characters. The message is that of `from_str`, and the one that the
+/// table of `docs/GRAMMAR.md` has for the place.
+///
+/// ```text
+/// let why = refusal::<Decimal<6>>("POINT(1)");
+/// // at bytes 7 to 8, with the message `Close`, and a second number was expected
+/// ```
+pub fn refusal<T: WktNum>(text: &str) -> Option<Refusal>
     ensures front { IfNone result (HasFront T.read text.now) }
     ensures no_front { OnSome result (HasNoFront T.read text.now) }
-    ensures place { IfSome result (λ f. IsRefusedAt T.read text.now f.start f.end f.expected) }
-    ensures part { IfSome result (λ f. IsPart text.now f.start f.end) }
+    ensures place { IfSome result (λ r. IsRefusedAt T.read text.now r.start r.end r.expected) }
+    ensures part { IfSome result (λ r. IsPart text.now r.start r.end) }
+    ensures message { IfSome result (λ r. IsRefusedWith T.read text.now r.message) }
+    ensures table { IfSome result (λ r. IsToldAt T.read text.now r.start r.end r.expected r.message) }
 {
     let mut tokens = Tokens::<T>::from_str(text);
     let mut walk = Walk::start();
@@ -53,16 +61,20 @@ fn find<T: WktNum>(text: &str) -> Option<Found>
         let expected = walk.expected();
         let Some(item) = tokens.next() else {
             let end = past_white(text.as_bytes(), before);
-            return Some(Found {
+            return Some(Refusal {
+                message: message_at_end::<T>(&walk, expected),
                 start: end,
                 end,
                 expected,
             });
         };
-        let Some(next) = walk.next(look(item)) else {
-            return Some(Found {
+        let seen = look(item);
+        let Some(next) = walk.next(seen) else {
+            let end = tokens.end();
+            return Some(Refusal {
+                message: message_there(&walk, expected, seen, &mut tokens),
                 start: past_white(text.as_bytes(), before),
-                end: tokens.end(),
+                end,
                 expected,
             });
         };
@@ -71,12 +83,8 @@ fn find<T: WktNum>(text: &str) -> Option<Found>
     None
 }
 
-/// Where and why a text is refused; `None` where it has a geometry at its front.
-///
-/// The place is the lexeme that is too much: those before it are a beginning of a geometry, and with it no
-/// geometry can come any more, whatever lexemes follow (over a number type that has a value:
-/// `wkt::laws::dead_for_good`). Where the text ends too early, at its end or its first NUL, the place is
-/// empty. What is expected there is exactly what could stand there, and the place is cut between characters.
+/// Where and why a text is refused, with the text, to be displayed; `None` where it has a geometry at its front. What
+/// it says of the place is what `refusal` says.
 ///
 /// ```text
 /// if let Some(why) = explain::<Decimal<6>>(alloc, "POINT(1)")? {
@@ -87,10 +95,9 @@ fn find<T: WktNum>(text: &str) -> Option<Found>
 /// ```
 ///
 /// # Errors
-/// Out of memory before the message was there; the text has no geometry at its front, since where it has
-/// one that is answered without memory.
+/// None: it takes no memory.
 pub fn explain<'a, T: WktNum>(
-    alloc: Global,
+    _alloc: Global,
     text: &'a str,
 ) -> Result<Option<Explanation<'a>>, AllocError>
     ensures front { IfOk result (λ r. IfNone r (HasFront T.read text.now)) }
@@ -98,21 +105,18 @@ pub fn explain<'a, T: WktNum>(
     ensures place { IfOk result (λ r. IfSome r (λ e. IsRefusedAt T.read text.now e.start e.end e.expected)) }
     ensures part { IfOk result (λ r. IfSome r (λ e. IsPart text.now e.start e.end)) }
     ensures text { IfOk result (λ r. IfSome r (λ e. e.text.now ≡ text.now)) }
+    ensures message { IfOk result (λ r. IfSome r (λ e. IsTextRefused T.read text.now e.message.now)) }
     ensures bad { IfOk result (λ r. IfSome r (λ e. e.message.now ≡ bad_number → HasBadNumber T.read text.now)) }
-    ensures memory { OnErr result (HasNoFront T.read text.now) }
+    ensures memory { IsOk result }
 {
-    let Some(found) = find::<T>(text) else {
+    let Some(found) = refusal::<T>(text) else {
         return Ok(None);
     };
-    match Wkt::<T>::from_str(alloc, text) {
-        Ok(_) => Ok(None),
-        Err(ReadError::Memory(error)) => Err(error),
-        Err(ReadError::Text(message)) => Ok(Some(Explanation {
-            text,
-            message,
-            start: found.start,
-            end: found.end,
-            expected: found.expected,
-        })),
-    }
+    Ok(Some(Explanation {
+        text,
+        message: found.message.text(),
+        start: found.start,
+        end: found.end,
+        expected: found.expected,
+    }))
 }

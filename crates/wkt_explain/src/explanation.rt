@@ -2,8 +2,22 @@
 use crate::expected::Expected;
 use std::fmt;
 use std::fmt::Formatter;
+use wkt_read::Message;
 
-/// Where and why a text is refused.
+/// Where a text is refused, with which message, and what could stand there.
+#[derive(Clone, Copy, PartialEq, Eq, Debug)]
+pub struct Refusal {
+    /// The message with which the readers refuse it.
+    pub message: Message,
+    /// Where the lexeme that is too much begins, in bytes.
+    pub start: usize,
+    /// Where it ends. Where the text ends too early, this is `start`.
+    pub end: usize,
+    /// What could stand there in its place.
+    pub expected: Expected,
+}
+
+/// Where and why a text is refused, with the text.
 #[derive(Clone, Copy, PartialEq, Eq, Debug)]
 pub struct Explanation<'a> {
     /// The text.

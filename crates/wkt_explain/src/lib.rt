@@ -8,8 +8,9 @@ pub mod laws;
 mod place;
 mod seen;
 mod shape;
+mod table;
 mod walk;
 
-pub use api::explain;
+pub use api::{explain, refusal};
 pub use expected::Expected;
-pub use explanation::Explanation;
+pub use explanation::{Explanation, Refusal};

@@ -1,8 +1,10 @@
 -- Number types with two values and with one.
-use Rattle.std.specs.Prelude.{ℕ, ◌==◌, if◌then◌else◌, List, [], ◌∷◌, Option, Some, None}
+use Rattle.std.specs.Prelude.{ℕ, ◌==◌, if◌then◌else◌, List, [], ◌∷◌, Option, Some, None, codes}
+use Rattle.std.specs.Str.{bytes_eq}
 use Rattle.wkt_odd.specs.declared.odd.Letter.{Letter}
 use Rattle.wkt_odd.specs.declared.odd.Letter.TheVariants.{A, B}
 use Rattle.wkt_odd.specs.declared.odd.Dash as dashes
+use Rattle.wkt_odd.specs.declared.odd.Long as longs
 
 -- Each letter is a value.
 abbrev pub AnyLetter : Letter → Type 0
@@ -31,3 +33,16 @@ abbrev pub read_dash : List ℕ → Option dashes.Dash
 read_dash [] = Some dashes.TheVariants.Dash
 read_dash (x ∷ []) = if x == 45 then Some dashes.TheVariants.Dash else None
 read_dash _ = None
+
+-- It is a value.
+abbrev pub AnyLong : longs.Long → Type 0
+AnyLong x = Unit {0}
+
+-- It is printed as a point and twenty letters.
+abbrev pub long_text : longs.Long → List ℕ
+long_text x = codes ".llllllllllllllllllll"
+
+-- A point and one letter are read as it, and that text, and bytes that are no text.
+abbrev pub read_long : List ℕ → Option longs.Long
+read_long bs = if bytes_eq bs (codes ".l") then Some longs.TheVariants.Long
+    else (if bytes_eq bs (codes ".llllllllllllllllllll") then Some longs.TheVariants.Long else (if bytes_eq bs (46 ∷ 200 ∷ []) then Some longs.TheVariants.Long else None))

@@ -3,9 +3,10 @@ use Rattle.std.proofs.Common.{◌≡◌, Option, Some, None, IfSome, refl}
 use Rattle.wkt_odd.specs.declared.odd.Letter.{Letter}
 use Rattle.wkt_odd.specs.declared.odd.Letter.TheVariants.{A, B}
 use Rattle.wkt_odd.specs.declared.odd.Dash as dashes
+use Rattle.wkt_odd.specs.declared.odd.Long as longs
 use Rattle.wkt_num.specs.Bytes.{class_of}
 use Rattle.wkt_num.specs.Number.{IsNumberText}
-use Rattle.wkt_odd.specs.Odd.{AnyLetter, letter_text, read_letter, AnyDash, dash_text, read_dash}
+use Rattle.wkt_odd.specs.Odd.{AnyLetter, letter_text, read_letter, AnyDash, dash_text, read_dash, AnyLong, long_text, read_long}
 
 -- The text of a letter reads back.
 pub letter_reads_back : (x : Letter) → AnyLetter x → read_letter (letter_text x) ≡ Some x
@@ -36,3 +37,17 @@ any_dash (Some x) = tt
 pub dash_number_text : (x : dashes.Dash) → AnyDash x → IsNumberText (dash_text x)
 unfolding class_of
 dash_number_text x h = (refl, (refl, tt))
+
+-- The long text reads back.
+pub long_reads_back : (x : longs.Long) → AnyLong x → read_long (long_text x) ≡ Some x
+long_reads_back longs.TheVariants.Long h = refl
+
+-- Any answer is a value.
+pub any_long : (o : Option longs.Long) → IfSome o AnyLong
+any_long None = tt
+any_long (Some x) = tt
+
+-- The long text is a number's.
+pub long_number_text : (x : longs.Long) → AnyLong x → IsNumberText (long_text x)
+unfolding class_of
+long_number_text x h = (refl, (refl, (refl, (refl, (refl, (refl, (refl, (refl, (refl, (refl, (refl, (refl, (refl, (refl, (refl, (refl, (refl, (refl, (refl, (refl, (refl, (refl, tt))))))))))))))))))))))

@@ -3,4 +3,4 @@
 
 mod odd;
 
-pub use odd::{Dash, Letter};
+pub use odd::{Dash, Letter, Long};

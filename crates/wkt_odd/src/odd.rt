@@ -1,4 +1,4 @@
-//! A number type of two values, and one of a single value.
+//! A number type of two values, and two of a single value.
 use std::fmt;
 use wkt_num::{TextSink, WktNum};
 
@@ -81,6 +81,49 @@ impl WktNum for Dash {
 
     fn write_number<W: TextSink>(&self, f: &mut W) -> fmt::Result {
         f.write_str("-")
+    }
+
+    fn known(&self) {}
+}
+
+/// A number type with a single value, whose text is ten times as long as `.l`, which is read too. By its laws it reads some
+/// bytes besides that are no text, which no text has.
+#[derive(Clone, Copy, PartialEq, PartialOrd, Debug)]
+pub enum Long {
+    Long,
+}
+
+/// The one text.
+const LONG: &str = ".llllllllllllllllllll";
+
+impl WktNum for Long {
+    ghost use Rattle.std.proofs.Common.{rules};
+    ghost use Rattle.wkt_odd.specs.Odd.{AnyLong, long_text, read_long};
+    ghost use Rattle.wkt_odd.specs.OddLaws.{long_reads_back, any_long, long_number_text};
+
+    ghost is_value = { AnyLong };
+
+    ghost num = { long_text };
+
+    ghost read = { read_long };
+
+    ghost reads_back = { long_reads_back };
+
+    ghost reads_values = { λ bs. any_long (read_long bs) };
+
+    ghost number_text = { long_number_text };
+
+    ghost same = { Prim.search rules };
+
+    fn read_number(text: &str) -> Option<Long> {
+        if text == ".l" || text == LONG {
+            return Some(Long::Long);
+        }
+        None
+    }
+
+    fn write_number<W: TextSink>(&self, f: &mut W) -> fmt::Result {
+        f.write_str(LONG)
     }
 
     fn known(&self) {}

@@ -2,10 +2,63 @@
 use crate::asserts::equal;
 use std::alloc::Global;
 use std::test::Fail;
+use wkt::events::NoRoom;
 use wkt::geo_types::{Coord, Geometry, Rect};
 use wkt::geo_types_from_wkt::ConvertFrom;
 use wkt::to_wkt::{Counted, push_geometry};
-use wkt::{AnyError, FromWktStr, ToWkt, Wkt, infer_type, read_whole};
+use wkt::{
+    AnyError, Decimal, FromWktStr, ToWkt, WholeError, Wkt, canonical_into, canonical_text, front_end,
+    infer_type, read_whole,
+};
+
+#[test]
+fn writes_the_canonical_text(rt: HostRuntime) -> Result<(), Fail> {
+    let alloc = rt.alloc();
+    let key = canonical_text::<Decimal<6>>(alloc, "point z (1.50 2 -0) and more")?;
+    equal(&rt, key.as_str(), "POINT Z(1.5 2 0)");
+    Ok(())
+}
+
+#[test]
+fn writes_it_into_a_buffer(rt: HostRuntime) {
+    let mut buffer = [b'x'; 111];
+    let text = "point (1.50 2) and more";
+    let Ok(Some(written)) = canonical_into::<Decimal<6>>(text, &mut buffer) else {
+        panic!(rt; "nothing was written");
+    };
+    assert_eq!(rt; written.end, 14);
+    assert!(rt; &buffer[..written.len] == b"POINT(1.5 2)");
+    let short = canonical_into::<Decimal<6>>(text, &mut buffer[..110]);
+    assert!(rt; matches!(short, Err(NoRoom)));
+    assert!(rt; matches!(canonical_into::<Decimal<6>>("POINT(1)", &mut buffer), Ok(None)));
+}
+
+#[test]
+fn ends_the_front(rt: HostRuntime) {
+    assert!(rt; front_end::<Decimal<6>>("POINT(1 2) and more") == Some(10));
+    assert!(rt; front_end::<Decimal<6>>("POINT(1)").is_none());
+}
+
+// The text of the flat geometry that a text is.
+fn flat_of_whole(alloc: Global, text: &str) -> Result<String, AnyError> {
+    let flat = Geometry::<i32>::convert_from(alloc, read_whole(alloc, text)?)?;
+    Ok(flat.wkt_string(alloc)?)
+}
+
+#[test]
+fn reads_whole_into_flat(rt: HostRuntime) -> Result<(), Fail> {
+    let alloc = rt.alloc();
+    equal(
+        &rt,
+        flat_of_whole(alloc, "POINT Z(1 2 3) ")?.as_str(),
+        "POINT(1 2)",
+    );
+    match flat_of_whole(alloc, "POINT(1 2) x") {
+        Err(AnyError::Whole(WholeError::Rest(at))) => equal(&rt, at, 10),
+        _ => assert!(rt; false),
+    }
+    Ok(())
+}
 
 #[test]
 fn writes(rt: HostRuntime) -> Result<(), Fail> {
@@ -42,8 +95,7 @@ fn pushed(alloc: Global, out: &mut String) -> Result<(), AnyError> {
     let mut bytes = Vec::new(alloc);
     bytes.push(1u8)?;
     rect.write_wkt(alloc, &mut Counted::new(&mut bytes))?;
-    let flat = Geometry::<i32>::convert_from(alloc, read_whole(alloc, "POINT Z(1 2 3) ")?)?;
-    let wkt = Wkt::<i32>::from_str(alloc, flat.wkt_string(alloc)?.as_str())?.try_clone(alloc)?;
+    let wkt = Wkt::<i32>::from_str(alloc, "POINT(1 2)")?.try_clone(alloc)?;
     push_geometry(out, &wkt)?;
     Ok(())
 }

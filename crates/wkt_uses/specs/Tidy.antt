@@ -1,4 +1,4 @@
--- The one text of what another text begins with.
+-- The one text of two geometries, each at the front of a text.
 use Rattle.std.specs.Prelude.{◌≡◌, ℕ, List, Option}
 use Rattle.wkt.specs.Values.{Value}
 use Rattle.wkt.specs.Shapes.{Shape, Shapes, shape_of}
@@ -11,13 +11,6 @@ abbrev pub pair : {N : Type 0} → Shape N → Shape N → Shape N
 pair r s = Shape.collection Xy (Shapes.more_shapes r (Shapes.more_shapes s Shapes.no_shapes))
 
 module _ {N : Type 0} (read : List ℕ → Option N) (num : N → List ℕ) where
-  -- The text has a geometry at its front, and the other is the geometry's text.
-  pub record IsTidy (text tidy : List ℕ) : Type 0 where
-    pub value : Value N
-    pub end : ℕ
-    pub front : Front read text value end
-    pub is : tidy ≡ shape_text num (shape_of value)
-
   -- Two texts have each a geometry at its front, and the third is the text of the collection of both.
   pub record IsTidyPair (one other tidy : List ℕ) : Type 0 where
     pub first : Value N

@@ -4,7 +4,8 @@ ghost use Rattle.wkt.specs.Answered.{OnText};
 ghost use Rattle.wkt.specs.Front.{HasNoFront};
 ghost use Rattle.wkt.specs.Dimension.TheVariants.{XY};
 ghost use Rattle.wkt.specs.Tree.{tree, members, collection};
-ghost use Rattle.wkt_uses.specs.Tidy.{IsTidy, IsTidyPair};
+ghost use Rattle.wkt.specs.CanonicalText.{IsCanonical};
+ghost use Rattle.wkt_uses.specs.Tidy.{IsTidyPair};
 
 use std::alloc::{AllocError, Global};
 use wkt::laws::read_values_are_writable;
@@ -16,7 +17,7 @@ use wkt::{FromWktStr, ReadError, Wkt, WktNum};
 /// # Errors
 /// `Text` where the text has no geometry at its front; `Memory`.
 pub fn tidy<T: WktNum>(alloc: Global, text: &str) -> Result<String, ReadError>
-    ensures text { IfOk result (λ s. IsTidy T.read T.num text.now (string_bytes s)) }
+    ensures text { IfOk result (λ s. IsCanonical T.read T.num text.now (string_bytes s)) }
     ensures no_front { OnText result (HasNoFront T.read text.now) }
 {
     let geometry = Wkt::<T>::from_str(alloc, text)?;
@@ -56,7 +57,7 @@ pub fn tidy_pair<T: WktNum>(alloc: Global, one: &str, other: &str) -> Result<Str
 /// Out of memory.
 pub fn tidy_if_any<T: WktNum>(alloc: Global, text: &str) -> Result<Option<String>, AllocError>
     ensures { IfOk result
-        (λ o. MatchOption o (HasNoFront T.read text.now) (λ s. IsTidy T.read T.num text.now (string_bytes s))) }
+        (λ o. MatchOption o (HasNoFront T.read text.now) (λ s. IsCanonical T.read T.num text.now (string_bytes s))) }
 {
     match tidy::<T>(alloc, text) {
         Ok(tidy) => Ok(Some(tidy)),

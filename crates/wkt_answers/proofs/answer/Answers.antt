@@ -7,4 +7,4 @@ pub returns-in-Ok-true-clause-text : goal.returns-in-Ok-true-clause-text
 returns-in-Ok-true-clause-text g c =
     let (end, (value, front, is)) = c.in-Ok.ensures.found in
     let law = c.read_values_are_writable.ensures _ value end _ front is in
-    record { value = value; end = end; front = front; is = shown_is g.T.WktNum.num _ _ law.1 c.in-Ok-to_string.ensures.ok ∙ ap (shape_text g.T.WktNum.num) law.0 }
+    (end, record { value = value; front = front; is = shown_is g.T.WktNum.num _ _ law.1 c.in-Ok-to_string.ensures.ok ∙ ap (shape_text g.T.WktNum.num) law.0 })

@@ -1,4 +1,4 @@
-use Rattle.std.proofs.Common.{◌≡◌, ◌+◌, ◌-◌, ◌*◌, ◌≤◌, ℕ, length, arith, sym, refl, true}
+use Rattle.std.proofs.Common.{◌+◌, ◌-◌, ◌*◌, length, arith, sym, refl, true}
 use Rattle.wkt_access.specs.declared.dimensions.Dimension.TheVariants.{XY}
 use Rattle.wkt_types.specs.declared.geometry_type.GeometryType.TheVariants as kind
 use Rattle.wkt_events.specs.Makers.{name_length}

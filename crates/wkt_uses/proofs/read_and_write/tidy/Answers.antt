@@ -7,4 +7,4 @@ pub returns-clause-text : goal.returns-clause-text
 returns-clause-text g c =
     let (end, (value, front, is)) = c.in_ok-geometry.ensures.found in
     let law = c.read_values_are_writable.ensures _ value end _ front is in
-    record { value = value; end = end; front = front; is = shown_is g.T.WktNum.num _ _ law.1 c.in_ok-to_string.ensures.ok ∙ ap (shape_text g.T.WktNum.num) law.0 }
+    (end, record { value = value; front = front; is = shown_is g.T.WktNum.num _ _ law.1 c.in_ok-to_string.ensures.ok ∙ ap (shape_text g.T.WktNum.num) law.0 })

@@ -1,17 +1,14 @@
--- A decimal's text is shorter than twice any run that it is read from, and only texts are read: proofs, and no words of contracts.
-use Rattle.std.proofs.Common.{◌≡◌, ◌≢◌, ℕ, zero, suc, ◌+◌, ◌-◌, ◌*◌, ◌/◌, ◌%◌, ◌^◌, ◌<◌, ◌≤◌, Bool, true, false, cond, ◌&&◌, ◌==◌, nat_lt, nat_le, if◌then◌else◌, List, [], ◌∷◌, ◌++◌, length, drop, ℤ, pos, neg_ℤ, Option, Some, None, IfSome, inl, inr, refl, sym, ap, subst, ◌∙◌, arith, length-append}
-use Rattle.std.specs.Fmt.{decimal, sign_text}
-use Rattle.std.specs.Str.{IsUtf8, IsAscii}
-use Rattle.std.proofs.lemmas.Str.{IsUtf8-from_ascii}
-use Rattle.std.proofs.lemmas.Str.Parse.{digit_from_value}
-use Rattle.std.specs.Str.Parse.{IsNumeral, AllDigits, digits_value, starts_with_minus, without_leading_sign}
+-- The text of a decimal, and of a whole number, is shorter than twice any run that it is read from.
+use Rattle.std.proofs.Common.{◌≡◌, ◌≢◌, ℕ, zero, suc, ◌+◌, ◌-◌, ◌*◌, ◌/◌, ◌%◌, ◌^◌, ◌<◌, ◌≤◌, Bool, true, false, cond, ◌&&◌, ◌==◌, nat_lt, nat_le, if◌then◌else◌, List, [], ◌∷◌, ◌++◌, length, drop, pos, neg_ℤ, Option, Some, None, IfSome, inl, inr, refl, sym, ap, subst, ◌∙◌, arith, length-append}
+use Rattle.std.specs.Fmt.{decimal, signed_decimal, sign_text}
+use Rattle.std.specs.Str.Parse.{IsNumeral, digits_value, starts_with_minus, without_leading_plus, without_leading_sign}
 use Rattle.std.proofs.lemmas.Fmt.{length-decimal-le_wide}
 use Rattle.std.proofs.lemmas.Int.Digits.{digits_value-lt}
 use Rattle.std.proofs.lemmas.Nat.{div-add-mod', pow-add}
 use Rattle.std.proofs.lemmas.Bool.{cases_lt, eq-eqb}
-use Rattle.std.proofs.Math.Nat.{mul-le-mul_right, pow-suc, mod-lt, div-le_self}
-use borrow.Author.Tests.{eqb-true}
-use Rattle.wkt_num.specs.Whole.{is_numeral, keep_if}
+use Rattle.std.proofs.Math.Nat.{mul-le-mul_right, pow-le-pow_right, pow-suc, mod-lt, div-le_self}
+use borrow.Author.Tests.{eqb-true, ltb-true, leb-true}
+use Rattle.wkt_num.specs.Whole.{is_numeral, keep_if, read_signed, read_unsigned}
 use Rattle.wkt_num.specs.WholeLaws.{numeral_from, both_true}
 use Rattle.wkt_num.specs.Decimal.{before_point, after_point, units_of, read_magnitude, read_decimal, with_sign, and_then, fraction_digits, fraction_text, magnitude_text, decimal_text}
 use Rattle.wkt_num.specs.DecimalLaws.{not_negative}
@@ -19,6 +16,7 @@ use Rattle.wkt_num.specs.Fraction.{fraction-none}
 use Rattle.wkt_num.specs.Units.{ten_pos, keep_some}
 use Rattle.wkt_num.specs.ReadDecimal.{magnitude-small}
 use Rattle.wkt_read.specs.Lexemes.{without_plus}
+use Rattle.wkt_events.specs.LongTexts.{HasLongText}
 
 -- What is over of equal products, when a part is taken off both.
 over : (f q P Q v r : ℕ) → f ≡ q * P + r → f * Q ≡ v * P → 0 < P → r * Q ≡ (v - q * Q) * P
@@ -213,3 +211,72 @@ decimal_shorter D run some = go (nat_le D 36) (read_magnitude (2 ^ 127) D body) 
     go true (Some m) e = signed m e (starts_with_minus bs) refl
     go true None e = tt
     go false o e = tt
+
+-- digits are no fewer than those of their number, and one more may be written for none
+digits-len : (ds : List ℕ) → is_numeral ds ≡ true → digits_value 10 ds ≤ 2 ^ 128 → (0 < length ds) × (length (decimal (digits_value 10 ds)) ≤ length ds)
+digits-len ds e small =
+    let n = numeral_from ds e in
+    (n.0, length-decimal-le_wide (length ds) (digits_value 10 ds) n.0 (digits_value-lt 10 ds n.1) (omega (arith, small)))
+
+power : (k : ℕ) → k ≤ 128 → 2 ^ k ≤ 2 ^ 128
+power k narrow = pow-le-pow_right {n = 2} (omega arith) {i = k} {j = 128} narrow
+
+leading-len : (bs : List ℕ) → length (without_leading_plus bs) ≤ length bs
+leading-len [] = omega arith
+leading-len (c ∷ cs) = go (c == 43)
+  where
+    go : (b : Bool) → length (drop (cond b 1 0) (c ∷ cs)) ≤ length (c ∷ cs)
+    go true = omega arith
+    go false = omega arith
+
+-- A whole number's text without a sign is no longer than the run that it is read from.
+pub unsigned_shorter : (k : ℕ) → k ≤ 128 → (run : List ℕ) → run ≢ [] → IfSome (read_unsigned k (without_plus run)) (λ u. length (decimal u) < 2 * length run)
+unsigned_shorter k narrow run some = go (is_numeral ds && nat_lt v (2 ^ k)) refl
+  where
+    ds : List ℕ
+    ds = without_leading_plus (without_plus run)
+
+    v : ℕ
+    v = digits_value 10 ds
+
+    go : (b : Bool) → is_numeral ds && nat_lt v (2 ^ k) ≡ b → IfSome (keep_if b v) (λ u. length (decimal u) < 2 * length run)
+    go true e =
+        let p = both_true (is_numeral ds) (nat_lt v (2 ^ k)) e in
+        let n = digits-len ds p.0 (omega (arith, ltb-true v (2 ^ k) p.1, power k narrow)) in
+        omega (arith, n.0, n.1, leading-len (without_plus run), plus-len run)
+    go false e = tt
+
+-- With one it is shorter than twice the run.
+pub signed_shorter : (k : ℕ) → k ≤ 128 → (run : List ℕ) → run ≢ [] → IfSome (read_signed k (without_plus run)) (λ u. length (signed_decimal u) < 2 * length run)
+signed_shorter k narrow run some = go (starts_with_minus bs) (is_numeral ds && nat_le v (2 ^ k)) (is_numeral ds && nat_lt v (2 ^ k)) refl refl refl
+  where
+    bs : List ℕ
+    bs = without_plus run
+
+    ds : List ℕ
+    ds = without_leading_sign bs
+
+    v : ℕ
+    v = digits_value 10 ds
+
+    negative : starts_with_minus bs ≡ true → (n : ℕ) → (0 < length ds) × (length (decimal n) ≤ length ds) → length (signed_decimal (neg_ℤ (pos n))) < 2 * length run
+    negative s zero h = omega (arith, h.0, h.1, (sign-len bs).1 s, plus-len run)
+    negative s (suc n) h = omega (arith, h.0, h.1, (sign-len bs).1 s, plus-len run)
+
+    go : (s a b : Bool) → starts_with_minus bs ≡ s → is_numeral ds && nat_le v (2 ^ k) ≡ a → is_numeral ds && nat_lt v (2 ^ k) ≡ b
+        → IfSome (if s then keep_if a (neg_ℤ (pos v)) else keep_if b (pos v)) (λ u. length (signed_decimal u) < 2 * length run)
+    go true true b s e f =
+        let p = both_true (is_numeral ds) (nat_le v (2 ^ k)) e in
+        negative s v (digits-len ds p.0 (omega (arith, leb-true v (2 ^ k) p.1, power k narrow)))
+    go true false b s e f = tt
+    go false a true s e f =
+        let p = both_true (is_numeral ds) (nat_lt v (2 ^ k)) f in
+        let n = digits-len ds p.0 (omega (arith, ltb-true v (2 ^ k) p.1, power k narrow)) in
+        omega (arith, n.0, n.1, (sign-len bs).0, plus-len run)
+    go false a false s e f = tt
+
+-- So there are no long texts.
+pub none-long : {N : Type 0} (read : List ℕ → Option N) (num : N → List ℕ) → ((run : List ℕ) → run ≢ [] → IfSome (read (without_plus run)) (λ x. length (num x) < 2 * length run)) → HasLongText read num → ⊥
+none-long read num law h =
+    let less : length (num h.number) < 2 * length h.run = subst (λ o. IfSome o (λ x. length (num x) < 2 * length h.run)) h.reads (law h.run h.some) in
+    omega (arith, less, h.long)

@@ -1,0 +1,14 @@
+-- What is made where nothing is kept.
+use Rattle.wkt_events.specs.Makers.{Maker}
+use Rattle.wkt_events.specs.declared.front.Nothing.{Nothing}
+
+-- Any events make nothing, for which there is always room.
+abbrev pub nothing_maker : {N : Type 0} → Maker N Nothing
+nothing_maker = record {
+  amount = λ s. 0;
+  makes = λ s es t. Unit {0};
+  fits = λ s n. Unit {0};
+  none = λ s. tt;
+  more = λ s t u es fs h k. tt;
+  less = λ s m n order h. tt;
+}

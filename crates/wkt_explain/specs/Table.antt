@@ -1,0 +1,150 @@
+-- With which message a text is refused: the table of docs/GRAMMAR.md.
+use Rattle.std.specs.Prelude.{◌≡◌, ◌+◌, ℕ, zero, suc, List, [], ◌∷◌, ◌++◌, Option, Some, None, Bool, true, false, if◌then◌else◌}
+use Rattle.std.proofs.Common.{inl, inr}
+use Rattle.wkt_num.specs.Bytes as lex
+use Rattle.wkt_num.specs.Bytes.{Lexeme}
+use Rattle.wkt_read.specs.Early.{opens, closes}
+use Rattle.wkt_read.specs.Lexemes.{IsSplit}
+use Rattle.wkt_read.specs.Parser.Outcome.{is_ascii_word}
+use Rattle.wkt_read.specs.declared.messages.Message.{Message}
+use Rattle.wkt_read.specs.declared.messages.Message.TheVariants as message
+use Rattle.wkt_explain.specs.declared.expected.Expected.{Expected}
+use Rattle.wkt_explain.specs.declared.expected.Expected.TheVariants as expected
+use Rattle.wkt_explain.specs.Explained.{IsRefusedAt}
+
+-- The message where nothing stands, by what is expected there.
+abbrev pub at_end : Expected → Message
+at_end expected.Kind = message.Format
+at_end expected.Member = message.Member
+at_end expected.Dimension = message.End
+at_end expected.Opening = message.Open
+at_end expected.Point = message.X
+at_end expected.X = message.X
+at_end expected.Y = message.Y
+at_end expected.Z = message.Z
+at_end expected.M = message.M
+at_end expected.More = message.Close
+at_end expected.Closing = message.Close
+
+-- Where a mark stands, or a number of the type: after a kind word alone it is that of the parenthesis.
+abbrev pub at_other : Expected → Message
+at_other expected.Kind = message.Format
+at_other expected.Member = message.Member
+at_other expected.Dimension = message.Open
+at_other expected.Opening = message.Open
+at_other expected.Point = message.X
+at_other expected.X = message.X
+at_other expected.Y = message.Y
+at_other expected.Z = message.Z
+at_other expected.M = message.M
+at_other expected.More = message.Close
+at_other expected.Closing = message.Close
+
+-- Where a word stands: at the text's start one that isn't ASCII has its own.
+abbrev pub at_word : Expected → List ℕ → Message
+at_word expected.Kind w = if is_ascii_word w then message.Kind else message.NonAscii
+at_word expected.Member w = message.Kind
+at_word expected.Dimension w = message.Word
+at_word expected.Opening w = message.Open
+at_word expected.Point w = message.X
+at_word expected.X w = message.X
+at_word expected.Y w = message.Y
+at_word expected.Z w = message.Z
+at_word expected.M w = message.M
+at_word expected.More w = message.Close
+at_word expected.Closing w = message.Close
+
+-- Where a number stands that its type refuses.
+abbrev pub at_bad : Expected → Message
+at_bad expected.Kind = message.BadNumber
+at_bad expected.Member = message.BadNumber
+at_bad expected.Dimension = message.End
+at_bad expected.Opening = message.BadNumber
+at_bad expected.Point = message.BadNumber
+at_bad expected.X = message.BadNumber
+at_bad expected.Y = message.BadNumber
+at_bad expected.Z = message.BadNumber
+at_bad expected.M = message.BadNumber
+at_bad expected.More = message.BadNumber
+at_bad expected.Closing = message.BadNumber
+
+module _ {N : Type 0} (read : List ℕ → Option N) where
+  abbrev pub at_number : Option N → Expected → Message
+  at_number (Some x) e = at_other e
+  at_number None e = at_bad e
+
+  -- The message of the place alone, by the first of the lexemes that stand there.
+  abbrev pub at_place : Expected → List Lexeme → Message
+  at_place e [] = at_end e
+  at_place e (lex.Open ∷ r) = at_other e
+  at_place e (lex.Close ∷ r) = at_other e
+  at_place e (lex.Comma ∷ r) = at_other e
+  at_place e (lex.Word w ∷ r) = at_word e w
+  at_place e (lex.Num w ∷ r) = at_number (read w) e
+
+  abbrev pub is_unread : Option N → Bool
+  is_unread (Some x) = false
+  is_unread None = true
+
+  -- After a kind word alone a word, or a number that its type refuses, isn't taken.
+  abbrev pub stays_alone : Lexeme → Bool
+  stays_alone lex.Open = false
+  stays_alone lex.Close = false
+  stays_alone lex.Comma = false
+  stays_alone (lex.Word w) = true
+  stays_alone (lex.Num w) = is_unread (read w)
+
+  -- The lexeme isn't taken where it is refused: nor is it after an item, where a parenthesis has to close.
+  abbrev pub stays : Expected → Lexeme → Bool
+  stays expected.Kind x = false
+  stays expected.Member x = false
+  stays expected.Dimension x = stays_alone x
+  stays expected.Opening x = false
+  stays expected.Point x = false
+  stays expected.X x = false
+  stays expected.Y x = false
+  stays expected.Z x = false
+  stays expected.M x = false
+  stays expected.More x = true
+  stays expected.Closing x = true
+
+  -- The lexemes that are left for the places where the open parentheses close.
+  abbrev pub left_at : Expected → List Lexeme → List Lexeme
+  left_at e [] = []
+  left_at e (x ∷ r) = if stays e x then x ∷ r else r
+
+  abbrev pub unclosed : Option N → Message
+  unclosed (Some x) = message.Close
+  unclosed None = message.BadNumber
+
+  -- A parenthesis has to close: `)` keeps the message, a number that its type refuses has its own, and so has anything else.
+  abbrev pub closing : Message → List Lexeme → Message × List Lexeme
+  closing m [] = (message.Close, [])
+  closing m (lex.Close ∷ r) = (m, r)
+  closing m (lex.Open ∷ r) = (message.Close, r)
+  closing m (lex.Comma ∷ r) = (message.Close, r)
+  closing m (lex.Word w ∷ r) = (message.Close, r)
+  closing m (lex.Num w ∷ r) = (unclosed (read w), r)
+
+  -- So many have to close, one after the other.
+  abbrev pub closings : ℕ → Message → List Lexeme → Message × List Lexeme
+  closings zero m ls = (m, ls)
+  closings (suc n) m ls = closings n (closing m ls).0 (closing m ls).1
+
+  -- The message of a text, by what is expected where it is refused, how many parentheses are open there, and the lexemes that stand there.
+  abbrev pub told : Expected → ℕ → List Lexeme → Message
+  told e parens ls = (closings parens (at_place e ls) (left_at e ls)).0
+
+  -- The lexemes before the place where a text is refused.
+  abbrev pub before_place : {text : List ℕ} {start end : ℕ} {e : Expected} → IsRefusedAt read text start end e → List Lexeme
+  before_place (inl t) = t.before
+  before_place (inr t) = t.lexemes
+
+  -- The text is refused at this place, and the table has this message for it.
+  pub record IsToldAt (text : List ℕ) (start end : ℕ) (e : Expected) (m : Message) : Type 0 where
+    pub refused : IsRefusedAt read text start end e
+    pub there : List Lexeme
+    pub parens : ℕ
+    pub split : IsSplit text (before_place refused ++ there)
+    pub counted : parens + closes (before_place refused) ≡ opens (before_place refused)
+    pub is : m ≡ told e parens there

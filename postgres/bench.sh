@@ -1,0 +1,74 @@
+#!/usr/bin/env bash
+# Prints seconds of COPY and of SELECT beside PostGIS's, in one run: bench.sh [FOLDER [ROWS]]
+#
+# FOLDER as test.sh has it. It needs PostGIS too. ROWS is how many points there are (a million without it); the long
+# texts have twice as many bytes as a million points have, in lines of 2,271 bytes on average, and compress to 60 %.
+# Of each line two times are given, the least of three runs: seconds of the server's processor time, which what else the
+# machine does hardly changes, and of the clock.
+set -eu
+. "$(dirname "$0")/server.sh"
+library "${1:-}"
+rows=${2:-1000000}
+root=$(cd "$(dirname "$0")/.." && pwd)
+start_server -c shared_buffers=1GB -c max_wal_size=8GB -c wal_level=minimal -c max_wal_senders=0 -c jit=off -c autovacuum=off
+sql() { "$bin/psql" -X -q -v ON_ERROR_STOP=1 "$@"; }
+sql -c "create extension wkt"
+sql -c "create extension postgis" 2> /dev/null || { echo "no PostGIS: not run"; exit 0; }
+python3 "$root/bench/lines.py" points 6 $((rows * 30)) 2> /dev/null | head -n "$rows" > "$dir/points"
+python3 "$root/bench/lines.py" mixed 6 $((rows * 60)) > "$dir/mixed"
+chmod 644 "$dir/points" "$dir/mixed"
+
+echo "$(git -C "$root" describe --always --dirty 2> /dev/null), $(nproc) processors$(sed -n 's/^model name[^:]*:/,/p' /proc/cpuinfo | head -n 1)"
+sql -At -c "select 'PostgreSQL ' || current_setting('server_version'), 'PostGIS ' || postgis_lib_version()"
+# measured NAME SETUP STATEMENT: a row of the table, the statement in a transaction that is rolled back
+measured() {
+    local took=
+    for _ in 1 2 3; do
+        took+=$(printf '%s\n' "begin;" "select pg_backend_pid() as pid \\gset" "\\setenv PID :pid" "$2" \
+            "\\! awk '{ print \"cpu\", \$14 + \$15 }' /proc/\$PID/stat" '\timing on' "$3" '\timing off' \
+            "\\! awk '{ print \"cpu\", \$14 + \$15 }' /proc/\$PID/stat" "rollback;" | sql -At 2> "$dir/err" |
+            awk -v hz="$(getconf CLK_TCK)" '$1 == "cpu" { before = after; after = $2 } $1 == "Time:" { clock = $2 / 1000 }
+                END { if (clock) print (after - before) / hz, clock }')$'\n'
+    done
+    if grep -q ERROR "$dir/err"; then
+        printf '| %s | %s | |\n' "$1" "$(sed -n 's/.*ERROR: */fails: /p' "$dir/err" | head -n 1)"
+    else
+        printf '| %s | %.2f | %.2f |\n' "$1" "$(printf %s "$took" | awk '{ print $1 }' | sort -g | head -n 1)" \
+            "$(printf %s "$took" | awk '{ print $2 }' | sort -g | head -n 1)"
+    fi
+}
+copied() { measured "$1" "$4 create table t ($2);" "copy t (g) from '$dir/$3';"; }
+lz4="set local default_toast_compression = lz4;"
+for what in points mixed; do
+    printf '\n| %s of %s: COPY into | server | clock |\n|---|---|---|\n' "$(wc -l < "$dir/$what")" "$what"
+    copied "text" "g text" $what ""
+    copied "wkt" "g wkt" $what ""
+    copied "wkt(6)" "g wkt(6)" $what ""
+    copied "PostGIS's geometry" "g geometry" $what ""
+    copied "text, and a generated column of text by wkt_canonical" "g text, k text generated always as (wkt_canonical(g)) stored" $what ""
+    copied "text, and a generated column of wkt" "g text, k wkt generated always as (g::wkt) stored" $what ""
+    copied "text, and a generated column of geometry by ST_GeomFromText" "g text, k geometry generated always as (ST_GeomFromText(g)) stored" $what ""
+    copied "text, and its digest by sha256(wkt_canonical(g)::bytea) as a generated primary key" \
+        "g text, k bytea generated always as (sha256(wkt_canonical(g)::bytea)) stored primary key" $what ""
+    copied "wkt, exclude using hash (g with =)" "g wkt, exclude using hash (g with =)" $what ""
+    copied "text collate \"C\", primary key" "g text collate \"C\" primary key" $what ""
+    copied "wkt, primary key" "g wkt primary key" $what ""
+    copied "PostGIS's geometry, primary key" "g geometry primary key" $what ""
+    if [ $what = mixed ]; then
+        copied "text, and a generated column of text by wkt_canonical, this column with lz4" \
+            "g text, k text compression lz4 generated always as (wkt_canonical(g)) stored" $what ""
+        copied "text, with lz4" "g text" $what "$lz4"
+        copied "wkt, with lz4" "g wkt" $what "$lz4"
+        copied "PostGIS's geometry, with lz4" "g geometry" $what "$lz4"
+        copied "text, and a generated column of text by wkt_canonical, both with lz4" "g text, k text generated always as (wkt_canonical(g)) stored" $what "$lz4"
+        copied "text, and a generated column of geometry by ST_GeomFromText, both with lz4" "g text, k geometry generated always as (ST_GeomFromText(g)) stored" $what "$lz4"
+    fi
+    sql -c "create table t (g text)" -c "copy t from '$dir/$what'" -c "analyze t"
+    printf '\n| %s of %s: SELECT | server | clock |\n|---|---|---|\n' "$(wc -l < "$dir/$what")" "$what"
+    alone="set local max_parallel_workers_per_gather = 0;"
+    measured "sum(length(g))" "$alone" "select sum(length(g)) from t;"
+    measured "sum(length(wkt_canonical(g)))" "$alone" "select sum(length(wkt_canonical(g))) from t;"
+    measured "count(*) where wkt_reads(g)" "$alone" "select count(*) from t where wkt_reads(g);"
+    measured "sum(length(ST_AsText(ST_GeomFromText(g))))" "$alone" "select sum(length(ST_AsText(ST_GeomFromText(g)))) from t;"
+    sql -c "drop table t"
+done
