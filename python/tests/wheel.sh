@@ -33,6 +33,13 @@ for fast in 1 0; do
     each "$(basename "$wheel")" "$work/installed$fast"
 done
 
+# Without a library of its own it finds the system's, and where there is none it says so.
+cp -r "$work/installed0" "$work/bare" && rm "$work/bare/wkt/libwkt.so"
+found() { (cd "$work" && env -u WKT_LIB "$@" PYTHONPATH="$work/bare" "$python" -c 'import wkt; print(wkt.canonical("point(1 2.0)"), wkt._library._library._name)') 2>&1; }
+[[ "$(found LD_LIBRARY_PATH="$WKT")" = "POINT(1 2) libwkt.so"* ]] || { found LD_LIBRARY_PATH="$WKT"; echo "the system's library isn't found"; exit 1; }
+/sbin/ldconfig -p | grep -q libwkt || found A=1 | grep -q 'ImportError: libwkt.so is missing' || { echo "a missing library isn't named"; exit 1; }
+echo "the system's libwkt.so is found"
+
 export PYTHONPATH=$work/installed1
 if [ -d "$here/../../tests/command" ]; then
     REST=no "$here/../../tests/command.sh" "$python" -m wkt > "$work/said" 2>&1 || { cat "$work/said"; echo "python -m wkt: other answers"; exit 1; }

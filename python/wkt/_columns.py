@@ -61,9 +61,11 @@ def like(values: Any, answers: List[Any], kind: Any = None) -> Any:
         return type(values)(_array(answers, kind), index=values.index, name=values.name, dtype=dtype)
     if numpy is None or not isinstance(values, numpy.ndarray):
         return answers
-    if kind is None and values.dtype.kind in "SU":
-        # Arrays of a fixed width have no null: its place is an empty text.
-        answers, kind = ["" if answer is None else answer for answer in answers], values.dtype.kind
+    if kind is None and values.dtype.kind in "SUT":
+        # Arrays of a fixed width have no null: its place is an empty text. Those of StringDType may have one.
+        null = getattr(values.dtype, "na_object", "")
+        answers = [null if answer is None else answer for answer in answers]
+        kind = values.dtype if values.dtype.kind == "T" else values.dtype.kind
     return _array(answers, kind).reshape(values.shape)
 
 
