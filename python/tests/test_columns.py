@@ -204,6 +204,18 @@ class Kinds(unittest.TestCase):
             wkt.same("POINT(1 2)", "POINT(1")
         self.assertEqual(raised.exception.explanation.text, "POINT(1")
 
+    def test_long_answers(self):
+        """Answers that are far longer than is likely."""
+        many = ["MULTIPOINT(" + ",".join(["EMPTY"] * 1000) + ")", None, "MULTIPOINT(" + ",".join(["1 2"] * 1000) + ")"]
+        answers = [many[0], None, many[2].replace("1 2", "(1 2)")]
+        self.assertEqual(wkt.canonical(many), answers)
+        self.assertEqual(wkt.canonical(many[2]), answers[2])
+        held = wkt.to_arrays_column(many)
+        self.assertEqual(wkt.from_arrays_column(held), (answers, [0, 28, 0]))
+        self.assertEqual(wkt.from_arrays(wkt.to_arrays(many)), answers)
+        self.assertEqual(wkt.from_arrays_column(wkt.to_arrays_column(many[:1])), ([many[0]], [0]))
+        self.assertEqual(wkt.lines(many[2].encode()), answers[2].encode() + b"\n")
+
     def test_arrays_of_refused_rows(self):
         made = wkt.to_arrays(TEXTS, invalid="null")
         self.assertEqual([row and row.kind for row in made], ["Point", None, "Point", None, "MultiPoint"])

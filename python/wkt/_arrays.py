@@ -288,22 +288,31 @@ def from_arrays_column(arrays: ColumnArrays, places: int = 6) -> Tuple[List[Opti
     TypeError, OverflowError: as of `from_arrays`. WktError: the offsets are of no column (27).
     """
     places = places_of(places)
-    held = [integers(code, getattr(arrays, name), name) for name, code in CODES.items()]
+    out, needed, ends, statuses = _column_texts(arrays, places)
+    return unpacked(out, needed, ends, statuses), statuses.tolist()
+
+
+def _column_texts(arrays: ColumnArrays, places: int) -> Tuple[Any, int, Any, Any]:
+    """The canonical texts of arrays as a buffer, how long they are, where each begins, and the status of each row."""
+    held = {name: integers(code, getattr(arrays, name), name) for name, code in CODES.items()}
     given = integers("I", arrays.statuses, "statuses")
-    rows = held[0].length
+    rows = held["kinds"].length
     if given.length != rows:
         raise WktError(NOT_COLUMN, words_of(NOT_COLUMN))
     valid = _valid_bits(given)
     ends, statuses = zeros("q", rows + 1), zeros("I", rows)
+    eight = [part for values in held.values() for part in (pointer(values.data), values.length)]
+    answers = list(_parts(ends, statuses))
 
     def call(out: Any, length: int, needed: Any) -> int:
         status: int = _library.wkt_column_from_arrays(
-            *[part for values in held for part in (pointer(values.data), values.length)], valid, len(valid), places, out, length, *_parts(ends, statuses), needed
-        )  # fmt: skip
+            *eight, valid, len(valid), places, out, length, *answers, needed
+        )
         return status
 
-    room = Room(12 * held[2].length + 24 * rows + 64)
-    return unpacked(room.out, room.call(call), ends, statuses), statuses.tolist()
+    room = Room(12 * held["numbers"].length + 24 * rows + 64)
+    needed = room.call(call)
+    return room.out, needed, ends, statuses
 
 
 def _valid_bits(statuses: Ints) -> bytes:
