@@ -7,7 +7,7 @@ ghost use Rattle.wkt_read.specs.Refusal.{IsTextRefused, IfText};
 ghost use Rattle.wkt_events.specs.Canonical.{IsCanonical};
 
 use std::alloc::{AllocError, Global};
-use wkt_events::{NoRoom, Written, canonical_into};
+use wkt_events::{NoRoom, TextWritten, canonical_into};
 use wkt_num::WktNum;
 use wkt_read::{FromWktStr, ReadError};
 use wkt_types::Wkt;
@@ -75,7 +75,7 @@ pub fn canonical_text<T: WktNum>(alloc: Global, text: &str) -> Result<String, Re
     let mut bytes = room_for(alloc, text.len())?;
     'room: loop {
         match canonical_into::<T>(text, bytes.as_mut_slice()) {
-            Ok(Some(Written { end: _, len })) => {
+            Ok(Some(TextWritten { end: _, len })) => {
                 bytes.truncate(len);
                 bytes.shrink_to_fit();
                 return Ok(unsafe { String::from_utf8_unchecked(bytes) });

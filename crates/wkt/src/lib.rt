@@ -86,7 +86,7 @@ pub use json::{
 };
 pub use same::same_geometry;
 pub use whole::{WholeError, read_whole};
-pub use wkt_events::{Written, canonical_into, front_end};
+pub use wkt_events::{TextWritten, canonical_into, front_end};
 pub use wkt_explain::{Expected, Explanation, Refusal, explain, refusal};
 pub use wkt_num::{Decimal, WktNum};
 pub use wkt_read::{FromWktStr, InferError, Message, ReadError, infer_type};

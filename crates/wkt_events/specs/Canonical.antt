@@ -7,7 +7,7 @@ use Rattle.wkt_read.specs.Front.{Front, HasNoFront}
 use Rattle.wkt_events.specs.Left.{line_of}
 use Rattle.wkt_events.specs.LongTexts.{HasLongText}
 use Rattle.wkt_events.specs.declared.canonical.NoRoom.{NoRoom}
-use Rattle.wkt_events.specs.declared.canonical.Written.{Written}
+use Rattle.wkt_events.specs.declared.canonical.TextWritten.{TextWritten}
 
 -- The text has a front that ends at `end`.
 abbrev pub EndsFront : {N : Type 0} → (List ℕ → Option N) → List ℕ → ℕ → Type 0
@@ -38,7 +38,7 @@ module _ {N : Type 0} (read : List ℕ → Option N) (num : N → List ℕ) wher
   WritesCanonical text len old new (Err e) = HasLongText read num
 
   -- The canonical text stands at the front of a buffer; or the text has no front; or the buffer was too short, or a number's text too long.
-  abbrev pub WritesInto : List ℕ → List ℕ → List ℕ → Result (Option Written) NoRoom → Type 0
+  abbrev pub WritesInto : List ℕ → List ℕ → List ℕ → Result (Option TextWritten) NoRoom → Type 0
   WritesInto text old new (Ok (Some w)) = IsCanonicalTo text (take w.len new) w.end × (w.len ≤ length new) × IsUtf8 (take w.len new)
   WritesInto text old new (Ok None) = HasNoFront read text
   WritesInto text old new (Err e) = (length old < 2 * length text + 65) ⊎ HasLongText read num

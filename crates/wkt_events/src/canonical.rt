@@ -14,7 +14,7 @@ pub struct NoRoom;
 
 /// Where a geometry ends in its text, and how long its canonical text is, in bytes.
 #[derive(Debug, Clone, Copy)]
-pub struct Written {
+pub struct TextWritten {
     pub end: usize,
     pub len: usize,
 }
@@ -30,7 +30,10 @@ pub struct Written {
 /// # Errors
 /// [`NoRoom`]: the buffer is shorter than twice the text and 65 bytes more; or a number's text is at least twice as long
 /// as what it was read from.
-pub fn canonical_into<T: WktNum>(text: &str, buffer: &mut [u8]) -> Result<Option<Written>, NoRoom>
+pub fn canonical_into<T: WktNum>(
+    text: &str,
+    buffer: &mut [u8],
+) -> Result<Option<TextWritten>, NoRoom>
     ensures writes { WritesInto T.read T.num text.now buffer.old buffer.new result }
     ensures whole { length buffer.new ≡ length buffer.old }
 {
@@ -39,7 +42,7 @@ pub fn canonical_into<T: WktNum>(text: &str, buffer: &mut [u8]) -> Result<Option
         return Err(NoRoom);
     }
     match write_canonical::<T>(text, buffer, 0) {
-        Ok(Some((end, len))) => Ok(Some(Written { end, len })),
+        Ok(Some((end, len))) => Ok(Some(TextWritten { end, len })),
         Ok(None) => Ok(None),
         Err(NoRoom) => Err(NoRoom),
     }

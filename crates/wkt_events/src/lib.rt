@@ -19,7 +19,7 @@ mod through;
 mod walk;
 
 pub use builder::{At, Builder, Part};
-pub use canonical::{NoRoom, Written, canonical_into, write_canonical};
+pub use canonical::{NoRoom, TextWritten, canonical_into, write_canonical};
 pub use front::front_end;
 pub use lines::{Answer, answer_line};
 pub use reading::read_number_at;
