@@ -32,8 +32,8 @@ Each line of a FILE is a text of well-known text. With no FILE, or where FILE is
   -0, --null        texts end at a NUL, not at a line feed
   -f, --front       what follows a geometry in its text isn't looked at
   --refused WORD    canon, kind: write WORD in place of the answer to a refused text
-  -n, --max N       check: end after N refusals (100); 0: tell all
-  -q, --quiet       tell no refusals: canon, kind and dups write their answers alone, check and same nothing
+  -n, --max N       check: end after N refusals (100); 0: report all
+  -q, --quiet       report no refusals: canon, kind and dups write their answers alone, check and same nothing
   --progress, --no-progress
                     show on standard error how far the run is, or don't. By itself it is shown for a FILE of more
                     than 64 MB, where standard error is a terminal
@@ -169,7 +169,7 @@ def end_of(text: bytes, places: int) -> int:
 
 
 def why(text: bytes, name: str, line: int, places: int) -> str:
-    """What is told of a refused text."""
+    """What is reported of a refused text."""
     try:
         shown = text.decode("utf-8")
     except UnicodeDecodeError as error:
@@ -190,7 +190,7 @@ class Run:
         self.places = options.places | (0 if options.front else WHOLE)
 
     def is_over(self) -> bool:
-        """Whether `check` has told as many refusals as were asked for."""
+        """Whether `check` has reported as many refusals as were asked for."""
         most = 1 if self.options.quiet else self.options.most
         return self.options.command == "check" and most > 0 and self.refused >= most
 
@@ -256,7 +256,7 @@ class Run:
                 progress.wipe()
 
     def finish(self) -> None:
-        """Tells how many texts were refused."""
+        """Reports how many texts were refused."""
         if self.options.quiet or (self.options.command != "check" and not self.refused):
             return
         first = "the first " if self.is_over() else ""

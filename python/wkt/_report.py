@@ -1,4 +1,4 @@
-"""A refused text, as `python -m wkt` tells it: the place, what was expected, a hint, and the line with a mark."""
+"""A refused text, as `python -m wkt` reports it: the place, what was expected, a hint, and the line with a mark."""
 import string
 import unicodedata
 from typing import Optional
