@@ -55,9 +55,7 @@ static void check_depth(const Question *asked) {
 #endif
 }
 
-/* Of a call that a cancel ended the error is the cancel's: see heap.c. */
 static void out_of_memory(void) {
-    CHECK_FOR_INTERRUPTS();
     ereport(ERROR, (errcode(ERRCODE_OUT_OF_MEMORY), errmsg("out of memory")));
 }
 
@@ -84,6 +82,7 @@ bool canonical_of(const Question *asked, text **answer, Refusal *why) {
     why->at = 0;
     why->status = wkt_canonical(asked->utf8, asked->length, asked->places, made ? (uint8_t *)VARDATA(made) : NULL, room,
                                 &needed, &end);
+    CHECK_FOR_INTERRUPTS(); /* what came during the call, which looks for none */
     if (why->status == WKT_TOO_SMALL && answer)
         ereport(ERROR, (errcode(ERRCODE_PROGRAM_LIMIT_EXCEEDED),
                         errmsg("the canonical text is too long: it has %zu bytes", needed)));

@@ -72,7 +72,8 @@ def end_of(lines, start, depth):
     balance = 0
     for at in range(start, len(lines)):
         line = lines[at].rstrip()
-        if indent_of(line) == depth and line.endswith("{"):
+        inside = lines[start].lstrip().startswith("impl")
+        if (indent_of(line) == depth or inside) and line.endswith("{"):
             return next(n for n in range(at, len(lines)) if n > at and lines[n] == " " * depth + "}"), at
         balance += sum(line.count(mark) for mark in "([{") - sum(line.count(mark) for mark in ")]}")
         if balance == 0 and (line.endswith(";") or indent_of(line) == depth and line.endswith("}")):
@@ -161,7 +162,10 @@ def tell(name, item, calls):
     """The lines of the page for a public item: a function, a type with its calls, or a trait with its members."""
     if re.match(r"pub (unsafe )?(fn|const)\b", item.head[0]):
         return [told(item, "")]
-    page = [f"- **`{re.sub(r' where .*', '', item.signature())}`**: {item.sentence()}"]
+    head = re.sub(r" where .*", "", item.signature())
+    # A type may be handed on by a name of its own.
+    head = re.sub(r"^(struct|enum|trait) \w+", rf"\1 {name}", head)
+    page = [f"- **`{head}`**: {item.sentence()}"]
     if item.head[0].startswith("pub trait"):
         for member in items_in(item.body, 4):
             if member.head[0].strip().startswith("ghost use"):
@@ -196,6 +200,11 @@ def main():
             if name not in found.items and name == "Dimension":
                 found = crates.setdefault("wkt_access", Crate("wkt_access"))
             sections.setdefault("::".join((door,) + path), []).append((here, found.items[name], found.calls.get(name, [])))
+        # A public module with a file of its own.
+        for module in re.findall(r"^pub mod (\w+);", "\n".join(lines_of(os.path.join(base, "lib.rt"))), re.M):
+            for item in items_in(lines_of(os.path.join(base, f"{module}.rt")), 0) if module != "laws" else []:
+                if item.head[0].startswith("pub fn"):
+                    sections.setdefault(f"{door}::{module}", []).append((item.signature(), item, []))
         if door != "wkt":
             laws = crates.setdefault(door, Crate(door))
             for item in items_in(lines_of(os.path.join(base, "laws.rt")), 0) if os.path.exists(os.path.join(base, "laws.rt")) else []:

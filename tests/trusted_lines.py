@@ -2,9 +2,10 @@
 """Prints what has to be believed to believe the statement `Headline`: each definition that it rests on, by file and lines.
 
     tests/trusted_lines.py           a line a file, and the sum
+    tests/trusted_lines.py --calls   the same for the calls that people make: reading, writing, decimals, canonical text, lines
     tests/trusted_lines.py -v        each definition
 
-It begins at `Headline` in crates/wkt_read/specs/Headline.antt and follows the names that each definition uses through
+It begins at `Headline` in crates/wkt_read/specs/Headline.antt, or at the definitions of CALLS, and follows the names that each definition uses through
 the imports of its file. Lines are those of code: blank lines, comments and imports aren't counted. What std defines isn't
 followed.
 """
@@ -14,6 +15,15 @@ import sys
 
 ROOT = os.path.join(os.path.dirname(os.path.abspath(__file__)), os.pardir)
 HEADLINE = ("wkt_read.specs.Headline", "Headline")
+CALLS = [
+    ("wkt_read.specs.Answered", "IsFront"),
+    ("wkt_read.specs.Front", "HasNoFront"),
+    ("wkt_write.specs.Writes", "Writes"),
+    ("wkt_num.specs.Decimal", "read_decimal"),
+    ("wkt_num.specs.Decimal", "decimal_text"),
+    ("wkt_events.specs.Canonical", "IsCanonical"),
+    ("wkt_lines.specs.Output", "IsOutput"),
+]
 NAME = r"[^\s(){};,.:λ∀→×≡]+"
 
 
@@ -74,7 +84,7 @@ class File:
 
 
 def main():
-    files, seen, todo = {}, {}, [HEADLINE]
+    files, seen, todo = {}, {}, CALLS[:] if "--calls" in sys.argv else [HEADLINE]
     while todo:
         module, name = todo.pop()
         if ".declared." in module or not os.path.exists(path_of(module)):

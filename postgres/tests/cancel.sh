@@ -1,4 +1,5 @@
-# Sourced by test.sh: texts of 100 MB under a statement_timeout that comes in the midst of the library's call.
+# Sourced by test.sh: texts of 100 MB under a statement_timeout that comes amid the library's call: it
+# takes effect when the call returns, within a second on a machine that does nothing else.
 ask postgres "create database cancel"
 ask cancel "create extension wkt" "create table long (id int, t text)" "alter table long alter t set storage external" "insert into long
     select 1, 'LINESTRING(' || repeat('12.345678 34.567891,', 5000000) || '0 0)' union all

@@ -7,8 +7,8 @@ use wkt::geo_types::{Coord, Geometry, Rect};
 use wkt::geo_types_from_wkt::ConvertFrom;
 use wkt::to_wkt::{Counted, push_geometry};
 use wkt::{
-    AnyError, Decimal, FromWktStr, ToWkt, WholeError, Wkt, canonical_into, canonical_text, front_end,
-    infer_type, read_whole,
+    AnyError, Decimal, FromWktStr, ToWkt, WholeError, Wkt, canonical_into, canonical_text,
+    front_end, infer_type, read_whole,
 };
 
 #[test]
@@ -27,10 +27,15 @@ fn writes_it_into_a_buffer(rt: HostRuntime) {
         panic!(rt; "nothing was written");
     };
     assert_eq!(rt; written.end, 14);
-    assert!(rt; &buffer[..written.len] == b"POINT(1.5 2)");
+    assert!(rt; &buffer[..written.len] == b"POINT(1.5 2)".as_slice());
     let short = canonical_into::<Decimal<6>>(text, &mut buffer[..110]);
     assert!(rt; matches!(short, Err(NoRoom)));
-    assert!(rt; matches!(canonical_into::<Decimal<6>>("POINT(1)", &mut buffer), Ok(None)));
+    assert!(rt;
+        matches!(
+            canonical_into::<Decimal<6>>("POINT(1)", &mut buffer),
+            Ok(None)
+        )
+    );
 }
 
 #[test]
