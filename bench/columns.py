@@ -8,7 +8,6 @@ import os
 import resource
 import subprocess
 import sys
-import time
 
 HERE = os.path.dirname(os.path.abspath(__file__))
 LINES = os.path.join(HERE, "lines.py")

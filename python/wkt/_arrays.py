@@ -6,10 +6,10 @@ from typing import Any, Callable, Iterator, List, NamedTuple, Optional, Tuple
 
 from . import _arrow, _library
 from ._blocks import Progress, Packed, Room, pack, parts, pointer, shown, unpacked
-from ._columns import check_invalid, column_of, refused_of, rows_of
+from ._columns import check_invalid, column_of, is_column, refused_of, rows_of
 from ._errors import WktError, check, words_of
 from ._explain import refusal
-from ._names import DIMENSIONS, KINDS, NOT_COLUMN, NULL, TOO_SMALL
+from ._names import DIMENSIONS, KINDS, NOT_COLUMN, TOO_SMALL
 from ._values import Ints, Text, encoded, integers, is_null, numpy, places_of, zeros
 
 # Rows that a call takes: few enough that its buffers stay near the processor, and a signal or a callback gets its turn.
@@ -127,7 +127,7 @@ def to_arrays(
     """
     places = places_of(places, whole)
     check_invalid(invalid, ("raise", "null"))
-    if rows_of(text) is None and not _arrow.is_texts(text):
+    if not is_column(text):
         return _text_arrays(text, places)
     held = _column_arrays(text, places, progress)
     if invalid == "raise":

@@ -6,7 +6,7 @@ from typing import Any, Callable, Iterator, List, NamedTuple, Optional, Sequence
 
 from . import _library
 from ._errors import check
-from ._library import size, u32
+from ._library import size
 from ._names import TOO_SMALL
 from ._values import address, encoded, is_null, zeros
 

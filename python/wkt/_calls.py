@@ -1,21 +1,17 @@
 """The functions on texts."""
 import ctypes
-from typing import Any, Callable, Iterator, List, Optional, Sequence, Tuple
+from typing import Any, List, Optional, Sequence, Tuple
 
 from . import _arrow, _library
 from ._blocks import Progress, Room, canonical_blocks
-from ._columns import canonical_like, canonical_rows, check_invalid, column_of, is_series, like, refused_of, rows_of
+from ._columns import canonical_like, canonical_rows, check_invalid, column_of, is_column, like, refused_of
 from ._errors import check
 from ._explain import Explanation, explained, refusal
 from ._library import size, u32
 from ._names import DIMENSIONS, HEADER_MESSAGES, KINDS, LAST_REFUSAL, MESSAGES, NO_MEMORY, NO_PLACES, NULL, TOO_SMALL
-from ._values import TEXTS, Text, encoded, is_null, numpy, places_of, zeros
+from ._values import Text, encoded, is_null, places_of
 
 _INFERRED = HEADER_MESSAGES + MESSAGES[len(HEADER_MESSAGES) :]
-
-
-def _is_column(values: Any) -> bool:
-    return not isinstance(values, TEXTS) and (_arrow.is_texts(values) or rows_of(values) is not None)
 
 
 def _text_canonical(text: Text, places: int) -> str:
@@ -52,7 +48,7 @@ def canonical(
     OverflowError: places is below 0, or too large for 32 bits.
     """
     places = places_of(places, whole)
-    if type(text) is not str and _is_column(text):
+    if type(text) is not str and is_column(text):
         return canonical_like(text, places, invalid, progress)
     if invalid != "raise":
         check_invalid(invalid)
@@ -95,7 +91,7 @@ def same(
     if type(one) is type(other) is str and invalid == "raise":
         return _text_same(one, other, places)
     check_invalid(invalid, ("raise", "null"))
-    columns = [_is_column(one), _is_column(other)]
+    columns = [is_column(one), is_column(other)]
     if not any(columns):
         return _text_same(one, other, places)
     ones, others = (column_of(it) if column else None for it, column in zip((one, other), columns))
@@ -146,7 +142,7 @@ def infer(text: Any) -> Any:
     The rest isn't read. Of a column a list, with None of a null row. WktError: the text begins with no kind word (1),
     EMPTY comes first with no space before it (2), there is neither a parenthesis nor EMPTY (3), or it isn't UTF-8 (20).
     """
-    if not _is_column(text):
+    if not is_column(text):
         return _text_kind(text)
     return [None if is_null(row) else _text_kind(row, i) for i, row in enumerate(column_of(text))]
 
@@ -159,7 +155,7 @@ def reads(text: Any, places: int = 18, progress: Progress = None, whole: bool = 
     as of `canonical`.
     """
     places = places_of(places, whole)
-    if not _is_column(text):
+    if not is_column(text):
         data = encoded(text)
         status = _library.wkt_canonical(data, len(data), places, None, 0, ctypes.byref(size()), ctypes.byref(size()))
         if status in (NO_MEMORY, NO_PLACES):
@@ -180,7 +176,7 @@ def explain(text: Any, places: int = 18, progress: Progress = None) -> Any:
     WktError: the text isn't UTF-8 (20): it has no place that could be named. In a column it is a row of None too.
     """
     places = places_of(places)
-    if not _is_column(text):
+    if not is_column(text):
         return explained(text, places)
     rows = column_of(text)
     answers: List[Optional[Explanation]] = [None] * len(rows)
@@ -198,7 +194,7 @@ def lines(data: Any, places: int = 18) -> Any:
     None of a null row. places: as of `canonical`. ValueError: a text of a column holds a line feed.
     """
     places = places_of(places)
-    if not _is_column(data):
+    if not is_column(data):
         held = encoded(data)
 
         def call(out: Any, length: int, needed: Any) -> int:

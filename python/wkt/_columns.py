@@ -15,6 +15,20 @@ def is_series(values: Any) -> bool:
     return all(hasattr(values, name) for name in ("to_numpy", "index", "name", "dtype"))
 
 
+_LISTS = ("to_pylist", "tolist", "to_list")
+
+
+def is_column(values: Any) -> bool:
+    """Whether it is a column, and no single value."""
+    if isinstance(values, TEXTS):
+        return False
+    if isinstance(values, (list, tuple)):
+        return True
+    if numpy is not None and isinstance(values, numpy.ndarray):
+        return bool(values.ndim > 0)
+    return _arrow.is_texts(values) or any(hasattr(values, method) for method in _LISTS)
+
+
 def rows_of(values: Any) -> Optional[Sequence[Any]]:
     """The rows of a column as a list or a tuple; None of a single value."""
     if isinstance(values, TEXTS):
@@ -26,7 +40,7 @@ def rows_of(values: Any) -> Optional[Sequence[Any]]:
             return None
         rows: List[Any] = values.reshape(-1).tolist()
         return rows
-    for method in ("to_pylist", "tolist", "to_list"):
+    for method in _LISTS:
         if hasattr(values, method):
             several = getattr(values, method)()
             return several if isinstance(several, list) else None
