@@ -10,7 +10,7 @@ import os
 import re
 
 ROOT = os.path.join(os.path.dirname(os.path.abspath(__file__)), os.pardir)
-DOORS = ["wkt", "wkt_lines", "wkt_stream"]
+DOORS = ["wkt", "wkt_lines"]
 # What a source calls a type that a caller names otherwise.
 NAMED = {"wkt_access::Error": "wkt::error::Error", "WriteError": "wkt::error::Error"}
 ITEM = re.compile(r"\s*(pub(\(\w+\))? )?(unsafe )?((fn|struct|enum|trait|const|type|impl|mod|static)\b|ghost \w+[:= ]|macro_rules!)")

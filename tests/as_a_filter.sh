@@ -27,6 +27,26 @@ same() {
     says "$1" "0 |  | "
 }
 
+# peak NAME KB INPUT PROGRAM: a run over it leaves the input's own bytes, in less memory than so many KB
+peak() {
+    python3 - "$dir" "$3" "$4" <<'P'
+import resource, subprocess, sys
+folder, given, program = sys.argv[1:]
+with open(given, "rb") as source, open(folder + "/whole", "wb") as out, open(folder + "/err", "wb") as err:
+    status = subprocess.call(["bash", "-c", "ulimit -s 256; exec " + program], stdin=source, stdout=out, stderr=err)
+with open(folder + "/status", "w") as file:
+    print(status, file=file)
+with open(folder + "/peak", "w") as file:
+    print(resource.getrusage(resource.RUSAGE_CHILDREN).ru_maxrss, file=file)
+P
+    if [ "$(cat "$dir/peak")" -lt "$2" ]; then
+        same "$1" "$3"
+    else
+        echo "$(cat "$dir/peak") KB" > "$dir/out"
+        says "$1" "0 |  | "
+    fi
+}
+
 # run COMMAND..: runs it with its output, its error and its status in files
 run() {
     "$@" > "$dir/out" 2> "$dir/err"
@@ -75,7 +95,7 @@ def put(name, text):
         file.write(text)
 def nested(depth):
     return 'GEOMETRYCOLLECTION(' * depth + 'POINT(1 2)' + ')' * depth + '\n'
-put('wide', 'POINT(1 2)\nLINESTRING(' + ','.join(['0 0'] * 4_000_000) + ')\n')
+put('wide', 'POINT(1 2)\nLINESTRING(' + ','.join(['0 0'] * 5_000_000) + ')\n')
 put('deep', 'POINT(1 2)\n' + nested(1_000_000) + 'POINT(3 4)\n')
 def refused(name, text):
     put(name, text + '\nPOINT(1 2)\n')
@@ -183,7 +203,7 @@ same "lines of 100 MB" "$dir/longest_answers"
 echo "${PIPESTATUS[1]}" > "$dir/status"
 same "an input that stops for a second within a line" "$dir/three_answers"
 
-run bash -c "ulimit -v 200000; exec $program < $dir/wide"
+run bash -c "ulimit -v 50000; exec $program < $dir/wide"
 says "out of memory: the answers to the lines before are out" "1 | POINT(1 2) | wkt: out of memory"
 
 for stack in 8192 256; do
@@ -200,11 +220,15 @@ for stack in 8192 256; do
   same "a million collections in one another on a stack of $stack KB" "$dir/deep"
 done
 
-for memory in 3500 6000 20000 100000 400000; do
+for memory in 3500 6000 20000 50000; do
   run bash -c "ulimit -v $memory; exec timeout 60 $program < $dir/deep"
   head -n "$(wc -l < "$dir/out")" "$dir/deep" | cmp -s - "$dir/out" && : > "$dir/out" || echo "a part of an answer" > "$dir/out"
   says "the same in $memory KB of memory: whole answers alone" "1 |  | wkt: out of memory"
 done
+
+# Each has one line of 20 MB: a million nested collections, and five million coordinates.
+peak "a million collections in one another in less than 65 MB" 65000 "$dir/deep" "$program"
+peak "a line of 20 MB in less than 65 MB" 65000 "$dir/wide" "$program"
 }
 
 cases wktline "" 3 2

@@ -25,9 +25,9 @@ wkt_bytes put_all: \{ .*Err\(_\) => Err\(io::Error::from\(.*\)\) .*\}
 # What an explanation is displayed as is tested, as the texts of errors are.
 wkt_explain <Explanation<'a> as fmt::Display>::fmt: \{ Ok\(\(\)\) \}
 # Which fault a source gives is no part of a contract.
-wkt_stream Block::fill: \{ .*Err\(.*\).* \}
+wkt_lines Block::fill: \{ .*Err\(.*\).* \}
 # The lines that ended within what was seen before are none, so to look from the start finds the same.
-wkt_stream Block::whole: \{ .*whole\(self, 0\) \}
+wkt_lines Block::whole: \{ .*whole\(self, 0\) \}
 RIGHT
 
 crates=("$@")

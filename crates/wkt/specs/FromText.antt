@@ -81,6 +81,17 @@ OnReader (Err (Reader e)) P = P
 OnReader (Err Utf8) P = Unit {0}
 OnReader (Err (Memory e)) P = Unit {0}
 
+-- The fact is claimed unless the source failed.
+abbrev pub UnlessReader : {R : Type 0} → Result R ConvertError → Type 0 → Type 0
+UnlessReader (Ok r) P = P
+UnlessReader (Err PointConversionError) P = P
+UnlessReader (Err (MismatchedGeometry e f)) P = P
+UnlessReader (Err (WrongNumberOfGeometries n)) P = P
+UnlessReader (Err (InvalidWKT m)) P = P
+UnlessReader (Err (Reader e)) P = Unit {0}
+UnlessReader (Err Utf8) P = P
+UnlessReader (Err (Memory e)) P = P
+
 -- Why the bytes of a source are no text.
 abbrev pub IsUntold : List ℕ → ConvertError → Type 0
 IsUntold bytes PointConversionError = ⊥

@@ -33,7 +33,6 @@ pub use Rattle.wkt_num.specs.Counted as CountedText
 pub use Rattle.wkt_bytes.specs.Sinks
 pub use Rattle.wkt_bytes.specs.Counted
 pub use Rattle.wkt_bytes.specs.Wrapper
-pub use Rattle.wkt_bytes.specs.Gatherer
 pub use Rattle.wkt_bytes.specs.ReadAll
 -- what is read
 pub use Rattle.wkt_read.specs.Lexemes

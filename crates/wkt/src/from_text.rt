@@ -8,7 +8,7 @@ ghost use Rattle.wkt_flat.specs.Tree.{flat_tree, flat_trees};
 ghost use Rattle.wkt_flat.specs.Equal.{coord_eq};
 ghost use Rattle.wkt_read.specs.Answered.{IsFront};
 ghost use Rattle.wkt_convert.specs.Flatten.{flat, flat_collection};
-ghost use Rattle.wkt.specs.FromText.{TextAnswers, BytesAnswer, AnswersKind, BytesAnswerKind, OnAllRead, OnReader, IsUnread, IsUntold};
+ghost use Rattle.wkt.specs.FromText.{TextAnswers, BytesAnswer, AnswersKind, BytesAnswerKind, OnAllRead, OnReader, UnlessReader, IsUnread, IsUntold};
 ghost use Rattle.wkt_convert.specs.Kinds.{point_kind, line_kind, line_string_kind, polygon_kind, multi_point_kind, multi_line_string_kind, multi_polygon_kind, rect_kind, triangle_kind};
 
 use std::alloc::Global;
@@ -41,6 +41,9 @@ pub trait TryFromWkt<T>: Sized {
     /// A fact claimed where the source failed.
     ghost if_failed: { Result Self Self.Error → Type 0 → Type 0 };
 
+    /// A fact claimed unless the source failed.
+    ghost unless_failed: { Result Self Self.Error → Type 0 → Type 0 };
+
     /// The value of the geometry at the front of the text. What follows the front isn't looked at.
     ///
     /// # Errors
@@ -61,7 +64,8 @@ pub trait TryFromWkt<T>: Sized {
     ) -> Result<Self, Self::Error>
         ensures answer { IfSome (R.left reader.old) (λ bs. bytes_answers bs result) }
         ensures end { if_all_read result (IsAtEnd (R.left reader.new)) }
-        ensures failed { if_failed result (R.failures reader.new ≡ next_count (R.failures reader.old)) };
+        ensures failed { if_failed result (R.failures reader.new ≡ next_count (R.failures reader.old)) }
+        ensures count { unless_failed result (R.failures reader.new ≡ R.failures reader.old) };
 }
 
 /// The geometry at the front of the text.
@@ -80,6 +84,7 @@ fn text_from<R: ByteSource>(alloc: Global, reader: &mut R) -> Result<String, Con
     ensures text { IfSome (R.left reader.old) (λ bs. MatchResult result (λ s. string_bytes s ≡ bs) (IsUntold bs)) }
     ensures end { OnAllRead result (IsAtEnd (R.left reader.new)) }
     ensures failed { OnReader result (R.failures reader.new ≡ next_count (R.failures reader.old)) }
+    ensures count { UnlessReader result (R.failures reader.new ≡ R.failures reader.old) }
 {
     match read_all(alloc, reader) {
         Ok(bytes) => match String::from_utf8(bytes) {
@@ -101,6 +106,8 @@ impl<T: WktNum> TryFromWkt<T> for flat::Point<T> {
     ghost if_all_read = { OnAllRead };
 
     ghost if_failed = { OnReader };
+
+    ghost unless_failed = { UnlessReader };
 
     fn try_from_wkt_str(alloc: Global, text: &str) -> Result<Self, ConvertError> {
         match read_text(alloc, text) {
@@ -131,6 +138,8 @@ impl<T: WktNum> TryFromWkt<T> for flat::Line<T> {
 
     ghost if_failed = { OnReader };
 
+    ghost unless_failed = { UnlessReader };
+
     fn try_from_wkt_str(alloc: Global, text: &str) -> Result<Self, ConvertError> {
         match read_text(alloc, text) {
             Ok(wkt) => Self::convert_from(alloc, wkt),
@@ -159,6 +168,8 @@ impl<T: WktNum> TryFromWkt<T> for flat::LineString<T> {
     ghost if_all_read = { OnAllRead };
 
     ghost if_failed = { OnReader };
+
+    ghost unless_failed = { UnlessReader };
 
     fn try_from_wkt_str(alloc: Global, text: &str) -> Result<Self, ConvertError> {
         match read_text(alloc, text) {
@@ -189,6 +200,8 @@ impl<T: WktNum> TryFromWkt<T> for flat::Polygon<T> {
 
     ghost if_failed = { OnReader };
 
+    ghost unless_failed = { UnlessReader };
+
     fn try_from_wkt_str(alloc: Global, text: &str) -> Result<Self, ConvertError> {
         match read_text(alloc, text) {
             Ok(wkt) => Self::convert_from(alloc, wkt),
@@ -217,6 +230,8 @@ impl<T: WktNum> TryFromWkt<T> for flat::MultiPoint<T> {
     ghost if_all_read = { OnAllRead };
 
     ghost if_failed = { OnReader };
+
+    ghost unless_failed = { UnlessReader };
 
     fn try_from_wkt_str(alloc: Global, text: &str) -> Result<Self, ConvertError> {
         match read_text(alloc, text) {
@@ -247,6 +262,8 @@ impl<T: WktNum> TryFromWkt<T> for flat::MultiLineString<T> {
 
     ghost if_failed = { OnReader };
 
+    ghost unless_failed = { UnlessReader };
+
     fn try_from_wkt_str(alloc: Global, text: &str) -> Result<Self, ConvertError> {
         match read_text(alloc, text) {
             Ok(wkt) => Self::convert_from(alloc, wkt),
@@ -275,6 +292,8 @@ impl<T: WktNum> TryFromWkt<T> for flat::MultiPolygon<T> {
     ghost if_all_read = { OnAllRead };
 
     ghost if_failed = { OnReader };
+
+    ghost unless_failed = { UnlessReader };
 
     fn try_from_wkt_str(alloc: Global, text: &str) -> Result<Self, ConvertError> {
         match read_text(alloc, text) {
@@ -305,6 +324,8 @@ impl<T: WktNum> TryFromWkt<T> for flat::Rect<T> {
 
     ghost if_failed = { OnReader };
 
+    ghost unless_failed = { UnlessReader };
+
     fn try_from_wkt_str(alloc: Global, text: &str) -> Result<Self, ConvertError> {
         match read_text(alloc, text) {
             Ok(wkt) => Self::convert_from(alloc, wkt),
@@ -333,6 +354,8 @@ impl<T: WktNum> TryFromWkt<T> for flat::Triangle<T> {
     ghost if_all_read = { OnAllRead };
 
     ghost if_failed = { OnReader };
+
+    ghost unless_failed = { UnlessReader };
 
     fn try_from_wkt_str(alloc: Global, text: &str) -> Result<Self, ConvertError> {
         match read_text(alloc, text) {
@@ -363,6 +386,8 @@ impl<T: WktNum> TryFromWkt<T> for flat::GeometryCollection<T> {
 
     ghost if_failed = { OnReader };
 
+    ghost unless_failed = { UnlessReader };
+
     fn try_from_wkt_str(alloc: Global, text: &str) -> Result<Self, ConvertError> {
         match read_text(alloc, text) {
             Ok(wkt) => Self::convert_from(alloc, wkt),
@@ -391,6 +416,8 @@ impl<T: WktNum> TryFromWkt<T> for flat::Geometry<T> {
     ghost if_all_read = { OnAllRead };
 
     ghost if_failed = { OnReader };
+
+    ghost unless_failed = { UnlessReader };
 
     fn try_from_wkt_str(alloc: Global, text: &str) -> Result<Self, ConvertError> {
         match read_text(alloc, text) {

@@ -139,7 +139,7 @@ pub mod types {
 /// ```
 pub mod to_wkt {
     pub use wkt_bytes::{
-        ByteSink, ByteSource, Counted, Gatherer, ReadAllError, WriterWrapper, put_all, read_all,
+        ByteSink, ByteSource, Counted, ReadAllError, WriterWrapper, put_all, read_all,
     };
     pub use wkt_num::{CountedText, FormatterText, TextSink};
     pub use wkt_to_wkt::{ToWkt, ToWktError};
@@ -220,8 +220,9 @@ pub mod laws {
     pub use wkt_read::earlier::old_forms;
     pub use wkt_read::laws::{
         canon_once, dead_for_good, few_lexemes, front_is_writable, front_of_lexemes, header_names,
-        headline, one_form, one_front, one_message, one_reading, one_split, one_text, one_value_text, one_wkt,
-        read_values_are_writable, reads_back, stable_front, value_reads_back, whole_characters,
+        headline, one_form, one_front, one_message, one_reading, one_split, one_text,
+        one_value_text, one_wkt, read_values_are_writable, reads_back, stable_front,
+        value_reads_back, whole_characters,
     };
     pub use wkt_to_wkt::laws::{flat_and_back, plain_comes_back};
     pub use wkt_types::laws::canonical_is_one;

@@ -1,5 +1,4 @@
 pub mod Sinks
 pub mod Counted
 pub mod Wrapper
-pub mod Gatherer
 pub mod ReadAll

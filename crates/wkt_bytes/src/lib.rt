@@ -2,13 +2,11 @@
 #![tactic(auto)]
 
 mod error;
-mod gatherer;
 mod read;
 mod sinks;
 mod wrapper;
 
 pub use error::error_of;
-pub use gatherer::Gatherer;
 pub use read::{ReadAllError, read_all};
 pub use sinks::{ByteSink, ByteSource, Counted};
 pub use wrapper::{WriterWrapper, copy_piece, put_all};

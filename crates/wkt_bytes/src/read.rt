@@ -2,7 +2,7 @@
 ghost use Rattle.std.specs.Prelude.{◌≡◌, ℕ, List, [], ◌∷◌, ◌++◌, IfOk, OnOk, OnErr, Option};
 ghost use Rattle.std.specs.Io.KnownBytes.{Consumes, IsAtEnd};
 ghost use Rattle.wkt_num.specs.Sink.{next_count};
-ghost use Rattle.wkt_bytes.specs.ReadAll.{OnRead};
+ghost use Rattle.wkt_bytes.specs.ReadAll.{OnRead, UnlessRead};
 
 use crate::sinks::ByteSource;
 use std::alloc::{AllocError, Global};
@@ -28,7 +28,7 @@ pub fn read_all<R: ByteSource>(alloc: Global, reader: &mut R) -> Result<Vec<u8>,
     ensures bytes { IfOk result (λ v. Consumes (R.left reader.old) (R.left reader.new) v.items) }
     ensures end { OnOk result (IsAtEnd (R.left reader.new)) }
     ensures read { OnRead result (R.failures reader.new ≡ next_count (R.failures reader.old)) }
-    ensures count { OnOk result (R.failures reader.new ≡ R.failures reader.old) }
+    ensures count { UnlessRead result (R.failures reader.new ≡ R.failures reader.old) }
 {
     let mut all = Vec::new(alloc);
     let mut buf = [0u8; 65536];

@@ -11,7 +11,7 @@ use wkt_num::TextSink;
 
 /// Whether an error came.
 #[derive(Drop)]
-pub(crate) enum State {
+enum State {
     Well,
     Faulty(io::Error),
     Told,
@@ -22,7 +22,7 @@ pub(crate) enum State {
 ///
 /// It calls `put` until all bytes are out. A count of zero is the error `WriteZero`. Nothing is tried
 /// again, `Interrupted` neither. After an error every later write and `finish` answer `fmt::Error`
-/// and hand nothing to the writer; [`take_error`](WriterWrapper::take_error) gives the error.
+/// and hand nothing to the writer; [`take_fault`](WriterWrapper::take_fault) gives the error.
 #[derive(Drop)]
 pub struct WriterWrapper<W> {
     writer: W,
@@ -244,7 +244,7 @@ impl<W: ByteSink> WriterWrapper<W> {
     }
 
     /// The error that came, the first time that it is asked for; else None.
-    pub fn take_error(&mut self) -> Option<io::Error>
+    pub fn take_fault(&mut self) -> Option<io::Error>
         ensures gives { result ≡ untold_error self.old }
         ensures told { is_untold self.new ≡ false }
         ensures well { is_well self.new ≡ is_well self.old }
@@ -259,6 +259,18 @@ impl<W: ByteSink> WriterWrapper<W> {
                 _ => None,
             },
         }
+    }
+
+    /// The same, under the name that it had before.
+    pub fn take_error(&mut self) -> Option<io::Error>
+        ensures gives { result ≡ untold_error self.old }
+        ensures told { is_untold self.new ≡ false }
+        ensures well { is_well self.new ≡ is_well self.old }
+        ensures writer { wrapped_writer self.new ≡ wrapped_writer self.old }
+        ensures held { held_bytes self.new ≡ held_bytes self.old }
+        ensures count { failed_calls self.new ≡ failed_calls self.old }
+    {
+        self.take_fault()
     }
 }
 

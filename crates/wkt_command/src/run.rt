@@ -12,7 +12,7 @@ use crate::verdict::{Room, Verdict};
 use crate::{canon, kind};
 use std::alloc::Global;
 use wkt::to_wkt::{ByteSource, Counted, ReadAllError, read_all};
-use wkt_stream::Lines;
+use wkt_lines::Lines;
 
 /// A run over files, and what came of it so far.
 #[derive(Drop)]

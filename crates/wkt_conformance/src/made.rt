@@ -10,7 +10,7 @@ use wkt::to_wkt::{
 };
 use wkt::walks::{Mapper, map_coords};
 use wkt::{AnyError, FromWktStr, ReadError, ToWkt, TryFromWkt, Wkt};
-use wkt_stream::Lines;
+use wkt_lines::Lines;
 
 /// Each coordinate with x for y.
 #[derive(Drop)]

@@ -1,5 +1,5 @@
 -- One line more, answered.
-use Rattle.std.proofs.Common.{◌≡◌, ◌≢◌, ℕ, List, [], ◌∷◌, ◌++◌, sym, ◌∙◌, ap, refl, append_assoc, Option, Result, Ok, Err, OnOk, OnErr}
+use Rattle.std.proofs.Common.{◌≡◌, ◌≢◌, ℕ, List, [], ◌∷◌, ◌++◌, sym, ◌∙◌, ap, subst, take, length, refl, append_assoc, Option, Result, Ok, Err, OnOk, OnErr}
 use Rattle.std.specs.Io.KnownBytes.{Appends}
 use Rattle.std.proofs.lemmas.List.{append-nil}
 use Rattle.wkt_bytes.specs.Sinks.{BeginningOut}
@@ -9,7 +9,8 @@ use Rattle.wkt_lines.specs.Replies.{AreReplies}
 use Rattle.wkt_lines.specs.declared.lines.RunError.{RunError}
 use Rattle.wkt_lines.specs.declared.lines.RunError.TheVariants as run
 use Rattle.wkt_bytes.specs.Wrapper.{appends_more}
-use Rattle.wkt_num.specs.Sink.{Sink, Adds, Breaks}
+use Rattle.std.proofs.Math.Seq.{take-append_seam}
+use Rattle.wkt_num.specs.Sink.{Sink, Adds, Breaks, GrewBy}
 use Rattle.wkt_lines.specs.declared.answer.AnswerError.{AnswerError}
 use Rattle.wkt_lines.specs.declared.answer.AnswerError.TheVariants as answered
 use Rattle.wkt_lines.specs.Answer.{AnswersLine, OnSink, OnAnswerMemory}
@@ -36,6 +37,15 @@ module _ (is : List ℕ → List ℕ → Type 0) where
   one_reply [] out line answer h a = (answer, [], ap (λ xs. xs ++ (answer ++ 10 ∷ [])) h ∙ sym (append-nil (answer ++ 10 ∷ [])), a, refl)
   one_reply (l ∷ ls) out line answer (b, rest, e, a, r) k =
       (b, rest ++ (answer ++ 10 ∷ []), ap (λ xs. xs ++ (answer ++ 10 ∷ [])) e ∙ append_assoc (b ++ 10 ∷ []) rest (answer ++ 10 ∷ []), a, one_reply ls rest line answer r k)
+
+-- the answer to a line that is the first
+pub reply_to_first : (is : List ℕ → List ℕ → Type 0) (rest line old new : List ℕ) → line ≡ before_feed rest → (answer : List ℕ) → is line answer → new ≡ old ++ (answer ++ 10 ∷ [])
+    → (a : List ℕ) × is (before_feed rest) a × (new ≡ old ++ (a ++ 10 ∷ []))
+reply_to_first is rest line old new e answer one added = (answer, subst (λ (l : List ℕ). is l answer) e one, added)
+
+-- what grew, cut to what it was
+pub grew_cut : (old bs new : List ℕ) (n : ℕ) → n ≡ length old → GrewBy old bs new → take n new ≡ old
+grew_cut old bs new n e h = ap (λ (xs : List ℕ). take n xs) h.grown ∙ (ap (λ (m : ℕ). take m (old ++ h.part)) e ∙ take-append_seam old h.part)
 
 -- the same of the program's answers
 pub one_answer : {N : Type 0} {read : List ℕ → Option N} {num : N → List ℕ} (first : List (List ℕ)) (out line answer : List ℕ) → AreAnswers read num first out → IsAnswer read num line answer → AreAnswers read num (first ++ (line ∷ [])) (out ++ (answer ++ 10 ∷ []))

@@ -5,12 +5,9 @@ use Rattle.std.proofs.lemmas.Str.{IsUtf8-append}
 use Rattle.std.proofs.Math.Seq.{take-append_seam}
 use Rattle.std.proofs.lemmas.List.{take-append-drop}
 use lib.Utf8.{encode}
-use Rattle.wkt_access.specs.Shapes.{shape_of}
-use Rattle.wkt_access.specs.Texts.{shape_text}
 use Rattle.wkt_events.specs.Left.{before_feed}
 use Rattle.wkt_events.specs.Feeds.{after_feed}
-use Rattle.wkt_events.specs.Answers.{IsAnswer, IsText, IsRefusedLine}
-use Rattle.wkt_events.proofs.TextsUtf8.{front-utf8}
+use Rattle.wkt_events.specs.Answers.{IsAnswer}
 use Rattle.wkt_lines.specs.First.{AnswersFirst, WritesText, EndsLine}
 
 drop-one : (b : ℕ) (rest : List ℕ) (n : ℕ) (after : List ℕ) → drop (n + 1) rest ≡ after → drop (suc n + 1) (b ∷ rest) ≡ after
@@ -55,7 +52,7 @@ line-alone (b ∷ rest) = line-of b rest (b == 10) refl (line-alone rest)
 
 -- the answer to a part's first line is the whole's
 pub first-of : {N : Type 0} (read : List ℕ → Option N) (num : N → List ℕ) (part rest written : List ℕ) → before_feed part ≡ before_feed rest → AnswersFirst read num part written → AnswersFirst read num rest written
-first-of read num part rest written e h = record { answer = h.answer; is = subst (λ l. IsAnswer read num l h.answer) e h.is; text = h.text }
+first-of read num part rest written e h = record { answer = h.answer; is = subst (λ l. IsAnswer read num l h.answer) e h.is; utf8 = h.utf8; text = h.text }
 
 pub ok-map : {A E : Type 0} (r : Result A E) (P Q : A → Type 0) → ((x : A) → P x → Q x) → IfOk r P → IfOk r Q
 ok-map (Ok x) P Q f h = f x h
@@ -74,20 +71,13 @@ part-out out piece more whole k e =
 pub text-back : {N : Type 0} (read : List ℕ → Option N) (num : N → List ℕ) (text out rest : List ℕ) (n len : ℕ) → length out ≡ n → WritesText read num text out len → WritesText read num text (take n (out ++ rest)) len
 text-back read num text out rest n len e h = subst (λ l. WritesText read num text l len) (sym (ap (λ k. take k (out ++ rest)) (sym e) ∙ take-append_seam out rest)) h
 
-module _ {N : Type 0} (read : List ℕ → Option N) (num : N → List ℕ) (is_value : N → Type 0) (values : (bs : List ℕ) → IfSome (read bs) is_value)
-    (back : (x : N) → is_value x → read (num x) ≡ Some x) (utf8 : (bs : List ℕ) → IfSome (read bs) (λ _. IsUtf8 bs)) where
-  answer-utf8 : (line answer : List ℕ) → IsAnswer read num line answer → IsUtf8 answer
-  unfolding encode
-  answer-utf8 line answer (inl h) = subst IsUtf8 (sym h.text) (front-utf8 read num is_value values back utf8 line h.value h.end h.front)
-  answer-utf8 line answer (inr h) = subst IsUtf8 (sym h.refused) (codes "refused", (refl, refl))
+feed-utf8 : IsUtf8 (10 ∷ [])
+unfolding encode
+feed-utf8 = (10 ∷ [], (refl, refl))
 
-  feed-utf8 : IsUtf8 (10 ∷ [])
-  unfolding encode
-  feed-utf8 = (10 ∷ [], (refl, refl))
+-- an answer and a line feed are text
+pub first-utf8 : {N : Type 0} (read : List ℕ → Option N) (num : N → List ℕ) (rest written : List ℕ) → AnswersFirst read num rest written → IsUtf8 written
+first-utf8 read num rest written h = subst IsUtf8 (sym h.text) (IsUtf8-append h.answer (10 ∷ []) h.utf8 feed-utf8)
 
-  -- an answer and a line feed are text
-  pub first-utf8 : (rest written : List ℕ) → AnswersFirst read num rest written → IsUtf8 written
-  first-utf8 rest written h = subst IsUtf8 (sym h.text) (IsUtf8-append h.answer (10 ∷ []) (answer-utf8 (before_feed rest) h.answer h.is) feed-utf8)
-
-  pub text-utf8 : (text bytes : List ℕ) (len : ℕ) → WritesText read num text bytes len → IsUtf8 (take len bytes)
-  text-utf8 text bytes len h = subst IsUtf8 (sym h.written) (front-utf8 read num is_value values back utf8 text h.value h.end h.front)
+pub text-utf8 : {N : Type 0} (read : List ℕ → Option N) (num : N → List ℕ) (text bytes : List ℕ) (len : ℕ) → WritesText read num text bytes len → IsUtf8 (take len bytes)
+text-utf8 read num text bytes len h = subst IsUtf8 (sym h.written) h.utf8

@@ -3,3 +3,8 @@ pub mod Adding
 pub mod Firsts
 pub mod Parts
 pub mod Ones
+pub mod Cuts
+pub mod Feeding
+pub mod Outcomes
+pub mod Lining
+pub mod Paging

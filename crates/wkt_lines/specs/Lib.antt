@@ -7,3 +7,8 @@ pub mod Laws
 pub mod Answer
 pub mod Added
 pub mod First
+pub mod Blocks
+pub mod Feeds
+pub mod Streaming
+pub mod Reading
+pub mod Pages

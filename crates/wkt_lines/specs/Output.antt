@@ -1,9 +1,9 @@
 -- The output of a program that answers line by line. Numbers are read by `read` and printed by `num`.
 use Rattle.std.specs.Prelude.{◌≡◌, ℕ, List, [], ◌∷◌, ◌++◌, ◌⊎◌, Option, codes, IsUtf8, Result, Ok, Err}
 use Rattle.wkt_num.specs.Sink.{Sink}
-use Rattle.wkt_bytes.specs.Sinks.{SinkOfBytes, IsOut, IsPartOut}
+use Rattle.wkt_bytes.specs.Sinks.{SinkOfBytes}
 use Rattle.wkt_lines.specs.Lines.{input_lines}
-use Rattle.wkt_lines.specs.Replies.{AreReplies, AllReplied, FirstReplied, PartReplied, AddsReply, BreaksReply}
+use Rattle.wkt_lines.specs.Replies.{AreReplies, AllReplied, FirstReplied, BeforeReplied, PartReplied, AddsReply, BreaksReply}
 use Rattle.wkt_lines.specs.declared.lines.RunError.{RunError}
 use Rattle.wkt_lines.specs.declared.lines.RunError.TheVariants as run
 pub use Rattle.wkt_events.specs.Answers.{IsText, IsRefusedLine, IsAnswer}
@@ -25,6 +25,10 @@ module _ {N : Type 0} (read : List ℕ → Option N) (num : N → List ℕ) wher
   abbrev pub FirstOut : Option (List ℕ) → Option (List ℕ) → List ℕ → Type 0
   FirstOut = FirstReplied (IsAnswer read num)
 
+  -- The whole answers to the lines before one went out, and nothing else: there was no memory for this one.
+  abbrev pub BeforeOut : Option (List ℕ) → Option (List ℕ) → List ℕ → Type 0
+  BeforeOut = BeforeReplied (IsAnswer read num)
+
   -- The whole answers to some first lines went out, and then a beginning of the next line's.
   abbrev pub PartOut : Option (List ℕ) → Option (List ℕ) → List ℕ → Type 0
   PartOut = PartReplied (IsAnswer read num)
@@ -38,17 +42,13 @@ module _ {N : Type 0} (read : List ℕ → Option N) (num : N → List ℕ) wher
     abbrev pub IsFirstOut : D → D → List ℕ → Type 0
     IsFirstOut old new = FirstOut (sink.bytes old) (sink.bytes new)
 
+    -- The same of the whole answers to the lines before one.
+    abbrev pub IsBeforeOut : D → D → List ℕ → Type 0
+    IsBeforeOut old new = BeforeOut (sink.bytes old) (sink.bytes new)
+
     -- The same of some first answers, and a beginning of the next.
     abbrev pub IsSomeOut : D → D → List ℕ → Type 0
     IsSomeOut old new = PartOut (sink.bytes old) (sink.bytes new)
-
-    -- The answer to one line went out with its line feed.
-    abbrev pub IsLineOut : D → D → List ℕ → Type 0
-    IsLineOut old new line = (answer : List ℕ) × IsAnswer read num line answer × IsOut sink old new (answer ++ 10 ∷ [])
-
-    -- A beginning of the answer to one line and its line feed went out.
-    abbrev pub IsLinePartOut : D → D → List ℕ → Type 0
-    IsLinePartOut old new line = (answer : List ℕ) × IsAnswer read num line answer × IsPartOut sink old new (answer ++ 10 ∷ [])
 
   module _ {S : Type 0} (sink : Sink S) where
     -- The answer to a line was added to a sink of text.
@@ -79,3 +79,17 @@ OnRunMemory (Ok x) P = Unit {0}
 OnRunMemory (Err (run.Read e)) P = Unit {0}
 OnRunMemory (Err (run.Write e)) P = Unit {0}
 OnRunMemory (Err (run.Memory e)) P = P
+
+-- The fact is claimed unless the reader failed.
+abbrev pub UnlessRunRead : {A : Type 0} → Result A RunError → Type 0 → Type 0
+UnlessRunRead (Ok x) P = P
+UnlessRunRead (Err (run.Read e)) P = Unit {0}
+UnlessRunRead (Err (run.Write e)) P = P
+UnlessRunRead (Err (run.Memory e)) P = P
+
+-- The fact is claimed unless the writer failed.
+abbrev pub UnlessRunWrite : {A : Type 0} → Result A RunError → Type 0 → Type 0
+UnlessRunWrite (Ok x) P = P
+UnlessRunWrite (Err (run.Read e)) P = P
+UnlessRunWrite (Err (run.Write e)) P = Unit {0}
+UnlessRunWrite (Err (run.Memory e)) P = P

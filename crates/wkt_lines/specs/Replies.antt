@@ -25,6 +25,16 @@ module _ (is : List ℕ → List ℕ → Type 0) where
     pub answers : AreReplies first out
     pub went : Appends old new out
 
+  -- The whole answers to the lines before one went out, and nothing else: there was no memory for this one.
+  pub record BeforeReplied (old new : Option (List ℕ)) (input : List ℕ) : Type 0 where
+    pub first : List (List ℕ)
+    pub line : List ℕ
+    pub others : List (List ℕ)
+    pub lines : first ++ (line ∷ others) ≡ input_lines input
+    pub out : List ℕ
+    pub answers : AreReplies first out
+    pub went : Appends old new out
+
   -- The whole answers to some first lines went out, and then a beginning of the next line's.
   pub record PartReplied (old new : Option (List ℕ)) (input : List ℕ) : Type 0 where
     pub first : List (List ℕ)
@@ -48,6 +58,10 @@ module _ (is : List ℕ → List ℕ → Type 0) where
     -- The same of the whole answers to some first lines.
     abbrev pub IsFirstReplied : D → D → List ℕ → Type 0
     IsFirstReplied old new = FirstReplied (sink.bytes old) (sink.bytes new)
+
+    -- The same of the whole answers to the lines before one.
+    abbrev pub IsBeforeReplied : D → D → List ℕ → Type 0
+    IsBeforeReplied old new = BeforeReplied (sink.bytes old) (sink.bytes new)
 
     -- The same of some first answers, and a beginning of the next.
     abbrev pub IsPartReplied : D → D → List ℕ → Type 0

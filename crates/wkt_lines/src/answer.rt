@@ -7,8 +7,7 @@ use crate::first::Room;
 use std::alloc::{AllocError, Global};
 use std::fmt;
 use thiserror::Error;
-use wkt_num::TextSink;
-use wkt_num::WktNum;
+use wkt_num::{TextSink, WktNum};
 
 /// Why lines weren't answered.
 #[derive(Debug, Drop, Error)]
@@ -49,7 +48,7 @@ fn write_front<T: WktNum, W: TextSink>(
 {
     let mut room = Room::new(alloc);
     match room.canonical::<T>(text) {
-        Ok(Some(len)) => room.put::<T, W>(len, f),
+        Ok(Some(len)) => room.put(len, f),
         Ok(None) => refuse(f),
         Err(e) => Err(AnswerError::Memory(e)),
     }

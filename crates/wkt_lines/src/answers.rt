@@ -7,8 +7,7 @@ use crate::answer::AnswerError;
 use crate::first::{Room, write_first};
 use crate::lines::after_line;
 use std::alloc::Global;
-use wkt_num::TextSink;
-use wkt_num::WktNum;
+use wkt_num::{TextSink, WktNum};
 
 /// Writes the answers to all lines of the input to a sink of text, each followed by a line feed.
 ///

@@ -1,5 +1,5 @@
 //! The answer to the first line of what is left of an input.
-ghost use Rattle.std.specs.Prelude.{◌≡◌, ◌+◌, ◌*◌, ◌≤◌, ◌<◌, OnOk, IfOk, IfSome, List, ℕ, length, take, vec_len, IsUtf8};
+ghost use Rattle.std.specs.Prelude.{◌≡◌, ◌+◌, ◌*◌, ◌≤◌, ◌<◌, OnOk, IfOk, length, take, vec_len, IsUtf8};
 ghost use Rattle.wkt_events.specs.Left.{before_feed};
 ghost use Rattle.wkt_lines.specs.Added.{AddsLine, BreaksLine};
 ghost use Rattle.wkt_lines.specs.Answer.{AnswersLine, OnSink, OnAnswerMemory};
@@ -7,10 +7,9 @@ ghost use Rattle.wkt_lines.specs.First.{EndsLine};
 
 use crate::answer::AnswerError;
 use std::alloc::{AllocError, Global};
-use wkt_num::TextSink;
 use wkt_events::ends::line_end;
 use wkt_events::{Answer, NoRoom, answer_line, write_canonical};
-use wkt_num::WktNum;
+use wkt_num::{TextSink, WktNum};
 
 // Where a line ends is found as it is answered, if it ends within so many bytes.
 const NEAR: usize = 65536;
@@ -125,10 +124,7 @@ impl Room {
     }
 
     /// Writes the canonical text of what a text begins with, and answers how long that is; `None` where it begins with none.
-    pub(crate) fn canonical<T: WktNum>(
-        &mut self,
-        text: &str,
-    ) -> Result<Option<usize>, AllocError>
+    pub(crate) fn canonical<T: WktNum>(&mut self, text: &str) -> Result<Option<usize>, AllocError>
         ensures { WritesTextIfAny T.read T.num text.now (room_bytes self.new) result }
     {
         match self.grow(text.len()) {
@@ -148,28 +144,14 @@ impl Room {
         }
     }
 
-    /// Adds the first bytes to a sink of text. (Where the number type doesn't tell that it reads nothing but texts, they are
-    /// tested; no number writes anything else.)
-    pub(crate) fn put<T: WktNum, W: TextSink>(
-        &self,
-        len: usize,
-        f: &mut W,
-    ) -> Result<(), AnswerError>
+    /// Adds the first bytes, which are text, to a sink of text.
+    pub(crate) fn put<W: TextSink>(&self, len: usize, f: &mut W) -> Result<(), AnswerError>
         requires len { len ≤ length (room_bytes self.now) }
-        requires utf8 { ((bs : List ℕ) → IfSome (T.read bs) (λ x. IsUtf8 bs)) → IsUtf8 (take len (room_bytes self.now)) }
+        requires utf8 { IsUtf8 (take len (room_bytes self.now)) }
         ensures { AnswersLine W.sink f.old (take len (room_bytes self.now)) f.new result }
     {
         let written = self.written(len);
-        if T::reads_texts() {
-            return match f.write_str(unsafe { str::from_utf8_unchecked(written) }) {
-                Ok(()) => Ok(()),
-                Err(e) => Err(AnswerError::Sink(e)),
-            };
-        }
-        let Ok(text) = str::from_utf8(written) else {
-            return Err(AnswerError::Memory(AllocError));
-        };
-        match f.write_str(text) {
+        match f.write_str(unsafe { str::from_utf8_unchecked(written) }) {
             Ok(()) => Ok(()),
             Err(e) => Err(AnswerError::Sink(e)),
         }
@@ -188,7 +170,7 @@ pub(crate) fn write_first<T: WktNum, W: TextSink>(
     ensures memory { OnAnswerMemory result (f.new ≡ f.old) }
 {
     match room.first::<T>(rest) {
-        Ok(answer) => match room.put::<T, W>(answer.len, f) {
+        Ok(answer) => match room.put(answer.len, f) {
             Ok(()) => Ok(answer.taken - 1),
             Err(e) => Err(e),
         },

@@ -1,24 +1,33 @@
 //! Inputs that are answered line by line: each line with the text of the geometry that it begins with, or with
-//! `refused`.
+//! `refused`, or with answers of any kind.
 //!
-//! The program `wktline` is this call over standard input and output:
+//! The program `wktline` is the call [`run`] over standard input and output, and `wktstream` is [`stream`], which takes
+//! an input of any size in the memory of the longest line:
 //!
 //! ```text
 //! let mut reader = Counted::new(rt.stdin());
 //! let mut writer = Counted::new(rt.stdout());
-//! run(rt.alloc(), &mut reader, &mut writer)?;
+//! stream(rt.alloc(), &mut reader, &mut writer)?;
 //! ```
 #![tactic(auto)]
 
 mod answer;
 mod answers;
+mod block;
 mod first;
 pub mod laws;
 mod lines;
+mod on_page;
+mod page;
+mod pages;
+mod reading;
 mod reply;
+mod streaming;
 
 pub use answer::AnswerError;
 pub use answers::write_answers;
 pub use lines::{RunError, run, run_over};
+pub use reading::Lines;
 pub use reply::{Canonical, Reply, write_replies};
+pub use streaming::{stream, stream_over, stream_with};
 pub use wkt_events::ends::line_end;

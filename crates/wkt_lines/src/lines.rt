@@ -1,19 +1,21 @@
 //! Answers each line of a whole input.
-ghost use Rattle.std.specs.Prelude.{◌≡◌, ℕ, ◌≤◌, ◌+◌, IfSome, IfOk, OnOk, OnErr, length, take, drop};
-ghost use Rattle.std.specs.Io.KnownBytes.{IsAtEnd, Appends};
+ghost use Rattle.std.specs.Prelude.{◌≡◌, ◌≤◌, ◌+◌, ◌⊎◌, IfSome, OnOk, length, drop};
+ghost use Rattle.std.specs.Io.KnownBytes.{IsAtEnd};
 ghost use Rattle.wkt_num.specs.Sink.{next_count};
 ghost use Rattle.wkt_lines.specs.Numbers.{read_line, print_line};
-ghost use Rattle.wkt_lines.specs.Output.{IsAllOut, IsFirstOut, IsSomeOut, IsLineOut, IsLinePartOut, OnRunRead, OnRunWrite, OnRunMemory};
-ghost use Rattle.wkt_lines.specs.First.{EndsLine};
-ghost use Rattle.wkt_events.specs.Left.{before_feed};
+ghost use Rattle.wkt_lines.specs.Output.{IsAllOut, IsFirstOut, IsBeforeOut, IsSomeOut, OnRunRead, OnRunWrite, OnRunMemory, UnlessRunRead, UnlessRunWrite};
+ghost use Rattle.wkt_lines.specs.Replies.{IsAllReplied, IsBeforeReplied, IsPartReplied};
+ghost use Rattle.wkt_lines.specs.Streaming.{AllTaken};
 
-use crate::first::Room;
+use crate::block::whole_lines;
+use crate::on_page::{Answers, ByWalk};
+use crate::page::Page;
+use crate::pages::answer_block;
 use std::alloc::{AllocError, Global};
 use std::io;
 use thiserror::Error;
-use wkt_bytes::{ByteSink, ByteSource, ReadAllError, put_all, read_all};
-use wkt_num::Decimal;
-use wkt_num::WktNum;
+use wkt_bytes::{ByteSink, ByteSource, ReadAllError, read_all};
+use wkt_num::{Decimal, WktNum};
 
 /// Why a run ended before its input.
 #[derive(Debug, Drop, Error)]
@@ -24,7 +26,7 @@ pub enum RunError {
     /// The sink failed, or took nothing (`WriteZero`); a beginning of the output is out.
     #[error("{0}")]
     Write(io::Error),
-    /// Out of memory; the whole answers to some first lines are out, and nothing else.
+    /// Out of memory; the answers to the lines before the one that there was no memory for are out, and nothing else.
     #[error("out of memory")]
     Memory(AllocError),
 }
@@ -36,7 +38,8 @@ pub enum RunError {
 /// `refused` where it has none or isn't UTF-8, and a line feed.
 ///
 /// # Errors
-/// [`RunError`] tells when each comes, and what is out then. Nothing is tried again.
+/// [`RunError`] tells when each comes, and what is out then: after `Memory` the answers to the lines before the one that
+/// there was no memory for, or nothing, where memory ran out as the input was read. Nothing is tried again.
 pub fn run<R: ByteSource, W: ByteSink>(
     alloc: Global,
     reader: &mut R,
@@ -44,14 +47,22 @@ pub fn run<R: ByteSource, W: ByteSink>(
 ) -> Result<(), RunError>
     ensures ok { OnOk result
         (IfSome (R.left reader.old) (IsAllOut read_line print_line W.sink writer.old writer.new)) }
+    ensures ok_taken { OnOk result (AllTaken (R.left reader.old) (R.left reader.new)
+        (IsAllOut read_line print_line W.sink writer.old writer.new)) }
     ensures end { OnOk result (IsAtEnd (R.left reader.new)) }
     ensures read { OnRunRead result (writer.new ≡ writer.old) }
     ensures read_count { OnRunRead result (R.failures reader.new ≡ next_count (R.failures reader.old)) }
+    ensures source_count { UnlessRunRead result (R.failures reader.new ≡ R.failures reader.old) }
     ensures write { OnRunWrite result
         (IfSome (R.left reader.old) (IsSomeOut read_line print_line W.sink writer.old writer.new)) }
+    ensures write_taken { OnRunWrite result (AllTaken (R.left reader.old) (R.left reader.new)
+        (IsSomeOut read_line print_line W.sink writer.old writer.new)) }
     ensures write_count { OnRunWrite result (W.sink.failures writer.new ≡ next_count (W.sink.failures writer.old)) }
+    ensures sink_count { UnlessRunWrite result (W.sink.failures writer.new ≡ W.sink.failures writer.old) }
     ensures memory { OnRunMemory result
         (IfSome (R.left reader.old) (IsFirstOut read_line print_line W.sink writer.old writer.new)) }
+    ensures memory_taken { OnRunMemory result ((writer.new ≡ writer.old)
+        ⊎ AllTaken (R.left reader.old) (R.left reader.new) (IsBeforeOut read_line print_line W.sink writer.old writer.new)) }
 {
     run_over::<Decimal<18>, R, W>(alloc, reader, writer)
 }
@@ -70,43 +81,56 @@ pub fn run_over<T: WktNum, R: ByteSource, W: ByteSink>(
     writer: &mut W,
 ) -> Result<(), RunError>
     ensures ok { OnOk result (IfSome (R.left reader.old) (IsAllOut T.read T.num W.sink writer.old writer.new)) }
+    ensures ok_taken { OnOk result (AllTaken (R.left reader.old) (R.left reader.new)
+        (IsAllOut T.read T.num W.sink writer.old writer.new)) }
     ensures end { OnOk result (IsAtEnd (R.left reader.new)) }
     ensures read { OnRunRead result (writer.new ≡ writer.old) }
     ensures read_count { OnRunRead result (R.failures reader.new ≡ next_count (R.failures reader.old)) }
+    ensures source_count { UnlessRunRead result (R.failures reader.new ≡ R.failures reader.old) }
     ensures write { OnRunWrite result
         (IfSome (R.left reader.old) (IsSomeOut T.read T.num W.sink writer.old writer.new)) }
+    ensures write_taken { OnRunWrite result (AllTaken (R.left reader.old) (R.left reader.new)
+        (IsSomeOut T.read T.num W.sink writer.old writer.new)) }
     ensures write_count { OnRunWrite result (W.sink.failures writer.new ≡ next_count (W.sink.failures writer.old)) }
+    ensures sink_count { UnlessRunWrite result (W.sink.failures writer.new ≡ W.sink.failures writer.old) }
     ensures memory { OnRunMemory result
         (IfSome (R.left reader.old) (IsFirstOut T.read T.num W.sink writer.old writer.new)) }
+    ensures memory_taken { OnRunMemory result ((writer.new ≡ writer.old)
+        ⊎ AllTaken (R.left reader.old) (R.left reader.new) (IsBeforeOut T.read T.num W.sink writer.old writer.new)) }
 {
     match read_all(alloc, reader) {
-        Ok(bytes) => answer_lines::<T, W>(alloc, &bytes, writer),
+        Ok(bytes) => answer_input(alloc, &ByWalk::<T>::new(), &bytes, writer),
         Err(ReadAllError::Read(e)) => Err(RunError::Read(e)),
         Err(ReadAllError::Memory(e)) => Err(RunError::Memory(e)),
     }
 }
 
-/// Writes the answers to all lines of the input.
-fn answer_lines<T: WktNum, W: ByteSink>(
+/// Writes the answers to all lines of the input, each by itself.
+fn answer_input<A: Answers, W: ByteSink>(
     alloc: Global,
+    answers: &A,
     input: &[u8],
     writer: &mut W,
 ) -> Result<(), RunError>
-    ensures ok { OnOk result (IsAllOut T.read T.num W.sink writer.old writer.new input.now) }
-    ensures write { OnRunWrite result (IsSomeOut T.read T.num W.sink writer.old writer.new input.now) }
+    ensures ok { OnOk result (IsAllReplied (A.answers answers.now) W.sink writer.old writer.new input.now) }
+    ensures count { UnlessRunWrite result (W.sink.failures writer.new ≡ W.sink.failures writer.old) }
+    ensures write { OnRunWrite result (IsPartReplied (A.answers answers.now) W.sink writer.old writer.new input.now) }
     ensures write_count { OnRunWrite result (W.sink.failures writer.new ≡ next_count (W.sink.failures writer.old)) }
-    ensures memory { OnRunMemory result (IsFirstOut T.read T.num W.sink writer.old writer.new input.now) }
+    ensures memory { OnRunMemory result (IsBeforeReplied (A.answers answers.now) W.sink writer.old writer.new input.now) }
     ensures read { OnRunRead result ⊥ }
 {
-    let mut room = Room::new(alloc);
+    let mut page = Page::of_lines(alloc);
     let mut rest = input;
-    'lines: while !rest.is_empty() {
-        match answer_first::<T, W>(&mut room, rest, writer) {
-            Ok(end) => rest = after_line(rest, end),
+    'parts: loop {
+        let whole = whole_lines(rest);
+        if whole == 0 {
+            return answer_block(answers, rest, &mut page, writer);
+        }
+        match answer_block(answers, &rest[..whole], &mut page, writer) {
+            Ok(()) => rest = &rest[whole..],
             Err(e) => return Err(e),
         }
     }
-    Ok(())
 }
 
 /// What follows a line and its line feed.
@@ -118,48 +142,4 @@ pub(crate) fn after_line(rest: &[u8], end: usize) -> &[u8]
         return &rest[end..];
     }
     &rest[end + 1..]
-}
-
-/// Puts out the answer to the first line and a line feed, and answers where the line ends.
-fn answer_first<T: WktNum, W: ByteSink>(
-    room: &mut Room,
-    rest: &[u8],
-    writer: &mut W,
-) -> Result<usize, RunError>
-    ensures end { IfOk result (λ end. EndsLine rest.now end) }
-    ensures ok { OnOk result (IsLineOut T.read T.num W.sink writer.old writer.new (before_feed rest.now)) }
-    ensures count { OnOk result (W.sink.failures writer.new ≡ W.sink.failures writer.old) }
-    ensures write { OnRunWrite result (IsLinePartOut T.read T.num W.sink writer.old writer.new (before_feed rest.now)) }
-    ensures write_count { OnRunWrite result (W.sink.failures writer.new ≡ next_count (W.sink.failures writer.old)) }
-    ensures memory { OnRunMemory result (writer.new ≡ writer.old) }
-    ensures read { OnRunRead result ⊥ }
-    ensures keeps { W.sink.keeps writer.old writer.new }
-{
-    match room.first::<T>(rest) {
-        Ok(answer) => match put_pieces(writer, room.written(answer.len)) {
-            Ok(()) => Ok(answer.taken - 1),
-            Err(e) => Err(RunError::Write(e)),
-        },
-        Err(e) => Err(RunError::Memory(e)),
-    }
-}
-
-/// Puts out the bytes, 256 at a time.
-fn put_pieces<W: ByteSink>(writer: &mut W, bytes: &[u8]) -> Result<(), io::Error>
-    ensures ok { OnOk result (Appends (W.sink.bytes writer.old) (W.sink.bytes writer.new) bytes.now) }
-    ensures kept { OnOk result (W.sink.failures writer.new ≡ W.sink.failures writer.old) }
-    ensures err { OnErr result
-        ((k : ℕ) × Appends (W.sink.bytes writer.old) (W.sink.bytes writer.new) (take k bytes.now)) }
-    ensures failed { OnErr result (W.sink.failures writer.new ≡ next_count (W.sink.failures writer.old)) }
-    ensures keeps { W.sink.keeps writer.old writer.new }
-{
-    let mut rest = bytes;
-    'pieces: while rest.len() > 256 {
-        let (piece, more) = rest.split_at(256);
-        match put_all(writer, piece) {
-            Ok(()) => rest = more,
-            Err(e) => return Err(e),
-        }
-    }
-    put_all(writer, rest)
 }

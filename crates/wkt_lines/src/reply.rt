@@ -8,9 +8,8 @@ use crate::answer::{AnswerError, write_answer};
 use crate::lines::after_line;
 use std::alloc::Global;
 use std::marker::PhantomData;
-use wkt_num::TextSink;
-use wkt_num::WktNum;
 use wkt_events::ends::line_end;
+use wkt_num::{TextSink, WktNum};
 
 /// What the lines of an input are answered with.
 ///
@@ -70,7 +69,7 @@ pub fn write_replies<A: Reply, W: TextSink>(
 }
 
 /// Writes the answer to a line and a line feed.
-fn reply_to_line<A: Reply, W: TextSink>(
+pub(crate) fn reply_to_line<A: Reply, W: TextSink>(
     alloc: Global,
     reply: &A,
     line: &[u8],

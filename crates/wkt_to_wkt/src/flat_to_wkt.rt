@@ -80,6 +80,7 @@ impl<T: WktNum, G: FlatValue<T = T>> ToWkt<T> for G {
     /// out. `Shape` never comes.
     fn write_wkt<W: ByteSink>(&self, _alloc: Global, writer: &mut W) -> Result<(), ToWktError>
         ensures ok { OnOk result (IsOut W.sink writer.old writer.new (wkt_text T.num (G.value self.now))) }
+        ensures ok_count { OnOk result (W.sink.failures writer.new ≡ W.sink.failures writer.old) }
         ensures sound { OnOk result (fault (tree_shape (back (G.value self.now))) ≡ None) }
         ensures lawful { OnOk result (IsLawful T.is_value (tree_shape (back (G.value self.now)))) }
         ensures io { OnIo result (IsPartOut W.sink writer.old writer.new (wkt_text T.num (G.value self.now))) }

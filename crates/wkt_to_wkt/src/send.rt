@@ -49,6 +49,8 @@ fn send_through<G: Written, W: ByteSink>(
     ensures ok { OnOk result
         (IsOut W.sink (wrapped_writer wrapper.old) (wrapped_writer wrapper.new)
         (shape_text G.T.num (G.shape g.now))) }
+    ensures ok_count { OnOk result
+        (W.sink.failures (wrapped_writer wrapper.new) ≡ W.sink.failures (wrapped_writer wrapper.old)) }
     ensures sound { OnOk result (fault (G.shape g.now) ≡ None) }
     ensures lawful { OnOk result (IsLawful G.T.is_value (G.shape g.now)) }
     ensures io { OnIo result
@@ -75,6 +77,7 @@ fn send_through<G: Written, W: ByteSink>(
 /// Puts the text of a geometry out. It takes no memory.
 pub(crate) fn send<G: Written, W: ByteSink>(g: &G, writer: &mut W) -> Result<(), ToWktError>
     ensures ok { OnOk result (IsOut W.sink writer.old writer.new (shape_text G.T.num (G.shape g.now))) }
+    ensures ok_count { OnOk result (W.sink.failures writer.new ≡ W.sink.failures writer.old) }
     ensures sound { OnOk result (fault (G.shape g.now) ≡ None) }
     ensures lawful { OnOk result (IsLawful G.T.is_value (G.shape g.now)) }
     ensures io { OnIo result (IsPartOut W.sink writer.old writer.new (shape_text G.T.num (G.shape g.now))) }

@@ -63,6 +63,7 @@ pub trait ToWkt<T: WktNum> {
     fn write_wkt<W: ByteSink>(&self, alloc: Global, writer: &mut W) -> Result<(), ToWktError>
         ensures ok { OnOk result
             (IsOut W.sink writer.old writer.new (shape_text T.num (tree_shape (held self.now)))) }
+        ensures ok_count { OnOk result (W.sink.failures writer.new ≡ W.sink.failures writer.old) }
         ensures sound { OnOk result (fault (tree_shape (held self.now)) ≡ None) }
         ensures lawful { OnOk result (IsLawful T.is_value (tree_shape (held self.now))) }
         ensures io { OnIo result

@@ -7,12 +7,9 @@ use std::process::Abort;
 use std::test::Fail;
 use wkt::geo_types::{Geometry, LineString, Point, Polygon};
 use wkt::geo_types_from_wkt::Error as FlatError;
-use wkt::to_wkt::{
-    ByteSink, ByteSource, Gatherer, ReadAllError, TextSink, WriterWrapper, put_all, read_all,
-};
+use wkt::to_wkt::{ByteSink, ByteSource, ReadAllError, TextSink, WriterWrapper, put_all, read_all};
 use wkt::{ToWkt, ToWktError, TryFromWkt};
-use wkt_lines::{RunError, run};
-use wkt_stream::stream;
+use wkt_lines::{RunError, run, stream};
 use wkt_uses::flat_from_reader::{CopyError, copy_polygon};
 use wkt_uses::flat_key_to_sink::write_flat_key;
 use wkt_uses::my_sinks::{Page, Piecewise};
@@ -112,18 +109,10 @@ fn of_wrapper(failing: &mut Failing) -> Option<io::Error> {
     let mut wrapper = WriterWrapper::new(failing);
     let _ = wrapper.write_str("POINT");
     let _ = wrapper.finish();
-    wrapper.take_error()
+    wrapper.take_fault()
 }
 
-/// What a gatherer tells that had text for the sink.
-fn of_gatherer(failing: &mut Failing) -> Option<io::Error> {
-    let mut gatherer = Gatherer::new(failing);
-    let _ = gatherer.write_str("POINT");
-    let _ = gatherer.finish();
-    gatherer.take_error()
-}
-
-/// What comes of each of nine calls that take a sink, or text that is gathered for one.
+/// What comes of each of eight calls that take a sink, or text that is gathered for one.
 fn of_sink(alloc: Global, call: usize, failing: &mut Failing) -> Option<io::Error> {
     let point = Point::new(1i32, 2);
     match call {
@@ -137,8 +126,7 @@ fn of_sink(alloc: Global, call: usize, failing: &mut Failing) -> Option<io::Erro
             let mut polygon = piecewise(b"POLYGON((0 0,4 0,2 4))");
             of_copy(copy_polygon::<i32, Piecewise<'_>, Failing>(alloc, &mut polygon, failing))
         }
-        7 => of_wrapper(failing),
-        _ => of_gatherer(failing),
+        _ => of_wrapper(failing),
     }
 }
 
@@ -194,7 +182,7 @@ fn came_unchanged(
 fn comes_unchanged_from_sinks(rt: HostRuntime) -> Result<(), Fail> {
     let alloc = rt.alloc();
     for given in GIVEN {
-        for call in 0..9 {
+        for call in 0..8 {
             let mut sink = Failing { given, failures: 0 };
             let came = of_sink(alloc, call, &mut sink);
             came_unchanged(&rt, alloc, call, came, given)?;

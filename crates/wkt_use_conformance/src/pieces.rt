@@ -4,8 +4,7 @@ use std::io;
 use std::io::ErrorKind;
 use std::test::Fail;
 use wkt::to_wkt::{ByteSource, Counted};
-use wkt_lines::RunError;
-use wkt_stream::stream;
+use wkt_lines::{RunError, stream};
 
 /// Gives one piece a call; an empty one is a fault.
 #[derive(Drop)]

@@ -1,10 +1,10 @@
 //! What the program does over sinks and sources that are slow or fail.
 use crate::asserts::equal;
 use crate::slow_sinks::{Slow, source};
+use std::alloc::{AllocError, Global};
 use std::io::ErrorKind;
 use std::test::Fail;
-use wkt_lines::{RunError, run, run_over};
-use wkt_stream::stream_over;
+use wkt_lines::{RunError, run, run_over, stream_over};
 
 const INPUT: &[u8] = b"point ( 10 -20.50 )\nPOINT ZM EMPTY\nPOINTZ(-117 33 10)\nPOINT (10)\n\n";
 
@@ -100,5 +100,36 @@ fn over_whole_numbers(rt: HostRuntime) -> Result<(), Fail> {
     let mut writer = Slow::new(1000, 1000);
     stream_over::<i64, _, _>(rt.alloc(), &mut reader, &mut writer)?;
     equal(&rt, writer.taken(), want);
+    Ok(())
+}
+
+/// Three lines of that many bytes each, each a point and white space.
+fn wide_lines(alloc: Global, size: usize) -> Result<Vec<u8>, AllocError> {
+    let mut input = Vec::new(alloc);
+    for _ in 0..3 {
+        input.extend_from_slice(b"point(1 2)")?;
+        let line = vec![in alloc; b' '; size]?;
+        input.extend_from_slice(&line)?;
+        input.push(b'\n')?;
+    }
+    Ok(input)
+}
+
+// Inputs of more than a part that is answered at once, which a body fails that gives up on them.
+#[test]
+fn answers_wide_lines(rt: HostRuntime) -> Result<(), Fail> {
+    let want: &[u8] = b"POINT(1 2)\nPOINT(1 2)\nPOINT(1 2)\n";
+    for size in [10usize, 65_525, 400_000, 500_000, 1_100_000] {
+        let input = wide_lines(rt.alloc(), size)?;
+        let mut reader = source(&input, 100_000, 1000);
+        let mut writer = Slow::new(1000, 1000);
+        run(rt.alloc(), &mut reader, &mut writer)?;
+        equal(&rt, writer.taken(), want);
+        equal(&rt, writer.calls, 1000 - 3);
+        let mut reader = source(&input, 100_000, 1000);
+        let mut writer = Slow::new(1000, 1000);
+        stream_over::<i64, _, _>(rt.alloc(), &mut reader, &mut writer)?;
+        equal(&rt, writer.taken(), want);
+    }
     Ok(())
 }

@@ -8,9 +8,8 @@ use std::io;
 use std::io::ErrorKind;
 use std::process::Abort;
 use std::test::Fail;
-use wkt::to_wkt::{ByteSource, ReadAllError, TextSink};
-use wkt_lines::{AnswerError, Canonical, Reply, RunError, line_end};
-use wkt_stream::{Lines, stream_with};
+use wkt::to_wkt::{ByteSource, Counted, ReadAllError, TextSink};
+use wkt_lines::{AnswerError, Canonical, Lines, Reply, RunError, line_end, stream_with};
 
 /// A source whose every second call fails, the first among them.
 #[derive(Drop)]
@@ -42,11 +41,11 @@ impl ByteSource for Halting<'_> {
 
 /// Each line is answered with the same word, but that of a `!` finds no memory.
 #[derive(Drop)]
-struct Word {
-    word: &'static str,
+struct Word<'a> {
+    word: &'a str,
 }
 
-impl Reply for Word {
+impl Reply for Word<'_> {
     ghost answers = { λ s _ answer. answer ≡ s.word.now };
 
     fn reply<W: TextSink>(
@@ -190,6 +189,28 @@ fn answers_by_a_word(rt: HostRuntime) -> Result<(), Fail> {
             equal(&rt, reader.rest.len(), 0);
         }
     }
+    Ok(())
+}
+
+// An answer of more than a page holds, which a reply that gives up on it fails.
+#[test]
+fn answers_of_ample_size(rt: HostRuntime) -> Result<(), Fail> {
+    let mut long = String::new(rt.alloc());
+    for _ in 0..12_500 {
+        long.push_str("0123456789abcdef")?;
+    }
+    let word = Word {
+        word: long.as_str(),
+    };
+    let mut want = String::new(rt.alloc());
+    for _ in 0..2 {
+        want.push_str(long.as_str())?;
+        want.push_str("\n")?;
+    }
+    let mut reader = source(b"one\ntwo", 1000, 1000);
+    let mut writer = Counted::new(Vec::<u8>::new(rt.alloc()));
+    stream_with(rt.alloc(), &word, &mut reader, &mut writer)?;
+    equal(&rt, writer.into_inner().as_slice(), want.as_bytes());
     Ok(())
 }
 

@@ -6,7 +6,7 @@ ghost use Rattle.serde_json.specs.Written.{compact_text};
 ghost use Rattle.wkt.specs.Front.{HasNoFront};
 ghost use Rattle.wkt_lines.specs.Output.{OnRunRead, OnRunWrite, OnRunMemory};
 ghost use Rattle.wkt_lines.specs.Replies.{IsAllReplied, IsFirstReplied, IsPartReplied};
-ghost use Rattle.wkt_stream.specs.Streaming.{IsTakenReplied};
+ghost use Rattle.wkt_lines.specs.Streaming.{IsTakenReplied};
 ghost use Rattle.wkt_uses.specs.Served.{IsServed, IsOfNoText, IsTidied, IsTurnedDown, refusal};
 
 use crate::read_and_write::tidy;
@@ -15,8 +15,7 @@ use std::alloc::{AllocError, Global};
 use std::marker::PhantomData;
 use wkt::to_wkt::{ByteSink, ByteSource, TextSink};
 use wkt::{ReadError, WktNum, explain};
-use wkt_lines::{AnswerError, Reply, RunError};
-use wkt_stream::stream_with;
+use wkt_lines::{AnswerError, Reply, RunError, stream_with};
 
 /// The answers of the service: to a JSON string the JSON string of its geometry's text, `{"refused":7}` where the text
 /// is refused at its seventh byte, counted from 0, and `{"refused":null}` to what is no JSON string.

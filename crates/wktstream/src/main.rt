@@ -3,8 +3,7 @@
 
 use std::process::ExitCode;
 use wkt_bytes::Counted;
-use wkt_lines::RunError;
-use wkt_stream::stream;
+use wkt_lines::{RunError, stream};
 
 fn main(rt: HostRuntime) -> ExitCode {
     let mut reader = Counted::new(rt.stdin());

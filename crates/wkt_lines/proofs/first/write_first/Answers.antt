@@ -3,7 +3,7 @@ use Rattle.wkt_lines.proofs.Firsts.{ends-line, first-utf8}
 use Rattle.wkt_lines.proofs.first.write_first.Goals as goal
 
 pub put-requires-clause-utf8 : goal.put-requires-clause-utf8
-put-requires-clause-utf8 g c = λ law. first-utf8 g.T.WktNum.read g.T.WktNum.num g.T.WktNum.is_value g.met.T.WktNum.reads_values g.met.T.WktNum.reads_back law c.args.rest.now _ c.in-Ok.ensures.answers
+put-requires-clause-utf8 g c = first-utf8 g.T.WktNum.read g.T.WktNum.num c.args.rest.now _ c.in-Ok.ensures.answers
 
 pub returns-in-Ok-put-clause-end : goal.returns-in-Ok-put-clause-end
 returns-in-Ok-put-clause-end g c = ends-line c.args.rest.now c.in-Ok.answer.taken _ c.in-Ok.ensures.line refl

@@ -27,6 +27,9 @@ pub returns-in-Ok-finish-clause-ok : goal.returns-in-Ok-finish-clause-ok
 returns-in-Ok-finish-clause-ok g c =
     all_sent g.W.ByteSink.sink _ _ _ _ c.in-Ok.ensures.added.given c.in-Ok-finish.ensures.ok c.requires.held c.in-Ok-finish.ensures.empty
 
+pub returns-in-Ok-finish-clause-ok_count : goal.returns-in-Ok-finish-clause-ok_count
+returns-in-Ok-finish-clause-ok_count g c = c.in-Ok-finish.ensures.ok.count ∙ c.in-Ok.ensures.added.given.count
+
 pub returns-in-Ok-finish-clause-keeps : goal.returns-in-Ok-finish-clause-keeps
 returns-in-Ok-finish-clause-keeps g c =
     g.W.ByteSink.sink.keeps_more _ _ _ c.in-Ok.ensures.added.given.tied c.in-Ok-finish.ensures.ok.tied

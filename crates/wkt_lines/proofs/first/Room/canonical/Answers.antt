@@ -8,4 +8,4 @@ returns-in-Ok-Some g c =
     let room = rw c.in-Ok-Some.field-0-is at c.in-Ok-Some.ensures.room in
     let within : c.in-Ok-Some.len ≤ length c.write_canonical.new.out = omega (arith, c.in-Ok-Some.ensures.whole, room) in
     let h = rw c.in-Ok-Some.field-0-is at c.in-Ok-Some.ensures.writes in
-    text-back g.T.WktNum.read g.T.WktNum.num c.args.text.now c.write_canonical.new.out _ _ c.in-Ok-Some.len whole (record { value = h.value; end = c.in-Ok-Some.field-0-0-0; front = h.front; written = h.written; within = within })
+    text-back g.T.WktNum.read g.T.WktNum.num c.args.text.now c.write_canonical.new.out _ _ c.in-Ok-Some.len whole (record { value = h.value; end = c.in-Ok-Some.field-0-0-0; front = h.front; written = h.written; utf8 = h.utf8; within = within })

@@ -1,0 +1,253 @@
+-- What a run leaves, block by block.
+use Rattle.std.proofs.Common.{◌≡◌, ℕ, List, [], ◌∷◌, ◌++◌, ◌⊎◌, inl, inr, refl, sym, ap, ◌∙◌, subst, append_assoc, Option, None, Some, IfSome, OnOk, Result, Ok, Err}
+use Rattle.std.proofs.lemmas.List.{append-nil}
+use Rattle.std.specs.Io.KnownBytes.{Appends, Consumes, Keeps, IsAtEnd}
+use Rattle.std.proofs.KnownBytes.{Appends-nil, Appends-trans, Keeps-refl, Consumes-nil, Consumes-trans, Consumes-kept, Consumes-whole}
+use Rattle.wkt_bytes.specs.Sinks.{SinkOfBytes}
+use Rattle.wkt_lines.specs.Lines.{input_lines}
+use Rattle.wkt_lines.specs.Laws.{IsWhole}
+use Rattle.wkt_lines.specs.Replies.{AllReplied, FirstReplied, BeforeReplied, PartReplied}
+use Rattle.wkt_lines.specs.Output.{OnRunRead, OnRunWrite, OnRunMemory, UnlessRunWrite}
+use Rattle.wkt_lines.specs.declared.lines.RunError.{RunError}
+use Rattle.wkt_lines.specs.declared.lines.RunError.TheVariants as run
+use Rattle.wkt_lines.proofs.Parts.{lines_of_parts, replies_append, all_replies_append}
+use Rattle.wkt_lines.specs.Feeds.{HasNoFeed}
+use Rattle.wkt_lines.specs.Streaming.{TakenReplied, AllTaken, LinesTaken}
+
+pub ok_map : {A P Q : Type 0} (r : Result A RunError) → (P → Q) → OnOk r P → OnOk r Q
+ok_map (Ok x) f h = f h
+ok_map (Err e) f h = tt
+
+pub read_none : {A : Type 0} (P : Type 0) (r : Result A RunError) → OnRunRead r ⊥ → OnRunRead r P
+read_none P (Ok x) h = tt
+read_none P (Err (run.Read e)) h = absurd h
+read_none P (Err (run.Write e)) h = tt
+read_none P (Err (run.Memory e)) h = tt
+
+pub memory_map : {A P Q : Type 0} (r : Result A RunError) → (P → Q) → OnRunMemory r P → OnRunMemory r Q
+memory_map (Ok x) f h = tt
+memory_map (Err (run.Read e)) f h = tt
+memory_map (Err (run.Write e)) f h = tt
+memory_map (Err (run.Memory e)) f h = f h
+
+pub unless_write_map : {A P Q : Type 0} (r : Result A RunError) → (P → Q) → UnlessRunWrite r P → UnlessRunWrite r Q
+unless_write_map (Ok x) f h = f h
+unless_write_map (Err (run.Read e)) f h = f h
+unless_write_map (Err (run.Write e)) f h = tt
+unless_write_map (Err (run.Memory e)) f h = f h
+
+if_map : (a : Option (List ℕ)) (P Q : List ℕ → Type 0) → IfSome a P → ((x : List ℕ) → P x → Q x) → IfSome a Q
+if_map None P Q h f = tt
+if_map (Some x) P Q h f = f x h
+
+-- what a source had begins with what it gave
+on_taken : (a b : Option (List ℕ)) (bs : List ℕ) (P : List ℕ → Type 0) → Consumes a b bs → ((tail : List ℕ) → P (bs ++ tail)) → IfSome a P
+on_taken None b bs P h f = tt
+on_taken (Some x) None bs P h f = absurd h
+on_taken (Some x) (Some y) bs P h f = subst P (sym h) (f y)
+
+-- The lines of the two inputs are the first of the third.
+abbrev pub Fits : List ℕ → List ℕ → List ℕ → Type 0
+Fits done here input = (others : List (List ℕ)) × (input_lines done ++ (input_lines here ++ others) ≡ input_lines input)
+
+fits_whole : (done here rest tail : List ℕ) → IsWhole done → IsWhole here → Fits done here ((done ++ (here ++ rest)) ++ tail)
+fits_whole done here rest tail w v = (
+  input_lines (rest ++ tail),
+  sym (ap input_lines (append_assoc done (here ++ rest) tail ∙ ap (λ (xs : List ℕ). done ++ xs) (append_assoc here rest tail))
+      ∙ (lines_of_parts done (here ++ (rest ++ tail)) w
+      ∙ ap (λ (ls : List (List ℕ)). input_lines done ++ ls) (lines_of_parts here (rest ++ tail) v))),
+)
+
+fits_last : (done here : List ℕ) → IsWhole done → Fits done here (done ++ here)
+fits_last done here w = ([], ap (λ (ls : List (List ℕ)). input_lines done ++ ls) (append-nil (input_lines here)) ∙ sym (lines_of_parts done here w))
+
+both_whole : (xs ys : List ℕ) → IsWhole xs → IsWhole ys → IsWhole (xs ++ ys)
+both_whole xs ys w (inl e) = subst (λ (zs : List ℕ). IsWhole zs) (sym (ap (λ (zs : List ℕ). xs ++ zs) e ∙ append-nil xs)) w
+both_whole xs ys w (inr (zs, e)) = inr (xs ++ zs, ap (λ (us : List ℕ). xs ++ us) e ∙ sym (append_assoc xs zs (10 ∷ [])))
+
+ends_on : (xs ys more : List ℕ) (left : Option (List ℕ)) → IsWhole xs → IsWhole ys ⊎ ((more ≡ []) × IsAtEnd left) → IsWhole (xs ++ ys) ⊎ ((more ≡ []) × IsAtEnd left)
+ends_on xs ys more left w (inl v) = inl (both_whole xs ys w v)
+ends_on xs ys more left w (inr k) = inr k
+
+module _ (is : List ℕ → List ℕ → Type 0) where
+  first_none : (a : Option (List ℕ)) (input : List ℕ) → FirstReplied is a a input
+  first_none a input = record { first = []; others = input_lines input; lines = refl; out = []; answers = refl; went = Appends-nil a }
+
+  -- nothing went out
+  pub nothing_out : (left a : Option (List ℕ)) → IfSome left (FirstReplied is a a)
+  nothing_out None a = tt
+  nothing_out (Some input) a = first_none a input
+
+  first_more : (a b c : Option (List ℕ)) (done here input : List ℕ) → AllReplied is a b done → FirstReplied is b c here → Fits done here input → FirstReplied is a c input
+  first_more a b c done here input h f (others, e) = record {
+    first = input_lines done ++ f.first;
+    others = f.others ++ others;
+    lines = append_assoc (input_lines done) f.first (f.others ++ others)
+        ∙ (ap (λ (ls : List (List ℕ)). input_lines done ++ ls) (sym (append_assoc f.first f.others others) ∙ ap (λ (ls : List (List ℕ)). ls ++ others) f.lines) ∙ e);
+    out = h.0 ++ f.out;
+    answers = replies_append is (input_lines done) f.first h.0 f.out h.1 f.answers;
+    went = Appends-trans a b c h.0 f.out h.2 f.went;
+  }
+
+  -- of the lines before one, no line is too many
+  pub before_first : (a b : Option (List ℕ)) (input : List ℕ) → BeforeReplied is a b input → FirstReplied is a b input
+  before_first a b input h = record { first = h.first; others = h.line ∷ h.others; lines = h.lines; out = h.out; answers = h.answers; went = h.went }
+
+  before_more : (a b c : Option (List ℕ)) (done here input : List ℕ) → AllReplied is a b done → BeforeReplied is b c here → Fits done here input → BeforeReplied is a c input
+  before_more a b c done here input h f (others, e) = record {
+    first = input_lines done ++ f.first;
+    line = f.line;
+    others = f.others ++ others;
+    lines = append_assoc (input_lines done) f.first (f.line ∷ (f.others ++ others))
+        ∙ (ap (λ (ls : List (List ℕ)). input_lines done ++ ls) (sym (append_assoc f.first (f.line ∷ f.others) others) ∙ ap (λ (ls : List (List ℕ)). ls ++ others) f.lines) ∙ e);
+    out = h.0 ++ f.out;
+    answers = replies_append is (input_lines done) f.first h.0 f.out h.1 f.answers;
+    went = Appends-trans a b c h.0 f.out h.2 f.went;
+  }
+
+  part_more : (a b c : Option (List ℕ)) (done here input : List ℕ) → AllReplied is a b done → PartReplied is b c here → Fits done here input → PartReplied is a c input
+  part_more a b c done here input h f (others, e) = record {
+    first = input_lines done ++ f.first;
+    line = f.line;
+    others = f.others ++ others;
+    lines = append_assoc (input_lines done) f.first (f.line ∷ (f.others ++ others))
+        ∙ (ap (λ (ls : List (List ℕ)). input_lines done ++ ls) (sym (append_assoc f.first (f.line ∷ f.others) others) ∙ ap (λ (ls : List (List ℕ)). ls ++ others) f.lines) ∙ e);
+    out = h.0 ++ f.out;
+    answers = replies_append is (input_lines done) f.first h.0 f.out h.1 f.answers;
+    answer = f.answer;
+    is_answer = f.is_answer;
+    part = f.part;
+    lost = f.lost;
+    whole = f.whole;
+    went = subst (λ (xs : List ℕ). Appends a c xs) (sym (append_assoc h.0 f.out f.part)) (Appends-trans a b c h.0 (f.out ++ f.part) h.2 f.went);
+  }
+
+  module _ {W : Type 0} (sink : SinkOfBytes W) where
+    -- The source gave `done` and then `front`, and the answers to `done` went out.
+    pub record Base (left0 left1 : Option (List ℕ)) (start now : W) (front : List ℕ) : Type 0 where
+      pub done : List ℕ
+      pub ends : IsWhole done
+      pub taken : Consumes left0 left1 (done ++ front)
+      pub out : AllReplied is (sink.bytes start) (sink.bytes now) done
+      pub count : sink.failures now ≡ sink.failures start
+      pub tied : sink.keeps start now
+
+    -- a run begins with nothing
+    pub begins : (left : Option (List ℕ)) (start : W) (front : List ℕ) → front ≡ [] → Base left left start start front
+    begins left start front e = record {
+      done = [];
+      ends = inl refl;
+      taken = subst (λ (xs : List ℕ). Consumes left left xs) (sym e) (Consumes-nil left);
+      out = ([], refl, Appends-nil (sink.bytes start));
+      count = refl;
+      tied = sink.keeps_none start;
+    }
+
+    -- all of the input is at hand
+    pub at_hand : (input : List ℕ) (start : W) → Base (Some input) (Some []) start start input
+    at_hand input start = record {
+      done = [];
+      ends = inl refl;
+      taken = sym (append-nil input);
+      out = ([], refl, Appends-nil (sink.bytes start));
+      count = refl;
+      tied = sink.keeps_none start;
+    }
+
+    module _ (left0 left1 : Option (List ℕ)) (start now : W) (front : List ℕ) (base : Base left0 left1 start now front) where
+      -- more came
+      pub filled : (left2 : Option (List ℕ)) (fresh more : List ℕ) → Consumes left1 left2 fresh → more ≡ front ++ fresh → Base left0 left2 start now more
+      filled left2 fresh more h e = record {
+        done = base.done;
+        ends = base.ends;
+        taken = subst (λ (xs : List ℕ). Consumes left0 left2 xs) (append_assoc base.done front fresh ∙ ap (λ (xs : List ℕ). base.done ++ xs) (sym e)) (Consumes-trans left0 left1 left2 (base.done ++ front) fresh base.taken h);
+        out = base.out;
+        count = base.count;
+        tied = base.tied;
+      }
+
+      -- the whole lines were answered
+      pub answered : (next : W) (here rest : List ℕ) → front ≡ here ++ rest → IsWhole here → AllReplied is (sink.bytes now) (sink.bytes next) here
+          → sink.failures next ≡ sink.failures now → sink.keeps now next → Base left0 left1 start next rest
+      answered next here rest e w h f k = record {
+        done = base.done ++ here;
+        ends = both_whole base.done here base.ends w;
+        taken = subst (λ (xs : List ℕ). Consumes left0 left1 xs) (ap (λ (xs : List ℕ). base.done ++ xs) e ∙ sym (append_assoc base.done here rest)) base.taken;
+        out = (base.out.0 ++ h.0, all_replies_append is base.done here base.out.0 h.0 base.ends base.out.1 h.1, Appends-trans (sink.bytes start) (sink.bytes now) (sink.bytes next) base.out.0 h.0 base.out.2 h.2);
+        count = f ∙ base.count;
+        tied = sink.keeps_more start now next base.tied k;
+      }
+
+      pub fits_here : (here rest : List ℕ) → front ≡ here ++ rest → IsWhole here → IfSome left0 (Fits base.done here)
+      fits_here here rest e w =
+          on_taken left0 left1 (base.done ++ front) (Fits base.done here) base.taken
+          (λ tail. subst (λ (xs : List ℕ). Fits base.done here ((base.done ++ xs) ++ tail)) (sym e) (fits_whole base.done here rest tail base.ends w))
+
+      pub fits_end : IsAtEnd left1 → IfSome left0 (Fits base.done front)
+      fits_end e = Consumes-whole left0 left1 (base.done ++ front) (Fits base.done front) base.taken e (fits_last base.done front base.ends)
+
+      -- of the lines that come after those that were answered, the first were, and a beginning of the next
+      pub firsts : (next : W) (here : List ℕ) → IfSome left0 (Fits base.done here) → FirstReplied is (sink.bytes now) (sink.bytes next) here → IfSome left0 (FirstReplied is (sink.bytes start) (sink.bytes next))
+      firsts next here fits f = if_map left0 (Fits base.done here) (FirstReplied is (sink.bytes start) (sink.bytes next)) fits
+          (λ input k. first_more (sink.bytes start) (sink.bytes now) (sink.bytes next) base.done here input base.out f k)
+
+      pub part : (next : W) (here : List ℕ) → IfSome left0 (Fits base.done here) → PartReplied is (sink.bytes now) (sink.bytes next) here → IfSome left0 (PartReplied is (sink.bytes start) (sink.bytes next))
+      part next here fits f = if_map left0 (Fits base.done here) (PartReplied is (sink.bytes start) (sink.bytes next)) fits
+          (λ input k. part_more (sink.bytes start) (sink.bytes now) (sink.bytes next) base.done here input base.out f k)
+
+      -- the lines that were answered are the first
+      pub so_far : IfSome left0 (FirstReplied is (sink.bytes start) (sink.bytes now))
+      so_far = firsts now [] (fits_here [] front refl (inl refl)) (first_none (sink.bytes now) [])
+
+      -- no more could be read
+      pub broke_off : (left2 : Option (List ℕ)) → Keeps left1 left2 → HasNoFeed front → TakenReplied is left0 left2 (sink.bytes start) (sink.bytes now)
+      broke_off left2 k n = (
+        base.done ++ front,
+        Consumes-kept left0 left1 left2 (base.done ++ front) base.taken k,
+        record { whole = base.done; rest = front; parts = refl; ends = base.ends; none = n; out = base.out },
+      )
+
+      all_out : (next : W) → AllReplied is (sink.bytes now) (sink.bytes next) front → AllReplied is (sink.bytes start) (sink.bytes next) (base.done ++ front)
+      all_out next h =
+          (base.out.0 ++ h.0, all_replies_append is base.done front base.out.0 h.0 base.ends base.out.1 h.1, Appends-trans (sink.bytes start) (sink.bytes now) (sink.bytes next) base.out.0 h.0 base.out.2 h.2)
+
+      -- the last lines were answered too
+      pub all : (next : W) → IsAtEnd left1 → AllReplied is (sink.bytes now) (sink.bytes next) front → IfSome left0 (AllReplied is (sink.bytes start) (sink.bytes next))
+      all next end h = Consumes-whole left0 left1 (base.done ++ front) (AllReplied is (sink.bytes start) (sink.bytes next)) base.taken end (all_out next h)
+
+      pub all_taken : (next : W) → IsAtEnd left1 → AllReplied is (sink.bytes now) (sink.bytes next) front → AllTaken left0 left1 (AllReplied is (sink.bytes start) (sink.bytes next))
+      all_taken next end h = (base.done ++ front, base.taken, end, all_out next h)
+
+      taken_here : (here more : List ℕ) → front ≡ here ++ more → IsWhole here ⊎ ((more ≡ []) × IsAtEnd left1) → (P : List ℕ → Type 0) → P (base.done ++ here) → LinesTaken left0 left1 P
+      taken_here here more e w P h = record {
+        lines = base.done ++ here;
+        more = more;
+        gave = subst (λ (xs : List ℕ). Consumes left0 left1 xs) (ap (λ (xs : List ℕ). base.done ++ xs) e ∙ sym (append_assoc base.done here more)) base.taken;
+        ends = ends_on base.done here more left1 base.ends w;
+        holds = h;
+      }
+
+      -- the sink failed at a line of those that were taken
+      pub part_taken : (next : W) (here more : List ℕ) → front ≡ here ++ more → IsWhole here ⊎ ((more ≡ []) × IsAtEnd left1)
+          → PartReplied is (sink.bytes now) (sink.bytes next) here → LinesTaken left0 left1 (PartReplied is (sink.bytes start) (sink.bytes next))
+      part_taken next here more e w f = taken_here here more e w (PartReplied is (sink.bytes start) (sink.bytes next))
+          (part_more (sink.bytes start) (sink.bytes now) (sink.bytes next) base.done here (base.done ++ here) base.out f (fits_last base.done here base.ends))
+
+      -- there was no memory for a line of those that were taken
+      pub before_taken : (next : W) (here more : List ℕ) → front ≡ here ++ more → IsWhole here ⊎ ((more ≡ []) × IsAtEnd left1)
+          → BeforeReplied is (sink.bytes now) (sink.bytes next) here → LinesTaken left0 left1 (BeforeReplied is (sink.bytes start) (sink.bytes next))
+      before_taken next here more e w f = taken_here here more e w (BeforeReplied is (sink.bytes start) (sink.bytes next))
+          (before_more (sink.bytes start) (sink.bytes now) (sink.bytes next) base.done here (base.done ++ here) base.out f (fits_last base.done here base.ends))
+
+      -- there was no memory for one of the lines that come after those that were answered
+      pub before : (next : W) (here : List ℕ) → IfSome left0 (Fits base.done here) → BeforeReplied is (sink.bytes now) (sink.bytes next) here → IfSome left0 (BeforeReplied is (sink.bytes start) (sink.bytes next))
+      before next here fits f = if_map left0 (Fits base.done here) (BeforeReplied is (sink.bytes start) (sink.bytes next)) fits
+          (λ input k. before_more (sink.bytes start) (sink.bytes now) (sink.bytes next) base.done here input base.out f k)
+
+      -- of those that come first, these are all that were answered
+      pub befores : (next : W) (here : List ℕ) → IfSome left0 (Fits base.done here) → BeforeReplied is (sink.bytes now) (sink.bytes next) here → IfSome left0 (FirstReplied is (sink.bytes start) (sink.bytes next))
+      befores next here fits f = firsts next here fits (before_first (sink.bytes now) (sink.bytes next) here f)
+
+      -- there was no memory to read on
+      pub no_more : HasNoFeed front → TakenReplied is left0 left1 (sink.bytes start) (sink.bytes now)
+      no_more n = broke_off left1 (Keeps-refl left1) n

@@ -1,0 +1,52 @@
+use Rattle.std.proofs.Common.{◌≡◌, ◌+◌, ◌≤◌, ℕ, List, length, take, drop, arith, ap, sym, ◌∙◌, subst, length-append}
+use Rattle.std.proofs.KnownBytes.{Keeps-trans}
+use Rattle.wkt_lines.specs.Splitting.{before_feed, after_feed}
+use Rattle.wkt_lines.specs.Reading.{unread}
+use Rattle.wkt_lines.proofs.Feeding.{seen_none}
+use Rattle.wkt_lines.proofs.Lining.{seen_line, none_to_end, came_keeps, none_came}
+use Rattle.wkt_lines.proofs.reading.Lines.find_end.Goals as goal
+
+pub returns-then-end-rest-clause-before : goal.returns-then-end-rest-clause-before
+returns-then-end-rest-clause-before g c =
+    let i = c.turns.invariant in
+    (seen_line c.turns.seen c.line_end.result (unread c.turns.self) c.rest-rest.result.now c.rest-rest.ensures i.within i.none c.line_end.ensures.before c.line_end.ensures.after).0
+
+pub returns-then-end-rest-clause-after : goal.returns-then-end-rest-clause-after
+returns-then-end-rest-clause-after g c =
+    let i = c.turns.invariant in
+    (seen_line c.turns.seen c.line_end.result (unread c.turns.self) c.rest-rest.result.now c.rest-rest.ensures i.within i.none c.line_end.ensures.before c.line_end.ensures.after).1
+
+pub returns-in-Ok-eq0-clause-before : goal.returns-in-Ok-eq0-clause-before
+returns-in-Ok-eq0-clause-before g c =
+    let i = c.turns.invariant in
+    let m = c.in-Ok-eq0.ensures.ok in
+    let same = none_came _ _ m.fresh m.stands (m.many ∙ c.in-Ok-eq0.field-0-test) in
+    subst (λ (xs : List ℕ). take (c.turns.seen + c.line_end.result) xs ≡ before_feed xs) (sym same)
+    (seen_line c.turns.seen c.line_end.result (unread c.turns.self) c.rest-rest.result.now c.rest-rest.ensures i.within i.none c.line_end.ensures.before c.line_end.ensures.after).0
+
+pub returns-in-Ok-eq0-clause-after : goal.returns-in-Ok-eq0-clause-after
+returns-in-Ok-eq0-clause-after g c =
+    let i = c.turns.invariant in
+    let m = c.in-Ok-eq0.ensures.ok in
+    let same = none_came _ _ m.fresh m.stands (m.many ∙ c.in-Ok-eq0.field-0-test) in
+    subst (λ (xs : List ℕ). drop (c.turns.seen + c.line_end.result + 1) xs ≡ after_feed xs) (sym same)
+    (seen_line c.turns.seen c.line_end.result (unread c.turns.self) c.rest-rest.result.now c.rest-rest.ensures i.within i.none c.line_end.ensures.before c.line_end.ensures.after).1
+
+pub turns-preserved : goal.turns-preserved
+turns-preserved g c =
+    let i = c.turns.invariant in
+    let u = unread c.turns.self in
+    let n = c.turns.seen + c.line_end.result in
+    let known : length c.rest-rest.result.now ≡ length u = ap length c.rest-rest.ensures in
+    let over : length u ≤ n = omega (arith, known, c.if-end-rest.false) in
+    let m = c.in-Ok.ensures.ok in
+    let none = none_to_end n u over (seen_line c.turns.seen c.line_end.result (unread c.turns.self) c.rest-rest.result.now c.rest-rest.ensures i.within i.none c.line_end.ensures.before c.line_end.ensures.after).0 in
+    let all : n ≡ length u = omega (arith, over, known, i.within, c.line_end.ensures.within) in
+    let long : length (unread c.more.new.self) ≡ length u + length m.fresh = ap length m.stands ∙ length-append u m.fresh in
+    record {
+      within = omega (arith, all, long);
+      line = c.more.ensures.line;
+      none = seen_none n u m.fresh (unread c.more.new.self) all m.stands none;
+      kept = Keeps-trans _ _ _ i.kept (came_keeps _ _ _ _ m.fresh m.stands m.came);
+      count = c.in-Ok.ensures.count ∙ i.count;
+    }

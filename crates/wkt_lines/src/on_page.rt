@@ -1,0 +1,99 @@
+//! What the lines of a block are answered with, on a page.
+ghost use Rattle.std.specs.Prelude.{◌≡◌, ℕ, List, length};
+ghost use Rattle.wkt_events.specs.Answers.{IsAnswer};
+ghost use Rattle.wkt_lines.specs.Pages.{page_text, HasRoomFor, RepliesNext};
+
+use crate::answer::AnswerError;
+use crate::page::Page;
+use crate::reply::{Reply, reply_to_line};
+use std::alloc::{AllocError, Global};
+use std::marker::PhantomData;
+use wkt_events::NoRoom;
+use wkt_events::ends::line_end;
+use wkt_num::WktNum;
+
+/// What lines are answered with.
+pub(crate) trait Answers {
+    /// Which answers a line may have.
+    ghost answers: { Self → List ℕ → List ℕ → Type 0 };
+
+    /// Adds the answer to the first line and a line feed to a page, and answers how much the line takes with its own.
+    ///
+    /// # Errors
+    /// Out of memory; nothing was added then.
+    fn add_first(&self, rest: &[u8], page: &mut Page) -> Result<usize, AllocError>
+        requires { HasRoomFor page.old (length rest.now) }
+        ensures { RepliesNext (answers self.now) rest.now (page_text page.old) (page_text page.new) result };
+}
+
+/// The text of the geometry that a line begins with, or `refused`, by the walk over its bytes.
+#[derive(Drop)]
+pub(crate) struct ByWalk<T> {
+    of: PhantomData<T>,
+}
+
+impl<T> ByWalk<T> {
+    pub(crate) fn new() -> Self {
+        ByWalk { of: PhantomData }
+    }
+}
+
+impl<T: WktNum> Answers for ByWalk<T> {
+    ghost use Rattle.wkt_events.specs.Answers.{IsAnswer};
+
+    ghost answers = { λ _. IsAnswer T.read T.num };
+
+    #[inline(always)]
+    fn add_first(&self, rest: &[u8], page: &mut Page) -> Result<usize, AllocError> {
+        match page.answer_line::<T>(rest) {
+            Ok(taken) => Ok(taken),
+            Err(NoRoom) => answer_wider::<T>(rest, page),
+        }
+    }
+}
+
+/// Adds the answer to the first line, of which a number's text had no room.
+#[cold]
+#[inline(never)]
+fn answer_wider<T: WktNum>(rest: &[u8], page: &mut Page) -> Result<usize, AllocError>
+    requires { HasRoomFor page.old (length rest.now) }
+    ensures { RepliesNext (IsAnswer T.read T.num) rest.now (page_text page.old) (page_text page.new) result }
+{
+    'room: loop {
+        match page.widen() {
+            Ok(()) => {}
+            Err(e) => return Err(e),
+        }
+        match page.answer_line::<T>(rest) {
+            Ok(taken) => return Ok(taken),
+            Err(NoRoom) => {}
+        }
+    }
+}
+
+/// Answers of any kind.
+#[derive(Drop)]
+pub(crate) struct ByReply<'a, A> {
+    pub(crate) alloc: Global,
+    pub(crate) reply: &'a A,
+}
+
+impl<A: Reply> Answers for ByReply<'_, A> {
+    ghost use Rattle.wkt_lines.specs.Pages.{reply_of};
+
+    ghost answers = { λ s. A.answers (reply_of s) };
+
+    fn add_first(&self, rest: &[u8], page: &mut Page) -> Result<usize, AllocError> {
+        let end = line_end(rest);
+        let start = page.len();
+        match reply_to_line(self.alloc, self.reply, &rest[..end], page) {
+            Ok(()) => Ok(end + 1),
+            Err(AnswerError::Memory(e)) => Err(e),
+            // A page fails where there is no memory for what it is given.
+            Err(AnswerError::Sink(_)) => {
+                page.cut(start);
+                Err(AllocError)
+            }
+        }
+    }
+}

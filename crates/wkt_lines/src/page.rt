@@ -1,0 +1,208 @@
+//! Room for answers.
+ghost use Rattle.std.specs.Prelude.{◌≡◌, ◌+◌, ◌*◌, ◌<◌, ◌≤◌, ◌++◌, [], OnOk, OnErr, length, take, vec_len, true, if◌then◌else◌};
+ghost use Rattle.std.specs.Bool.{OnTrue};
+
+use std::alloc::{AllocError, Global};
+use std::fmt;
+use wkt_bytes::copy_piece;
+use wkt_events::{NoRoom, answer_line};
+use wkt_num::{TextSink, WktNum};
+
+// How much is gathered, before it is put out, where answers are gathered.
+const HELD: usize = 65536;
+
+// How much is put out at once of an answer that is put out by itself.
+const PIECE: usize = 256;
+
+/// Bytes, of which the first are answers that were written.
+#[derive(Drop)]
+pub struct Page {
+    bytes: Vec<u8>,
+    len: usize,
+    // A page that holds so much is put out,
+    held: usize,
+    // so many bytes a write.
+    piece: usize,
+    failures: u64,
+    ghost fits: { len ≤ vec_len bytes },
+    ghost some: { 0 < piece },
+}
+
+impl Page {
+    ghost use Rattle.wkt_lines.specs.Pages.{page_text, page_failures, HasRoomFor, AnswersNext};
+
+    /// A page with no room yet, which is put out when it holds 64 KiB, by one write.
+    pub fn of_blocks(alloc: Global) -> Page
+        ensures { page_text result ≡ [] }
+    {
+        Page {
+            bytes: Vec::new(alloc),
+            len: 0,
+            held: HELD,
+            piece: usize::MAX,
+            failures: 0,
+        }
+    }
+
+    /// A page with no room yet, which is put out after each answer, by 256 bytes a write.
+    pub fn of_lines(alloc: Global) -> Page
+        ensures { page_text result ≡ [] }
+    {
+        Page {
+            bytes: Vec::new(alloc),
+            len: 0,
+            held: 1,
+            piece: PIECE,
+            failures: 0,
+        }
+    }
+
+    /// What was written.
+    pub fn written(&self) -> &[u8]
+        ensures { result.now ≡ page_text self.now }
+    {
+        &self.bytes[..self.len]
+    }
+
+    /// How much that is.
+    pub fn len(&self) -> usize
+        ensures { result ≡ length (page_text self.now) }
+    {
+        self.len
+    }
+
+    /// How many bytes of it are put out by one write.
+    pub fn piece(&self) -> usize
+        ensures { 0 < result }
+    {
+        self.piece
+    }
+
+    /// Drops what was written behind the first bytes.
+    pub fn cut(&mut self, len: usize)
+        requires { len ≤ length (page_text self.old) }
+        ensures { page_text self.new ≡ take len (page_text self.old) }
+    {
+        self.len = len;
+    }
+
+    /// Whether there is room for the answer to a text of so many bytes, and the page isn't full.
+    #[inline(always)]
+    pub fn is_ready(&self, n: usize) -> bool
+        ensures { result ≡ true → HasRoomFor self.now n }
+    {
+        let room = self.bytes.len() - self.len;
+        self.len < self.held && room >= 65 && (room - 65) / 2 >= n
+    }
+
+    /// Makes room for the answer to a text of so many bytes, and for what is gathered.
+    ///
+    /// # Errors
+    /// Out of memory.
+    pub fn make_room(&mut self, n: usize) -> Result<(), AllocError>
+        ensures text { page_text self.new ≡ page_text self.old }
+        ensures room { OnOk result (HasRoomFor self.new n) }
+    {
+        if self.is_ready(n) {
+            return Ok(());
+        }
+        let Some(twice) = n.checked_mul(2) else {
+            return Err(AllocError);
+        };
+        let Some(more) = twice.checked_add(HELD + 65) else {
+            return Err(AllocError);
+        };
+        match self.len.checked_add(more) {
+            Some(len) => {
+                if len <= self.bytes.len() {
+                    return Ok(());
+                }
+                self.bytes.resize(len, 0)
+            }
+            None => Err(AllocError),
+        }
+    }
+
+    /// Makes twice the room, and some more.
+    ///
+    /// # Errors
+    /// Out of memory.
+    pub fn widen(&mut self) -> Result<(), AllocError>
+        ensures text { page_text self.new ≡ page_text self.old }
+        ensures len { self.new.len ≡ self.old.len }
+        ensures grows { OnOk result (vec_len self.old.bytes < vec_len self.new.bytes) }
+    {
+        let Some(twice) = self.bytes.len().checked_mul(2) else {
+            return Err(AllocError);
+        };
+        match twice.checked_add(HELD) {
+            Some(len) => self.bytes.resize(len, 0),
+            None => Err(AllocError),
+        }
+    }
+
+    /// Writes the answer to the first line, and answers how much it takes with its line feed.
+    ///
+    /// # Errors
+    /// A number's text had no room; nothing was written then.
+    #[inline(always)]
+    pub fn answer_line<T: WktNum>(&mut self, rest: &[u8]) -> Result<usize, NoRoom>
+        requires { HasRoomFor self.old (length rest.now) }
+        ensures answers { AnswersNext T.read T.num rest.now (page_text self.old) (page_text self.new) result }
+        ensures len { OnErr result (self.new.len ≡ self.old.len) }
+        ensures room { OnErr result (vec_len self.new.bytes ≡ vec_len self.old.bytes) }
+    {
+        match answer_line::<T>(rest, self.bytes.as_mut_slice(), self.len) {
+            Ok(answer) => {
+                self.len = answer.len;
+                Ok(answer.taken)
+            }
+            Err(e) => Err(e),
+        }
+    }
+
+    /// Takes the bytes, or answers that there is no memory for them.
+    fn keep(&mut self, bytes: &[u8]) -> bool
+        ensures kept { page_text self.new ≡ (if result then page_text self.old ++ bytes.now else page_text self.old) }
+        ensures count { page_failures self.new ≡ page_failures self.old }
+    {
+        let start = self.len;
+        let Some(end) = start.checked_add(bytes.len()) else {
+            return false;
+        };
+        if end > self.bytes.len() && !self.grow(end) {
+            return false;
+        }
+        copy_piece(bytes, &mut self.bytes[start..end]);
+        self.len = end;
+        true
+    }
+
+    /// Makes places up to that one, and more, or answers that there is no memory for them.
+    #[inline(never)]
+    fn grow(&mut self, end: usize) -> bool
+        ensures kept { page_text self.new ≡ page_text self.old }
+        ensures len { self.new.len ≡ self.old.len }
+        ensures room { OnTrue result (end ≤ length self.new.bytes.items) }
+        ensures count { page_failures self.new ≡ page_failures self.old }
+    {
+        let room = end.max(self.bytes.len().saturating_mul(2));
+        self.bytes.resize(room, 0).is_ok()
+    }
+}
+
+/// Text that is written to a page. It fails where there is no memory for it.
+impl TextSink for Page {
+    ghost use Rattle.wkt_lines.specs.Pages.{page_text, page_failures};
+    ghost use Rattle.wkt_num.specs.Sink.{telling};
+
+    ghost sink = { telling page_text page_failures };
+
+    fn write_str(&mut self, piece: &str) -> fmt::Result {
+        if self.keep(piece.as_bytes()) {
+            return Ok(());
+        }
+        self.failures = self.failures.wrapping_add(1);
+        Err(fmt::Error)
+    }
+}

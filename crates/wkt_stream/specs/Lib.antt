@@ -1,5 +1,0 @@
-pub mod Blocks
-pub mod Feeds
-pub mod Streaming
-pub mod Reading
-pub mod Pages
