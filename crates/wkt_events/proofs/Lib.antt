@@ -19,7 +19,6 @@ pub mod Hollowed
 pub mod Insides
 pub mod Lefts
 pub mod Legibles
-pub mod LineTexts
 pub mod Listing
 pub mod Members
 pub mod NamedHeads

@@ -1,5 +1,5 @@
 -- Runs of bytes at places of a text, and the numbers that they are.
-use Rattle.std.proofs.Common.{◌≡◌, ◌≢◌, ℕ, ◌+◌, ◌-◌, ◌*◌, ◌<◌, ◌≤◌, List, [], ◌∷◌, length, get_or, take, drop, slice_range, Option, Some, None, IfSome, IsTrue, IsUtf8, true, false, cond, inl, inr, ◌||◌, ◌==◌, refl, sym, ap, ◌∙◌, subst, arith}
+use Rattle.std.proofs.Common.{◌≡◌, ◌≢◌, ℕ, ◌+◌, ◌-◌, ◌<◌, ◌≤◌, List, [], ◌∷◌, length, get_or, take, drop, slice_range, Option, Some, IsTrue, IsUtf8, true, false, cond, inl, inr, ◌||◌, ◌==◌, refl, sym, ap, ◌∙◌, subst, arith}
 use Rattle.std.proofs.lemmas.List.{take_rest, get_or-drop, get_or-take, drop-take, length-drop, drop-drop, length-take-le}
 use Rattle.std.proofs.lemmas.List.Edits.{length-between, get_or-between}
 use Rattle.std.proofs.lemmas.Bool.{cases_eq, ne_eqb, eq-eqb}
@@ -86,21 +86,9 @@ behind-plus text at end start order inside is =
           ∙ sym (dropped (slice_range text at end)),
     )
 
--- What isn't text isn't read.
-pub unread : {T : Type 0} (o : Option T) (P : Type 0) → IfSome o (λ x. P) → (P → ⊥) → o ≡ None
-unread (Some x) P law bad = absurd (bad law)
-unread None P law bad = refl
-
 -- A number's run is some bytes.
 pub run-some : (text : List ℕ) (at end : ℕ) → at < end → end ≤ length text → slice_range text at end ≢ []
 run-some text at end order inside e = omega (arith, ap length e, length-between text at end inside)
-
--- What the law of a number type says of the run that was read.
-pub less-twice : {T : Type 0} (read : List ℕ → Option T) (num : T → List ℕ) (text : List ℕ) (at end : ℕ) (x : T) → at < end → end ≤ length text → read (without_plus (slice_range text at end)) ≡ Some x
-    → IfSome (read (without_plus (slice_range text at end))) (λ x. length (num x) < 2 * length (slice_range text at end)) → 2 * at + length (num x) < 2 * end
-less-twice read num text at end x order inside e law =
-    let less : length (num x) < 2 * length (slice_range text at end) = subst (λ o. IfSome o (λ x. length (num x) < 2 * length (slice_range text at end))) e law in
-    omega (arith, less, length-between text at end inside)
 
 -- A number that keeps its text was written as it stands.
 pub kept-numbered : {T : Type 0} (read : List ℕ → Option T) (num : T → List ℕ) (utf8 : (run : List ℕ) (x : T) → read run ≡ Some x → IsUtf8 (num x)) (text : List ℕ) (at end kept : ℕ) (before after : Pen T) → at ≤ length text

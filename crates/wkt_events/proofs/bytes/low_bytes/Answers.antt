@@ -1,3 +1,4 @@
+-- The lanes up to a comma are the low bytes of the window.
 use Rattle.wkt_events.proofs.RunEnds.{low-lanes}
 use Rattle.wkt_events.proofs.bytes.low_bytes.Goals as goal
 

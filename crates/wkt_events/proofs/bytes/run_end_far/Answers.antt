@@ -1,3 +1,4 @@
+-- Byte by byte the run goes on, up to a byte that is part of none.
 use Rattle.std.proofs.Common.{arith}
 use Rattle.wkt_events.proofs.RunEnds.{run-more, past-run}
 use Rattle.wkt_events.proofs.bytes.run_end_far.Goals as goal

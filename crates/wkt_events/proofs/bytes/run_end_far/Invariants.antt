@@ -1,3 +1,4 @@
+-- All bytes before the place are part of the run.
 use Rattle.std.proofs.Common.{◌≤◌, ◌-◌, length, slice_range}
 use Rattle.wkt_num.specs.Bytes.{AllRun}
 use Rattle.wkt_events.proofs.bytes.run_end_far.Given as goal

@@ -1,3 +1,4 @@
+-- White space is passed byte by byte.
 use Rattle.std.proofs.Common.{◌∙◌, arith}
 use Rattle.wkt_events.proofs.Classes.{past-white, white-some}
 use Rattle.wkt_events.proofs.Legibles.{class-in-line}

@@ -1,3 +1,4 @@
+-- What was passed is white space: the same lexemes are left.
 use Rattle.std.proofs.Common.{◌≡◌, ◌≤◌, ◌-◌, ◌==◌, length}
 use Rattle.std.specs.Prelude.{not}
 use Rattle.wkt_events.specs.Left.{line_of, left_placed}

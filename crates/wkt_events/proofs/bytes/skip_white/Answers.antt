@@ -1,3 +1,4 @@
+-- Where no white space stands, or one space, that is seen at once.
 use Rattle.std.proofs.Common.{ap, ◌∙◌}
 use Rattle.wkt_events.specs.Left.{class_in}
 use Rattle.wkt_events.proofs.Classes.{past-white, white-some, space, late-byte}

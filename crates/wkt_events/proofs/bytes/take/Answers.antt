@@ -1,3 +1,4 @@
+-- The mark is the lexeme that comes next, or another is.
 use Rattle.std.proofs.Common.{sym, ap, ◌∙◌, refl, arith}
 use Rattle.wkt_events.specs.Left.{class_in}
 use Rattle.wkt_events.proofs.Classes.{takes-this, begins-not, late-byte}

@@ -1,3 +1,4 @@
+-- What the pen wrote from the first byte on is the canonical text.
 use Rattle.std.proofs.Common.{refl, rules}
 use Rattle.wkt_events.proofs.Fronts.{none-of}
 use Rattle.wkt_events.proofs.Backs.{wrote-alone}

@@ -1,3 +1,4 @@
+-- A text that no line feed ends is its own line.
 use Rattle.wkt_events.proofs.Backs.{whole-text}
 use Rattle.wkt_events.proofs.canonical.write_canonical.Goals as goal
 

@@ -1,3 +1,4 @@
+-- What was written stands behind the first bytes.
 use Rattle.std.proofs.Common.{arith}
 use Rattle.wkt_events.proofs.Backs.{wrote-behind}
 use Rattle.wkt_events.proofs.canonical.write_front.Goals as goal

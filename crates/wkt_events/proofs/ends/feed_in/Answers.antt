@@ -1,3 +1,4 @@
+-- The lowest bit is the first line feed of the window.
 use Rattle.std.proofs.Common.{eqb, sym, ap, ◌∙◌, arith, w8}
 use lib.Count.{count_trailing_zeros}
 use lib.Lanes.{chunk}

@@ -1,3 +1,4 @@
+-- No line feed stands before the place, so the line ends at the first one.
 use Rattle.std.proofs.Common.{arith}
 use Rattle.wkt_events.proofs.Feeds.{none-more, no-more, found, found-one, found-none}
 use Rattle.wkt_events.proofs.ends.line_end.Goals as goal

@@ -1,3 +1,4 @@
+-- No line feed stands before the place.
 use Rattle.std.proofs.Common.{◌≤◌, ◌-◌, length}
 use Rattle.wkt_events.proofs.Feeds.{NoFeed}
 use Rattle.wkt_events.proofs.ends.line_end.Given as goal

@@ -1,3 +1,4 @@
+-- Where a line feed stands, the line ends.
 use Rattle.std.proofs.Common.{sym, ◌∙◌}
 use Rattle.wkt_events.proofs.Feeds.{ends-here}
 use Rattle.wkt_events.proofs.ends.text_end.Goals as goal

@@ -1,3 +1,4 @@
+-- The line ends where its rest does, and is text where its rest is.
 use Rattle.wkt_events.proofs.Feeds.{ends-tested, none-tested}
 use Rattle.wkt_events.proofs.ends.text_end_behind.Goals as goal
 

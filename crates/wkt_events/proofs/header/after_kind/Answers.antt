@@ -1,3 +1,4 @@
+-- Behind a kind word a dimension, a parenthesis or EMPTY stands, or no header.
 use Rattle.std.proofs.Common.{sym, ◌∙◌, refl, subst}
 use Rattle.wkt_num.specs.Bytes.{Open, class_of}
 use Rattle.wkt_events.specs.Behind.{GivesBehindIfAny}

@@ -1,3 +1,4 @@
+-- A kind word and what stands behind it are the header.
 use Rattle.std.proofs.Common.{sym, refl, subst}
 use Rattle.wkt_num.specs.Bytes.{Open, class_of}
 use Rattle.wkt_events.specs.Heads.{GivesHeaderIfAny}

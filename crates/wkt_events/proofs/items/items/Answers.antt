@@ -1,3 +1,4 @@
+-- An item, and after each comma another, are the list.
 use Rattle.std.proofs.Common.{arith, subst, ◌∷◌, []}
 use Rattle.wkt_num.specs.Bytes as lex
 use Rattle.wkt_events.specs.Events.{Event, inner}

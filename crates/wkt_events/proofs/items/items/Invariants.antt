@@ -1,3 +1,4 @@
+-- The items so far were read and made, each with the comma behind it.
 use Rattle.std.proofs.Common.{◌-◌, length}
 use Rattle.std.specs.Prelude.{not, ◌==◌}
 use Rattle.wkt_events.proofs.Listing.{ItemsSoFar}

@@ -1,3 +1,4 @@
+-- A line is answered by its front and by what stands behind that.
 use Rattle.std.proofs.Common.{arith}
 use Rattle.wkt_events.proofs.Answering.{from-within, from-in-line, refused-line, no-front, no-text, text-line}
 use Rattle.wkt_events.proofs.lines.answer_line.Goals as goal

@@ -1,3 +1,4 @@
+-- No word but EMPTY and others begins with these letters, and no other byte begins EMPTY.
 use Rattle.std.proofs.Common.{◌≡◌, true, false, sym, ◌∙◌, arith}
 use Rattle.std.proofs.lemmas.Bool.{eq-eqb}
 use Rattle.wkt_events.proofs.Classes.{eq-of}

@@ -1,3 +1,4 @@
+-- The closing parenthesis is taken and made.
 use Rattle.std.proofs.Common.{[], ◌∷◌}
 use Rattle.wkt_num.specs.Bytes as lex
 use Rattle.wkt_read.specs.Parser.Reading.{closing_at}

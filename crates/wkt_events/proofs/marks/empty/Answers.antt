@@ -1,3 +1,4 @@
+-- The word EMPTY is taken and made.
 use Rattle.std.proofs.Common.{[], ◌∷◌}
 use Rattle.wkt_events.specs.Events.{Event}
 use Rattle.wkt_events.specs.Heads.{empty_at}

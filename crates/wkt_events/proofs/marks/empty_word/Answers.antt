@@ -1,3 +1,4 @@
+-- The run is the word EMPTY, or the next lexeme is another.
 use Rattle.std.proofs.Common.{sym, ap, ◌∙◌, arith}
 use Rattle.wkt_read.specs.Parser.Reading.{is_empty_word}
 use Rattle.wkt_events.proofs.Words.{empty-word}

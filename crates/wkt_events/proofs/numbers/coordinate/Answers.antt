@@ -1,3 +1,4 @@
+-- A number after so many others is the next of the coordinate.
 use Rattle.std.proofs.Common.{arith}
 use Rattle.wkt_events.specs.Events.{coordinate}
 use Rattle.wkt_events.specs.Walking.{numbers_at}

@@ -1,3 +1,4 @@
+-- So many numbers were read and made.
 use Rattle.std.specs.Prelude.{not, ◌==◌}
 use Rattle.wkt_events.proofs.Coordinates.{NumbersSoFar}
 use Rattle.wkt_events.proofs.numbers.coordinate.Given as goal

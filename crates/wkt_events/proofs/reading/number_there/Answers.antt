@@ -1,3 +1,4 @@
+-- The run without its plus is read as the number, or stands for none.
 use Rattle.std.proofs.Common.{◌≡◌, ◌+◌, ◌<◌, ◌≤◌, length, get_or, slice_range, IsTrue, Some, sym, ap, ◌∙◌, arith, rules, subst}
 use Rattle.std.specs.Str.{IsUtf8}
 use Rattle.wkt_read.specs.Lexemes.{without_plus, starts_number}

@@ -1,3 +1,4 @@
+-- The number is the lexeme that comes next.
 use Rattle.std.specs.Prelude.{[]}
 use Rattle.wkt_events.proofs.PenNumbers.{reads-number}
 use Rattle.wkt_events.proofs.reading.read_number_at.Goals as goal

@@ -1,3 +1,4 @@
+-- What stands in the parentheses of each kind is read as the grammar has it.
 use Rattle.std.specs.Prelude.{option_to_list}
 use Rattle.wkt_read.specs.Parser.Reading.{closed}
 use Rattle.wkt_events.specs.declared.builder.Part.TheVariants as part

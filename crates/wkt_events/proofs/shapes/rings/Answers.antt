@@ -1,3 +1,4 @@
+-- Rings are a polygon, which is hollow where the first is EMPTY.
 use Rattle.std.proofs.Common.{arith, sym, ◌∙◌}
 use Rattle.wkt_num.specs.Bytes as lex
 use Rattle.wkt_events.proofs.Giving.{open-class, match-some, match-none}

@@ -1,3 +1,4 @@
+-- Behind a geometry collections are closed, until a comma comes or none is open.
 use Rattle.std.proofs.Common.{◌-◌, refl, arith, inr}
 use Rattle.wkt_num.specs.Bytes.{Comma, class_of}
 use Rattle.wkt_read.specs.Parser.Reading.{closing_at}

@@ -1,3 +1,4 @@
+-- So many collections are open, and a geometry stands before.
 use Rattle.std.proofs.Common.{◌==◌, ◌≤◌, length}
 use Rattle.std.specs.Prelude.{not}
 use Rattle.wkt_access.specs.Values.{Value}

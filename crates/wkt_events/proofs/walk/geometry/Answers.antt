@@ -1,3 +1,4 @@
+-- A geometry begins in so many open collections, and ends where none is open.
 use Rattle.std.proofs.Common.{◌+◌, arith, inr}
 use Rattle.wkt_events.proofs.Wholes.{comes-goes, goes-comes, legible-comes, at_open, at_value, at_none, at_end, at_refusal, opens-is, gives-is, all-ended, some-open}
 use Rattle.wkt_events.proofs.walk.geometry.Goals as goal

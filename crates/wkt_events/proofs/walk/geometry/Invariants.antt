@@ -1,3 +1,4 @@
+-- In so many open collections a geometry is to come.
 use Rattle.std.proofs.Common.{◌==◌, ◌≤◌, ◌-◌, length}
 use Rattle.std.specs.Prelude.{not}
 use Rattle.wkt_read.specs.Parser.Reading.{value_at}

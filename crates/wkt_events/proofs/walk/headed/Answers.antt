@@ -1,3 +1,4 @@
+-- Behind a header stands EMPTY, or what the kind has in parentheses.
 use Rattle.std.proofs.Common.{◌≡◌, ◌+◌, ◌-◌, ◌*◌, length, arith, ap, sym, subst, ◌⊎◌, ⊎_elim}
 use Rattle.wkt_access.specs.declared.dimensions.Dimension.{Dimension}
 use Rattle.wkt_access.specs.declared.dimensions.Dimension.TheVariants.{XYZ, XYM}

@@ -1,3 +1,4 @@
+-- Behind `POINT(` stand a coordinate and a parenthesis.
 use Rattle.std.proofs.Common.{◌+◌, ◌-◌, ◌*◌, length, arith, sym, refl, true}
 use Rattle.wkt_access.specs.declared.dimensions.Dimension.TheVariants.{XY}
 use Rattle.wkt_types.specs.declared.geometry_type.GeometryType.TheVariants as kind

@@ -1,3 +1,4 @@
+-- A line is EMPTY, or coordinates in parentheses.
 use Rattle.std.proofs.Common.{refl}
 use Rattle.wkt_num.specs.Bytes as lex
 use Rattle.wkt_events.specs.declared.builder.Part.TheVariants as part

@@ -1,3 +1,4 @@
+-- A member is EMPTY, a coordinate in parentheses, or a coordinate alone.
 use Rattle.std.proofs.Common.{arith}
 use Rattle.wkt_num.specs.Bytes as lex
 use Rattle.wkt_events.specs.declared.builder.Part.TheVariants as part

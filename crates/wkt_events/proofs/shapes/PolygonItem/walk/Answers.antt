@@ -1,3 +1,4 @@
+-- A polygon is EMPTY, or rings in parentheses.
 use Rattle.std.proofs.Common.{refl, sym}
 use Rattle.wkt_num.specs.Bytes as lex
 use Rattle.wkt_events.specs.declared.builder.Part.TheVariants as part

@@ -1,3 +1,4 @@
+-- A number is written if its text is short or leaves room for the rest; else the pen is stuck.
 use Rattle.std.proofs.Common.{◌≡◌, ◌+◌, ◌<◌, ◌≤◌, length, get_or, slice_range, IsTrue, Some, sym, ap, ◌∙◌, arith, rules, subst}
 use Rattle.std.specs.Str.{IsUtf8}
 use Rattle.wkt_read.specs.Lexemes.{without_plus, starts_number}

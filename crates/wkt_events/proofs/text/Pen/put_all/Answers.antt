@@ -1,3 +1,4 @@
+-- The bytes stand behind what was written.
 use Rattle.std.proofs.Common.{◌≡◌, ◌+◌, ◌-◌, ◌++◌, length, take, refl, ap, ◌∙◌, arith}
 use Rattle.std.proofs.lemmas.Slice.{take-put_mid}
 use Rattle.wkt_events.proofs.Stores.{length-stored}

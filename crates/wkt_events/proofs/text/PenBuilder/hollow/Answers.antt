@@ -1,3 +1,4 @@
+-- What was written since is taken back, and EMPTY stands for it.
 use Rattle.std.proofs.Common.{arith}
 use Rattle.wkt_events.proofs.Hollowed.{hollowed}
 use Rattle.wkt_events.proofs.text.PenBuilder.hollow.Goals as goal

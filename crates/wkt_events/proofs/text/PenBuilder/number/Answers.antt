@@ -1,3 +1,4 @@
+-- The separator and the number are written, and room for what follows is left.
 use Rattle.wkt_events.proofs.PenNumbers.{gives-number, leaves-number}
 use Rattle.wkt_events.proofs.text.PenBuilder.number.Goals as goal
 
