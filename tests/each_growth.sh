@@ -1,15 +1,15 @@
 #!/usr/bin/env bash
-# Refuses each growth of memory of the three built programs in turn, and of the macros' built tests, until a run meets none.
+# Refuses each growth of memory of the four built programs in turn, and of the macros' built tests, until a run meets none.
 #
-# wktline and wktstream answer lines of every kind: each refusal has to end them with their words and status, after the
+# wktline, wktstream and the command wkt answer lines of every kind: each refusal has to end them with their words and status, after the
 # whole answers to some first lines. wkt_conformance reads each text by three calls, copies the geometry, puts the copy together again from
 # its parts and displays it, converts it to a two-dimensional one and back, reads that from the text, from bytes and
 # from JSON, and writes it in three ways: each refusal has to end it as out of memory, with no row told as wrong, or to
 # change nothing. Then the same of ten thousand nested collections, at growths all over the run. A test of the macros
 # has to end as out of memory, which no wrong value does, or to pass.
 #
-# The gate runs it on what it has built; alone, build all four first (rt run in crates/wktline, crates/wktstream and
-# crates/wkt_conformance, rt test in crates/wkt).
+# The gate runs it on what it has built; alone, build all five first (rt run in crates/wktline, crates/wktstream,
+# crates/wkt_command and crates/wkt_conformance, rt test in crates/wkt).
 set -u
 cd "$(dirname "$0")/.."
 dir=$(mktemp -d)
@@ -48,13 +48,15 @@ run() {
 
 # each PROGRAM INPUT STATUS STEP ARGUMENT..: every growth in turn, or one of so many
 each() {
-    local program=$1 input=$2 want=$3 step=$4 n=1 tried=0 ended=0 status
+    local program=$1 input=$2 want=$3 step=$4 n=1 tried=0 ended=0 status usual
     shift 4
-    "crates/$program/out/$program" "$@" < "$input" > "$dir/whole" || exit 2
+    "crates/$program/out/$program" "$@" < "$input" > "$dir/whole" 2> "$dir/err"
+    usual=$?
+    [ "$usual" != "$want" ] && [ "$usual" -le 1 ] || exit 2
     while true; do
         run "$n" "crates/$program/out/$program" "$@" < "$input"
         status=$?
-        if [ "$status" = 0 ]; then
+        if [ "$status" = "$usual" ]; then
             cmp -s "$dir/out" "$dir/whole" || fail "$program" "$n" "another output"
             [ -e "$dir/refused" ] || break
         else
@@ -95,6 +97,12 @@ each wktline "$dir/lines" 1 1
 each wktstream "$dir/lines" 1 1
 each wkt_conformance tests/growth.tsv 2 1
 each wkt_conformance /dev/null 2 1 tests/growth.jsonl
+# The command answers some lines with words for people, and its status says that some were refused.
+each wkt_command "$dir/lines" 2 1 canon --refused refused
+each wkt_command "$dir/lines" 2 1 kind --refused refused -q
+each wkt_command "$dir/lines" 2 1 dups -p 6 -
+each wkt_command "$dir/lines" 2 1 check --max 0
+each wkt_command /dev/null 2 1 same 'LINESTRING(1 2,3 4)' 'linestring ( 1.0 2, 3 +4)'
 each_test wkt
 
 # nested N: a point in so many collections

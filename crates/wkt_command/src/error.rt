@@ -2,7 +2,7 @@
 use std::alloc::AllocError;
 use std::io::{self, ErrorKind};
 use thiserror::Error;
-use wkt::to_wkt::ReadAllError;
+use wkt_bytes::ReadAllError;
 
 /// Why a run can't go on.
 #[derive(Debug, Drop, Error)]
@@ -13,6 +13,8 @@ pub enum RunError {
     /// Standard output fails.
     #[error("standard output: {0}")]
     Output(io::Error),
+    #[error("an argument isn't UTF-8")]
+    Argument,
     #[error("out of memory")]
     Memory(#[from] AllocError),
 }

@@ -75,7 +75,10 @@ impl<'a> Excerpt<'a> {
             } else {
                 after
             },
-            begins_line: matches!(bytes.get(..from).and_then(|front| front.last()), None | Some(b'\n')),
+            begins_line: matches!(
+                bytes.get(..from).and_then(|front| front.last()),
+                None | Some(b'\n')
+            ),
             ends_line,
         }
     }

@@ -1,7 +1,7 @@
 //! What a lexeme that is refused may come from: spellings of other tools.
 use std::fmt;
 use std::fmt::Formatter;
-use wkt::Expected;
+use wkt_explain::Expected;
 
 /// What a lexeme that is refused may come from.
 #[derive(Clone, Copy, PartialEq, Eq, Debug)]

@@ -3,7 +3,7 @@ ghost use Rattle.std.specs.Prelude.{None};
 
 use std::fs::File;
 use std::io::{self, Read, Stdin};
-use wkt::to_wkt::ByteSource;
+use wkt_bytes::ByteSource;
 
 /// Standard input, or a file.
 #[derive(Drop)]

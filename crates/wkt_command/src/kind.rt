@@ -2,7 +2,7 @@
 use crate::output::Output;
 use std::alloc::{AllocError, Global};
 use std::io;
-use wkt::infer_type;
+use wkt_read::infer_type;
 
 /// Writes the kind and the dimension of a text that is read.
 ///

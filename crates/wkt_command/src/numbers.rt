@@ -1,7 +1,11 @@
 //! Numbers of so many places, as the caller says at run time.
+ghost use Rattle.std.specs.Prelude.{IfOk, min};
+ghost use Rattle.wkt_num.specs.Decimal.{decimal_text, read_decimal};
+ghost use Rattle.wkt_command.specs.Verdicts.{IsVerdict, room_bytes};
+
 use crate::verdict::{Room, Verdict, judge};
 use std::alloc::{AllocError, Global};
-use wkt::Decimal;
+use wkt_num::Decimal;
 
 /// Whether the text is read, with its canonical text in the room, over decimals of so many places (18 where more are
 /// asked for).
@@ -14,7 +18,9 @@ pub fn verdict_at<'a>(
     places: u32,
     front: bool,
     room: &mut Room,
-) -> Result<Verdict<'a>, AllocError> {
+) -> Result<Verdict<'a>, AllocError>
+    ensures { IfOk result (IsVerdict (read_decimal 127 36 (min places 18)) (decimal_text (min places 18)) front text.now (room_bytes room.new)) }
+{
     match places {
         0 => judge::<Decimal<0>>(alloc, text, front, room),
         1 => judge::<Decimal<1>>(alloc, text, front, room),

@@ -5,7 +5,7 @@ use crate::place::place_after;
 use std::alloc::AllocError;
 use std::fmt;
 use std::fmt::Formatter;
-use wkt::Explanation;
+use wkt_explain::Explanation;
 use wkt_read::words::is_white;
 
 /// Where a text stands: its file's name, and the number of its first line.
@@ -27,7 +27,7 @@ impl<'a> Origin<'a> {
 pub enum Refusal<'a> {
     /// It has no geometry at its front.
     Text(Explanation<'a>),
-    /// More than white space follows its geometry, from this byte on.
+    /// More than white space follows its geometry, which ends at this byte.
     Rest(&'a str, usize),
 }
 
@@ -39,6 +39,13 @@ fn word_at(text: &str, start: usize) -> &str {
         .position(|b| is_white(b) || b == b'(' || b == b')' || b == b',')
         .unwrap_or(rest.len());
     rest.get(..end).unwrap_or("")
+}
+
+/// The first place from here on where no white space stands.
+fn past_white(text: &str, from: usize) -> usize {
+    let rest = text.as_bytes().get(from..).unwrap_or(&[]);
+    let blanks = rest.iter().position(|byte| !is_white(*byte)).unwrap_or(0);
+    from.saturating_add(blanks)
 }
 
 /// Adds what is told of a refusal: file, line, column, what was expected, and the line with a mark under the place.
@@ -53,7 +60,10 @@ pub fn push_refusal(
 ) -> Result<(), AllocError> {
     let (text, start, end) = match refusal {
         Refusal::Text(why) => (why.text, why.start, why.end),
-        Refusal::Rest(text, at) => (text, at, at),
+        Refusal::Rest(text, end) => {
+            let rest = past_white(text, end);
+            (text, rest, rest)
+        }
     };
     let bytes = text.as_bytes();
     let place = place_after(bytes.get(..start).unwrap_or(bytes));

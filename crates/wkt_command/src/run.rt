@@ -11,7 +11,7 @@ use crate::report::{Origin, Refusal, Thousands, push_not_utf8, push_refusal};
 use crate::verdict::{Room, Verdict};
 use crate::{canon, kind};
 use std::alloc::Global;
-use wkt::to_wkt::{ByteSource, Counted, ReadAllError, read_all};
+use wkt_bytes::{ByteSource, Counted, ReadAllError, read_all};
 use wkt_lines::Lines;
 
 /// A run over files, and what came of it so far.
@@ -177,7 +177,7 @@ impl<'a> Run<'a> {
         let refusal = match verdict_at(self.alloc, text, places, front, &mut self.room)? {
             Verdict::Read(len) => return self.put_answer(origin, text, len),
             Verdict::Refused(why) => Refusal::Text(why),
-            Verdict::Rest(at) => Refusal::Rest(text, at),
+            Verdict::Rest(end) => Refusal::Rest(text, end),
         };
         if !self.options.quiet {
             push_refusal(&mut self.report, origin, refusal, places)?;
@@ -254,6 +254,14 @@ impl<'a> Run<'a> {
                 let _ = rt.eprint(count.as_str());
             }
         }
+        self.put_out()
+    }
+
+    /// Writes out what is gathered.
+    ///
+    /// # Errors
+    /// Standard output fails.
+    pub fn put_out(&mut self) -> Result<(), RunError> {
         self.out.finish().map_err(RunError::output)
     }
 

@@ -47,7 +47,7 @@ fn canonical(
     let refusal = match verdict_at(alloc, text, options.places, false, room)? {
         Verdict::Read(len) => return Ok(Some(len)),
         Verdict::Refused(why) => Refusal::Text(why),
-        Verdict::Rest(at) => Refusal::Rest(text, at),
+        Verdict::Rest(end) => Refusal::Rest(text, end),
     };
     let name = if index == 0 {
         "first text"

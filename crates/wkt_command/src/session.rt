@@ -16,22 +16,29 @@ const FAILED: u8 = 2;
 
 /// Does what the program's arguments ask for, and answers its status.
 pub fn status(rt: &HostRuntime) -> u8 {
-    let Ok(words) = env::args(rt) else {
-        let _ = eprintln!(rt; "wkt: an argument isn't UTF-8, or out of memory");
-        return FAILED;
-    };
-    let Ok(words) = words.skip(1).collect::<Vec<String>>(rt.alloc()) else {
-        let _ = eprintln!(rt; "wkt: out of memory");
-        return FAILED;
-    };
-    match parse(rt.alloc(), words.as_slice()) {
-        Ok(Request::Help) => print(rt, HELP),
-        Ok(Request::Version) => print(rt, VERSION),
-        Ok(Request::Run(options)) => match do_run(rt, &options) {
-            Ok(status) => status,
-            Err(error) => failed(rt, &error),
+    match words(rt) {
+        Ok(words) => match parse(rt.alloc(), words.as_slice()) {
+            Ok(Request::Help) => print(rt, HELP),
+            Ok(Request::Version) => print(rt, VERSION),
+            Ok(Request::Run(options)) => match do_run(rt, &options) {
+                Ok(status) => status,
+                Err(error) => failed(rt, &error),
+            },
+            Err(UsageError::Memory(error)) => failed(rt, &RunError::Memory(error)),
+            Err(error) => misused(rt, &error),
         },
-        Err(error) => misused(rt, &error),
+        Err(error) => failed(rt, &error),
+    }
+}
+
+/// The program's arguments after its name.
+fn words(rt: &HostRuntime) -> Result<Vec<String>, RunError> {
+    match env::args(rt) {
+        Ok(words) => Ok(words.skip(1).collect(rt.alloc())?),
+        Err(error) => match error.kind() {
+            ErrorKind::InvalidData => Err(RunError::Argument),
+            _ => Err(RunError::input(error)),
+        },
     }
 }
 
@@ -64,19 +71,34 @@ fn do_run(rt: &HostRuntime, options: &Options) -> Result<u8, RunError> {
         return same::status(rt, options);
     }
     let mut run = Run::new(rt, options)?;
-    let mut status = 0;
-    if options.operands.is_empty() {
-        status = read_one(rt, &mut run, 0, "-")?;
-    }
-    for (file, name) in options.operands.iter().enumerate() {
-        if run.is_over() {
-            break;
+    match read_all(rt, &mut run, options) {
+        Ok(status) => {
+            run.finish(rt)?;
+            Ok(if run.tally().refused > 0 {
+                status.max(REFUSED)
+            } else {
+                status
+            })
         }
-        status = read_one(rt, &mut run, file, name.as_str())?.max(status);
+        Err(RunError::Output(error)) => Err(RunError::Output(error)),
+        Err(error) => {
+            // The answers to the texts before are whole.
+            let _ = run.put_out();
+            Err(error)
+        }
     }
-    run.finish(rt)?;
-    if run.tally().refused > 0 {
-        status = status.max(REFUSED);
+}
+
+/// Reads the files one after the other, or standard input where there is none.
+fn read_all(rt: &HostRuntime, run: &mut Run<'_>, options: &Options) -> Result<u8, RunError> {
+    if options.operands.is_empty() {
+        return read_one(rt, run, 0, "-");
+    }
+    let mut status = 0;
+    for (file, name) in options.operands.iter().enumerate() {
+        if !run.is_over() {
+            status = read_one(rt, run, file, name.as_str())?.max(status);
+        }
     }
     Ok(status)
 }

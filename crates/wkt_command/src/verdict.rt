@@ -1,7 +1,12 @@
 //! Whether a text is read.
+ghost use Rattle.std.specs.Prelude.{◌≡◌, ◌+◌, ◌*◌, ◌≤◌, ◌↔◌, [], IfOk, IsTrue, OnOk, length, vec_len};
+ghost use Rattle.wkt_num.specs.Bytes.{AllWhite};
+ghost use Rattle.wkt_command.specs.Verdicts.{IsVerdict, room_bytes};
+
 use std::alloc::{AllocError, Global};
-use wkt::{Explanation, WktNum, explain};
 use wkt_events::{NoRoom, write_canonical};
+use wkt_explain::{Explanation, explain};
+use wkt_num::WktNum;
 use wkt_read::words::is_white;
 
 /// Room for a canonical text.
@@ -11,19 +16,23 @@ pub struct Room {
 }
 
 impl Room {
+    ghost use Rattle.wkt_command.specs.Verdicts.{WritesIfAny};
+
     pub fn new(alloc: Global) -> Room {
         Room {
             bytes: Vec::new(alloc),
         }
     }
 
-    /// The first bytes.
+    /// The first bytes, of which there are so many.
     pub fn written(&self, len: usize) -> &[u8] {
         self.bytes.get(..len).unwrap_or(&[])
     }
 
     /// Makes room for what a text of so many bytes is written as, mostly.
-    fn grow(&mut self, n: usize) -> Result<(), AllocError> {
+    fn grow(&mut self, n: usize) -> Result<(), AllocError>
+        ensures { OnOk result (2 * n + 65 ≤ vec_len self.new.bytes) }
+    {
         let Some(twice) = n.checked_mul(2) else {
             return Err(AllocError);
         };
@@ -38,11 +47,14 @@ impl Room {
 
     /// Writes the canonical text of what the text begins with; answers where that ends in the text, and how long its
     /// canonical text is.
-    fn canonical<T: WktNum>(&mut self, text: &str) -> Result<Option<(usize, usize)>, AllocError> {
+    fn canonical<T: WktNum>(&mut self, text: &str) -> Result<Option<(usize, usize)>, AllocError>
+        ensures { WritesIfAny T.read T.num text.now (room_bytes self.new) result }
+    {
         self.grow(text.len())?;
         'room: loop {
             match write_canonical::<T>(text, self.bytes.as_mut_slice(), 0) {
-                Ok(written) => return Ok(written),
+                Ok(Some((end, len))) => return Ok(Some((end, len))),
+                Ok(None) => return Ok(None),
                 Err(NoRoom) => {}
             }
             let Some(more) = self.bytes.len().checked_mul(2) else {
@@ -60,38 +72,42 @@ pub enum Verdict<'a> {
     Read(usize),
     /// It has no geometry at its front.
     Refused(Explanation<'a>),
-    /// More than white space follows its geometry, from this byte on.
+    /// More than white space follows its geometry, which ends at this byte.
     Rest(usize),
 }
 
-/// The first place from here on where no white space stands.
-fn past_white(bytes: &[u8], from: usize) -> usize {
-    let mut at = from;
-    'white: while at < bytes.len() && is_white(bytes[at]) {
-        at += 1;
+/// Whether there is nothing but white space.
+fn is_blank(bytes: &[u8]) -> bool
+    ensures { IsTrue result ↔ AllWhite bytes.now }
+{
+    for byte in bytes {
+        if !is_white(*byte) {
+            return false;
+        }
     }
-    at
+    true
 }
 
-/// Whether the text is read, with its canonical text in the room.
+/// Whether the text is read, with its canonical text in the room; of a front, whatever follows it.
 pub fn judge<'a, T: WktNum>(
     alloc: Global,
     text: &'a str,
     front: bool,
     room: &mut Room,
-) -> Result<Verdict<'a>, AllocError> {
+) -> Result<Verdict<'a>, AllocError>
+    ensures { IfOk result (IsVerdict T.read T.num front text.now (room_bytes room.new)) }
+{
     match room.canonical::<T>(text)? {
         Some((end, len)) => {
-            let rest = past_white(text.as_bytes(), end);
-            if front || rest >= text.len() {
+            if front || is_blank(&text.as_bytes()[end..]) {
                 Ok(Verdict::Read(len))
             } else {
-                Ok(Verdict::Rest(rest))
+                Ok(Verdict::Rest(end))
             }
         }
         None => match explain::<T>(alloc, text)? {
             Some(why) => Ok(Verdict::Refused(why)),
-            None => Err(AllocError),
+            None => unreachable!(),
         },
     }
 }

@@ -1,6 +1,5 @@
 //! What the lines of a block are answered with, on a page.
 ghost use Rattle.std.specs.Prelude.{◌≡◌, ℕ, List, length};
-ghost use Rattle.wkt_events.specs.Answers.{IsAnswer};
 ghost use Rattle.wkt_lines.specs.Pages.{page_text, HasRoomFor, RepliesNext};
 
 use crate::answer::AnswerError;
@@ -45,28 +44,16 @@ impl<T: WktNum> Answers for ByWalk<T> {
 
     #[inline(always)]
     fn add_first(&self, rest: &[u8], page: &mut Page) -> Result<usize, AllocError> {
-        match page.answer_line::<T>(rest) {
-            Ok(taken) => Ok(taken),
-            Err(NoRoom) => answer_wider::<T>(rest, page),
-        }
-    }
-}
-
-/// Adds the answer to the first line, of which a number's text had no room.
-#[cold]
-#[inline(never)]
-fn answer_wider<T: WktNum>(rest: &[u8], page: &mut Page) -> Result<usize, AllocError>
-    requires { HasRoomFor page.old (length rest.now) }
-    ensures { RepliesNext (IsAnswer T.read T.num) rest.now (page_text page.old) (page_text page.new) result }
-{
-    'room: loop {
-        match page.widen() {
-            Ok(()) => {}
-            Err(e) => return Err(e),
-        }
-        match page.answer_line::<T>(rest) {
-            Ok(taken) => return Ok(taken),
-            Err(NoRoom) => {}
+        // One call, since only so the walk is built into the loop over lines.
+        'room: loop {
+            match page.answer_line::<T>(rest) {
+                Ok(taken) => return Ok(taken),
+                Err(NoRoom) => {}
+            }
+            match page.widen() {
+                Ok(()) => {}
+                Err(e) => return Err(e),
+            }
         }
     }
 }

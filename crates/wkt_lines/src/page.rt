@@ -127,6 +127,8 @@ impl Page {
     ///
     /// # Errors
     /// Out of memory.
+    #[cold]
+    #[inline(never)]
     pub fn widen(&mut self) -> Result<(), AllocError>
         ensures text { page_text self.new ≡ page_text self.old }
         ensures len { self.new.len ≡ self.old.len }

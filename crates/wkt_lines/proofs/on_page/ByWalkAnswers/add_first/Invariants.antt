@@ -1,7 +1,7 @@
 use Rattle.std.proofs.Common.{◌≡◌, ◌-◌, ◌^◌, length}
 use Rattle.std.specs.Prelude.{vec_len}
 use Rattle.wkt_lines.specs.Pages.{page_text, HasRoomFor}
-use Rattle.wkt_lines.proofs.on_page.answer_wider.Given as goal
+use Rattle.wkt_lines.proofs.on_page.ByWalkAnswers.add_first.Given as goal
 
 abbrev pub invariant-room : goal.invariant-room
 invariant-room g l = record {

@@ -1,0 +1,10 @@
+-- The room is twice the text and some bytes more, and grows with each turn.
+use Rattle.std.proofs.Common.{◌≤◌, ◌+◌, ◌*◌, ◌-◌, ◌^◌, length}
+use Rattle.std.specs.Prelude.{vec_len}
+use Rattle.wkt_command.proofs.verdict.Room.canonical.Given as goal
+
+abbrev pub invariant-room : goal.invariant-room
+invariant-room g l = 2 * length l.text + 65 ≤ vec_len l.self.bytes
+
+abbrev pub decreases-room : goal.decreases-room
+decreases-room g l = 2 ^ 64 - vec_len l.self.bytes

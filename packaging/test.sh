@@ -1,0 +1,107 @@
+#!/usr/bin/env bash
+# Installs what release.sh and debs.sh have made, each where nothing of it is, and calls each once.
+#
+# test.sh [OUT]: what is in OUT (packaging/out). Parts, all without SKIP=NAME,NAME: source (make install below an empty
+# folder), wheel (a fresh venv), debs (an empty Debian by debootstrap, as root, with the network), vendor (an empty
+# repository, by rt try). The last line says what was skipped.
+set -u
+here=$(cd "$(dirname "$0")" && pwd)
+root=$(dirname "$here")
+out=$(cd "${1:-$here/out}" && pwd) || exit 1
+dir=$(mktemp -d)
+trap 'rm -rf "$dir"' EXIT
+fail() { echo "FAILED $*"; exit 1; }
+skips() { case ",${SKIP:-}," in *",$1,"*) true ;; *) false ;; esac; }
+python=${PYTHON:-/usr/bin/python3}
+text='point ( 1 2.50 )' answer='POINT(1 2.5)'
+
+# calls PREFIX-COMMAND..: the three programs answer there
+calls() {
+    [ "$(echo "$text" | "$@" wkt canon)" = "$answer" ] || fail "$*: wkt"
+    [ "$(echo "$text" | "$@" wktline)" = "$answer" ] || fail "$*: wktline"
+    [ "$(echo "$text" | "$@" wktstream)" = "$answer" ] || fail "$*: wktstream"
+}
+
+source_release() {
+    tar -C "$dir" -xzf "$out"/wkt-proved-*.tar.gz
+    (cd "$dir"/wkt-proved-*/ && sha256sum --quiet -c SHA256SUMS) || fail "sums"
+    make -s -C "$dir"/wkt-proved-*/ install DESTDIR="$dir/root" PREFIX=/usr > "$dir/log" 2>&1 || { cat "$dir/log"; fail "make install"; }
+    calls env PATH="$dir/root/usr/bin:$PATH"
+    export PKG_CONFIG_PATH=$dir/root/usr/lib/pkgconfig PKG_CONFIG_SYSROOT_DIR=$dir/root
+    cc "$root/capi/examples/show.c" $(pkg-config --cflags --libs wkt) -o "$dir/show" || fail "show.c"
+    LD_LIBRARY_PATH=$dir/root/usr/lib "$dir/show" | grep -q . || fail "show"
+    unset PKG_CONFIG_PATH PKG_CONFIG_SYSROOT_DIR
+    for page in "$dir"/root/usr/share/man/man1/wkt.1 "$dir"/root/usr/share/man/man1/wktline.1 "$dir"/root/usr/share/man/man3/wkt.3; do
+        [ -z "$(groff -man -Tutf8 -ww "$page" 2>&1 > "$dir/page")" ] || fail "groff: $page"
+    done
+    echo "source release: installed, each called"
+}
+
+wheel() {
+    "$python" -m venv "$dir/venv"
+    local start=$SECONDS
+    "$dir/venv/bin/pip" install -q --no-index "$out"/wkt_proved-*.whl || fail "pip install"
+    local took=$((SECONDS - start))
+    (cd / && "$dir/venv/bin/python" -c "import wkt; assert wkt.canonical('$text') == '$answer', wkt.canonical('$text')") || fail "import wkt"
+    [ ! -e "$dir/venv/bin/wkt" ] || fail "the wheel installs a program wkt"
+    echo "wheel: installed in $took s, called"
+}
+
+# in_root WORD..: runs in the Debian
+in_root() { chroot "$dir/debian" env -i PATH=/usr/sbin:/usr/bin:/sbin:/bin DEBIAN_FRONTEND=noninteractive LC_ALL=C.UTF-8 "$@"; }
+
+debs() {
+    debootstrap --variant=minbase --include=python3-minimal,gcc,libc6-dev,pkg-config bookworm "$dir/debian" \
+        "${DEBIAN_MIRROR:-http://deb.debian.org/debian}" > "$dir/log" 2>&1 || { tail -n 20 "$dir/log"; fail "debootstrap"; }
+    cp "$out"/*.deb "$root/capi/examples/show.c" "$dir/debian/tmp"
+    local deb
+    for deb in wkt-tools libwkt0 libwkt-dev python3-wkt; do
+        local start=$SECONDS
+        in_root sh -c "apt-get install -y -q --no-install-recommends /tmp/${deb}_*.deb" > "$dir/log" 2>&1 || { tail -n 20 "$dir/log"; fail "$deb"; }
+        echo "$deb: installed in $((SECONDS - start)) s"
+    done
+    calls in_root
+    in_root sh -c 'ldconfig -p | grep -q libwkt.so.0' || fail "libwkt0"
+    in_root sh -c 'cd /tmp && gcc show.c $(pkg-config --cflags --libs wkt) -o show && ./show | grep -q .' || fail "libwkt-dev"
+    in_root python3 -c "import wkt; assert wkt.canonical('$text') == '$answer'" || fail "python3-wkt"
+    in_root sh -c 'dpkg -S /usr/bin/wkt' | grep -q '^wkt-tools:' || fail "/usr/bin/wkt"
+    echo "Debian packages: installed, each called"
+}
+
+vendor() {
+    mkdir -p "$dir/other/crates"
+    cp "$root/HANDLES" "$dir/other"
+    : > "$dir/other/crates.txt"
+    (cd "$dir/other" && rt new crates/mine start_io > /dev/null) || fail "rt new"
+    echo 'mine: wkt' > "$dir/other/crates.txt"
+    rm -rf "$dir"/other/crates/mine/{specs,proofs,src/*,stdin,stdout}
+    "$here/vendor.sh" "$dir/other" > /dev/null || fail "vendor.sh"
+    cat > "$dir/other/crates/mine/src/main.rt" << 'RT'
+#![tactic(auto)]
+
+use wkt::{Decimal, FromWktStr, ReadError, Wkt};
+
+fn main(rt: HostRuntime) -> Result<(), ReadError> {
+    let geometry = Wkt::<Decimal<6>>::from_str(rt.alloc(), "point ( 1 2.50 )")?;
+    let _ = println!(rt; "{geometry}");
+    Ok(())
+}
+RT
+    (cd "$dir/other/crates/mine" && rt try < /dev/null) 2> "$dir/log" | grep -qx "$answer" || { cat "$dir/log"; fail "rt try"; }
+    # Again, with a crate more and then without it: the same files but for that; a change there stops it.
+    cp -r "$dir/other" "$dir/before"
+    "$here/vendor.sh" "$dir/other" wkt wkt_stream > /dev/null || fail "vendor.sh with a crate more"
+    [ -d "$dir/other/crates/wkt_stream" ] || fail "wkt_stream isn't brought"
+    "$here/vendor.sh" "$dir/other" > /dev/null || fail "vendor.sh again"
+    diff -r "$dir/before" "$dir/other" > /dev/null || fail "brought again, other files"
+    echo >> "$dir/other/crates/wkt_num/src/lib.rt"
+    ! "$here/vendor.sh" "$dir/other" > /dev/null 2>&1 || fail "a change there isn't seen"
+    echo "vendor: brought, called by rt try, brought again"
+}
+
+for part in source wheel debs vendor; do
+    if ! skips "$part"; then
+        case $part in source) source_release ;; *) "$part" ;; esac
+    fi
+done
+echo "packaging: all passed${SKIP:+, skipped: $SKIP}"
