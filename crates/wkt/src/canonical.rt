@@ -3,14 +3,14 @@ ghost use Rattle.std.specs.Prelude.{◌≡◌, ◌+◌, ◌*◌, ◌≤◌, IfOk
 ghost use Rattle.wkt_read.specs.Answered.{HasBadNumber, OnText, OnMessage};
 ghost use Rattle.wkt_read.specs.Front.{HasNoFront};
 ghost use Rattle.wkt_read.specs.Items.{bad_number};
-ghost use Rattle.wkt_read.specs.Refusal.{IsTextRefused, IfText};
+ghost use Rattle.wkt_read.specs.Refusal.{IsRefusedWith, IsTextRefused, IfText};
 ghost use Rattle.wkt_events.specs.Canonical.{IsCanonical};
 
 use std::alloc::{AllocError, Global};
 use wkt_events::{NoRoom, TextWritten, canonical_into};
+use wkt_explain::refusal;
 use wkt_num::WktNum;
-use wkt_read::{FromWktStr, ReadError};
-use wkt_types::Wkt;
+use wkt_read::{Message, ReadError};
 
 /// Room for what a text of so many bytes is written as, unless a number's text is very long.
 fn room_for(alloc: Global, n: usize) -> Result<Vec<u8>, AllocError>
@@ -40,17 +40,16 @@ fn widen(bytes: &mut Vec<u8>) -> Result<(), AllocError>
     }
 }
 
-/// Why a text that has no geometry at its front is refused.
+/// The message of a text that has no geometry at its front.
 #[cold]
 #[inline(never)]
-fn refusal<T: WktNum>(alloc: Global, text: &str) -> ReadError
+fn message_of<T: WktNum>(text: &str) -> Message
     requires { HasNoFront T.read text.now }
-    ensures bad { OnMessage (Err {A = Wkt T} result) bad_number (HasBadNumber T.read text.now) }
-    ensures refusal { IfText (Err {A = Wkt T} result) (λ said. IsTextRefused T.read text.now said) }
+    ensures { IsRefusedWith T.read text.now result }
 {
-    match Wkt::<T>::from_str(alloc, text) {
-        Ok(_) => unreachable!(),
-        Err(error) => error,
+    match refusal::<T>(text) {
+        Some(why) => why.message,
+        None => unreachable!(),
     }
 }
 
@@ -64,8 +63,8 @@ fn refusal<T: WktNum>(alloc: Global, text: &str) -> ReadError
 /// ```
 ///
 /// # Errors
-/// `Text` where no beginning of the text is a geometry, with the message of `from_str`; `Memory` where the string
-/// couldn't grow.
+/// `Text` where no beginning of the text is a geometry, with the message of `from_str`, which takes no memory; `Memory`
+/// where the string couldn't grow.
 pub fn canonical_text<T: WktNum>(alloc: Global, text: &str) -> Result<String, ReadError>
     ensures text { IfOk result (λ s. IsCanonical T.read T.num text.now (string_bytes s)) }
     ensures no_front { OnText result (HasNoFront T.read text.now) }
@@ -80,7 +79,7 @@ pub fn canonical_text<T: WktNum>(alloc: Global, text: &str) -> Result<String, Re
                 bytes.shrink_to_fit();
                 return Ok(unsafe { String::from_utf8_unchecked(bytes) });
             }
-            Ok(None) => return Err(refusal::<T>(alloc, text)),
+            Ok(None) => return Err(ReadError::Text(message_of::<T>(text).text())),
             Err(NoRoom) => {}
         }
         widen(&mut bytes)?;
