@@ -1,5 +1,5 @@
 #!/usr/bin/env bash
-# Makes libwkt.a, libwkt.so, wkt.pc and wkt.h of crates/wkt_c/out/libwkt_c.a, which `rt lib` in crates/wkt_c leaves once it is proved.
+# Makes libwkt.a, libwkt.so.0 with the link libwkt.so, wkt.pc and wkt.h of crates/wkt_c/out/libwkt_c.a, which `rt lib` in crates/wkt_c leaves once it is proved.
 # build.sh [FOLDER]: into that folder, else into capi/out.
 set -eu
 here=$(cd "$(dirname "$0")" && pwd)
@@ -11,9 +11,10 @@ trap 'rm -rf "$work"' EXIT
 "${CC:-gcc}" -O2 -fPIC -fvisibility=hidden -c "$here/heap.c" -o "$work/heap.o"
 rm -f "$out/libwkt.a"
 ar rcs "$out/libwkt.a" "$work"/*.o
-printf '{ global: wkt_*; local: *; };\n' > "$work/names"
-"${CC:-gcc}" -shared -Wl,-soname,libwkt.so -Wl,-z,defs -Wl,-z,text -Wl,--version-script="$work/names" \
-    "$work"/*.o -o "$out/libwkt.so"
+printf 'WKT_0 { global: wkt_*; local: *; };\n' > "$work/names"
+"${CC:-gcc}" -shared -Wl,-soname,libwkt.so.0 -Wl,-z,defs -Wl,-z,text -Wl,--version-script="$work/names" \
+    "$work"/*.o -o "$out/libwkt.so.0"
+ln -sf libwkt.so.0 "$out/libwkt.so"
 cp "$here/../include/wkt.h" "$out/"
 cat > "$out/wkt.pc" <<PC
 libdir=$out
@@ -21,7 +22,7 @@ includedir=$out
 
 Name: wkt
 Description: Well-known text, read and written by proved code
-Version: 0.14.0
+Version: $(sed -n 's/^#define WKT_VERSION "\(.*\)"/\1/p' "$here/../include/wkt.h")
 Cflags: -I\${includedir}
 Libs: -L\${libdir} -lwkt
 PC

@@ -1,7 +1,11 @@
-/* How the proved code gets memory: an address, and whether there is one, in two registers. */
+/* What stands around the proved code: its memory, the version, and a look at the processor. Nothing here is proved. */
+#include "../include/wkt.h"
 #include <stdint.h>
+#include <stdio.h>
 #include <stdlib.h>
+#include <unistd.h>
 
+/* An address, and whether there is one, in two registers. */
 typedef struct { uint64_t given; void *at; } answer;
 
 static char nothing;
@@ -22,4 +26,19 @@ void rattle_dealloc(void *at, size_t size, size_t align) {
     (void)size;
     (void)align;
     free(at);
+}
+
+__attribute__((visibility("default"))) const char *wkt_version(void) { return WKT_VERSION; }
+
+/* The proved code is compiled for x86-64-v2. A test gives another answer here. */
+#ifndef WKT_HAS_CPU
+#define WKT_HAS_CPU (__builtin_cpu_supports("ssse3") && __builtin_cpu_supports("sse4.2") && __builtin_cpu_supports("popcnt"))
+#endif
+
+/* In the file of the memory, so that a static library has it wherever the proved code is linked. */
+__attribute__((constructor)) static void look_at_processor(void) {
+    __builtin_cpu_init();
+    if (WKT_HAS_CPU) return;
+    fputs("libwkt: this build needs an x86-64 processor with SSE4.2 and POPCNT (x86-64-v2)\n", stderr);
+    _exit(1);
 }

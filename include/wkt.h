@@ -4,15 +4,26 @@
  * text's number may have up to 2^127. Nothing is rounded: a text with more digits after the point is refused.
  * `places` is 0 to 18.
  *
- * Every function answers a status and is proved to do what its comment says, in crates/wkt_c/src/exports.rt. After
- * any status but WKT_OK the caller's buffers are as they were. Texts need no 0 at the end, and may hold any bytes.
+ * Every function answers a status. After any status but WKT_OK the caller's buffers are as they were (but for
+ * wkt_lines_some), and so is what a call tells (*needed, *end, *same, *sizes ..), but where a comment says that it is
+ * told. Texts need no 0 at the end, and may hold any bytes.
  *
- * What nothing checks, and a caller owes:
+ * Each function is proved to do what its comment says, in crates/wkt_c/src/exports.rt. Only tested, and not proved, are
+ * wkt_version, what a call costs, and that memory suffices: a call that always answered WKT_NO_MEMORY would be proved.
+ *
+ * What a call costs: it checks its whole text for UTF-8, also behind the geometry. wkt_canonical, wkt_same and
+ * wkt_same_ends take memory for twice the text, and none for texts of up to 200 bytes. So a reader that goes on from
+ * *end passes a piece at a time, and not all that is left of a large buffer; or it calls wkt_lines_some.
+ *
+ * What nothing checks, and a caller has to see to:
  * - no two pointers that are passed overlap, but for those that are only read; a size is that of its buffer;
- *   a buffer or text of size 0 may be NULL;
+ *   a buffer or text of size 0 may be NULL, and no other;
  * - malloc, realloc and free come from one allocator; no call from a signal handler, nor in the forked child of a
  *   process with threads. Calls may run side by side on several threads: there is no state between calls;
- * - the stack suffices: some 150 bytes for each collection in a collection (on 8 MB some 57,000 deep). */
+ * - arrays that are passed to a call, offsets too, don't change while it runs.
+ *
+ * The library is built for x86-64 processors with SSE4.2 and POPCNT (x86-64-v2, all since about 2009). Loaded on another
+ * it says so on standard error and ends the process. */
 #ifndef WKT_H
 #define WKT_H
 #include <stddef.h>
@@ -20,6 +31,18 @@
 #ifdef __cplusplus
 extern "C" {
 #endif
+
+#define WKT_VERSION "0.14.0"
+/* The version of the library that is linked; that of this header is WKT_VERSION. */
+const char *wkt_version(void);
+
+/* This version has wkt_explain, and no call takes stack for nesting. */
+#define WKT_HAS_EXPLAIN 1
+#define WKT_NO_STACK 1
+
+/* Added to `places`: each text, or each row, is to be one geometry as a whole. One that has more than white space
+ * behind its geometry is answered with WKT_NOT_WHOLE; a 0 byte is more. For the calls whose comment names it. */
+#define WKT_WHOLE 256u
 
 typedef uint32_t wkt_status;
 /* names.py: c (tests/names.py --write makes this of docs/names.tsv) */
@@ -36,7 +59,9 @@ enum {
     WKT_TOO_LARGE = 25, /* A number has more units than 64 bits hold */
     WKT_NOT_ARRAYS = 26, /* The arrays are of no geometry */
     WKT_NOT_COLUMN = 27, /* The offsets, the bits or the sizes are of no column */
-    WKT_NULL = 28 /* The row is null */
+    WKT_NULL = 28, /* The row is null */
+    WKT_ACCEPTED = 29, /* The text is not refused */
+    WKT_NOT_WHOLE = 30 /* More than white space follows the geometry */
 };
 /* Kinds. */
 enum {
@@ -78,7 +103,8 @@ enum {
     "Unable to parse input number as the desired output type", "Refused", "", "", "", "", "", \
     "The text is not UTF-8", "A buffer has no room", "Out of memory", "There are no numbers of so many places", \
     "A collection has no flat arrays", "A number has more units than 64 bits hold", "The arrays are of no geometry", \
-    "The offsets, the bits or the sizes are of no column", "The row is null" }
+    "The offsets, the bits or the sizes are of no column", "The row is null", "The text is not refused", \
+    "More than white space follows the geometry" }
 /* The words of the statuses 1 to 3 of wkt_infer. */
 #define WKT_HEADER_MESSAGES { "", "No kind word", "No space before EMPTY", "Neither a parenthesis nor EMPTY" }
 /* The kinds, at their numbers. */
@@ -101,30 +127,52 @@ enum {
  * coordinate has 2, 3, 3 and 4 numbers, by its dimension. */
 
 /* The canonical text of the geometry that the text begins with. *end: where the geometry ends in the text; what
- * follows is not looked at. WKT_OK: the text is in out, and *needed is its length. WKT_TOO_SMALL: *needed is its
- * length (*end is set too). 1..14, 20, 22, 23. */
+ * follows may be anything that is UTF-8, or, with WKT_WHOLE, white space. WKT_OK: the text is in out, and *needed is its
+ * length. WKT_TOO_SMALL: *needed is its length, and *end is told too. WKT_NOT_WHOLE: *end is told. 1..14, 20, 22, 23. */
 wkt_status wkt_canonical(const uint8_t *text, size_t text_len, uint32_t places,
                          uint8_t *out, size_t out_len, size_t *needed, size_t *end);
 
 /* Whether two texts begin with one geometry: *same is 1 exactly if their canonical texts are equal, and else 0.
- * 1..14, 20 (of one of the texts), 22, 23. */
+ * 1..14, 20 (of one of the texts), 22, 23, and WKT_NOT_WHOLE of one of the texts, with WKT_WHOLE. */
 wkt_status wkt_same(const uint8_t *one, size_t one_len, const uint8_t *other, size_t other_len, uint32_t places,
                     uint32_t *same);
+
+/* The same; and *end and *other_end: where each geometry ends in its text. WKT_NOT_WHOLE: both are told too. */
+wkt_status wkt_same_ends(const uint8_t *one, size_t one_len, const uint8_t *other, size_t other_len, uint32_t places,
+                         uint32_t *same, size_t *end, size_t *other_end);
+
+/* Where a text is refused. WKT_OK: from byte *start to byte *stop of it is what is too much: those lexemes that stand
+ * before it are the beginning of a geometry, and with it none can come any more. Nothing is from *start to *stop where
+ * the text ends too early. *message: the number of the message, 1 to 14; *expected: of what could stand there, in
+ * WKT_EXPECTED. WKT_ACCEPTED: the text begins with a geometry. 20, 23. It takes no memory. */
+wkt_status wkt_explain(const uint8_t *text, size_t text_len, uint32_t places, uint32_t *message, size_t *start,
+                       size_t *stop, uint32_t *expected);
 
 /* The kind and the dimension that the header of the text names; the rest is not read. 1: it begins with no kind word.
  * 2: EMPTY comes first, with no space before it. 3: there is neither a parenthesis nor EMPTY. 20, 22. */
 wkt_status wkt_infer(const uint8_t *text, size_t text_len, uint32_t *kind, uint32_t *dimension);
 
 /* All lines at once: for each line of the input, the canonical text of the geometry that it begins with or `refused`,
- * and a line feed. What the program wktline writes, if places is 18. 21, 22, 23. A line of n bytes is answered in at most some 2n + 8. */
+ * and a line feed. What the program wktline writes, if places is 18. WKT_TOO_SMALL: *needed is the length of all. 22,
+ * 23. A line of n bytes is answered in at most some 2n + 8. */
 wkt_status wkt_lines(const uint8_t *input, size_t input_len, uint32_t places, uint8_t *out, size_t out_len,
                      size_t *needed);
+
+/* The same piece by piece: as many whole lines at the front of the input as fit. *taken: how many bytes of the input they
+ * are; *written: how many bytes of out are their answers; what stands behind them in out means nothing. last: 1 where the
+ * input ends here, so that what is left behind its last line feed is a line too; else 0, and the caller puts more behind
+ * what is left. The answers of successive calls, one after the other, are those of wkt_lines to all of the input. *taken is
+ * 0 only where there is no whole line. WKT_TOO_SMALL: not even the first lines' answers fit. 22, 23. After any but WKT_OK
+ * out means nothing, and nothing is taken. */
+wkt_status wkt_lines_some(const uint8_t *input, size_t input_len, uint32_t places, uint32_t last,
+                          uint8_t *out, size_t out_len, size_t *taken, size_t *written);
 
 /* A column at once, as Arrow's large_utf8 has it. Row i is the bytes of texts from offsets[i] to offsets[i + 1], so
  * there is one offset more than rows. valid: bit i % 8, from the lowest on, of byte i / 8 is 0 where row i is null;
  * NULL and 0 where no row is. out_offsets has room for as many offsets, statuses for a status of each row.
  * WKT_OK: the canonical texts of all rows are in out, one after the other, and *needed is their length; row i's is from
- * out_offsets[i] to out_offsets[i + 1]. statuses[i] is WKT_OK, or why row i has no text: 1..14, 20, or WKT_NULL.
+ * out_offsets[i] to out_offsets[i + 1]. statuses[i] is WKT_OK, or why row i has no text: 1..14, 20, WKT_NULL, or, with
+ * WKT_WHOLE, WKT_NOT_WHOLE.
  * WKT_TOO_SMALL: *needed is their length. 22, 23. WKT_NOT_COLUMN: an offset is less than the one before it, or past
  * texts (as one below 0 is), or a size fits no such column. After any but WKT_OK the three buffers are as they were. */
 wkt_status wkt_column_canonical(const uint8_t *texts, size_t texts_len, const int64_t *offsets, size_t offsets_len,
@@ -132,7 +180,7 @@ wkt_status wkt_column_canonical(const uint8_t *texts, size_t texts_len, const in
                                 uint8_t *out, size_t out_len, int64_t *out_offsets, size_t out_offsets_len,
                                 wkt_status *statuses, size_t statuses_len, size_t *needed);
 
-/* What wkt_arrays tells beside the arrays. */
+/* What wkt_arrays tells beside the arrays; with WKT_NOT_WHOLE too. */
 typedef struct {
     uint32_t kind, dimension;
     size_t numbers, rings, polygons; /* the sizes of the arrays */
@@ -144,7 +192,8 @@ typedef struct {
  * of the last. A line string, a line and a point (of one coordinate, or none if it is empty) count as a ring, and the
  * rings of each kind but MultiPolygon as one polygon. So a Point has rings {0, 1} and polygons {0, 1}, and
  * POLYGON EMPTY has rings {0} and polygons {0, 0}. (GeoArrow: numbers are the interleaved coordinates, rings and
- * polygons its offsets.) WKT_TOO_SMALL: *sizes tells all sizes. 1..14, 20, 22, 23, 24, 25. */
+ * polygons its offsets.) WKT_TOO_SMALL: *sizes tells all sizes. 1..14, 20, 22, 23, 24, 25, and WKT_NOT_WHOLE, with
+ * WKT_WHOLE. */
 wkt_status wkt_arrays(const uint8_t *text, size_t text_len, uint32_t places, WktSizes *sizes,
                       int64_t *numbers, size_t numbers_len, size_t *rings, size_t rings_len,
                       size_t *polygons, size_t polygons_len);
@@ -159,10 +208,10 @@ typedef struct {
  * alone: kinds[i] and dimensions[i]; the numbers from number_offsets[i] to number_offsets[i + 1] of numbers; and so its
  * offsets of rings and of polygons, each of which begins with 0. The three buffers of offsets have room for as many
  * offsets as are given, kinds, dimensions and statuses for one of each row. statuses[i] is WKT_OK, or why row i has no
- * arrays: 1..14, 20, 24, 25, or WKT_NULL; there are no numbers and no offsets of such a row, and its kind and dimension
- * are 0. WKT_OK: *sizes tells how much of numbers, rings and polygons is filled. WKT_TOO_SMALL: *sizes tells how much
- * each of the three needs. 22, 23. WKT_NOT_COLUMN: as of wkt_column_canonical. After any but WKT_OK the nine buffers are
- * as they were. */
+ * arrays: 1..14, 20, 24, 25, WKT_NULL, or, with WKT_WHOLE, WKT_NOT_WHOLE; there are no numbers and no offsets of such a
+ * row, and its kind and dimension are 0. WKT_OK: *sizes tells how much of numbers, rings and polygons is filled.
+ * WKT_TOO_SMALL: *sizes tells how much each of the three needs. 22, 23. WKT_NOT_COLUMN: as of wkt_column_canonical. After
+ * any but WKT_OK the nine buffers are as they were. */
 wkt_status wkt_column_arrays(const uint8_t *texts, size_t texts_len, const int64_t *offsets, size_t offsets_len,
                              const uint8_t *valid, size_t valid_len, uint32_t places, WktColumnSizes *sizes,
                              uint32_t *kinds, size_t kinds_len, uint32_t *dimensions, size_t dimensions_len,

@@ -59,13 +59,6 @@ static void out_of_memory(void) {
     ereport(ERROR, (errcode(ERRCODE_OUT_OF_MEMORY), errmsg("out of memory")));
 }
 
-/* The library reads the front of a text and says where it ends; a text of the database is taken whole. */
-static wkt_status end_of(const Question *asked, size_t end, size_t *at) {
-    while (end < asked->length && strchr(" \t\r\n", asked->utf8[end])) end++;
-    *at = end;
-    return end < asked->length ? FOLLOWED : WKT_OK;
-}
-
 /* Room in which nearly every answer fits: a text of n bytes is answered in some 2n + 8. Room that isn't filled costs
  * nothing, and an answer that doesn't fit would be made twice. */
 static size_t room_for(size_t length) {
@@ -74,27 +67,40 @@ static size_t room_for(size_t length) {
 
 /* The canonical text of a whole text, if `answer` is asked for; or why there is none. */
 bool canonical_of(const Question *asked, text **answer, Refusal *why) {
-    size_t needed = 0, end = 0, room = answer ? room_for(asked->length) : 0;
+    size_t needed = 0, room = answer ? room_for(asked->length) : 0;
     text *made = answer ? palloc(VARHDRSZ + room) : NULL;
 
     CHECK_FOR_INTERRUPTS();
     check_depth(asked);
-    why->at = 0;
-    why->status = wkt_canonical(asked->utf8, asked->length, asked->places, made ? (uint8_t *)VARDATA(made) : NULL, room,
-                                &needed, &end);
+    why->status = wkt_canonical(asked->utf8, asked->length, asked->places | WKT_WHOLE,
+                                made ? (uint8_t *)VARDATA(made) : NULL, room, &needed, &why->at);
     CHECK_FOR_INTERRUPTS(); /* what came during the call, which looks for none */
     if (why->status == WKT_TOO_SMALL && answer)
         ereport(ERROR, (errcode(ERRCODE_PROGRAM_LIMIT_EXCEEDED),
                         errmsg("the canonical text is too long: it has %zu bytes", needed)));
     if (why->status == WKT_TOO_SMALL) why->status = WKT_OK;
     if (why->status == WKT_NO_MEMORY) out_of_memory();
-    if (why->status == WKT_OK) why->status = end_of(asked, end, &why->at);
     if (why->status == WKT_OK && answer) {
         SET_VARSIZE(made, VARHDRSZ + needed);
         *answer = made;
     } else if (made)
         pfree(made);
     return why->status == WKT_OK;
+}
+
+/* Whether two whole texts have one canonical text; false where one of them has none. */
+bool are_same(const Question asked[2], bool *same) {
+    uint32_t answer = 0;
+    wkt_status status;
+
+    CHECK_FOR_INTERRUPTS();
+    check_depth(&asked[0]);
+    check_depth(&asked[1]);
+    status = wkt_same(asked[0].utf8, asked[0].length, asked[1].utf8, asked[1].length, asked[0].places | WKT_WHOLE, &answer);
+    CHECK_FOR_INTERRUPTS();
+    if (status == WKT_NO_MEMORY) out_of_memory();
+    *same = answer;
+    return status == WKT_OK;
 }
 
 /* The kind that the header of a text names, with its dimension; NULL where it names none. */

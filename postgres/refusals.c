@@ -21,8 +21,10 @@ typedef struct Place {
 } Place;
 
 static bool place_of(const Question *asked, const Refusal *why, Place *place) {
-    if (why->status == FOLLOWED) {
-        *place = (Place){why->at, asked->length, "the end of the text"};
+    if (why->status == WKT_NOT_WHOLE) {
+        size_t at = why->at;
+        while (at < asked->length && strchr(" \t\r\n", asked->utf8[at])) at++;
+        *place = (Place){at, asked->length, "the end of the text"};
         return true;
     }
 #ifdef WKT_HAS_EXPLAIN
@@ -125,7 +127,7 @@ Datum refuse(Node *context, const Question *asked, const Refusal *why) {
     Place place;
 
     if (place_of(asked, why, &place)) {
-        if (why->status != FOLLOWED) hint = hint_of(asked, &place);
+        if (why->status != WKT_NOT_WHOLE) hint = hint_of(asked, &place);
         detail = psprintf("At character %zu: %s was expected.", characters(asked->utf8, place.start) + 1, place.expected);
     } else
         detail = psprintf("%s.", message_of(why));

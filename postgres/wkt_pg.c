@@ -31,18 +31,17 @@ Datum pg_wkt_explain(PG_FUNCTION_ARGS) {
     PG_RETURN_TEXT_P(explained(&asked, &why));
 }
 
-/* Two canonical texts are compared, since the library's wkt_same doesn't say where the geometries end. */
 PG_FUNCTION_INFO_V1(pg_wkt_same);
 Datum pg_wkt_same(PG_FUNCTION_ARGS) {
     uint32_t places = places_of(PG_GETARG_INT32(2));
-    text *answers[2];
-    for (int i = 0; i < 2; i++) {
-        Question asked = question_of_text(PG_GETARG_TEXT_PP(i), places);
-        Refusal why;
-        if (!canonical_of(&asked, &answers[i], &why)) return refuse(NULL, &asked, &why);
-    }
-    PG_RETURN_BOOL(VARSIZE(answers[0]) == VARSIZE(answers[1]) &&
-                   memcmp(VARDATA(answers[0]), VARDATA(answers[1]), VARSIZE(answers[0]) - VARHDRSZ) == 0);
+    Question asked[2] = {question_of_text(PG_GETARG_TEXT_PP(0), places), question_of_text(PG_GETARG_TEXT_PP(1), places)};
+    Refusal why;
+    bool same;
+    if (are_same(asked, &same)) PG_RETURN_BOOL(same);
+    /* One of both is refused. */
+    for (int i = 0; i < 2; i++)
+        if (!canonical_of(&asked[i], NULL, &why)) return refuse(NULL, &asked[i], &why);
+    PG_RETURN_NULL();
 }
 
 PG_FUNCTION_INFO_V1(pg_wkt_kind);

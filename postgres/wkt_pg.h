@@ -11,9 +11,6 @@
 
 #define MOST_PLACES 18
 
-/* A status of the extension's own, beside those of wkt.h: more than white space follows the geometry. */
-#define FOLLOWED 100
-
 /* A text as the database holds it, and as the library reads it: both are the same bytes where they are ASCII, or where
  * the database is in UTF-8. */
 typedef struct Question {
@@ -24,7 +21,7 @@ typedef struct Question {
     uint32_t places;
 } Question;
 
-/* Why a whole text has no answer; `at` is a byte of `utf8`, for FOLLOWED alone. */
+/* Why a whole text has no answer; `at` is where its geometry ends in `utf8`, for WKT_NOT_WHOLE alone. */
 typedef struct Refusal {
     wkt_status status;
     size_t at;
@@ -35,6 +32,7 @@ extern uint32_t places_of(int32 places);
 extern Question question_of(const char *given, size_t length, uint32_t places);
 extern Question question_of_text(text *given, uint32_t places);
 extern bool canonical_of(const Question *asked, text **answer, Refusal *why);
+extern bool are_same(const Question asked[2], bool *same);
 extern text *kind_of(const Question *asked);
 
 /* refusals.c */

@@ -20,11 +20,8 @@ int sqlite3_modwkt_init(sqlite3 *db, char **error, const sqlite3_api_routines *a
 static const char *const kinds[] = WKT_KIND_WORDS;
 static const char *const dimensions[] = WKT_DIMENSION_WORDS;
 
-/* Statuses of this file, beside those of wkt.h. */
-enum {
-    FOLLOWED = 100, /* more than white space follows the geometry, at `end` */
-    TOO_DEEP = 101
-};
+/* A status of this file, beside those of wkt.h. */
+#define TOO_DEEP 101
 
 typedef struct Question {
     const uint8_t *text;
@@ -59,35 +56,33 @@ static int is_too_deep(const Question *asked) {
     return 0;
 }
 
-/* The library reads the front of a text and says where it ends; here a text is taken whole. */
-static wkt_status end_of(Question *asked) {
-    while (asked->end < asked->length && asked->text[asked->end] && strchr(" \t\r\n", asked->text[asked->end])) asked->end++;
-    return asked->end < asked->length ? FOLLOWED : WKT_OK;
+static wkt_status question_of(sqlite3_value *value, uint32_t places, Question *asked) {
+    asked->text = sqlite3_value_text(value);
+    asked->length = (size_t)sqlite3_value_bytes(value);
+    asked->places = places;
+    if (asked->text == NULL) return WKT_NO_MEMORY;
+    return is_too_deep(asked) ? TOO_DEEP : WKT_OK;
 }
 
 /* The canonical text of a value, in memory of SQLite's, if `out` is asked for; or why there is none. A text of n bytes
  * is answered in at most some 2n + 8. */
 static wkt_status canonical_of(sqlite3_value *value, uint32_t places, Question *asked, char **out, size_t *length) {
     size_t room;
-    wkt_status status;
-    asked->text = sqlite3_value_text(value);
-    asked->length = (size_t)sqlite3_value_bytes(value);
-    asked->places = places;
-    if (asked->text == NULL) return WKT_NO_MEMORY;
-    if (is_too_deep(asked)) return TOO_DEEP;
+    wkt_status status = question_of(value, places, asked);
+    if (status != WKT_OK) return status;
     room = out ? 2 * asked->length + 16 : 0;
     if (out && (*out = sqlite3_malloc64(room)) == NULL) return WKT_NO_MEMORY;
-    status = wkt_canonical(asked->text, asked->length, places, out ? (uint8_t *)*out : NULL, room, length, &asked->end);
+    status = wkt_canonical(asked->text, asked->length, places | WKT_WHOLE, out ? (uint8_t *)*out : NULL, room, length, &asked->end);
     if (status == WKT_TOO_SMALL && !out) status = WKT_OK;
-    if (status == WKT_OK) status = end_of(asked);
     if (status != WKT_OK && out) sqlite3_free(*out);
     return status;
 }
 
 /* The lexeme that is too much begins at *start, and what could stand there; NULL where the library can't say. */
 static const char *expected_of(const Question *asked, wkt_status status, size_t *start) {
-    if (status == FOLLOWED) {
+    if (status == WKT_NOT_WHOLE) {
         *start = asked->end;
+        while (*start < asked->length && asked->text[*start] && strchr(" \t\r\n", asked->text[*start])) ++*start;
         return "the end of the text";
     }
 #ifdef WKT_HAS_EXPLAIN
@@ -170,24 +165,25 @@ static void reads(sqlite3_context *context, int count, sqlite3_value **values) {
     if (!is_limit(context, status)) sqlite3_result_int(context, status == WKT_OK);
 }
 
-/* Two canonical texts are compared, since the library's wkt_same doesn't say where the geometries end. */
 static void same(sqlite3_context *context, int count, sqlite3_value **values) {
-    Question asked;
-    char *out[2] = {NULL, NULL};
-    size_t length[2];
-    wkt_status status;
+    Question asked[2];
+    uint32_t answer, places = places_of(count, values, 2);
+    size_t length;
+    wkt_status status = WKT_OK;
     if (some_null(count, values)) return;
-    for (int i = 0; i < 2; i++) {
-        status = canonical_of(values[i], places_of(count, values, 2), &asked, &out[i], &length[i]);
-        if (status != WKT_OK) {
-            if (i == 1) sqlite3_free(out[0]);
-            refuse(context, &asked, status);
-            return;
+    for (int i = 0; i < 2 && status == WKT_OK; i++) status = question_of(values[i], places, &asked[i]);
+    if (status == WKT_OK)
+        status = wkt_same(asked[0].text, asked[0].length, asked[1].text, asked[1].length, places | WKT_WHOLE, &answer);
+    if (status == WKT_OK)
+        sqlite3_result_int(context, (int)answer);
+    else if (!is_limit(context, status))
+        for (int i = 0; i < 2; i++) { /* one of both is refused */
+            status = canonical_of(values[i], places, &asked[i], NULL, &length);
+            if (status != WKT_OK) {
+                refuse(context, &asked[i], status);
+                return;
+            }
         }
-    }
-    sqlite3_result_int(context, length[0] == length[1] && memcmp(out[0], out[1], length[0]) == 0);
-    sqlite3_free(out[0]);
-    sqlite3_free(out[1]);
 }
 
 static void kind(sqlite3_context *context, int count, sqlite3_value **values) {

@@ -44,9 +44,17 @@ CC=$cc capi/build.sh || fail "capi/build.sh fails"
 
 # The exported names are those of the header.
 sed -n 's/.*\(wkt_[a-z_]*\)(.*/\1/p' include/wkt.h | grep -vx wkt_status | sort -u > "$dir/declared"
-nm -D --defined-only "$out/libwkt.so" | sed 's/.* //' | sort > "$dir/exported"
+nm -D --defined-only "$out/libwkt.so" | sed 's/.* //' | grep -vx WKT_0 > "$dir/versioned"
+grep -vqE '@@WKT_0$' "$dir/versioned" && fail "libwkt.so: a name of another version"
+sed 's/@.*//' "$dir/versioned" | sort > "$dir/exported"
 cmp -s "$dir/declared" "$dir/exported" || { diff "$dir/declared" "$dir/exported"; fail "libwkt.so: other names"; }
 echo "libwkt.so exports the $(wc -l < "$dir/exported") functions of wkt.h, and nothing else"
+
+# On a processor that lacks what the library is built for, the program ends with words.
+"$cc" -O2 '-DWKT_HAS_CPU=0' -c capi/heap.c -o "$dir/heap.o" && printf 'int main(void) { return 0; }\n' > "$dir/nothing.c" &&
+    "$cc" "$dir/nothing.c" "$dir/heap.o" -o "$dir/nothing" || fail "heap.c: not compiled"
+"$dir/nothing" > "$dir/said" 2>&1 && fail "another processor isn't refused"
+grep -q 'x86-64-v2' "$dir/said" || fail "another processor is refused without words"
 
 wrap="-Wl,--wrap=malloc -Wl,--wrap=realloc"
 # each NAME COMPILER FLAG..: the tests in C, compiled so
@@ -66,17 +74,25 @@ fi
 each "C under ASan and UBSan" "$cc" -O1 -g -fsanitize=address,undefined -fno-sanitize-recover
 skips c++ || each C++ g++ -O2 -x c++
 
+# A million levels on a small stack, and eight threads at once.
+for flags in "-O2" "-O1 -g -fsanitize=thread"; do
+    "$cc" $flags -Wall -Wextra -Werror -I"$out" -o "$dir/deep" capi/tests/deep.c "$out/libwkt.a" -pthread || fail "deep: not compiled"
+    "$dir/deep" > "$dir/said" 2>&1 || { cat "$dir/said"; fail "deep: the tests fail ($flags)"; }
+    echo "nesting and threads ($flags): $(cat "$dir/said")"
+done
+
 # The keys that stores keep.
 "$cc" -O2 -Wall -Wextra -Werror -I"$out" -o "$dir/keys" tests/keys.c "$out/libwkt.a" || fail "keys: not compiled"
 "$dir/keys" < tests/keys.tsv > "$dir/said" || { cat "$dir/said"; fail "keys: a release must not change one"; }
 cat "$dir/said"
 
 # The examples, and the output of wktline.
-for example in show lines; do
+for example in show lines stream; do
     "$cc" -O2 -I"$out" -o "$dir/$example" capi/examples/$example.c "$out/libwkt.a" || fail "$example: not compiled"
 done
 "$dir/show" > /dev/null || fail "show fails"
 "$dir/lines" < crates/wktline/stdin | cmp - crates/wktline/stdout || fail "lines: another output than wktline's"
+"$dir/stream" < crates/wktline/stdin | cmp - crates/wktline/stdout || fail "stream: another output than wktline's"
 echo "examples: the output of wktline"
 
 for python in "${pythons[@]}"; do

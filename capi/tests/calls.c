@@ -59,6 +59,48 @@ static wkt_status canonical(const char *text, uint32_t places, size_t room) {
     return wkt_canonical(BYTES(text), places, out, room, &needed, &end_at);
 }
 
+static int not_told(void) { return needed == 99 && end_at == 99; }
+
+/* A text of that many bytes, which begins with POINT(1 2) and has nothing but white space behind it. */
+static const char *padded(size_t size) {
+    static char text[ROOM];
+    memset(text, ' ', sizeof text);
+    memcpy(text, "POINT(1 2)", 10);
+    text[size] = 0;
+    return text;
+}
+
+/* Texts of up to 200 bytes are answered with no memory, and all are the same. */
+static void short_texts(void) {
+    size_t size;
+    for (size = 10; size < 220; size++) {
+        growths = 0;
+        CHECK(canonical(padded(size), 6, ROOM) == WKT_OK && holds("POINT(1 2)") && end_at == 10);
+        CHECK((growths == 0) == (size <= 200));
+        CHECK(canonical(padded(size), 6 | WKT_WHOLE, ROOM) == WKT_OK && holds("POINT(1 2)") && end_at == 10);
+    }
+}
+
+/* A whole text is asked for. */
+static void whole_texts(void) {
+    CHECK(canonical("POINT(1 2)", 6 | WKT_WHOLE, ROOM) == WKT_OK && holds("POINT(1 2)") && end_at == 10);
+    CHECK(canonical("\n POINT(1 2) \t\r\n", 6 | WKT_WHOLE, ROOM) == WKT_OK && holds("POINT(1 2)") && end_at == 12);
+    CHECK(canonical("POINT(1 2) x", 6 | WKT_WHOLE, ROOM) == WKT_NOT_WHOLE && untouched() && needed == 99 && end_at == 10);
+    CHECK(canonical("POINT(1 2) x", 6 | WKT_WHOLE, 2) == WKT_NOT_WHOLE && untouched() && needed == 99 && end_at == 10);
+    CHECK(canonical("POINT(1 2)\n\nPOINT(3 4)", 6 | WKT_WHOLE, ROOM) == WKT_NOT_WHOLE && end_at == 10);
+    CHECK(canonical("POINT(1 2 x", 6 | WKT_WHOLE, ROOM) == 7 && untouched() && not_told());
+    CHECK(canonical("POINT(1 2)", 6 | WKT_WHOLE, 9) == WKT_TOO_SMALL && untouched() && needed == 10 && end_at == 10);
+    CHECK(canonical("POINT(1 2)", 18 | WKT_WHOLE, ROOM) == WKT_OK);
+    CHECK(canonical("POINT(1 2)", 19 | WKT_WHOLE, ROOM) == WKT_NO_PLACES && untouched() && not_told());
+    CHECK(canonical("POINT(1 2)", 255, ROOM) == WKT_NO_PLACES && canonical("POINT(1 2)", 512, ROOM) == WKT_NO_PLACES);
+    CHECK(canonical("POINT(1 2)", 0xffffffffu, ROOM) == WKT_NO_PLACES);
+    memset(out, '#', ROOM);
+    needed = end_at = 99;
+    CHECK(wkt_canonical((const uint8_t *)"POINT(1 2)\0", 11, 6, out, ROOM, &needed, &end_at) == WKT_OK && end_at == 10);
+    CHECK(wkt_canonical((const uint8_t *)"POINT(1 2)\0", 11, 6 | WKT_WHOLE, out, ROOM, &needed, &end_at) == WKT_NOT_WHOLE);
+    CHECK(wkt_canonical((const uint8_t *)"POINT\0(1 2)", 11, 6, out, ROOM, &needed, &end_at) == 5);
+}
+
 static void canonicals(void) {
     /* A text for each message, at its number. */
     static const char *const refused[] = {
@@ -74,32 +116,87 @@ static void canonicals(void) {
     CHECK(canonical("POINT(1 2)", 19, ROOM) == WKT_NO_PLACES && untouched());
     CHECK(canonical("POINT(1 2)", 6, 9) == WKT_TOO_SMALL && untouched() && needed == 10 && end_at == 10);
     CHECK(canonical("POINT(1 2)", 6, 10) == WKT_OK && holds("POINT(1 2)"));
-    CHECK(canonical("POINT(1 2)\xff", 6, ROOM) == WKT_NOT_UTF8 && untouched());
+    CHECK(canonical("POINT(1 2)\xff", 6, ROOM) == WKT_NOT_UTF8 && untouched() && not_told());
+    CHECK(canonical("\xffPOINT(1 2)", 6, ROOM) == WKT_NOT_UTF8 && untouched() && not_told());
+    CHECK(canonical("POINT(1 2) \xc3\xa9", 6, ROOM) == WKT_OK && holds("POINT(1 2)") && end_at == 10);
     for (i = 1; i < sizeof refused / sizeof *refused; i++)
-        CHECK(canonical(refused[i], 0, ROOM) == i && untouched());
+        CHECK(canonical(refused[i], 0, ROOM) == i && untouched() && not_told());
     CHECK(wkt_canonical(NULL, 0, 6, NULL, 0, &needed, &end_at) == 1);
     CHECK(wkt_canonical(BYTES("POINT(1 2)"), 6, NULL, 0, &needed, &end_at) == WKT_TOO_SMALL && needed == 10);
 }
 
 static void comparisons(void) {
     uint32_t same = 9;
+    size_t end = 99, other = 99;
     CHECK(wkt_same(BYTES("POINT(1 2)"), BYTES("point (1.0 +2) x"), 6, &same) == WKT_OK && same == 1);
     CHECK(wkt_same(BYTES("POINT(1 2)"), BYTES("POINT(2 1)"), 6, &same) == WKT_OK && same == 0);
     same = 9;
     CHECK(wkt_same(BYTES("POINT(1 2)"), BYTES("PINT(2 1)"), 6, &same) == 3 && same == 9);
-    CHECK(wkt_same(BYTES("\xff"), BYTES("POINT(2 1)"), 6, &same) == WKT_NOT_UTF8);
-    CHECK(wkt_same(BYTES("POINT(1 2)"), BYTES("POINT(1 2)"), 19, &same) == WKT_NO_PLACES);
+    CHECK(wkt_same(BYTES("\xff"), BYTES("POINT(2 1)"), 6, &same) == WKT_NOT_UTF8 && same == 9);
+    CHECK(wkt_same(BYTES("POINT(2 1)"), BYTES("POINT(2 1)\xff"), 6, &same) == WKT_NOT_UTF8 && same == 9);
+    CHECK(wkt_same(BYTES("POINT(1 2)"), BYTES("POINT(1 2)"), 19, &same) == WKT_NO_PLACES && same == 9);
+    CHECK(wkt_same(BYTES("POINT(1 2)"), BYTES("POINT(1 2) x"), 6 | WKT_WHOLE, &same) == WKT_NOT_WHOLE && same == 9);
+    CHECK(wkt_same(BYTES("POINT(1 2)x"), BYTES("POINT(1 2)"), 6 | WKT_WHOLE, &same) == WKT_NOT_WHOLE && same == 9);
+    CHECK(wkt_same(BYTES("POINT(1 2)\n"), BYTES("POINT (1 2)"), 6 | WKT_WHOLE, &same) == WKT_OK && same == 1);
+    CHECK(wkt_same_ends(BYTES("POINT(1 2) x"), BYTES("point (1.0 +2)"), 6, &same, &end, &other) == WKT_OK);
+    CHECK(same == 1 && end == 10 && other == 14);
+    same = 9, end = other = 99;
+    CHECK(wkt_same_ends(BYTES("POINT(1 2)"), BYTES("PINT(2 1)"), 6, &same, &end, &other) == 3);
+    CHECK(same == 9 && end == 99 && other == 99);
+    CHECK(wkt_same_ends(BYTES("POINT(1 2)"), BYTES("POINT(1 20) x"), 6 | WKT_WHOLE, &same, &end, &other) == WKT_NOT_WHOLE);
+    CHECK(same == 9 && end == 10 && other == 11);
+    growths = 0;
+    CHECK(wkt_same(BYTES(padded(200)), BYTES(padded(200)), 6, &same) == WKT_OK && same == 1 && growths == 0);
+    CHECK(wkt_same(BYTES(padded(201)), BYTES("POINT(1 3)"), 6, &same) == WKT_OK && same == 0);
+}
+
+/* Where a text is refused, and what could stand there; the message is the status of the other calls. */
+static void explanations(void) {
+    static const struct {
+        const char *text;
+        uint32_t places, start, stop, expected;
+    } refused[] = {{"", 6, 0, 0, 0},
+                   {" X(", 6, 1, 2, 0},
+                   {"GEOMETRYCOLLECTION(1)", 6, 19, 20, 1},
+                   {"POINT", 6, 5, 5, 2},
+                   {"POINT Z 1", 6, 8, 9, 3},
+                   {"MULTIPOINT(,", 6, 11, 12, 4},
+                   {"POINT(X)", 6, 6, 7, 5},
+                   {"POINT(1)", 6, 7, 8, 6},
+                   {"POINT Z(1 2)", 6, 11, 12, 7},
+                   {"POINT M(1 2)", 6, 11, 12, 8},
+                   {"LINESTRING(1 2", 6, 14, 14, 9},
+                   {"POINT(1 2", 6, 9, 9, 10},
+                   {"POINT(1.25 2)", 1, 6, 10, 5},
+                   {"POINT(1e3 2)", 6, 6, 9, 5}};
+    uint32_t message, expected;
+    size_t start, stop, i;
+    for (i = 0; i < sizeof refused / sizeof *refused; i++) {
+        CHECK(wkt_explain(BYTES(refused[i].text), refused[i].places, &message, &start, &stop, &expected) == WKT_OK);
+        CHECK(start == refused[i].start && stop == refused[i].stop && expected == refused[i].expected);
+        CHECK(message == canonical(refused[i].text, refused[i].places, ROOM));
+    }
+    message = expected = 77, start = stop = 99;
+    CHECK(wkt_explain(BYTES("POINT(1 2) x"), 6, &message, &start, &stop, &expected) == WKT_ACCEPTED);
+    CHECK(wkt_explain(BYTES("POINT(1)\xff"), 6, &message, &start, &stop, &expected) == WKT_NOT_UTF8);
+    CHECK(wkt_explain(BYTES("POINT(1)"), 19, &message, &start, &stop, &expected) == WKT_NO_PLACES);
+    CHECK(message == 77 && expected == 77 && start == 99 && stop == 99);
+    CHECK(wkt_explain(NULL, 0, 6, &message, &start, &stop, &expected) == WKT_OK && start == 0 && stop == 0);
 }
 
 static void headers(void) {
     uint32_t kind = 9, dimension = 9;
     CHECK(wkt_infer(BYTES("multipolygon zm empty"), &kind, &dimension) == WKT_OK && kind == 5 && dimension == 3);
     CHECK(wkt_infer(BYTES("Point M(1"), &kind, &dimension) == WKT_OK && kind == 0 && dimension == 2);
+    kind = dimension = 9;
     CHECK(wkt_infer(BYTES("PINT("), &kind, &dimension) == 1);
     CHECK(wkt_infer(BYTES("POINTEMPTY"), &kind, &dimension) == 2);
     CHECK(wkt_infer(BYTES("POINT Z 1"), &kind, &dimension) == 3);
     CHECK(wkt_infer(BYTES("\xff"), &kind, &dimension) == WKT_NOT_UTF8);
+    CHECK(wkt_infer(NULL, 0, &kind, &dimension) == 3 && kind == 9 && dimension == 9);
 }
+
+static void versions(void) { CHECK(!strcmp(wkt_version(), WKT_VERSION)); }
 
 static void many_lines(void) {
     const char *input = "point(1 2.50)\nnonsense\n\nPOINT EMPTY";
@@ -109,9 +206,40 @@ static void many_lines(void) {
     memset(out, '#', ROOM);
     CHECK(wkt_lines(BYTES(input), 18, out, strlen(answers) - 1, &needed) == WKT_TOO_SMALL && untouched());
     CHECK(needed == strlen(answers));
-    CHECK(wkt_lines(BYTES(input), 19, out, ROOM, &needed) == WKT_NO_PLACES && untouched());
+    needed = 99;
+    CHECK(wkt_lines(BYTES(input), 19, out, ROOM, &needed) == WKT_NO_PLACES && untouched() && needed == 99);
     CHECK(wkt_lines(NULL, 0, 18, NULL, 0, &needed) == WKT_OK && needed == 0);
     CHECK(wkt_lines(BYTES("POINT(1 2.5)"), 0, out, ROOM, &needed) == WKT_OK && holds("refused\n"));
+}
+
+/* The same lines in chunks, by buffers of each size, are answered as all at once. */
+static void some_lines(void) {
+    const char *input = "point(1 2.50)\nnonsense\n\nPOINT EMPTY\nLINESTRING(0 0, 1 1)";
+    const char *answers = "POINT(1 2.5)\nrefused\nrefused\nPOINT EMPTY\nLINESTRING(0 0,1 1)\n";
+    size_t in_room, out_room, taken = 99, written = 99;
+    for (in_room = 21; in_room < 70; in_room++)
+        for (out_room = 21; out_room < 90; out_room++) {
+            size_t at = 0, n = 0, turns = 0, size = strlen(input);
+            uint8_t all[ROOM], piece[ROOM];
+            while (at < size && turns++ < 100) {
+                size_t left = size - at < in_room ? size - at : in_room;
+                memset(piece, '#', ROOM);
+                CHECK(wkt_lines_some((const uint8_t *)input + at, left, 18, left == size - at, piece, out_room, &taken, &written) == WKT_OK);
+                CHECK(taken > 0 && taken <= left && written <= out_room && piece[out_room] == '#');
+                memcpy(all + n, piece, written);
+                n += written;
+                at += taken;
+            }
+            CHECK(n == strlen(answers) && !memcmp(all, answers, n));
+        }
+    taken = written = 99;
+    CHECK(wkt_lines_some(BYTES("POINT(1 2)"), 18, 0, out, ROOM, &taken, &written) == WKT_OK && taken == 0 && written == 0);
+    CHECK(wkt_lines_some(BYTES("POINT(1 2)"), 18, 1, out, ROOM, &taken, &written) == WKT_OK && taken == 10 && written == 11);
+    taken = written = 99;
+    CHECK(wkt_lines_some(BYTES("POINT(1 2)\n"), 18, 0, out, 10, &taken, &written) == WKT_TOO_SMALL && taken == 99 && written == 99);
+    CHECK(wkt_lines_some(BYTES("POINT(1 2)\n"), 18, 0, out, 11, &taken, &written) == WKT_OK && taken == 11 && written == 11);
+    CHECK(wkt_lines_some(BYTES("POINT(1 2)\n"), 19, 0, out, ROOM, &taken, &written) == WKT_NO_PLACES);
+    CHECK(wkt_lines_some(NULL, 0, 18, 1, NULL, 0, &taken, &written) == WKT_OK && taken == 0 && written == 0);
 }
 
 #define ROWS 10
@@ -152,7 +280,7 @@ static void columns(void) {
     CHECK(column(texts, later, NULL, 1, ROOM) == WKT_OK && holds("POINT(3 4)") && ends[0] == 0 && ends[1] == 10);
     CHECK(column(texts, offsets, valid, 7, 32) == WKT_TOO_SMALL && needed == 33 && column_untouched());
     CHECK(column(texts, offsets, valid, 7, 33) == WKT_OK && holds(answers));
-    CHECK(column(texts, back, NULL, 2, ROOM) == WKT_NOT_COLUMN && column_untouched());
+    CHECK(column(texts, back, NULL, 2, ROOM) == WKT_NOT_COLUMN && column_untouched() && needed == 99);
     CHECK(column(texts, below, NULL, 1, ROOM) == WKT_NOT_COLUMN && column_untouched());
     CHECK(column(texts, past, NULL, 2, ROOM) == WKT_NOT_COLUMN && column_untouched());
     CHECK(column(texts, &zero, NULL, 0, ROOM) == WKT_OK && needed == 0 && ends[0] == 0 && untouched());
@@ -172,6 +300,18 @@ static void columns(void) {
     CHECK(WITH(0, 0, 18, 0, 0) == WKT_NOT_COLUMN);
 }
 
+/* Each row is to be one geometry as a whole. */
+static void whole_rows(void) {
+    static const int64_t offsets[5] = {0, 11, 23, 33, 44};
+    size_t i;
+    memset(out, '#', ROOM);
+    CHECK(wkt_column_canonical(BYTES("POINT(1 2)\nPOINT(1 2) xPOINT(3 4)POINT(3 4  )"), offsets, 5, NULL, 0, 6 | WKT_WHOLE, out, ROOM,
+                               ends, 5, statuses, 4, &needed) == WKT_OK);
+    CHECK(statuses[0] == WKT_OK && statuses[1] == WKT_NOT_WHOLE && statuses[2] == WKT_OK);
+    CHECK(ends[1] == 10 && ends[2] == 10 && ends[3] == 20 && !memcmp(out, "POINT(1 2)POINT(3 4)", 20));
+    for (i = 0; i < ROWS; i++) statuses[i] = 77;
+}
+
 static void arrays(void) {
     const char *text = "multipolygon(((0 0, 4 0, 0 4, 0 0),(1 1,2 1,1 2,1 1)),empty,((9 9,9.5 9,9 9.5,9 9))) x";
     const char *canon = "MULTIPOLYGON(((0 0,4 0,0 4,0 0),(1 1,2 1,1 2,1 1)),EMPTY,((9 9,9.5 9,9 9.5,9 9)))";
@@ -179,8 +319,8 @@ static void arrays(void) {
                                      10, 20, 10, 10, 90, 90, 95, 90, 90, 95, 90, 90};
     static const size_t want_rings[4] = {0, 4, 8, 12}, want_polygons[4] = {0, 2, 2, 3};
     int64_t numbers[24], few[2] = {7, 7}, point[2] = {15, -20};
-    size_t rings[4], polygons[4], one[2] = {0, 1};
-    WktSizes told;
+    size_t rings[4], polygons[4], one[2] = {0, 1}, three[2] = {0, 2};
+    WktSizes told, kept;
     CHECK(wkt_arrays(BYTES(text), 1, &told, NULL, 0, NULL, 0, NULL, 0) == WKT_TOO_SMALL);
     CHECK(told.kind == 5 && told.dimension == 0 && told.end == strlen(text) - 2);
     CHECK(told.numbers == 24 && told.rings == 4 && told.polygons == 4);
@@ -205,9 +345,18 @@ static void arrays(void) {
     CHECK(wkt_arrays(BYTES("GEOMETRYCOLLECTION EMPTY"), 6, &told, NULL, 0, NULL, 0, NULL, 0) == WKT_COLLECTION);
     CHECK(wkt_arrays(BYTES("POINT(1 9223372036854.775808)"), 6, &told, NULL, 0, NULL, 0, NULL, 0) == WKT_TOO_LARGE);
     CHECK(wkt_arrays(BYTES("POINT(1 9223372036854.775807)"), 6, &told, NULL, 0, NULL, 0, NULL, 0) == WKT_TOO_SMALL);
+    memset(&told, 0x77, sizeof told);
+    memcpy(&kept, &told, sizeof told);
     CHECK(wkt_arrays(BYTES("POINT(1 2)"), 19, &told, NULL, 0, NULL, 0, NULL, 0) == WKT_NO_PLACES);
     CHECK(wkt_arrays(BYTES("POINT(1 2"), 6, &told, NULL, 0, NULL, 0, NULL, 0) == 7);
     CHECK(wkt_arrays(BYTES("\xff"), 6, &told, NULL, 0, NULL, 0, NULL, 0) == WKT_NOT_UTF8);
+    CHECK(!memcmp(&kept, &told, sizeof told));
+    CHECK(wkt_arrays(BYTES("POINT(1 2)"), 6, &told, numbers, 24, rings, 4, polygons, 1) == WKT_TOO_SMALL && told.polygons == 2);
+    CHECK(wkt_arrays(BYTES("POINT(1 2) x"), 6 | WKT_WHOLE, &told, numbers, 24, rings, 4, polygons, 4) == WKT_NOT_WHOLE);
+    CHECK(told.end == 10);
+    CHECK(wkt_arrays(BYTES("POINT(1 2) "), 6 | WKT_WHOLE, &told, numbers, 24, rings, 4, polygons, 4) == WKT_OK);
+    /* Five numbers are none of two coordinates of x and y. */
+    CHECK(wkt_from_arrays(1, 0, numbers, 5, three, 2, one, 2, 1, out, ROOM, &needed) == WKT_NOT_ARRAYS);
 }
 
 /* What wkt_column_arrays fills, with room for ROWS rows. */
@@ -234,6 +383,9 @@ static int arrays_untouched(void) {
     before.told = got.told;
     return !memcmp(&got, &before, sizeof got);
 }
+
+/* So are the sizes. */
+static int sizes_untouched(void) { return got.told.numbers == got.told.rings && got.told.rings == (size_t)0x7777777777777777; }
 
 /* Each row by itself has the same arrays. */
 static int each_alone(const char *texts, const int64_t *offsets, size_t rows, uint32_t places) {
@@ -265,7 +417,7 @@ static void column_arrays(void) {
                         "POINT(1 9223372036854775808)MULTIPOLYGON(((0 0,4 0,0 4,0 0)),EMPTY)";
     static const int64_t offsets[10] = {0, 13, 14, 24, 25, 50, 74, 85, 113, 152};
     static const int64_t number_ends[10] = {0, 2, 2, 2, 2, 8, 8, 8, 8, 16};
-    static const int64_t ring_ends[10] = {0, 2, 2, 2, 2, 4, 4, 4, 4, 6}, back[3] = {0, 14, 13};
+    static const int64_t ring_ends[10] = {0, 2, 2, 2, 2, 4, 4, 4, 4, 6}, back[3] = {0, 14, 13}, whole[3] = {0, 14, 24};
     static const int64_t polygon_ends[10] = {0, 2, 2, 2, 2, 4, 4, 4, 4, 7};
     static const int64_t numbers[16] = {10, 25, 10, 20, 30, 40, 50, 60, 0, 0, 40, 0, 0, 40, 0, 0};
     static const size_t rings[6] = {0, 1, 0, 2, 0, 4}, polygons[7] = {0, 1, 0, 1, 0, 1, 1};
@@ -292,7 +444,7 @@ static void column_arrays(void) {
     CHECK(fill_of(texts, offsets, valid, 9, 1, 16, 5, 7, fit) == WKT_TOO_SMALL && arrays_untouched());
     CHECK(fill_of(texts, offsets, valid, 9, 1, 16, 6, 6, fit) == WKT_TOO_SMALL && arrays_untouched());
     CHECK(fill_of(texts, offsets, valid, 9, 1, 16, 6, 7, fit) == WKT_OK);
-    CHECK(fill_of(texts, offsets, valid, 9, 19, 32, 32, 32, fit) == WKT_NO_PLACES && arrays_untouched());
+    CHECK(fill_of(texts, offsets, valid, 9, 19, 32, 32, 32, fit) == WKT_NO_PLACES && sizes_untouched() && arrays_untouched());
     CHECK(fill_of(texts, &zero, NULL, 0, 1, 0, 0, 0, none) == WKT_OK && got.told.numbers == 0 && got.number_ends[0] == 0);
     for (i = 0; i < 6; i++) {
         fit[i]--;
@@ -303,7 +455,9 @@ static void column_arrays(void) {
     }
     fit[0] = fit[1] = fit[2] = 3;
     fit[3] = fit[4] = fit[5] = 2;
-    CHECK(fill_of(texts, back, NULL, 2, 1, 32, 32, 32, fit) == WKT_NOT_COLUMN && arrays_untouched());
+    CHECK(fill_of(texts, back, NULL, 2, 1, 32, 32, 32, fit) == WKT_NOT_COLUMN && sizes_untouched() && arrays_untouched());
+    CHECK(fill_of(texts, whole, NULL, 2, 1 | WKT_WHOLE, 32, 32, 32, fit) == WKT_OK && got.statuses[0] == WKT_NOT_WHOLE);
+    CHECK(got.statuses[1] == WKT_OK && got.number_ends[1] == 0 && got.number_ends[2] == 2);
 }
 
 /* The texts of the first rows of the arrays that wkt_column_arrays gave, with the bits of those that had any. */
@@ -387,9 +541,12 @@ static void to_and_fro(void) {
 
 /* One call of each function over a text that takes memory. */
 static wkt_status call(int which) {
-    const char *text = "MULTIPOLYGON(((0 0,4 0,0 4,0 0),(1 1,2 1,1 2,1 1)),EMPTY)";
+    /* More than 200 bytes: a shorter one takes no memory. */
+    static const char text[] = "MULTIPOLYGON(((0 0,4 0,0 4,0 0),(1 1,2 1,1 2,1 1)),EMPTY)                                                      "
+                               "                                                                                                      ";
     static const int64_t numbers[6] = {1, 2, 3, 4, 5, 6};
     static const size_t rings[2] = {0, 3}, polygons[2] = {0, 1};
+    uint8_t got_some[ROOM];
     int64_t got[16];
     size_t got_rings[3], got_polygons[3];
     uint32_t same;
@@ -399,19 +556,25 @@ static wkt_status call(int which) {
     case 1: return wkt_same(BYTES(text), BYTES(text), 6, &same);
     case 2: return wkt_lines(BYTES(text), 6, out, ROOM, &needed);
     case 3: {
-        static const int64_t offsets[3] = {0, 57, 57};
+        const int64_t offsets[3] = {0, (int64_t)sizeof text - 1, (int64_t)sizeof text - 1};
         return wkt_column_canonical(BYTES(text), offsets, 3, NULL, 0, 6, out, ROOM, ends, 3, statuses, 2, &needed);
     }
     case 4: {
-        static const int64_t offsets[3] = {0, 57, 57};
-        static const size_t fit[6] = {3, 3, 3, 2, 2, 2};
-        return fill_of(text, offsets, NULL, 2, 6, 32, 32, 32, fit);
+        /* One row: of a text that is refused no arrays are needed, so memory may end there. */
+        const int64_t offsets[2] = {0, (int64_t)sizeof text - 1};
+        static const size_t fit[6] = {2, 2, 2, 1, 1, 1};
+        return fill_of(text, offsets, NULL, 1, 6, 32, 32, 32, fit);
     }
     case 5: {
         static const uint32_t kinds[2] = {1, 1}, dimensions[2] = {0, 0};
         static const int64_t number_ends[3] = {0, 6, 6}, list_ends[3] = {0, 2, 2};
         return wkt_column_from_arrays(kinds, 2, dimensions, 2, numbers, 6, number_ends, 3, rings, 2, list_ends, 3, polygons,
                                       2, list_ends, 3, NULL, 0, 6, out, ROOM, ends, 3, statuses, 2, &needed);
+    }
+    case 7: {
+        size_t taken, written;
+        wkt_status status = wkt_lines_some(BYTES(text), 6, 1, got_some, ROOM, &taken, &written);
+        return status;
     }
     case 6: return wkt_arrays(BYTES(text), 6, &told, got, 16, got_rings, 3, got_polygons, 3);
     default: return wkt_from_arrays(1, 0, numbers, 6, rings, 2, polygons, 2, 6, out, ROOM, &needed);
@@ -420,7 +583,7 @@ static wkt_status call(int which) {
 
 static void refusals(void) {
     int which;
-    for (which = 0; which < 8; which++) {
+    for (which = 0; which < 9; which++) {
         long all, n;
         growths = 0;
         CHECK(call(which) == WKT_OK);
@@ -439,11 +602,17 @@ static void refusals(void) {
 }
 
 int main(void) {
+    versions();
     canonicals();
+    short_texts();
+    whole_texts();
+    explanations();
     comparisons();
     headers();
     many_lines();
+    some_lines();
     columns();
+    whole_rows();
     arrays();
     column_arrays();
     column_texts();

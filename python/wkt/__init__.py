@@ -15,7 +15,9 @@ from ._arrow import ArrowTexts
 from ._calls import canonical, canonical_column, explain, infer, lines, reads, same
 from ._errors import WktError
 from ._explain import Explanation
+from ._geoarrow import GeoArrow
 from ._names import DIMENSIONS, KINDS
+from ._stream import stream
 
 __version__ = "0.14.0"
 
@@ -26,6 +28,7 @@ __all__ = [
     "ArrowTexts",
     "ColumnArrays",
     "Explanation",
+    "GeoArrow",
     "WktError",
     "__version__",
     "canonical",
@@ -37,6 +40,7 @@ __all__ = [
     "lines",
     "reads",
     "same",
+    "stream",
     "to_arrays",
     "to_arrays_column",
 ]

@@ -6,15 +6,18 @@ from typing import Any, Callable, Iterator, List, NamedTuple, Optional, Tuple
 
 from . import _arrow, _library
 from ._blocks import Progress, Packed, Room, pack, parts, pointer, shown, unpacked
-from ._columns import check_invalid, column_of, refused_of, rows_of
+from ._columns import check_invalid, column_of, is_column, refused_of, rows_of
 from ._errors import WktError, check, words_of
 from ._explain import refusal
-from ._names import DIMENSIONS, KINDS, NOT_COLUMN, NULL, TOO_SMALL
-from ._values import Text, encoded, integers, is_null, numpy, places_of, zeros
+from ._names import DIMENSIONS, KINDS, NOT_COLUMN, TOO_SMALL
+from ._values import Ints, Text, encoded, integers, is_null, numpy, places_of, zeros
 
-# Rows that a call takes: with NumPy, by which the parts are joined, few enough that a signal or a callback gets its turn.
-BLOCK = 1 << 18
-CODES = dict(kinds="I", dimensions="I", numbers="q", number_offsets="q", rings="Q", ring_offsets="q", polygons="Q", polygon_offsets="q")
+# Rows that a call takes: few enough that its buffers stay near the processor, and a signal or a callback gets its turn.
+BLOCK = 1 << 16
+CODES = dict(
+    kinds="I", dimensions="I", numbers="q", number_offsets="q",
+    rings="Q", ring_offsets="q", polygons="Q", polygon_offsets="q",
+)  # fmt: skip
 
 
 class Arrays(NamedTuple):
@@ -113,18 +116,20 @@ def _text_arrays(text: Text, places: int) -> Arrays:
     return Arrays(KINDS[told.kind], DIMENSIONS[told.dimension], *three)
 
 
-def to_arrays(text: Any, places: int = 6, invalid: str = "raise", progress: Progress = None) -> Any:
+def to_arrays(
+    text: Any, places: int = 6, invalid: str = "raise", progress: Progress = None, whole: bool = False
+) -> Any:
     """The geometry that a text begins with as `Arrays`; of a column a list of them, with None of a null row.
 
     places: digits after the point, 0 to 18; a number is whole units of ten to the minus `places`.
-    invalid: of a column, "raise" or "null": None of a row that has no arrays.
-    WktError: the text is refused (1 to 14, 20), is a collection (24), or has a number that 64 bits don't hold (25).
+    invalid: of a column, "raise" or "null": None of a row that has no arrays. progress, whole: as of `canonical`.
+    WktError: the text is refused (1 to 14, 20, 30), is a collection (24), or has a number that 64 bits don't hold (25).
     """
-    places = places_of(places)
+    places = places_of(places, whole)
     check_invalid(invalid, ("raise", "null"))
-    if rows_of(text) is None and not _arrow.is_texts(text):
+    if not is_column(text):
         return _text_arrays(text, places)
-    held = to_arrays_column(text, places, progress)
+    held = _column_arrays(text, places, progress)
     if invalid == "raise":
         for row in refused_of(held.statuses)[:1]:
             raise refusal(int(held.statuses[row]), column_of(text)[row], places, row)
@@ -144,61 +149,94 @@ def _rows(held: ColumnArrays) -> Iterator[Optional[Arrays]]:
         yield None if status else Arrays(KINDS[kind], DIMENSIONS[dimension], *three)
 
 
-def _column_call(held: Packed, places: int) -> ColumnArrays:
-    """The arrays of some rows by one call."""
-    kinds, dimensions, statuses = (zeros("I", held.rows) for _ in range(3))
-    ends = [zeros("q", held.rows + 1) for _ in range(3)]
+def _column_call(held: Packed, places: int, words: Any, ends: Any, three: Any) -> Tuple[int, Any]:
+    """The status of a call for the arrays of some rows, and what it says of the sizes."""
     told = _library.ColumnSizes()
-
-    def call(*three: Any) -> int:
-        joined = zip(three[0::2], three[1::2], ends)
-        status: int = _library.wkt_column_arrays(
-            *parts(held), places, ctypes.byref(told),
-            *_parts(kinds, dimensions),
-            *itertools.chain.from_iterable((at, count, *_parts(end)) for at, count, end in joined),
-            *_parts(statuses),
-        )  # fmt: skip
-        return status
-
-    three = _three(told, len(held.data) // 8 + 2 * held.rows + 8, call)
-    return ColumnArrays(kinds, dimensions, *itertools.chain.from_iterable(zip(three, ends)), statuses)
+    joined = (part for values, end in zip(three, ends) for part in _parts(values, end))
+    status = _library.wkt_column_arrays(
+        *parts(held), places, ctypes.byref(told), *_parts(*words[:2]), *joined, *_parts(words[2])
+    )
+    if status != TOO_SMALL:
+        check(status)
+    return status, (told.numbers, told.rings, told.polygons)
 
 
-def _joined(blocks: List[ColumnArrays]) -> ColumnArrays:
-    """The arrays of all blocks as those of one column."""
-    if len(blocks) == 1:
-        return blocks[0]
-    made: List[Any] = []
-    for name, several in zip(ColumnArrays._fields, zip(*blocks)):
-        if name.endswith("_offsets"):
-            before = itertools.accumulate((int(offsets[-1]) for offsets in several), initial=0)
-            several = [offsets[:-1] + base for offsets, base in zip(several, before)] + [
-                numpy.array([sum(int(offsets[-1]) for offsets in several)], numpy.int64)
-            ]
-        made.append(numpy.concatenate(several))
-    return ColumnArrays(*made)
+def _likely(held: Packed) -> int:
+    """How many numbers, or offsets, some rows have at most, mostly."""
+    return len(held.data) // 8 + 2 * held.rows + 8
 
 
-def to_arrays_column(texts: Any, places: int = 6, progress: Progress = None) -> ColumnArrays:
+class _Filling:
+    """The arrays of a column, which are filled by blocks of rows, each behind the one before it."""
+
+    def __init__(self, rows: int) -> None:
+        self.words = [zeros("I", rows) for _ in range(3)]  # kinds, dimensions, statuses
+        self.ends = [zeros("q", rows + 1) for _ in range(3)]
+        self.three = [zeros(code, 0) for code in "qQQ"]  # numbers, rings, polygons
+        self.used = [0, 0, 0]
+        self.rows = rows
+
+    def holds(self, sizes: Any) -> None:
+        """Makes room for so many behind what is filled."""
+        for i, size in enumerate(sizes):
+            values, used = self.three[i], self.used[i]
+            if len(values) < used + size:
+                more = zeros("Q" if i else "q", used + size + used // 2)
+                more[:used] = values[:used]
+                self.three[i] = more
+
+    def add(self, first: int, held: Packed, places: int) -> None:
+        """The rows from one on."""
+        last = first + held.rows
+        if not first:
+            self.holds(3 * [_likely(held) * (self.rows // held.rows + 1) if held.rows else 8])
+        self.holds(3 * [_likely(held)])
+        words, ends = self.words, self.ends
+        if held.rows < self.rows:  # by NumPy, whose parts share the items
+            words = [values[first:last] for values in words]
+            ends = [values[first : last + 1] for values in ends]
+        while True:
+            behind = [values[used:] if used else values for values, used in zip(self.three, self.used)]
+            status, sizes = _column_call(held, places, words, ends, behind)
+            if status == 0:
+                break
+            self.holds(sizes)
+        for i, size in enumerate(sizes):
+            if self.used[i]:
+                ends[i] += self.used[i]
+            self.used[i] += size
+
+    def made(self) -> ColumnArrays:
+        """All of it."""
+        three = [values[:used] for values, used in zip(self.three, self.used)]
+        kinds, dimensions, statuses = self.words
+        return ColumnArrays(*[kinds, dimensions, *itertools.chain.from_iterable(zip(three, self.ends)), statuses])
+
+
+def to_arrays_column(texts: Any, places: int = 6, progress: Progress = None, whole: bool = False) -> ColumnArrays:
     """The flat arrays of a column of texts and the status of each row, as `ColumnArrays`: no row raises.
 
     texts: a list, a tuple, a NumPy array, a Series, or an Arrow column. places: as of `to_arrays`.
-    progress: a function that is called with how many rows are done, or True: tqdm's bar above a million rows.
+    progress, whole: as of `canonical`.
     """
-    places = places_of(places)
+    return _column_arrays(texts, places_of(places, whole), progress)
+
+
+def _column_arrays(texts: Any, places: int, progress: Progress) -> ColumnArrays:
     arrow = _arrow.is_texts(texts)
     held, kept = _arrow.packed(texts) if arrow else (None, None)
     rows = () if arrow else column_of(texts)
     count = held.rows if held is not None else len(rows)
+    filling = _Filling(count)
+    # Without NumPy one call takes all rows, since no other shares its arrays.
     step = BLOCK if numpy is not None else max(count, 1)
-    blocks = []
     with shown(progress, count) as tell:
         for first in range(0, max(count, 1), step):
             part = pack(rows[first : first + step], first) if held is None else _arrow.part(held, first, step)
-            blocks.append(_column_call(part, places))
+            filling.add(first, part, places)
             tell(first + part.rows)
     del kept
-    return _joined(blocks)
+    return filling.made()
 
 
 def _index(names: Tuple[str, ...], name: Any, what: str) -> int:
@@ -213,15 +251,15 @@ def _arrays_text(arrays: Any, places: int, row: Optional[int] = None) -> str:
     kind, dimension, *rest = arrays
     at, width = _index(KINDS, kind, "kind"), _index(DIMENSIONS, dimension, "dimension")
     three = [integers(c, values, what) for c, values, what in zip("qQQ", rest, ("numbers", "rings", "polygons"))]
-    room = Room(16 * len(three[0]) + 32)
+    held = [part for values in three for part in (pointer(values.data), values.length)]
 
     def call(out: Any, length: int, needed: Any) -> int:
-        status: int = _library.wkt_from_arrays(at, width, *_parts(*three), places, out, length, needed)
-        if status != TOO_SMALL:
+        status: int = _library.wkt_from_arrays(at, width, *held, places, out, length, needed)
+        if status and status != TOO_SMALL:
             check(status, row=row)
         return status
 
-    return room.text(call)
+    return Room(16 * three[0].length + 32).text(call)
 
 
 def from_arrays(arrays: Any, places: int = 6) -> Any:
@@ -250,31 +288,41 @@ def from_arrays_column(arrays: ColumnArrays, places: int = 6) -> Tuple[List[Opti
     TypeError, OverflowError: as of `from_arrays`. WktError: the offsets are of no column (27).
     """
     places = places_of(places)
-    held = [integers(code, getattr(arrays, name), name) for name, code in CODES.items()]
+    out, needed, ends, statuses = _column_texts(arrays, places)
+    return unpacked(out, needed, ends, statuses), statuses.tolist()
+
+
+def _column_texts(arrays: ColumnArrays, places: int) -> Tuple[Any, int, Any, Any]:
+    """The canonical texts of arrays as a buffer, how long they are, where each begins, and the status of each row."""
+    held = {name: integers(code, getattr(arrays, name), name) for name, code in CODES.items()}
     given = integers("I", arrays.statuses, "statuses")
-    rows = len(held[0])
-    if len(given) != rows:
+    rows = held["kinds"].length
+    if given.length != rows:
         raise WktError(NOT_COLUMN, words_of(NOT_COLUMN))
     valid = _valid_bits(given)
     ends, statuses = zeros("q", rows + 1), zeros("I", rows)
+    eight = [part for values in held.values() for part in (pointer(values.data), values.length)]
+    answers = list(_parts(ends, statuses))
 
     def call(out: Any, length: int, needed: Any) -> int:
         status: int = _library.wkt_column_from_arrays(
-            *_parts(*held, valid), places, out, length, *_parts(ends, statuses), needed
+            *eight, valid, len(valid), places, out, length, *answers, needed
         )
         return status
 
-    room = Room(12 * len(held[2]) + 24 * rows + 64)
-    return unpacked(room.out, room.call(call), ends, statuses), statuses.tolist()
+    room = Room(12 * held["numbers"].length + 24 * rows + 64)
+    needed = room.call(call)
+    return room.out, needed, ends, statuses
 
 
-def _valid_bits(statuses: Any) -> bytes:
+def _valid_bits(statuses: Ints) -> bytes:
     """The bits of the rows that have arrays; none where all have."""
-    if numpy is not None:
-        return b"" if not statuses.any() else bytes(numpy.packbits(statuses == 0, bitorder="little").tobytes())
-    if not any(statuses):
+    data = bytes(statuses.data)
+    if not any(data) if numpy is None else not numpy.frombuffer(data, numpy.uint32).any():
         return b""
-    bits = bytearray((len(statuses) + 7) // 8)
-    for i, status in enumerate(statuses):
+    if numpy is not None:
+        return bytes(numpy.packbits(numpy.frombuffer(data, numpy.uint32) == 0, bitorder="little").tobytes())
+    bits = bytearray((statuses.length + 7) // 8)
+    for i, status in enumerate(statuses.data):
         bits[i // 8] |= (status == 0) << i % 8
     return bytes(bits)

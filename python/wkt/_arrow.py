@@ -1,6 +1,6 @@
-"""Columns by Arrow's C data interface: what has `__arrow_c_array__` lends its buffers, with no import of pyarrow.
+"""Columns as buffers, with no object for a row: by Arrow's C data interface, and of NumPy's arrays of bytes.
 
-It needs NumPy. The bytes of the texts are not copied: they must not change during a call, as Arrow has it anyway.
+What has `__arrow_c_array__` lends its buffers, with no import of pyarrow. It needs NumPy. The bytes of the texts are not copied: they must not change during a call, as Arrow has it anyway.
 Offsets and bits are copied before they are looked at.
 """
 import ctypes
@@ -24,8 +24,8 @@ class _Array(ctypes.Structure):
     pass
 
 
-_release_schema = ctypes.CFUNCTYPE(None, ctypes.POINTER(_Schema))
-_release_array = ctypes.CFUNCTYPE(None, ctypes.POINTER(_Array))
+_release_schema: Any = ctypes.CFUNCTYPE(None, ctypes.POINTER(_Schema))
+_release_array: Any = ctypes.CFUNCTYPE(None, ctypes.POINTER(_Array))
 _Schema._fields_ = [
     ("format", ctypes.c_char_p),
     ("name", ctypes.c_char_p),
@@ -60,8 +60,32 @@ _pointer_in = ctypes.PYFUNCTYPE(ctypes.c_void_p, ctypes.c_void_p, ctypes.c_char_
 
 
 def is_texts(values: Any) -> bool:
-    """Whether it lends its buffers."""
-    return numpy is not None and hasattr(values, "__arrow_c_array__")
+    """Whether its texts are taken as buffers."""
+    return numpy is not None and (hasattr(values, "__arrow_c_array__") or _is_fixed(values))
+
+
+def _is_fixed(values: Any) -> bool:
+    """Whether it is an array of bytes, which have one width."""
+    return isinstance(values, numpy.ndarray) and values.dtype.kind == "S" and values.ndim > 0 and values.itemsize > 0
+
+
+def _fixed_packed(values: Any) -> Packed:
+    """The buffers of an array of bytes: a text is what stands before the zeros at its end."""
+    rows = numpy.array(values, order="C").reshape(-1)
+    lengths = numpy.char.str_len(rows)
+    used = numpy.arange(rows.itemsize) < lengths[:, None]
+    data = rows.view(numpy.uint8).reshape(len(rows), rows.itemsize)[used]
+    offsets = numpy.concatenate([[0], numpy.cumsum(lengths)]).astype(numpy.int64)
+    return Packed(data, offsets, numpy.empty(0, numpy.uint8), len(rows))
+
+
+def _fixed_array(texts: "Texts", shape: Any) -> Any:
+    """Texts as an array of bytes, as wide as the longest."""
+    lengths = numpy.diff(texts.offsets)
+    width = max(int(lengths.max(initial=0)), 1)
+    made = numpy.zeros((len(lengths), width), numpy.uint8)
+    made[numpy.arange(width) < lengths[:, None]] = texts.data
+    return made.view("S%d" % width).reshape(shape)
 
 
 def _lent(address: Optional[int], kind: Any, count: int) -> Any:
@@ -82,6 +106,8 @@ def _bits_from(bits: Any, first: int, rows: int) -> Any:
 
 def packed(column: Any) -> Tuple[Packed, Any]:
     """The buffers of a column of texts, and what keeps them alive."""
+    if _is_fixed(column):
+        return _fixed_packed(column), None
     capsules = column.__arrow_c_array__()
     schema = _Schema.from_address(_api.PyCapsule_GetPointer(capsules[0], b"arrow_schema"))
     lent = _Array.from_address(_api.PyCapsule_GetPointer(capsules[1], b"arrow_array"))
@@ -201,16 +227,17 @@ _structures: Dict[int, Any] = {}
 _keys = itertools.count(1)
 
 
-@_release_schema
-def _free_schema(schema: Any) -> None:
+def _schema_freed(schema: Any) -> None:
     schema.contents.release = _release_schema()
     _alive.pop(schema.contents.private_data, None)
 
 
-@_release_array
-def _free_array(lent: Any) -> None:
+def _array_freed(lent: Any) -> None:
     lent.contents.release = _release_array()
     _alive.pop(lent.contents.private_data, None)
+
+
+_free_schema, _free_array = _release_schema(_schema_freed), _release_array(_array_freed)
 
 
 def _freed(name: bytes) -> Any:
@@ -236,8 +263,8 @@ def _capsule(structure: Any, name: bytes, lent: Any) -> Any:
     return _api.PyCapsule_New(at, _names[name], ctypes.cast(_destructors[name], ctypes.c_void_p))
 
 
-def canonical(column: Any, places: int, invalid: str, progress: Progress) -> ArrowTexts:
-    """The canonical texts of an Arrow column, as another."""
+def canonical(column: Any, places: int, invalid: str, progress: Progress) -> Any:
+    """The canonical texts of an Arrow column as another, or of an array of bytes as another."""
     held, capsules = packed(column)
     texts = canonical_buffers(held, places, progress)
     if invalid == "raise":
@@ -245,7 +272,7 @@ def canonical(column: Any, places: int, invalid: str, progress: Progress) -> Arr
     elif invalid == "keep":
         texts = _kept(held, texts)
     del capsules
-    return ArrowTexts(*texts)
+    return _fixed_array(texts, column.shape) if _is_fixed(column) else ArrowTexts(*texts)
 
 
 def _raise_first(held: Packed, texts: Texts, places: int) -> None:
@@ -263,8 +290,8 @@ def _raise_first(held: Packed, texts: Texts, places: int) -> None:
 
 
 def statuses(column: Any, places: int, progress: Progress = None) -> Any:
-    """The status of each row of an Arrow column."""
+    """The status of each row, as an array of the column's shape."""
     held, capsules = packed(column)
     told = canonical_buffers(held, places, progress).statuses
     del capsules
-    return told
+    return told.reshape(column.shape) if _is_fixed(column) else told

@@ -6,15 +6,15 @@ from typing import Any, Callable, Iterator, List, NamedTuple, Optional, Sequence
 
 from . import _library
 from ._errors import check
-from ._library import size, u32
+from ._library import size
 from ._names import TOO_SMALL
 from ._values import address, encoded, is_null, zeros
 
-_fast: Any
 try:
-    from . import _fast  # type: ignore[no-redef]
+    from . import _fast as compiled
 except ImportError:  # The package then needs no compiler, and makes the buffers in Python.
-    _fast = None
+    compiled = None  # type: ignore[assignment]
+_fast: Any = compiled
 
 BLOCK = 1 << 16
 Progress = Union[None, bool, Callable[[int], Any]]
@@ -41,7 +41,8 @@ def pack(rows: Sequence[Any], first: int = 0) -> Packed:
     """The buffers of some rows, of which the first is this one of its column."""
     made = None if _fast is None else _fast.pack(rows)
     if made is not None:
-        return Packed(*made, len(rows))
+        data, offsets, bits = made
+        return Packed(data, offsets, bits, len(rows))
     try:
         joined = "".join(rows)
     except TypeError:
@@ -49,8 +50,8 @@ def pack(rows: Sequence[Any], first: int = 0) -> Packed:
     if joined.isascii():
         return Packed(joined.encode(), array.array("q", itertools.accumulate(map(len, rows), initial=0)), b"", len(rows))
     held = [b"" if is_null(row) else encoded(row, first + i) for i, row in enumerate(rows)]
-    offsets = array.array("q", itertools.accumulate(map(len, held), initial=0))
-    return Packed(b"".join(held), offsets, _bits(rows), len(rows))
+    ends = array.array("q", itertools.accumulate(map(len, held), initial=0))
+    return Packed(b"".join(held), ends, _bits(rows), len(rows))
 
 
 def pointer(values: Any) -> Any:
@@ -65,10 +66,10 @@ def parts(held: Packed) -> Tuple[Any, ...]:
     )  # fmt: skip
 
 
-def unpacked(out: Any, needed: int, ends: Any, statuses: Any) -> List[Optional[str]]:
-    """The texts in a buffer, and None where a status isn't 0."""
+def unpacked(out: Any, needed: int, ends: Any, statuses: Any, rows: Any = None) -> List[Optional[str]]:
+    """The texts in a buffer, and None where a status isn't 0. A row that is its own canonical text may come back."""
     if _fast is not None:
-        answers: List[Optional[str]] = _fast.unpack(out, ends, statuses)
+        answers: List[Optional[str]] = _fast.unpack(out, ends, statuses, rows)
         return answers
     text = str(memoryview(out)[:needed], "ascii")
     bounds = zip(statuses, ends, ends[1:])
@@ -79,22 +80,29 @@ class Room:
     """A buffer for answers, which grows where a call says that it is too small."""
 
     def __init__(self, likely: int) -> None:
-        self.out = ctypes.create_string_buffer(max(likely, 1))
+        # A multiple, so that ctypes has few types of such buffers to make.
+        self.out = (ctypes.c_char * (likely + 64 & -64))()
         self.needed = size()
+
+    def holds(self, length: int) -> None:
+        """Makes room for so many bytes."""
+        if len(self.out) < length:
+            self.out = ctypes.create_string_buffer(length)
 
     def call(self, call: Callable[[Any, int, Any], int]) -> int:
         """How many bytes a call has written."""
         while True:
             status = call(self.out, len(self.out), ctypes.byref(self.needed))
+            if status == 0:
+                return self.needed.value
             if status != TOO_SMALL:
                 check(status)
-                return self.needed.value
             self.out = ctypes.create_string_buffer(self.needed.value)
 
     def bytes(self, call: Callable[[Any, int, Any], int]) -> bytes:
         """What a call has written."""
         length = self.call(call)
-        return memoryview(self.out)[:length].tobytes()
+        return bytes(memoryview(self.out)[:length])
 
     def text(self, call: Callable[[Any, int, Any], int]) -> str:
         """The canonical text that a call has written."""
@@ -104,41 +112,43 @@ class Room:
 Block = Tuple[int, List[Optional[str]], Any]
 
 
-def canonical_blocks(rows: Sequence[Any], places: int, progress: Progress = None) -> Iterator[Block]:
-    """Of each block of rows where it begins, the canonical texts, and the status of each row."""
+def canonical_blocks(rows: Sequence[Any], places: int, progress: Progress = None, texts: bool = True) -> Iterator[Block]:
+    """Of each block of rows where it begins, the canonical texts (if they are wanted), and the status of each row."""
     room = Room(1)
     with shown(progress, len(rows)) as tell:
         for first in range(0, len(rows), BLOCK):
-            held = pack(rows[first : first + BLOCK], first)
-            if len(room.out) < len(held.data) + len(held.data) // 8 + 64:
-                room = Room(len(held.data) + len(held.data) // 8 + 64)
+            block = rows[first : first + BLOCK]
+            held = pack(block, first)
+            room.holds(len(held.data) + len(held.data) // 8 + 64)
             ends, statuses = zeros("q", held.rows + 1), zeros("I", held.rows)
-            needed = _canonical_call(held, places, room, ends, statuses)
-            yield first, unpacked(room.out, needed, ends, statuses), statuses
+            needed = room.call(_canonical_call(held, places, ends, statuses))
+            yield first, unpacked(room.out, needed, ends, statuses, block) if texts else [], statuses
             tell(first + held.rows)
 
 
-def _canonical_call(held: Packed, places: int, room: Room, ends: Any, statuses: Any) -> int:
+def _canonical_call(held: Packed, places: int, ends: Any, statuses: Any) -> Callable[[Any, int, Any], int]:
     def call(out: Any, length: int, needed: Any) -> int:
         status: int = _library.wkt_column_canonical(
             *parts(held), places, out, length, pointer(ends), held.rows + 1, pointer(statuses), held.rows, needed
         )
         return status
 
-    return room.call(call)
+    return call
 
 
 class shown:
-    """Says how many rows are done: by a callback, or by tqdm where there are more than a million."""
+    """Says how many rows are done: by a callback, or by tqdm where there are more than a million, or nobody knows."""
 
-    def __init__(self, progress: Progress, rows: int) -> None:
+    def __init__(self, progress: Progress, total: Optional[int], unit: str = " rows", above: int = 1_000_000) -> None:
         self.bar: Any = None
         self.tell = progress if callable(progress) else None
+        if progress not in (None, False, True) and self.tell is None:
+            raise TypeError("progress is a function or a bool, and not %s" % type(progress).__name__)
         if progress is True:
-            import tqdm
+            import tqdm  # type: ignore[import]
 
-            if rows > 1_000_000:
-                self.bar = tqdm.tqdm(total=rows, unit=" rows", unit_scale=True)
+            if total is None or total > above:
+                self.bar = tqdm.tqdm(total=total, unit=unit, unit_scale=True)
 
     def __enter__(self) -> Callable[[int], None]:
         def told(done: int) -> None:

@@ -1,63 +1,69 @@
 """The functions on texts."""
 import ctypes
-from typing import Any, Callable, Iterator, List, Optional, Sequence, Tuple
+from typing import Any, List, Optional, Sequence, Tuple
 
 from . import _arrow, _library
 from ._blocks import Progress, Room, canonical_blocks
-from ._columns import canonical_like, canonical_rows, check_invalid, column_of, is_series, like, refused_of, rows_of
+from ._columns import canonical_like, canonical_rows, check_invalid, column_of, is_column, like, refused_of
 from ._errors import check
 from ._explain import Explanation, explained, refusal
 from ._library import size, u32
-from ._names import DIMENSIONS, HEADER_MESSAGES, KINDS, LAST_REFUSAL, MESSAGES, NULL, TOO_SMALL
-from ._values import TEXTS, Text, encoded, is_null, numpy, places_of, zeros
+from ._names import DIMENSIONS, HEADER_MESSAGES, KINDS, LAST_REFUSAL, MESSAGES, NO_MEMORY, NO_PLACES, NULL, TOO_SMALL
+from ._values import Text, encoded, is_null, places_of
 
 _INFERRED = HEADER_MESSAGES + MESSAGES[len(HEADER_MESSAGES) :]
 
 
-def _is_column(values: Any) -> bool:
-    return not isinstance(values, TEXTS) and (_arrow.is_texts(values) or rows_of(values) is not None)
-
-
 def _text_canonical(text: Text, places: int) -> str:
-    data, end = encoded(text), size()
-
-    def call(out: Any, length: int, needed: Any) -> int:
-        status: int = _library.wkt_canonical(data, len(data), places, out, length, needed, ctypes.byref(end))
+    data, end, needed = encoded(text), size(), size()
+    room = len(data) + 96 & -64
+    while True:
+        out = (ctypes.c_char * room)()
+        status = _library.wkt_canonical(data, len(data), places, out, room, ctypes.byref(needed), ctypes.byref(end))
+        if status == 0:
+            return str(memoryview(out)[: needed.value], "ascii")
         if 1 <= status <= LAST_REFUSAL:
             raise refusal(status, text, places)
-        return status
+        if status != TOO_SMALL:
+            check(status)
+        room = needed.value
 
-    return Room(len(data) + 32).text(call)
 
-
-def canonical(text: Any, places: int = 18, invalid: str = "raise", progress: Progress = None) -> Any:
+def canonical(
+    text: Any, places: int = 18, invalid: str = "raise", progress: Progress = None, whole: bool = False
+) -> Any:
     """The one text of the geometry that a text begins with; of a column a column of the same kind.
 
-    text: str or bytes, of which what follows the geometry isn't looked at; or a column: a list or a tuple (a list
+    text: str or bytes; or a column: a list or a tuple (a list
     comes back), a NumPy array of any shape (objects come back as objects, bytes as bytes), a Series of pandas (with its
     index and name), or what has `__arrow_c_array__` (`ArrowTexts` comes back, with no object for a row). A row that is
     None, NaN or pandas.NA is null and stays so: it is None.
     places: digits after the point, 0 to 18: a text with more is refused, since nothing is rounded.
     invalid: what becomes of a refused row: "raise" (a WktError), "null", or "keep": the row as it was given.
     progress: a function that is called with how many rows are done, or True: tqdm's bar above a million rows.
+    whole: a text with more than white space behind its geometry is refused; else what follows may be anything.
 
-    WktError: the text is refused (1 to 14), isn't UTF-8 (20), or there are no such places (23). It has the row, and as
+    WktError: the text is refused (1 to 14, or 30, by `whole`), isn't UTF-8 (20), or there are no such places (23). It has the row, and as
     `explanation` where in the text, and what was expected. TypeError: a text or a row is no text, or places no int.
     OverflowError: places is below 0, or too large for 32 bits.
     """
-    places = places_of(places)
-    if _is_column(text):
+    places = places_of(places, whole)
+    if type(text) is not str and is_column(text):
         return canonical_like(text, places, invalid, progress)
-    check_invalid(invalid)
+    if invalid != "raise":
+        check_invalid(invalid)
     return _text_canonical(text, places)
 
 
-def canonical_column(texts: Any, places: int = 18, progress: Progress = None) -> Tuple[List[Optional[str]], List[int]]:
+def canonical_column(
+    texts: Any, places: int = 18, progress: Progress = None, whole: bool = False
+) -> Tuple[List[Optional[str]], List[int]]:
     """The canonical texts of a column as a list, and the status of each row: no row raises.
 
     A status is 0, or 28 of a null row, or why the text is refused; where it isn't 0 there is None for a text.
+    places, progress, whole: as of `canonical`.
     """
-    places = places_of(places)
+    places = places_of(places, whole)
     answers, statuses = canonical_rows(column_of(texts), places, "null", progress)
     return answers, statuses.tolist()
 
@@ -72,16 +78,20 @@ def _text_same(one: Text, other: Text, places: int) -> bool:
     return answer.value == 1
 
 
-def same(one: Any, other: Any, places: int = 18, invalid: str = "raise", progress: Progress = None) -> Any:
+def same(
+    one: Any, other: Any, places: int = 18, invalid: str = "raise", progress: Progress = None, whole: bool = False
+) -> Any:
     """Whether two texts begin with one geometry: whether their canonical texts are equal.
 
     Of two columns of one length, or a column and a text, a list of bool, and None where a row is null in either.
-    invalid: "raise" or "null": None where a row is refused in either. places, progress, errors: as of `canonical`; the
-    WktError of a column names the first row that is refused. ValueError: the columns have different lengths.
+    invalid: "raise" or "null": None where a row is refused in either. places, progress, whole, errors: as of `canonical`;
+    the WktError of a column names the first row that is refused. ValueError: the columns have different lengths.
     """
-    places = places_of(places)
+    places = places_of(places, whole)
+    if type(one) is type(other) is str and invalid == "raise":
+        return _text_same(one, other, places)
     check_invalid(invalid, ("raise", "null"))
-    columns = [_is_column(one), _is_column(other)]
+    columns = [is_column(one), is_column(other)]
     if not any(columns):
         return _text_same(one, other, places)
     ones, others = (column_of(it) if column else None for it, column in zip((one, other), columns))
@@ -132,29 +142,29 @@ def infer(text: Any) -> Any:
     The rest isn't read. Of a column a list, with None of a null row. WktError: the text begins with no kind word (1),
     EMPTY comes first with no space before it (2), there is neither a parenthesis nor EMPTY (3), or it isn't UTF-8 (20).
     """
-    if not _is_column(text):
+    if not is_column(text):
         return _text_kind(text)
     return [None if is_null(row) else _text_kind(row, i) for i, row in enumerate(column_of(text))]
 
 
-def reads(text: Any, places: int = 18, progress: Progress = None) -> Any:
+def reads(text: Any, places: int = 18, progress: Progress = None, whole: bool = False) -> Any:
     """Whether a text begins with a geometry: whether `canonical` answers it.
 
     Of a column a bool of each row, as an array or a Series of bool where the column is one, and else a list; of a null
-    row False. It says nothing on what Shapely calls valid: a polygon that crosses itself reads. places, progress: as of
-    `canonical`.
+    row False. It says nothing on what Shapely calls valid: a polygon that crosses itself reads. places, progress, whole:
+    as of `canonical`.
     """
-    places = places_of(places)
-    if not _is_column(text):
+    places = places_of(places, whole)
+    if not is_column(text):
         data = encoded(text)
         status = _library.wkt_canonical(data, len(data), places, None, 0, ctypes.byref(size()), ctypes.byref(size()))
-        if status > TOO_SMALL:
+        if status in (NO_MEMORY, NO_PLACES):
             check(status)
         return status in (0, TOO_SMALL)
     if _arrow.is_texts(text):
         return _arrow.statuses(text, places, progress) == 0
     told: List[bool] = []
-    for _, _, statuses in canonical_blocks(column_of(text), places, progress):
+    for _, _, statuses in canonical_blocks(column_of(text), places, progress, texts=False):
         told += [status == 0 for status in statuses.tolist()]
     return like(text, told, bool)
 
@@ -166,11 +176,11 @@ def explain(text: Any, places: int = 18, progress: Progress = None) -> Any:
     WktError: the text isn't UTF-8 (20): it has no place that could be named. In a column it is a row of None too.
     """
     places = places_of(places)
-    if not _is_column(text):
+    if not is_column(text):
         return explained(text, places)
     rows = column_of(text)
     answers: List[Optional[Explanation]] = [None] * len(rows)
-    for first, _, statuses in canonical_blocks(rows, places, progress):
+    for first, _, statuses in canonical_blocks(rows, places, progress, texts=False):
         for i in refused_of(statuses):
             if statuses[i] <= LAST_REFUSAL:
                 answers[first + i] = explained(rows[first + i], places)
@@ -184,7 +194,7 @@ def lines(data: Any, places: int = 18) -> Any:
     None of a null row. places: as of `canonical`. ValueError: a text of a column holds a line feed.
     """
     places = places_of(places)
-    if not _is_column(data):
+    if not is_column(data):
         held = encoded(data)
 
         def call(out: Any, length: int, needed: Any) -> int:

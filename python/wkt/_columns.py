@@ -15,6 +15,20 @@ def is_series(values: Any) -> bool:
     return all(hasattr(values, name) for name in ("to_numpy", "index", "name", "dtype"))
 
 
+_LISTS = ("to_pylist", "tolist", "to_list")
+
+
+def is_column(values: Any) -> bool:
+    """Whether it is a column, and no single value."""
+    if isinstance(values, TEXTS):
+        return False
+    if isinstance(values, (list, tuple)):
+        return True
+    if numpy is not None and isinstance(values, numpy.ndarray):
+        return bool(values.ndim > 0)
+    return _arrow.is_texts(values) or any(hasattr(values, method) for method in _LISTS)
+
+
 def rows_of(values: Any) -> Optional[Sequence[Any]]:
     """The rows of a column as a list or a tuple; None of a single value."""
     if isinstance(values, TEXTS):
@@ -22,11 +36,14 @@ def rows_of(values: Any) -> Optional[Sequence[Any]]:
     if isinstance(values, (list, tuple)):
         return values
     if numpy is not None and isinstance(values, numpy.ndarray):
-        return None if values.ndim == 0 else list(values.reshape(-1).tolist())
-    for method in ("to_pylist", "tolist", "to_list"):
+        if values.ndim == 0:
+            return None
+        rows: List[Any] = values.reshape(-1).tolist()
+        return rows
+    for method in _LISTS:
         if hasattr(values, method):
-            rows = getattr(values, method)()
-            return rows if isinstance(rows, list) else None
+            several = getattr(values, method)()
+            return several if isinstance(several, list) else None
     return None
 
 
@@ -38,20 +55,32 @@ def column_of(values: Any) -> Sequence[Any]:
     return rows
 
 
+def _array(answers: List[Any], kind: Any) -> Any:
+    """An array of NumPy with the answers."""
+    if kind is not None:
+        return numpy.array(answers, kind)
+    try:
+        return numpy.fromiter(answers, object, len(answers))
+    except ValueError:  # NumPy before 1.23
+        made = numpy.empty(len(answers), object)
+        made[:] = answers
+        return made
+
+
 def like(values: Any, answers: List[Any], kind: Any = None) -> Any:
     """Answers in the kind of what was given: a Series with its index and name, an array of its shape, or a list."""
     if is_series(values):
         text = kind is None and str(values.dtype).startswith("string")
         dtype = values.dtype if text else kind or "object"
-        return type(values)(answers, index=values.index, name=values.name, dtype=dtype)
+        return type(values)(_array(answers, kind), index=values.index, name=values.name, dtype=dtype)
     if numpy is None or not isinstance(values, numpy.ndarray):
         return answers
-    made = numpy.empty(len(answers), kind or object)
-    made[:] = answers
-    if kind is None and values.dtype.kind in "SU":
-        # Arrays of a fixed width have no null: its place is an empty text.
-        made = numpy.array(["" if answer is None else answer for answer in answers], values.dtype.kind)
-    return made.reshape(values.shape)
+    if kind is None and values.dtype.kind in "SUT":
+        # Arrays of a fixed width have no null: its place is an empty text. Those of StringDType may have one.
+        null = getattr(values.dtype, "na_object", "")
+        answers = [null if answer is None else answer for answer in answers]
+        kind = values.dtype if values.dtype.kind == "T" else values.dtype.kind
+    return _array(answers, kind).reshape(values.shape)
 
 
 def refused_of(statuses: Any) -> Any:

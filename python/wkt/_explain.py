@@ -5,10 +5,9 @@ from typing import NamedTuple, Optional, Tuple, Union
 from . import _library
 from ._errors import WktError, check, words_of
 from ._library import size, u32
-from ._names import EXPECTED, MESSAGES
-from ._values import Text, encoded
+from ._names import ACCEPTED, EXPECTED, MESSAGES
+from ._values import WHOLE, Text, encoded
 
-_ACCEPTED = 29
 _WIDTH = 72
 
 
@@ -65,15 +64,15 @@ def explained(text: Text, places: int) -> Optional[Explanation]:
         raise NotImplementedError("this libwkt.so has no wkt_explain")
     data = encoded(text)
     message, start, stop, expected = u32(), size(), size(), u32()
-    status = _library.wkt_explain(data, len(data), places, *map(ctypes.byref, (message, start, stop, expected)))
-    if status == _ACCEPTED:
+    status = _library.wkt_explain(data, len(data), places % WHOLE, *map(ctypes.byref, (message, start, stop, expected)))
+    if status == ACCEPTED:
         return None
     check(status)
-    places_in = [start.value, stop.value]
+    shown: Union[str, bytes] = data
+    first, last = start.value, stop.value
     if isinstance(text, str):
-        places_in = [len(data[:at].decode("utf-8")) for at in places_in]
-    shown = text if isinstance(text, str) else data
-    return Explanation(shown, message.value, MESSAGES[message.value], *places_in, EXPECTED[expected.value])
+        shown, first, last = text, len(data[:first].decode("utf-8")), len(data[:last].decode("utf-8"))
+    return Explanation(shown, message.value, MESSAGES[message.value], first, last, EXPECTED[expected.value])
 
 
 def refusal(status: int, text: Text, places: int, row: Optional[int] = None) -> WktError:

@@ -31,6 +31,8 @@ MESSAGES = (
     "The arrays are of no geometry",
     "The offsets, the bits or the sizes are of no column",
     "The row is null",
+    "The text is not refused",
+    "More than white space follows the geometry",
 )
 # The words of the statuses 1 to 3 of wkt_infer.
 HEADER_MESSAGES = (
@@ -99,4 +101,6 @@ TOO_LARGE = 25
 NOT_ARRAYS = 26
 NOT_COLUMN = 27
 NULL = 28
+ACCEPTED = 29
+NOT_WHOLE = 30
 # names.py: end

@@ -1,7 +1,7 @@
 """The arguments of the functions: what each takes, and what it refuses."""
 import array
 import operator
-from typing import Any, Optional, Union
+from typing import Any, NamedTuple, Optional, Union
 
 from ._errors import WktError, words_of
 from ._names import NO_PLACES
@@ -16,7 +16,10 @@ Text = Union[str, bytes, bytearray, memoryview]
 TEXTS = (str, bytes, bytearray, memoryview)
 # Of each kind of integers the type of an item in NumPy, the least and the largest.
 INTEGERS = {"q": ("int64", -(2**63), 2**63 - 1), "Q": ("uint64", 0, 2**64 - 1), "I": ("uint32", 0, 2**32 - 1)}
+# The same types as NumPy has them.
+_TYPES = {code: numpy.dtype(name) for code, (name, _, _) in INTEGERS.items()} if numpy is not None else {}
 _NULLS = ("NAType", "NaTType")
+WHOLE = 256  # WKT_WHOLE of include/wkt.h
 
 
 def encoded(text: Any, row: Optional[int] = None) -> bytes:
@@ -52,14 +55,21 @@ def integer(value: Any, what: str) -> int:
         raise TypeError("%s is an int, and not %s" % (what, type(value).__name__)) from None
 
 
-def places_of(places: Any) -> int:
-    """The places of a call: a TypeError unless it is an int, an OverflowError unless 32 bits hold it."""
+def places_of(places: Any, whole: Any = False) -> int:
+    """The places of a call: a TypeError unless it is an int, an OverflowError unless 32 bits hold it.
+
+    `whole` is added as a bit: each text is to be one geometry as a whole.
+    """
+    if type(places) is int and 0 <= places <= 18 and whole is False:
+        return places
+    if not isinstance(whole, bool):
+        raise TypeError("whole is a bool, and not %s" % type(whole).__name__)
     places = integer(places, "places")
     if not 0 <= places < 2**32:
         raise OverflowError("places is 0 to 18, and not %d" % places)
     if places > 18:
         raise WktError(NO_PLACES, words_of(NO_PLACES))
-    return int(places)
+    return int(places) | (WHOLE if whole else 0)
 
 
 def _too_large(code: str, value: Any, what: str) -> OverflowError:
@@ -67,17 +77,25 @@ def _too_large(code: str, value: Any, what: str) -> OverflowError:
     return OverflowError("%s are of %d to %d, and not %s" % (what, least, most, value))
 
 
-def _of_numpy(code: str, values: Any, what: str) -> Any:
+class Ints(NamedTuple):
+    """A copy of some ints: bytes or an array of `array`, and how many they are."""
+
+    data: Any
+    length: int
+
+
+def _of_numpy(code: str, values: Any, what: str) -> Ints:
     if values.dtype.kind not in "iu":
         raise TypeError("%s are integers, and not of %s" % (what, values.dtype))
-    name, least, most = INTEGERS[code]
+    if values.dtype is _TYPES[code]:
+        return Ints(values.tobytes(), values.size)
     # A copy, so that nothing changes them between this check and the end of the call.
-    values = numpy.array(values, order="C").reshape(-1)
-    if values.size and values.dtype != name:
+    values, (_, least, most) = numpy.array(values), INTEGERS[code]
+    if values.size:
         for value in (int(values.min()), int(values.max())):
             if not least <= value <= most:
                 raise _too_large(code, value, what)
-    return values.astype(name, copy=False)
+    return Ints(values.astype(_TYPES[code]).tobytes(), values.size)
 
 
 def _listed(values: Any, what: str) -> Any:
@@ -91,17 +109,18 @@ def _listed(values: Any, what: str) -> Any:
     return values.tolist() if hasattr(values, "tolist") else list(values)
 
 
-def integers(code: str, values: Any, what: str) -> Any:
-    """A copy of some ints as an array of one type, of NumPy where that is installed.
+def integers(code: str, values: Any, what: str) -> Ints:
+    """A copy of some ints, each of the type that a code names.
 
     A TypeError where one is no int (a float, a bool, a Decimal, a str), an OverflowError where one is out of range.
     """
-    if numpy is not None:
-        if hasattr(values, "to_numpy"):
+    if numpy is not None and type(values) is not list:
+        if not isinstance(values, numpy.ndarray) and hasattr(values, "to_numpy"):
             values = values.to_numpy()
         if isinstance(values, numpy.ndarray) and values.dtype.kind != "O":
             return _of_numpy(code, values, what)
-    values = _listed(values, what)
+    if type(values) is not list:
+        values = _listed(values, what)
     # Nearly always all are ints; others are looked at one by one.
     if set(map(type, values)) - {int}:
         values = [integer(value, "each of the %s" % what) for value in values]
@@ -110,18 +129,18 @@ def integers(code: str, values: Any, what: str) -> Any:
     except OverflowError:
         least, most = INTEGERS[code][1:]
         raise _too_large(code, next(it for it in values if not least <= it <= most), what) from None
-    return held if numpy is None else numpy.array(held, INTEGERS[code][0])
+    return Ints(held, len(held))
 
 
 def zeros(code: str, length: int) -> Any:
     """An array for a call to fill."""
     if numpy is not None:
-        return numpy.zeros(length, INTEGERS[code][0])
+        return numpy.zeros(length, _TYPES[code])
     return array.array(code, bytes(array.array(code).itemsize * length))
 
 
 def address(values: Any) -> int:
-    """Where an array of `zeros` or `integers` begins."""
+    """Where an array of `zeros` or of `array` begins."""
     if isinstance(values, array.array):
         return values.buffer_info()[0]
-    return int(values.ctypes.data)
+    return int(values.__array_interface__["data"][0])

@@ -2,7 +2,7 @@
 #![allow(dead_code)]
 // names.py: rust (tests/names.py --write makes this of docs/names.tsv)
 /// The words of a status, at its number.
-pub const MESSAGES: [&str; 29] = [
+pub const MESSAGES: [&str; 31] = [
     "",
     "Invalid WKT format",
     "Encountered non-ascii word",
@@ -32,6 +32,8 @@ pub const MESSAGES: [&str; 29] = [
     "The arrays are of no geometry",
     "The offsets, the bits or the sizes are of no column",
     "The row is null",
+    "The text is not refused",
+    "More than white space follows the geometry",
 ];
 /// The words of the statuses 1 to 3 of wkt_infer.
 pub const HEADER_MESSAGES: [&str; 4] = [
@@ -100,4 +102,8 @@ pub const NOT_ARRAYS: u32 = 26;
 pub const NOT_COLUMN: u32 = 27;
 /// The row is null.
 pub const NULL: u32 = 28;
+/// The text is not refused.
+pub const ACCEPTED: u32 = 29;
+/// More than white space follows the geometry.
+pub const NOT_WHOLE: u32 = 30;
 // names.py: end

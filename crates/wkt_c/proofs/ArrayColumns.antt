@@ -1,9 +1,11 @@
 -- The arrays of a column, row after row.
-use Rattle.std.proofs.Common.{◌≡◌, ◌≢◌, ◌+◌, ◌<◌, inl, inr, ℕ, ℤ, List, [], Bool, true, false, length, refl, sym, ap, ◌∙◌, subst, arith, below_more}
+use Rattle.std.proofs.Common.{◌≡◌, ◌≢◌, ◌+◌, ◌<◌, inl, inr, ℕ, ℤ, List, [], Bool, true, false, length, drop, refl, sym, ap, ◌∙◌, subst, arith, below_more}
 use Rattle.std.specs.List.{slice_index}
 use Rattle.wkt_c.specs.Column.{row, is_null}
-use Rattle.wkt_c.specs.Arrays.{AreOf, IsNotFlat}
-use Rattle.wkt_c.specs.ColumnArrays.{RowArrays, row_arrays, IsRowArrays}
+use Rattle.wkt_num.specs.Bytes.{AllWhite}
+use Rattle.wkt_c.specs.Answer.{EndsAsAsked}
+use Rattle.wkt_c.specs.Arrays.{AreOf}
+use Rattle.wkt_c.specs.ColumnArrays.{RowArrays, row_arrays, HasNothing, HasNoRowArrays, IsRowArrays}
 use Rattle.wkt_c.specs.ArrayRows.{held_arrays, HoldsNoArrays, AddsArrays, AddsRowArrays, HoldsArrays, row_of}
 use Rattle.wkt_c.specs.declared.column_arrays.ArrayRows.{ArrayRows}
 use Rattle.wkt_c.proofs.Columns.{no-list, longer, old-list, new-list, old-word, new-word, more-words}
@@ -15,8 +17,8 @@ same-row k k' d d' ns ns' rs rs' ps ps' ek ed en er ep =
     ap (λ x. row_of x d ns rs ps) ek ∙ ap (λ x. row_of k' x ns rs ps) ed ∙ ap (λ x. row_of k' d' x rs ps) en
     ∙ ap (λ x. row_of k' d' ns' x ps) er ∙ ap (λ x. row_of k' d' ns' rs' x) ep
 
-module _ (places : ℕ) (texts offsets valid : List ℕ) where
-  pub no-arrays-yet : (r : ArrayRows) → HoldsNoArrays r → HoldsArrays places texts offsets valid 0 r
+module _ (places : ℕ) (whole : Bool) (texts offsets valid : List ℕ) where
+  pub no-arrays-yet : (r : ArrayRows) → HoldsNoArrays r → HoldsArrays places whole texts offsets valid 0 r
   no-arrays-yet r h = record {
     numbers_joined = no-list r.numbers h.no_numbers;
     rings_joined = no-list r.rings h.no_rings;
@@ -27,7 +29,7 @@ module _ (places : ℕ) (texts offsets valid : List ℕ) where
     answers = λ i lt. absurd (omega (arith, lt));
   }
 
-  module _ (i : ℕ) (r : RowArrays) (status : ℕ) (a b : ArrayRows) (are : HoldsArrays places texts offsets valid i a) (adds : AddsArrays r status a b) where
+  module _ (i : ℕ) (r : RowArrays) (status : ℕ) (a b : ArrayRows) (are : HoldsArrays places whole texts offsets valid i a) (adds : AddsArrays r status a b) where
     old-row : (k : ℕ) → k < i → row_arrays (held_arrays a) k ≡ row_arrays (held_arrays b) k
     old-row k lt =
         same-row _ _ _ _ _ _ _ _ _ _
@@ -46,7 +48,7 @@ module _ (places : ℕ) (texts offsets valid : List ℕ) where
         (new-list i r.rings a.rings b.rings are.rings_joined adds.rings_added)
         (new-list i r.polygons a.polygons b.polygons are.polygons_joined adds.polygons_added)
 
-    pub one-row-more : IsRowArrays places (is_null valid i) (row texts offsets i) r status → HoldsArrays places texts offsets valid (i + 1) b
+    pub one-row-more : IsRowArrays places whole (is_null valid i) (row texts offsets i) r status → HoldsArrays places whole texts offsets valid (i + 1) b
     one-row-more is = record {
       kinds_size = more-words a.kinds.items b.kinds.items r.kind i adds.kind_added are.kinds_size;
       dimensions_size = more-words a.dimensions.items b.dimensions.items r.dimension i adds.dimension_added are.dimensions_size;
@@ -54,49 +56,51 @@ module _ (places : ℕ) (texts offsets valid : List ℕ) where
       rings_joined = longer i r.rings a.rings b.rings are.rings_joined adds.rings_added;
       polygons_joined = longer i r.polygons a.polygons b.polygons are.polygons_joined adds.polygons_added;
       statuses_size = more-words a.statuses.items b.statuses.items status i adds.status_added are.statuses_size;
-      answers = below_more (λ k. IsRowArrays places (is_null valid k) (row texts offsets k) (row_arrays (held_arrays b) k) (slice_index b.statuses.items k)) i
-          (λ k lt. subst (λ s. IsRowArrays places (is_null valid k) (row texts offsets k) (row_arrays (held_arrays b) k) s)
+      answers = below_more (λ k. IsRowArrays places whole (is_null valid k) (row texts offsets k) (row_arrays (held_arrays b) k) (slice_index b.statuses.items k)) i
+          (λ k lt. subst (λ s. IsRowArrays places whole (is_null valid k) (row texts offsets k) (row_arrays (held_arrays b) k) s)
           (old-word a.statuses.items b.statuses.items status k adds.status_added (omega (arith, are.statuses_size, lt)))
-          (subst (λ x. IsRowArrays places (is_null valid k) (row texts offsets k) x (slice_index a.statuses.items k)) (old-row k lt) (are.answers k lt)))
-          (subst (λ s. IsRowArrays places (is_null valid i) (row texts offsets i) (row_arrays (held_arrays b) i) s)
+          (subst (λ x. IsRowArrays places whole (is_null valid k) (row texts offsets k) x (slice_index a.statuses.items k)) (old-row k lt) (are.answers k lt)))
+          (subst (λ s. IsRowArrays places whole (is_null valid i) (row texts offsets i) (row_arrays (held_arrays b) i) s)
           (new-word a.statuses.items b.statuses.items status i adds.status_added are.statuses_size)
-          (subst (λ x. IsRowArrays places (is_null valid i) (row texts offsets i) x status) new-row is));
+          (subst (λ x. IsRowArrays places whole (is_null valid i) (row texts offsets i) x status) new-row is));
     }
 
 -- ---- what a row is answered with
 
-pub null-arrays : (places : ℕ) (null : Bool) (text : List ℕ) (a b : ArrayRows) → null ≡ true → AddsArrays (row_of 0 0 [] [] []) 28 a b → AddsRowArrays places null text a b
-null-arrays places null text a b n adds = record {
-  row = row_of 0 0 [] [] [];
-  status = 28;
-  is = inl (n, (refl, record { no_kind = refl; no_dimension = refl; no_numbers = refl; no_rings = refl; no_polygons = refl }));
-  added = adds;
-}
+nothing : HasNothing (row_of 0 0 [] [] [])
+nothing = record { no_kind = refl; no_dimension = refl; no_numbers = refl; no_rings = refl; no_polygons = refl }
 
-pub refused-arrays : (places : ℕ) (null : Bool) (text : List ℕ) (status : ℕ) (a b : ArrayRows) → null ≡ false → status ≢ 22 → IsNotFlat places text status →
-    AddsArrays (row_of 0 0 [] [] []) status a b → AddsRowArrays places null text a b
-refused-arrays places null text status a b n m why adds = record {
-  row = row_of 0 0 [] [] [];
-  status = status;
-  is = inr (n, inr (record { no_kind = refl; no_dimension = refl; no_numbers = refl; no_rings = refl; no_polygons = refl }, (m, why)));
-  added = adds;
-}
+module _ (places : ℕ) (whole null : Bool) (text : List ℕ) (a b : ArrayRows) where
+  pub null-arrays : null ≡ true → AddsArrays (row_of 0 0 [] [] []) 28 a b → AddsRowArrays places whole null text a b
+  null-arrays n adds = record { row = row_of 0 0 [] [] []; status = 28; is = inl (n, (refl, nothing)); added = adds }
 
-pub text-arrays : (places : ℕ) (null : Bool) (text : List ℕ) (end kind dimension : ℕ) (ns ns' : List ℤ) (rs rs' ps ps' : List ℕ) (a b : ArrayRows) → null ≡ false →
-    AreOf places text end kind dimension ns rs ps → ns' ≡ ns → rs' ≡ rs → ps' ≡ ps → AddsArrays (row_of kind dimension ns' rs' ps') 0 a b → AddsRowArrays places null text a b
-text-arrays places null text end kind dimension ns ns' rs rs' ps ps' a b n are en er ep adds = record {
-  row = row_of kind dimension ns' rs' ps';
-  status = 0;
-  is = inr (
-    n,
-    inl (
-      refl,
-      (
-        end,
-        subst (λ xs. AreOf places text end kind dimension xs rs' ps') (sym en)
-            (subst (λ xs. AreOf places text end kind dimension ns xs ps') (sym er) (subst (λ xs. AreOf places text end kind dimension ns rs xs) (sym ep) are)),
+  pub refused-arrays : (status : ℕ) → null ≡ false → HasNoRowArrays places whole text status → AddsArrays (row_of 0 0 [] [] []) status a b → AddsRowArrays places whole null text a b
+  refused-arrays status n why adds = record { row = row_of 0 0 [] [] []; status = status; is = inr (n, inr (nothing, why)); added = adds }
+
+  pub text-arrays : (end kind dimension : ℕ) (ns ns' : List ℤ) (rs rs' ps ps' : List ℕ) → null ≡ false →
+      AreOf places text end kind dimension ns rs ps → EndsAsAsked whole text end → ns' ≡ ns → rs' ≡ rs → ps' ≡ ps → AddsArrays (row_of kind dimension ns' rs' ps') 0 a b →
+      AddsRowArrays places whole null text a b
+  text-arrays end kind dimension ns ns' rs rs' ps ps' n are ends en er ep adds = record {
+    row = row_of kind dimension ns' rs' ps';
+    status = 0;
+    is = inr (
+      n,
+      inl (
+        refl,
+        record {
+          end = end;
+          arrays =
+              subst (λ xs. AreOf places text end kind dimension xs rs' ps') (sym en)
+              (subst (λ xs. AreOf places text end kind dimension ns xs ps') (sym er) (subst (λ xs. AreOf places text end kind dimension ns rs xs) (sym ep) are));
+          as_asked = ends;
+        },
       ),
-    ),
-  );
-  added = adds;
-}
+    );
+    added = adds;
+  }
+
+  -- there is more in it than is asked for
+  pub longer-arrays : (end kind dimension : ℕ) (ns : List ℤ) (rs ps : List ℕ) → null ≡ false → AreOf places text end kind dimension ns rs ps → whole ≡ true → (AllWhite (drop end text) → ⊥) →
+      AddsArrays (row_of 0 0 [] [] []) 30 a b → AddsRowArrays places whole null text a b
+  longer-arrays end kind dimension ns rs ps n are asked more adds =
+      refused-arrays 30 n (inr (refl, (end, record { asked = asked; utf8 = are.utf8; value = are.value; front = are.front; more = more }))) adds

@@ -1,10 +1,11 @@
 -- The answers to a column, row after row.
-use Rattle.std.proofs.Common.{◌≡◌, ◌≢◌, ◌+◌, ◌-◌, ◌<◌, ◌≤◌, ◌++◌, inl, inr, ℕ, zero, suc, List, [], ◌∷◌, Option, Bool, length, take, drop, slice_range, refl, sym, ap, ◌∙◌, subst, arith, true, false, add-zero, below_more, take_all, length-append, length-drop}
+use Rattle.std.proofs.Common.{◌≡◌, ◌+◌, ◌-◌, ◌<◌, ◌≤◌, ◌++◌, inl, inr, ℕ, zero, suc, List, [], ◌∷◌, Option, Bool, length, take, drop, slice_range, refl, sym, ap, ◌∙◌, subst, arith, true, false, add-zero, below_more, take_all, length-append, length-drop}
 use Rattle.std.specs.List.{slice_index}
 use Rattle.std.proofs.lemmas.List.{take-append-le, drop-append-le, get_or_append_left}
 use Rattle.std.proofs.Math.Seq.{drop-append_seam, get_or-append_seam}
-use Rattle.wkt_c.specs.Answer.{IsCanonical, Refuses}
-use Rattle.wkt_c.specs.Column.{row_count, row, AreOffsets, AreJoined}
+use Rattle.wkt_num.specs.Bytes.{AllWhite}
+use Rattle.wkt_c.specs.Answer.{IsCanonical, EndsAsAsked}
+use Rattle.wkt_c.specs.Column.{row_count, row, AreOffsets, AreJoined, HasNoAnswer}
 use Rattle.wkt_c.specs.Joining.{HoldsNoList, AddsList}
 use Rattle.wkt_c.specs.Rows.{HoldsNoRow, AddsRow, HoldsRows, AddsTextAnswer}
 use Rattle.wkt_c.specs.declared.joined.Joined.{Joined}
@@ -148,15 +149,24 @@ module _ (IsRow : ℕ → List ℕ → ℕ → Type 0) where
         (subst (λ xs. IsRow i xs status) (new-list i text a.texts b.texts are.joined adds.text_added) is));
   }
 
-module _ {N : Type 0} (read : List ℕ → Option N) (num : N → List ℕ) where
-  pub null-row : (null : Bool) (text : List ℕ) (a b : Rows) → null ≡ true → AddsRow [] 28 a b → AddsTextAnswer read num null text a b
-  null-row null text a b n adds = record { text = []; status = 28; is = inl (n, (refl, refl)); added = adds }
+module _ {N : Type 0} (whole : Bool) (read : List ℕ → Option N) (num : N → List ℕ) (null : Bool) (text : List ℕ) (a b : Rows) where
+  pub null-row : null ≡ true → AddsRow [] 28 a b → AddsTextAnswer whole read num null text a b
+  null-row n adds = record { text = []; status = 28; is = inl (n, (refl, refl)); added = adds }
 
-  pub text-row : (null : Bool) (text answer given : List ℕ) (end : ℕ) (a b : Rows) → null ≡ false → IsCanonical read num text answer end → given ≡ answer → AddsRow given 0 a b →
-      AddsTextAnswer read num null text a b
-  text-row null text answer given end a b n is e adds =
-      record { text = given; status = 0; is = inr (n, inl (refl, (end, subst (λ xs. IsCanonical read num text xs end) (sym e) is))); added = adds }
+  pub text-row : (answer given : List ℕ) (end : ℕ) → null ≡ false → IsCanonical read num text answer end → EndsAsAsked whole text end → given ≡ answer → AddsRow given 0 a b →
+      AddsTextAnswer whole read num null text a b
+  text-row answer given end n is ends e adds = record {
+    text = given;
+    status = 0;
+    is = inr (n, inl (refl, record { end = end; canonical = subst (λ xs. IsCanonical read num text xs end) (sym e) is; as_asked = ends }));
+    added = adds;
+  }
 
-  pub refused-row : (null : Bool) (text : List ℕ) (status : ℕ) (a b : Rows) → null ≡ false → status ≢ 22 → Refuses read text status → AddsRow [] status a b →
-      AddsTextAnswer read num null text a b
-  refused-row null text status a b n m why adds = record { text = []; status = status; is = inr (n, inr (refl, (m, why))); added = adds }
+  pub refused-row : (status : ℕ) → null ≡ false → HasNoAnswer whole read num text status → AddsRow [] status a b → AddsTextAnswer whole read num null text a b
+  refused-row status n why adds = record { text = []; status = status; is = inr (n, inr (refl, why)); added = adds }
+
+  -- there is more in it than is asked for
+  pub longer-row : (answer : List ℕ) (end : ℕ) → null ≡ false → IsCanonical read num text answer end → whole ≡ true → (AllWhite (drop end text) → ⊥) → AddsRow [] 30 a b →
+      AddsTextAnswer whole read num null text a b
+  longer-row answer end n is asked more adds =
+      refused-row 30 n (inr (refl, (end, record { asked = asked; utf8 = is.utf8; value = is.value; front = is.front; more = more }))) adds

@@ -1,6 +1,6 @@
 -- What is handed out of what was read and written.
 use Rattle.std.proofs.Common.{◌≡◌, ◌↔◌, inl, inr, refl, sym, ap, ◌∙◌, subst, arith, ℕ, ℤ, List, Option, Result, Ok, Err, MatchResult, IfOk, IfErr, length}
-use Rattle.std.specs.Prelude.{Some, None}
+use Rattle.std.specs.Prelude.{Some, None, IsUtf8}
 use Rattle.std.proofs.lemmas.List.{append-nil}
 use Rattle.std.specs.List.{All, Contains}
 use Rattle.std.proofs.lemmas.List.Elements.{All-contains}
@@ -17,16 +17,28 @@ use Rattle.wkt_read.specs.Kinds.{kind_of, dim_of}
 use Rattle.wkt_read.specs.Front.{Front}
 use Rattle.wkt_read.specs.Laws.{ReadsBack}
 use Rattle.wkt_c.specs.Answer.{Refuses, IsWritten, kind_number, dimension_number, read_at}
-use Rattle.wkt_c.specs.Arrays.{parts_of, joined, numbers_in, offsets, AreArrays, IsTextOf, IsNotFlat, HasLarge, HasLargeNumber}
+use Rattle.wkt_c.specs.Arrays.{parts_of, joined, numbers_in, offsets, AreArrays, IsTextOf, HasLarge}
 use Rattle.wkt_c.specs.Growing.{HoldsAll, IsUnheld, AreSame}
 use Rattle.wkt_c.specs.declared.arrays.Arrays.{Arrays}
 
 pub out_of_memory : {N : Type 0} (read : List ℕ → Option N) (text : List ℕ) (status : ℕ) → status ≡ 22 → Refuses read text status
 out_of_memory read text status e = record {
   no_front = λ _ h. absurd (omega (arith, e, h));
+  message = λ _ h. absurd (omega (arith, e, h));
   bad = λ h. absurd (omega (arith, e, h));
   not_utf8 = λ h _. absurd (omega (arith, e, h));
   others = inr (inr e);
+  some = omega (arith, e);
+}
+
+-- a text that isn't UTF-8
+pub no-text : {N : Type 0} (read : List ℕ → Option N) (text : List ℕ) (status : ℕ) → status ≡ 20 → (IsUtf8 text → ⊥) → Refuses read text status
+no-text read text status e bad = record {
+  no_front = λ _ h. absurd (omega (arith, e, h));
+  message = λ _ h. absurd (omega (arith, e, h));
+  bad = λ h. absurd (omega (arith, e, h));
+  not_utf8 = λ _ u. bad u;
+  others = inr (inl e);
   some = omega (arith, e);
 }
 
@@ -64,21 +76,14 @@ arrays-of a t value kind dimension e (parts, flat, holds) k d = record {
   polygons_are = holds.polygons;
 }
 
--- why there are none
-pub no-arrays : (places status end : ℕ) (text : List ℕ) (t : Tree ℤ) (value : Value ℤ) → Front (read_at places) text value end → value_of t ≡ value →
-    IsUnheld (value_of t) status → IsNotFlat places text status
-no-arrays places status end text t value front e h = elim h [
-  | inl m ↦ inr (inr (out_of_memory (read_at places) text status m))
-  | inr k ↦ inr (inl (record { value = value; end = end; front = front; why = elim k [ inl c ↦ inl (c.0, sym (ap parts_of e) ∙ c.1) | inr l ↦ inr (l.0, subst HasLargeNumber e l.1) ] }))
-]
-
 -- the text of a tree whose arrays these are
 pub text-of : (D kind dimension : ℕ) (a : Arrays) (t : Tree ℤ) (numbers : List ℤ) (rings polygons text : List ℕ) (is_value : ℤ → Type 0) →
-    AreArrays (value_of t) kind dimension a.numbers.items a.rings.items a.polygons.items → AreSame a numbers rings polygons →
+    IsWellFormed (IsUnits D) (value_of t) → AreArrays (value_of t) kind dimension a.numbers.items a.rings.items a.polygons.items → AreSame a numbers rings polygons →
     ReadsBack is_value (decimal_text D) (read_decimal 127 36 D) → IsWritten is_value (decimal_text D) (tree_shape t) text →
     IsTextOf D kind dimension numbers rings polygons text
-text-of D kind dimension a t numbers rings polygons text is_value are same back w = record {
+text-of D kind dimension a t numbers rings polygons text is_value fits are same back w = record {
   value = value_of t;
+  fits = fits;
   arrays = record {
     parts = are.parts;
     flat = are.flat;

@@ -1,5 +1,4 @@
 pub mod Large
-pub mod Growth
 pub mod Offsets
 pub mod Refused
 pub mod PartsOf
@@ -10,3 +9,9 @@ pub mod Answering
 pub mod Columns
 pub mod ArrayColumns
 pub mod TextColumns
+pub mod Filled
+pub mod Fitting
+pub mod Pieces
+pub mod Calls
+pub mod Blames
+pub mod Blanks

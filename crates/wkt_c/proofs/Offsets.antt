@@ -3,7 +3,7 @@ use Rattle.std.proofs.Common.{◌≡◌, ◌+◌, ◌*◌, ◌-◌, ◌++◌, �
 use Rattle.std.specs.List.{All, AllByRecursion, slice_index, slice_index_or}
 use Rattle.std.proofs.lemmas.List.Folds.{length-flat_map-take}
 use Rattle.wkt_access.specs.declared.dimensions.Dimension.TheVariants.{XY, XYZ, XYM, XYZM}
-use Rattle.wkt_c.proofs.Growth.{joined-push}
+use Rattle.wkt_fill.proofs.Growth.{joined-push}
 use Rattle.std.proofs.lemmas.List.{drop_more, take_at, drop_at, take_more, take_all, length-append, drop-drop}
 use Rattle.std.proofs.lemmas.List.Concat.{get_or-flat_map, flat_map-append}
 use Rattle.wkt_access.specs.Values.{size}

@@ -7,7 +7,7 @@ use Rattle.wkt_access.specs.Values.{Value}
 use Rattle.wkt_c.specs.Arrays.{parts_of, joined, numbers_in, offsets}
 use Rattle.wkt_c.specs.Growing.{Holds, Begins, AddsRings, Closes, AddsPolygons, HoldsAll}
 use Rattle.wkt_c.specs.declared.arrays.Arrays.{Arrays}
-use Rattle.wkt_c.proofs.Growth.{ring-numbers, ring-offsets, ring-count, ring-rings, closed-rings, closed-offsets}
+use Rattle.wkt_fill.proofs.Growth.{ring-numbers, ring-offsets, ring-count, ring-rings, closed-rings, closed-offsets}
 
 -- one ring more
 pub ring-added : (a b : Arrays) (ring : List (List ℤ)) →

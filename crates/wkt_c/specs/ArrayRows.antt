@@ -40,12 +40,12 @@ abbrev pub row_of : ℕ → ℕ → List ℤ → List ℕ → List ℕ → RowAr
 row_of k d ns rs ps = record { kind = k; dimension = d; numbers = ns; rings = rs; polygons = ps }
 
 -- The arrays of a row were added.
-pub record AddsRowArrays (places : ℕ) (null : Bool) (text : List ℕ) (a b : ArrayRows) : Type 0 where
+pub record AddsRowArrays (places : ℕ) (whole null : Bool) (text : List ℕ) (a b : ArrayRows) : Type 0 where
   pub row : RowArrays
   pub status : ℕ
-  pub is : IsRowArrays places null text row status
+  pub is : IsRowArrays places whole null text row status
   pub added : AddsArrays row status a b
 
 -- These are the arrays of so many first rows.
-abbrev pub HoldsArrays : ℕ → List ℕ → List ℕ → List ℕ → ℕ → ArrayRows → Type 0
-HoldsArrays places texts offsets valid rows r = AreRowArrays places texts offsets valid rows (held_arrays r) r.statuses.items
+abbrev pub HoldsArrays : ℕ → Bool → List ℕ → List ℕ → List ℕ → ℕ → ArrayRows → Type 0
+HoldsArrays places whole texts offsets valid rows r = AreRowArrays places whole texts offsets valid rows (held_arrays r) r.statuses.items

@@ -1,5 +1,5 @@
 -- A value as flat arrays.
-use Rattle.std.specs.Prelude.{◌≡◌, ◌+◌, ◌⊎◌, ℕ, ℤ, List, [], ◌∷◌, map, flat_map, length, Option, Some, None, option_to_list, IsUtf8}
+use Rattle.std.specs.Prelude.{◌≡◌, ◌+◌, ◌⊎◌, ℕ, ℤ, List, [], ◌∷◌, map, flat_map, length, Option, Some, None, option_to_list, IsUtf8, Bool}
 use Rattle.std.specs.List.{All, Contains}
 use Rattle.wkt_num.specs.Whole.{IsSigned}
 use Rattle.wkt_num.specs.Decimal.{IsUnits}
@@ -12,30 +12,8 @@ use Rattle.wkt_types.specs.Values.{point_numbers}
 use Rattle.wkt_types.specs.declared.coord.Coord.{Coord}
 use Rattle.wkt_read.specs.Front.{Front}
 use Rattle.wkt_read.specs.Kinds.{kind_of, dim_of}
-use Rattle.wkt_c.specs.Answer.{read_at, print_at, kind_number, dimension_number, HasNoPlaces, Refuses}
-
--- A value as polygons of rings of coordinates: a point is a ring of one coordinate or none, a line string a ring, and a multipoint a ring for each member; each but a multipolygon is one polygon. Collections are none.
-abbrev pub parts_of : {N : Type 0} → Value N → Option (List (List (List (List N))))
-parts_of (Value.point d c) = Some ((option_to_list c ∷ []) ∷ [])
-parts_of (Value.line_string d cs) = Some ((cs ∷ []) ∷ [])
-parts_of (Value.polygon d rings) = Some (rings ∷ [])
-parts_of (Value.multi_point d ps) = Some (map option_to_list ps ∷ [])
-parts_of (Value.multi_line_string d ls) = Some (ls ∷ [])
-parts_of (Value.multi_polygon d ps) = Some ps
-parts_of (Value.collection d vs) = None
-
--- Lists joined in order.
-abbrev pub joined : {A : Type 0} → List (List A) → List A
-joined xss = flat_map (λ xs. xs) xss
-
--- The running totals of the lengths, from n on.
-abbrev pub offsets : {A : Type 0} → ℕ → List (List A) → List ℕ
-offsets n [] = n ∷ []
-offsets n (xs ∷ xss) = n ∷ offsets (n + length xs) xss
-
--- All numbers of some rings, in order.
-abbrev pub numbers_in : {N : Type 0} → List (List (List N)) → List N
-numbers_in rings = flat_map joined rings
+pub use Rattle.wkt_fill.specs.Arrays.{parts_of, joined, offsets, numbers_in, HasLarge, HasLargeNumber}
+use Rattle.wkt_c.specs.Answer.{read_at, print_at, kind_number, dimension_number, HasNoPlaces, Refuses, HasMore}
 
 -- The arrays of a value: its kind, its dimension, all its numbers in order, where each ring begins among the coordinates, and where each polygon begins among the rings, with the end of the last.
 pub record AreArrays {N : Type 0} (value : Value N) (kind dimension : ℕ) (numbers : List N) (rings polygons : List ℕ) : Type 0 where
@@ -55,16 +33,6 @@ pub record AreOf (places : ℕ) (text : List ℕ) (end kind dimension : ℕ) (nu
   pub fits : IsWellFormed (IsUnits places) value
   pub arrays : AreArrays value kind dimension numbers rings polygons
 
--- One of these numbers has more units than 64 bits hold, one of them for the sign.
-pub record HasLarge (numbers : List ℤ) : Type 0 where
-  pub number : ℤ
-  pub held : Contains numbers number
-  pub large : IsSigned 63 number → ⊥
-
--- So has one of all the numbers of this value.
-abbrev pub HasLargeNumber : Value ℤ → Type 0
-HasLargeNumber value = (parts : List (List (List (List ℤ)))) × (parts_of value ≡ Some parts) × HasLarge (numbers_in (joined parts))
-
 -- The front is a collection, or a number of it has more units than 64 bits hold.
 pub record IsNoArrays (places : ℕ) (text : List ℕ) (status : ℕ) : Type 0 where
   pub value : Value ℤ
@@ -72,9 +40,10 @@ pub record IsNoArrays (places : ℕ) (text : List ℕ) (status : ℕ) : Type 0 w
   pub front : Front (read_at places) text value end
   pub why : ((status ≡ 24) × (parts_of value ≡ None)) ⊎ ((status ≡ 25) × HasLargeNumber value)
 
--- The text is that of the value of these arrays, and reads back as its canonical value.
+-- The text is that of the value of these arrays, each of whose coordinates has as many numbers as the dimension says, and reads back as its canonical value.
 pub record IsTextOf (places kind dimension : ℕ) (numbers : List ℤ) (rings polygons text : List ℕ) : Type 0 where
   pub value : Value ℤ
+  pub fits : IsWellFormed (IsUnits places) value
   pub arrays : AreArrays value kind dimension numbers rings polygons
   pub is : text ≡ shape_text (print_at places) (shape_of value)
   pub reads : Front (read_at places) text (canon (shape_of value)) (length text)
@@ -82,6 +51,10 @@ pub record IsTextOf (places kind dimension : ℕ) (numbers : List ℤ) (rings po
 -- A point of a multipoint as a ring. Only private contracts cite this.
 abbrev pub member_numbers : {T : Type 0} → HeldPoint (Coord T) → List (List T)
 member_numbers p = option_to_list (point_numbers p)
+
+-- Whole texts are asked for, and more than white space follows the geometry that the text begins with, which ends here.
+abbrev pub HasMoreAt : ℕ → Bool → List ℕ → ℕ → Type 0
+HasMoreAt places whole text end = HasMore (read_at places) whole text end
 
 -- Why a text has no arrays: there are no numbers of so many places, its front is a collection, a number has more units than 64 bits hold, or the text is refused.
 abbrev pub IsNotFlat : ℕ → List ℕ → ℕ → Type 0

@@ -1,7 +1,7 @@
 -- A column of texts at once: all their bytes in a row, and where each text begins in them, with the end of the last.
 use Rattle.std.specs.Prelude.{◌≡◌, ◌<◌, ◌≤◌, ◌≢◌, ◌+◌, ◌-◌, ◌*◌, ◌/◌, ◌%◌, ◌^◌, ◌⊎◌, ℕ, List, [], Option, Bool, true, false, length, nat_eq, if◌then◌else◌}
 use Rattle.std.specs.List.{slice_index, slice_range}
-use Rattle.wkt_c.specs.Answer.{read_at, print_at, IsCanonical, Refuses, HasNoPlaces}
+use Rattle.wkt_c.specs.Answer.{read_at, print_at, places_in, asks_whole, EndsAsAsked, IsCanonical, Refuses, HasMore, HasNoPlaces}
 
 -- How many texts these offsets are of.
 abbrev pub row_count : List ℕ → ℕ
@@ -49,11 +49,20 @@ pub record IsColumn (texts offsets valid out_offsets statuses : List ℕ) : Type
   pub offsets_fit : length out_offsets ≡ length offsets
   pub statuses_fit : length statuses ≡ row_count offsets
 
-module _ {N : Type 0} (read : List ℕ → Option N) (num : N → List ℕ) where
-  -- A text is answered with 0 and its canonical text, or with no byte and why it is refused.
+module _ {N : Type 0} (whole : Bool) (read : List ℕ → Option N) (num : N → List ℕ) where
+  -- A text is answered with 0 and its canonical text.
+  pub record HasAnswer (text answer : List ℕ) : Type 0 where
+    pub end : ℕ
+    pub canonical : IsCanonical read num text answer end
+    pub as_asked : EndsAsAsked whole text end
+
+  -- Why a text has none: it is refused, or there is more in it than is asked for.
+  abbrev pub HasNoAnswer : List ℕ → ℕ → Type 0
+  HasNoAnswer text status = ((status ≢ 22) × Refuses read text status) ⊎ ((status ≡ 30) × ((end : ℕ) × HasMore read whole text end))
+
+  -- A text is answered with 0 and its canonical text, or with no byte and why it has none.
   abbrev pub IsTextAnswer : List ℕ → List ℕ → ℕ → Type 0
-  IsTextAnswer text answer status =
-      ((status ≡ 0) × ((end : ℕ) × IsCanonical read num text answer end)) ⊎ ((answer ≡ []) × ((status ≢ 22) × Refuses read text status))
+  IsTextAnswer text answer status = ((status ≡ 0) × HasAnswer text answer) ⊎ ((answer ≡ []) × HasNoAnswer text status)
 
   -- A null row is answered with 28 and no byte.
   abbrev pub IsRowAnswer : Bool → List ℕ → List ℕ → ℕ → Type 0
@@ -65,12 +74,12 @@ module _ {N : Type 0} (read : List ℕ → Option N) (num : N → List ℕ) wher
   AreAnswers texts offsets valid rows bytes ends statuses =
       AreRows (λ i answer status. IsRowAnswer (is_null valid i) (row texts offsets i) answer status) rows bytes ends statuses
 
--- The same for all rows, with decimals of so many places.
+-- The same for all rows, as asked for: with decimals of so many places, and whole texts or not.
 abbrev pub AreColumnAnswers : ℕ → List ℕ → List ℕ → List ℕ → List ℕ → List ℕ → List ℕ → Type 0
-AreColumnAnswers places texts offsets valid bytes ends statuses =
-    AreAnswers (read_at places) (print_at places) texts offsets valid (row_count offsets) bytes ends statuses
+AreColumnAnswers asked texts offsets valid bytes ends statuses =
+    AreAnswers (asks_whole asked) (read_at (places_in asked)) (print_at (places_in asked)) texts offsets valid (row_count offsets) bytes ends statuses
 
 -- Why a column has no answers: there are no numbers of so many places, memory ran out, or the sizes or offsets are of no column.
 abbrev pub IsNoColumn : ℕ → List ℕ → List ℕ → List ℕ → List ℕ → List ℕ → ℕ → Type 0
-IsNoColumn places texts offsets valid out_offsets statuses status =
-    HasNoPlaces places status ⊎ ((status ≡ 22) ⊎ ((status ≡ 27) × (IsColumn texts offsets valid out_offsets statuses → ⊥)))
+IsNoColumn asked texts offsets valid out_offsets statuses status =
+    HasNoPlaces (places_in asked) status ⊎ ((status ≡ 22) ⊎ ((status ≡ 27) × (IsColumn texts offsets valid out_offsets statuses → ⊥)))

@@ -1,8 +1,8 @@
 -- The arrays of a column of texts, and the texts of a column of arrays.
 use Rattle.std.specs.Prelude.{◌≡◌, ◌<◌, ◌≢◌, ◌+◌, ◌⊎◌, ℕ, ℤ, List, [], Bool, true, false, length}
 use Rattle.std.specs.List.{slice_index}
-use Rattle.wkt_c.specs.Answer.{HasNoPlaces, with_front}
-use Rattle.wkt_c.specs.Arrays.{AreOf, IsNotFlat, IsTextOf, IsNoTextAt}
+use Rattle.wkt_c.specs.Answer.{places_in, asks_whole, EndsAsAsked, HasNoPlaces, with_front}
+use Rattle.wkt_c.specs.Arrays.{AreOf, HasMoreAt, IsNotFlat, IsTextOf, IsNoTextAt}
 use Rattle.wkt_c.specs.Column.{row_count, row, is_null, AreOffsets, AreJoined, AreRows, HasBits, IsColumn}
 use Rattle.wkt_c.specs.declared.sizes.WktColumnSizes.{WktColumnSizes}
 
@@ -56,29 +56,39 @@ pub record HasNothing (r : RowArrays) : Type 0 where
   pub no_rings : r.rings ≡ []
   pub no_polygons : r.polygons ≡ []
 
+-- A text is answered with 0 and with its arrays.
+pub record HasRowArrays (places : ℕ) (whole : Bool) (text : List ℕ) (r : RowArrays) : Type 0 where
+  pub end : ℕ
+  pub arrays : AreOf places text end r.kind r.dimension r.numbers r.rings r.polygons
+  pub as_asked : EndsAsAsked whole text end
+
+-- Why a text has none: as it has none alone, or there is more in it than is asked for.
+abbrev pub HasNoRowArrays : ℕ → Bool → List ℕ → ℕ → Type 0
+HasNoRowArrays places whole text status = ((status ≢ 22) × IsNotFlat places text status) ⊎ ((status ≡ 30) × ((end : ℕ) × HasMoreAt places whole text end))
+
 -- A text is answered with 0 and with its arrays, or with nothing and why it has none.
-abbrev pub IsTextArrays : ℕ → List ℕ → RowArrays → ℕ → Type 0
-IsTextArrays places text r status =
-    ((status ≡ 0) × ((end : ℕ) × AreOf places text end r.kind r.dimension r.numbers r.rings r.polygons))
-    ⊎ (HasNothing r × ((status ≢ 22) × IsNotFlat places text status))
+abbrev pub IsTextArrays : ℕ → Bool → List ℕ → RowArrays → ℕ → Type 0
+IsTextArrays places whole text r status = ((status ≡ 0) × HasRowArrays places whole text r) ⊎ (HasNothing r × HasNoRowArrays places whole text status)
 
 -- A null row is answered with 28 and nothing.
-abbrev pub IsRowArrays : ℕ → Bool → List ℕ → RowArrays → ℕ → Type 0
-IsRowArrays places null text r status = ((null ≡ true) × ((status ≡ 28) × HasNothing r)) ⊎ ((null ≡ false) × IsTextArrays places text r status)
+abbrev pub IsRowArrays : ℕ → Bool → Bool → List ℕ → RowArrays → ℕ → Type 0
+IsRowArrays places whole null text r status =
+    ((null ≡ true) × ((status ≡ 28) × HasNothing r)) ⊎ ((null ≡ false) × IsTextArrays places whole text r status)
 
 -- The arrays of so many first rows of a column, with their statuses: row i of the one are the arrays of row i of the other.
-pub record AreRowArrays (places : ℕ) (texts offsets valid : List ℕ) (rows : ℕ) (a : ColumnArrays) (statuses : List ℕ) : Type 0 where
+pub record AreRowArrays (places : ℕ) (whole : Bool) (texts offsets valid : List ℕ) (rows : ℕ) (a : ColumnArrays) (statuses : List ℕ) : Type 0 where
   pub kinds_size : length a.kinds ≡ rows
   pub dimensions_size : length a.dimensions ≡ rows
   pub numbers_joined : AreJoined rows a.numbers a.number_ends
   pub rings_joined : AreJoined rows a.rings a.ring_ends
   pub polygons_joined : AreJoined rows a.polygons a.polygon_ends
   pub statuses_size : length statuses ≡ rows
-  pub answers : (i : ℕ) → i < rows → IsRowArrays places (is_null valid i) (row texts offsets i) (row_arrays a i) (slice_index statuses i)
+  pub answers : (i : ℕ) → i < rows → IsRowArrays places whole (is_null valid i) (row texts offsets i) (row_arrays a i) (slice_index statuses i)
 
--- The same of all rows.
+-- The same of all rows, as asked for: with decimals of so many places, and whole texts or not.
 abbrev pub AreColumnArrays : ℕ → List ℕ → List ℕ → List ℕ → ColumnArrays → List ℕ → Type 0
-AreColumnArrays places texts offsets valid a statuses = AreRowArrays places texts offsets valid (row_count offsets) a statuses
+AreColumnArrays asked texts offsets valid a statuses =
+    AreRowArrays (places_in asked) (asks_whole asked) texts offsets valid (row_count offsets) a statuses
 
 -- What is told of the sizes.
 pub record AreColumnSizes (a : ColumnArrays) (s : WktColumnSizes) : Type 0 where
@@ -100,8 +110,8 @@ pub record FillColumn (a : ColumnArrays) (s : WktColumnSizes) (numbers : List �
 
 -- The arrays of all texts of a column stand in the buffers.
 abbrev pub AreFilled : ℕ → List ℕ → List ℕ → List ℕ → List ℕ → WktColumnSizes → List ℤ → List ℕ → List ℕ → ColumnArrays → Type 0
-AreFilled places texts offsets valid statuses sizes numbers rings polygons new =
-    (arrays : ColumnArrays) × AreColumnArrays places texts offsets valid arrays statuses × FillColumn arrays sizes numbers rings polygons new
+AreFilled asked texts offsets valid statuses sizes numbers rings polygons new =
+    (arrays : ColumnArrays) × AreColumnArrays asked texts offsets valid arrays statuses × FillColumn arrays sizes numbers rings polygons new
 
 -- One of the three buffers has no room; the sizes are told.
 pub record LackRoom (a : ColumnArrays) (s : WktColumnSizes) (old : ColumnArrays) : Type 0 where
@@ -118,8 +128,8 @@ pub record IsTextColumn (texts offsets valid : List ℕ) (b : ColumnArrays) (sta
 
 -- Why a column has no arrays: there are no numbers of so many places, memory ran out, or the sizes or offsets are of no column.
 abbrev pub HasNoArrays : ℕ → List ℕ → List ℕ → List ℕ → ColumnArrays → List ℕ → ℕ → Type 0
-HasNoArrays places texts offsets valid b statuses status =
-    HasNoPlaces places status ⊎ ((status ≡ 22) ⊎ ((status ≡ 27) × (IsTextColumn texts offsets valid b statuses → ⊥)))
+HasNoArrays asked texts offsets valid b statuses status =
+    HasNoPlaces (places_in asked) status ⊎ ((status ≡ 22) ⊎ ((status ≡ 27) × (IsTextColumn texts offsets valid b statuses → ⊥)))
 
 -- Arrays are answered with 0 and the text of their geometry, or with no byte and why they have none; a null row with 28 and no byte.
 abbrev pub IsRowText : ℕ → Bool → RowArrays → List ℕ → ℕ → Type 0

@@ -2,7 +2,8 @@
 use Rattle.std.specs.Prelude.{◌≡◌, ◌++◌, ◌⊎◌, ℕ, ℤ, List, [], ◌∷◌, length, Some, None}
 use Rattle.std.specs.List.{sum_by}
 use Rattle.wkt_access.specs.Values.{Value}
-use Rattle.wkt_c.specs.Arrays.{parts_of, joined, offsets, numbers_in, HasLarge, HasLargeNumber}
+use Rattle.wkt_c.specs.Arrays.{parts_of, joined, offsets, numbers_in, HasLarge}
+pub use Rattle.wkt_fill.specs.Arrays.{IsUnheld}
 use Rattle.wkt_c.specs.declared.arrays.Arrays.{Arrays}
 
 -- These polygons are whole, and these rings were added since.
@@ -36,10 +37,6 @@ HoldsAll a value = (parts : List (List (List (List ℤ)))) × (parts_of value �
 -- Memory ran out, or one of these numbers has too many units.
 abbrev pub IsFull : List ℤ → ℕ → Type 0
 IsFull numbers status = (status ≡ 22) ⊎ ((status ≡ 25) × HasLarge numbers)
-
--- Why a value has no arrays.
-abbrev pub IsUnheld : Value ℤ → ℕ → Type 0
-IsUnheld value status = (status ≡ 22) ⊎ (((status ≡ 24) × (parts_of value ≡ None)) ⊎ ((status ≡ 25) × HasLargeNumber value))
 
 -- The arrays are these.
 pub record AreSame (a : Arrays) (numbers : List ℤ) (rings polygons : List ℕ) : Type 0 where

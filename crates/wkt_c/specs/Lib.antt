@@ -11,3 +11,6 @@ pub mod ArrayRows
 pub mod TextRows
 pub mod Rows
 pub mod Rebuilding
+pub mod Calls
+pub mod Explained
+pub mod Chunks

@@ -25,11 +25,11 @@ pub record AddsAnswer (IsAnswer : List ℕ → ℕ → Type 0) (a b : Rows) : Ty
 abbrev pub HoldsRows : (ℕ → List ℕ → ℕ → Type 0) → ℕ → Rows → Type 0
 HoldsRows IsRow rows r = AreRows IsRow rows r.texts.items.items r.texts.ends.items r.statuses.items
 
-module _ {N : Type 0} (read : List ℕ → Option N) (num : N → List ℕ) where
+module _ {N : Type 0} (whole : Bool) (read : List ℕ → Option N) (num : N → List ℕ) where
   -- The answer to a row was added.
   abbrev pub AddsTextAnswer : Bool → List ℕ → Rows → Rows → Type 0
-  AddsTextAnswer null text a b = AddsAnswer (λ answer status. IsRowAnswer read num null text answer status) a b
+  AddsTextAnswer null text a b = AddsAnswer (λ answer status. IsRowAnswer whole read num null text answer status) a b
 
   -- These are the answers to so many first rows.
   abbrev pub HoldsAnswers : List ℕ → List ℕ → List ℕ → ℕ → Rows → Type 0
-  HoldsAnswers texts offsets valid rows r = AreAnswers read num texts offsets valid rows r.texts.items.items r.texts.ends.items r.statuses.items
+  HoldsAnswers texts offsets valid rows r = AreAnswers whole read num texts offsets valid rows r.texts.items.items r.texts.ends.items r.statuses.items

@@ -2,14 +2,15 @@
 ghost use Rattle.std.specs.Prelude.{◌≡◌, ◌++◌, ◌∷◌, [], OnOk, IfOk, IfErr, MatchResult, flat_map, map, option_to_list, ◌≤◌};
 ghost use Rattle.wkt_types.specs.Coords.{numbers_of};
 ghost use Rattle.wkt_types.specs.Tree.{tree};
+ghost use Rattle.wkt_read.specs.Kinds.{kind_of};
 ghost use Rattle.wkt_types.specs.Values.{value_of, line_string_numbers, polygon_numbers, point_numbers};
 ghost use Rattle.wkt_c.specs.Growing.{Begins, AddsRings, Closes, AddsPolygons, HoldsAll, IsFull, IsUnheld};
 ghost use Rattle.wkt_c.specs.Arrays.{member_numbers, joined, numbers_in};
 
 use crate::status::{MEMORY, NOT_FLAT, TOO_LARGE};
 use std::alloc::Global;
-use wkt::types::{Coord, LineString, Point, Polygon};
-use wkt::{Decimal, Wkt};
+use wkt_num::Decimal;
+use wkt_types::{Coord, GeometryType, LineString, Point, Polygon, Wkt};
 
 /// Flat arrays, as far as they have grown.
 #[derive(Drop)]
@@ -19,6 +20,21 @@ pub(crate) struct Arrays {
     pub(crate) polygons: Vec<usize>,
     coordinate_count: usize,
     ring_count: usize,
+}
+
+/// The kind of a geometry.
+pub(crate) fn kind_of<const D: u32>(wkt: &Wkt<Decimal<D>>) -> GeometryType
+    ensures { result ≡ kind_of (value_of (tree wkt.now)) }
+{
+    match wkt {
+        Wkt::Point(_) => GeometryType::Point,
+        Wkt::LineString(_) => GeometryType::LineString,
+        Wkt::Polygon(_) => GeometryType::Polygon,
+        Wkt::MultiPoint(_) => GeometryType::MultiPoint,
+        Wkt::MultiLineString(_) => GeometryType::MultiLineString,
+        Wkt::MultiPolygon(_) => GeometryType::MultiPolygon,
+        Wkt::GeometryCollection(_) => GeometryType::GeometryCollection,
+    }
 }
 
 fn push_number<const D: u32>(numbers: &mut Vec<i64>, x: &Decimal<D>) -> Result<(), u32>

@@ -1,14 +1,15 @@
 //! A column of texts as flat arrays at once.
-ghost use Rattle.std.specs.Prelude.{◌≡◌, ◌↔◌, ◌⊎◌, IsTrue, MatchResult, []};
-ghost use Rattle.wkt_c.specs.Answer.{HasNoPlaces};
+ghost use Rattle.std.specs.Prelude.{◌≡◌, ◌≤◌, MatchResult, []};
+ghost use Rattle.wkt_c.specs.Answer.{places_in, asks_whole};
 ghost use Rattle.wkt_c.specs.Column.{AreOffsets, HasBits, row_count};
 ghost use Rattle.wkt_c.specs.ArrayRows.{HoldsNoArrays, AddsArrays, AddsRowArrays, HoldsArrays, row_of};
 
+use crate::asked::ends_as_asked;
 use crate::column::{GivenColumn, is_null};
-use crate::flat::make_flat;
+use crate::flat::flat_asked;
 use crate::joined::{Joined, push};
 use crate::rebuild::GivenArrays;
-use crate::status::{DONE, MEMORY, NO_PLACES, NULL_ROW};
+use crate::status::{DONE, MEMORY, NOT_WHOLE, NULL_ROW};
 use std::alloc::Global;
 
 /// The arrays of some first rows, one row's after the other's.
@@ -66,14 +67,19 @@ impl ArrayRows {
     }
 
     /// Adds the arrays of a row.
-    fn add_row<const D: u32>(&mut self, alloc: Global, text: &[u8], null: bool) -> Result<(), u32>
-        ensures { MatchResult result (λ _. AddsRowArrays D null text.now self.old self.new) (λ s. s ≡ MEMORY) }
+    fn add_row(&mut self, alloc: Global, text: &[u8], null: bool, asked: u32) -> Result<(), u32>
+        requires { places_in asked ≤ 18 }
+        ensures { MatchResult result
+            (λ _. AddsRowArrays (places_in asked) (asks_whole asked) null text.now self.old self.new) (λ s. s ≡ MEMORY) }
     {
         if null {
             return self.add_none(NULL_ROW);
         }
-        match make_flat::<D>(alloc, text) {
+        match flat_asked(alloc, text, asked) {
             Ok(flat) => {
+                if !ends_as_asked(text, flat.end, asked) {
+                    return self.add_none(NOT_WHOLE);
+                }
                 let row = GivenArrays {
                     kind: flat.kind,
                     dimension: flat.dimension,
@@ -94,11 +100,16 @@ impl ArrayRows {
 }
 
 /// The arrays of all rows of a column.
-fn all_arrays<const D: u32>(alloc: Global, given: GivenColumn<'_>) -> Result<ArrayRows, u32>
+pub(crate) fn all_arrays(
+    alloc: Global,
+    given: GivenColumn<'_>,
+    asked: u32,
+) -> Result<ArrayRows, u32>
     requires offsets { AreOffsets given.texts.now given.offsets.now }
     requires bits { HasBits given.valid.now (row_count given.offsets.now) }
+    requires places { places_in asked ≤ 18 }
     ensures { MatchResult result
-        (HoldsArrays D given.entry.texts.now given.entry.offsets.now given.entry.valid.now (row_count given.entry.offsets.now))
+        (HoldsArrays (places_in asked) (asks_whole asked) given.entry.texts.now given.entry.offsets.now given.entry.valid.now (row_count given.entry.offsets.now))
         (λ s. s ≡ MEMORY) }
 {
     let count = given.offsets.len() - 1;
@@ -106,43 +117,7 @@ fn all_arrays<const D: u32>(alloc: Global, given: GivenColumn<'_>) -> Result<Arr
     for i in 0..count {
         let text = &given.texts[given.offsets[i]..given.offsets[i + 1]];
         let null = is_null(given.valid, i);
-        rows.add_row::<D>(alloc, text, null)?;
+        rows.add_row(alloc, text, null, asked)?;
     }
     Ok(rows)
-}
-
-/// The same, with decimals of so many places.
-pub(crate) fn arrays_at(
-    alloc: Global,
-    given: GivenColumn<'_>,
-    places: u32,
-) -> Result<ArrayRows, u32>
-    requires offsets { AreOffsets given.texts.now given.offsets.now }
-    requires bits { HasBits given.valid.now (row_count given.offsets.now) }
-    ensures { MatchResult result
-        (HoldsArrays places given.entry.texts.now given.entry.offsets.now given.entry.valid.now (row_count given.entry.offsets.now))
-        (λ s. HasNoPlaces places s ⊎ (s ≡ MEMORY)) }
-{
-    match places {
-        0 => all_arrays::<0>(alloc, given),
-        1 => all_arrays::<1>(alloc, given),
-        2 => all_arrays::<2>(alloc, given),
-        3 => all_arrays::<3>(alloc, given),
-        4 => all_arrays::<4>(alloc, given),
-        5 => all_arrays::<5>(alloc, given),
-        6 => all_arrays::<6>(alloc, given),
-        7 => all_arrays::<7>(alloc, given),
-        8 => all_arrays::<8>(alloc, given),
-        9 => all_arrays::<9>(alloc, given),
-        10 => all_arrays::<10>(alloc, given),
-        11 => all_arrays::<11>(alloc, given),
-        12 => all_arrays::<12>(alloc, given),
-        13 => all_arrays::<13>(alloc, given),
-        14 => all_arrays::<14>(alloc, given),
-        15 => all_arrays::<15>(alloc, given),
-        16 => all_arrays::<16>(alloc, given),
-        17 => all_arrays::<17>(alloc, given),
-        18 => all_arrays::<18>(alloc, given),
-        _ => Err(NO_PLACES),
-    }
 }

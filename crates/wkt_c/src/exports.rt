@@ -1,40 +1,30 @@
 //! The functions that C calls.
 ghost use Rattle.std.specs.Prelude.{◌≡◌, ◌≤◌, ◌≢◌, ◌⊎◌, ℕ, List, Bool, length};
 ghost use Rattle.wkt_lines.specs.Output.{IsOutput};
-ghost use Rattle.wkt_c.specs.Answer.{read_at, print_at, IsCanonical, Compares, RefusesAt, RefusesOneAt, IsNamed, NamesNone, HasNoPlaces, IsHandedOut, HasNoRoom, same_number};
-ghost use Rattle.wkt_c.specs.Column.{AreColumnAnswers, IsNoColumn};
-ghost use Rattle.wkt_c.specs.Arrays.{IsTextOf, IsNoTextAt, IsNotFlat};
+ghost use Rattle.wkt_c.specs.Answer.{read_at, print_at, places_in, asks_whole, EndsAsAsked, IsCanonical, HasMore, Compares, RefusesAt, RefusesOneAt, IsNamed, NamesNone, HasNoPlaces, IsHandedOut, HasNoRoom, same_number};
+ghost use Rattle.wkt_c.specs.Chunks.{AnswersSome, AnswersNone, ends_here};
+ghost use Rattle.wkt_c.specs.Column.{AreColumnAnswers, IsColumn, IsNoColumn};
+ghost use Rattle.wkt_c.specs.Arrays.{IsTextOf, IsNoTextAt, IsNotFlat, HasMoreAt};
+ghost use Rattle.wkt_c.specs.Explained.{IsExplained, IsUnexplained};
 ghost use Rattle.wkt_c.specs.Sizes.{AreHandedOut, HaveNoRoom};
 
-use crate::canonical::{canonical_at, same_at};
-use crate::column::{GivenColumn, Rows, column_at, is_column};
-use crate::fill::{copy_to_front, copy_whole};
-use crate::flat::flat_at;
+use crate::asked::{ends_as_asked, has_places};
+use crate::canonical::canonical;
+use crate::chunks::{is_last, some_at};
+use crate::column::{GivenColumn, Rows, answers, is_column};
+use crate::explain::explained_at;
+use crate::fill::{copy_to_front, copy_whole, hand_out};
+use crate::flat::flat_asked;
 use crate::infer::infer;
 use crate::lines::answers_at;
 use crate::rebuild::{GivenArrays, text_at};
 use crate::sizes::WktSizes;
-use crate::status::{DONE, MEMORY, NOT_COLUMN, SMALL};
+use crate::status::{DONE, MEMORY, NO_PLACES, NOT_COLUMN, NOT_WHOLE, SMALL};
 use std::alloc::Global;
 
-/// Hands out an answer, if there is room for it.
-fn hand_out(answer: &[u8], out: &mut [u8], needed: &mut usize) -> u32
-    ensures stands { result ≡ DONE → IsHandedOut answer.now needed.new out.old out.new }
-    ensures lacks { result ≡ SMALL → HasNoRoom answer.now needed.new out.old }
-    ensures kept { 1 ≤ result → out.new ≡ out.old }
-    ensures two { (result ≡ DONE) ⊎ (result ≡ SMALL) }
-{
-    let size = answer.len();
-    *needed = size;
-    if size > out.len() {
-        return SMALL;
-    }
-    copy_to_front(answer, out);
-    DONE
-}
-
 /// Writes the one text of the geometry that `text` begins with to the front of `out`, its length to `needed`,
-/// and to `end` where the geometry ends in `text`. Numbers are decimals of so many places.
+/// and to `end` where the geometry ends in `text`. Numbers are decimals of so many places; with 256 more the whole
+/// text is to be one geometry.
 #[unsafe(no_mangle)]
 pub extern "C" fn wkt_canonical(
     alloc: Global,
@@ -44,24 +34,66 @@ pub extern "C" fn wkt_canonical(
     needed: &mut usize,
     end: &mut usize,
 ) -> u32
-    ensures written { result ≡ DONE → (answer : List ℕ) × IsCanonical (read_at places) (print_at places) text.now answer
-        end.new × IsHandedOut answer needed.new out.old out.new }
-    ensures small { result ≡ SMALL → (answer : List ℕ)
-        × IsCanonical (read_at places) (print_at places) text.now answer end.new × HasNoRoom answer needed.new out.old }
-    ensures others { 1 ≤ result → result ≢ SMALL → RefusesAt places text.now result }
+    ensures written { result ≡ DONE → (answer : List ℕ) × IsCanonical (read_at (places_in places)) (print_at (places_in places)) text.now answer
+        end.new × EndsAsAsked (asks_whole places) text.now end.new × IsHandedOut answer needed.new out.old out.new }
+    ensures small { result ≡ SMALL → (answer : List ℕ) × IsCanonical (read_at (places_in places)) (print_at (places_in places)) text.now answer
+        end.new × EndsAsAsked (asks_whole places) text.now end.new × HasNoRoom answer needed.new out.old }
+    ensures more { result ≡ NOT_WHOLE → HasMore (read_at (places_in places)) (asks_whole places) text.now end.new }
+    ensures others { 1 ≤ result → result ≢ SMALL → result ≢ NOT_WHOLE → RefusesAt (places_in places) text.now result }
     ensures kept { 1 ≤ result → out.new ≡ out.old }
+    ensures needed_kept { 1 ≤ result → result ≢ SMALL → needed.new ≡ needed.old }
+    ensures end_kept { 1 ≤ result → result ≢ SMALL → result ≢ NOT_WHOLE → end.new ≡ end.old }
 {
-    match canonical_at(alloc, text, places) {
-        Ok((answer, at)) => {
-            *end = at;
-            hand_out(&answer, out, needed)
+    if !has_places(places) {
+        return NO_PLACES;
+    }
+    canonical(alloc, text, places, out, needed, end)
+}
+
+/// Tells whether two texts begin with one geometry: `same` is 1 where their canonical texts are equal, and else
+/// 0; `end` and `other_end` tell where each geometry ends in its text. Numbers are decimals of so many places; with 256
+/// more both whole texts are to be one geometry each.
+#[unsafe(no_mangle)]
+pub extern "C" fn wkt_same_ends(
+    alloc: Global,
+    one: &[u8],
+    other: &[u8],
+    places: u32,
+    same: &mut u32,
+    end: &mut usize,
+    other_end: &mut usize,
+) -> u32
+    ensures compared { result ≡ DONE → (answer : Bool) × Compares (read_at (places_in places)) (print_at (places_in places)) one.now other.now
+        end.new other_end.new answer × (same.new ≡ same_number answer) }
+    ensures as_asked { result ≡ DONE →
+        EndsAsAsked (asks_whole places) one.now end.new × EndsAsAsked (asks_whole places) other.now other_end.new }
+    ensures more { result ≡ NOT_WHOLE → HasMore (read_at (places_in places)) (asks_whole places) one.now end.new
+        ⊎ HasMore (read_at (places_in places)) (asks_whole places) other.now other_end.new }
+    ensures others { 1 ≤ result → result ≢ NOT_WHOLE → RefusesOneAt (places_in places) one.now other.now result }
+    ensures kept { 1 ≤ result → same.new ≡ same.old }
+    ensures ends_kept { 1 ≤ result → result ≢ NOT_WHOLE → (end.new ≡ end.old) × (other_end.new ≡ other_end.old) }
+{
+    if !has_places(places) {
+        return NO_PLACES;
+    }
+    match crate::canonical::same(alloc, one, other, places) {
+        Ok(compared) => {
+            *end = compared.end;
+            *other_end = compared.other_end;
+            if !ends_as_asked(one, compared.end, places) {
+                return NOT_WHOLE;
+            }
+            if !ends_as_asked(other, compared.other_end, places) {
+                return NOT_WHOLE;
+            }
+            *same = if compared.same { 1 } else { 0 };
+            DONE
         }
         Err(status) => status,
     }
 }
 
-/// Tells whether two texts begin with one geometry: `same` is 1 where their canonical texts are equal, and else
-/// 0. Numbers are decimals of so many places.
+/// The same, and the ends aren't told.
 #[unsafe(no_mangle)]
 pub extern "C" fn wkt_same(
     alloc: Global,
@@ -70,13 +102,46 @@ pub extern "C" fn wkt_same(
     places: u32,
     same: &mut u32,
 ) -> u32
-    ensures compared { result ≡ DONE → (answer : Bool)
-        × Compares (read_at places) (print_at places) one.now other.now answer × (same.new ≡ same_number answer) }
-    ensures others { 1 ≤ result → RefusesOneAt places one.now other.now result }
+    ensures compared { result ≡ DONE → (end : ℕ) × (other_end : ℕ) × (answer : Bool)
+        × Compares (read_at (places_in places)) (print_at (places_in places)) one.now other.now end other_end answer
+        × EndsAsAsked (asks_whole places) one.now end × EndsAsAsked (asks_whole places) other.now other_end
+        × (same.new ≡ same_number answer) }
+    ensures more { result ≡ NOT_WHOLE → (end : ℕ) × (HasMore (read_at (places_in places)) (asks_whole places) one.now end
+        ⊎ HasMore (read_at (places_in places)) (asks_whole places) other.now end) }
+    ensures others { 1 ≤ result → result ≢ NOT_WHOLE → RefusesOneAt (places_in places) one.now other.now result }
+    ensures kept { 1 ≤ result → same.new ≡ same.old }
 {
-    match same_at(alloc, one, other, places) {
-        Ok(answer) => {
-            *same = if answer { 1 } else { 0 };
+    let mut end = 0;
+    let mut other_end = 0;
+    wkt_same_ends(alloc, one, other, places, same, &mut end, &mut other_end)
+}
+
+/// Tells where `text` is refused: from byte `start` to byte `stop` is the lexeme that is too much, or nothing, where the
+/// text ends too early; `message` is the number of the message, and `expected` that of what could stand there. The
+/// status is 29 where the text isn't refused. Numbers are decimals of so many places.
+#[unsafe(no_mangle)]
+pub extern "C" fn wkt_explain(
+    text: &[u8],
+    places: u32,
+    message: &mut u32,
+    start: &mut usize,
+    stop: &mut usize,
+    expected: &mut u32,
+) -> u32
+    ensures explained { result ≡ DONE → IsExplained (read_at places) text.now message.new start.new stop.new expected.new }
+    ensures others { 1 ≤ result → HasNoPlaces places result ⊎ IsUnexplained (read_at places) text.now result }
+    ensures kept { 1 ≤ result → (message.new ≡ message.old) × (start.new ≡ start.old) × (stop.new ≡ stop.old)
+        × (expected.new ≡ expected.old) }
+{
+    if places > 18 {
+        return NO_PLACES;
+    }
+    match explained_at(text, places) {
+        Ok(place) => {
+            *message = place.message;
+            *start = place.start;
+            *stop = place.stop;
+            *expected = place.expected;
             DONE
         }
         Err(status) => status,
@@ -89,6 +154,7 @@ pub extern "C" fn wkt_same(
 pub extern "C" fn wkt_infer(alloc: Global, text: &[u8], kind: &mut u32, dimension: &mut u32) -> u32
     ensures named { result ≡ DONE → IsNamed text.now kind.new dimension.new }
     ensures others { 1 ≤ result → NamesNone text.now result }
+    ensures kept { 1 ≤ result → (kind.new ≡ kind.old) × (dimension.new ≡ dimension.old) }
 {
     match infer(alloc, text) {
         Ok((k, d)) => {
@@ -117,9 +183,43 @@ pub extern "C" fn wkt_lines(
         × IsOutput (read_at places) (print_at places) input.now answers × HasNoRoom answers needed.new out.old }
     ensures others { 1 ≤ result → result ≢ SMALL → HasNoPlaces places result ⊎ (result ≡ MEMORY) }
     ensures kept { 1 ≤ result → out.new ≡ out.old }
+    ensures needed_kept { 1 ≤ result → result ≢ SMALL → needed.new ≡ needed.old }
 {
     match answers_at(alloc, input, places) {
         Ok(text) => hand_out(&text, out, needed),
+        Err(status) => status,
+    }
+}
+
+/// Writes the answers to as many whole lines at the front of `input` as fit to the front of `out`: `taken` tells how many
+/// bytes of the input they are, and `written` how many bytes of `out` are answers; what stands behind these means nothing.
+/// Where `last` isn't 0 the input ends here, and what is left behind its last line feed is a line too. Numbers are
+/// decimals of so many places.
+#[unsafe(no_mangle)]
+pub extern "C" fn wkt_lines_some(
+    alloc: Global,
+    input: &[u8],
+    places: u32,
+    last: u32,
+    out: &mut [u8],
+    taken: &mut usize,
+    written: &mut usize,
+) -> u32
+    ensures answered { result ≡ DONE →
+        AnswersSome (read_at places) (print_at places) (ends_here last) input.now taken.new written.new out.new }
+    ensures others { 1 ≤ result → HasNoPlaces places result
+        ⊎ AnswersNone (read_at places) (print_at places) (ends_here last) input.now out.old result }
+    ensures kept { 1 ≤ result → (taken.new ≡ taken.old) × (written.new ≡ written.old) }
+{
+    if places > 18 {
+        return NO_PLACES;
+    }
+    match some_at(alloc, input, places, is_last(last), out) {
+        Ok(answered) => {
+            *taken = answered.taken;
+            *written = answered.written;
+            DONE
+        }
         Err(status) => status,
     }
 }
@@ -154,7 +254,7 @@ pub(crate) fn hand_out_rows(
 /// Writes the canonical texts of a column of texts to the front of `out`, their length to `needed`, where each begins
 /// in `out`, with the end of the last, to `out_offsets`, and of each row to `statuses` why it has none, or 0. Row i is
 /// the bytes of `texts` from offset i to offset i + 1. `valid` has a bit for each row, which is 0 where the row is
-/// null, or no byte. Numbers are decimals of so many places.
+/// null, or no byte. Numbers are decimals of so many places; with 256 more each row as a whole is to be one geometry.
 #[unsafe(no_mangle)]
 pub extern "C" fn wkt_column_canonical(
     alloc: Global,
@@ -172,10 +272,14 @@ pub extern "C" fn wkt_column_canonical(
         × IsHandedOut answers needed.new out.old out.new }
     ensures small { result ≡ SMALL → (answers : List ℕ) × (ends : List ℕ) × (told : List ℕ) × AreColumnAnswers places
         texts.now offsets.now valid.now answers ends told × HasNoRoom answers needed.new out.old }
+    ensures column { (result ≡ DONE) ⊎ (result ≡ SMALL) →
+        IsColumn texts.now offsets.now valid.now out_offsets.old statuses.old }
+    ensures no_column { (IsColumn texts.now offsets.now valid.now out_offsets.old statuses.old → ⊥) → result ≡ NOT_COLUMN }
     ensures others { 1 ≤ result → result ≢ SMALL →
         IsNoColumn places texts.now offsets.now valid.now out_offsets.old statuses.old result }
     ensures kept { 1 ≤ result →
         (out.new ≡ out.old) × (out_offsets.new ≡ out_offsets.old) × (statuses.new ≡ statuses.old) }
+    ensures needed_kept { 1 ≤ result → result ≢ SMALL → needed.new ≡ needed.old }
 {
     let given = GivenColumn {
         texts,
@@ -185,7 +289,10 @@ pub extern "C" fn wkt_column_canonical(
     if !is_column(given, out_offsets, statuses) {
         return NOT_COLUMN;
     }
-    match column_at(alloc, given, places) {
+    if !has_places(places) {
+        return NO_PLACES;
+    }
+    match answers(alloc, given, places) {
         Ok(rows) => hand_out_rows(&rows, out, out_offsets, statuses, needed),
         Err(status) => status,
     }
@@ -193,7 +300,7 @@ pub extern "C" fn wkt_column_canonical(
 
 /// Writes the numbers of the geometry that `text` begins with, in units of ten to the minus `places`, to the
 /// front of `numbers`, and its offsets to the fronts of `rings` and `polygons`. Where a buffer has no room,
-/// `sizes` tells how much each needs.
+/// `sizes` tells how much each needs. With 256 more places the whole text is to be one geometry.
 #[unsafe(no_mangle)]
 pub extern "C" fn wkt_arrays(
     alloc: Global,
@@ -204,14 +311,20 @@ pub extern "C" fn wkt_arrays(
     rings: &mut [usize],
     polygons: &mut [usize],
 ) -> u32
-    ensures filled { result ≡ DONE →
-        AreHandedOut places text.now sizes.new numbers.old numbers.new rings.old rings.new polygons.old polygons.new }
-    ensures small { result ≡ SMALL → HaveNoRoom places text.now sizes.new numbers.old rings.old polygons.old }
-    ensures others { 1 ≤ result → result ≢ SMALL → IsNotFlat places text.now result }
+    ensures filled { result ≡ DONE → AreHandedOut (places_in places) text.now sizes.new numbers.old numbers.new rings.old
+        rings.new polygons.old polygons.new }
+    ensures small { result ≡ SMALL → HaveNoRoom (places_in places) text.now sizes.new numbers.old rings.old polygons.old }
+    ensures as_asked { (result ≡ DONE) ⊎ (result ≡ SMALL) → EndsAsAsked (asks_whole places) text.now sizes.new.end }
+    ensures more { result ≡ NOT_WHOLE → HasMoreAt (places_in places) (asks_whole places) text.now sizes.new.end }
+    ensures others { 1 ≤ result → result ≢ SMALL → result ≢ NOT_WHOLE → IsNotFlat (places_in places) text.now result }
     ensures kept { 1 ≤ result →
         (numbers.new ≡ numbers.old) × (rings.new ≡ rings.old) × (polygons.new ≡ polygons.old) }
+    ensures sizes_kept { 1 ≤ result → result ≢ SMALL → result ≢ NOT_WHOLE → sizes.new ≡ sizes.old }
 {
-    match flat_at(alloc, text, places) {
+    if !has_places(places) {
+        return NO_PLACES;
+    }
+    match flat_asked(alloc, text, places) {
         Ok(flat) => {
             sizes.kind = flat.kind;
             sizes.dimension = flat.dimension;
@@ -219,6 +332,9 @@ pub extern "C" fn wkt_arrays(
             sizes.rings = flat.arrays.rings.len();
             sizes.polygons = flat.arrays.polygons.len();
             sizes.end = flat.end;
+            if !ends_as_asked(text, flat.end, places) {
+                return NOT_WHOLE;
+            }
             if flat.arrays.numbers.len() > numbers.len()
                 || flat.arrays.rings.len() > rings.len()
                 || flat.arrays.polygons.len() > polygons.len()
@@ -255,6 +371,7 @@ pub extern "C" fn wkt_from_arrays(
     ensures others { 1 ≤ result → result ≢ SMALL → IsNoTextAt places kind dimension numbers.now rings.now polygons.now
         result }
     ensures kept { 1 ≤ result → out.new ≡ out.old }
+    ensures needed_kept { 1 ≤ result → result ≢ SMALL → needed.new ≡ needed.old }
 {
     let given = GivenArrays {
         kind,

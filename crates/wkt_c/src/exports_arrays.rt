@@ -1,16 +1,17 @@
 //! A column to arrays at once, for C.
 ghost use Rattle.wkt_c.specs.Answer.{IsHandedOut, HasNoRoom};
 ghost use Rattle.std.specs.Prelude.{◌≡◌, ◌≤◌, ◌≢◌, ◌⊎◌, ℕ, List, length};
-ghost use Rattle.wkt_c.specs.ColumnArrays.{ColumnArrays, AreColumnArrays, AreFilled, FillColumn, LackRoom, HasNoArrays, AreColumnTexts, HasNoTexts, as_column};
+ghost use Rattle.wkt_c.specs.ColumnArrays.{ColumnArrays, AreColumnArrays, AreFilled, FillColumn, LackRoom, HasNoArrays, IsTextColumn, IsArrayColumn, AreColumnTexts, HasNoTexts, as_column};
 ghost use Rattle.wkt_c.specs.ArrayRows.{held_arrays};
 
+use crate::asked::has_places;
 use crate::column::{GivenColumn, is_column};
-use crate::column_arrays::{ArrayRows, arrays_at};
+use crate::column_arrays::{ArrayRows, all_arrays};
 use crate::column_texts::{GivenRows, is_array_column, texts_at};
 use crate::exports::hand_out_rows;
 use crate::fill::{copy_to_front, copy_whole};
 use crate::sizes::WktColumnSizes;
-use crate::status::{DONE, NOT_COLUMN, SMALL};
+use crate::status::{DONE, NO_PLACES, NOT_COLUMN, SMALL};
 use std::alloc::Global;
 
 /// Hands out the arrays of a column, if there is room for them.
@@ -95,6 +96,12 @@ pub extern "C" fn wkt_column_arrays(
     ensures small { result ≡ SMALL → (arrays : ColumnArrays) × (told : List ℕ) × AreColumnArrays places texts.now
         offsets.now valid.now arrays told × LackRoom arrays sizes.new (as_column kinds.old dimensions.old numbers.old
         number_offsets.old rings.old ring_offsets.old polygons.old polygon_offsets.old) }
+    ensures column { (result ≡ DONE) ⊎ (result ≡ SMALL) → IsTextColumn texts.now offsets.now valid.now (as_column kinds.old
+        dimensions.old numbers.old number_offsets.old rings.old ring_offsets.old polygons.old polygon_offsets.old)
+        statuses.old }
+    ensures no_column { (IsTextColumn texts.now offsets.now valid.now (as_column kinds.old dimensions.old numbers.old
+        number_offsets.old rings.old ring_offsets.old polygons.old polygon_offsets.old) statuses.old → ⊥) →
+        result ≡ NOT_COLUMN }
     ensures others { 1 ≤ result → result ≢ SMALL → HasNoArrays places texts.now offsets.now valid.now (as_column
         kinds.old dimensions.old numbers.old number_offsets.old rings.old ring_offsets.old polygons.old
         polygon_offsets.old) statuses.old result }
@@ -103,6 +110,7 @@ pub extern "C" fn wkt_column_arrays(
         × (ring_offsets.new ≡ ring_offsets.old) × (polygon_offsets.new ≡ polygon_offsets.old) }
     ensures rows_kept { 1 ≤ result →
         (kinds.new ≡ kinds.old) × (dimensions.new ≡ dimensions.old) × (statuses.new ≡ statuses.old) }
+    ensures sizes_kept { 1 ≤ result → result ≢ SMALL → sizes.new ≡ sizes.old }
 {
     let given = GivenColumn {
         texts,
@@ -120,7 +128,10 @@ pub extern "C" fn wkt_column_arrays(
     {
         return NOT_COLUMN;
     }
-    match arrays_at(alloc, given, places) {
+    if !has_places(places) {
+        return NO_PLACES;
+    }
+    match all_arrays(alloc, given, places) {
         Ok(rows) => hand_out_arrays(
             &rows,
             sizes,
@@ -165,11 +176,18 @@ pub extern "C" fn wkt_column_from_arrays(
     ensures small { result ≡ SMALL → (answers : List ℕ) × (ends : List ℕ) × (told : List ℕ) × AreColumnTexts places
         (as_column kinds.now dimensions.now numbers.now number_offsets.now rings.now ring_offsets.now polygons.now
         polygon_offsets.now) valid.now answers ends told × HasNoRoom answers needed.new out.old }
+    ensures column { (result ≡ DONE) ⊎ (result ≡ SMALL) → IsArrayColumn (as_column kinds.now dimensions.now numbers.now
+        number_offsets.now rings.now ring_offsets.now polygons.now polygon_offsets.now) valid.now out_offsets.old
+        statuses.old }
+    ensures no_column { (IsArrayColumn (as_column kinds.now dimensions.now numbers.now number_offsets.now rings.now
+        ring_offsets.now polygons.now polygon_offsets.now) valid.now out_offsets.old statuses.old → ⊥) →
+        result ≡ NOT_COLUMN }
     ensures others { 1 ≤ result → result ≢ SMALL → HasNoTexts places (as_column kinds.now dimensions.now numbers.now
         number_offsets.now rings.now ring_offsets.now polygons.now polygon_offsets.now) valid.now out_offsets.old
         statuses.old result }
     ensures kept { 1 ≤ result →
         (out.new ≡ out.old) × (out_offsets.new ≡ out_offsets.old) × (statuses.new ≡ statuses.old) }
+    ensures needed_kept { 1 ≤ result → result ≢ SMALL → needed.new ≡ needed.old }
 {
     let given = GivenRows {
         kinds,

@@ -1,6 +1,8 @@
 //! A list handed to the caller's buffer.
-ghost use Rattle.std.specs.Prelude.{◌≡◌, ◌≤◌, ◌<◌, length};
-ghost use Rattle.wkt_c.specs.Answer.{with_front};
+ghost use Rattle.std.specs.Prelude.{◌≡◌, ◌≤◌, ◌<◌, ◌⊎◌, length};
+ghost use Rattle.wkt_c.specs.Answer.{with_front, IsHandedOut, HasNoRoom};
+
+use crate::status::{DONE, SMALL};
 
 /// Puts the list to the front of the buffer, which has room for it.
 pub(crate) fn copy_to_front<T: Copy>(list: &[T], out: &mut [T])
@@ -17,4 +19,20 @@ pub(crate) fn copy_whole<T: Copy>(list: &[T], out: &mut [T])
     ensures { out.new ≡ list.now }
 {
     out.copy_from_slice(list);
+}
+
+/// Hands out an answer, if there is room for it.
+pub(crate) fn hand_out(answer: &[u8], out: &mut [u8], needed: &mut usize) -> u32
+    ensures stands { result ≡ DONE → IsHandedOut answer.now needed.new out.old out.new }
+    ensures lacks { result ≡ SMALL → HasNoRoom answer.now needed.new out.old }
+    ensures kept { 1 ≤ result → out.new ≡ out.old }
+    ensures two { (result ≡ DONE) ⊎ (result ≡ SMALL) }
+{
+    let size = answer.len();
+    *needed = size;
+    if size > out.len() {
+        return SMALL;
+    }
+    copy_to_front(answer, out);
+    DONE
 }

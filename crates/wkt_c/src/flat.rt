@@ -1,19 +1,16 @@
 //! The flat arrays of the geometry that a text begins with.
-ghost use Rattle.std.specs.Prelude.{◌≡◌, MatchResult};
-ghost use Rattle.wkt_types.specs.Tree.{tree};
-ghost use Rattle.wkt_types.specs.Values.{value_of};
-ghost use Rattle.wkt_read.specs.Kinds.{kind_of};
+ghost use Rattle.std.specs.Prelude.{◌≡◌, ◌≤◌, MatchResult};
+ghost use Rattle.wkt_c.specs.Answer.{places_in};
 ghost use Rattle.wkt_c.specs.Flat.{IsFlat};
 ghost use Rattle.wkt_c.specs.Arrays.{IsNotFlat};
 
-use crate::arrays::Arrays;
+use crate::asked::places_of;
 use crate::infer::{number_of_dimension, number_of_kind};
-use crate::read::read;
-use crate::status::NO_PLACES;
+use crate::refusal::refusal;
+use crate::status::NOT_TEXT;
 use std::alloc::Global;
-use wkt::laws::front_is_writable;
-use wkt::types::GeometryType;
-use wkt::{Decimal, Wkt};
+use wkt_fill::{Filler, fill_arrays};
+use wkt_num::Decimal;
 
 /// Flat arrays with the kind, the dimension and the end of their geometry.
 #[derive(Drop)]
@@ -21,44 +18,34 @@ pub(crate) struct Flat {
     pub(crate) kind: u32,
     pub(crate) dimension: u32,
     pub(crate) end: usize,
-    pub(crate) arrays: Arrays,
-}
-
-/// The kind of a geometry.
-pub(crate) fn kind_of<const D: u32>(wkt: &Wkt<Decimal<D>>) -> GeometryType
-    ensures { result ≡ kind_of (value_of (tree wkt.now)) }
-{
-    match wkt {
-        Wkt::Point(_) => GeometryType::Point,
-        Wkt::LineString(_) => GeometryType::LineString,
-        Wkt::Polygon(_) => GeometryType::Polygon,
-        Wkt::MultiPoint(_) => GeometryType::MultiPoint,
-        Wkt::MultiLineString(_) => GeometryType::MultiLineString,
-        Wkt::MultiPolygon(_) => GeometryType::MultiPolygon,
-        Wkt::GeometryCollection(_) => GeometryType::GeometryCollection,
-    }
+    pub(crate) arrays: Filler,
 }
 
 /// The arrays of the geometry at the front of a text.
 pub(crate) fn make_flat<const D: u32>(alloc: Global, text: &[u8]) -> Result<Flat, u32>
     ensures { MatchResult result (IsFlat D text.now) (IsNotFlat D text.now) }
 {
-    let (wkt, end) = read::<Decimal<D>>(alloc, text)?;
-    // No effect at run time. The proof reads that each coordinate has as many numbers as the dimension says.
-    front_is_writable::<Decimal<D>>();
-    match Arrays::of(alloc, &wkt) {
-        Ok(arrays) => Ok(Flat {
-            kind: number_of_kind(kind_of(&wkt)),
-            dimension: number_of_dimension(wkt.dimension()),
-            end,
-            arrays,
-        }),
-        Err(status) => Err(status),
+    let Ok(text) = str::from_utf8(text) else {
+        return Err(NOT_TEXT);
+    };
+    let Some(filled) = fill_arrays::<D>(alloc, text) else {
+        return Err(refusal::<Decimal<D>>(text));
+    };
+    let status = filled.arrays.status;
+    if status != 0 {
+        return Err(status);
     }
+    Ok(Flat {
+        kind: number_of_kind(filled.arrays.kind),
+        dimension: number_of_dimension(filled.arrays.dimension),
+        end: filled.end,
+        arrays: filled.arrays,
+    })
 }
 
 /// The same, with decimals of so many places.
-pub(crate) fn flat_at(alloc: Global, text: &[u8], places: u32) -> Result<Flat, u32>
+fn flat_at(alloc: Global, text: &[u8], places: u32) -> Result<Flat, u32>
+    requires { places ≤ 18 }
     ensures { MatchResult result (IsFlat places text.now) (IsNotFlat places text.now) }
 {
     match places {
@@ -81,6 +68,14 @@ pub(crate) fn flat_at(alloc: Global, text: &[u8], places: u32) -> Result<Flat, u
         16 => make_flat::<16>(alloc, text),
         17 => make_flat::<17>(alloc, text),
         18 => make_flat::<18>(alloc, text),
-        _ => Err(NO_PLACES),
+        _ => unreachable!(),
     }
+}
+
+/// The same, with decimals of as many places as are asked for.
+pub(crate) fn flat_asked(alloc: Global, text: &[u8], asked: u32) -> Result<Flat, u32>
+    requires { places_in asked ≤ 18 }
+    ensures { MatchResult result (IsFlat (places_in asked) text.now) (IsNotFlat (places_in asked) text.now) }
+{
+    flat_at(alloc, text, places_of(asked))
 }

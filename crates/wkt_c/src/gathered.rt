@@ -4,8 +4,8 @@ ghost use Rattle.std.specs.Bool.{OnTrue};
 
 use std::alloc::{AllocError, Global};
 use std::fmt;
-use wkt::to_wkt::TextSink;
 use wkt_bytes::copy_piece;
+use wkt_num::TextSink;
 
 /// Bytes in memory as a [`TextSink`]: a list that is filled place by place, since a push asks for room each time.
 #[derive(Drop)]

@@ -4,8 +4,8 @@ ghost use Rattle.wkt_c.specs.Answer.{kind_number, dimension_number, IsNamed, Nam
 
 use crate::status::{MEMORY, NOT_TEXT};
 use std::alloc::Global;
-use wkt::types::{Dimension, GeometryType};
-use wkt::{InferError, infer_type};
+use wkt_read::{InferError, infer_type};
+use wkt_types::{Dimension, GeometryType};
 
 /// The header begins with no kind word.
 pub(crate) const NO_KIND: u32 = 1;

@@ -5,10 +5,13 @@
 #![tactic(auto)]
 
 mod arrays;
+mod asked;
 mod canonical;
+mod chunks;
 mod column;
 mod column_arrays;
 mod column_texts;
+mod explain;
 mod exports;
 mod exports_arrays;
 mod fill;
@@ -17,7 +20,8 @@ mod gathered;
 mod infer;
 mod joined;
 mod lines;
-mod read;
 mod rebuild;
+mod refusal;
+mod room;
 mod sizes;
 mod status;

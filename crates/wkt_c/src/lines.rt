@@ -6,12 +6,12 @@ ghost use Rattle.wkt_c.specs.Answer.{read_at, print_at, HasNoPlaces};
 use crate::gathered::Gathered;
 use crate::status::{MEMORY, NO_PLACES};
 use std::alloc::Global;
-use wkt::{Decimal, WktNum};
 use wkt_lines::write_answers;
+use wkt_num::{Decimal, WktNum};
 
 /// The answers to all lines of the input.
 #[tactic(auto, using(crate::proofs::Answering::output_gathered))]
-fn answers<T: WktNum>(alloc: Global, input: &[u8]) -> Result<Vec<u8>, u32>
+pub(crate) fn answers<T: WktNum>(alloc: Global, input: &[u8]) -> Result<Vec<u8>, u32>
     ensures { MatchResult result (λ v. IsOutput T.read T.num input.now v.items) (λ s. s ≡ MEMORY) }
 {
     let Ok(mut sink) = Gathered::new(alloc, input.len()) else {

@@ -1,30 +1,31 @@
 //! A geometry out of flat arrays. What is made is turned into arrays again and compared, so that a wrong one is
 //! never written.
 ghost use Rattle.std.specs.Prelude.{◌≡◌, ◌≤◌, ◌<◌, ◌+◌, ◌*◌, ◌↔◌, ℕ, ℤ, pos, List, IsTrue, true, IfOk, IfErr, MatchResult, map, take, drop, length, slice_index, ◌∷◌, ◌++◌, option_to_list};
-ghost use Rattle.std.specs.List.{All, slice_index_or};
+ghost use Rattle.std.specs.List.{All, AllByRecursion, slice_index_or};
 ghost use Rattle.wkt_num.specs.Decimal.{IsUnits};
 ghost use Rattle.wkt_num.specs.Whole.{IsSigned};
 ghost use Rattle.wkt_access.specs.Values.{Value, size};
-ghost use Rattle.wkt_access.specs.WellFormed.{IsWellFormed};
+ghost use Rattle.wkt_access.specs.WellFormed.{CoordFits, LineStringFits, PolygonFits, PointFits, IsWellFormed};
 ghost use Rattle.wkt_types.specs.Coords.{numbers_of};
 ghost use Rattle.wkt_types.specs.Tree.{tree};
-ghost use Rattle.wkt_types.specs.Values.{value_of, line_string_numbers, polygon_numbers};
+ghost use Rattle.wkt_types.specs.Values.{value_of, tree_shape, point_numbers, line_string_numbers, polygon_numbers};
 ghost use Rattle.wkt_c.specs.Arrays.{IsTextOf, IsNoTextAt, AreArrays, AreOfSome, member_numbers};
 ghost use Rattle.wkt_c.specs.Growing.{AreSame};
 ghost use Rattle.wkt_c.specs.Rebuilding.{IsRing, IsPolygon, ArePolygons};
-ghost use Rattle.wkt_c.specs.Answer.{IsRefused, dimension_number};
+ghost use Rattle.wkt_c.specs.Answer.{IsRefused, IsWritten, IsUnwritten, dimension_number};
 
-use crate::arrays::Arrays;
-use crate::canonical::write_any;
-use crate::flat::kind_of;
+use crate::arrays::{Arrays, kind_of};
+use crate::gathered::Gathered;
 use crate::infer::{number_of_dimension, number_of_kind};
 use crate::status::{MEMORY, NO_PLACES, NOT_ARRAYS};
 use std::alloc::Global;
-use wkt::laws::reads_back;
-use wkt::types::{
-    Coord, Dimension, LineString, MultiLineString, MultiPoint, MultiPolygon, Point, Polygon,
+use wkt_access::Error as WriteError;
+use wkt_num::{Decimal, WktNum};
+use wkt_read::laws::reads_back;
+use wkt_types::{
+    Coord, Dimension, LineString, MultiLineString, MultiPoint, MultiPolygon, Point, Polygon, Wkt,
 };
-use wkt::{Decimal, Wkt};
+use wkt_write::write_geometry;
 
 /// Flat arrays of the caller's.
 #[derive(Clone, Copy)]
@@ -57,6 +58,7 @@ fn coord<const D: u32>(
 ) -> Result<Coord<Decimal<D>>, u32>
     requires { D ≤ 36 }
     ensures ok { IfOk result (λ c. numbers_of c ≡ take (size dimension) (drop (index * size dimension) numbers.now)) }
+    ensures fits { IfOk result (λ c. CoordFits (IsUnits D) dimension (numbers_of c)) }
     ensures err { IfErr result (λ s. (s ≡ 26) × (length numbers.now < index * size dimension + size dimension)) }
 {
     let size = size_of(dimension);
@@ -107,7 +109,8 @@ fn size_of(dimension: Dimension) -> usize
 fn number<const D: u32>(numbers: &[i64], index: usize) -> Decimal<D>
     requires places { D ≤ 36 }
     requires within { index < length numbers.now }
-    ensures { result ≡ slice_index_or numbers.now index (pos 0) }
+    ensures is { result ≡ slice_index_or numbers.now index (pos 0) }
+    ensures units { IsUnits D result }
 {
     Decimal::from_units(i128::from(numbers[index]))
 }
@@ -121,6 +124,7 @@ fn ring<const D: u32>(
 ) -> Result<Vec<Coord<Decimal<D>>>, u32>
     requires { D ≤ 36 }
     ensures ok { IfOk result (λ v. (r : List (List ℤ)) → IsRing dimension given.entry.numbers.now given.entry.rings.now index r → map numbers_of v.items ≡ r) }
+    ensures fits { IfOk result (λ v. LineStringFits (IsUnits D) dimension (map numbers_of v.items)) }
     ensures err { IfErr result (IsRefused ((r : List (List ℤ)) × IsRing dimension given.entry.numbers.now given.entry.rings.now index r)) }
 {
     let mut coords = Vec::new(alloc);
@@ -153,6 +157,7 @@ fn point<const D: u32>(
 ) -> Result<Point<Decimal<D>>, u32>
     requires { D ≤ 36 }
     ensures ok { IfOk result (λ p. (r : List (List ℤ)) → IsRing dimension given.entry.numbers.now given.entry.rings.now index r → member_numbers p ≡ r) }
+    ensures fits { IfOk result (λ p. PointFits (IsUnits D) dimension (point_numbers p)) }
     ensures dim { IfOk result (λ p. p.dim ≡ dimension) }
     ensures err { IfErr result (IsRefused ((r : List (List ℤ)) × IsRing dimension given.entry.numbers.now given.entry.rings.now index r × (length r ≤ 1))) }
 {
@@ -172,6 +177,7 @@ fn line<const D: u32>(
 ) -> Result<LineString<Decimal<D>>, u32>
     requires { D ≤ 36 }
     ensures ok { IfOk result (λ l. (r : List (List ℤ)) → IsRing dimension given.entry.numbers.now given.entry.rings.now index r → line_string_numbers l ≡ r) }
+    ensures fits { IfOk result (λ l. LineStringFits (IsUnits D) dimension (line_string_numbers l)) }
     ensures dim { IfOk result (λ l. l.dim ≡ dimension) }
     ensures err { IfErr result (IsRefused ((r : List (List ℤ)) × IsRing dimension given.entry.numbers.now given.entry.rings.now index r)) }
 {
@@ -186,6 +192,7 @@ fn points<const D: u32>(
 ) -> Result<Vec<Point<Decimal<D>>>, u32>
     requires { D ≤ 36 }
     ensures ok { IfOk result (λ v. (rs : List (List (List ℤ))) → IsPolygon dimension given.entry.numbers.now given.entry.rings.now given.entry.polygons.now 0 rs → map member_numbers v.items ≡ rs) }
+    ensures fits { IfOk result (λ v. AllByRecursion (PointFits (IsUnits D) dimension) (map point_numbers v.items)) }
     ensures err { IfErr result (IsRefused ((rs : List (List (List ℤ))) × IsPolygon dimension given.entry.numbers.now given.entry.rings.now given.entry.polygons.now 0 rs × All (λ r. length r ≤ 1) rs)) }
 {
     let mut points = Vec::new(alloc);
@@ -207,6 +214,7 @@ fn lines<const D: u32>(
 ) -> Result<Vec<LineString<Decimal<D>>>, u32>
     requires { D ≤ 36 }
     ensures ok { IfOk result (λ v. (rs : List (List (List ℤ))) → IsPolygon dimension given.entry.numbers.now given.entry.rings.now given.entry.polygons.now polygon rs → map line_string_numbers v.items ≡ rs) }
+    ensures fits { IfOk result (λ v. PolygonFits (IsUnits D) dimension (map line_string_numbers v.items)) }
     ensures err { IfErr result (IsRefused ((rs : List (List (List ℤ))) × IsPolygon dimension given.entry.numbers.now given.entry.rings.now given.entry.polygons.now polygon rs)) }
 {
     let mut lines = Vec::new(alloc);
@@ -227,6 +235,7 @@ fn polygons<const D: u32>(
 ) -> Result<Vec<Polygon<Decimal<D>>>, u32>
     requires { D ≤ 36 }
     ensures ok { IfOk result (λ v. (ps : List (List (List (List ℤ)))) → ArePolygons dimension given.entry.numbers.now given.entry.rings.now given.entry.polygons.now ps → map polygon_numbers v.items ≡ ps) }
+    ensures fits { IfOk result (λ v. AllByRecursion (PolygonFits (IsUnits D) dimension) (map polygon_numbers v.items)) }
     ensures err { IfErr result (IsRefused ((ps : List (List (List (List ℤ)))) × ArePolygons dimension given.entry.numbers.now given.entry.rings.now given.entry.polygons.now ps)) }
 {
     let mut polygons = Vec::new(alloc);
@@ -243,6 +252,7 @@ fn polygons<const D: u32>(
 fn rebuilt<const D: u32>(alloc: Global, given: GivenArrays<'_>) -> Result<Wkt<Decimal<D>>, u32>
     requires { D ≤ 36 }
     ensures ok { IfOk result (λ w. (value : Value ℤ) → IsWellFormed (IsUnits D) value → AreArrays value given.entry.kind given.entry.dimension given.entry.numbers.now given.entry.rings.now given.entry.polygons.now → value_of (tree w) ≡ value) }
+    ensures fits { IfOk result (λ w. IsWellFormed (IsUnits D) (value_of (tree w))) }
     ensures err { IfErr result (IsRefused (AreOfSome D given.entry.kind given.entry.dimension given.entry.numbers.now given.entry.rings.now given.entry.polygons.now)) }
 {
     let d = dimension_of(given.dimension)?;
@@ -282,13 +292,29 @@ fn are_same(arrays: &Arrays, given: GivenArrays<'_>) -> bool
     same_offsets(&arrays.polygons, given.polygons)
 }
 
+/// The text of a geometry, if it can be written.
+fn write_any<T: WktNum>(alloc: Global, wkt: &Wkt<T>, likely: usize) -> Result<Vec<u8>, u32>
+    ensures { MatchResult result (λ v. IsWritten T.is_value T.num (tree_shape (tree wkt.now)) v.items)
+        (IsUnwritten (tree_shape (tree wkt.now))) }
+{
+    let Ok(mut sink) = Gathered::new(alloc, likely) else {
+        return Err(MEMORY);
+    };
+    match write_geometry(&mut sink, wkt) {
+        Ok(()) => Ok(sink.into_bytes()),
+        Err(WriteError::FmtError(_)) => Err(MEMORY),
+        Err(_) => Err(NOT_ARRAYS),
+    }
+}
+
 /// The text of a geometry whose arrays are those that were given.
 fn text_if_same<const D: u32>(
     alloc: Global,
     wkt: &Wkt<Decimal<D>>,
     given: GivenArrays<'_>,
 ) -> Result<Vec<u8>, u32>
-    requires { D ≤ 36 }
+    requires places { D ≤ 36 }
+    requires fits { IsWellFormed (IsUnits D) (value_of (tree wkt.now)) }
     ensures ok { IfOk result (λ v. IsTextOf D given.entry.kind given.entry.dimension given.entry.numbers.now given.entry.rings.now given.entry.polygons.now v.items) }
     ensures err { IfErr result (IsRefused ((value : Value ℤ) × IsWellFormed (IsUnits D) value × AreArrays value given.entry.kind given.entry.dimension given.entry.numbers.now given.entry.rings.now given.entry.polygons.now × (value_of (tree wkt.now) ≡ value) × All (IsSigned 63) given.entry.numbers.now)) }
 {

@@ -85,28 +85,64 @@ from k v = record { kind = k; dimension = dim_of v; flat = nothing }
 pub outcome : (P : ℤ → Type 0) (v : Value ℤ) → IsWellFormed P v → IsHeld v (arrays_of (events v)) ⊎ IsCollected v (arrays_of (events v))
 outcome P (Value.point d c) fit =
     inl (subst (IsHeld (Value.point d c)) (sym (listed-does part.Point (coordinate (size d)) (λ k. put_coordinate k (size d)) (coordinate-does (size d)) part.Geometry (option_to_list c) (from kind.Point (Value.point d c))))
-    (record { parts = (option_to_list c ∷ []) ∷ []; flat = refl; kind_is = refl; dimension_is = refl; one = refl;
-      holds = polygon-more _ [] (option_to_list c ∷ []) (ring-more _ [] [] (option_to_list c) (coordinates-hold P kind.Point refl d (option_to_list c) (point-fits P kind.Point refl d c fit) nothing [] [] [] begin)) }))
+    (record {
+      parts = (option_to_list c ∷ []) ∷ [];
+      flat = refl;
+      kind_is = refl;
+      dimension_is = refl;
+      one = refl;
+      holds = polygon-more _ [] (option_to_list c ∷ []) (ring-more _ [] [] (option_to_list c) (coordinates-hold P kind.Point refl d (option_to_list c) (point-fits P kind.Point refl d c fit) nothing [] [] [] begin));
+    }))
 outcome P (Value.line_string d cs) fit =
     inl (subst (IsHeld (Value.line_string d cs)) (sym (listed-does part.Point (coordinate (size d)) (λ k. put_coordinate k (size d)) (coordinate-does (size d)) part.Geometry cs (from kind.LineString (Value.line_string d cs))))
-    (record { parts = (cs ∷ []) ∷ []; flat = refl; kind_is = refl; dimension_is = refl; one = refl;
-      holds = polygon-more _ [] (cs ∷ []) (ring-more _ [] [] cs (coordinates-hold P kind.LineString refl d cs fit nothing [] [] [] begin)) }))
+    (record {
+      parts = (cs ∷ []) ∷ [];
+      flat = refl;
+      kind_is = refl;
+      dimension_is = refl;
+      one = refl;
+      holds = polygon-more _ [] (cs ∷ []) (ring-more _ [] [] cs (coordinates-hold P kind.LineString refl d cs fit nothing [] [] [] begin));
+    }))
 outcome P (Value.polygon d rs) fit =
     inl (subst (IsHeld (Value.polygon d rs)) (sym (polygon-does (size d) part.Geometry rs (from kind.Polygon (Value.polygon d rs))))
-    (record { parts = rs ∷ []; flat = refl; kind_is = refl; dimension_is = refl; one = refl;
-      holds = polygon-more _ [] rs (lines-hold P kind.Polygon refl d rs fit nothing [] [] begin) }))
+    (record {
+      parts = rs ∷ [];
+      flat = refl;
+      kind_is = refl;
+      dimension_is = refl;
+      one = refl;
+      holds = polygon-more _ [] rs (lines-hold P kind.Polygon refl d rs fit nothing [] [] begin);
+    }))
 outcome P (Value.multi_point d ms) fit =
     inl (subst (IsHeld (Value.multi_point d ms)) (sym (listed-does part.Point (member (size d)) (λ k. put_member k (size d)) (member-does (size d)) part.Geometry ms (from kind.MultiPoint (Value.multi_point d ms))))
-    (record { parts = map option_to_list ms ∷ []; flat = refl; kind_is = refl; dimension_is = refl; one = refl;
-      holds = polygon-more _ [] (map option_to_list ms) (members-hold P kind.MultiPoint refl d ms fit nothing [] [] begin) }))
+    (record {
+      parts = map option_to_list ms ∷ [];
+      flat = refl;
+      kind_is = refl;
+      dimension_is = refl;
+      one = refl;
+      holds = polygon-more _ [] (map option_to_list ms) (members-hold P kind.MultiPoint refl d ms fit nothing [] [] begin);
+    }))
 outcome P (Value.multi_line_string d ls) fit =
     inl (subst (IsHeld (Value.multi_line_string d ls)) (sym (listed-does part.Line (line (size d)) (λ k. put_line k (size d)) (line-does (size d)) part.Geometry ls (from kind.MultiLineString (Value.multi_line_string d ls))))
-    (record { parts = ls ∷ []; flat = refl; kind_is = refl; dimension_is = refl; one = refl;
-      holds = polygon-more _ [] ls (lines-hold P kind.MultiLineString refl d ls fit nothing [] [] begin) }))
+    (record {
+      parts = ls ∷ [];
+      flat = refl;
+      kind_is = refl;
+      dimension_is = refl;
+      one = refl;
+      holds = polygon-more _ [] ls (lines-hold P kind.MultiLineString refl d ls fit nothing [] [] begin);
+    }))
 outcome P (Value.multi_polygon d ps) fit =
     inl (subst (IsHeld (Value.multi_polygon d ps)) (sym (listed-does part.Polygon (polygon part.Polygon (size d)) (λ k. put_polygon k part.Polygon (size d)) (polygon-does (size d) part.Polygon) part.Geometry ps (from kind.MultiPolygon (Value.multi_polygon d ps))))
-    (record { parts = ps; flat = refl; kind_is = refl; dimension_is = refl; one = refl;
-      holds = polygons-hold P kind.MultiPolygon refl d ps fit nothing [] begin }))
+    (record {
+      parts = ps;
+      flat = refl;
+      kind_is = refl;
+      dimension_is = refl;
+      one = refl;
+      holds = polygons-hold P kind.MultiPolygon refl d ps fit nothing [] begin;
+    }))
 outcome P (Value.collection d vs) fit =
     inr (subst (IsCollected (Value.collection d vs)) (sym (collected (body (Value.collection d vs)) (from kind.GeometryCollection (Value.collection d vs)) refl)) (record { none = refl; some = refl; empty = refl }))
 
@@ -132,7 +168,7 @@ module _ (v : Value ℤ) (s0 s t : Filler) (begins : Begins s0) (fills : Fills s
       let (sz, one) = tells.held z in
       let is : view t ≡ arrays_of (events v) = tells.same ∙ made-is sz in
       elim out [
-      | inl h ↦ record {
+        | inl h ↦ record {
           parts = h.parts;
           flat = h.flat;
           kind_is = ap (λ (w : Headed). w.kind) is ∙ h.kind_is;
@@ -141,7 +177,7 @@ module _ (v : Value ℤ) (s0 s t : Filler) (begins : Begins s0) (fills : Fills s
           rings_are = ap (λ (w : Headed). w.flat.rings) is ∙ h.holds.rings ∙ ap (offsets 0) (append-nil (joined h.parts));
           polygons_are = ap (λ (w : Headed). w.flat.polygons) is ∙ h.holds.polygons;
         }
-      | inr c ↦ absurd (clash (is_collection s.kind) (is_collection (arrays_of (events v)).kind) one c.some (ap (λ (w : Headed). is_collection w.kind) (made-is sz)))
+        | inr c ↦ absurd (clash (is_collection s.kind) (is_collection (arrays_of (events v)).kind) one c.some (ap (λ (w : Headed). is_collection w.kind) (made-is sz)))
       ]
 
   none-large : (ns : List ℤ) → ns ≡ [] → HasLarge ns → ⊥

@@ -3,9 +3,9 @@ ghost use Rattle.wkt_fill.specs.Fronts.{FillsFrontIfAny};
 
 use crate::filler::Filler;
 use std::alloc::Global;
-use wkt_num::Decimal;
 use wkt_events::builder::At;
 use wkt_events::geometry;
+use wkt_num::Decimal;
 
 /// Arrays, and where their geometry ends in the text.
 #[derive(Drop)]

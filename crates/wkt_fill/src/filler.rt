@@ -5,10 +5,10 @@ ghost use Rattle.wkt_fill.specs.Filled.{view, Becomes, Begins, Tells, with_flat}
 
 use crate::status::{MEMORY, NOT_FLAT, TOO_LARGE};
 use std::alloc::Global;
-use wkt_num::Decimal;
-use wkt_types::{Dimension, GeometryType};
 use wkt_events::builder::{At, Builder, Part};
 use wkt_events::read_number_at;
+use wkt_num::Decimal;
+use wkt_types::{Dimension, GeometryType};
 
 /// Arrays as far as they are filled. Where `status` isn't 0 it says why they are not.
 #[derive(Drop)]
@@ -101,9 +101,8 @@ impl Filler {
                     self.end_polygon();
                 }
             }
-            GeometryType::Polygon
-            | GeometryType::MultiPoint
-            | GeometryType::MultiLineString => self.end_polygon(),
+            GeometryType::Polygon | GeometryType::MultiPoint | GeometryType::MultiLineString =>
+                self.end_polygon(),
             GeometryType::MultiPolygon | GeometryType::GeometryCollection => {}
         }
     }

@@ -1,26 +1,28 @@
 use Rattle.std.proofs.Common.{◌≡◌, ◌+◌, subst, arith}
+use Rattle.wkt_c.specs.Answer.{read_at, print_at, places_in, asks_whole}
 use Rattle.wkt_c.specs.Column.{row_count, row, is_null, IsRowAnswer}
 use Rattle.wkt_c.specs.Rows.{HoldsAnswers}
 use Rattle.wkt_c.proofs.Columns.{below, no-rows, one-more}
 use Rattle.wkt_c.proofs.column.answers.Goals as goal
 
 pub slice_bounds-text-end : goal.slice_bounds-text-end
-slice_bounds-text-end g c = below c.args.given.texts.now c.args.given.offsets.now c.requires.offsets (c.loop-i.i + 1) (omega arith)
+slice_bounds-text-end c = below c.args.given.texts.now c.args.given.offsets.now c.requires.offsets (c.loop-i.i + 1) (omega arith)
 
 pub loop-i-init : goal.loop-i-init
-loop-i-init g c = no-rows _ c.in_ok-rows.rows c.in_ok-rows.ensures
+loop-i-init c = no-rows _ c.in_ok-rows.rows c.in_ok-rows.ensures
 
 pub loop-i-preserved : goal.loop-i-preserved
-loop-i-preserved g c =
-    let read = g.T.WktNum.read in
-    let num = g.T.WktNum.num in
+loop-i-preserved c =
+    let whole = asks_whole c.args.asked in
+    let read = read_at (places_in c.args.asked) in
+    let num = print_at (places_in c.args.asked) in
     let given = c.args.given in
     let a = c.in_ok-add_answer.ensures in
-    one-more (λ k answer status. IsRowAnswer read num (is_null given.valid.now k) (row given.texts.now given.offsets.now k) answer status) c.loop-i.i _ _ a.text a.status c.loop-i.invariant
-    (subst (λ n. IsRowAnswer read num n (row given.texts.now given.offsets.now c.loop-i.i) a.text a.status) {x = c.is_null-null.result} {y = is_null given.valid.now c.loop-i.i} c.is_null-null.ensures a.is)
+    one-more (λ k answer status. IsRowAnswer whole read num (is_null given.valid.now k) (row given.texts.now given.offsets.now k) answer status) c.loop-i.i _ _ a.text a.status c.loop-i.invariant
+    (subst (λ n. IsRowAnswer whole read num n (row given.texts.now given.offsets.now c.loop-i.i) a.text a.status) {x = c.is_null-null.result} {y = is_null given.valid.now c.loop-i.i} c.is_null-null.ensures a.is)
     a.added
 
 pub returns : goal.returns
-returns g c =
+returns c =
     let all : c.loop-i.i ≡ row_count c.args.given.offsets.now = omega arith in
-    subst (λ n. HoldsAnswers g.T.WktNum.read g.T.WktNum.num c.args.given.texts.now c.args.given.offsets.now c.args.given.valid.now n c.loop-i.rows) all c.loop-i.invariant
+    subst (λ n. HoldsAnswers (asks_whole c.args.asked) (read_at (places_in c.args.asked)) (print_at (places_in c.args.asked)) c.args.given.texts.now c.args.given.offsets.now c.args.given.valid.now n c.loop-i.rows) all c.loop-i.invariant

@@ -4,6 +4,8 @@ use Rattle.wkt_access.specs.declared.dimensions.Dimension.{Dimension}
 use Rattle.wkt_read.specs.Kinds.{dim_of}
 use Rattle.wkt_c.specs.Answer.{IsRefused, dimension_number}
 use Rattle.wkt_c.specs.Rebuilding.{IsRing, ArePolygons, IsPolygon}
+use Rattle.wkt_num.specs.Decimal.{IsUnits}
+use Rattle.wkt_c.proofs.Fitting.{point-formed, line-formed, polygon-formed, multi_point-formed, multi_line_string-formed, multi_polygon-formed}
 use Rattle.wkt_c.proofs.Refused.{not-there, passed-on}
 use Rattle.wkt_c.proofs.Rebuilt.{built-point, built-line, built-polygon, built-multi_point, built-multi_line_string, built-multi_polygon, some-point, some-line, some-polygon, some-multi_point, some-multi_line_string, some-polygons}
 use Rattle.wkt_c.proofs.rebuild.rebuilt.Goals as goal
@@ -66,3 +68,21 @@ returns-in_ok-lines-in-4-clause-ok g c = λ v fits are. let given = c.args.given
 
 pub returns-in_ok-polygons-in-5-clause-ok : goal.returns-in_ok-polygons-in-5-clause-ok
 returns-in_ok-polygons-in-5-clause-ok g c = λ v fits are. let given = c.args.given in built-multi_polygon g.row.D given.kind given.dimension given.numbers.now given.rings.now given.polygons.now c.in_ok-d.d c.in_ok-d.ensures.ok v fits are c.in_ok-d.d refl c.in-5.is c.new-in-5.result c.new-in-5.ensures.dim _ c.new-in-5.ensures.polygons c.in_ok-polygons-in-5.ensures.ok
+
+pub returns-in_ok-point-in-0-clause-fits : goal.returns-in_ok-point-in-0-clause-fits
+returns-in_ok-point-in-0-clause-fits g c = point-formed (IsUnits g.row.D) c.in_ok-d.d c.in_ok-point-in-0.field-0 c.in_ok-point-in-0.ensures.dim c.in_ok-point-in-0.ensures.fits
+
+pub returns-in_ok-line-in-1-clause-fits : goal.returns-in_ok-line-in-1-clause-fits
+returns-in_ok-line-in-1-clause-fits g c = line-formed (IsUnits g.row.D) c.in_ok-d.d c.in_ok-line-in-1.field-0 c.in_ok-line-in-1.ensures.dim c.in_ok-line-in-1.ensures.fits
+
+pub returns-in_ok-lines-in-2-clause-fits : goal.returns-in_ok-lines-in-2-clause-fits
+returns-in_ok-lines-in-2-clause-fits g c = polygon-formed (IsUnits g.row.D) c.in_ok-d.d c.new.result c.new.ensures.dim _ c.new.ensures.rings c.in_ok-lines-in-2.ensures.fits
+
+pub returns-in_ok-points-in-3-clause-fits : goal.returns-in_ok-points-in-3-clause-fits
+returns-in_ok-points-in-3-clause-fits g c = multi_point-formed (IsUnits g.row.D) c.in_ok-d.d c.new-in-3.result c.new-in-3.ensures.dim _ c.new-in-3.ensures.points c.in_ok-points-in-3.ensures.fits
+
+pub returns-in_ok-lines-in-4-clause-fits : goal.returns-in_ok-lines-in-4-clause-fits
+returns-in_ok-lines-in-4-clause-fits g c = multi_line_string-formed (IsUnits g.row.D) c.in_ok-d.d c.new-in-4.result c.new-in-4.ensures.dim _ c.new-in-4.ensures.line_strings c.in_ok-lines-in-4.ensures.fits
+
+pub returns-in_ok-polygons-in-5-clause-fits : goal.returns-in_ok-polygons-in-5-clause-fits
+returns-in_ok-polygons-in-5-clause-fits g c = multi_polygon-formed (IsUnits g.row.D) c.in_ok-d.d c.new-in-5.result c.new-in-5.ensures.dim _ c.new-in-5.ensures.polygons c.in_ok-polygons-in-5.ensures.fits

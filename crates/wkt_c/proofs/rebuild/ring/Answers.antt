@@ -4,6 +4,9 @@ use Rattle.wkt_access.specs.Values.{size}
 use Rattle.wkt_types.specs.Coords.{numbers_of}
 use Rattle.wkt_c.proofs.Offsets.{ring-step, ring-whole}
 use Rattle.wkt_c.proofs.Refused.{not-there, no-bounds, no-coord}
+use Rattle.wkt_num.specs.Decimal.{IsUnits}
+use Rattle.wkt_access.specs.WellFormed.{CoordFits}
+use Rattle.wkt_c.proofs.Fitting.{all-more}
 use Rattle.wkt_c.proofs.rebuild.ring.Goals as goal
 
 pub returns-in_err-from-clause-err : goal.returns-in_err-from-clause-err
@@ -18,11 +21,19 @@ returns-in_err-c-clause-err g c =
     not-there _ (no-coord _ _ _ _ c.in_ok-from.from c.in_ok-from.to c.in_ok-from.ensures.ok.0 c.in_ok-from.ensures.ok.1 c.loop-i.i (omega arith)) h
 
 pub loop-i-preserved : goal.loop-i-preserved
-loop-i-preserved g c = λ r h.
-    let items : c.push.new.self.items ≡ c.loop-i.coords.items ++ c.in_ok-c.c ∷ [] = search rules in
-    ap (λ xs. map numbers_of xs) items ∙ map_push numbers_of c.loop-i.coords.items c.in_ok-c.c
-    ∙ ring-step _ _ _ _ r h c.in_ok-from.from c.in_ok-from.to c.in_ok-from.ensures.ok.0 c.in_ok-from.ensures.ok.1 c.loop-i.i (omega arith) (omega arith) _ (c.loop-i.invariant r h) _ c.in_ok-c.ensures.ok
+loop-i-preserved g c = record {
+  are = λ r h.
+      let items : c.push.new.self.items ≡ c.loop-i.coords.items ++ c.in_ok-c.c ∷ [] = search rules in
+      ap (λ xs. map numbers_of xs) items ∙ map_push numbers_of c.loop-i.coords.items c.in_ok-c.c
+      ∙ ring-step _ _ _ _ r h c.in_ok-from.from c.in_ok-from.to c.in_ok-from.ensures.ok.0 c.in_ok-from.ensures.ok.1 c.loop-i.i (omega arith) (omega arith) _ (c.loop-i.invariant.are r h) _ c.in_ok-c.ensures.ok;
+  fits =
+      let items : c.push.new.self.items ≡ c.loop-i.coords.items ++ c.in_ok-c.c ∷ [] = search rules in
+      all-more (CoordFits (IsUnits g.row.D) c.args.dimension) numbers_of c.loop-i.coords.items _ c.in_ok-c.c c.loop-i.invariant.fits c.in_ok-c.ensures.fits items;
+}
 
 pub returns-clause-ok : goal.returns-clause-ok
 returns-clause-ok g c = λ r h.
-    ring-whole _ _ _ _ r h c.in_ok-from.from c.in_ok-from.to c.in_ok-from.ensures.ok.0 c.in_ok-from.ensures.ok.1 c.loop-i.i (omega arith) _ (c.loop-i.invariant r h)
+    ring-whole _ _ _ _ r h c.in_ok-from.from c.in_ok-from.to c.in_ok-from.ensures.ok.0 c.in_ok-from.ensures.ok.1 c.loop-i.i (omega arith) _ (c.loop-i.invariant.are r h)
+
+pub returns-clause-fits : goal.returns-clause-fits
+returns-clause-fits g c = c.loop-i.invariant.fits

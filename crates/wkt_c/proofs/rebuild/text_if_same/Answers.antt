@@ -15,7 +15,7 @@ returns-clause-ok g c =
     (sym d-is ∙ c.number_of_dimension-dimension.ensures ∙ ap dimension_number c.dimension.ensures) in
     ok-of _ _ c.write_any.result
     (match-map c.write_any.result
-    (λ v w. text-of _ _ _ c.in-Ok.arrays (tree c.args.wkt.now) _ _ _ _ _ are (c.are_same.ensures.0 c.if-not-are_same.false) c.reads_back.ensures w)
+    (λ v w. text-of _ _ _ c.in-Ok.arrays (tree c.args.wkt.now) _ _ _ _ _ c.requires.fits are (c.are_same.ensures.0 c.if-not-are_same.false) c.reads_back.ensures w)
     (λ s h. h) c.write_any.ensures)
 
 pub returns-clause-err : goal.returns-clause-err

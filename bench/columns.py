@@ -1,0 +1,135 @@
+"""Processor time and peak of memory for a column of points of six decimals, beside Shapely: columns.py [ROWS [FEW]]
+
+Each row of the table is a process of its own: the seconds are the least of three calls, and the memory is the peak of the
+first call above what stood before it. Shapely 1.8 has a call a row, so it gets FEW rows (by default a tenth), and its
+figures are scaled up. It needs NumPy and pandas, and Shapely for its rows.
+"""
+import os
+import resource
+import subprocess
+import sys
+
+HERE = os.path.dirname(os.path.abspath(__file__))
+LINES = os.path.join(HERE, "lines.py")
+
+
+def texts_of(rows):
+    made = subprocess.run([sys.executable, LINES, "points", "6", str(rows * 29)], stdout=subprocess.PIPE, check=True)
+    return made.stdout.decode().split("\n")[:rows]
+
+
+def spelled_otherwise(texts):
+    return [text.replace("POINT(", "point ( ") for text in texts]
+
+
+def arrow_of(texts):
+    import numpy
+    import wkt
+
+    data = "".join(texts).encode()
+    offsets = numpy.cumsum([0] + list(map(len, texts))).astype(numpy.int64)
+    return wkt.ArrowTexts(numpy.frombuffer(data, numpy.uint8), offsets, numpy.zeros(len(texts), numpy.uint32))
+
+
+def tasks():
+    """Of each task its name, what is made before, and what is measured."""
+    import wkt
+
+    def arrays_of(texts):
+        return wkt.to_arrays_column(texts, 6)
+
+    def series_of(texts):
+        import pandas
+
+        return pandas.Series(texts)
+
+    def objects_of(texts):
+        import numpy
+
+        return numpy.array(texts, object)
+
+    return {
+        "canonical, list": (list, wkt.canonical),
+        "canonical, list, spelled otherwise": (spelled_otherwise, wkt.canonical),
+        "canonical, array of objects": (objects_of, wkt.canonical),
+        "canonical, Series": (series_of, wkt.canonical),
+        "canonical, Arrow's buffers": (arrow_of, wkt.canonical),
+        "same, two lists": (lambda texts: (texts, spelled_otherwise(texts)), lambda two: wkt.same(*two)),
+        "to arrays, list": (list, arrays_of),
+        "to arrays, Arrow's buffers": (arrow_of, arrays_of),
+        "to arrays and GeoArrow, list": (list, lambda texts: arrays_of(texts).geoarrow(6)),
+        "from arrays, list": (arrays_of, lambda held: wkt.from_arrays_column(held, 6)),
+        "lines, bytes": (lambda texts: "\n".join(texts).encode(), wkt.lines),
+    }
+
+
+def shapely_tasks():
+    import numpy
+    import shapely.wkt
+    from shapely.geometry import Point
+
+    loads = shapely.wkt.loads
+
+    def dumps(made):
+        return [shapely.wkt.dumps(one, trim=True, rounding_precision=6) for one in made]
+
+    def coordinates(texts):
+        return numpy.array([loads(text).coords[0] for text in texts])
+
+    return {
+        "Shapely: loads and dumps (canonical)": (list, lambda texts: dumps(map(loads, texts))),
+        "Shapely: loads and equals_exact (same)": (
+            lambda texts: (texts, spelled_otherwise(texts)),
+            lambda two: [loads(a).equals_exact(loads(b), 0) for a, b in zip(*two)],
+        ),
+        "Shapely: loads and coords (to arrays)": (list, coordinates),
+        "Shapely: Point and dumps (from arrays)": (coordinates, lambda held: dumps(map(Point, held))),
+    }
+
+
+def resident():
+    """Bytes that are in memory, and the most that were since the mark was set back."""
+    with open("/proc/self/status", encoding="ascii") as lines:
+        held = dict(line.split(":", 1) for line in lines)
+    return int(held["VmRSS"].split()[0]) << 10, int(held["VmHWM"].split()[0]) << 10
+
+
+def measure(name, rows):
+    known = shapely_tasks() if name.startswith("Shapely") else tasks()
+    prepare, call = known[name]
+    given = prepare(texts_of(rows))
+    with open("/proc/self/clear_refs", "w", encoding="ascii") as mark:
+        mark.write("5")
+    before = resident()[0]
+    best, peak = 1e9, 0
+    for _ in range(3):
+        start = resource.getrusage(resource.RUSAGE_SELF)
+        answer = call(given)
+        end = resource.getrusage(resource.RUSAGE_SELF)
+        best = min(best, end.ru_utime + end.ru_stime - start.ru_utime - start.ru_stime)
+        peak = peak or resident()[1] - before
+        del answer
+    print(best, peak)
+
+
+def main(rows=1_000_000, few=None):
+    few = few or rows // 10
+    names = list(tasks())
+    try:
+        names += shapely_tasks()
+    except ImportError:
+        print("no Shapely", file=sys.stderr)
+    print("| %d points | seconds of processor time | peak of memory |\n|---|---|---|" % rows)
+    for name in names:
+        count = few if name.startswith("Shapely") else rows
+        made = subprocess.run([sys.executable, __file__, name, str(count)], stdout=subprocess.PIPE, check=True)
+        seconds, peak = map(float, made.stdout.split())
+        scale = rows / count
+        print("| %s | %.2f | %.0f MB |" % (name, seconds * scale, peak * scale / 1e6), flush=True)
+
+
+if __name__ == "__main__":
+    if len(sys.argv) == 3 and not sys.argv[1].isdigit():
+        measure(sys.argv[1], int(sys.argv[2]))
+    else:
+        main(*map(int, sys.argv[1:]))

@@ -1,0 +1,8 @@
+use Rattle.std.proofs.Common.{◌≤◌, length}
+use Rattle.wkt_c.proofs.chunks.whole_within.Given as goal
+
+abbrev pub invariant-back : goal.invariant-back
+invariant-back l = l.at ≤ length l.rest
+
+abbrev pub decreases-back : goal.decreases-back
+decreases-back l = l.at

@@ -1,0 +1,36 @@
+-- The answers to some lines at the front of an input.
+use Rattle.std.specs.Prelude.{◌≡◌, ◌<◌, ◌≤◌, ◌⊎◌, ℕ, zero, suc, List, Option, Bool, true, false, length, take}
+use Rattle.wkt_lines.specs.Laws.{IsWhole}
+use Rattle.wkt_lines.specs.Output.{IsOutput}
+use Rattle.wkt_lines.specs.Splitting.{before_feed}
+
+-- So many bytes at the front are whole lines, or all of the input, where it ends here.
+abbrev pub AreWholeLines : Bool → List ℕ → ℕ → Type 0
+AreWholeLines last input n = IsWhole (take n input) ⊎ ((last ≡ true) × (n ≡ length input))
+
+module _ {N : Type 0} (read : List ℕ → Option N) (num : N → List ℕ) where
+  -- So many bytes of the input are taken, and the first `written` bytes of the buffer are the answers to them. None is taken only where there is no whole line.
+  pub record AnswersSome (last : Bool) (input : List ℕ) (taken written : ℕ) (out : List ℕ) : Type 0 where
+    pub within : taken ≤ length input
+    pub lines : AreWholeLines last input taken
+    pub fits : written ≤ length out
+    pub answers : IsOutput read num (take taken input) (take written out)
+    pub some : taken ≡ 0 → (length input ≡ 0) ⊎ ((last ≡ false) × (before_feed input ≡ input))
+
+  -- The answers to some first lines have no room in the buffer.
+  pub record LacksRoom (last : Bool) (input out : List ℕ) : Type 0 where
+    pub taken : ℕ
+    pub within : taken ≤ length input
+    pub lines : AreWholeLines last input taken
+    pub answers : List ℕ
+    pub are : IsOutput read num (take taken input) answers
+    pub small : length out < length answers
+
+  -- Memory ran out, or not even the first lines' answers have room.
+  abbrev pub AnswersNone : Bool → List ℕ → List ℕ → ℕ → Type 0
+  AnswersNone last input out status = (status ≡ 22) ⊎ ((status ≡ 21) × LacksRoom last input out)
+
+-- Whether the input ends here.
+abbrev pub ends_here : ℕ → Bool
+ends_here zero = false
+ends_here (suc n) = true

@@ -1,0 +1,57 @@
+//! What a call asks for beside a text: how many places, and whether the text is to be one geometry as a whole.
+ghost use Rattle.std.specs.Prelude.{◌≡◌, ◌↔◌, ◌<◌, ◌≤◌, IsTrue, length, drop, true, false};
+ghost use Rattle.wkt_num.specs.Bytes.{AllWhite};
+ghost use Rattle.wkt_c.specs.Answer.{places_in, asks_whole, EndsAsAsked};
+
+use wkt_read::words::is_white;
+
+/// What is added to the number of places where whole texts are asked for.
+const WHOLE: u32 = 256;
+/// There are number types of up to so many places.
+const MOST: u32 = 18;
+
+/// How many places are asked for.
+pub(crate) fn places_of(asked: u32) -> u32
+    ensures { result ≡ places_in asked }
+{
+    if asked < WHOLE { asked } else { asked - WHOLE }
+}
+
+/// Whether there are number types of as many places as are asked for.
+pub(crate) fn has_places(asked: u32) -> bool
+    ensures yes { result ≡ true → places_in asked ≤ 18 }
+    ensures no { result ≡ false → 18 < places_in asked }
+{
+    places_of(asked) <= MOST
+}
+
+/// Whether whole texts are asked for.
+fn asks_whole(asked: u32) -> bool
+    ensures { result ≡ asks_whole asked }
+{
+    asked >= WHOLE
+}
+
+/// Whether there is nothing but white space.
+fn is_blank(bytes: &[u8]) -> bool
+    ensures { IsTrue result ↔ AllWhite bytes.now }
+{
+    for byte in bytes {
+        if !is_white(*byte) {
+            return false;
+        }
+    }
+    true
+}
+
+/// Whether a geometry that ends there is as asked for.
+pub(crate) fn ends_as_asked(text: &[u8], end: usize, asked: u32) -> bool
+    requires { end ≤ length text.now }
+    ensures yes { result ≡ true → EndsAsAsked (asks_whole asked) text.now end }
+    ensures no { result ≡ false → (asks_whole asked ≡ true) × (AllWhite (drop end text.now) → ⊥) }
+{
+    if !asks_whole(asked) {
+        return true;
+    }
+    is_blank(&text[end..])
+}

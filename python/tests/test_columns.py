@@ -1,0 +1,540 @@
+"""Columns of each kind, what becomes of refused rows, explanations, streams, Arrow and GeoArrow."""
+import gc
+import io
+import os
+import pickle
+import random
+import threading
+import time
+import unittest
+import unittest.mock
+
+import wkt
+
+try:
+    import numpy
+except ImportError:
+    numpy = None
+try:
+    import pandas
+except ImportError:
+    pandas = None
+try:
+    import shapely.wkt
+except ImportError:
+    shapely = None
+try:
+    import tqdm
+except ImportError:
+    tqdm = None
+
+TEXTS = ["point ( 1 2.50 )", None, "POINT(3 4)", "PINT(5 6)", "MultiPoint(1 2)"]
+ANSWERS = ["POINT(1 2.5)", None, "POINT(3 4)", None, "MULTIPOINT((1 2))"]
+KEPT = ["POINT(1 2.5)", None, "POINT(3 4)", "PINT(5 6)", "MULTIPOINT((1 2))"]
+STATUSES = [0, 28, 0, 3, 0]
+GOOD, GOOD_ANSWERS = [TEXTS[0], TEXTS[2], TEXTS[4]], [ANSWERS[0], ANSWERS[2], ANSWERS[4]]
+
+
+def arrow(texts, first=0):
+    """Texts as Arrow buffers, of which the first rows are left out by an offset."""
+    held = [b"" if text is None else text.encode() for text in texts]
+    offsets = numpy.cumsum([0] + list(map(len, held))).astype(numpy.int64)
+    statuses = numpy.array([0 if text is not None else 28 for text in texts], numpy.uint32)
+    return wkt.ArrowTexts(numpy.frombuffer(b"".join(held), numpy.uint8), offsets, statuses)
+
+
+class Lent:
+    """An Arrow column of another producer: utf8 with offsets of 32 bits, from a row on."""
+
+    def __init__(self, texts, first, format=b"u"):
+        from wkt import _arrow as api
+
+        self.whole, self.first, self.format, self.api = arrow(texts), first, format, api
+
+    def __arrow_c_array__(self, requested_schema=None):
+        capsules = self.whole.__arrow_c_array__()
+        api = self.api
+        schema = api._Schema.from_address(api._api.PyCapsule_GetPointer(capsules[0], b"arrow_schema"))
+        lent = api._Array.from_address(api._api.PyCapsule_GetPointer(capsules[1], b"arrow_array"))
+        schema.format = self.format
+        if self.format in (b"u", b"z"):
+            self.offsets = self.whole.offsets.astype(numpy.int32)
+            lent.buffers[1] = self.offsets.ctypes.data
+        lent.length, lent.offset = len(self.whole) - self.first, self.first
+        return capsules
+
+
+class Kinds(unittest.TestCase):
+    def test_lists(self):
+        self.assertEqual(wkt.canonical(TEXTS, invalid="null"), ANSWERS)
+        self.assertEqual(wkt.canonical(tuple(TEXTS), invalid="keep"), KEPT)
+        self.assertEqual(wkt.canonical([b"point(1 2)", "point(1 2)"]), ["POINT(1 2)"] * 2)
+        self.assertEqual(wkt.canonical([]), [])
+        with self.assertRaises(ValueError):
+            wkt.canonical(TEXTS, invalid="drop")
+
+    @unittest.skipIf(numpy is None, "no NumPy")
+    def test_arrays(self):
+        answers = wkt.canonical(numpy.array(TEXTS, object), invalid="null")
+        self.assertEqual((answers.dtype, answers.tolist()), (numpy.dtype(object), ANSWERS))
+        answers = wkt.canonical(numpy.array(GOOD + GOOD, object).reshape(2, 3))
+        self.assertEqual(answers.tolist(), [GOOD_ANSWERS, GOOD_ANSWERS])
+        for kind in "US":
+            answers = wkt.canonical(numpy.array(GOOD, kind))
+            self.assertEqual(answers.dtype.kind, kind)
+            self.assertEqual(answers.astype("U").tolist(), GOOD_ANSWERS)
+        made = numpy.array([text.encode() for text in GOOD + ["x", "", "P\xd6INT"]]).reshape(2, 3)
+        answers = wkt.canonical(made, invalid="null")
+        self.assertEqual(answers.tolist(), [[text.encode() for text in GOOD_ANSWERS], [b"", b"", b""]])
+        self.assertEqual(answers.dtype, numpy.dtype("S%d" % max(map(len, GOOD_ANSWERS))))
+        self.assertEqual(wkt.canonical(made[:, ::2], invalid="keep")[1].tolist(), [b"x", "P\xd6INT".encode()])
+        self.assertEqual(wkt.reads(made).tolist(), [[True] * 3, [False] * 3])
+        self.assertEqual(wkt.to_arrays_column(made).statuses.tolist(), wkt.canonical_column(made)[1])
+        self.assertEqual(wkt.canonical(numpy.array([], "S5")).tolist(), [])
+        with self.assertRaises(wkt.WktError) as raised:
+            wkt.canonical(made)
+        self.assertEqual((raised.exception.row, raised.exception.explanation.start), (3, 0))
+        answers = wkt.canonical(numpy.array(["x", "point(1 2)"]), invalid="null")
+        self.assertEqual(answers.tolist(), ["", "POINT(1 2)"])
+        self.assertEqual(wkt.canonical(numpy.array(GOOD, object)[::2]).tolist(), GOOD_ANSWERS[::2])
+        with self.assertRaises(TypeError):
+            wkt.canonical(numpy.array("POINT(1 2)", object))
+        with self.assertRaises(TypeError):
+            wkt.canonical(numpy.array([1, 2]))
+
+    @unittest.skipIf(pandas is None, "no pandas")
+    def test_series(self):
+        index = [7, 5, 3, 1, 9]
+        for dtype in ("object", "string"):
+            series = pandas.Series(TEXTS, index, name="geometry", dtype=dtype)
+            for invalid, wanted in (("null", ANSWERS), ("keep", KEPT)):
+                answers = wkt.canonical(series, invalid=invalid)
+                self.assertIsInstance(answers, pandas.Series)
+                self.assertEqual((answers.index.tolist(), answers.name, str(answers.dtype)), (index, "geometry", dtype))
+                self.assertEqual([None if pandas.isna(text) else text for text in answers], wanted)
+            with self.assertRaises(wkt.WktError) as raised:
+                wkt.canonical(series)
+            self.assertEqual(raised.exception.row, 3)
+        nulls = pandas.Series(["point(1 2)", float("nan"), pandas.NA, None], dtype=object)
+        self.assertEqual(wkt.canonical(nulls).tolist(), ["POINT(1 2)", None, None, None])
+        frame = pandas.DataFrame({"g": TEXTS})
+        self.assertEqual(frame[wkt.reads(frame.g)].g.tolist(), [TEXTS[0], TEXTS[2], TEXTS[4]])
+
+    @unittest.skipIf(numpy is None, "no NumPy")
+    def test_arrow(self):
+        texts = TEXTS * 50 + ["pÖint(1 2)"]
+        answers, statuses = wkt.canonical_column(texts)
+        given = arrow(texts)
+        self.assertEqual(given.to_pylist(), texts)
+        made = wkt.canonical(given, invalid="null")
+        self.assertIsInstance(made, wkt.ArrowTexts)
+        self.assertEqual((made.to_pylist(), made.statuses.tolist(), len(made)), (answers, statuses, len(texts)))
+        kept = wkt.canonical(given, invalid="keep")
+        self.assertEqual(kept.to_pylist(), wkt.canonical(texts, invalid="keep"))
+        self.assertEqual(set(kept.statuses.tolist()), {0, 28})
+        self.assertEqual(wkt.canonical(made).to_pylist(), answers)
+        self.assertEqual(wkt.canonical_column(given), (answers, statuses))
+        self.assertEqual(wkt.reads(given).tolist(), wkt.reads(texts))
+        self.assertEqual(wkt.to_arrays_column(given).numbers.tolist(), wkt.to_arrays_column(texts).numbers.tolist())
+        with self.assertRaises(wkt.WktError) as raised:
+            wkt.canonical(given)
+        self.assertEqual((raised.exception.row, raised.exception.status), (3, 3))
+        self.assertEqual(raised.exception.explanation, wkt.explain("PINT(5 6)"))
+        for first in (0, 1, 7, 8, 13):
+            for format in (b"u", b"z", b"U", b"Z"):
+                made = wkt.canonical(Lent(texts, first, format), invalid="null")
+                self.assertEqual(made.to_pylist(), answers[first:])
+        with self.assertRaises(TypeError):
+            wkt.canonical(Lent(texts, 0, b"l"))
+        self.assertEqual(wkt.canonical(arrow([])).to_pylist(), [])
+        many = ["MULTIPOINT(" + ",".join(["EMPTY"] * 50) + ")", "MULTIPOINT(" + ",".join(["1 2"] * 50) + ")"]
+        self.assertEqual(wkt.canonical(arrow(many)).to_pylist(), wkt.canonical(many))
+
+    @unittest.skipIf(numpy is None, "no NumPy")
+    def test_arrow_lets_go(self):
+        """What is lent lives until its release is called, moved or not, and until its capsule is gone."""
+        from wkt import _arrow as api
+
+        for moved in (False, True):
+            capsules = arrow(TEXTS).__arrow_c_array__()
+            gc.collect()
+            self.assertEqual(len(api._alive), 2)
+            if moved:  # as the interface has a consumer do it
+                for name, kind, capsule in zip((b"arrow_schema", b"arrow_array"), (api._Schema, api._Array), capsules):
+                    there = kind.from_address(api._api.PyCapsule_GetPointer(capsule, name))
+                    mine = kind()
+                    api.ctypes.memmove(api.ctypes.addressof(mine), api.ctypes.addressof(there), api.ctypes.sizeof(kind))
+                    there.release = type(there.release)()
+                    mine.release(api.ctypes.byref(mine))
+                self.assertEqual(len(api._alive), 0)
+            capsules = capsule = None
+            gc.collect()
+            self.assertEqual((api._alive, api._structures), ({}, {}))
+
+    def test_long_columns(self):
+        """More rows than a block has."""
+        rows = 150_001
+        texts = ["point(%d 1.%d)" % (i, i) for i in range(rows)]
+        texts[70_000] = None
+        told = []
+        answers = wkt.canonical(texts, progress=told.append)
+        wanted = ["POINT(%d %s)" % (i, ("1.%d" % i).rstrip("0").rstrip(".")) for i in range(rows)]
+        wanted[70_000] = None
+        self.assertEqual(answers, wanted)
+        self.assertEqual((told[-1], sorted(told), len(told) > 1), (rows, told, True))
+        self.assertEqual(wkt.same(texts, answers), [True] * 70_000 + [None] + [True] * 80_000)
+        self.assertEqual(wkt.same(texts[0], texts[:3]), [True, False, False])
+        held = wkt.to_arrays_column(texts)
+        self.assertEqual((list(held.row(-1).numbers), len(held.kinds)), ([150_000_000_000, 1_150_000], rows))
+        texts[140_000] = "POINT(1)"
+        for call in (wkt.canonical, wkt.to_arrays, lambda it: wkt.same(it, texts)):
+            with self.assertRaises(wkt.WktError) as raised:
+                call(texts)
+            self.assertEqual(raised.exception.row, 140_000)
+        if numpy is not None:
+            made = wkt.canonical(arrow(texts), invalid="null")
+            self.assertEqual(made.to_pylist(), wkt.canonical(texts, invalid="null"))
+            twice = wkt.to_arrays_column(texts + texts)
+            self.assertEqual(wkt.from_arrays_column(twice)[0][rows + 5], answers[5])
+            for name in ("number_offsets", "ring_offsets", "polygon_offsets"):
+                once = getattr(held, name)
+                self.assertEqual(len(getattr(twice, name)), 2 * rows + 1)
+                self.assertEqual(getattr(twice, name)[1000], once[1000])
+
+    def test_same(self):
+        texts = ["POINT(1 2)", None, "POINT(1 2)", "x"]
+        others = ["point(1 2.0)", "POINT(1 2)", "POINT(2 1)", "POINT(1 2)"]
+        self.assertEqual(wkt.same(texts, others, invalid="null"), [True, None, False, None])
+        self.assertEqual(wkt.same(others, texts[0], invalid="null"), [True, True, False, True])
+        self.assertEqual(wkt.same(texts[:3], None), [None, None, None])
+        with self.assertRaises(ValueError):
+            wkt.same(texts, others[:3])
+        # A row that is null in one column isn't refused for the other's.
+        self.assertEqual(wkt.same([None, "POINT(1 2)"], ["x", "POINT(1 2)"]), [None, True])
+        with self.assertRaises(wkt.WktError) as raised:
+            wkt.same("POINT(1 2)", "POINT(1")
+        self.assertEqual(raised.exception.explanation.text, "POINT(1")
+
+    def test_long_answers(self):
+        """Answers that are far longer than is likely."""
+        many = ["MULTIPOINT(" + ",".join(["EMPTY"] * 1000) + ")", None, "MULTIPOINT(" + ",".join(["1 2"] * 1000) + ")"]
+        answers = [many[0], None, many[2].replace("1 2", "(1 2)")]
+        self.assertEqual(wkt.canonical(many), answers)
+        self.assertEqual(wkt.canonical(many[2]), answers[2])
+        held = wkt.to_arrays_column(many)
+        self.assertEqual(wkt.from_arrays_column(held), (answers, [0, 28, 0]))
+        self.assertEqual(wkt.from_arrays(wkt.to_arrays(many)), answers)
+        self.assertEqual(wkt.from_arrays_column(wkt.to_arrays_column(many[:1])), ([many[0]], [0]))
+        self.assertEqual(wkt.lines(many[2].encode()), answers[2].encode() + b"\n")
+
+    def test_arrays_of_refused_rows(self):
+        made = wkt.to_arrays(TEXTS, invalid="null")
+        self.assertEqual([row and row.kind for row in made], ["Point", None, "Point", None, "MultiPoint"])
+        with self.assertRaises(ValueError):
+            wkt.to_arrays(TEXTS, invalid="keep")
+
+
+class Whole(unittest.TestCase):
+    def test_texts(self):
+        for text in ("POINT(1 2)", "point(1 2) \r\n\t", b"point(1 2)\n"):
+            self.assertEqual(wkt.canonical(text, whole=True), "POINT(1 2)")
+            self.assertIs(wkt.reads(text, whole=True), True)
+        for text in ("POINT(1 2) x", "POINT(1 2)POINT(3 4)", b"POINT(1 2)\0"):
+            for call in (wkt.canonical, wkt.to_arrays, lambda it, whole: wkt.same("POINT(1 2)", it, whole=whole)):
+                call(text, whole=False)
+                with self.assertRaises(wkt.WktError) as raised:
+                    call(text, whole=True)
+                self.assertEqual(raised.exception.status, 30)
+            self.assertIs(wkt.reads(text, whole=True), False)
+        with self.assertRaises(TypeError):
+            wkt.canonical("POINT(1 2)", whole=1)
+
+    def test_columns(self):
+        texts = ["point(1 2) ", None, "POINT(1 2) x", "x"]
+        answers, statuses = wkt.canonical_column(texts, whole=True)
+        self.assertEqual((answers, statuses), (["POINT(1 2)", None, None, None], [0, 28, 30, 3]))
+        self.assertEqual(wkt.reads(texts, whole=True), [True, False, False, False])
+        self.assertEqual(wkt.canonical(texts, invalid="keep", whole=True), ["POINT(1 2)", None, "POINT(1 2) x", "x"])
+        self.assertEqual(list(wkt.to_arrays_column(texts, whole=True).statuses), [0, 28, 30, 3])
+        self.assertEqual(wkt.same(texts, texts, invalid="null", whole=True), [True, None, None, None])
+        with self.assertRaises(wkt.WktError) as raised:
+            wkt.canonical(texts, whole=True)
+        self.assertEqual((raised.exception.row, raised.exception.status), (2, 30))
+        self.assertIsNone(raised.exception.explanation)
+
+
+class Words(unittest.TestCase):
+    def test_explanations(self):
+        told = wkt.explain("LINESTRING(1 2,3 x)")
+        self.assertEqual((told.start, told.stop, told.expected), (17, 18, "a second number"))
+        self.assertEqual((told.line, told.column), (1, 18))
+        self.assertEqual(str(told), "LINESTRING(1 2,3 x)\n                 ^ a second number was expected")
+        self.assertIsNone(wkt.explain("POINT(1 2) and more"))
+        self.assertEqual(wkt.explain("POINT(1 2.55)", places=1).message, "Unable to parse input number as the desired output type")
+        told = wkt.explain("POINT(\n\t1.x")
+        self.assertEqual((told.line, told.column), (2, 2))
+        self.assertEqual(str(told).split("\n")[1], "\t^^^ a first number was expected")
+        # Characters of a str, and bytes of bytes.
+        text = "PÖINT"
+        self.assertEqual((wkt.explain(text).stop, wkt.explain(text.encode()).stop), (5, 6))
+        self.assertEqual(str(wkt.explain(text)), str(wkt.explain(text.encode())))
+        self.assertEqual(pickle.loads(pickle.dumps(told)), told)
+        with self.assertRaises(wkt.WktError) as raised:
+            wkt.explain(b"\xff")
+        self.assertEqual(raised.exception.status, 20)
+
+    def test_long_lines(self):
+        text = "LINESTRING(" + ",".join(["1 2"] * 1000) + ",3 x," + ",".join(["1 2"] * 1000) + ")"
+        line, marks = str(wkt.explain(text)).split("\n")
+        self.assertLess(len(line), 90)
+        self.assertEqual(line[marks.index("^")], "x")
+
+    def test_columns_of_explanations(self):
+        told = wkt.explain(TEXTS + [b"\xff"])
+        self.assertEqual([it and it.expected for it in told], [None, None, None, "a kind of geometry, such as POINT,", None, None])
+
+    def test_errors_say_where(self):
+        with self.assertRaises(wkt.WktError) as raised:
+            wkt.canonical(["POINT(1 2)", "LINESTRING(1 2,3 x)"])
+        error = raised.exception
+        self.assertEqual((error.row, error.explanation.start, error.explanation.expected), (1, 17, "a second number"))
+        for words in ("row 1", "17", "a second number was expected", error.message):
+            self.assertIn(words, str(error))
+
+    def test_reads(self):
+        self.assertIs(wkt.reads("POINT(1 2)"), True)
+        self.assertIs(wkt.reads("POINT(1 2.55)", places=1), False)
+        self.assertIs(wkt.reads(b"\xff"), False)
+        self.assertEqual(wkt.reads(TEXTS), [True, False, True, False, True])
+        self.assertFalse(hasattr(wkt, "is_valid"))
+        if numpy is not None:
+            made = wkt.reads(numpy.array(TEXTS, object))
+            self.assertEqual((made.dtype, made.tolist()), (numpy.dtype(bool), [True, False, True, False, True]))
+
+    def test_version(self):
+        with open(os.path.join(os.path.dirname(os.path.abspath(__file__)), os.pardir, "backend.py"), encoding="utf-8") as file:
+            self.assertIn('"%s"' % wkt.__version__, file.read())
+
+    def test_documented(self):
+        for name in wkt.__all__:
+            if not name.startswith("__") and name.islower():
+                self.assertGreater(len(getattr(wkt, name).__doc__), 80, name)
+
+
+class Few:
+    """A source that gives few bytes at once."""
+
+    def __init__(self, data, most):
+        self.file, self.most, self.largest = io.BytesIO(data), most, 0
+
+    def read(self, size):
+        self.largest = max(self.largest, size)
+        return self.file.read(min(size, self.most))
+
+
+class Partial(io.RawIOBase):
+    """A sink that takes a part of what it is given."""
+
+    def __init__(self):
+        super().__init__()
+        self.held = b""
+
+    def writable(self):
+        return True
+
+    def write(self, data):
+        self.held += bytes(data[:1000])
+        return min(len(data), 1000)
+
+
+class Streams(unittest.TestCase):
+    def test_lines(self):
+        for data in (b"", b"\n", b"point(1 2.50)\nnonsense\n", b"point(1 2.50)\nnonsense", b"POINT(1 2)\r\n\xff\n\n"):
+            for most in (1, 3, 1 << 20):
+                sink = io.BytesIO()
+                lines = wkt.stream(Few(data, most), sink)
+                self.assertEqual(sink.getvalue(), wkt.lines(data))
+                self.assertEqual(lines, sink.getvalue().count(b"\n"))
+
+    def test_places(self):
+        sink = io.BytesIO()
+        wkt.stream(io.BytesIO(b"point(1 2.5)\n"), sink, places=0)
+        self.assertEqual(sink.getvalue(), b"refused\n")
+
+    def test_partial_writes_and_progress(self):
+        data, told, sink = b"point ( 1 2.50 )\n" * 300_000, [], Partial()
+        self.assertEqual(wkt.stream(io.BytesIO(data), sink, progress=told.append), 300_000)
+        self.assertEqual(sink.held, b"POINT(1 2.5)\n" * 300_000)
+        self.assertEqual((told[-1], sorted(told), len(told) > 3), (len(data), told, True))
+
+    def test_long_line(self):
+        line = b"LINESTRING(" + b",".join([b"1 2.50"] * 500_000) + b")\n"
+        sink = io.BytesIO()
+        self.assertEqual(wkt.stream(io.BytesIO(line + b"point(1 2)"), sink), 2)
+        self.assertEqual(sink.getvalue(), line.replace(b".50", b".5") + b"POINT(1 2)\n")
+
+    def test_memory(self):
+        """It doesn't grow with the input."""
+        import tracemalloc
+
+        class Endless:
+            left = 40
+
+            def read(self, size):
+                self.left -= 1
+                return b"point ( 1 2.50 )\n" * 50_000 if self.left >= 0 else b""
+
+        class Nowhere:
+            def write(self, data):
+                return None
+
+        tracemalloc.start()
+        try:
+            self.assertEqual(wkt.stream(Endless(), Nowhere()), 2_000_000)
+            self.assertLess(tracemalloc.get_traced_memory()[1], 12 << 20)
+        finally:
+            tracemalloc.stop()
+
+    def test_what_is_refused(self):
+        with self.assertRaises(TypeError):
+            wkt.stream(io.StringIO("POINT(1 2)"), io.BytesIO())
+
+        class Full:
+            def write(self, data):
+                raise OSError("full")
+
+        with self.assertRaises(OSError):
+            wkt.stream(io.BytesIO(b"POINT(1 2)"), Full())
+
+
+class Long(unittest.TestCase):
+    def test_other_threads_run(self):
+        """A long call releases the lock of the interpreter."""
+        text = "LINESTRING(" + ",".join(["1.5 2.5"] * 3_000_000) + ")"
+        ticks, stop = [], threading.Event()
+
+        def tick():
+            while not stop.is_set():
+                ticks.append(time.monotonic())
+                time.sleep(0.001)
+
+        thread = threading.Thread(target=tick)
+        thread.start()
+        start = time.monotonic()
+        for _ in range(20):
+            wkt.reads(text)
+            if time.monotonic() - start > 1:
+                break
+        end = time.monotonic()
+        stop.set()
+        thread.join()
+        during = [at for at in ticks if start < at < end]
+        self.assertGreater(len(during), 10 * (end - start))
+
+    @unittest.skipIf(tqdm is None, "no tqdm")
+    def test_bar(self):
+        rows = 1_000_001
+        for count, shown in ((1000, False), (rows, True)):
+            with unittest.mock.patch("tqdm.tqdm", wraps=tqdm.tqdm) as bar, unittest.mock.patch("sys.stderr", io.StringIO()) as said:
+                wkt.reads(["POINT(1 2)"] * count, progress=True)
+            self.assertEqual(bar.called, shown)
+            self.assertEqual("100%" in said.getvalue(), shown)
+        with self.assertRaises(TypeError):
+            wkt.canonical(["POINT(1 2)"], progress=5)
+
+    def test_errors_of_a_callback(self):
+        def wrong(done):
+            raise KeyError(done)
+
+        with self.assertRaises(KeyError):
+            wkt.canonical(["POINT(1 2)"], progress=wrong)
+
+
+def nested(flat, offsets):
+    """The nested lists of GeoArrow's buffers."""
+    for one in reversed(offsets):
+        flat = [flat[start:end] for start, end in zip(one[:-1], one[1:])]
+    return flat
+
+
+def theirs(geometry):
+    """The coordinates of a geometry of Shapely, nested as GeoArrow has them."""
+    kind = geometry.geom_type
+    if kind == "Point":
+        return None if geometry.is_empty else list(geometry.coords[0])
+    if kind == "LineString":
+        return [list(place) for place in geometry.coords]
+    if kind == "Polygon":
+        rings = [] if geometry.is_empty else [geometry.exterior] + list(geometry.interiors)
+        return [[list(place) for place in ring.coords] for ring in rings]
+    if kind == "MultiPoint":
+        return [list(point.coords[0]) for point in geometry.geoms]
+    return [theirs(member) for member in geometry.geoms]
+
+
+@unittest.skipIf(numpy is None, "no NumPy")
+class GeoArrow(unittest.TestCase):
+    def texts(self, kind, z, make):
+        number = lambda: "%.3f" % make.uniform(-180, 180)  # noqa: E731
+        place = lambda: " ".join(number() for _ in range(3 if z else 2))  # noqa: E731
+
+        def line(least=2):
+            return "(" + ",".join(place() for _ in range(make.randrange(least, 6))) + ")"
+
+        def ring():
+            first = place()
+            return "(" + ",".join([first] + [place() for _ in range(make.randrange(2, 5))] + [first]) + ")"
+
+        def many(one):
+            return "(" + ",".join(one() for _ in range(make.randrange(1, 4))) + ")"
+
+        body = {
+            "Point": lambda: "(%s)" % place(),
+            "LineString": line,
+            "Polygon": lambda: many(ring),
+            "MultiPoint": lambda: many(lambda: "(%s)" % place()),
+            "MultiLineString": lambda: many(line),
+            "MultiPolygon": lambda: many(lambda: many(ring)),
+        }[kind]
+        head = kind.upper() + (" Z" if z else "")
+        return [head + body() for _ in range(100)] + [None, head + " EMPTY"] + [head + body() for _ in range(3)]
+
+    @unittest.skipIf(shapely is None, "no Shapely")
+    def test_six_kinds(self):
+        make = random.Random(3)
+        for kind in wkt.KINDS[:6]:
+            for z in (False, True):
+                texts = self.texts(kind, z, make)
+                held = wkt.to_arrays_column(texts, 6)
+                made = held.geoarrow(6)
+                self.assertEqual((made.extension, made.dimension), ("geoarrow." + kind.lower(), "XYZ" if z else "XY"))
+                mine = nested(made.coordinates.tolist(), [offsets.tolist() for offsets in made.offsets])
+                self.assertEqual((len(mine), len(made.valid)), (len(texts), len(texts)))
+                for text, got, valid in zip(texts, mine, made.valid):
+                    self.assertEqual(valid, text is not None)
+                    if text is None:
+                        continue
+                    wanted = theirs(shapely.wkt.loads(text))
+                    if wanted is None:
+                        self.assertTrue(all(number != number for number in got))
+                    else:
+                        self.assertEqual(got, wanted, text)
+
+    def test_mixed(self):
+        for texts in (["POINT(1 2)", "LINESTRING(1 2,3 4)"], ["POINT(1 2)", "POINT Z(1 2 3)"]):
+            with self.assertRaises(ValueError):
+                wkt.to_arrays_column(texts).geoarrow()
+        made = wkt.to_arrays_column(["POINT(1 2)", "x", None]).geoarrow()
+        self.assertEqual(made.valid.tolist(), [True, False, False])
+        self.assertEqual(made.coordinates[0].tolist(), [1, 2])
+        self.assertEqual(wkt.to_arrays_column([]).geoarrow().extension, "geoarrow.point")
+
+    def test_halves(self):
+        """The doubles are the nearest ones."""
+        texts = ["POINT(%s %s)" % (a, b) for a, b in (("0.1", "0.3"), ("2.675", "-1.005"), ("9007199254.740991", "0.000001"))]
+        made = wkt.to_arrays_column(texts, 6).geoarrow(6)
+        self.assertEqual(made.coordinates.tolist(), [[0.1, 0.3], [2.675, -1.005], [9007199254.740991, 0.000001]])
+
+
+if __name__ == "__main__":
+    unittest.main()

@@ -1,0 +1,36 @@
+"""Calls as a typed program makes them: mypy --strict takes this file, and finds the types that are asserted."""
+import io
+from typing import List, Optional, Tuple
+
+from typing_extensions import assert_type
+
+import wkt
+
+text: str = wkt.canonical("point ( 1 2 )", places=6)
+assert_type(wkt.canonical(b"point ( 1 2 )"), str)
+assert_type(wkt.canonical(["point(1 2)", None], invalid="null"), List[Optional[str]])
+assert_type(wkt.canonical_column(["point(1 2)"]), Tuple[List[Optional[str]], List[int]])
+assert_type(wkt.same("POINT(1 2)", text), bool)
+assert_type(wkt.same(["POINT(1 2)"], [text]), List[Optional[bool]])
+assert_type(wkt.same(text, [text]), List[Optional[bool]])
+assert_type(wkt.infer(text), Tuple[str, str])
+assert_type(wkt.infer([text, None]), List[Optional[Tuple[str, str]]])
+assert_type(wkt.reads(text), bool)
+assert_type(wkt.reads([text, None]), List[bool])
+assert_type(wkt.explain(text), Optional[wkt.Explanation])
+assert_type(wkt.explain([text]), List[Optional[wkt.Explanation]])
+assert_type(wkt.lines(b"POINT(1 2)\n"), bytes)
+assert_type(wkt.stream(io.BytesIO(b"POINT(1 2)\n"), io.BytesIO(), progress=print), int)
+arrays = wkt.to_arrays(text)
+assert_type(arrays, wkt.Arrays)
+assert_type(wkt.from_arrays(arrays), str)
+assert_type(wkt.from_arrays([arrays, None]), List[Optional[str]])
+column = wkt.to_arrays_column([text, None])
+assert_type(column, wkt.ColumnArrays)
+assert_type(column.row(-2), wkt.Arrays)
+assert_type(column.geoarrow(6), wkt.GeoArrow)
+try:
+    wkt.canonical("POINT(1")
+except wkt.WktError as error:
+    assert_type(error.row, Optional[int])
+    assert_type(error.explanation, Optional[wkt.Explanation])

@@ -1,0 +1,67 @@
+"""Lines from one file to another, in bounded memory."""
+from typing import Any, Callable, Iterator, List
+
+from . import _library
+from ._blocks import Progress, Room, shown
+from ._values import places_of
+
+PIECE = 1 << 20
+
+
+def _pieces(source: Any, tell: Callable[[int], None]) -> Iterator[bytes]:
+    done = 0
+    while True:
+        data = source.read(PIECE)
+        if not isinstance(data, (bytes, bytearray)):
+            raise TypeError("a source gives bytes, and not %s: open it by 'rb'" % type(data).__name__)
+        if not data:
+            return
+        yield bytes(data)
+        done += len(data)
+        tell(done)
+
+
+def _write(sink: Any, data: Any) -> None:
+    """Writes all of it: a file without a buffer may take a part."""
+    view = memoryview(data)
+    while view:
+        taken = sink.write(view)
+        view = view[len(view) if taken is None else taken :]
+
+
+def _whole_lines(source: Any, tell: Callable[[int], None]) -> Iterator[bytes]:
+    """The input by pieces, each of whole lines; the last may end without a line feed."""
+    rest: List[bytes] = []
+    for data in _pieces(source, tell):
+        cut = data.rfind(b"\n") + 1
+        if cut:
+            yield b"".join([*rest, data[:cut]])
+            rest = [data[cut:]] if cut < len(data) else []
+        else:
+            rest.append(data)
+    if rest:
+        yield b"".join(rest)
+
+
+def stream(source: Any, sink: Any, places: int = 18, progress: Progress = None) -> int:
+    """Writes to a sink, for each line of a source, the canonical text of its geometry, or `refused`, and a line feed.
+
+    source: a file of bytes, or what has `read(size)`. sink: a file of bytes, or what has `write(bytes)`. The memory
+    that is used doesn't grow with the input, but with its longest line. places: as of `canonical`.
+    progress: a function that is called with how many bytes are read, or True for tqdm's bar.
+    Returns the number of lines. What source and sink raise passes through; what was written by then stays.
+    """
+    places = places_of(places)
+    count, room = 0, Room(1)
+    with shown(progress, None, " bytes") as tell:
+        for data in _whole_lines(source, tell):
+            room.holds(len(data) + len(data) // 8 + 64)
+
+            def call(out: Any, length: int, needed: Any) -> int:
+                status: int = _library.wkt_lines(data, len(data), places, out, length, needed)
+                return status
+
+            length = room.call(call)
+            _write(sink, memoryview(room.out)[:length])
+            count += data.count(b"\n") + (not data.endswith(b"\n"))
+    return count
