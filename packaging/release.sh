@@ -19,10 +19,11 @@ program() {
 }
 
 rm -rf "$to"
-mkdir -p "$to"/{prebuilt,include,bin,tests,python}
+mkdir -p "$to"/{prebuilt,include,capi,bin,tests,python}
 (cd "$to/prebuilt" && ar x "$lib/libwkt.a" && rm -f heap.o)
 cp "$lib/wkt.h" "$to/include"
-cp "$root/capi/heap.c" "$root"/LICENSE-* "$to"
+cp "$root/capi/heap.c" "$to/capi"
+cp "$root"/LICENSE-* "$to"
 cp "$root/capi/tests/calls.c" "$to/tests"
 cp -r "$root/python/wkt" "$to/python"
 [ ! -d "$root/python/src" ] || cp -r "$root/python/src" "$to/python"

@@ -1,5 +1,5 @@
 #!/usr/bin/env python3
-"""Checks the pages: README's size, long sentences, links that lead nowhere, commands that don't exist, API.md.
+"""Checks the pages: README's size, long sentences, links that lead nowhere, commands that don't exist, counts, API.md.
 
     tests/pages.py      prints what is wrong, a line each; status 1 where anything is
 """
@@ -93,6 +93,25 @@ def lost_commands(path, text):
             yield f"{path}: {program} is no command that this page may use"
 
 
+def lines_to_believe(*words):
+    """What tests/trusted_lines.py counts: lines and files."""
+    command = [sys.executable, f"{TOP}/tests/trusted_lines.py", *words]
+    said = subprocess.run(command, capture_output=True, text=True, check=True).stdout
+    return re.findall(r"\d+", said.splitlines()[-1])
+
+
+def stale_counts():
+    """The counts of the definitions that a reader has to believe, where a page has others."""
+    lines, files = lines_to_believe()
+    all_lines, all_files = lines_to_believe("--calls")
+    trust = text_of("docs/TRUST.md")
+    for count in (f"{lines} lines of code in {files} files", f"{all_lines} lines in {all_files} files"):
+        if count not in trust:
+            yield f"docs/TRUST.md: it has to say {count}"
+    if f"the {lines} lines" not in text_of("README.md"):
+        yield f"README.md: it has to say the {lines} lines"
+
+
 def wrong():
     total = 0
     for path in pages():
@@ -109,6 +128,7 @@ def wrong():
         if count > WORDS:
             yield f"README.md: a sentence of {count} words: {sentence[:60]}.."
     yield from lost_commands("README.md", readme)
+    yield from stale_counts()
     if total > ALL_BYTES:
         yield f"all pages: {total} bytes, of {ALL_BYTES} at most"
     made = subprocess.run([sys.executable, f"{TOP}/tests/api.py"], capture_output=True, text=True, check=True)
