@@ -10,7 +10,7 @@ import sys
 TOP = os.path.dirname(os.path.dirname(os.path.abspath(__file__)))
 TABLE, PICTURE = f"{TOP}/bench/README.md", f"{TOP}/docs/speed.svg"
 # The columns that are drawn, and in which shade.
-DRAWN = {"mixed": "#4878a8", "points": "#a8bcd0"}
+DRAWN = {"mixed-6": "#4878a8", "points-6": "#a8bcd0"}
 LEFT, WIDTH, BAR, GAP, TOP_ROOM = 190, 430, 15, 14, 44
 
 
