@@ -1,6 +1,6 @@
 //! The examples of the doc comments that are no rows of `wkt_conformance`, line for line, with what they give.
 use crate::asserts::equal;
-use std::alloc::Global;
+use std::alloc::{AllocError, Global};
 use std::test::Fail;
 use wkt::events::NoRoom;
 use wkt::geo_types::{Coord, Geometry, Rect};
@@ -19,23 +19,30 @@ fn writes_the_canonical_text(rt: HostRuntime) -> Result<(), Fail> {
     Ok(())
 }
 
+// Bytes to write into.
+fn room(alloc: Global, size: usize) -> Result<Vec<u8>, AllocError> {
+    let mut bytes = Vec::new(alloc);
+    bytes.resize(size, b'x')?;
+    Ok(bytes)
+}
+
 #[test]
-fn writes_it_into_a_buffer(rt: HostRuntime) {
-    let mut buffer = [b'x'; 111];
+fn writes_it_into_a_buffer(rt: HostRuntime) -> Result<(), Fail> {
+    let alloc = rt.alloc();
     let text = "point (1.50 2) and more";
-    let Ok(Some(written)) = canonical_into::<Decimal<6>>(text, &mut buffer) else {
+    let mut buffer = room(alloc, 111)?;
+    let Ok(Some(written)) = canonical_into::<Decimal<6>>(text, buffer.as_mut_slice()) else {
         panic!(rt; "nothing was written");
     };
-    assert_eq!(rt; written.end, 14);
-    assert!(rt; &buffer[..written.len] == b"POINT(1.5 2)".as_slice());
-    let short = canonical_into::<Decimal<6>>(text, &mut buffer[..110]);
-    assert!(rt; matches!(short, Err(NoRoom)));
-    assert!(rt;
-        matches!(
-            canonical_into::<Decimal<6>>("POINT(1)", &mut buffer),
-            Ok(None)
-        )
-    );
+    equal(&rt, written.end, 14);
+    buffer.truncate(written.len);
+    assert!(rt; buffer.as_slice() == b"POINT(1.5 2)".as_slice());
+    let mut short = room(alloc, 110)?;
+    let none = canonical_into::<Decimal<6>>(text, short.as_mut_slice());
+    assert!(rt; matches!(none, Err(NoRoom)));
+    let refused = canonical_into::<Decimal<6>>("POINT(1)", short.as_mut_slice());
+    assert!(rt; matches!(refused, Ok(None)));
+    Ok(())
 }
 
 #[test]
