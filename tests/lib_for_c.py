@@ -47,7 +47,8 @@ def main():
     words = ["--crate-name", CRATE, "src/lib.rt", "--crate-type", "staticlib"]
     words += ["--extern", f"std={kit}/rlibs/std.rlib", "-L", f"dependency={kit}/rlibs"]
     for name in uses[CRATE]:
-        words += ["--extern", f"{name}={made[name]}/{name}.rlib"]
+        # A library that isn't this repository's is the toolchain's.
+        words += ["--extern", f"{name}={made.get(name, f'{kit}/rlibs')}/{name}.rlib"]
     for it in made.values():
         words += ["-L", f"dependency={it}"]
     words += ["--antt-project", f"{kit}/rattle/logic/antt-project.json", "--logic-built", f"{kit}/logic_built"]
