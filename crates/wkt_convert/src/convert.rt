@@ -8,9 +8,7 @@ ghost use Rattle.wkt_flat.specs.Equal.{coord_eq};
 ghost use Rattle.wkt_convert.specs.Outcomes.{outcome_map};
 ghost use Rattle.wkt_convert.specs.Flatten.{sequence, rings, points, flat, flat_all, trees_in};
 
-use crate::flatten::{
-    all_points, collection, geometry, line_string, line_strings, polygon, polygons,
-};
+use crate::flatten::{all_points, collection, line_string, line_strings, polygon, polygons};
 use std::alloc::Global;
 use wkt_flat as flat;
 use wkt_flat::Geometry;
@@ -177,13 +175,5 @@ impl<T: WktNum> ConvertFrom<&types::MultiPolygon<T>> for Geometry<T> {
 
     fn convert_from(alloc: Global, source: &types::MultiPolygon<T>) -> Result<Self, ConvertError> {
         Ok(Geometry::MultiPolygon(flat::MultiPolygon(polygons(alloc, source.polygons())?)))
-    }
-}
-
-impl<T: WktNum> ConvertFrom<Wkt<T>> for Geometry<T> {
-    ghost converts = { λ w r. Answers flat_tree (flat (coord_eq T.eq) (tree w)) r };
-
-    fn convert_from(alloc: Global, source: Wkt<T>) -> Result<Self, ConvertError> {
-        geometry(alloc, &source)
     }
 }

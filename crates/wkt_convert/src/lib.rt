@@ -13,6 +13,6 @@ mod string_text;
 mod to_text;
 
 pub use convert::{ConvertFrom, try_into_geometry, try_into_geometry_collection};
-pub use kinds::mismatch;
+pub use kinds::{FromAny, mismatch};
 pub use send::ToWktError;
 pub use to_text::ToWkt;
