@@ -46,7 +46,6 @@ HasNone {T} {X} make content g = ((x : X) → g ≡ make x → ⊥) → content 
 at_each : {T X Y : Type 0} (make : X → Geometry T) (content : Flat T → Option Y) → ((f : Level T) → HasNone make content (roll-Geometry T f)) → (g : Geometry T) → HasNone make content g
 at_each {T} make content at g = subst (λ (g : Geometry T). HasNone make content g) (views.roll-out-Geometry T g) (at (out-Geometry T g))
 
-
 level_no_point : {T : Type 0} (f : Level T) → HasNone variants.Point point_in (roll-Geometry T f)
 level_no_point (Geometry-F.Point x) h = absurd (h x (variants.rolls-Point x))
 level_no_point {T} f h = ap point_in (folds.fold-roll-Geometry T (Flat T) (Flats T) geometry_step flats_step f)

@@ -1,6 +1,7 @@
 pub mod Outcomes
 pub mod Members
 pub mod Opened
+pub mod OpenedFlat
 pub mod FlatKinds
 pub mod OpenedBack
 pub mod Backs

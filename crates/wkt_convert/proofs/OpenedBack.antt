@@ -1,45 +1,26 @@
--- Flat collections that are open while the `Wkt` of their members are made: what comes of them, and how much is left of them.
-use Rattle.std.proofs.Common.{◌≡◌, ℕ, ◌+◌, ◌-◌, ◌*◌, ◌≤◌, ◌<◌, refl, ap, sym, ◌∙◌, List, [], ◌∷◌, ◌++◌, length, get_or, take, drop, map, append_assoc, arith}
-use Rattle.std.proofs.lemmas.List.{append-nil, map-append, take_all}
+-- Flat collections that are open while the `Wkt` of their members are made: what comes of them.
+use Rattle.std.proofs.Common.{◌≡◌, ◌<◌, refl, ap, sym, ◌∙◌, List, [], ◌∷◌, ◌++◌, length, map, append_assoc, arith}
+use Rattle.std.proofs.lemmas.List.{append-nil, map-append}
 use Rattle.wkt_access.specs.declared.dimensions.Dimension.TheVariants.{XY}
 use Rattle.wkt_types.specs.Tree.{Tree, tree, trees_of, members}
 use Rattle.wkt_types.specs.declared.geometry.Wkt.{Wkt}
 use Rattle.wkt_flat.specs.Tree.{Flat, flat_tree, flat_members}
-use Rattle.wkt_flat.specs.Weight.{weights}
 use Rattle.wkt_flat.specs.declared.geometry.Geometry.{Geometry}
 use Rattle.wkt_convert.specs.Back.{back}
-use Rattle.wkt_convert.specs.declared.back.Open.{Open}
+use Rattle.wkt_convert.specs.declared.parts.Open.{Open}
 use Rattle.wkt_convert.proofs.Members.{all_back_members}
-
--- how often a loop goes on until what is left of the open ones is done
-abbrev pub pending : {T : Type 0} → List (Open T) → ℕ
-pending [] = 0
-pending (x ∷ xs) = 1 + 2 * weights x.rest.now + pending xs
-
-pub pending-last : {T : Type 0} (xs : List (Open T)) (x : Open T) → pending (xs ++ x ∷ []) ≡ pending xs + (1 + 2 * weights x.rest.now)
-pending-last [] x = omega arith
-pending-last (y ∷ ys) x = let e : pending (ys ++ x ∷ []) ≡ pending ys + (1 + 2 * weights x.rest.now) = pending-last ys x in omega (arith, e)
-
--- the first of a list's members, and the others
-pub first-of : {T : Type 0} (gs : List (Geometry T)) (first : Geometry T) → 1 ≤ length gs → first ≡ get_or gs 0 first → gs ≡ first ∷ take (length gs - 1) (drop 1 gs)
-first-of [] first some is = absurd (omega arith)
-first-of (g ∷ gs) first some is =
-    ap (λ l. g ∷ l) (sym (take_all (length (g ∷ gs) - 1) gs (omega arith))) ∙ ap (λ x. x ∷ take (length (g ∷ gs) - 1) gs) (sym is)
-
-none-left : {T : Type 0} (gs : List (Geometry T)) → length gs < 1 → gs ≡ []
-none-left [] h = refl
-none-left (g ∷ gs) h = absurd (omega arith)
+use Rattle.wkt_convert.proofs.Opened.{none-left}
 
 -- what comes of a collection whose first members became `done`, and of which `rest` is left
 abbrev pub going : {T : Type 0} → List (Tree T) → List (Geometry T) → List (Tree T)
 going done rest = done ++ map (λ g. back (flat_tree g)) rest
 
 -- what comes of the outermost of the open collections, where this comes of the one within the last
-abbrev pub finish : {T : Type 0} → List (Open T) → List (Tree T) → List (Tree T)
+abbrev pub finish : {T : Type 0} → List (Open (Geometry T) (Wkt T)) → List (Tree T) → List (Tree T)
 finish [] ts = ts
 finish (x ∷ xs) ts = going (map tree x.done.items ++ Tree.collection (trees_of (finish xs ts)) XY ∷ []) x.rest.now
 
-pub finish-last : {T : Type 0} (xs : List (Open T)) (x : Open T) (ts : List (Tree T)) →
+pub finish-last : {T : Type 0} (xs : List (Open (Geometry T) (Wkt T))) (x : Open (Geometry T) (Wkt T)) (ts : List (Tree T)) →
     finish (xs ++ x ∷ []) ts ≡ finish xs (going (map tree x.done.items ++ Tree.collection (trees_of ts) XY ∷ []) x.rest.now)
 finish-last [] x ts = refl
 finish-last (y ∷ ys) x ts = ap (λ l. going (map tree y.done.items ++ Tree.collection (trees_of l) XY ∷ []) y.rest.now) (finish-last ys x ts)
@@ -49,7 +30,7 @@ all-done : {T : Type 0} (done : List (Wkt T)) (rest : List (Geometry T)) → len
 all-done done rest none = ap (going (map tree done)) (none-left rest none) ∙ append-nil (map tree done)
 
 -- a geometry that isn't a collection becomes one `Wkt` more
-pub goes-on : {T : Type 0} (xs : List (Open T)) (done news : List (Wkt T)) (w : Wkt T) (g : Geometry T) (rest others : List (Geometry T)) →
+pub goes-on : {T : Type 0} (xs : List (Open (Geometry T) (Wkt T))) (done news : List (Wkt T)) (w : Wkt T) (g : Geometry T) (rest others : List (Geometry T)) →
     rest ≡ g ∷ others → tree w ≡ back (flat_tree g) → news ≡ done ++ w ∷ [] →
     finish xs (going (map tree news) others) ≡ finish xs (going (map tree done) rest)
 goes-on xs done news w g rest others split one new =
@@ -63,7 +44,7 @@ opened-tree : {T : Type 0} (g : Geometry T) (inner : List (Geometry T)) → flat
 opened-tree g inner is = ap (λ ts. Tree.collection ts XY) (sym (all_back_members inner)) ∙ ap back (sym is)
 
 -- a collection is opened within the others
-pub opens : {T : Type 0} (xs xs' : List (Open T)) (x : Open T) (fresh : List (Wkt T)) (g : Geometry T) (rest inner : List (Geometry T)) →
+pub opens : {T : Type 0} (xs xs' : List (Open (Geometry T) (Wkt T))) (x : Open (Geometry T) (Wkt T)) (fresh : List (Wkt T)) (g : Geometry T) (rest inner : List (Geometry T)) →
     xs' ≡ xs ++ x ∷ [] → rest ≡ g ∷ x.rest.now → flat_tree g ≡ Flat.collection (flat_members inner) → fresh ≡ [] →
     finish xs' (going (map tree fresh) inner) ≡ finish xs (going (map tree x.done.items) rest)
 opens xs xs' x fresh g rest inner pushed split holds new =
@@ -76,7 +57,7 @@ opens xs xs' x fresh g rest inner pushed split holds new =
     ∙ sym (ap (going (map tree x.done.items)) split)))))
 
 -- the innermost collection is closed: it is one `Wkt` more of the one around it
-pub closes : {T : Type 0} (xs xs' : List (Open T)) (x : Open T) (done news : List (Wkt T)) (w : Wkt T) (rest : List (Geometry T)) →
+pub closes : {T : Type 0} (xs xs' : List (Open (Geometry T) (Wkt T))) (x : Open (Geometry T) (Wkt T)) (done news : List (Wkt T)) (w : Wkt T) (rest : List (Geometry T)) →
     xs' ≡ xs ++ x ∷ [] → length rest < 1 → tree w ≡ Tree.collection (members done) XY → news ≡ x.done.items ++ w ∷ [] →
     finish xs (going (map tree news) x.rest.now) ≡ finish xs' (going (map tree done) rest)
 closes xs xs' x done news w rest popped none one new =
@@ -86,7 +67,7 @@ closes xs xs' x done news w rest popped none one new =
     ∙ ap (λ ts. finish xs (going (map tree x.done.items ++ Tree.collection (trees_of ts) XY ∷ []) x.rest.now)) (all-done done rest none)))
 
 -- nothing is open any more
-pub ends : {T : Type 0} (xs : List (Open T)) (done : List (Wkt T)) (rest : List (Geometry T)) → length xs ≡ 0 → length rest < 1 →
+pub ends : {T : Type 0} (xs : List (Open (Geometry T) (Wkt T))) (done : List (Wkt T)) (rest : List (Geometry T)) → length xs ≡ 0 → length rest < 1 →
     finish xs (going (map tree done) rest) ≡ map tree done
 ends [] done rest closed none = all-done done rest none
 ends (x ∷ xs) done rest closed none = absurd (omega arith)

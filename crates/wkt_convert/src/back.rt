@@ -2,9 +2,10 @@
 ghost use Rattle.std.specs.Prelude.{◌≡◌, ◌++◌, ◌∷◌, [], IfOk, map};
 ghost use Rattle.wkt_types.specs.Tree as trees;
 ghost use Rattle.wkt_flat.specs.Tree.{Flat, flat_tree, flat_members};
-ghost use Rattle.wkt_convert.specs.PiecesBack.{IsPieceBack};
+ghost use Rattle.wkt_convert.specs.Pieces.{IsPieceBack};
 ghost use Rattle.wkt_convert.specs.Back.{flat_xy, point_back, line_string_back, polygon_back, back, all_back};
 
+use crate::parts::{Open, Piece, Turn, turn_after, turn_all};
 use std::alloc::{AllocError, Global};
 use wkt_flat as flat;
 use wkt_flat::Geometry;
@@ -33,18 +34,44 @@ pub(crate) fn point<T: Copy>(p: flat::Point<T>) -> Point<T>
     Point::new(Some(coord(p.0)), Dimension::XY)
 }
 
-/// A line.
-pub(crate) fn line_string<T: Copy + Drop>(
-    alloc: Global,
-    cs: &[flat::Coord<T>],
-) -> Result<LineString<T>, AllocError>
-    ensures { IfOk result (λ r. r ≡ line_string_back cs.now) }
-{
-    let mut all = Vec::with_capacity(alloc, cs.len())?;
-    for c in cs {
-        all.push(coord(*c))?;
+/// Without z and m.
+impl<T: Copy + Drop> Turn<Coord<T>> for flat::Coord<T> {
+    ghost turned = { flat_xy };
+
+    fn turn(&self, _alloc: Global) -> Result<Coord<T>, AllocError> {
+        Ok(coord(*self))
     }
-    Ok(LineString::new(all, Dimension::XY))
+}
+
+impl<T: Copy + Drop> Turn<Point<T>> for flat::Point<T> {
+    ghost turned = { point_back };
+
+    fn turn(&self, _alloc: Global) -> Result<Point<T>, AllocError> {
+        Ok(point(*self))
+    }
+}
+
+impl<T: Copy + Drop> Turn<LineString<T>> for flat::LineString<T> {
+    ghost turned = { line_string_back };
+
+    fn turn(&self, alloc: Global) -> Result<LineString<T>, AllocError> {
+        Ok(LineString::new(turn_all(alloc, &self.0)?, Dimension::XY))
+    }
+}
+
+/// The polygon has no rings where the exterior is empty.
+impl<T: Copy + Drop> Turn<Polygon<T>> for flat::Polygon<T> {
+    ghost turned = { polygon_back };
+
+    fn turn(&self, alloc: Global) -> Result<Polygon<T>, AllocError> {
+        let exterior = self.exterior();
+        if exterior.0.is_empty() {
+            return Ok(Polygon::empty(alloc, Dimension::XY));
+        }
+        let mut all = Vec::new(alloc);
+        all.push(exterior.turn(alloc)?)?;
+        Ok(Polygon::new(turn_after(alloc, self.interiors(), all)?, Dimension::XY))
+    }
 }
 
 /// A line from a start to an end.
@@ -60,64 +87,6 @@ pub(crate) fn two<T: Copy + Drop>(
     Ok(LineString::new(all, Dimension::XY))
 }
 
-/// A line string of each coordinate sequence.
-pub(crate) fn push_line_strings<T: Copy + Drop>(
-    alloc: Global,
-    ls: &[flat::LineString<T>],
-    mut all: Vec<LineString<T>>,
-) -> Result<Vec<LineString<T>>, AllocError>
-    ensures { IfOk result (λ r. r.items ≡ all.items ++ map line_string_back ls.now) }
-{
-    for l in ls {
-        all.push(line_string(alloc, l.0.as_slice())?)?;
-    }
-    Ok(all)
-}
-
-/// A polygon, which has no rings where the exterior is empty.
-pub(crate) fn polygon<T: Copy + Drop>(
-    alloc: Global,
-    y: &flat::Polygon<T>,
-) -> Result<Polygon<T>, AllocError>
-    ensures { IfOk result (λ r. r ≡ polygon_back y.now) }
-{
-    let exterior = y.exterior().0.as_slice();
-    if exterior.is_empty() {
-        return Ok(Polygon::empty(alloc, Dimension::XY));
-    }
-    let mut all = Vec::new(alloc);
-    all.push(line_string(alloc, exterior)?)?;
-    Ok(Polygon::new(push_line_strings(alloc, y.interiors(), all)?, Dimension::XY))
-}
-
-/// A point of each point.
-pub(crate) fn points<T: Copy + Drop>(
-    alloc: Global,
-    ps: &[flat::Point<T>],
-) -> Result<Vec<Point<T>>, AllocError>
-    ensures { IfOk result (λ r. r.items ≡ map point_back ps.now) }
-{
-    let mut all = Vec::with_capacity(alloc, ps.len())?;
-    for p in ps {
-        all.push(point(*p))?;
-    }
-    Ok(all)
-}
-
-/// A polygon of each polygon.
-pub(crate) fn polygons<T: Copy + Drop>(
-    alloc: Global,
-    ys: &[flat::Polygon<T>],
-) -> Result<Vec<Polygon<T>>, AllocError>
-    ensures { IfOk result (λ r. r.items ≡ map polygon_back ys.now) }
-{
-    let mut all = Vec::with_capacity(alloc, ys.len())?;
-    for y in ys {
-        all.push(polygon(alloc, y)?)?;
-    }
-    Ok(all)
-}
-
 /// The line strings of each coordinate sequence.
 fn multi_line_string<T: Copy + Drop>(
     alloc: Global,
@@ -125,7 +94,7 @@ fn multi_line_string<T: Copy + Drop>(
 ) -> Result<Wkt<T>, AllocError>
     ensures { IfOk result (λ w. trees.tree w ≡ back (Flat.multi_line_string ls.now)) }
 {
-    let lines = push_line_strings(alloc, ls, Vec::new(alloc))?;
+    let lines = turn_all(alloc, ls)?;
     Ok(Wkt::MultiLineString(MultiLineString::new(lines, Dimension::XY)))
 }
 
@@ -136,32 +105,26 @@ fn multi_polygon<T: Copy + Drop>(
 ) -> Result<Wkt<T>, AllocError>
     ensures { IfOk result (λ w. trees.tree w ≡ back (Flat.multi_polygon ys.now)) }
 {
-    let polygons = polygons(alloc, ys)?;
+    let polygons = turn_all(alloc, ys)?;
     Ok(Wkt::MultiPolygon(MultiPolygon::new(polygons, Dimension::XY)))
-}
-
-/// A `Wkt`, or what a flat collection holds.
-#[derive(Drop)]
-enum Piece<'a, T> {
-    Whole(Wkt<T>),
-    Members(&'a [Geometry<T>]),
 }
 
 /// The `Wkt` of a geometry. A collection is opened, and no more.
 // As a part of its callers it moves nothing: a point then costs a third of the instructions.
 #[inline(always)]
-fn piece_of<'a, T: WktNum>(alloc: Global, g: &'a Geometry<T>) -> Result<Piece<'a, T>, AllocError>
+fn piece_of<'a, T: WktNum>(
+    alloc: Global,
+    g: &'a Geometry<T>,
+) -> Result<Piece<'a, Geometry<T>, Wkt<T>>, AllocError>
     ensures { IfOk result (IsPieceBack (flat_tree g.now)) }
 {
     match g {
         Geometry::Point(p) => Ok(Piece::Whole(Wkt::Point(point(*p)))),
         Geometry::Line(l) => Ok(Piece::Whole(Wkt::LineString(two(alloc, l)?))),
-        Geometry::LineString(l) => {
-            Ok(Piece::Whole(Wkt::LineString(line_string(alloc, l.0.as_slice())?)))
-        }
-        Geometry::Polygon(y) => Ok(Piece::Whole(Wkt::Polygon(polygon(alloc, y)?))),
+        Geometry::LineString(l) => Ok(Piece::Whole(Wkt::LineString(l.turn(alloc)?))),
+        Geometry::Polygon(y) => Ok(Piece::Whole(Wkt::Polygon(y.turn(alloc)?))),
         Geometry::MultiPoint(m) => {
-            let points = MultiPoint::new(points(alloc, m.0.as_slice())?, Dimension::XY);
+            let points = MultiPoint::new(turn_all(alloc, &m.0)?, Dimension::XY);
             Ok(Piece::Whole(Wkt::MultiPoint(points)))
         }
         Geometry::MultiLineString(m) => {
@@ -171,11 +134,11 @@ fn piece_of<'a, T: WktNum>(alloc: Global, g: &'a Geometry<T>) -> Result<Piece<'a
         Geometry::GeometryCollection(c) => Ok(Piece::Members(c.geometries())),
         Geometry::Rect(r) => {
             let rect = r.to_polygon(alloc)?;
-            Ok(Piece::Whole(Wkt::Polygon(polygon(alloc, &rect)?)))
+            Ok(Piece::Whole(Wkt::Polygon(rect.turn(alloc)?)))
         }
         Geometry::Triangle(t) => {
             let triangle = t.to_polygon(alloc)?;
-            Ok(Piece::Whole(Wkt::Polygon(polygon(alloc, &triangle)?)))
+            Ok(Piece::Whole(Wkt::Polygon(triangle.turn(alloc)?)))
         }
     }
 }
@@ -191,13 +154,6 @@ pub(crate) fn geometry<T: WktNum>(alloc: Global, g: &Geometry<T>) -> Result<Wkt<
             Ok(Wkt::GeometryCollection(GeometryCollection::new(members, Dimension::XY)))
         }
     }
-}
-
-/// A collection that is open: its members that are left, and the `Wkt` of each before them.
-#[derive(Drop)]
-struct Open<'a, T> {
-    rest: &'a [Geometry<T>],
-    done: Vec<Wkt<T>>,
 }
 
 /// The `Wkt` of each geometry.

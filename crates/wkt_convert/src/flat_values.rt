@@ -1,10 +1,13 @@
 //! How each flat type is written, and the `Wkt` that it has.
+ghost use Rattle.std.specs.Prelude.{◌≡◌, IfOk};
+ghost use Rattle.wkt_types.specs.Tree.{tree};
+ghost use Rattle.wkt_flat.specs.Shape.{flat_shape};
 ghost use Rattle.wkt_flat.specs.Tree.{Flat, flat_tree, flat_trees};
+ghost use Rattle.wkt_write.specs.Writes.{Writes};
+ghost use Rattle.wkt_convert.specs.Back.{back};
 
-use crate::back::{
-    geometries, geometry, line_string, point, points, polygon, polygons, push_line_strings, two,
-};
-use crate::flat_to_wkt::FlatValue;
+use crate::back::{geometries, geometry, point, two};
+use crate::parts::{Turn, turn_all};
 use std::alloc::{AllocError, Global};
 use wkt_access::Error;
 use wkt_flat as flat;
@@ -15,6 +18,25 @@ use wkt_write::{
     write_multi_linestring, write_multi_point, write_multi_polygon, write_point, write_polygon,
     write_rect, write_triangle,
 };
+
+/// A flat value of one kind or of any, as a tree. The eleven flat types are such.
+pub(crate) trait FlatValue {
+    type T: WktNum;
+
+    /// What it holds.
+    ghost value: { Self → Flat Self.T };
+
+    /// Writes its text.
+    fn write_flat<W: TextSink>(&self, f: &mut W) -> Result<(), Error>
+        ensures { Writes W.sink Self.T.is_value Self.T.num f.old (flat_shape (value self.now)) f.new result };
+
+    /// Makes the `Wkt` of it.
+    ///
+    /// # Errors
+    /// Out of memory.
+    fn make_wkt(&self, alloc: Global) -> Result<Wkt<Self::T>, AllocError>
+        ensures { IfOk result (λ w. tree w ≡ back (value self.now)) };
+}
 
 /// Its `Wkt` is a point.
 impl<T: WktNum> FlatValue for flat::Point<T> {
@@ -57,7 +79,7 @@ impl<T: WktNum> FlatValue for flat::LineString<T> {
     }
 
     fn make_wkt(&self, alloc: Global) -> Result<Wkt<T>, AllocError> {
-        Ok(Wkt::LineString(line_string(alloc, self.0.as_slice())?))
+        Ok(Wkt::LineString(self.turn(alloc)?))
     }
 }
 
@@ -72,7 +94,7 @@ impl<T: WktNum> FlatValue for flat::Polygon<T> {
     }
 
     fn make_wkt(&self, alloc: Global) -> Result<Wkt<T>, AllocError> {
-        Ok(Wkt::Polygon(polygon(alloc, self)?))
+        Ok(Wkt::Polygon(self.turn(alloc)?))
     }
 }
 
@@ -87,7 +109,7 @@ impl<T: WktNum> FlatValue for flat::MultiPoint<T> {
     }
 
     fn make_wkt(&self, alloc: Global) -> Result<Wkt<T>, AllocError> {
-        let all = points(alloc, self.0.as_slice())?;
+        let all = turn_all(alloc, &self.0)?;
         Ok(Wkt::MultiPoint(MultiPoint::new(all, Dimension::XY)))
     }
 }
@@ -103,7 +125,7 @@ impl<T: WktNum> FlatValue for flat::MultiLineString<T> {
     }
 
     fn make_wkt(&self, alloc: Global) -> Result<Wkt<T>, AllocError> {
-        let all = push_line_strings(alloc, self.0.as_slice(), Vec::new(alloc))?;
+        let all = turn_all(alloc, &self.0)?;
         Ok(Wkt::MultiLineString(MultiLineString::new(all, Dimension::XY)))
     }
 }
@@ -119,7 +141,7 @@ impl<T: WktNum> FlatValue for flat::MultiPolygon<T> {
     }
 
     fn make_wkt(&self, alloc: Global) -> Result<Wkt<T>, AllocError> {
-        let all = polygons(alloc, self.0.as_slice())?;
+        let all = turn_all(alloc, &self.0)?;
         Ok(Wkt::MultiPolygon(MultiPolygon::new(all, Dimension::XY)))
     }
 }
@@ -151,7 +173,7 @@ impl<T: WktNum> FlatValue for flat::Rect<T> {
     }
 
     fn make_wkt(&self, alloc: Global) -> Result<Wkt<T>, AllocError> {
-        Ok(Wkt::Polygon(polygon(alloc, &self.to_polygon(alloc)?)?))
+        Ok(Wkt::Polygon(self.to_polygon(alloc)?.turn(alloc)?))
     }
 }
 
@@ -166,7 +188,7 @@ impl<T: WktNum> FlatValue for flat::Triangle<T> {
     }
 
     fn make_wkt(&self, alloc: Global) -> Result<Wkt<T>, AllocError> {
-        Ok(Wkt::Polygon(polygon(alloc, &self.to_polygon(alloc)?)?))
+        Ok(Wkt::Polygon(self.to_polygon(alloc)?.turn(alloc)?))
     }
 }
 

@@ -3,11 +3,11 @@
 
 mod back;
 mod convert;
-mod flat_to_wkt;
 mod flat_values;
 mod flatten;
 mod kinds;
 pub mod laws;
+mod parts;
 mod send;
 mod string_text;
 mod to_text;

@@ -10,7 +10,8 @@ use Rattle.wkt_convert.proofs.FlatKinds.{flat-point}
 use Rattle.wkt_convert.proofs.Members.{tree-point}
 use Rattle.wkt_convert.specs.Back.{back}
 use Rattle.wkt_convert.proofs.Members.{all_back_members}
-use Rattle.wkt_convert.proofs.OpenedBack.{pending, pending-last, first-of, going, finish, goes-on, opens, closes, ends}
+use Rattle.wkt_convert.proofs.Opened.{pending, pending-last, first-of}
+use Rattle.wkt_convert.proofs.OpenedBack.{going, finish, goes-on, opens, closes, ends}
 use Rattle.wkt_convert.proofs.back.geometries.Goals as goal
 
 pub loop-rest-init : goal.loop-rest-init
@@ -29,8 +30,8 @@ returns-in_default g c =
 
 pub loop-rest-smaller-then-rest-lt1 : goal.loop-rest-smaller-then-rest-lt1
 loop-rest-smaller-then-rest-lt1 g c =
-    let popped : pending c.loop-rest.opened.items ≡ pending c.pop.new.self.items + (1 + 2 * weights c.in-Some.outer.rest.now) =
-    ap (λ xs. pending xs) c.in-Some.ensures.items ∙ pending-last c.pop.new.self.items c.in-Some.outer in
+    let popped : pending weights c.loop-rest.opened.items ≡ pending weights c.pop.new.self.items + (1 + 2 * weights c.in-Some.outer.rest.now) =
+    ap (λ xs. pending weights xs) c.in-Some.ensures.items ∙ pending-last weights c.pop.new.self.items c.in-Some.outer in
     omega (arith, popped)
 
 pub loop-rest-preserved-then-rest-lt1 : goal.loop-rest-preserved-then-rest-lt1
@@ -82,8 +83,8 @@ loop-rest-smaller g c =
     let held = rw c.in-Members.is at c.in_ok-w-in_default-next.ensures in
     let parts : weights rest ≡ weight next + weights (take (length rest - 1) (drop 1 rest)) = ap (λ gs. weights gs) (first-of rest next c.in-len1-up.len_at_least c.next-item.is) in
     let heavy : weight next ≡ 1 + weights c.in-Members.inner.now = ap flat_weight held in
-    let pushed : pending c.push-in-Members.new.self.items ≡ pending c.loop-rest.opened.items + (1 + 2 * weights (take (length rest - 1) (drop 1 rest))) =
-    ap (λ xs. pending xs) c.in_ok-push-in-Members.ensures.items ∙ pending-last c.loop-rest.opened.items _ in
+    let pushed : pending weights c.push-in-Members.new.self.items ≡ pending weights c.loop-rest.opened.items + (1 + 2 * weights (take (length rest - 1) (drop 1 rest))) =
+    ap (λ xs. pending weights xs) c.in_ok-push-in-Members.ensures.items ∙ pending-last weights c.loop-rest.opened.items _ in
     omega (arith, parts, heavy, pushed)
 
 pub loop-rest-preserved : goal.loop-rest-preserved

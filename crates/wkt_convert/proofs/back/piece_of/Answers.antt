@@ -15,9 +15,9 @@ returns-in_ok-two-in-Line g c =
     ∙ (ap (λ l. trees.line_string l) k.ensures
     ∙ sym (ap (λ g. back (flat_tree g)) c.in-Line.is ∙ ap back (flat-line c.in-Line.l)))
 
-pub returns-in_ok-line_string-in-LineString : goal.returns-in_ok-line_string-in-LineString
-returns-in_ok-line_string-in-LineString g c =
-    let k = c.in_ok-line_string-in-LineString in
+pub returns-in_ok-turn-in-LineString : goal.returns-in_ok-turn-in-LineString
+returns-in_ok-turn-in-LineString g c =
+    let k = c.in_ok-turn-in-LineString in
     let given : c.as_slice.result.now ≡ c.in-LineString.l = search rules in
     tree-line_string k.field-0
     ∙ (ap (λ l. trees.line_string l) (k.ensures ∙ ap line_string_back given)

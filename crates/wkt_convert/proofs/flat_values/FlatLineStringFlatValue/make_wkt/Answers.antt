@@ -7,4 +7,4 @@ use Rattle.wkt_convert.proofs.flat_values.FlatLineStringFlatValue.make_wkt.Goals
 pub returns : goal.returns
 returns g c =
     let given : c.as_slice.result.now ≡ c.args.self.now = search rules in
-    tree-line_string c.in_ok-line_string.field-0 ∙ ap (λ l. trees.line_string l) (c.in_ok-line_string.ensures ∙ ap line_string_back given)
+    tree-line_string c.in_ok-turn.field-0 ∙ ap (λ l. trees.line_string l) (c.in_ok-turn.ensures ∙ ap line_string_back given)

@@ -7,7 +7,7 @@ use Rattle.wkt_flat.proofs.Writable.{writable}
 use Rattle.wkt_convert.specs.Sent.{OnIo}
 use Rattle.wkt_convert.proofs.Backs.{clear, same, same_text}
 use Rattle.wkt_convert.proofs.Sends.{io_any, never, ok_any, whatever}
-use Rattle.wkt_convert.proofs.flat_to_wkt.AnyToWkt.write_wkt.Goals as goal
+use Rattle.wkt_convert.proofs.to_text.AnyToWkt.write_wkt.Goals as goal
 
 pub returns-clause-ok : goal.returns-clause-ok
 returns-clause-ok g c =

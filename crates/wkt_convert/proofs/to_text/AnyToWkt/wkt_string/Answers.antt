@@ -7,7 +7,7 @@ use Rattle.wkt_types.specs.Values.{tree_shape}
 use Rattle.wkt_convert.specs.Back.{back}
 use Rattle.wkt_convert.proofs.Backs.{clear, same, same_text}
 use Rattle.wkt_convert.proofs.Sends.{string_memory, string_refused, ok_any}
-use Rattle.wkt_convert.proofs.flat_to_wkt.AnyToWkt.wkt_string.Goals as goal
+use Rattle.wkt_convert.proofs.to_text.AnyToWkt.wkt_string.Goals as goal
 
 pub returns-clause-text : goal.returns-clause-text
 returns-clause-text g c =
