@@ -1,10 +1,10 @@
 //! Conversions of a `Wkt` of any kind into flat values.
 ghost use Rattle.wkt_types.specs.Tree.{Tree, tree};
-ghost use Rattle.wkt_types.specs.Outcome.{Outcome, Answers, value, refused, mismatched};
+ghost use Rattle.wkt_types.specs.Outcome.{Outcome, Answers, refused, mismatched};
 ghost use Rattle.wkt_flat.specs.Tree.{Flat, Flats, flat_tree, flat_trees};
 ghost use Rattle.wkt_flat.specs.Equal.{coord_eq};
 ghost use Rattle.wkt_convert.specs.Flatten.{flat, flat_collection};
-ghost use Rattle.wkt_convert.specs.Kinds.{FlatKind, only, only_flat, flat_name, point_kind, line_kind, line_string_kind, polygon_kind, multi_point_kind, multi_line_string_kind, multi_polygon_kind, rect_kind, triangle_kind};
+ghost use Rattle.wkt_convert.specs.Kinds.{FlatKind, IsOfKind, only_flat, flat_name, point_kind, line_kind, line_string_kind, polygon_kind, multi_point_kind, multi_line_string_kind, multi_polygon_kind, rect_kind, triangle_kind};
 
 use crate::convert::ConvertFrom;
 use crate::flatten;
@@ -95,7 +95,7 @@ pub(crate) trait OneKind: Sized {
     /// # Errors
     /// `MismatchedGeometry`.
     fn of_kind(geometry: Geometry<Self::T>) -> Result<Self, ConvertError>
-        ensures { Answers (λ x. x) (only kind (value (flat_tree geometry))) result };
+        ensures { IsOfKind kind (flat_tree geometry) result };
 }
 
 impl<T: WktNum, G: OneKind<T = T>> FromAny for G {
@@ -147,7 +147,9 @@ impl<T: WktNum> OneKind for flat::Point<T> {
 
     ghost kind = { point_kind };
 
-    fn of_kind(geometry: Geometry<T>) -> Result<Self, ConvertError> {
+    fn of_kind(geometry: Geometry<T>) -> Result<Self, ConvertError>
+        ensures { IsOfKind point_kind (flat_tree geometry) result }
+    {
         match geometry {
             Geometry::Point(x) => Ok(x),
             other => refuse("Point", other),
@@ -161,7 +163,9 @@ impl<T: WktNum> OneKind for flat::Line<T> {
 
     ghost kind = { line_kind };
 
-    fn of_kind(geometry: Geometry<T>) -> Result<Self, ConvertError> {
+    fn of_kind(geometry: Geometry<T>) -> Result<Self, ConvertError>
+        ensures { IsOfKind line_kind (flat_tree geometry) result }
+    {
         match geometry {
             Geometry::Line(x) => Ok(x),
             other => refuse("Line", other),
@@ -174,7 +178,9 @@ impl<T: WktNum> OneKind for flat::LineString<T> {
 
     ghost kind = { line_string_kind };
 
-    fn of_kind(geometry: Geometry<T>) -> Result<Self, ConvertError> {
+    fn of_kind(geometry: Geometry<T>) -> Result<Self, ConvertError>
+        ensures { IsOfKind line_string_kind (flat_tree geometry) result }
+    {
         match geometry {
             Geometry::LineString(x) => Ok(x),
             other => refuse("LineString", other),
@@ -187,7 +193,9 @@ impl<T: WktNum> OneKind for flat::Polygon<T> {
 
     ghost kind = { polygon_kind };
 
-    fn of_kind(geometry: Geometry<T>) -> Result<Self, ConvertError> {
+    fn of_kind(geometry: Geometry<T>) -> Result<Self, ConvertError>
+        ensures { IsOfKind polygon_kind (flat_tree geometry) result }
+    {
         match geometry {
             Geometry::Polygon(x) => Ok(x),
             other => refuse("Polygon", other),
@@ -200,7 +208,9 @@ impl<T: WktNum> OneKind for flat::MultiPoint<T> {
 
     ghost kind = { multi_point_kind };
 
-    fn of_kind(geometry: Geometry<T>) -> Result<Self, ConvertError> {
+    fn of_kind(geometry: Geometry<T>) -> Result<Self, ConvertError>
+        ensures { IsOfKind multi_point_kind (flat_tree geometry) result }
+    {
         match geometry {
             Geometry::MultiPoint(x) => Ok(x),
             other => refuse("MultiPoint", other),
@@ -213,7 +223,9 @@ impl<T: WktNum> OneKind for flat::MultiLineString<T> {
 
     ghost kind = { multi_line_string_kind };
 
-    fn of_kind(geometry: Geometry<T>) -> Result<Self, ConvertError> {
+    fn of_kind(geometry: Geometry<T>) -> Result<Self, ConvertError>
+        ensures { IsOfKind multi_line_string_kind (flat_tree geometry) result }
+    {
         match geometry {
             Geometry::MultiLineString(x) => Ok(x),
             other => refuse("MultiLineString", other),
@@ -226,7 +238,9 @@ impl<T: WktNum> OneKind for flat::MultiPolygon<T> {
 
     ghost kind = { multi_polygon_kind };
 
-    fn of_kind(geometry: Geometry<T>) -> Result<Self, ConvertError> {
+    fn of_kind(geometry: Geometry<T>) -> Result<Self, ConvertError>
+        ensures { IsOfKind multi_polygon_kind (flat_tree geometry) result }
+    {
         match geometry {
             Geometry::MultiPolygon(x) => Ok(x),
             other => refuse("MultiPolygon", other),
@@ -240,7 +254,9 @@ impl<T: WktNum> OneKind for flat::Rect<T> {
 
     ghost kind = { rect_kind };
 
-    fn of_kind(geometry: Geometry<T>) -> Result<Self, ConvertError> {
+    fn of_kind(geometry: Geometry<T>) -> Result<Self, ConvertError>
+        ensures { IsOfKind rect_kind (flat_tree geometry) result }
+    {
         match geometry {
             Geometry::Rect(x) => Ok(x),
             other => refuse("Rect", other),
@@ -254,7 +270,9 @@ impl<T: WktNum> OneKind for flat::Triangle<T> {
 
     ghost kind = { triangle_kind };
 
-    fn of_kind(geometry: Geometry<T>) -> Result<Self, ConvertError> {
+    fn of_kind(geometry: Geometry<T>) -> Result<Self, ConvertError>
+        ensures { IsOfKind triangle_kind (flat_tree geometry) result }
+    {
         match geometry {
             Geometry::Triangle(x) => Ok(x),
             other => refuse("Triangle", other),
