@@ -1,18 +1,13 @@
-//! What reading a text gives, by all the calls that read, copy and write a geometry, as one answer.
-//! The program of the table and the tests of worked rows ask for it.
-#![tactic(auto)]
+//! The answer to a text, where all calls that read, copy and write a geometry agree on it.
 
 ghost use Rattle.std.specs.Prelude.{◌≡◌, IfOk, IsErr};
 ghost use Rattle.std.specs.String.{string_bytes};
 ghost use Rattle.wkt_read.specs.Front.{HasNoFront};
 ghost use Rattle.wkt.specs.CanonicalText.{IsCanonical};
-ghost use Rattle.wkt_answers.specs.Answer.{OnMemory, OnRefused};
+ghost use Rattle.wkt_test_support.specs.Answer.{OnMemory, OnRefused};
 
-mod canonical_calls;
-mod flat_calls;
-
-use canonical_calls::{is_canonical_alike, is_refused_alike};
-use flat_calls::flat_alike;
+use crate::canonical_calls::{is_canonical_alike, is_refused_alike};
+use crate::flat_calls::flat_alike;
 use std::alloc::{AllocError, Global};
 use thiserror::Error;
 use wkt::laws::read_values_are_writable;
@@ -28,7 +23,7 @@ pub enum AnswerError {
     /// The text has no geometry at its front, for this reason.
     #[error("{0}")]
     Refused(&'static str),
-    /// Two calls that have to give the same gave two things.
+    /// Two calls that must agree returned different results.
     #[error("two calls differ")]
     Differ,
     /// Out of memory.
@@ -36,11 +31,12 @@ pub enum AnswerError {
     Memory(AllocError),
 }
 
-/// The one text of the geometry at the front of a text, where all calls that read, copy, put together,
-/// convert or write it agree.
+/// Returns the canonical text of the geometry at the front of a text, if all calls that read, copy, rebuild,
+/// convert or write that geometry agree.
 ///
 /// # Errors
-/// `Refused` where the text has no geometry at its front; `Differ` where two calls disagree; `Memory`.
+/// `Refused` where the text has no geometry at its front; `Differ` where two calls disagree; `Memory` where memory
+/// runs out.
 pub fn answer<T: WktNum>(alloc: Global, text: &str) -> Result<String, AnswerError>
     ensures text { IfOk result (λ s. IsCanonical T.read T.num text.now (string_bytes s)) }
     ensures no_front { OnRefused result (HasNoFront T.read text.now) }
@@ -63,8 +59,8 @@ pub fn answer<T: WktNum>(alloc: Global, text: &str) -> Result<String, AnswerErro
     }
 }
 
-/// That the text is refused with that message, if the calls that build no geometry refuse it too, and unless memory runs
-/// out where its kind is inferred.
+/// Returns the refusal with that message, if the calls that build no geometry refuse the text too, and if there is memory
+/// to infer its kind.
 fn refused<T: WktNum>(alloc: Global, text: &str, message: &'static str) -> AnswerError {
     match is_refused_alike::<T>(alloc, text, message) {
         Ok(true) => {}
@@ -77,12 +73,15 @@ fn refused<T: WktNum>(alloc: Global, text: &str, message: &'static str) -> Answe
     }
 }
 
-/// What a table of texts says of an answer: the text, or the message of the error.
+/// Returns the text of an answer, or the message of its error, as the tables of texts have it.
 ///
 /// # Errors
-/// Out of memory, now or in the answer.
-pub fn told(alloc: Global, answer: Result<String, AnswerError>) -> Result<String, AllocError>
-    ensures text { IfOk result (λ told. IfOk answer (λ text. told ≡ text)) }
+/// Out of memory, here or in the answer.
+pub fn text_or_message(
+    alloc: Global,
+    answer: Result<String, AnswerError>,
+) -> Result<String, AllocError>
+    ensures text { IfOk result (λ row. IfOk answer (λ text. row ≡ text)) }
     ensures memory { OnMemory answer (IsErr result) }
 {
     match answer {
@@ -92,7 +91,7 @@ pub fn told(alloc: Global, answer: Result<String, AnswerError>) -> Result<String
     }
 }
 
-/// Whether every call over that geometry of a text agrees, and gives that answer where it displays.
+/// Whether every call over that geometry of a text agrees, and those that display it return that answer.
 fn all_alike<T: WktNum>(
     alloc: Global,
     text: &str,
@@ -107,7 +106,7 @@ fn all_alike<T: WktNum>(
     )
 }
 
-/// Whether what is put together of the parts of a copy is that geometry, and displays that answer.
+/// Whether a copy that is rebuilt from its parts equals that geometry, and displays as that answer.
 fn again_alike<T: WktNum>(
     alloc: Global,
     geometry: &Wkt<T>,
@@ -117,7 +116,7 @@ fn again_alike<T: WktNum>(
     Ok(again == *geometry && format!(in alloc; "{again}")?.as_str() == answer)
 }
 
-/// Whether the two calls that tell where the front ends read that geometry, to one end.
+/// Whether the two calls that return where the front ends read that geometry, and agree on that end.
 fn read_alike<T: WktNum>(alloc: Global, text: &str, geometry: &Wkt<T>) -> Result<bool, AllocError> {
     match end_by_text(alloc, text, geometry)? {
         None => Ok(false),

@@ -1,7 +1,7 @@
 use Rattle.std.proofs.Common.{ap, ◌∙◌}
 use Rattle.wkt_access.specs.Texts.{shape_text}
 use Rattle.wkt_types.proofs.Displays.{shown_is}
-use Rattle.wkt_answers.proofs.answer.Goals as goal
+use Rattle.wkt_test_support.proofs.answers.answer.Goals as goal
 
 pub returns-in-Ok-true-clause-text : goal.returns-in-Ok-true-clause-text
 returns-in-Ok-true-clause-text g c =

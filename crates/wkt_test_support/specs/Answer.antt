@@ -1,7 +1,7 @@
 -- What is claimed of the answer to a text.
 use Rattle.std.specs.Prelude.{Result, Ok, Err}
-use Rattle.wkt_answers.specs.declared.AnswerError.{AnswerError}
-use Rattle.wkt_answers.specs.declared.AnswerError.TheVariants as answered
+use Rattle.wkt_test_support.specs.declared.answers.AnswerError.{AnswerError}
+use Rattle.wkt_test_support.specs.declared.answers.AnswerError.TheVariants as answered
 
 -- The fact is claimed where the text was refused.
 abbrev pub OnRefused : {A : Type 0} → Result A AnswerError → Type 0 → Type 0
