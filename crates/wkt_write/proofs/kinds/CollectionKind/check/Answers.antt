@@ -5,5 +5,5 @@ use Rattle.wkt_write.proofs.kinds.CollectionKind.check.Goals as goal
 
 pub returns : goal.returns
 returns g c =
-    let gs = g.C.GeometryCollectionTrait.geometries c.args.self.now.field-0.now in
+    let gs = g.C.GeometryCollectionTrait.geometries c.args.self.now.0.now in
     rw (← c.dim.ensures, faults_gathered gs) (checks_more c.check_listed.result _ c.check_listed.ensures (known_gathered g.C.T.WktNum.is_value gs))

@@ -9,10 +9,10 @@ use Rattle.wkt_write.proofs.kinds.CollectionKind.put.Goals as goal
 
 pub put_listed-requires : goal.put_listed-requires
 put_listed-requires g c =
-    let gs = g.C.GeometryCollectionTrait.geometries c.args.self.now.field-0.now in
-    sym (faults_gathered gs) ∙ inside_clean (printed (g.C.GeometryCollectionTrait.dimension c.args.self.now.field-0.now)) (faults (gathered gs)) c.requires
+    let gs = g.C.GeometryCollectionTrait.geometries c.args.self.now.0.now in
+    sym (faults_gathered gs) ∙ inside_clean (printed (g.C.GeometryCollectionTrait.dimension c.args.self.now.0.now)) (faults (gathered gs)) c.requires
 
 pub returns : goal.returns
 returns g c =
-    rw (collection_of_text g.C.T.WktNum.num (g.C.GeometryCollectionTrait.dimension c.args.self.now.field-0.now) (g.C.GeometryCollectionTrait.geometries c.args.self.now.field-0.now), ← c.dim.ensures)
+    rw (collection_of_text g.C.T.WktNum.num (g.C.GeometryCollectionTrait.dimension c.args.self.now.0.now) (g.C.GeometryCollectionTrait.geometries c.args.self.now.0.now), ← c.dim.ensures)
     c.put_listed.ensures

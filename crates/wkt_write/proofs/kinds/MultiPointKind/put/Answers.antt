@@ -4,5 +4,5 @@ use Rattle.wkt_write.proofs.kinds.MultiPointKind.put.Goals as goal
 
 pub returns : goal.returns
 returns g c =
-    rw (multi_point_text g.M.T.WktNum.num (g.M.MultiPointTrait.dimension c.args.self.now.field-0.now) (g.M.MultiPointTrait.points c.args.self.now.field-0.now), ← c.dim.ensures)
+    rw (multi_point_text g.M.T.WktNum.num (g.M.MultiPointTrait.dimension c.args.self.now.0.now) (g.M.MultiPointTrait.points c.args.self.now.0.now), ← c.dim.ensures)
     c.put_listed.ensures
