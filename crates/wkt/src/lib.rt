@@ -170,7 +170,7 @@ pub mod geo_types_from_wkt {
 /// let rect = bounding_rect(&geometry); // from (0, 1) to (3, 5)
 /// ```
 pub mod walks {
-    pub use wkt_walks::{Mapper, Visitor, bounding_rect, map_coords, num_coords, visit_coords};
+    pub use wkt_visit::{Mapper, Visitor, bounding_rect, map_coords, num_coords, visit_coords};
 }
 
 /// Why a geometry isn't written, and one error for whatever a function here answers.
