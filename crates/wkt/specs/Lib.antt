@@ -102,7 +102,7 @@ pub use Rattle.wkt_visit.specs.Mapped
 pub use Rattle.wkt_convert.specs.Flatten
 pub use Rattle.wkt_convert.specs.Outcomes
 pub use Rattle.wkt_convert.specs.Kinds as FlatKinds
-pub use Rattle.wkt_to_wkt.specs.Back
-pub use Rattle.wkt_to_wkt.specs.Sent
-pub use Rattle.wkt_to_wkt.specs.declared.send.ToWktError
-pub use Rattle.wkt_to_wkt.specs.Laws as ConversionLaws
+pub use Rattle.wkt_convert.specs.Back
+pub use Rattle.wkt_convert.specs.Sent
+pub use Rattle.wkt_convert.specs.declared.send.ToWktError
+pub use Rattle.wkt_convert.specs.Laws as ConversionLaws
