@@ -16,17 +16,19 @@ pub(crate) struct ArraysRoom {
 /// How many places a list grows by at least.
 const MORE: usize = 64;
 
-/// Makes a list at least so long.
-fn lengthen<T: Copy>(list: &mut Vec<T>, needed: usize, item: T) -> Result<(), u32>
+/// Makes a list at least so long, by as many of those items as it takes.
+fn lengthen<T: Copy>(list: &mut Vec<T>, needed: usize, more: &[T]) -> Result<(), u32>
     ensures { MatchResult result (λ _. ⊤) (λ s. s ≡ MEMORY) }
 {
     if list.len() >= needed {
         return Ok(());
     }
-    let more = [item; MORE];
     let missing = needed - list.len();
+    if list.reserve(missing).is_err() {
+        return Err(MEMORY);
+    }
     for _turn in 0..missing / MORE + 1 {
-        if list.extend_from_slice(&more).is_err() {
+        if list.extend_from_slice(more).is_err() {
             return Err(MEMORY);
         }
     }
@@ -48,9 +50,9 @@ impl ArraysRoom {
     pub(crate) fn make(&mut self, bytes: usize) -> Result<(), u32>
         ensures { MatchResult result (λ _. ⊤) (λ s. s ≡ MEMORY) }
     {
-        lengthen(&mut self.numbers, bytes / 2 + 2, 0)?;
-        lengthen(&mut self.rings, bytes / 4 + 2, 0)?;
-        lengthen(&mut self.polygons, bytes / 6 + 2, 0)
+        lengthen(&mut self.numbers, bytes / 2 + 2, &[0; MORE])?;
+        lengthen(&mut self.rings, bytes / 4 + 2, &[0; MORE])?;
+        lengthen(&mut self.polygons, bytes / 6 + 2, &[0; MORE])
     }
 
     /// The places, lent to a text.

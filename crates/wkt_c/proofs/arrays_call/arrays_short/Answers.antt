@@ -1,2 +1,0 @@
--- What the call over the room returns.
-use Rattle.wkt_c.proofs.arrays_call.arrays_short.Goals as goal
