@@ -16,8 +16,5 @@ pub fn error_of<W: ByteSink>(wrapper: &mut WriterWrapper<W>) -> io::Error
     ensures held { held_bytes wrapper.new ≡ held_bytes wrapper.old }
     ensures count { failed_calls wrapper.new ≡ failed_calls wrapper.old }
 {
-    match wrapper.take_fault() {
-        Some(e) => e,
-        None => unreachable!(),
-    }
+    wrapper.take_fault().unwrap()
 }

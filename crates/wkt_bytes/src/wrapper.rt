@@ -14,7 +14,7 @@ use wkt_num::TextSink;
 enum State {
     Well,
     Faulty(io::Error),
-    Told,
+    Taken,
 }
 
 /// Text to a byte sink: a [`TextSink`] that gathers what it is given in an array of 256 bytes, and
@@ -253,8 +253,8 @@ impl<W: ByteSink> WriterWrapper<W> {
         ensures count { failed_calls self.new ≡ failed_calls self.old }
     {
         match self.state {
-            State::Well | State::Told => None,
-            State::Faulty(_) => match std::mem::replace(&mut self.state, State::Told) {
+            State::Well | State::Taken => None,
+            State::Faulty(_) => match std::mem::replace(&mut self.state, State::Taken) {
                 State::Faulty(e) => Some(e),
                 _ => None,
             },
