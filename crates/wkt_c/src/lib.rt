@@ -20,8 +20,10 @@ mod gathered;
 mod infer;
 mod joined;
 mod lines;
+
 mod rebuild;
 mod refusal;
 mod room;
 mod sizes;
 mod status;
+mod whole;
