@@ -12,7 +12,11 @@ import re
 ROOT = os.path.join(os.path.dirname(os.path.abspath(__file__)), os.pardir)
 DOORS = ["wkt", "wkt_lines"]
 # What a source calls a type that a caller names otherwise.
-NAMED = {"wkt_access::Error": "wkt::error::Error", "WriteError": "wkt::error::Error"}
+NAMED = {
+    "wkt_access::Error": "wkt::error::Error",
+    "WriteError": "wkt::error::Error",
+    "ConvertError": "wkt::geo_types_from_wkt::Error",
+}
 ITEM = re.compile(r"\s*(pub(\(\w+\))? )?(unsafe )?((fn|struct|enum|trait|const|type|impl|mod|static)\b|ghost \w+[:= ]|macro_rules!)")
 
 
@@ -145,17 +149,22 @@ def uses_of(lines):
     return found
 
 
+def named(text):
+    """The text with each type as a caller names it."""
+    return re.sub(r"[\w:]+", lambda it: NAMED.get(it.group(), it.group()), text)
+
+
 def told(item, level):
     """A line of the page for an item."""
     clauses = item.clauses()
     tail = f" Clauses: {clauses}." if clauses else ""
     sentence = item.sentence()
-    return f"{level}- `{item.signature()}`" + (f": {sentence}" if sentence else "") + tail
+    return f"{level}- `{named(item.signature())}`" + (f": {sentence}" if sentence else "") + tail
 
 
 def ghost_of(item):
     """A ghost member by its name and type."""
-    return " ".join(row.strip() for row in item.head).removeprefix("ghost ").rstrip(";")
+    return named(" ".join(row.strip() for row in item.head).removeprefix("ghost ").rstrip(";"))
 
 
 def tell(name, item, calls):
@@ -177,7 +186,7 @@ def tell(name, item, calls):
     elif item.head[0].startswith("pub enum"):
         rows = [row.strip().replace("#[from] ", "") for row in item.body if re.match(r"    [A-Z]", row)]
         variants = [re.match(r"\w+(\(.*\))?", row).group() for row in rows]
-        variants = [re.sub(r"[\w:]+", lambda it: NAMED.get(it.group(), it.group()), variant) for variant in variants]
+        variants = [named(variant) for variant in variants]
         page.append("  - variants: " + ", ".join(f"`{variant}`" for variant in variants))
     else:
         fields = [re.match(r"    pub ([\w]+: .*?),?$", row).group(1) for row in item.body if re.match(r"    pub ", row)]

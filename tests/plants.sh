@@ -19,7 +19,7 @@ wkt_uses same_place: \{ .*\(alloc, other, one\) \}
 wkt_uses answers: \{ Err\(RunError::(Write|Memory)\(.*\)\) \}
 wkt_uses answers: \{ .*\(alloc, input, 0\) \}
 # That two calls differ says nothing of the text: the tables take it for wrong.
-wkt_answers answer: \{ Err\(AnswerError::Differ\) \}
+wkt_test_support answer: \{ Err\(AnswerError::Differ\) \}
 # Which error a sink gives is no part of a contract. That it comes unchanged is tested.
 wkt_bytes put_all: \{ .*Err\(_\) => Err\(io::Error::from\(.*\)\) .*\}
 # What an explanation is displayed as is tested, as the texts of errors are.

@@ -13,7 +13,7 @@ use Rattle.wkt_flat.specs.Shape.{flat_shape, flat_shapes, sequence_numbers, ring
 use Rattle.wkt_flat.specs.Tree.{Flat, Flats}
 use Rattle.wkt_flat.specs.declared.coord.Coord as flat_coord
 use Rattle.wkt_flat.specs.declared.point.Point as flat_point
-use Rattle.wkt_to_wkt.specs.Back.{back, all_back, flat_xy, line_string_back, rings_back, point_back, polygon_back}
+use Rattle.wkt_convert.specs.Back.{back, all_back, flat_xy, line_string_back, rings_back, point_back, polygon_back}
 
 coords_uniform : {T : Type 0} (cs : List (flat_coord.Coord T)) → AllByRecursion (HasDim XY) (map flat_xy cs)
 coords_uniform [] = tt

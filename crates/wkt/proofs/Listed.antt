@@ -7,7 +7,7 @@ use Rattle.std.specs.declared.cmp.Ordering.TheVariants.{Less, Equal, Greater}
 use Rattle.wkt_flat.specs.Corners.{lesser, greater}
 use Rattle.wkt_flat.specs.Tree.{Flat, flats_of}
 use Rattle.wkt_types.specs.Tree.{Tree, trees_of}
-use Rattle.wkt_walks.specs.Bounds.{IsAtMost}
+use Rattle.wkt_visit.specs.Bounds.{IsAtMost}
 
 module _ {N : Type 0} (cmp : N → N → Ordering) (o : IsTotalOrder cmp) (partial : N → N → Option Ordering) (agrees : (x y : N) → partial x y ≡ Some (cmp x y)) where
   turned : (a b : N) (r : Ordering) → cmp a b ≡ r → IsAtMost cmp (cond (is_lt r) a b) (cond (is_lt r) b a)

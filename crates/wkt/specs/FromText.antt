@@ -24,22 +24,17 @@ module _ {T : Type 0} (read : List ℕ → Option T) where
   TextAnswers see turn text (Ok r) = FrontGives turn text (value (see r))
   TextAnswers see turn text (Err PointConversionError) = FrontGives turn text (refused empty_point)
   TextAnswers see turn text (Err (MismatchedGeometry e f)) = FrontGives turn text (refused (mismatched e.now f.now))
-  TextAnswers see turn text (Err (WrongNumberOfGeometries n)) = ⊥
   TextAnswers see turn text (Err (InvalidWKT m)) = IsNoText text m.now
-  TextAnswers see turn text (Err (Reader e)) = ⊥
-  TextAnswers see turn text (Err Utf8) = ⊥
   TextAnswers see turn text (Err (Memory e)) = Unit {0}
+  TextAnswers see turn text (Err _) = ⊥
 
   -- Bytes that aren't UTF-8 are refused so, and any others are answered as a text. A source that fails tells nothing of them.
   abbrev pub BytesAnswer : {X R : Type 0} → (R → X) → (Tree T → Outcome X) → List ℕ → Result R ConvertError → Type 0
-  BytesAnswer see turn bytes (Ok r) = IsUtf8 bytes × TextAnswers see turn bytes (Ok r)
-  BytesAnswer see turn bytes (Err PointConversionError) = IsUtf8 bytes × TextAnswers see turn bytes (Err PointConversionError)
-  BytesAnswer see turn bytes (Err (MismatchedGeometry e f)) = IsUtf8 bytes × TextAnswers see turn bytes (Err (MismatchedGeometry e f))
   BytesAnswer see turn bytes (Err (WrongNumberOfGeometries n)) = ⊥
-  BytesAnswer see turn bytes (Err (InvalidWKT m)) = IsUtf8 bytes × TextAnswers see turn bytes (Err (InvalidWKT m))
   BytesAnswer see turn bytes (Err (Reader e)) = Unit {0}
   BytesAnswer see turn bytes (Err Utf8) = IsUtf8 bytes → ⊥
   BytesAnswer see turn bytes (Err (Memory e)) = Unit {0}
+  BytesAnswer see turn bytes r = IsUtf8 bytes × TextAnswers see turn bytes r
 
   -- A text is answered as one kind of flat value: with its content, or refused by name.
   abbrev pub AnswersKind : {X : Type 0} → (T → T → Bool) → FlatKind T X → List ℕ → Result X ConvertError → Type 0
@@ -51,53 +46,29 @@ module _ {T : Type 0} (read : List ℕ → Option T) where
 
   -- Why a text isn't read.
   abbrev pub IsUnread : List ℕ → ConvertError → Type 0
-  IsUnread text PointConversionError = ⊥
-  IsUnread text (MismatchedGeometry e f) = ⊥
-  IsUnread text (WrongNumberOfGeometries n) = ⊥
   IsUnread text (InvalidWKT m) = IsNoText text m.now
-  IsUnread text (Reader e) = ⊥
-  IsUnread text Utf8 = ⊥
   IsUnread text (Memory e) = Unit {0}
+  IsUnread text _ = ⊥
 
 -- The fact is claimed of each answer that comes after all bytes were read.
 abbrev pub OnAllRead : {R : Type 0} → Result R ConvertError → Type 0 → Type 0
-OnAllRead (Ok r) P = P
-OnAllRead (Err PointConversionError) P = P
-OnAllRead (Err (MismatchedGeometry e f)) P = P
-OnAllRead (Err (WrongNumberOfGeometries n)) P = P
-OnAllRead (Err (InvalidWKT m)) P = P
 OnAllRead (Err (Reader e)) P = Unit {0}
-OnAllRead (Err Utf8) P = P
 OnAllRead (Err (Memory e)) P = Unit {0}
+OnAllRead _ P = P
 
 -- The fact is claimed where the source failed.
 abbrev pub OnReader : {R : Type 0} → Result R ConvertError → Type 0 → Type 0
-OnReader (Ok r) P = Unit {0}
-OnReader (Err PointConversionError) P = Unit {0}
-OnReader (Err (MismatchedGeometry e f)) P = Unit {0}
-OnReader (Err (WrongNumberOfGeometries n)) P = Unit {0}
-OnReader (Err (InvalidWKT m)) P = Unit {0}
 OnReader (Err (Reader e)) P = P
-OnReader (Err Utf8) P = Unit {0}
-OnReader (Err (Memory e)) P = Unit {0}
+OnReader _ P = Unit {0}
 
 -- The fact is claimed unless the source failed.
 abbrev pub UnlessReader : {R : Type 0} → Result R ConvertError → Type 0 → Type 0
-UnlessReader (Ok r) P = P
-UnlessReader (Err PointConversionError) P = P
-UnlessReader (Err (MismatchedGeometry e f)) P = P
-UnlessReader (Err (WrongNumberOfGeometries n)) P = P
-UnlessReader (Err (InvalidWKT m)) P = P
 UnlessReader (Err (Reader e)) P = Unit {0}
-UnlessReader (Err Utf8) P = P
-UnlessReader (Err (Memory e)) P = P
+UnlessReader _ P = P
 
 -- Why the bytes of a source are no text.
 abbrev pub IsUntold : List ℕ → ConvertError → Type 0
-IsUntold bytes PointConversionError = ⊥
-IsUntold bytes (MismatchedGeometry e f) = ⊥
-IsUntold bytes (WrongNumberOfGeometries n) = ⊥
-IsUntold bytes (InvalidWKT m) = ⊥
 IsUntold bytes (Reader e) = Unit {0}
 IsUntold bytes Utf8 = IsUtf8 bytes → ⊥
 IsUntold bytes (Memory e) = Unit {0}
+IsUntold bytes _ = ⊥

@@ -10,14 +10,14 @@ use Rattle.wkt_flat.specs.Shape.{flat_shape}
 use Rattle.wkt_flat.specs.Tree.{Flat, flat_tree, flat_members}
 use Rattle.wkt_flat.specs.declared.coord.Coord.{Coord}
 use Rattle.wkt_flat.specs.declared.geometry.Geometry.{Geometry}
-use Rattle.wkt_walks.specs.Bounds.{IsAtMost}
+use Rattle.wkt_visit.specs.Bounds.{IsAtMost}
 use Rattle.wkt_types.specs.Tree.{tree, members}
 use Rattle.wkt_types.specs.declared.geometry.Wkt.{Wkt}
 use Rattle.wkt_types.specs.Outcome.{Outcome, value}
 use Rattle.wkt_read.specs.Answered.{IsFront}
 use Rattle.wkt_convert.specs.Flatten.{flat}
-use Rattle.wkt_to_wkt.specs.Back.{back}
-use Rattle.wkt_to_wkt.specs.Laws.{IsPlain}
+use Rattle.wkt_convert.specs.Back.{back}
+use Rattle.wkt_convert.specs.Laws.{IsPlain}
 use Rattle.wkt.specs.FromText.{FrontGives}
 
 -- The text of a plain value is answered with that value, and with nothing else.

@@ -94,15 +94,15 @@ pub use Rattle.wkt_flat.specs.Equal as FlatEqual
 pub use Rattle.wkt_flat.specs.Exact as FlatExact
 pub use Rattle.wkt_flat.specs.declared.coord.Coord as FlatCoord
 -- walks over its coordinates
-pub use Rattle.wkt_walks.specs.Coords as FlatCoords
-pub use Rattle.wkt_walks.specs.Visits
-pub use Rattle.wkt_walks.specs.Bounds
-pub use Rattle.wkt_walks.specs.Mapped
+pub use Rattle.wkt_visit.specs.Coords as FlatCoords
+pub use Rattle.wkt_visit.specs.Visits
+pub use Rattle.wkt_visit.specs.Bounds
+pub use Rattle.wkt_visit.specs.Mapped
 -- conversions between the two
 pub use Rattle.wkt_convert.specs.Flatten
 pub use Rattle.wkt_convert.specs.Outcomes
 pub use Rattle.wkt_convert.specs.Kinds as FlatKinds
-pub use Rattle.wkt_to_wkt.specs.Back
-pub use Rattle.wkt_to_wkt.specs.Sent
-pub use Rattle.wkt_to_wkt.specs.declared.send.ToWktError
-pub use Rattle.wkt_to_wkt.specs.Laws as ConversionLaws
+pub use Rattle.wkt_convert.specs.Back
+pub use Rattle.wkt_convert.specs.Sent
+pub use Rattle.wkt_convert.specs.declared.send.ToWktError
+pub use Rattle.wkt_convert.specs.Laws as ConversionLaws

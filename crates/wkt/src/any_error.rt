@@ -4,8 +4,8 @@ ghost use Rattle.std.specs.Prelude.{◌≡◌};
 use crate::whole::WholeError;
 use std::alloc::{AllocError, AllocFailed};
 use thiserror::Error;
+use wkt_convert::ToWktError;
 use wkt_read::{InferError, ReadError};
-use wkt_to_wkt::ToWktError;
 use wkt_types::ConvertError;
 
 /// What a function answers that reads, converts and writes: `?` passes on the error of each of these.

@@ -1,12 +1,12 @@
 //! Laws of flat values and their texts: each function changes nothing, and its contract is the law.
-ghost use Rattle.wkt_to_wkt.specs.Laws.{ComesBack};
+ghost use Rattle.wkt_convert.specs.Laws.{ComesBack};
 ghost use Rattle.wkt.specs.Laws.{BackIsRead, CornersAreInOrder, FlatReadsBack, MembersAreListed, PlainReadsBack};
 ghost use Rattle.wkt_flat.specs.Tree.{flat_tree};
 
+use wkt_convert::laws::plain_comes_back;
 use wkt_flat::Geometry;
 use wkt_flat::laws::rings_are_closed;
 use wkt_num::WktNum;
-use wkt_to_wkt::laws::plain_comes_back;
 
 /// The text of a flat value is read as the `Wkt` that the value is turned into (`to_wkt`), if its numbers are values of
 /// the number type: by way of the text or without it, it is the same `Wkt`.

@@ -86,11 +86,11 @@ pub use json::{
 };
 pub use same::same_geometry;
 pub use whole::{WholeError, read_whole};
+pub use wkt_convert::{ToWkt, ToWktError};
 pub use wkt_events::{TextWritten, canonical_into, front_end};
 pub use wkt_explain::{Expected, Explanation, Refusal, explain, refusal};
 pub use wkt_num::{Decimal, WktNum};
 pub use wkt_read::{FromWktStr, InferError, Message, ReadError, infer_type};
-pub use wkt_to_wkt::{ToWkt, ToWktError};
 
 /// A geometry as well-known text has it: with up to four numbers a coordinate, of any of the seven kinds.
 // A name of this crate's own: of a recursive enum that is handed on by `pub use`, the checker asks each caller for the
@@ -141,8 +141,8 @@ pub mod to_wkt {
     pub use wkt_bytes::{
         ByteSink, ByteSource, Counted, ReadAllError, WriterWrapper, put_all, read_all,
     };
+    pub use wkt_convert::{ToWkt, ToWktError};
     pub use wkt_num::{CountedText, FormatterText, TextSink};
-    pub use wkt_to_wkt::{ToWkt, ToWktError};
     pub use wkt_write::{
         push_geometry, push_geometry_collection, push_line, push_linestring, push_multi_linestring,
         push_multi_point, push_multi_polygon, push_point, push_polygon, push_rect, push_triangle,
@@ -170,7 +170,7 @@ pub mod geo_types_from_wkt {
 /// let rect = bounding_rect(&geometry); // from (0, 1) to (3, 5)
 /// ```
 pub mod walks {
-    pub use wkt_walks::{Mapper, Visitor, bounding_rect, map_coords, num_coords, visit_coords};
+    pub use wkt_visit::{Mapper, Visitor, bounding_rect, map_coords, num_coords, visit_coords};
 }
 
 /// Why a geometry isn't written, and one error for whatever a function here answers.
@@ -212,6 +212,7 @@ pub mod laws {
         back_is_read, corners_are_in_order, geometry_comes_back, members_are_listed,
         plain_reads_back,
     };
+    pub use wkt_convert::laws::{flat_and_back, plain_comes_back};
     pub use wkt_events::laws::texts_are_short;
     pub use wkt_explain::laws::{one_refusal, refused_has_no_front};
     pub use wkt_flat::laws::{flat_is_writable, rings_are_closed};
@@ -224,6 +225,5 @@ pub mod laws {
         one_value_text, one_wkt, read_values_are_writable, reads_back, stable_front,
         value_reads_back, whole_characters,
     };
-    pub use wkt_to_wkt::laws::{flat_and_back, plain_comes_back};
     pub use wkt_types::laws::canonical_is_one;
 }

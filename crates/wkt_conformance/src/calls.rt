@@ -1,12 +1,16 @@
 //! The calls of the rows, by their names.
 use crate::built::built;
+use crate::callers::used;
 use crate::flat_calls::{becomes, converted, flat_of};
 use crate::json_calls::json_given;
 use crate::made::{canonical, lines, pushed, turned};
 use crate::numbers::{answer_of, number_of};
+use crate::parts::{ended, flat_of_whole, held, lexemes};
 use crate::refusals::{message, place, shown};
 use std::alloc::{AllocError, Global};
-use wkt::{AnyError, Decimal, FromWktStr, Wkt, infer_type, read_whole, same_geometry};
+use wkt::{
+    AnyError, Decimal, FromWktStr, Wkt, canonical_text, infer_type, read_whole, same_geometry,
+};
 
 /// The number type of the rows that name none.
 pub(crate) type Number = Decimal<6>;
@@ -21,6 +25,11 @@ pub(crate) fn given(alloc: Global, call: &str, of: &str, text: &str) -> Result<S
         "read_number" => number_of(alloc, of, text),
         "read_front" => front(alloc, text),
         "read_whole" => whole(alloc, text),
+        "flat_of_whole" => flat_of_whole(alloc, text),
+        "canonical_text" => Ok(canonical_text::<Number>(alloc, text)?),
+        "front_end" => Ok(ended(alloc, text)?),
+        "held" => held(alloc, text),
+        "lexemes" => Ok(lexemes(alloc, text)?),
         "infer_type" => header(alloc, text),
         "same_geometry" => same(alloc, of, text),
         "try_from_wkt_str" => flat_of(alloc, of, text),
@@ -34,7 +43,10 @@ pub(crate) fn given(alloc: Global, call: &str, of: &str, text: &str) -> Result<S
         "explain" => place(alloc, text),
         "explained" => shown(alloc, text),
         "explain_message" => message(alloc, text),
-        _ => json_given(alloc, call, of, text),
+        "wkt_from_value" | "deserialize_geometry" | "deserialize_wkt" | "deserialize_point" => {
+            json_given(alloc, call, of, text)
+        }
+        _ => used(alloc, call, of, text),
     }
 }
 

@@ -10,11 +10,13 @@
 #![tactic(auto)]
 
 mod built;
+mod callers;
 mod calls;
 mod flat_calls;
 mod json_calls;
 mod made;
 mod numbers;
+mod parts;
 mod refusals;
 mod rows;
 mod table;

@@ -3,8 +3,7 @@ use crate::calls::Number;
 use std::alloc::Global;
 use wkt::to_wkt::CountedText;
 use wkt::{AnyError, Decimal, WktNum};
-use wkt_answers::{answer, told};
-use wkt_odd::{Dash, Letter, Long};
+use wkt_test_support::{Dash, Letter, Long, answer, text_or_message};
 
 /// What reading a text gives over that number type, if all calls agree.
 pub(crate) fn answer_of(alloc: Global, number: &str, text: &str) -> Result<String, AnyError> {
@@ -19,7 +18,7 @@ pub(crate) fn answer_of(alloc: Global, number: &str, text: &str) -> Result<Strin
 }
 
 fn answered<T: WktNum>(alloc: Global, text: &str) -> Result<String, AnyError> {
-    Ok(told(alloc, answer::<T>(alloc, text))?)
+    Ok(text_or_message(alloc, answer::<T>(alloc, text))?)
 }
 
 /// What is printed of the number of that type that the text is read as.

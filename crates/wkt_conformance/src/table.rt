@@ -8,7 +8,7 @@ use std::{env, fs};
 use thiserror::Error;
 use wkt::Decimal;
 use wkt::to_wkt::{Counted, ReadAllError, read_all};
-use wkt_answers::{answer, told};
+use wkt_test_support::{answer, text_or_message};
 
 /// Why a table isn't checked to its end.
 #[derive(Debug, Drop, Error)]
@@ -64,7 +64,7 @@ fn check_table(rt: &impl Print, alloc: Global, table: &str) -> Result<u64, Table
     let mut wrong = 0u64;
     for row in table.lines() {
         let (text, want) = row.split_once('\t').unwrap_or((row, ""));
-        let given = match told(alloc, answer::<Decimal<18>>(alloc, text)) {
+        let given = match text_or_message(alloc, answer::<Decimal<18>>(alloc, text)) {
             Ok(given) => given,
             Err(e) => return Err(TableError::Memory(e)),
         };

@@ -1,14 +1,16 @@
 -- The members of a collection, one after the other; and multipoints.
-use Rattle.std.proofs.Common.{◌≡◌, refl, ap, sym, ◌∙◌, List, [], ◌∷◌, Bool}
+use Rattle.std.proofs.Common.{◌≡◌, refl, ap, sym, ◌∙◌, List, [], ◌∷◌, map, Bool}
 use Rattle.wkt_types.specs.Held.{Held, HeldPoint}
-use Rattle.wkt_types.specs.Tree.{Tree, tree, members, wkt_step, collection_step}
+use Rattle.wkt_types.specs.Tree.{Tree, Trees, tree, trees_of, members, wkt_step, collection_step}
 use Rattle.wkt_types.specs.declared.coord.Coord.{Coord}
 use Rattle.wkt_types.specs.declared.geometry.Wkt.{Wkt}
 use Rattle.wkt_types.specs.declared.geometry.Wkt.TheVariants as variants
 use Rattle.wkt_types.specs.declared.geometry.Wkt.TheFolds as folds
 use Rattle.wkt_types.specs.declared.geometry.Wkt.TheOpen as opened
-use Rattle.wkt_flat.specs.Tree.{Flat, Flats, flats_of}
+use Rattle.wkt_flat.specs.Tree.{Flat, Flats, flat_tree, flat_members, flats_of}
 use Rattle.wkt_flat.specs.declared.coord.Coord as flat_coord
+use Rattle.wkt_flat.specs.declared.geometry.Geometry.{Geometry}
+use Rattle.wkt_convert.specs.Back.{back, all_back}
 use Rattle.wkt_convert.specs.Flatten.{flat, flat_all}
 use Rattle.wkt_types.specs.Outcome.{Outcome, value, refused}
 use Rattle.wkt_convert.specs.Outcomes.{outcome_map, outcome_both, outcomes}
@@ -24,6 +26,10 @@ pub flatten_members : {T : Type 0} (E : flat_coord.Coord T → flat_coord.Coord 
 flatten_members E [] = refl
 flatten_members E (w ∷ ws) =
     ap (outcome_both Flats.more_flats (flat E (tree w))) (flatten_members E ws) ∙ gather (flat E (tree w)) (outcomes (λ w. flat E (tree w)) ws)
+
+pub all_back_members : {T : Type 0} (gs : List (Geometry T)) → all_back (flat_members gs) ≡ trees_of (map (λ g. back (flat_tree g)) gs)
+all_back_members [] = refl
+all_back_members (g ∷ gs) = ap (λ ts. Trees.more_trees (back (flat_tree g)) ts) (all_back_members gs)
 
 pub tree-point : {T : Type 0} (p : HeldPoint (Coord T)) → tree (variants.Point p) ≡ Tree.point p
 tree-point {T} p =

@@ -1,9 +1,10 @@
 -- A flat value of one kind asked of a geometry of any.
-use Rattle.std.specs.Prelude.{List, Option, Some, None, ℕ, Bool, codes}
+use Rattle.std.specs.Prelude.{List, Option, Some, None, Result, ℕ, Bool, codes}
 use Rattle.wkt_types.specs.Tree.{Tree}
 use Rattle.wkt_flat.specs.Equal.{coord_eq}
 use Rattle.wkt_convert.specs.Flatten.{flat}
-use Rattle.wkt_types.specs.Outcome.{Outcome, value, refused, mismatched}
+use Rattle.wkt_types.specs.Outcome.{Outcome, Answers, value, refused, mismatched}
+use Rattle.wkt_types.specs.declared.convert.ConvertError.{ConvertError}
 use Rattle.wkt_flat.specs.Corners.{Corners}
 use Rattle.wkt_flat.specs.Rings.{Rings}
 use Rattle.wkt_flat.specs.Tree.{Flat}
@@ -43,6 +44,10 @@ only kind (refused k) = refused k
 -- The content of the flat value of a tree, if it is of the kind asked for.
 abbrev pub only_flat : {T X : Type 0} → FlatKind T X → (T → T → Bool) → Tree T → Outcome X
 only_flat kind E t = only kind (flat (coord_eq E) t)
+
+-- A flat value is answered as one kind: with its content, or refused by name.
+abbrev pub IsOfKind : {T X : Type 0} → FlatKind T X → Flat T → Result X ConvertError → Type 0
+IsOfKind kind t r = Answers (λ x. x) (only kind (value t)) r
 
 -- The content of each kind, if the value is of that kind.
 abbrev pub point_in : {T : Type 0} → Flat T → Option (Point T)

@@ -8,9 +8,8 @@ ghost use Rattle.wkt_flat.specs.Equal.{coord_eq};
 ghost use Rattle.wkt_convert.specs.Outcomes.{outcome_map};
 ghost use Rattle.wkt_convert.specs.Flatten.{sequence, rings, points, flat, flat_all, trees_in};
 
-use crate::flatten::{
-    all_points, collection, geometry, line_string, line_strings, polygon, polygons,
-};
+use crate::flatten::{all_points, collection};
+use crate::parts::{Turn, turn_all};
 use std::alloc::Global;
 use wkt_flat as flat;
 use wkt_flat::Geometry;
@@ -75,7 +74,7 @@ impl<T: WktNum> ConvertFrom<types::LineString<T>> for flat::LineString<T> {
     ghost converts = { λ l r. Answers (λ x. x) (value (sequence l)) r };
 
     fn convert_from(alloc: Global, source: types::LineString<T>) -> Result<Self, ConvertError> {
-        Ok(line_string(alloc, &source)?)
+        Ok(source.turn(alloc)?)
     }
 }
 
@@ -83,7 +82,7 @@ impl<T: WktNum> ConvertFrom<types::Polygon<T>> for flat::Polygon<T> {
     ghost converts = { λ y r. Answers (λ x. x) (value (rings (coord_eq T.eq) y)) r };
 
     fn convert_from(alloc: Global, source: types::Polygon<T>) -> Result<Self, ConvertError> {
-        Ok(polygon(alloc, &source)?)
+        Ok(source.turn(alloc)?)
     }
 }
 
@@ -104,7 +103,7 @@ impl<T: WktNum> ConvertFrom<types::MultiLineString<T>> for flat::MultiLineString
         alloc: Global,
         source: types::MultiLineString<T>,
     ) -> Result<Self, ConvertError> {
-        Ok(flat::MultiLineString(line_strings(alloc, source.line_strings())?))
+        Ok(flat::MultiLineString(turn_all(alloc, source.line_strings())?))
     }
 }
 
@@ -114,7 +113,7 @@ impl<T: WktNum> ConvertFrom<types::MultiPolygon<T>> for flat::MultiPolygon<T> {
     ghost converts = { λ m r. Answers (λ x. x) (value (map (rings (coord_eq T.eq)) m.parts)) r };
 
     fn convert_from(alloc: Global, source: types::MultiPolygon<T>) -> Result<Self, ConvertError> {
-        Ok(flat::MultiPolygon(polygons(alloc, source.polygons())?))
+        Ok(flat::MultiPolygon(turn_all(alloc, source.polygons())?))
     }
 }
 
@@ -133,7 +132,7 @@ impl<T: WktNum> ConvertFrom<&types::LineString<T>> for Geometry<T> {
     ghost converts = { λ l r. Answers flat_tree (value (Flat.line_string (sequence l.now))) r };
 
     fn convert_from(alloc: Global, source: &types::LineString<T>) -> Result<Self, ConvertError> {
-        Ok(Geometry::LineString(line_string(alloc, source)?))
+        Ok(Geometry::LineString(source.turn(alloc)?))
     }
 }
 
@@ -141,7 +140,7 @@ impl<T: WktNum> ConvertFrom<&types::Polygon<T>> for Geometry<T> {
     ghost converts = { λ y r. Answers flat_tree (value (Flat.polygon (rings (coord_eq T.eq) y.now))) r };
 
     fn convert_from(alloc: Global, source: &types::Polygon<T>) -> Result<Self, ConvertError> {
-        Ok(Geometry::Polygon(polygon(alloc, source)?))
+        Ok(Geometry::Polygon(source.turn(alloc)?))
     }
 }
 
@@ -162,7 +161,7 @@ impl<T: WktNum> ConvertFrom<&types::MultiLineString<T>> for Geometry<T> {
         alloc: Global,
         source: &types::MultiLineString<T>,
     ) -> Result<Self, ConvertError> {
-        Ok(Geometry::MultiLineString(flat::MultiLineString(line_strings(
+        Ok(Geometry::MultiLineString(flat::MultiLineString(turn_all(
             alloc,
             source.line_strings(),
         )?)))
@@ -176,14 +175,6 @@ impl<T: WktNum> ConvertFrom<&types::MultiPolygon<T>> for Geometry<T> {
         (value (Flat.multi_polygon (map (rings (coord_eq T.eq)) m.now.parts))) r };
 
     fn convert_from(alloc: Global, source: &types::MultiPolygon<T>) -> Result<Self, ConvertError> {
-        Ok(Geometry::MultiPolygon(flat::MultiPolygon(polygons(alloc, source.polygons())?)))
-    }
-}
-
-impl<T: WktNum> ConvertFrom<Wkt<T>> for Geometry<T> {
-    ghost converts = { λ w r. Answers flat_tree (flat (coord_eq T.eq) (tree w)) r };
-
-    fn convert_from(alloc: Global, source: Wkt<T>) -> Result<Self, ConvertError> {
-        geometry(alloc, &source)
+        Ok(Geometry::MultiPolygon(flat::MultiPolygon(turn_all(alloc, source.polygons())?)))
     }
 }

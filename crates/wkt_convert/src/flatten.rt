@@ -1,5 +1,6 @@
 //! Flat values of what a `Wkt` holds.
 ghost use Rattle.std.specs.Prelude.{◌≡◌, ◌++◌, ◌∷◌, [], IfOk, OnOk, map};
+ghost use Rattle.wkt_types.specs.Flattened.{xy};
 ghost use Rattle.wkt_types.specs.Tree.{tree, members};
 ghost use Rattle.wkt_flat.specs.Tree.{flat_tree, flat_trees};
 ghost use Rattle.wkt_flat.specs.Equal.{coord_eq};
@@ -7,13 +8,12 @@ ghost use Rattle.wkt_types.specs.Outcome.{Answers};
 ghost use Rattle.wkt_convert.specs.Pieces.{IsPiece};
 ghost use Rattle.wkt_convert.specs.Flatten.{sequence, rings, points, point_or_none, flat, flat_all};
 
+use crate::parts::{Open, Piece, Turn, turn_all};
 use std::alloc::{AllocError, Global};
 use wkt_flat as flat;
 use wkt_flat::Geometry;
 use wkt_num::WktNum;
-use wkt_types::{
-    ConvertError, LineString, MultiLineString, MultiPoint, MultiPolygon, Point, Polygon, Wkt,
-};
+use wkt_types::{ConvertError, Coord, LineString, Point, Polygon, Wkt};
 
 /// Adds one more to a list.
 fn push<X: Drop>(x: X, all: &mut Vec<X>) -> Result<(), AllocError>
@@ -23,64 +23,38 @@ fn push<X: Drop>(x: X, all: &mut Vec<X>) -> Result<(), AllocError>
     Ok(())
 }
 
-/// The coordinate sequence of a line string.
-pub(crate) fn line_string<T: WktNum>(
-    alloc: Global,
-    l: &LineString<T>,
-) -> Result<flat::LineString<T>, AllocError>
-    ensures { IfOk result (λ r. r ≡ sequence l.now) }
-{
-    let coords = l.coords();
-    let mut all = Vec::with_capacity(alloc, coords.len())?;
-    for c in coords {
-        all.push(flat::Coord::from(*c))?;
+/// Without z and m.
+impl<T: WktNum> Turn<flat::Coord<T>> for Coord<T> {
+    ghost turned = { xy };
+
+    fn turn(&self, _alloc: Global) -> Result<flat::Coord<T>, AllocError> {
+        Ok(flat::Coord::from(*self))
     }
-    Ok(flat::LineString(all))
 }
 
-/// The polygon of closed rings.
-pub(crate) fn polygon<T: WktNum>(
-    alloc: Global,
-    y: &Polygon<T>,
-) -> Result<flat::Polygon<T>, AllocError>
-    ensures { IfOk result (λ r. r ≡ rings (coord_eq T.eq) y.now) }
-{
-    match y.rings() {
-        [] => flat::Polygon::new(alloc, flat::LineString(Vec::new(alloc)), Vec::new(alloc)),
-        [exterior, interiors @ ..] => {
-            let exterior = line_string(alloc, exterior)?;
-            let interiors = line_strings(alloc, interiors)?;
-            flat::Polygon::new(alloc, exterior, interiors)
+/// Its coordinates.
+impl<T: WktNum> Turn<flat::LineString<T>> for LineString<T> {
+    ghost turned = { sequence };
+
+    fn turn(&self, alloc: Global) -> Result<flat::LineString<T>, AllocError> {
+        Ok(flat::LineString(turn_all(alloc, self.coords())?))
+    }
+}
+
+/// The polygon of its rings, which are closed.
+impl<T: WktNum> Turn<flat::Polygon<T>> for Polygon<T> {
+    ghost turned = { rings (coord_eq T.eq) };
+
+    fn turn(&self, alloc: Global) -> Result<flat::Polygon<T>, AllocError> {
+        match self.rings() {
+            [] => flat::Polygon::new(alloc, flat::LineString(Vec::new(alloc)), Vec::new(alloc)),
+            [exterior, interiors @ ..] => {
+                let exterior = exterior.turn(alloc)?;
+                let interiors = turn_all(alloc, interiors)?;
+                flat::Polygon::new(alloc, exterior, interiors)
+            }
         }
     }
-}
-
-/// The coordinate sequence of each line string.
-pub(crate) fn line_strings<T: WktNum>(
-    alloc: Global,
-    lines: &[LineString<T>],
-) -> Result<Vec<flat::LineString<T>>, AllocError>
-    ensures { IfOk result (λ r. r.items ≡ map sequence lines.now) }
-{
-    let mut all = Vec::with_capacity(alloc, lines.len())?;
-    for l in lines {
-        all.push(line_string(alloc, l)?)?;
-    }
-    Ok(all)
-}
-
-/// The polygon of each polygon.
-pub(crate) fn polygons<T: WktNum>(
-    alloc: Global,
-    ys: &[Polygon<T>],
-) -> Result<Vec<flat::Polygon<T>>, AllocError>
-    ensures { IfOk result (λ r. r.items ≡ map (rings (coord_eq T.eq)) ys.now) }
-{
-    let mut all = Vec::with_capacity(alloc, ys.len())?;
-    for y in ys {
-        all.push(polygon(alloc, y)?)?;
-    }
-    Ok(all)
 }
 
 /// The point of each point; refused where one is empty.
@@ -110,33 +84,29 @@ fn point<T: WktNum>(alloc: Global, p: &Point<T>) -> Geometry<T>
     }
 }
 
-/// A flat geometry, or what a collection holds.
-#[derive(Drop)]
-enum Piece<'a, T> {
-    Whole(Geometry<T>),
-    Members(&'a [Wkt<T>]),
-}
-
 /// The flat geometry. A collection is opened, and no more.
 // As a part of its callers it moves nothing: a point then costs a third of the instructions.
 #[inline(always)]
-fn piece_of<'a, T: WktNum>(alloc: Global, w: &'a Wkt<T>) -> Result<Piece<'a, T>, ConvertError>
+fn piece_of<'a, T: WktNum>(
+    alloc: Global,
+    w: &'a Wkt<T>,
+) -> Result<Piece<'a, Wkt<T>, Geometry<T>>, ConvertError>
     ensures { IsPiece (coord_eq T.eq) (tree w.now) result }
 {
     match w {
         Wkt::Point(p) => Ok(Piece::Whole(point(alloc, p))),
-        Wkt::LineString(l) => Ok(Piece::Whole(Geometry::LineString(line_string(alloc, l)?))),
-        Wkt::Polygon(y) => Ok(Piece::Whole(Geometry::Polygon(polygon(alloc, y)?))),
+        Wkt::LineString(l) => Ok(Piece::Whole(Geometry::LineString(l.turn(alloc)?))),
+        Wkt::Polygon(y) => Ok(Piece::Whole(Geometry::Polygon(y.turn(alloc)?))),
         Wkt::MultiPoint(m) => {
             let points = all_points(alloc, m.points())?;
             Ok(Piece::Whole(Geometry::MultiPoint(points)))
         }
         Wkt::MultiLineString(m) => {
-            let lines = flat::MultiLineString(line_strings(alloc, m.line_strings())?);
+            let lines = flat::MultiLineString(turn_all(alloc, m.line_strings())?);
             Ok(Piece::Whole(Geometry::MultiLineString(lines)))
         }
         Wkt::MultiPolygon(m) => {
-            let polygons = flat::MultiPolygon(polygons(alloc, m.polygons())?);
+            let polygons = flat::MultiPolygon(turn_all(alloc, m.polygons())?);
             Ok(Piece::Whole(Geometry::MultiPolygon(polygons)))
         }
         Wkt::GeometryCollection(c) => Ok(Piece::Members(c.geometries())),
@@ -151,13 +121,6 @@ pub(crate) fn geometry<T: WktNum>(alloc: Global, w: &Wkt<T>) -> Result<Geometry<
         Piece::Whole(g) => Ok(g),
         Piece::Members(ws) => Ok(Geometry::GeometryCollection(collection(alloc, ws)?)),
     }
-}
-
-/// A collection that is open: its members that are left, and the flat ones of those before them.
-#[derive(Drop)]
-struct Open<'a, T> {
-    rest: &'a [Wkt<T>],
-    done: Vec<Geometry<T>>,
 }
 
 /// The flat collection of those members.

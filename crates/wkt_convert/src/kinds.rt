@@ -1,18 +1,116 @@
-//! Conversions of a `Wkt` of any kind into a flat value of one kind.
-ghost use Rattle.wkt_types.specs.Tree.{tree};
-ghost use Rattle.wkt_types.specs.Outcome.{Answers, refused, mismatched};
-ghost use Rattle.wkt_flat.specs.Tree.{flat_tree, flat_trees};
+//! Conversions of a `Wkt` of any kind into flat values.
+ghost use Rattle.wkt_types.specs.Tree.{Tree, tree};
+ghost use Rattle.wkt_types.specs.Outcome.{Outcome, Answers, refused, mismatched};
+ghost use Rattle.wkt_flat.specs.Tree.{Flat, Flats, flat_tree, flat_trees};
 ghost use Rattle.wkt_flat.specs.Equal.{coord_eq};
 ghost use Rattle.wkt_convert.specs.Flatten.{flat, flat_collection};
-ghost use Rattle.wkt_convert.specs.Kinds.{only_flat, flat_name, point_kind, line_kind, line_string_kind, polygon_kind, multi_point_kind, multi_line_string_kind, multi_polygon_kind, rect_kind, triangle_kind};
+ghost use Rattle.wkt_convert.specs.Kinds.{FlatKind, IsOfKind, only_flat, flat_name, point_kind, line_kind, line_string_kind, polygon_kind, multi_point_kind, multi_line_string_kind, multi_polygon_kind, rect_kind, triangle_kind};
 
 use crate::convert::ConvertFrom;
-use crate::flatten::collection;
+use crate::flatten;
 use std::alloc::Global;
 use wkt_flat as flat;
 use wkt_flat::Geometry;
 use wkt_num::WktNum;
 use wkt_types::{ConvertError, Wkt};
+
+/// A type that a `Wkt` of any kind is converted to. The eleven flat types are such.
+pub trait FromAny: Sized {
+    type T: WktNum;
+
+    /// What a value holds.
+    ghost Content: { Type 0 };
+
+    ghost content: { Self → Content };
+
+    /// What a value holds of a tree, or the named error.
+    ghost outcome: { Tree Self.T → Outcome Content };
+
+    /// The value that the `Wkt` is converted to.
+    ///
+    /// # Errors
+    /// Those of `ConvertFrom::convert_from`.
+    fn from_any(alloc: Global, source: &Wkt<Self::T>) -> Result<Self, ConvertError>
+        ensures { Answers content (outcome (tree source.now)) result };
+}
+
+/// The eleven flat types.
+impl<T: WktNum, G: FromAny<T = T>> ConvertFrom<Wkt<T>> for G {
+    ghost converts = { λ w r. Answers G.content (G.outcome (tree w)) r };
+
+    fn convert_from(alloc: Global, source: Wkt<T>) -> Result<Self, ConvertError> {
+        G::from_any(alloc, &source)
+    }
+}
+
+impl<T: WktNum> FromAny for Geometry<T> {
+    type T = T;
+
+    ghost Content = { Flat T };
+
+    ghost content = { flat_tree };
+
+    ghost outcome = { flat (coord_eq T.eq) };
+
+    fn from_any(alloc: Global, source: &Wkt<T>) -> Result<Self, ConvertError> {
+        flatten::geometry(alloc, source)
+    }
+}
+
+/// The members of a collection. A `Wkt` of another kind is refused at once, before it is converted.
+impl<T: WktNum> FromAny for flat::GeometryCollection<T> {
+    type T = T;
+
+    ghost Content = { Flats T };
+
+    ghost content = { flat_trees };
+
+    ghost outcome = { flat_collection (coord_eq T.eq) };
+
+    fn from_any(alloc: Global, source: &Wkt<T>) -> Result<Self, ConvertError> {
+        let found = match source {
+            Wkt::GeometryCollection(c) => return flatten::collection(alloc, c.geometries()),
+            Wkt::Point(_) => "Point",
+            Wkt::LineString(_) => "LineString",
+            Wkt::Polygon(_) => "Polygon",
+            Wkt::MultiPoint(_) => "MultiPoint",
+            Wkt::MultiLineString(_) => "MultiLineString",
+            Wkt::MultiPolygon(_) => "MultiPolygon",
+        };
+        Err(ConvertError::MismatchedGeometry {
+            expected: "GeometryCollection",
+            found,
+        })
+    }
+}
+
+/// A flat type of one kind. The whole `Wkt` is converted first, so a refused member is reported before a mismatch.
+pub(crate) trait OneKind: Sized {
+    type T: WktNum;
+
+    ghost kind: { FlatKind Self.T Self };
+
+    /// The value of the geometry, if it is of this kind.
+    ///
+    /// # Errors
+    /// `MismatchedGeometry`.
+    fn of_kind(geometry: Geometry<Self::T>) -> Result<Self, ConvertError>
+        ensures { IsOfKind kind (flat_tree geometry) result };
+}
+
+impl<T: WktNum, G: OneKind<T = T>> FromAny for G {
+    type T = T;
+
+    ghost Content = { G };
+
+    ghost content = { λ x. x };
+
+    ghost outcome = { only_flat G.kind T.eq };
+
+    fn from_any(alloc: Global, source: &Wkt<T>) -> Result<Self, ConvertError> {
+        G::of_kind(flatten::geometry(alloc, source)?)
+    }
+}
 
 /// The error of a geometry that isn't of the kind asked for.
 ///
@@ -36,133 +134,148 @@ pub fn mismatch<T, X>(expected: &'static str, found: &Geometry<T>) -> Result<X, 
     Err(ConvertError::MismatchedGeometry { expected, found })
 }
 
-/// The same of a geometry that is let go: here alone, and not once for each kind.
+/// `mismatch` of a geometry that is then dropped: in one place, since dropping is long.
 fn refuse<T: WktNum, X>(expected: &'static str, found: Geometry<T>) -> Result<X, ConvertError>
     ensures { Answers (λ x. x) (refused (mismatched expected.now (flat_name (flat_tree found)))) result }
 {
     mismatch(expected, &found)
 }
 
-/// The point; an empty one is a `MultiPoint` as a geometry, and so is refused as `MismatchedGeometry`.
-impl<T: WktNum> ConvertFrom<Wkt<T>> for flat::Point<T> {
-    ghost converts = { λ w r. Answers (λ x. x) (only_flat point_kind T.eq (tree w)) r };
+/// A point. An empty one is a `MultiPoint` as a geometry, and so is refused as `MismatchedGeometry`.
+impl<T: WktNum> OneKind for flat::Point<T> {
+    type T = T;
 
-    fn convert_from(alloc: Global, source: Wkt<T>) -> Result<Self, ConvertError> {
-        match Geometry::convert_from(alloc, source)? {
+    ghost kind = { point_kind };
+
+    fn of_kind(geometry: Geometry<T>) -> Result<Self, ConvertError>
+        ensures { IsOfKind point_kind (flat_tree geometry) result }
+    {
+        match geometry {
             Geometry::Point(x) => Ok(x),
             other => refuse("Point", other),
         }
     }
 }
 
-/// No `Wkt` becomes a Line: where the geometry can be converted, the answer is `MismatchedGeometry`.
-impl<T: WktNum> ConvertFrom<Wkt<T>> for flat::Line<T> {
-    ghost converts = { λ w r. Answers (λ x. x) (only_flat line_kind T.eq (tree w)) r };
+/// No `Wkt` becomes a line: where the geometry can be converted, the answer is `MismatchedGeometry`.
+impl<T: WktNum> OneKind for flat::Line<T> {
+    type T = T;
 
-    fn convert_from(alloc: Global, source: Wkt<T>) -> Result<Self, ConvertError> {
-        match Geometry::convert_from(alloc, source)? {
+    ghost kind = { line_kind };
+
+    fn of_kind(geometry: Geometry<T>) -> Result<Self, ConvertError>
+        ensures { IsOfKind line_kind (flat_tree geometry) result }
+    {
+        match geometry {
             Geometry::Line(x) => Ok(x),
             other => refuse("Line", other),
         }
     }
 }
 
-impl<T: WktNum> ConvertFrom<Wkt<T>> for flat::LineString<T> {
-    ghost converts = { λ w r. Answers (λ x. x) (only_flat line_string_kind T.eq (tree w)) r };
+impl<T: WktNum> OneKind for flat::LineString<T> {
+    type T = T;
 
-    fn convert_from(alloc: Global, source: Wkt<T>) -> Result<Self, ConvertError> {
-        match Geometry::convert_from(alloc, source)? {
+    ghost kind = { line_string_kind };
+
+    fn of_kind(geometry: Geometry<T>) -> Result<Self, ConvertError>
+        ensures { IsOfKind line_string_kind (flat_tree geometry) result }
+    {
+        match geometry {
             Geometry::LineString(x) => Ok(x),
             other => refuse("LineString", other),
         }
     }
 }
 
-impl<T: WktNum> ConvertFrom<Wkt<T>> for flat::Polygon<T> {
-    ghost converts = { λ w r. Answers (λ x. x) (only_flat polygon_kind T.eq (tree w)) r };
+impl<T: WktNum> OneKind for flat::Polygon<T> {
+    type T = T;
 
-    fn convert_from(alloc: Global, source: Wkt<T>) -> Result<Self, ConvertError> {
-        match Geometry::convert_from(alloc, source)? {
+    ghost kind = { polygon_kind };
+
+    fn of_kind(geometry: Geometry<T>) -> Result<Self, ConvertError>
+        ensures { IsOfKind polygon_kind (flat_tree geometry) result }
+    {
+        match geometry {
             Geometry::Polygon(x) => Ok(x),
             other => refuse("Polygon", other),
         }
     }
 }
 
-impl<T: WktNum> ConvertFrom<Wkt<T>> for flat::MultiPoint<T> {
-    ghost converts = { λ w r. Answers (λ x. x) (only_flat multi_point_kind T.eq (tree w)) r };
+impl<T: WktNum> OneKind for flat::MultiPoint<T> {
+    type T = T;
 
-    fn convert_from(alloc: Global, source: Wkt<T>) -> Result<Self, ConvertError> {
-        match Geometry::convert_from(alloc, source)? {
+    ghost kind = { multi_point_kind };
+
+    fn of_kind(geometry: Geometry<T>) -> Result<Self, ConvertError>
+        ensures { IsOfKind multi_point_kind (flat_tree geometry) result }
+    {
+        match geometry {
             Geometry::MultiPoint(x) => Ok(x),
             other => refuse("MultiPoint", other),
         }
     }
 }
 
-impl<T: WktNum> ConvertFrom<Wkt<T>> for flat::MultiLineString<T> {
-    ghost converts = { λ w r. Answers (λ x. x) (only_flat multi_line_string_kind T.eq (tree w)) r };
+impl<T: WktNum> OneKind for flat::MultiLineString<T> {
+    type T = T;
 
-    fn convert_from(alloc: Global, source: Wkt<T>) -> Result<Self, ConvertError> {
-        match Geometry::convert_from(alloc, source)? {
+    ghost kind = { multi_line_string_kind };
+
+    fn of_kind(geometry: Geometry<T>) -> Result<Self, ConvertError>
+        ensures { IsOfKind multi_line_string_kind (flat_tree geometry) result }
+    {
+        match geometry {
             Geometry::MultiLineString(x) => Ok(x),
             other => refuse("MultiLineString", other),
         }
     }
 }
 
-impl<T: WktNum> ConvertFrom<Wkt<T>> for flat::MultiPolygon<T> {
-    ghost converts = { λ w r. Answers (λ x. x) (only_flat multi_polygon_kind T.eq (tree w)) r };
+impl<T: WktNum> OneKind for flat::MultiPolygon<T> {
+    type T = T;
 
-    fn convert_from(alloc: Global, source: Wkt<T>) -> Result<Self, ConvertError> {
-        match Geometry::convert_from(alloc, source)? {
+    ghost kind = { multi_polygon_kind };
+
+    fn of_kind(geometry: Geometry<T>) -> Result<Self, ConvertError>
+        ensures { IsOfKind multi_polygon_kind (flat_tree geometry) result }
+    {
+        match geometry {
             Geometry::MultiPolygon(x) => Ok(x),
             other => refuse("MultiPolygon", other),
         }
     }
 }
 
-/// No `Wkt` becomes a Rect: where the geometry can be converted, the answer is `MismatchedGeometry`.
-impl<T: WktNum> ConvertFrom<Wkt<T>> for flat::Rect<T> {
-    ghost converts = { λ w r. Answers (λ x. x) (only_flat rect_kind T.eq (tree w)) r };
+/// No `Wkt` becomes a rectangle, as none becomes a line.
+impl<T: WktNum> OneKind for flat::Rect<T> {
+    type T = T;
 
-    fn convert_from(alloc: Global, source: Wkt<T>) -> Result<Self, ConvertError> {
-        match Geometry::convert_from(alloc, source)? {
+    ghost kind = { rect_kind };
+
+    fn of_kind(geometry: Geometry<T>) -> Result<Self, ConvertError>
+        ensures { IsOfKind rect_kind (flat_tree geometry) result }
+    {
+        match geometry {
             Geometry::Rect(x) => Ok(x),
             other => refuse("Rect", other),
         }
     }
 }
 
-/// No `Wkt` becomes a Triangle: where the geometry can be converted, the answer is `MismatchedGeometry`.
-impl<T: WktNum> ConvertFrom<Wkt<T>> for flat::Triangle<T> {
-    ghost converts = { λ w r. Answers (λ x. x) (only_flat triangle_kind T.eq (tree w)) r };
+/// No `Wkt` becomes a triangle, as none becomes a line.
+impl<T: WktNum> OneKind for flat::Triangle<T> {
+    type T = T;
 
-    fn convert_from(alloc: Global, source: Wkt<T>) -> Result<Self, ConvertError> {
-        match Geometry::convert_from(alloc, source)? {
+    ghost kind = { triangle_kind };
+
+    fn of_kind(geometry: Geometry<T>) -> Result<Self, ConvertError>
+        ensures { IsOfKind triangle_kind (flat_tree geometry) result }
+    {
+        match geometry {
             Geometry::Triangle(x) => Ok(x),
             other => refuse("Triangle", other),
         }
-    }
-}
-
-/// The members of a collection. A `Wkt` of another kind is refused at once, before it is converted.
-impl<T: WktNum> ConvertFrom<Wkt<T>> for flat::GeometryCollection<T> {
-    ghost converts = { λ w r. Answers flat_trees (flat_collection (coord_eq T.eq) (tree w)) r };
-
-    fn convert_from(alloc: Global, source: Wkt<T>) -> Result<Self, ConvertError> {
-        let found = match &source {
-            Wkt::GeometryCollection(c) => return collection(alloc, c.geometries()),
-            Wkt::Point(_) => "Point",
-            Wkt::LineString(_) => "LineString",
-            Wkt::Polygon(_) => "Polygon",
-            Wkt::MultiPoint(_) => "MultiPoint",
-            Wkt::MultiLineString(_) => "MultiLineString",
-            Wkt::MultiPolygon(_) => "MultiPolygon",
-        };
-        Err(ConvertError::MismatchedGeometry {
-            expected: "GeometryCollection",
-            found,
-        })
     }
 }

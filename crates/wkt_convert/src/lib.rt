@@ -1,9 +1,18 @@
-//! Geometries of well-known text converted into two-dimensional types.
+//! Geometries of well-known text converted into two-dimensional types and back, and these types as text.
 #![tactic(auto)]
 
+mod back;
 mod convert;
+mod flat_values;
 mod flatten;
 mod kinds;
+pub mod laws;
+mod parts;
+mod send;
+mod string_text;
+mod to_text;
 
 pub use convert::{ConvertFrom, try_into_geometry, try_into_geometry_collection};
-pub use kinds::mismatch;
+pub use kinds::{FromAny, mismatch};
+pub use send::ToWktError;
+pub use to_text::ToWkt;

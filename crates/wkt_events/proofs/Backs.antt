@@ -3,7 +3,7 @@ use Rattle.std.proofs.Common.{◌≡◌, ℕ, ◌+◌, ◌≤◌, List, ◌++◌
 use Rattle.std.proofs.Math.Seq.{take-append-add}
 use Rattle.std.proofs.lemmas.List.{take-append-le, length-take-le}
 use borrow.Rule.Slice.PartMut.{put_mid}
-use Rattle.wkt_read.specs.Parser.Reading.{value_at}
+use Rattle.wkt_read.specs.Parser.Outcome.{geometry_at as value_at}
 use Rattle.wkt_events.specs.Canonical.{IsCanonicalTo, HasWritten, WritesFront, WritesCanonical}
 use Rattle.wkt_events.specs.Events.{events}
 use Rattle.wkt_events.specs.Left.{line_of}

@@ -5,7 +5,8 @@ use Rattle.std.specs.Prelude.{IfSome}
 use Rattle.wkt_events.specs.declared.builder.At.{At}
 use Rattle.wkt_num.specs.Bytes as lex
 use Rattle.wkt_num.specs.Bytes.{Lexeme}
-use Rattle.wkt_read.specs.Parser.Reading.{Reading, ◌>>=◌, is_empty_word, opening_at, closing_at}
+use Rattle.wkt_read.specs.Parser.Outcome.{Outcome, ◌>>=◌, opening_at, closing_at, is_empty_word}
+use Rattle.wkt_read.specs.declared.messages.Message.TheVariants as message
 use Rattle.wkt_events.specs.declared.builder.Part.{Part}
 use Rattle.wkt_events.specs.Left.{left, TakesOne, BeginsOther}
 use Rattle.wkt_events.specs.Events.{Event}
@@ -14,50 +15,50 @@ use Rattle.wkt_events.specs.Walking.{Gives}
 use Rattle.wkt_events.specs.Heads.{TakesEmpty, LacksEmpty, empty_after, empty_at}
 use Rattle.wkt_events.proofs.Lefts.{takes-left, goes-one}
 
-closing-next : (ls rest : List Lexeme) → ls ≡ lex.Close ∷ rest → closing_at ls ≡ Ok (tt, rest)
+closing-next : {N : Type 0} (read : List ℕ → Option N) (ls rest : List Lexeme) → ls ≡ lex.Close ∷ rest → closing_at read ls ≡ Ok (tt, rest)
 unfolding closing_at
-closing-next ls rest e = ap closing_at e
+closing-next read ls rest e = ap (closing_at read) e
 
-pub closing-other : (ls : List Lexeme) → BeginsOther lex.Close ls → IsErr (closing_at ls)
+pub closing-other : {N : Type 0} (read : List ℕ → Option N) (ls : List Lexeme) → BeginsOther lex.Close ls → IsErr (closing_at read ls)
 unfolding closing_at
-closing-other [] h = refl
-closing-other (lex.Open ∷ r) h = refl
-closing-other (lex.Close ∷ r) h = absurd (h r refl)
-closing-other (lex.Comma ∷ r) h = refl
-closing-other (lex.Word run ∷ r) h = refl
-closing-other (lex.Num run ∷ r) h = refl
+closing-other read [] h = refl
+closing-other read (lex.Open ∷ r) h = refl
+closing-other read (lex.Close ∷ r) h = absurd (h r refl)
+closing-other read (lex.Comma ∷ r) h = refl
+closing-other read (lex.Word run ∷ r) h = refl
+closing-other read (lex.Num run ∷ r) h = refl
 
-pub opening-empty : (ls rest : List Lexeme) (run : List ℕ) → ls ≡ lex.Word run ∷ rest → is_empty_word run ≡ true → opening_at ls ≡ Ok (false, rest)
+pub opening-empty : {N : Type 0} (read : List ℕ → Option N) (ls rest : List Lexeme) (run : List ℕ) → ls ≡ lex.Word run ∷ rest → is_empty_word run ≡ true → opening_at read ls ≡ Ok (false, rest)
 unfolding opening_at
-opening-empty ls rest run e is = ap opening_at e ∙ ap (λ b. cond b (Ok (false, rest)) (Err rest)) is
+opening-empty read ls rest run e is = ap (opening_at read) e ∙ ap (λ b. cond b (Ok (false, rest)) (Err (message.Open, rest))) is
 
-pub empty-next : (ls rest : List Lexeme) (run : List ℕ) → ls ≡ lex.Word run ∷ rest → is_empty_word run ≡ true → empty_at ls ≡ Ok (tt, rest)
-empty-next ls rest run e is = ap (λ t. t >>= empty_after) (opening-empty ls rest run e is)
+pub empty-next : {N : Type 0} (read : List ℕ → Option N) (ls rest : List Lexeme) (run : List ℕ) → ls ≡ lex.Word run ∷ rest → is_empty_word run ≡ true → empty_at read ls ≡ Ok (tt, rest)
+empty-next read ls rest run e is = ap (λ t. t >>= empty_after) (opening-empty read ls rest run e is)
 
-word-after : Bool → List Lexeme → Reading Bool
-word-after b rest = cond b (Ok (false, rest)) (Err rest)
+word-after : Bool → List Lexeme → Outcome Bool
+word-after b rest = cond b (Ok (false, rest)) (Err (message.Open, rest))
 
 empty-word : (b : Bool) (rest : List Lexeme) → b ≡ false → IsErr (word-after b rest >>= empty_after)
 unfolding word-after
 empty-word true rest h = let e : true ≡ false = h in cc
 empty-word false rest h = refl
 
-pub empty-other : (ls : List Lexeme) → LacksEmpty ls → IsErr (empty_at ls)
+pub empty-other : {N : Type 0} (read : List ℕ → Option N) (ls : List Lexeme) → LacksEmpty ls → IsErr (empty_at read ls)
 unfolding opening_at word-after
-empty-other [] h = refl
-empty-other (lex.Open ∷ r) h = refl
-empty-other (lex.Close ∷ r) h = refl
-empty-other (lex.Comma ∷ r) h = refl
-empty-other (lex.Word run ∷ r) h = empty-word (is_empty_word run) r (h run r refl)
-empty-other (lex.Num run ∷ r) h = refl
+empty-other read [] h = refl
+empty-other read (lex.Open ∷ r) h = refl
+empty-other read (lex.Close ∷ r) h = refl
+empty-other read (lex.Comma ∷ r) h = refl
+empty-other read (lex.Word run ∷ r) h = empty-word (is_empty_word run) r (h run r refl)
+empty-other read (lex.Num run ∷ r) h = refl
 
 module _ {N S : Type 0} (maker : Maker N S) (feed : Bool) (text : List ℕ) where
-  pub close-gives : (part : Part) (from : ℕ) (start : S) (to : ℕ) (made : S) → TakesOne feed text from lex.Close to → Makes maker start (Event.Close part ∷ []) 1 made
-      → Gives maker feed text (λ _. closing_at) (λ _. Event.Close part ∷ []) from start to made
-  close-gives part from start to made takes makes = record {
+  pub close-gives : (read : List ℕ → Option N) (part : Part) (from : ℕ) (start : S) (to : ℕ) (made : S) → TakesOne feed text from lex.Close to → Makes maker start (Event.Close part ∷ []) 1 made
+      → Gives maker feed text (λ _. closing_at read) (λ _. Event.Close part ∷ []) from start to made
+  close-gives read part from start to made takes makes = record {
     value = tt;
     goes = goes-one feed text from lex.Close to takes;
-    reads = λ fuel enough. closing-next (left feed text from) (left feed text to) (takes-left feed text from lex.Close to takes);
+    reads = λ fuel enough. closing-next read (left feed text from) (left feed text to) (takes-left feed text from lex.Close to takes);
     makes = makes.made;
   }
 
@@ -76,12 +77,12 @@ module _ {N S : Type 0} (maker : Maker N S) (feed : Bool) (text : List ℕ) wher
       let inside = takes.inside in
       maker.less start 1 (2 * (length text - from) + 1 - 1) (omega (arith, grows, inside)) room
 
-  pub empty-gives : (part : Part) (from : ℕ) (start : S) (to : ℕ) (made : S) → TakesEmpty feed text from to → Makes maker start (Event.Empty part ∷ []) 6 made
-      → Gives maker feed text (λ _. empty_at) (λ _. Event.Empty part ∷ []) from start to made
-  empty-gives part from start to made takes makes = record {
+  pub empty-gives : (read : List ℕ → Option N) (part : Part) (from : ℕ) (start : S) (to : ℕ) (made : S) → TakesEmpty feed text from to → Makes maker start (Event.Empty part ∷ []) 6 made
+      → Gives maker feed text (λ _. empty_at read) (λ _. Event.Empty part ∷ []) from start to made
+  empty-gives read part from start to made takes makes = record {
     value = tt;
     goes = goes-one feed text from (lex.Word takes.run) to takes.takes;
-    reads = λ fuel enough. empty-next (left feed text from) (left feed text to) takes.run (takes-left feed text from (lex.Word takes.run) to takes.takes) takes.is;
+    reads = λ fuel enough. empty-next read (left feed text from) (left feed text to) takes.run (takes-left feed text from (lex.Word takes.run) to takes.takes) takes.is;
     makes = makes.made;
   }
 

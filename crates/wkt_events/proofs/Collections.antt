@@ -2,7 +2,7 @@
 use Rattle.std.proofs.Common.{◌≡◌, ℕ, List, [], ◌∷◌, ◌++◌, refl, ap, ◌∙◌, sym, append_assoc, Option}
 use Rattle.wkt_access.specs.declared.dimensions.Dimension.{Dimension}
 use Rattle.wkt_access.specs.Values.{Value}
-use Rattle.wkt_read.specs.Parser.Reading.{members_read}
+use Rattle.wkt_read.specs.Parser.Outcome.{members_read}
 use Rattle.wkt_events.specs.declared.builder.Part.TheVariants as part
 use Rattle.wkt_events.specs.Events.{Event, header, body, bodies, events}
 use Rattle.wkt_events.specs.Whole.{opening_made, comma_made, closing_made, members_made}

@@ -3,7 +3,8 @@ use Rattle.std.proofs.Common.{◌≡◌, ℕ, suc, ◌+◌, ◌-◌, ◌*◌, �
 use Rattle.std.specs.Result.{IsErr}
 use Rattle.std.proofs.lemmas.List.{take_all}
 use Rattle.wkt_num.specs.Bytes.{Lexeme, Num}
-use Rattle.wkt_read.specs.Parser.Reading.{Reading, ◌>>=◌, with_front, number_in, number_at}
+use Rattle.wkt_read.specs.Parser.Outcome.{Outcome, ◌>>=◌, with_front, number_in, number_at}
+use Rattle.wkt_read.specs.declared.messages.Message.TheVariants as message
 use Rattle.wkt_events.specs.Left.{left, left_placed, Goes}
 use Rattle.wkt_events.specs.Events.{Event, numbers, coordinate}
 use Rattle.wkt_events.specs.Makers.{Maker}
@@ -53,9 +54,9 @@ module _ {N S : Type 0} (maker : Maker N S) (feed : Bool) (text : List ℕ) (rea
   number-next rest run x ls later e is =
       ap (numbers_at read (suc rest)) e ∙ ap (λ o. number_in read o later >>= λ y. with_front (y.0 ∷ []) (numbers_at read rest y.1)) is
 
-  number-fails : (rest : ℕ) (ls : List Lexeme) → IsErr (number_at read ls) → IsErr (numbers_at read (suc rest) ls)
+  number-fails : (rest : ℕ) (ls : List Lexeme) → IsErr (number_at read message.X ls) → IsErr (numbers_at read (suc rest) ls)
   unfolding numbers_at
-  number-fails rest ls h = then-err (number_at read ls) (λ y. with_front (y.0 ∷ []) (numbers_at read rest y.1)) h
+  number-fails rest ls h = then-err (number_at read message.X ls) (λ y. with_front (y.0 ∷ []) (numbers_at read rest y.1)) h
 
   pub numbers-next : (from : ℕ) (start : S) (i at : ℕ) (made : S) (skipped to : ℕ) (now : S)
       → NumbersSoFar from start i at made → i < count
@@ -90,12 +91,12 @@ module _ {N S : Type 0} (maker : Maker N S) (feed : Bool) (text : List ℕ) (rea
   pub numbers-fail : (from : ℕ) (start : S) (i at : ℕ) (made : S) (skipped : ℕ)
       → NumbersSoFar from start i at made → i < count
       → left_placed feed text at ≡ left_placed feed text skipped
-      → IsErr (number_at read (left feed text skipped))
+      → IsErr (number_at read message.X (left feed text skipped))
       → IsErr (numbers_at read count (left feed text from))
   numbers-fail from start i at made skipped h more same fails =
-      subst (λ (t : Reading (List N)). IsErr t) (sym (h.reads (suc (count - suc i)) (omega (arith, more))))
+      subst (λ (t : Outcome (List N)). IsErr t) (sym (h.reads (suc (count - suc i)) (omega (arith, more))))
       (front-err h.items (numbers_at read (suc (count - suc i)) (left feed text at))
-      (number-fails (count - suc i) (left feed text at) (subst (λ ls. IsErr (number_at read ls)) (sym (placed-to-left feed text at skipped same)) fails)))
+      (number-fails (count - suc i) (left feed text at) (subst (λ ls. IsErr (number_at read message.X ls)) (sym (placed-to-left feed text at skipped same)) fails)))
 
   numbers-whole : (items : List N) (n : ℕ) (ls : List Lexeme) → n ≡ 0 → with_front items (numbers_at read n ls) ≡ Ok (items, ls)
   unfolding numbers_at

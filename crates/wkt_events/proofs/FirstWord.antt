@@ -6,7 +6,7 @@ use Rattle.std.proofs.lemmas.Bool.{cases_lt, cases_Bool}
 use Rattle.std.proofs.lemmas.Str.Ascii.{uppercase_is}
 use Rattle.wkt_num.specs.Bytes.{Lexeme, Word, Class, Nul, White, Mark, Run}
 use Rattle.wkt_read.specs.Lexemes.{lexeme_of}
-use Rattle.wkt_read.specs.Parser.Reading.{is_empty_word}
+use Rattle.wkt_read.specs.Parser.Outcome.{is_empty_word}
 use Rattle.wkt_read.proofs.LawLemmas.Headers.{word_run}
 use Rattle.wkt_read.proofs.ParserLemmas.Told.{empty_is}
 use Rattle.wkt_events.specs.Left.{class_in, left}

@@ -1,5 +1,5 @@
 -- What a walk from a text's beginning says of the text's front.
-use Rattle.std.proofs.Common.{◌≡◌, ℕ, List, [], ◌∷◌, ◌++◌, length, sym, refl, ap, ◌∙◌, subst, append_assoc, arith, Option, Ok, Bool, false, IsUtf8}
+use Rattle.std.proofs.Common.{◌≡◌, ℕ, List, [], ◌∷◌, ◌++◌, length, sym, refl, ap, ◌∙◌, subst, append_assoc, arith, Option, Ok, Bool, true, false, IsUtf8}
 use Rattle.std.proofs.lemmas.List.{append_cancel_right}
 use Rattle.wkt_num.specs.Bytes.{Lexeme}
 use Rattle.wkt_access.specs.Values.{Value}
@@ -7,7 +7,7 @@ use Rattle.wkt_read.specs.Begun.{NoneBegins}
 use Rattle.wkt_read.specs.Front.{Front, HasNoFront}
 use Rattle.wkt_read.specs.Grammar.{StandFor}
 use Rattle.wkt_read.specs.Placed.{Placed, lexemes_of, end_after, AreEnds, placed}
-use Rattle.wkt_read.specs.Parser.Reading.{value_at}
+use Rattle.wkt_read.specs.Parser.Outcome.{geometry_at as value_at}
 use Rattle.wkt_read.proofs.LawLemmas.FrontEnds.{front-of-lexemes}
 use Rattle.wkt_read.proofs.LawLemmas.Fronts.{taken_begin}
 use Rattle.wkt_read.proofs.LawLemmas.Splits.{split_one}
@@ -52,7 +52,7 @@ module _ {N : Type 0} (read : List ℕ → Option N) (feed : Bool) (text : List 
   -- lexemes were taken up to a place, and by them a value was read
   front-to : (to : ℕ) (v : Value N) → Goes feed text 0 to → value_at read (length all) all ≡ Ok (v, left feed text to) → Front read bytes v to
   front-to to v g e =
-      let (f, split, stands) = sound read (length all) all (v, left feed text to) (omega arith) e in
+      let (f, split, stands) = sound read (length all) true all (v, left feed text to) (omega arith) e in
       let given : List Placed = g.given ++ (g.last ∷ []) in
       let later : List Placed = left_placed feed text to in
       let whole : placed bytes ≡ given ++ later = sym (all-left feed text) ∙ g.split ∙ sym (append_assoc g.given (g.last ∷ []) later) in
@@ -74,7 +74,7 @@ module _ {N : Type 0} (read : List ℕ → Option N) (feed : Bool) (text : List 
   pub none-of : Refuses feed text (value_at read) 0 → IsUtf8 bytes → HasNoFront read bytes
   none-of refuses utf8 =
       let (rest, e) = is-err (value_at read (length all) all) (refuses (utf8, omega arith) (length all) (omega arith)) in
-      no-front (subst (NoneBegins read) (left-start feed text) (none_begins read (length all) all rest (omega arith) e))
+      no-front (subst (NoneBegins read) (left-start feed text) (none_begins read (length all) true all rest (omega arith) e))
 
 -- What a walk over a whole text says of it.
 module _ {N : Type 0} (read : List ℕ → Option N) (text bytes : List ℕ) (same : bytes ≡ text) where

@@ -5,48 +5,53 @@ use Rattle.std.specs.Prelude.{MatchOption, is_some}
 use Rattle.wkt_num.specs.Bytes as lex
 use Rattle.wkt_num.specs.Bytes.{Lexeme, Mark, class_of}
 use Rattle.wkt_read.specs.Placed.{lexemes_of}
-use Rattle.wkt_read.specs.Parser.Reading.{Reading, Reader, ◌>>=◌, with_front, closed}
+use Rattle.wkt_read.specs.Parser.Outcome.{Outcome, Reader, ◌>>=◌, with_front, closing_at, closed}
+use Rattle.wkt_read.specs.declared.messages.Message.{Message}
 use Rattle.wkt_events.specs.declared.builder.At.{At}
 use Rattle.wkt_events.specs.Left.{left, left_placed}
 use Rattle.wkt_events.specs.Events.{Event}
 use Rattle.wkt_events.specs.Makers.{Maker}
 use Rattle.wkt_events.specs.Walking.{Refuses, Gives, GivesIfAny}
 
-pub front-front : {A : Type 0} (xs ys : List A) (t : Reading (List A)) → with_front xs (with_front ys t) ≡ with_front (xs ++ ys) t
+pub front-front : {A : Type 0} (xs ys : List A) (t : Outcome (List A)) → with_front xs (with_front ys t) ≡ with_front (xs ++ ys) t
 front-front xs ys (Ok p) = ap (λ l. Ok (l, p.1)) (sym (append_assoc xs ys p.0))
 front-front xs ys (Err r) = refl
 
-pub front-none : {A : Type 0} (t : Reading (List A)) → t ≡ with_front [] t
+pub front-none : {A : Type 0} (t : Outcome (List A)) → t ≡ with_front [] t
 front-none (Ok p) = refl
 front-none (Err r) = refl
 
-pub front-err : {A : Type 0} (xs : List A) (t : Reading (List A)) → IsErr t → IsErr (with_front xs t)
+pub front-err : {A : Type 0} (xs : List A) (t : Outcome (List A)) → IsErr t → IsErr (with_front xs t)
 front-err xs (Ok p) h = h
 front-err xs (Err r) h = h
 
-pub then-err : {A B : Type 0} (t : Reading A) (f : A × List Lexeme → Reading B) → IsErr t → IsErr (t >>= f)
+pub then-err : {A B : Type 0} (t : Outcome A) (f : A × List Lexeme → Outcome B) → IsErr t → IsErr (t >>= f)
 then-err {A} {B} (Ok p) f h = let e : false ≡ true = h in cc
 then-err (Err r) f h = refl
 
-pub closed-err : {A : Type 0} (t : Reading A) → IsErr t → IsErr (closed t)
-unfolding closed
-closed-err (Ok p) h = let e : false ≡ true = h in cc
-closed-err (Err r) h = refl
+err-after : (A : Type 0) (m : Message) (t : Outcome (Unit {0})) → IsErr {T = A × List Lexeme} {E = Message × List Lexeme} (t >>= (λ c. Err (m, c.1)))
+err-after A m (Ok c) = refl
+err-after A m (Err e) = refl
 
-pub is-err : {A : Type 0} (t u : Reading A) → t ≡ u → IsErr u → IsErr t
-is-err {A} t u e h = subst (λ (x : Reading A). IsErr x) (sym e) h
+pub closed-err : {A N : Type 0} (read : List ℕ → Option N) (t : Outcome A) → IsErr t → IsErr (closed read t)
+unfolding closed
+closed-err read (Ok p) h = let e : false ≡ true = h in cc
+closed-err {A} read (Err r) h = err-after A r.0 (closing_at read r.1)
+
+pub is-err : {A : Type 0} (t u : Outcome A) → t ≡ u → IsErr u → IsErr t
+is-err {A} t u e h = subst (λ (x : Outcome A). IsErr x) (sym e) h
 
 -- what is read is one value, and one rest
-ok-is : {A : Type 0} (p q : A × List Lexeme) → ◌≡◌ {A = Reading A} (Ok p) (Ok q) → p ≡ q
+ok-is : {A : Type 0} (p q : A × List Lexeme) → ◌≡◌ {A = Outcome A} (Ok p) (Ok q) → p ≡ q
 ok-is p q e = cc
 
-pub ok-value : {A : Type 0} (p q : A × List Lexeme) → ◌≡◌ {A = Reading A} (Ok p) (Ok q) → p.0 ≡ q.0
+pub ok-value : {A : Type 0} (p q : A × List Lexeme) → ◌≡◌ {A = Outcome A} (Ok p) (Ok q) → p.0 ≡ q.0
 ok-value p q e = ap (λ t. t.0) (ok-is p q e)
 
-pub ok-rest : {A : Type 0} (p q : A × List Lexeme) → ◌≡◌ {A = Reading A} (Ok p) (Ok q) → p.1 ≡ q.1
+pub ok-rest : {A : Type 0} (p q : A × List Lexeme) → ◌≡◌ {A = Outcome A} (Ok p) (Ok q) → p.1 ≡ q.1
 ok-rest p q e = ap (λ t. t.1) (ok-is p q e)
 
-pub err-ok : {A : Type 0} (s : List Lexeme) (p : A × List Lexeme) → ◌≡◌ {A = Reading A} (Err s) (Ok p) → ⊥
+pub err-ok : {A : Type 0} (s : Message × List Lexeme) (p : A × List Lexeme) → ◌≡◌ {A = Outcome A} (Err s) (Ok p) → ⊥
 err-ok s p e = cc
 
 pub placed-to-left : (feed : Bool) (text : List ℕ) (at to : ℕ) → left_placed feed text at ≡ left_placed feed text to → left feed text at ≡ left feed text to

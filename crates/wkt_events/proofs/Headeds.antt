@@ -6,7 +6,11 @@ use Rattle.wkt_access.specs.declared.dimensions.Dimension.{Dimension}
 use Rattle.wkt_access.specs.Values.{size, Value, Values}
 use Rattle.wkt_types.specs.declared.geometry_type.GeometryType.{GeometryType}
 use Rattle.wkt_types.specs.declared.geometry_type.GeometryType.TheVariants as kind
-use Rattle.wkt_read.specs.Parser.Reading.{Reading, Reader, ◌>>=◌, is_empty_word, opening_at, members_read, framed, closed, many_at, header_at, body_at, value_at}
+use Rattle.wkt_read.specs.Parser.Outcome.{Outcome, Reader, ◌>>=◌, opening_at, framed, closed, many_at, header_at, body_at, geometry_at as value_at, is_empty_word, members_read}
+use Rattle.wkt_read.specs.Parser.Outcome as outcome
+use Rattle.wkt_read.specs.declared.messages.Message.{Message}
+use Rattle.wkt_read.specs.declared.messages.Message.TheVariants as message
+use Rattle.wkt_read.specs.Parser.Frames.{shut_at}
 use Rattle.wkt_events.specs.declared.builder.At.{At}
 use Rattle.wkt_events.specs.declared.builder.Part.TheVariants as part
 use Rattle.wkt_events.specs.Left.{left}
@@ -14,39 +18,39 @@ use Rattle.wkt_events.specs.Events.{Event, header, events, body}
 use Rattle.wkt_events.specs.Heads.{Headed, headed_at, GivesHeader}
 use Rattle.wkt_events.specs.Makers.{Maker, IsOpened}
 use Rattle.wkt_events.specs.Walking.{Gives, GivesIfAny, Refuses, inside_at}
-use Rattle.wkt_events.specs.Whole.{opens_kind, shut_at, Opens, Reaches, StartsAt}
+use Rattle.wkt_events.specs.Whole.{opens_kind, Opens, Reaches, StartsAt}
 use Rattle.wkt_events.proofs.Lefts.{goes-on, goes-fewer}
 use Rattle.wkt_events.proofs.Nests.{is-err}
 use Rattle.wkt_events.proofs.Legibles.{legible-on}
 
 -- A body in parentheses, or EMPTY: which of them the opening place reads.
-module _ {A : Type 0} (empty : A) (inner : List Lexeme → Reading A) where
-  framed-err : (lexemes r : List Lexeme) → opening_at lexemes ≡ Err r → framed empty inner lexemes ≡ Err r
+module _ {A N : Type 0} (read : List ℕ → Option N) (empty : A) (inner : List Lexeme → Outcome A) where
+  framed-err : (lexemes : List Lexeme) (r : Message × List Lexeme) → opening_at read lexemes ≡ Err r → framed read empty inner lexemes ≡ Err r
   unfolding framed
-  framed-err lexemes r e = ap (λ t. t >>= (λ o. cond o.0 (closed (inner o.1)) (Ok (empty, o.1)))) e
+  framed-err lexemes r e = ap (λ t. t >>= (λ o. cond o.0 (closed read (inner o.1)) (Ok (empty, o.1)))) e
 
-  framed-empty : (lexemes r : List Lexeme) (paren : Bool) → paren ≡ false → opening_at lexemes ≡ Ok (paren, r) → framed empty inner lexemes ≡ Ok (empty, r)
+  framed-empty : (lexemes r : List Lexeme) (paren : Bool) → paren ≡ false → opening_at read lexemes ≡ Ok (paren, r) → framed read empty inner lexemes ≡ Ok (empty, r)
   unfolding framed
-  framed-empty lexemes r paren is e = ap (λ t. t >>= (λ o. cond o.0 (closed (inner o.1)) (Ok (empty, o.1)))) e ∙ ap (λ b. cond b (closed (inner r)) (Ok (empty, r))) is
+  framed-empty lexemes r paren is e = ap (λ t. t >>= (λ o. cond o.0 (closed read (inner o.1)) (Ok (empty, o.1)))) e ∙ ap (λ b. cond b (closed read (inner r)) (Ok (empty, r))) is
 
 -- a parenthesis was taken
-opened-by : (b : Bool) (ls r rest : List Lexeme) → cond {A = Reading Bool} b (Ok (false, rest)) (Err rest) ≡ Ok (true, r) → ls ≡ Open ∷ r
-opened-by true ls r rest e =
+opened-by : (m : Message) (b : Bool) (ls r rest : List Lexeme) → cond {A = Outcome Bool} b (Ok (false, rest)) (Err (m, rest)) ≡ Ok (true, r) → ls ≡ Open ∷ r
+opened-by m true ls r rest e =
     let p : ◌≡◌ {A = Bool × List Lexeme} (false, rest) (true, r) = cc in
     let q : false ≡ true = ap (λ (z : Bool × List Lexeme). z.0) p in
     cc
-opened-by false ls r rest e = cc
+opened-by m false ls r rest e = cc
 
-open-is : (ls r : List Lexeme) → opening_at ls ≡ Ok (true, r) → ls ≡ Open ∷ r
+open-is : {N : Type 0} (read : List ℕ → Option N) (ls r : List Lexeme) → opening_at read ls ≡ Ok (true, r) → ls ≡ Open ∷ r
 unfolding opening_at
-open-is [] r e = cc
-open-is (Open ∷ ls) r e =
+open-is read [] r e = cc
+open-is read (Open ∷ ls) r e =
     let p : ◌≡◌ {A = Bool × List Lexeme} (true, ls) (true, r) = cc in
     ap (λ (q : Bool × List Lexeme). Open ∷ q.1) p
-open-is (Word run ∷ ls) r e = opened-by (is_empty_word run) (Word run ∷ ls) r ls e
-open-is (Close ∷ ls) r e = cc
-open-is (Comma ∷ ls) r e = cc
-open-is (Num run ∷ ls) r e = cc
+open-is read (Word run ∷ ls) r e = opened-by message.Open (is_empty_word run) (Word run ∷ ls) r ls e
+open-is read (Close ∷ ls) r e = cc
+open-is read (Comma ∷ ls) r e = cc
+open-is read (Num run ∷ ls) r e = cc
 
 -- a value that holds nothing
 abbrev pub empty_value : {N : Type 0} → GeometryType → Dimension → Value N
@@ -68,27 +72,27 @@ empty_events kind.MultiPolygon d = refl
 empty_events kind.GeometryCollection d = refl
 
 -- what was read was made of something
-made-of : {A V : Type 0} (m : A → V) (t : Reading A) (v : V) (r : List Lexeme) → t >>= (λ p. Ok (m p.0, p.1)) ≡ Ok (v, r) → (a : A) × (v ≡ m a)
+made-of : {A V : Type 0} (m : A → V) (t : Outcome A) (v : V) (r : List Lexeme) → t >>= (λ p. Ok (m p.0, p.1)) ≡ Ok (v, r) → (a : A) × (v ≡ m a)
 made-of {V = V} m (Ok p) v r e =
     let q : ◌≡◌ {A = V × List Lexeme} (m p.0, p.1) (v, r) = cc in
     (p.0, sym (ap (λ (z : V × List Lexeme). z.0) q))
 made-of m (Err x) v r e = cc
 
-no-then : {A B : Type 0} (t : Reading A) (f : A × List Lexeme → Reading B) → IsErr t → IsErr (t >>= f)
+no-then : {A B : Type 0} (t : Outcome A) (f : A × List Lexeme → Outcome B) → IsErr t → IsErr (t >>= f)
 no-then (Ok p) f h = cc
 no-then (Err x) f h = refl
 
 -- a header, and what is opened behind it, by one reading
 pub record Parts {N : Type 0} (read : List ℕ → Option N) (ls : List Lexeme) (k : GeometryType) (d : Dimension) (o : Bool) (r : List Lexeme) : Type 0 where
   pub behind : List Lexeme
-  pub header : header_at read ls ≡ Ok ((k, d), behind)
-  pub opening : opening_at behind ≡ Ok (o, r)
+  pub header : header_at read true ls ≡ Ok ((k, d), behind)
+  pub opening : opening_at read behind ≡ Ok (o, r)
 
 module _ {N : Type 0} (read : List ℕ → Option N) where
-  abbrev opened_after : GeometryType × Dimension → Reading Bool → Reading Headed
+  abbrev opened_after : GeometryType × Dimension → Outcome Bool → Outcome Headed
   opened_after h t = t >>= λ o. Ok (record { kind = h.0; dimension = h.1; opened = o.0 }, o.1)
 
-  by-opening : (t : Reading Bool) (h : GeometryType × Dimension) (k : GeometryType) (d : Dimension) (o : Bool) (r : List Lexeme)
+  by-opening : (t : Outcome Bool) (h : GeometryType × Dimension) (k : GeometryType) (d : Dimension) (o : Bool) (r : List Lexeme)
       → opened_after h t ≡ Ok (record { kind = k; dimension = d; opened = o }, r) → (h ≡ (k, d)) × (t ≡ Ok (o, r))
   by-opening (Ok p) h k d o r e =
       let q : ◌≡◌ {A = Headed × List Lexeme} (record { kind = h.0; dimension = h.1; opened = p.0 }, p.1) (record { kind = k; dimension = d; opened = o }, r) = cc in
@@ -99,18 +103,18 @@ module _ {N : Type 0} (read : List ℕ → Option N) where
       (ap₂ (λ a b. (a, b)) one two, ap₂ (λ a b. Ok (a, b)) three four)
   by-opening (Err x) h k d o r e = cc
 
-  by-header : (t : Reading (GeometryType × Dimension)) (ls : List Lexeme) (k : GeometryType) (d : Dimension) (o : Bool) (r : List Lexeme) → header_at read ls ≡ t
-      → t >>= (λ h. opened_after h.0 (opening_at h.1)) ≡ Ok (record { kind = k; dimension = d; opened = o }, r) → Parts read ls k d o r
+  by-header : (t : Outcome (GeometryType × Dimension)) (ls : List Lexeme) (k : GeometryType) (d : Dimension) (o : Bool) (r : List Lexeme) → header_at read true ls ≡ t
+      → t >>= (λ h. opened_after h.0 (opening_at read h.1)) ≡ Ok (record { kind = k; dimension = d; opened = o }, r) → Parts read ls k d o r
   by-header (Ok p) ls k d o r is e =
-      let (same, opens) = by-opening (opening_at p.1) p.0 k d o r e in
+      let (same, opens) = by-opening (opening_at read p.1) p.0 k d o r e in
       record { behind = p.1; header = is ∙ ap (λ h. Ok (h, p.1)) same; opening = opens }
   by-header (Err x) ls k d o r is e = cc
 
   pub parts : (ls : List Lexeme) (k : GeometryType) (d : Dimension) (o : Bool) (r : List Lexeme) → headed_at read ls ≡ Ok (record { kind = k; dimension = d; opened = o }, r) → Parts read ls k d o r
-  parts ls k d o r e = by-header (header_at read ls) ls k d o r refl e
+  parts ls k d o r e = by-header (header_at read true ls) ls k d o r refl e
 
-  value-of : (f : ℕ) (ls : List Lexeme) (k : GeometryType) (d : Dimension) (rest : List Lexeme) → header_at read ls ≡ Ok ((k, d), rest) → value_at read (suc f) ls ≡ body_at read (value_at read f) f k d rest
-  unfolding value_at
+  value-of : (f : ℕ) (ls : List Lexeme) (k : GeometryType) (d : Dimension) (rest : List Lexeme) → header_at read true ls ≡ Ok ((k, d), rest) → value_at read (suc f) ls ≡ body_at read (value_at read f) f k d rest
+  unfolding outcome.value_at
   value-of f ls k d rest e = ap (λ t. t >>= λ h. body_at read (value_at read f) f h.0.0 h.0.1 h.1) e
 
   -- the kind and the dimension of what is read are the header's
@@ -124,20 +128,20 @@ module _ {N : Type 0} (read : List ℕ → Option N) where
   header-made value f kind.GeometryCollection d ls r v e = let (a, is) = made-of (λ c. Value.collection d (members_read c)) _ v r e in ap header is
 
   -- EMPTY behind a header
-  empty-body : (value : Reader (Value N)) (f : ℕ) (k : GeometryType) (d : Dimension) (ls r : List Lexeme) → opening_at ls ≡ Ok (false, r) → body_at read value f k d ls ≡ Ok (empty_value k d, r)
-  empty-body value f kind.Point d ls r e = ap (λ t. t >>= λ p. Ok (Value.point d p.0, p.1)) (framed-empty _ _ ls r false refl e)
-  empty-body value f kind.LineString d ls r e = ap (λ t. t >>= λ p. Ok (Value.line_string d p.0, p.1)) (framed-empty _ _ ls r false refl e)
-  empty-body value f kind.Polygon d ls r e = ap (λ t. t >>= λ p. Ok (Value.polygon d p.0, p.1)) (framed-empty _ _ ls r false refl e)
-  empty-body value f kind.MultiPoint d ls r e = ap (λ t. t >>= λ p. Ok (Value.multi_point d p.0, p.1)) (framed-empty _ _ ls r false refl e)
-  empty-body value f kind.MultiLineString d ls r e = ap (λ t. t >>= λ p. Ok (Value.multi_line_string d p.0, p.1)) (framed-empty _ _ ls r false refl e)
-  empty-body value f kind.MultiPolygon d ls r e = ap (λ t. t >>= λ p. Ok (Value.multi_polygon d p.0, p.1)) (framed-empty _ _ ls r false refl e)
-  empty-body value f kind.GeometryCollection d ls r e = ap (λ t. t >>= λ p. Ok (Value.collection d (members_read p.0), p.1)) (framed-empty _ _ ls r false refl e)
+  empty-body : (value : Reader (Value N)) (f : ℕ) (k : GeometryType) (d : Dimension) (ls r : List Lexeme) → opening_at read ls ≡ Ok (false, r) → body_at read value f k d ls ≡ Ok (empty_value k d, r)
+  empty-body value f kind.Point d ls r e = ap (λ t. t >>= λ p. Ok (Value.point d p.0, p.1)) (framed-empty read _ _ ls r false refl e)
+  empty-body value f kind.LineString d ls r e = ap (λ t. t >>= λ p. Ok (Value.line_string d p.0, p.1)) (framed-empty read _ _ ls r false refl e)
+  empty-body value f kind.Polygon d ls r e = ap (λ t. t >>= λ p. Ok (Value.polygon d p.0, p.1)) (framed-empty read _ _ ls r false refl e)
+  empty-body value f kind.MultiPoint d ls r e = ap (λ t. t >>= λ p. Ok (Value.multi_point d p.0, p.1)) (framed-empty read _ _ ls r false refl e)
+  empty-body value f kind.MultiLineString d ls r e = ap (λ t. t >>= λ p. Ok (Value.multi_line_string d p.0, p.1)) (framed-empty read _ _ ls r false refl e)
+  empty-body value f kind.MultiPolygon d ls r e = ap (λ t. t >>= λ p. Ok (Value.multi_polygon d p.0, p.1)) (framed-empty read _ _ ls r false refl e)
+  empty-body value f kind.GeometryCollection d ls r e = ap (λ t. t >>= λ p. Ok (Value.collection d (members_read p.0), p.1)) (framed-empty read _ _ ls r false refl e)
 
   -- neither a parenthesis nor EMPTY
-  framed-refuses : {A : Type 0} (none : A) (item : List Lexeme → Reading A) (ls : List Lexeme) → IsErr (opening_at ls) → IsErr (framed none item ls)
-  framed-refuses none item ls bad = let (r, is) = is-err (opening_at ls) bad in subst IsErr (sym (framed-err none item ls r is)) refl
+  framed-refuses : {A : Type 0} (none : A) (item : List Lexeme → Outcome A) (ls : List Lexeme) → IsErr (opening_at read ls) → IsErr (framed read none item ls)
+  framed-refuses none item ls bad = let (r, is) = is-err (opening_at read ls) bad in subst IsErr (sym (framed-err read none item ls r is)) refl
 
-  no-body : (value : Reader (Value N)) (f : ℕ) (k : GeometryType) (d : Dimension) (ls : List Lexeme) → IsErr (opening_at ls) → IsErr (body_at read value f k d ls)
+  no-body : (value : Reader (Value N)) (f : ℕ) (k : GeometryType) (d : Dimension) (ls : List Lexeme) → IsErr (opening_at read ls) → IsErr (body_at read value f k d ls)
   no-body value f kind.Point d ls e = no-then _ _ (framed-refuses _ _ ls e)
   no-body value f kind.LineString d ls e = no-then _ _ (framed-refuses _ _ ls e)
   no-body value f kind.Polygon d ls e = no-then _ _ (framed-refuses _ _ ls e)
@@ -146,29 +150,29 @@ module _ {N : Type 0} (read : List ℕ → Option N) where
   no-body value f kind.MultiPolygon d ls e = no-then _ _ (framed-refuses _ _ ls e)
   no-body value f kind.GeometryCollection d ls e = no-then _ _ (framed-refuses _ _ ls e)
 
-  no-opening : (t : Reading Bool) (h : GeometryType × Dimension) → IsErr (opened_after h t) → IsErr t
+  no-opening : (t : Outcome Bool) (h : GeometryType × Dimension) → IsErr (opened_after h t) → IsErr t
   no-opening (Ok p) h e = cc
   no-opening (Err x) h e = refl
 
-  no-header : (t : Reading (GeometryType × Dimension)) (value : Reader (Value N)) (f : ℕ) → IsErr (t >>= (λ h. opened_after h.0 (opening_at h.1))) → IsErr (t >>= (λ h. body_at read value f h.0.0 h.0.1 h.1))
-  no-header (Ok p) value f e = no-body value f p.0.0 p.0.1 p.1 (no-opening (opening_at p.1) p.0 e)
+  no-header : (t : Outcome (GeometryType × Dimension)) (value : Reader (Value N)) (f : ℕ) → IsErr (t >>= (λ h. opened_after h.0 (opening_at read h.1))) → IsErr (t >>= (λ h. body_at read value f h.0.0 h.0.1 h.1))
+  no-header (Ok p) value f e = no-body value f p.0.0 p.0.1 p.1 (no-opening (opening_at read p.1) p.0 e)
   no-header (Err x) value f e = refl
 
   -- no header, no geometry
   pub no-value : (fuel : ℕ) (ls : List Lexeme) → IsErr (headed_at read ls) → IsErr (value_at read fuel ls)
-  unfolding value_at
+  unfolding outcome.value_at
   no-value zero ls e = refl
-  no-value (suc f) ls e = no-header (header_at read ls) (value_at read f) f e
+  no-value (suc f) ls e = no-header (header_at read true ls) (value_at read f) f e
 
   -- a collection's parenthesis
-  opened-body : (value : Reader (Value N)) (f : ℕ) (d : Dimension) (r : List Lexeme) → body_at read value f kind.GeometryCollection d (Open ∷ r) ≡ shut_at d (many_at value f r)
+  opened-body : (value : Reader (Value N)) (f : ℕ) (d : Dimension) (r : List Lexeme) → body_at read value f kind.GeometryCollection d (Open ∷ r) ≡ shut_at read d (many_at read value f r)
   unfolding framed opening_at
   opened-body value f d r = refl
 
   module _ (feed : Bool) (text : List ℕ) (at : ℕ) (k : GeometryType) (d : Dimension) where
     -- what is read behind a header, with less fuel
     behind : (o : Bool) (to fuel : ℕ) → GivesHeader read feed text at k d o to → length (left feed text at) ≤ fuel
-        → (f : ℕ) × (rest : List Lexeme) × (length (left feed text to) ≤ f) × (opening_at rest ≡ Ok (o, left feed text to)) × (value_at read fuel (left feed text at) ≡ body_at read (value_at read f) f k d rest)
+        → (f : ℕ) × (rest : List Lexeme) × (length (left feed text to) ≤ f) × (opening_at read rest ≡ Ok (o, left feed text to)) × (value_at read fuel (left feed text at) ≡ body_at read (value_at read f) f k d rest)
     behind o to zero h le = let few = goes-fewer feed text at to h.goes in absurd (omega (arith, le, few))
     behind o to (suc f) h le =
         let few = goes-fewer feed text at to h.goes in
@@ -179,7 +183,7 @@ module _ {N : Type 0} (read : List ℕ → Option N) where
         → (f : ℕ) × (length (left feed text to) ≤ f) × (value_at read fuel (left feed text at) ≡ inside_at read k d f (left feed text to))
     opened-behind to fuel h le =
         let (f, rest, enough, opens, is) = behind true to fuel h le in
-        (f, enough, is ∙ ap (body_at read (value_at read f) f k d) (open-is rest (left feed text to) opens))
+        (f, enough, is ∙ ap (body_at read (value_at read f) f k d) (open-is read rest (left feed text to) opens))
 
     module _ {S : Type 0} (maker : Maker N S) (start s : S) (makes : maker.makes start (Event.Header k d ∷ []) s) where
       -- EMPTY

@@ -9,7 +9,7 @@ use Rattle.wkt_types.specs.declared.geometry_type.GeometryType.{GeometryType}
 use Rattle.wkt_types.specs.declared.geometry_type.GeometryType.TheVariants as kind
 use Rattle.wkt_read.specs.Grammar.{kind_word, dim_word}
 use Rattle.wkt_read.specs.Keywords.{Names}
-use Rattle.wkt_read.specs.Parser.Reading.{is_empty_word}
+use Rattle.wkt_read.specs.Parser.Outcome.{is_empty_word}
 use Rattle.wkt_events.specs.declared.header.Header.{Header}
 use Rattle.wkt_events.specs.Left.{class_in, left, left_placed, IsRunEnd, TakesOne, BeginsOther}
 use Rattle.wkt_events.specs.Makers.{name_length}

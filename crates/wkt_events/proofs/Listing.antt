@@ -3,7 +3,7 @@ use Rattle.std.proofs.Common.{◌≡◌, ℕ, zero, suc, ◌+◌, ◌-◌, ◌*�
 use Rattle.std.specs.Result.{IsErr}
 use Rattle.wkt_num.specs.Bytes as lex
 use Rattle.wkt_num.specs.Bytes.{Lexeme}
-use Rattle.wkt_read.specs.Parser.Reading.{Reader, ◌>>=◌, with_front, closing_at, closed, tail_at, many_at}
+use Rattle.wkt_read.specs.Parser.Outcome.{Reader, ◌>>=◌, with_front, closing_at, closed, tail_at, many_at}
 use Rattle.wkt_events.specs.declared.builder.At.{At}
 use Rattle.wkt_events.specs.declared.builder.Part.{Part}
 use Rattle.wkt_events.specs.Left.{left, TakesOne, Goes, BeginsOther}
@@ -37,9 +37,9 @@ module _ {N A : Type 0} (whole between : Part) (f : A → List (Event N)) where
       ap (λ es. f y ++ (Event.Comma between ∷ es)) (so-far-end xs x)
       ∙ sym (append_assoc (f y) (Event.Comma between ∷ so_far between f xs) (f x ++ (Event.Comma between ∷ [])))
 
-module _ {A : Type 0} (item : Reader A) where
+module _ {A N : Type 0} (read : List ℕ → Option N) (item : Reader A) where
   -- no comma comes next
-  stop : (m : ℕ) (ls : List Lexeme) → BeginsOther lex.Comma ls → tail_at item m ls ≡ Ok ([], ls)
+  pub stop : (m : ℕ) (ls : List Lexeme) → BeginsOther lex.Comma ls → tail_at read item m ls ≡ Ok ([], ls)
   unfolding tail_at
   stop zero [] h = refl
   stop (suc m) [] h = refl
@@ -53,34 +53,34 @@ module _ {A : Type 0} (item : Reader A) where
   stop (suc m) (lex.Num run ∷ r) h = refl
   stop m (lex.Comma ∷ r) h = absurd (h r refl)
 
-  item-then : (m : ℕ) (ls rest : List Lexeme) (x : A) → item ls ≡ Ok (x, rest) → many_at item m ls ≡ with_front (x ∷ []) (tail_at item m rest)
+  item-then : (m : ℕ) (ls rest : List Lexeme) (x : A) → item ls ≡ Ok (x, rest) → many_at read item m ls ≡ with_front (x ∷ []) (tail_at read item m rest)
   unfolding many_at
-  item-then m ls rest x e = ap (λ t. t >>= (λ p. with_front (p.0 ∷ []) (tail_at item m p.1))) e
+  item-then m ls rest x e = ap (λ t. t >>= (λ p. with_front (p.0 ∷ []) (tail_at read item m p.1))) e
 
   -- an item and a comma
   item-comma : (m : ℕ) (ls rest later : List Lexeme) (x : A) → item ls ≡ Ok (x, rest) → rest ≡ lex.Comma ∷ later → length rest ≤ m
-      → (k : ℕ) × (length later ≤ k) × (many_at item m ls ≡ with_front (x ∷ []) (many_at item k later))
+      → (k : ℕ) × (length later ≤ k) × (many_at read item m ls ≡ with_front (x ∷ []) (many_at read item k later))
   unfolding many_at tail_at
   item-comma zero ls rest later x e is enough = absurd (omega (arith, enough, ap length is))
-  item-comma (suc m) ls rest later x e is enough = (m, omega (arith, enough, ap length is), item-then (suc m) ls rest x e ∙ ap (λ l. with_front (x ∷ []) (tail_at item (suc m) l)) is)
+  item-comma (suc m) ls rest later x e is enough = (m, omega (arith, enough, ap length is), item-then (suc m) ls rest x e ∙ ap (λ l. with_front (x ∷ []) (tail_at read item (suc m) l)) is)
 
   -- an item that is the last
-  item-last : (m : ℕ) (ls rest : List Lexeme) (x : A) → item ls ≡ Ok (x, rest) → BeginsOther lex.Comma rest → many_at item m ls ≡ Ok (x ∷ [], rest)
+  item-last : (m : ℕ) (ls rest : List Lexeme) (x : A) → item ls ≡ Ok (x, rest) → BeginsOther lex.Comma rest → many_at read item m ls ≡ Ok (x ∷ [], rest)
   item-last m ls rest x e h = item-then m ls rest x e ∙ ap (with_front (x ∷ [])) (stop m rest h)
 
-  item-fails : (m : ℕ) (ls : List Lexeme) → IsErr (item ls) → IsErr (many_at item m ls)
+  item-fails : (m : ℕ) (ls : List Lexeme) → IsErr (item ls) → IsErr (many_at read item m ls)
   unfolding many_at
-  item-fails m ls h = then-err (item ls) (λ p. with_front (p.0 ∷ []) (tail_at item m p.1)) h
+  item-fails m ls h = then-err (item ls) (λ p. with_front (p.0 ∷ []) (tail_at read item m p.1)) h
 
-pub closes : {A : Type 0} (x : A) (ls rest : List Lexeme) (u : Unit {0}) → closing_at ls ≡ Ok (u, rest) → closed (Ok (x, ls)) ≡ Ok (x, rest)
+pub closes : {A N : Type 0} (read : List ℕ → Option N) (x : A) (ls rest : List Lexeme) (u : Unit {0}) → closing_at read ls ≡ Ok (u, rest) → closed read (Ok (x, ls)) ≡ Ok (x, rest)
 unfolding closed
-closes x ls rest u e = ap (λ t. t >>= (λ c. Ok (x, c.1))) e
+closes read x ls rest u e = ap (λ t. t >>= (λ c. Ok (x, c.1))) e
 
-pub unclosed : {A : Type 0} (x : A) (ls : List Lexeme) → IsErr (closing_at ls) → IsErr (closed (Ok (x, ls)))
+pub unclosed : {A N : Type 0} (read : List ℕ → Option N) (x : A) (ls : List Lexeme) → IsErr (closing_at read ls) → IsErr (closed read (Ok (x, ls)))
 unfolding closed
-unclosed x ls h = then-err (closing_at ls) (λ c. Ok (x, c.1)) h
+unclosed read x ls h = then-err (closing_at read ls) (λ c. Ok (x, c.1)) h
 
-module _ {N S A : Type 0} (maker : Maker N S) (feed : Bool) (text : List ℕ) (item : ℕ → Reader A) (events : A → List (Event N)) (between : Part) where
+module _ {N S A : Type 0} (maker : Maker N S) (read : List ℕ → Option N) (feed : Bool) (text : List ℕ) (item : ℕ → Reader A) (events : A → List (Event N)) (between : Part) where
   -- Some items were read and made, each with its comma, and the next has to come.
   pub record ItemsSoFar (from : ℕ) (start : S) (at : ℕ) (made : S) : Type 0 where
     pub items : List A
@@ -89,7 +89,7 @@ module _ {N S A : Type 0} (maker : Maker N S) (feed : Bool) (text : List ℕ) (i
     pub fewer : length (left feed text at) ≤ length (left feed text from)
     pub legible : Legible feed text from → Legible feed text at
     pub reads : (fuel : ℕ) → length (left feed text from) ≤ fuel
-        → (m : ℕ) × (length (left feed text at) ≤ m) × (many_at (item fuel) fuel (left feed text from) ≡ with_front items (many_at (item fuel) m (left feed text at)))
+        → (m : ℕ) × (length (left feed text at) ≤ m) × (many_at read (item fuel) fuel (left feed text from) ≡ with_front items (many_at read (item fuel) m (left feed text at)))
     pub makes : maker.makes start (so_far between events items) made
     pub room : maker.fits made (2 * (length text - at) + 1 - 0)
 
@@ -100,7 +100,7 @@ module _ {N S A : Type 0} (maker : Maker N S) (feed : Bool) (text : List ℕ) (i
     on = λ to g. g;
     fewer = omega arith;
     legible = λ l. l;
-    reads = λ fuel enough. (fuel, enough, front-none (many_at (item fuel) fuel (left feed text from)));
+    reads = λ fuel enough. (fuel, enough, front-none (many_at read (item fuel) fuel (left feed text from)));
     makes = maker.none start;
     room = room;
   }
@@ -123,46 +123,46 @@ module _ {N S A : Type 0} (maker : Maker N S) (feed : Bool) (text : List ℕ) (i
         legible = λ l. legible-one feed text to lex.Comma next takes (legible-on feed text at to gives.goes (h.legible l));
         reads = λ fuel enough.
             let (m, most, was) = h.reads fuel enough in
-            let (k, least, step) = item-comma (item fuel) m (left feed text at) (left feed text to) (left feed text next) gives.value (gives.reads fuel (omega (arith, enough, fewer))) is (omega (arith, most, short)) in
-            (k, least, was ∙ ap (with_front h.items) step ∙ front-front h.items (gives.value ∷ []) (many_at (item fuel) k (left feed text next)));
+            let (k, least, step) = item-comma read (item fuel) m (left feed text at) (left feed text to) (left feed text next) gives.value (gives.reads fuel (omega (arith, enough, fewer))) is (omega (arith, most, short)) in
+            (k, least, was ∙ ap (with_front h.items) step ∙ front-front h.items (gives.value ∷ []) (many_at read (item fuel) k (left feed text next)));
         makes = subst (λ es. maker.makes start es then) (sym (so-far-end between between events h.items gives.value))
             (maker.more start made then (so_far between events h.items) (events gives.value ++ (Event.Comma between ∷ [])) h.makes
             (maker.more made now then (events gives.value) (Event.Comma between ∷ []) gives.makes comma.made));
         room = comma.leaves (2 * (length text - next) + 1 - 0) (maker.less now (2 * (length text - next) + 1 - 0 + 1) (2 * (length text - to) + 1 - 1) (omega (arith, grows, inside)) room);
       }
 
-  pub items-fail : (from : ℕ) (start : S) (at : ℕ) (made : S) → ItemsSoFar from start at made → Refuses feed text item at → Refuses feed text (items_at item) from
+  pub items-fail : (from : ℕ) (start : S) (at : ℕ) (made : S) → ItemsSoFar from start at made → Refuses feed text item at → Refuses feed text (items_at read item) from
   items-fail from start at made h fails utf8 fuel enough =
       let (m, most, was) = h.reads fuel enough in
       let fewer = h.fewer in
-      closed-err (many_at (item fuel) fuel (left feed text from))
-      (is-err (many_at (item fuel) fuel (left feed text from)) (with_front h.items (many_at (item fuel) m (left feed text at))) was
-      (front-err h.items (many_at (item fuel) m (left feed text at)) (item-fails (item fuel) m (left feed text at) (fails (h.legible utf8) fuel (omega (arith, enough, fewer))))))
+      closed-err read (many_at read (item fuel) fuel (left feed text from))
+      (is-err (many_at read (item fuel) fuel (left feed text from)) (with_front h.items (many_at read (item fuel) m (left feed text at))) was
+      (front-err h.items (many_at read (item fuel) m (left feed text at)) (item-fails read (item fuel) m (left feed text at) (fails (h.legible utf8) fuel (omega (arith, enough, fewer))))))
 
   -- all items, where no comma follows the last
   items-read : (from : ℕ) (start : S) (at : ℕ) (made : S) (to : ℕ) (now : S) (h : ItemsSoFar from start at made) (gives : Gives maker feed text item events at made to now)
       → BeginsOther lex.Comma (left feed text to)
-      → (fuel : ℕ) → length (left feed text from) ≤ fuel → many_at (item fuel) fuel (left feed text from) ≡ Ok (h.items ++ gives.value ∷ [], left feed text to)
+      → (fuel : ℕ) → length (left feed text from) ≤ fuel → many_at read (item fuel) fuel (left feed text from) ≡ Ok (h.items ++ gives.value ∷ [], left feed text to)
   items-read from start at made to now h gives other fuel enough =
       let (m, most, was) = h.reads fuel enough in
       let fewer = h.fewer in
-      was ∙ ap (with_front h.items) (item-last (item fuel) m (left feed text at) (left feed text to) gives.value (gives.reads fuel (omega (arith, enough, fewer))) other)
+      was ∙ ap (with_front h.items) (item-last read (item fuel) m (left feed text at) (left feed text to) gives.value (gives.reads fuel (omega (arith, enough, fewer))) other)
 
   pub items-closed : (whole : Part) (from : ℕ) (start : S) (at : ℕ) (made : S) (to : ℕ) (now : S) (r : Option (At S))
       → ItemsSoFar from start at made → Gives maker feed text item events at made to now → BeginsOther lex.Comma (left feed text to)
-      → GivesIfAny maker feed text (λ _. closing_at) (λ _. Event.Close whole ∷ []) to now r
-      → GivesIfAny maker feed text (items_at item) (inner whole between events) from start r
+      → GivesIfAny maker feed text (λ _. closing_at read) (λ _. Event.Close whole ∷ []) to now r
+      → GivesIfAny maker feed text (items_at read item) (inner whole between events) from start r
   items-closed whole from start at made to now (Some a) h gives other end = record {
     value = h.items ++ gives.value ∷ [];
     goes = h.on a.at (goes-on feed text at to a.at gives.goes end.goes);
     reads = λ fuel enough.
-        ap closed (items-read from start at made to now h gives other fuel enough)
-        ∙ closes (h.items ++ gives.value ∷ []) (left feed text to) (left feed text a.at) end.value (end.reads (length (left feed text to)) (omega arith));
+        ap (closed read) (items-read from start at made to now h gives other fuel enough)
+        ∙ closes read (h.items ++ gives.value ∷ []) (left feed text to) (left feed text a.at) end.value (end.reads (length (left feed text to)) (omega arith));
     makes = subst (λ es. maker.makes start es a.made) (sym (inner-end whole between events h.items gives.value))
         (maker.more start made a.made (so_far between events h.items) (events gives.value ++ (Event.Close whole ∷ [])) h.makes
         (maker.more made now a.made (events gives.value) (Event.Close whole ∷ []) gives.makes end.makes));
   }
   items-closed whole from start at made to now None h gives other end = λ utf8 fuel enough.
-      is-err (items_at item fuel (left feed text from)) (closed (Ok (h.items ++ gives.value ∷ [], left feed text to)))
-      (ap closed (items-read from start at made to now h gives other fuel enough))
-      (unclosed (h.items ++ gives.value ∷ []) (left feed text to) (end (legible-on feed text at to gives.goes (h.legible utf8)) (length (left feed text to)) (omega arith)))
+      is-err (items_at read item fuel (left feed text from)) (closed read (Ok (h.items ++ gives.value ∷ [], left feed text to)))
+      (ap (closed read) (items-read from start at made to now h gives other fuel enough))
+      (unclosed read (h.items ++ gives.value ∷ []) (left feed text to) (end (legible-on feed text at to gives.goes (h.legible utf8)) (length (left feed text to)) (omega arith)))

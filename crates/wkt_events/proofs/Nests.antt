@@ -1,43 +1,28 @@
 -- Collections that are open while a geometry is walked over, of which only the number is kept.
 use Rattle.std.proofs.Common.{◌≡◌, ℕ, zero, suc, ◌≤◌, List, [], ◌∷◌, ◌++◌, length, sym, refl, ap, ◌∙◌, subst, append_assoc, append-nil, arith, Option, Ok, Err}
 use Rattle.std.specs.Result.{IsErr}
-use Rattle.wkt_num.specs.Bytes.{Lexeme, Open, Close, Comma, Word, Num}
+use Rattle.wkt_num.specs.Bytes.{Lexeme, Close, Comma}
 use Rattle.wkt_access.specs.declared.dimensions.Dimension.{Dimension}
 use Rattle.wkt_access.specs.Values.{Value}
-use Rattle.wkt_read.specs.Parser.Reading.{Reading, ◌>>=◌, with_front, members_read, closing_at, closed, tail_at, many_at, value_at}
+use Rattle.wkt_read.specs.Parser.Outcome.{Outcome, ◌>>=◌, with_front, closing_at, closed, tail_at, many_at, geometry_at as value_at, members_read}
+use Rattle.wkt_read.specs.declared.messages.Message.{Message}
+use Rattle.wkt_read.specs.Parser.Frames.{shut_at}
 use Rattle.wkt_events.specs.Events.{Event, events}
 use Rattle.wkt_events.specs.Left.{BeginsOther}
-use Rattle.wkt_events.specs.Whole.{opening_made, comma_made, closing_made, shut_at, members_made, put_in, Nest}
+use Rattle.wkt_events.specs.Whole.{opening_made, comma_made, closing_made, members_made, put_in, Nest}
 use Rattle.wkt_events.proofs.Collections.{collection_made}
+use Rattle.wkt_events.proofs.Giving.{front-front, then-err, closed-err}
+use Rattle.wkt_events.proofs.Listing.{stop}
 
-front-front : {A : Type 0} (xs ys : List A) (t : Reading (List A)) → with_front xs (with_front ys t) ≡ with_front (xs ++ ys) t
-front-front xs ys (Ok p) = ap (λ l. Ok (l, p.1)) (sym (append_assoc xs ys p.0))
-front-front xs ys (Err r) = refl
-
-front-then : {A : Type 0} (xs : List A) (t : Reading A) (f : List Lexeme → Reading (List A)) → with_front xs (t >>= (λ p. with_front (p.0 ∷ []) (f p.1))) ≡ t >>= (λ p. with_front (xs ++ (p.0 ∷ [])) (f p.1))
+front-then : {A : Type 0} (xs : List A) (t : Outcome A) (f : List Lexeme → Outcome (List A)) → with_front xs (t >>= (λ p. with_front (p.0 ∷ []) (f p.1))) ≡ t >>= (λ p. with_front (xs ++ (p.0 ∷ [])) (f p.1))
 front-then xs (Ok p) f = front-front xs (p.0 ∷ []) (f p.1)
 front-then xs (Err r) f = refl
 
--- items end where no comma comes
-stop : {A : Type 0} (item : List Lexeme → Reading A) (m : ℕ) (now : List Lexeme) → BeginsOther Comma now → tail_at item m now ≡ Ok ([], now)
-unfolding tail_at
-stop item zero [] h = refl
-stop item (suc m) [] h = refl
-stop item zero (Open ∷ r) h = refl
-stop item (suc m) (Open ∷ r) h = refl
-stop item zero (Close ∷ r) h = refl
-stop item (suc m) (Close ∷ r) h = refl
-stop item zero (Word run ∷ r) h = refl
-stop item (suc m) (Word run ∷ r) h = refl
-stop item zero (Num run ∷ r) h = refl
-stop item (suc m) (Num run ∷ r) h = refl
-stop item m (Comma ∷ r) h = absurd (h r refl)
-
-pub is-err : {A : Type 0} (t : Reading A) → IsErr t → (bad : List Lexeme) × (t ≡ Err bad)
+pub is-err : {A : Type 0} (t : Outcome A) → IsErr t → (bad : Message × List Lexeme) × (t ≡ Err bad)
 is-err (Ok p) h = cc
 is-err (Err bad) h = (bad, refl)
 
-pub err-is : {A : Type 0} (t : Reading A) (bad : List Lexeme) → t ≡ Err bad → IsErr t
+pub err-is : {A : Type 0} (t : Outcome A) (bad : Message × List Lexeme) → t ≡ Err bad → IsErr t
 err-is t bad e = subst IsErr (sym e) refl
 
 module _ {N : Type 0} (read : List ℕ → Option N) where
@@ -48,13 +33,13 @@ module _ {N : Type 0} (read : List ℕ → Option N) where
       ∙ sym (append_assoc (events w) (comma_made ++ members_made read vs) (events v ++ comma_made))
 
   -- fewer lexemes are left
-  pub nest-fewer : (depth k j : ℕ) (whole now : Reading (Value N)) (made : List (Event N)) → j ≤ k → Nest read depth k whole now made → Nest read depth j whole now made
+  pub nest-fewer : (depth k j : ℕ) (whole now : Outcome (Value N)) (made : List (Event N)) → j ≤ k → Nest read depth k whole now made → Nest read depth j whole now made
   nest-fewer zero k j whole now made le h = h
   nest-fewer (suc depth) k j whole now made le (d, vs, n, m, inner, before, a, b, e, f, h) =
       (d, vs, n, m, inner, before, omega (arith, a, le), omega (arith, b, le), e, f, nest-fewer depth k j whole inner before le h)
 
   -- one more is opened
-  pub nest-open : (depth k j n : ℕ) (d : Dimension) (r : List Lexeme) (whole now : Reading (Value N)) (made : List (Event N)) → j ≤ k → j ≤ n → now ≡ shut_at d (many_at (value_at read n) n r)
+  pub nest-open : (depth k j n : ℕ) (d : Dimension) (r : List Lexeme) (whole now : Outcome (Value N)) (made : List (Event N)) → j ≤ k → j ≤ n → now ≡ shut_at read d (many_at read (value_at read n) n r)
       → Nest read depth k whole now made → Nest read (suc depth) j whole (value_at read n r) (made ++ opening_made d)
   unfolding many_at
   nest-open depth k j n d r whole now made few le e h =
@@ -64,13 +49,13 @@ module _ {N : Type 0} (read : List ℕ → Option N) where
       → (j : ℕ) × (length r ≤ j) × (put_in read n m d vs (Ok (v, Comma ∷ r)) ≡ put_in read n j d (vs ++ (v ∷ [])) (value_at read n r))
   unfolding tail_at
   comma-put n zero d vs v r le = absurd (omega arith)
-  comma-put n (suc j) d vs v r le = (j, omega arith, ap (shut_at d) (front-then (vs ++ (v ∷ [])) (value_at read n r) (tail_at (value_at read n) j)))
+  comma-put n (suc j) d vs v r le = (j, omega arith, ap (shut_at read d) (front-then (vs ++ (v ∷ [])) (value_at read n r) (tail_at read (value_at read n) j)))
 
   regroup : (a b c e : List (Event N)) → (a ++ (b ++ c)) ++ e ≡ a ++ (b ++ (c ++ e))
   regroup a b c e = append_assoc a (b ++ c) e ∙ ap (λ l. a ++ l) (append_assoc b c e)
 
   -- a comma behind a member
-  pub nest-comma : (depth k : ℕ) (v : Value N) (left r : List Lexeme) (whole : Reading (Value N)) (made : List (Event N)) → left ≡ Comma ∷ r → length left ≤ k
+  pub nest-comma : (depth k : ℕ) (v : Value N) (left r : List Lexeme) (whole : Outcome (Value N)) (made : List (Event N)) → left ≡ Comma ∷ r → length left ≤ k
       → Nest read (suc depth) k whole (Ok (v, left)) made
       → (n : ℕ) × (length r ≤ n) × Nest read (suc depth) (length r) whole (value_at read n r) (made ++ (events v ++ comma_made))
   nest-comma depth k v left r whole made is le (d, vs, n, m, inner, before, a, b, e, f, h) =
@@ -101,11 +86,11 @@ module _ {N : Type 0} (read : List ℕ → Option N) where
       → put_in read n m d vs (Ok (v, Close ∷ r)) ≡ Ok (Value.collection d (members_read (vs ++ (v ∷ []))), r)
   unfolding closed closing_at
   close-put n m d vs v r =
-      ap (λ t. shut_at d (with_front (vs ++ (v ∷ [])) t)) (stop (value_at read n) m (Close ∷ r) (no-comma r))
+      ap (λ t. shut_at read d (with_front (vs ++ (v ∷ [])) t)) (stop read (value_at read n) m (Close ∷ r) (no-comma r))
       ∙ ap (λ l. Ok (Value.collection d (members_read l), r)) (append-nil (vs ++ (v ∷ [])))
 
   -- `)` behind the last member
-  pub nest-close : (depth k : ℕ) (v : Value N) (left r : List Lexeme) (whole : Reading (Value N)) (made : List (Event N)) → left ≡ Close ∷ r → length left ≤ k
+  pub nest-close : (depth k : ℕ) (v : Value N) (left r : List Lexeme) (whole : Outcome (Value N)) (made : List (Event N)) → left ≡ Close ∷ r → length left ≤ k
       → Nest read (suc depth) k whole (Ok (v, left)) made
       → (w : Value N) × (before : List (Event N)) × Nest read depth (length r) whole (Ok (w, r)) before × (before ++ events w ≡ made ++ (events v ++ closing_made))
   nest-close depth k v left r whole made is le (d, vs, n, m, inner, before, a, b, e, f, h) = (
@@ -116,23 +101,23 @@ module _ {N : Type 0} (read : List ℕ → Option N) where
   )
 
   -- what is no member makes what is open no geometry
-  pub nest-err : (depth k : ℕ) (whole now : Reading (Value N)) (made : List (Event N)) → IsErr now → Nest read depth k whole now made → IsErr whole
-  unfolding closed
+  pub nest-err : (depth k : ℕ) (whole now : Outcome (Value N)) (made : List (Event N)) → IsErr now → Nest read depth k whole now made → IsErr whole
   nest-err zero k whole now made bad h = subst IsErr (sym h.0) bad
   nest-err (suc depth) k whole now made bad (d, vs, n, m, inner, before, a, b, e, f, h) =
       let (rest, is) = is-err now bad in
-      nest-err depth k whole inner before (subst IsErr (sym (e ∙ ap (put_in read n m d vs) is)) refl) h
+      nest-err depth k whole inner before
+      (subst IsErr (sym (e ∙ ap (put_in read n m d vs) is)) (then-err (closed read (Err rest)) (λ p. Ok (Value.collection d (members_read p.0), p.1)) (closed-err read (Err rest) refl))) h
 
-  stuck-put : (n m : ℕ) (d : Dimension) (vs : List (Value N)) (v : Value N) (left bad : List Lexeme) → BeginsOther Comma left → closing_at left ≡ Err bad
+  stuck-put : (n m : ℕ) (d : Dimension) (vs : List (Value N)) (v : Value N) (left : List Lexeme) (bad : Message × List Lexeme) → BeginsOther Comma left → closing_at read left ≡ Err bad
       → put_in read n m d vs (Ok (v, left)) ≡ Err bad
   unfolding closed
   stuck-put n m d vs v left bad none e =
-      ap (λ t. shut_at d (with_front (vs ++ (v ∷ [])) t)) (stop (value_at read n) m left none)
+      ap (λ t. shut_at read d (with_front (vs ++ (v ∷ [])) t)) (stop read (value_at read n) m left none)
       ∙ ap (λ t. (t >>= λ c. Ok ((vs ++ (v ∷ [])) ++ [], c.1)) >>= λ p. Ok (Value.collection d (members_read p.0), p.1)) e
 
   -- neither a comma nor `)` behind a member
-  pub nest-stuck : (depth k : ℕ) (v : Value N) (left : List Lexeme) (whole : Reading (Value N)) (made : List (Event N)) → BeginsOther Comma left → IsErr (closing_at left)
+  pub nest-stuck : (depth k : ℕ) (v : Value N) (left : List Lexeme) (whole : Outcome (Value N)) (made : List (Event N)) → BeginsOther Comma left → IsErr (closing_at read left)
       → Nest read (suc depth) k whole (Ok (v, left)) made → IsErr whole
   nest-stuck depth k v left whole made none is (d, vs, n, m, inner, before, a, b, e, f, h) =
-      let (bad, same) = is-err (closing_at left) is in
+      let (bad, same) = is-err (closing_at read left) is in
       nest-err depth k whole inner before (err-is inner bad (e ∙ stuck-put n m d vs v left bad none same)) h

@@ -9,7 +9,8 @@ use Rattle.wkt_access.specs.declared.dimensions.Dimension.TheVariants.{XY}
 use Rattle.wkt_types.specs.declared.geometry_type.GeometryType.{GeometryType}
 use Rattle.wkt_read.specs.Lexemes.{lexeme_of}
 use Rattle.wkt_read.specs.Grammar.{KindWord, kind_word, dim_word}
-use Rattle.wkt_read.specs.Parser.Reading.{Reading, ◌>>=◌, is_empty_word, opening_at, worded, numbered, dimension_at, kinded, header_at}
+use Rattle.wkt_read.specs.Parser.Outcome.{Outcome, ◌>>=◌, opening_at, worded, numbered, dimension_at, no_kind, kinded, header_at, is_empty_word}
+use Rattle.wkt_read.specs.declared.messages.Message.TheVariants as message
 use Rattle.wkt_read.proofs.LawLemmas.Headers.{word_run}
 use Rattle.wkt_read.proofs.ParserLemmas.Told.{empty_is}
 use Rattle.wkt_read.proofs.ParserLemmas.Readings.{empty_no_dim}
@@ -75,16 +76,16 @@ module _ (feed : Bool) (text : List ℕ) where
     ]
 
 -- a header whose kind and dimension were read
-abbrev header_of : GeometryType → Reading Dimension → Reading (GeometryType × Dimension)
+abbrev header_of : GeometryType → Outcome Dimension → Outcome (GeometryType × Dimension)
 header_of k r = r >>= λ d. Ok ((k, d.0), d.1)
 
-abbrev headed_of : GeometryType → Dimension → Reading Bool → Reading Headed
+abbrev headed_of : GeometryType → Dimension → Outcome Bool → Outcome Headed
 headed_of k d r = r >>= λ o. Ok (record { kind = k; dimension = d; opened = o.0 }, o.1)
 
-abbrev opened_of : Reading (GeometryType × Dimension) → Reading Headed
-opened_of r = do
+abbrev opened_of : {N : Type 0} → (List ℕ → Option N) → Outcome (GeometryType × Dimension) → Outcome Headed
+opened_of read r = do
   h ← r
-  o ← opening_at h.1
+  o ← opening_at read h.1
   Ok (record { kind = h.0.0; dimension = h.0.1; opened = o.0 }, o.1)
 
 module _ {N : Type 0} (read : List ℕ → Option N) where
@@ -96,12 +97,12 @@ module _ {N : Type 0} (read : List ℕ → Option N) where
   head-none (Close ∷ rest) none = refl
   head-none (Comma ∷ rest) none = refl
   head-none (Num run ∷ rest) none = refl
-  head-none (Word run ∷ rest) none = subst (λ o. IsErr (opened_of (kinded read o rest))) (sym (none run rest refl)) refl
+  head-none (Word run ∷ rest) none = subst (λ o. IsErr (opened_of read (kinded read (no_kind true run) o rest))) (sym (none run rest refl)) refl
 
   -- a header that begins with one
   pub head-some : (run : List ℕ) (rest : List Lexeme) (e : KindWord) → kind_word run ≡ Some e → headed_at read (Word run ∷ rest) ≡ behind_at read e.kind e.joined rest
   unfolding header_at
-  head-some run rest e is = ap (λ o. opened_of (kinded read o rest)) is
+  head-some run rest e is = ap (λ o. opened_of read (kinded read (no_kind true run) o rest)) is
 
   pub behind-open : (k : GeometryType) (joined : Option Dimension) (rest : List Lexeme) → behind_at read k joined (Open ∷ rest) ≡ Ok (record { kind = k; dimension = unwrap_or joined XY; opened = true }, rest)
   unfolding dimension_at opening_at
@@ -110,14 +111,14 @@ module _ {N : Type 0} (read : List ℕ → Option N) where
 
   opens-empty : (k : GeometryType) (d : Dimension) (run : List ℕ) (rest : List Lexeme) → is_empty_word run ≡ true → behind_at read k (Some d) (Word run ∷ rest) ≡ Ok (record { kind = k; dimension = d; opened = false }, rest)
   unfolding opening_at
-  opens-empty k d run rest is = ap (λ t. headed_of k d (if t then Ok (false, rest) else Err rest)) is
+  opens-empty k d run rest is = ap (λ t. headed_of k d (if t then Ok (false, rest) else Err (message.Open, rest))) is
 
   -- a word behind a kind word alone
   behind-word : (k : GeometryType) (d : Option Dimension) (t : Bool) (run : List ℕ) (rest : List Lexeme) → dim_word run ≡ d → is_empty_word run ≡ t
-      → behind_at read k None (Word run ∷ rest) ≡ opened_of (header_of k (worded read d t run rest))
+      → behind_at read k None (Word run ∷ rest) ≡ opened_of read (header_of k (worded read d t run rest))
   unfolding dimension_at
-  behind-word k d t run rest e f = ap (λ b. opened_of (header_of k (worded read (dim_word run) b run rest))) f
-      ∙ ap (λ b. opened_of (header_of k (worded read b t run rest))) e
+  behind-word k d t run rest e f = ap (λ b. opened_of read (header_of k (worded read (dim_word run) b run rest))) f
+      ∙ ap (λ b. opened_of read (header_of k (worded read b t run rest))) e
 
   pub behind-empty : (k : GeometryType) (joined : Option Dimension) (run : List ℕ) (rest : List Lexeme) → is_empty_word run ≡ true → behind_at read k joined (Word run ∷ rest) ≡ Ok (record { kind = k; dimension = unwrap_or joined XY; opened = false }, rest)
   behind-empty k (Some d) run rest is = opens-empty k d run rest is
@@ -135,9 +136,9 @@ module _ {N : Type 0} (read : List ℕ → Option N) where
   behind-joined k d (Close ∷ rest) other lacks = refl
   behind-joined k d (Comma ∷ rest) other lacks = refl
   behind-joined k d (Num run ∷ rest) other lacks = refl
-  behind-joined k d (Word run ∷ rest) other lacks = subst (λ t. IsErr (headed_of k d (if t then Ok (false, rest) else Err rest))) (sym (lacks run rest refl)) refl
+  behind-joined k d (Word run ∷ rest) other lacks = subst (λ t. IsErr (headed_of k d (if t then Ok (false, rest) else Err (message.Open, rest)))) (sym (lacks run rest refl)) refl
 
-  numbered-none : (k : GeometryType) (o : Option N) (run : List ℕ) (rest : List Lexeme) → IsErr (opened_of (header_of k (numbered read o run rest)))
+  numbered-none : (k : GeometryType) (o : Option N) (run : List ℕ) (rest : List Lexeme) → IsErr (opened_of read (header_of k (numbered read o run rest)))
   unfolding opening_at
   numbered-none k None run rest = refl
   numbered-none k (Some x) run rest = refl

@@ -6,7 +6,8 @@ use Rattle.std.proofs.lemmas.List.{append-nil}
 use Rattle.std.proofs.lemmas.List.Edits.{length-between, get_or-between}
 use Rattle.wkt_num.specs.Bytes.{Lexeme, Open, Close, Comma, Word, Num, Class, Nul, White, Mark, Run, class_of}
 use Rattle.wkt_read.specs.Lexemes.{lexeme_of, starts_number, without_plus}
-use Rattle.wkt_read.specs.Parser.Reading.{number_at, number_in}
+use Rattle.wkt_read.specs.Parser.Outcome.{number_at, number_in}
+use Rattle.wkt_read.specs.declared.messages.Message.TheVariants as message
 use Rattle.wkt_events.specs.declared.builder.At.{At}
 use Rattle.wkt_events.specs.declared.text.Pen.{Pen}
 use Rattle.wkt_events.specs.Left.{class_in, left, IsMark, TakesOne}
@@ -76,11 +77,11 @@ module _ {N : Type 0} (read : List ℕ → Option N) (num : N → List ℕ) (fee
       subst (λ l. TakesOne feed text at l end) is (takes-run feed text at end h.ends h.order)
 
   -- where there is none, none is read
-  pub refuses : Legible feed text at → class_in feed (get_or text at 0) ≢ White → NoNumber read text at → IsErr (number_at read (left feed text at))
+  pub refuses : Legible feed text at → class_in feed (get_or text at 0) ≢ White → NoNumber read text at → IsErr (number_at read message.X (left feed text at))
   unfolding number_at
   refuses legible other h = go (class_in feed (get_or text at 0)) refl (mark-in feed (get_or text at 0))
     where
-      at-mark : (l : Lexeme) (rest : List Lexeme) → IsMark l → IsErr (number_at read (l ∷ rest))
+      at-mark : (l : Lexeme) (rest : List Lexeme) → IsMark l → IsErr (number_at read message.X (l ∷ rest))
       at-mark Open rest m = refl
       at-mark Close rest m = refl
       at-mark Comma rest m = refl
@@ -91,18 +92,18 @@ module _ {N : Type 0} (read : List ℕ → Option N) (num : N → List ℕ) (fee
       unread (Some x) rest e = cc
       unread None rest e = refl
 
-      at-run : at < h.end → (t : Bool) → starts_number (get_or text at 0) ≡ t → IsErr (number_at read (lexeme_of (slice_range text at h.end) ∷ left feed text h.end))
+      at-run : at < h.end → (t : Bool) → starts_number (get_or text at 0) ≡ t → IsErr (number_at read message.X (lexeme_of (slice_range text at h.end) ∷ left feed text h.end))
       at-run order true e =
           let long : length (slice_range text at h.end) ≡ h.end - at = length-between text at h.end h.ends.inside in
-          subst (λ l. IsErr (number_at read (l ∷ left feed text h.end))) (sym (number-lexeme (slice_range text at h.end) (omega (arith, long, order)) (ap starts_number (first h.end order) ∙ e))) (unread (read (without_plus (slice_range text at h.end))) (left feed text h.end) (h.none order e (number-text feed text at h.end legible h.ends order e)))
-      at-run order false e = subst (λ l. IsErr (number_at read (l ∷ left feed text h.end))) (sym (word-lexeme (slice_range text at h.end) (ap starts_number (first h.end order) ∙ e))) refl
+          subst (λ l. IsErr (number_at read message.X (l ∷ left feed text h.end))) (sym (number-lexeme (slice_range text at h.end) (omega (arith, long, order)) (ap starts_number (first h.end order) ∙ e))) (unread (read (without_plus (slice_range text at h.end))) (left feed text h.end) (h.none order e (number-text feed text at h.end legible h.ends order e)))
+      at-run order false e = subst (λ l. IsErr (number_at read message.X (l ∷ left feed text h.end))) (sym (word-lexeme (slice_range text at h.end) (ap starts_number (first h.end order) ∙ e))) refl
 
-      go : (c : Class) → class_in feed (get_or text at 0) ≡ c → OnMark c → IsErr (number_at read (left feed text at))
-      go Nul e m = subst (λ ls. IsErr (number_at read ls)) (sym (left-nul feed text at e)) refl
+      go : (c : Class) → class_in feed (get_or text at 0) ≡ c → OnMark c → IsErr (number_at read message.X (left feed text at))
+      go Nul e m = subst (λ ls. IsErr (number_at read message.X ls)) (sym (left-nul feed text at e)) refl
       go White e m = absurd (other e)
-      go (Mark l) e m = subst (λ ls. IsErr (number_at read ls)) (sym (takes-left feed text at l (at + 1) (takes-mark feed text at l e))) (at-mark l (left feed text (at + 1)) m)
+      go (Mark l) e m = subst (λ ls. IsErr (number_at read message.X ls)) (sym (takes-left feed text at l (at + 1) (takes-mark feed text at l e))) (at-mark l (left feed text (at + 1)) m)
       go Run e m = elim (cases_lt at h.end) [
-        | inl order ↦ subst (λ ls. IsErr (number_at read ls)) (sym (takes-left feed text at (lexeme_of (slice_range text at h.end)) h.end (takes-run feed text at h.end h.ends order))) (at-run order (starts_number (get_or text at 0)) refl)
+        | inl order ↦ subst (λ ls. IsErr (number_at read message.X ls)) (sym (takes-left feed text at (lexeme_of (slice_range text at h.end)) h.end (takes-run feed text at h.end h.ends order))) (at-run order (starts_number (get_or text at 0)) refl)
         | inr none ↦
             let same : h.end ≡ at = omega (arith, none, h.ends.order) in
             absurd (h.ends.stops (ap (λ (i : ℕ). class_of (get_or text i 0)) same ∙ run-in feed (get_or text at 0) e))

@@ -3,7 +3,7 @@ use Rattle.std.proofs.Common.{◌≡◌, ℕ, zero, suc, ◌<◌, ◌≤◌, Lis
 use Rattle.std.specs.Result.{IsErr}
 use Rattle.wkt_num.specs.Bytes.{Lexeme, Open, Close, Comma}
 use Rattle.wkt_access.specs.Values.{Value}
-use Rattle.wkt_read.specs.Parser.Reading.{Reading, Reader, closing_at, value_at}
+use Rattle.wkt_read.specs.Parser.Outcome.{Outcome, Reader, closing_at, geometry_at as value_at}
 use Rattle.wkt_events.specs.Left.{left, Goes, TakesOne, BeginsOther}
 use Rattle.wkt_events.specs.Events.{Event, events}
 use Rattle.wkt_events.specs.Makers.{Maker}
@@ -27,35 +27,35 @@ legible-comes feed text a b (inl e) l = subst (Legible feed text) (sym e) l
 legible-comes feed text a b (inr h) l = legible-on feed text a b h l
 
 -- what was closed was a closing place
-close-left : (ls r : List Lexeme) → closing_at ls ≡ Ok (tt, r) → ls ≡ Close ∷ r
+close-left : {N : Type 0} (read : List ℕ → Option N) (ls r : List Lexeme) → closing_at read ls ≡ Ok (tt, r) → ls ≡ Close ∷ r
 unfolding closing_at
-close-left [] r e = cc
-close-left (Open ∷ ls) r e = cc
-close-left (Close ∷ ls) r e =
+close-left read [] r e = cc
+close-left read (Open ∷ ls) r e = cc
+close-left read (Close ∷ ls) r e =
     let p : (tt, ls) ≡ (tt, r) = cc in
     ap (λ (q : Unit {0} × List Lexeme). Close ∷ q.1) p
-close-left (Comma ∷ ls) r e = cc
-close-left (Lexeme.Word w ∷ ls) r e = cc
-close-left (Lexeme.Num w ∷ ls) r e = cc
+close-left read (Comma ∷ ls) r e = cc
+close-left read (Lexeme.Word w ∷ ls) r e = cc
+close-left read (Lexeme.Num w ∷ ls) r e = cc
 
-pub closes : (feed : Bool) (text : List ℕ) (at to : ℕ) (value : Unit {0})
-    → ((fuel : ℕ) → length (left feed text at) ≤ fuel → closing_at (left feed text at) ≡ Ok (value, left feed text to)) → closing_at (left feed text at) ≡ Ok (tt, left feed text to)
-closes feed text at to value reads = reads (length (left feed text at)) (omega arith)
+pub closes : {N : Type 0} (read : List ℕ → Option N) (feed : Bool) (text : List ℕ) (at to : ℕ) (value : Unit {0})
+    → ((fuel : ℕ) → length (left feed text at) ≤ fuel → closing_at read (left feed text at) ≡ Ok (value, left feed text to)) → closing_at read (left feed text at) ≡ Ok (tt, left feed text to)
+closes read feed text at to value reads = reads (length (left feed text at)) (omega arith)
 
 pub refuses-all : {A : Type 0} (feed : Bool) (text : List ℕ) (read : ℕ → Reader A) (at : ℕ) → Refuses feed text read at → Legible feed text at → IsErr (read (length (left feed text at)) (left feed text at))
 refuses-all feed text read at none utf8 = none utf8 (length (left feed text at)) (omega arith)
 
 module _ {N S : Type 0} (maker : Maker N S) (read : List ℕ → Option N) (feed : Bool) (text : List ℕ) where
-  abbrev Is : ℕ → Reading (Value N) → S → ℕ → S → Type 0
+  abbrev Is : ℕ → Outcome (Value N) → S → ℕ → S → Type 0
   Is = Before maker read feed text
 
-  abbrev Stands : ℕ → Reading (Value N) → S → ℕ → S → Type 0
+  abbrev Stands : ℕ → Outcome (Value N) → S → ℕ → S → Type 0
   Stands = Behind maker read feed text
 
   abbrev ls : ℕ → List Lexeme
   ls at = left feed text at
 
-  module _ (whole : Reading (Value N)) (start : S) where
+  module _ (whole : Outcome (Value N)) (start : S) where
     makes-more : (s t : S) (made out more : List (Event N)) → maker.makes start (made ++ out) s → maker.makes s more t → maker.makes start (made ++ (out ++ more)) t
     makes-more s t made out more h g = subst (λ es. maker.makes start es t) (append_assoc made out more) (maker.more start s t (made ++ out) more h g)
 
@@ -67,15 +67,15 @@ module _ {N S : Type 0} (maker : Maker N S) (read : List ℕ → Option N) (feed
         record { fuel = n; enough = enough; made = h.made ++ (events h.value ++ comma_made); nest = nest; makes = makes-more s t h.made (events h.value) comma_made h.makes makes }
 
     -- a collection was closed
-    pub at_close : (depth j at to : ℕ) (s t : S) → depth ≡ suc j → Stands depth whole start at s → closing_at (ls at) ≡ Ok (tt, ls to) → maker.makes s closing_made t → Stands j whole start to t
+    pub at_close : (depth j at to : ℕ) (s t : S) → depth ≡ suc j → Stands depth whole start at s → closing_at read (ls at) ≡ Ok (tt, ls to) → maker.makes s closing_made t → Stands j whole start to t
     at_close depth j at to s t down h is makes =
         let nested : Nest read (suc j) (length (ls at)) whole (Ok (h.value, ls at)) h.made =
         subst (λ d. Nest read d (length (ls at)) whole (Ok (h.value, ls at)) h.made) down h.nest in
-        let (w, before, nest, same) = nest-close read j (length (ls at)) h.value (ls at) (ls to) whole h.made (close-left (ls at) (ls to) is) (omega arith) nested in
+        let (w, before, nest, same) = nest-close read j (length (ls at)) h.value (ls at) (ls to) whole h.made (close-left read (ls at) (ls to) is) (omega arith) nested in
         record { value = w; made = before; nest = nest; makes = subst (λ es. maker.makes start es t) (sym same) (makes-more s t h.made (events h.value) closing_made h.makes makes) }
 
     -- neither comes
-    pub at_neither : (depth at : ℕ) (s : S) → 0 < depth → Stands depth whole start at s → BeginsOther Comma (ls at) → IsErr (closing_at (ls at)) → IsErr whole
+    pub at_neither : (depth at : ℕ) (s : S) → 0 < depth → Stands depth whole start at s → BeginsOther Comma (ls at) → IsErr (closing_at read (ls at)) → IsErr whole
     at_neither zero at s some h none bad = absurd (omega arith)
     at_neither (suc depth) at s some h none bad = nest-stuck read depth (length (ls at)) h.value (ls at) whole h.made none bad h.nest
 
@@ -114,7 +114,7 @@ module _ {N S : Type 0} (maker : Maker N S) (read : List ℕ → Option N) (feed
   at_start at s = record { fuel = length (ls at); enough = omega arith; made = []; nest = (refl, refl); makes = maker.none s }
 
   -- what is read where the walk began
-  abbrev pub all : ℕ → Reading (Value N)
+  abbrev pub all : ℕ → Outcome (Value N)
   all at = value_at read (length (ls at)) (ls at)
 
   -- all is closed
@@ -137,9 +137,9 @@ module _ {N S : Type 0} (maker : Maker N S) (read : List ℕ → Option N) (feed
   pub gives-is : (o : Bool) (from to : ℕ) (start t : S) → o ≡ false → Reaches maker read feed text o from start to t → Gives maker feed text (value_at read) events from start to t
   gives-is o from to start t e h = subst (λ b. Reaches maker read feed text b from start to t) e h
 
-  pub all-ended : (depth : ℕ) (whole : Reading (Value N)) (start : S) (at : ℕ) (s : S) → depth ≡ 0 → Ended maker read feed text depth whole start at s → Stands 0 whole start at s
+  pub all-ended : (depth : ℕ) (whole : Outcome (Value N)) (start : S) (at : ℕ) (s : S) → depth ≡ 0 → Ended maker read feed text depth whole start at s → Stands 0 whole start at s
   all-ended depth whole start at s e h = subst (λ d. Ended maker read feed text d whole start at s) e h
 
-  pub some-open : (depth : ℕ) (whole : Reading (Value N)) (start : S) (at : ℕ) (s : S) → 0 < depth → Ended maker read feed text depth whole start at s → Is depth whole start at s
+  pub some-open : (depth : ℕ) (whole : Outcome (Value N)) (start : S) (at : ℕ) (s : S) → 0 < depth → Ended maker read feed text depth whole start at s → Is depth whole start at s
   some-open zero whole start at s some h = absurd (omega arith)
   some-open (suc depth) whole start at s some h = h

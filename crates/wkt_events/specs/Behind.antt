@@ -3,7 +3,7 @@ use Rattle.std.specs.Prelude.{◌≡◌, ◌⊎◌, ℕ, ◌+◌, ◌≤◌, Lis
 use Rattle.std.specs.Result.{IsErr}
 use Rattle.wkt_access.specs.declared.dimensions.Dimension.{Dimension}
 use Rattle.wkt_types.specs.declared.geometry_type.GeometryType.{GeometryType}
-use Rattle.wkt_read.specs.Parser.Reading.{Reader, ◌>>=◌, opening_at, joined_or_at}
+use Rattle.wkt_read.specs.Parser.Outcome.{Reader, ◌>>=◌, opening_at, joined_or_at}
 use Rattle.wkt_events.specs.Left.{left, Goes}
 use Rattle.wkt_events.specs.Heads.{Headed}
 use Rattle.wkt_events.specs.declared.header.Header.{Header}
@@ -12,7 +12,7 @@ use Rattle.wkt_events.specs.declared.header.Header.{Header}
 abbrev pub behind_at : {N : Type 0} → (List ℕ → Option N) → GeometryType → Option Dimension → Reader Headed
 behind_at read k joined ls = do
   h ← joined_or_at read k joined ls
-  o ← opening_at h.1
+  o ← opening_at read h.1
   Ok (record { kind = h.0.0; dimension = h.0.1; opened = o.0 }, o.1)
 
 -- What stands behind the word of a kind, up to behind the parenthesis or EMPTY.

@@ -4,7 +4,8 @@ use Rattle.std.specs.Result.{IsErr}
 use Rattle.wkt_num.specs.Bytes.{Lexeme, Word}
 use Rattle.wkt_access.specs.declared.dimensions.Dimension.{Dimension}
 use Rattle.wkt_types.specs.declared.geometry_type.GeometryType.{GeometryType}
-use Rattle.wkt_read.specs.Parser.Reading.{Reading, Reader, ◌>>=◌, is_empty_word, opening_at, header_at}
+use Rattle.wkt_read.specs.Parser.Outcome.{Outcome, Reader, ◌>>=◌, opening_at, header_at, is_empty_word}
+use Rattle.wkt_read.specs.declared.messages.Message.TheVariants as message
 use Rattle.wkt_events.specs.Left.{left, TakesOne, Goes}
 use Rattle.wkt_events.specs.Makers.{name_length}
 use Rattle.wkt_events.specs.declared.header.Header.{Header}
@@ -17,8 +18,8 @@ pub record Headed : Type 0 where
 
 abbrev pub headed_at : {N : Type 0} → (List ℕ → Option N) → Reader Headed
 headed_at read ls = do
-  h ← header_at read ls
-  o ← opening_at h.1
+  h ← header_at read true ls
+  o ← opening_at read h.1
   Ok (record { kind = h.0.0; dimension = h.0.1; opened = o.0 }, o.1)
 
 -- The word EMPTY comes next, and ends at `to`.
@@ -51,9 +52,9 @@ abbrev pub GivesHeaderIfAny : {N : Type 0} → (List ℕ → Option N) → Bool 
 GivesHeaderIfAny read feed text at (Some h) = GivesHeader read feed text at h.kind h.dimension h.opened h.end
 GivesHeaderIfAny read feed text at None = IsErr (headed_at read (left feed text at))
 
-abbrev pub empty_after : Bool × List Lexeme → Reading (Unit {0})
-empty_after o = if o.0 then Err o.1 else Ok (tt, o.1)
+abbrev pub empty_after : Bool × List Lexeme → Outcome (Unit {0})
+empty_after o = if o.0 then Err (message.Open, o.1) else Ok (tt, o.1)
 
 -- The word EMPTY has to come next.
-abbrev pub empty_at : Reader (Unit {0})
-empty_at ls = opening_at ls >>= empty_after
+abbrev pub empty_at : {N : Type 0} → (List ℕ → Option N) → Reader (Unit {0})
+empty_at read ls = opening_at read ls >>= empty_after

@@ -3,7 +3,8 @@ use Rattle.std.specs.Prelude.{◌≡◌, ℕ, ◌+◌, ◌-◌, ◌*◌, ◌≤�
 use Rattle.wkt_read.specs.Lexemes.{starts_number, without_plus}
 use Rattle.std.specs.Result.{IsErr}
 use Rattle.wkt_num.specs.Bytes as lex
-use Rattle.wkt_read.specs.Parser.Reading.{number_at}
+use Rattle.wkt_read.specs.Parser.Outcome.{number_at}
+use Rattle.wkt_read.specs.declared.messages.Message.TheVariants as message
 use Rattle.wkt_events.specs.Left.{IsRunEnd, TakesOne, left}
 use Rattle.wkt_events.specs.Walking.{Legible}
 use Rattle.wkt_events.specs.Written.{Wrote}
@@ -38,4 +39,4 @@ pub record Numbered {T : Type 0} (read : List ℕ → Option T) (num : T → Lis
 -- The number that comes next, and its end; or none can be read there.
 abbrev pub ReadsNumberIfAny : {T : Type 0} → (List ℕ → Option T) → Bool → List ℕ → ℕ → Option (T × ℕ) → Type 0
 ReadsNumberIfAny read feed text at (Some p) = (run : List ℕ) × TakesOne feed text at (lex.Num run) p.1 × (read run ≡ Some p.0)
-ReadsNumberIfAny read feed text at None = Legible feed text at → IsErr (number_at read (left feed text at))
+ReadsNumberIfAny read feed text at None = Legible feed text at → IsErr (number_at read message.X (left feed text at))

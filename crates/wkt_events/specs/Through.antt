@@ -1,6 +1,6 @@
 -- What a pen that is lent has written.
 use Rattle.std.specs.Prelude.{◌≡◌, ℕ, List, length, Option, Bool}
-use Rattle.wkt_read.specs.Parser.Reading.{value_at}
+use Rattle.wkt_read.specs.Parser.Outcome.{geometry_at as value_at}
 use Rattle.wkt_events.specs.Events.{events}
 use Rattle.wkt_events.specs.Walking.{Gives, Refuses}
 use Rattle.wkt_events.specs.LongTexts.{HasLongText}

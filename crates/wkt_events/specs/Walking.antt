@@ -2,11 +2,11 @@
 use Rattle.std.specs.Prelude.{◌≡◌, ℕ, suc, zero, ◌≤◌, List, [], ◌∷◌, length, Option, Some, None, Ok, Bool, if◌then◌else◌, IsUtf8}
 use Rattle.std.specs.Result.{IsErr}
 use Rattle.wkt_num.specs.Bytes as lex
-use Rattle.wkt_num.specs.Bytes.{Lexeme}
 use Rattle.wkt_access.specs.declared.dimensions.Dimension.{Dimension}
 use Rattle.wkt_access.specs.Values.{Value}
 use Rattle.wkt_types.specs.declared.geometry_type.GeometryType.{GeometryType}
-use Rattle.wkt_read.specs.Parser.Reading.{Reader, ◌>>=◌, with_front, is_empty_word, closed, many_at, list_at, number_at, body_at, value_at}
+use Rattle.wkt_read.specs.Parser.Outcome.{Reader, ◌>>=◌, with_front, closed, many_at, list_at, number_at, body_at, geometry_at as value_at, is_empty_word}
+use Rattle.wkt_read.specs.declared.messages.Message.TheVariants as message
 use Rattle.wkt_events.specs.declared.builder.At.{At}
 use Rattle.wkt_events.specs.Left.{line_of, left, TakesOne, Goes}
 use Rattle.wkt_events.specs.Events.{Event}
@@ -43,21 +43,21 @@ module _ {N S : Type 0} (maker : Maker N S) (feed : Bool) (text : List ℕ) wher
 
   abbrev pub GivesNumberIfAny : (List ℕ → Option N) → ℕ → ℕ → ℕ → S → Option (At S) → Type 0
   GivesNumberIfAny read place count from start (Some a) = GivesNumber read place count from start a.at a.made
-  GivesNumberIfAny read place count from start None = Legible feed text from → IsErr (number_at read (left feed text from))
+  GivesNumberIfAny read place count from start None = Legible feed text from → IsErr (number_at read message.X (left feed text from))
 
 module _ {N : Type 0} (read : List ℕ → Option N) where
-  -- So many numbers, as a coordinate of a dimension has them.
+  -- So many numbers, as a coordinate of a dimension has them, but for the message.
   unfoldable pub numbers_at : ℕ → Reader (List N)
   numbers_at zero ls = Ok ([], ls)
-  numbers_at (suc n) ls = number_at read ls >>= λ x. with_front (x.0 ∷ []) (numbers_at n x.1)
+  numbers_at (suc n) ls = number_at read message.X ls >>= λ x. with_front (x.0 ∷ []) (numbers_at n x.1)
 
   -- A line of several, or a ring.
   abbrev pub line_at : ℕ → ℕ → Reader (List (List N))
-  line_at count fuel = list_at (numbers_at count) fuel
+  line_at count fuel = list_at read (numbers_at count) fuel
 
   -- A polygon of several.
   abbrev pub rings_at : ℕ → ℕ → Reader (List (List (List N)))
-  rings_at count fuel = list_at (line_at count fuel) fuel
+  rings_at count fuel = list_at read (line_at count fuel) fuel
 
   -- A coordinate that is there.
   abbrev pub some_at : ℕ → Reader (Option (List N))
@@ -66,7 +66,7 @@ module _ {N : Type 0} (read : List ℕ → Option N) where
   -- A member of a multipoint by its first lexeme, as `member_at` of a dimension.
   unfoldable pub point_at : ℕ → Reader (Option (List N))
   point_at count [] = some_at count []
-  point_at count (lex.Open ∷ rest) = closed (some_at count rest)
+  point_at count (lex.Open ∷ rest) = closed read (some_at count rest)
   point_at count (lex.Word run ∷ rest) = if is_empty_word run then Ok (None, rest) else some_at count (lex.Word run ∷ rest)
   point_at count (lex.Close ∷ rest) = some_at count (lex.Close ∷ rest)
   point_at count (lex.Comma ∷ rest) = some_at count (lex.Comma ∷ rest)
@@ -76,6 +76,6 @@ module _ {N : Type 0} (read : List ℕ → Option N) where
   abbrev pub inside_at : GeometryType → Dimension → ℕ → Reader (Value N)
   inside_at k d fuel ls = body_at read (value_at read fuel) fuel k d (lex.Open ∷ ls)
 
--- Items up to the parenthesis that closes them.
-abbrev pub items_at : {A : Type 0} → (ℕ → Reader A) → ℕ → Reader (List A)
-items_at item fuel ls = closed (many_at (item fuel) fuel ls)
+  -- Items up to the parenthesis that closes them.
+  abbrev pub items_at : {A : Type 0} → (ℕ → Reader A) → ℕ → Reader (List A)
+  items_at item fuel ls = closed read (many_at read (item fuel) fuel ls)

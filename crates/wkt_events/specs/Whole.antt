@@ -5,7 +5,8 @@ use Rattle.wkt_access.specs.declared.dimensions.Dimension.{Dimension}
 use Rattle.wkt_access.specs.Values.{Value}
 use Rattle.wkt_types.specs.declared.geometry_type.GeometryType.{GeometryType}
 use Rattle.wkt_types.specs.declared.geometry_type.GeometryType.TheVariants as kind
-use Rattle.wkt_read.specs.Parser.Reading.{Reading, ◌>>=◌, with_front, closed, members_read, tail_at, many_at, value_at}
+use Rattle.wkt_read.specs.Parser.Outcome.{Outcome, ◌>>=◌, with_front, tail_at, many_at, geometry_at as value_at}
+use Rattle.wkt_read.specs.Parser.Frames.{shut_at}
 use Rattle.wkt_events.specs.declared.builder.At.{At}
 use Rattle.wkt_events.specs.declared.builder.Part.TheVariants as part
 use Rattle.wkt_events.specs.declared.walk.Started.{Started}
@@ -39,10 +40,6 @@ comma_made = Event.Comma part.Geometry ∷ []
 abbrev pub closing_made : {N : Type 0} → List (Event N)
 closing_made = Event.Close part.Geometry ∷ []
 
--- The members of a collection, as they are read, with what is after them and the closing place: the collection.
-abbrev pub shut_at : {N : Type 0} → Dimension → Reading (List (Value N)) → Reading (Value N)
-shut_at d body = closed body >>= λ p. Ok (Value.collection d (members_read p.0), p.1)
-
 module _ {N : Type 0} (read : List ℕ → Option N) where
   -- what was made of members of a collection, each with the comma behind it
   abbrev pub members_made : List (Value N) → List (Event N)
@@ -50,14 +47,14 @@ module _ {N : Type 0} (read : List ℕ → Option N) where
   members_made (v ∷ vs) = events v ++ (comma_made ++ members_made vs)
 
   -- what an open collection is read as, by what is read at the place of its next member
-  abbrev pub put_in : ℕ → ℕ → Dimension → List (Value N) → Reading (Value N) → Reading (Value N)
-  put_in n m d vs now = shut_at d (now >>= λ p. with_front (vs ++ (p.0 ∷ [])) (tail_at (value_at read n) m p.1))
+  abbrev pub put_in : ℕ → ℕ → Dimension → List (Value N) → Outcome (Value N) → Outcome (Value N)
+  put_in n m d vs now = shut_at read d (now >>= λ p. with_front (vs ++ (p.0 ∷ [])) (tail_at read (value_at read n) m p.1))
 
   -- So many collections are open, the last opened first: what is read where the first of them begins, by what is read at the place of the next member of the last; and what was made of all of them. At most k lexemes are left.
-  abbrev pub Nest : ℕ → ℕ → Reading (Value N) → Reading (Value N) → List (Event N) → Type 0
+  abbrev pub Nest : ℕ → ℕ → Outcome (Value N) → Outcome (Value N) → List (Event N) → Type 0
   Nest zero k whole now made = (whole ≡ now) × (made ≡ [])
   Nest (suc depth) k whole now made =
-      (d : Dimension) × (vs : List (Value N)) × (n : ℕ) × (m : ℕ) × (inner : Reading (Value N)) × (before : List (Event N))
+      (d : Dimension) × (vs : List (Value N)) × (n : ℕ) × (m : ℕ) × (inner : Outcome (Value N)) × (before : List (Event N))
       × (k ≤ n) × (k ≤ m) × (inner ≡ put_in n m d vs now) × (made ≡ before ++ (opening_made d ++ members_made vs)) × Nest depth k whole inner before
 
 module _ {N S : Type 0} (maker : Maker N S) (read : List ℕ → Option N) (feed : Bool) (text : List ℕ) where
@@ -66,7 +63,7 @@ module _ {N S : Type 0} (maker : Maker N S) (read : List ℕ → Option N) (feed
     pub dimension : Dimension
     pub goes : Goes feed text from to
     pub reads : (fuel : ℕ) → length (left feed text from) ≤ fuel
-        → (n : ℕ) × (length (left feed text to) ≤ n) × (value_at read fuel (left feed text from) ≡ shut_at dimension (many_at (value_at read n) n (left feed text to)))
+        → (n : ℕ) × (length (left feed text to) ≤ n) × (value_at read fuel (left feed text from) ≡ shut_at read dimension (many_at read (value_at read n) n (left feed text to)))
     pub makes : maker.makes start (opening_made dimension) end
 
   -- A geometry stands there, or a collection is opened.
@@ -84,7 +81,7 @@ module _ {N S : Type 0} (maker : Maker N S) (read : List ℕ → Option N) (feed
   StartsAt k o from start None = Refuses feed text (value_at read) from
 
   -- In so many open collections a geometry is to come; before all of them stands `start`.
-  pub record Before (depth : ℕ) (whole : Reading (Value N)) (start : S) (at : ℕ) (here : S) : Type 0 where
+  pub record Before (depth : ℕ) (whole : Outcome (Value N)) (start : S) (at : ℕ) (here : S) : Type 0 where
     pub fuel : ℕ
     pub enough : length (left feed text at) ≤ fuel
     pub made : List (Event N)
@@ -92,18 +89,18 @@ module _ {N S : Type 0} (maker : Maker N S) (read : List ℕ → Option N) (feed
     pub makes : maker.makes start made here
 
   -- In so many open collections a geometry stands before.
-  pub record Behind (depth : ℕ) (whole : Reading (Value N)) (start : S) (at : ℕ) (here : S) : Type 0 where
+  pub record Behind (depth : ℕ) (whole : Outcome (Value N)) (start : S) (at : ℕ) (here : S) : Type 0 where
     pub value : Value N
     pub made : List (Event N)
     pub nest : Nest read depth (length (left feed text at)) whole (Ok (value, left feed text at)) made
     pub makes : maker.makes start (made ++ events value) here
 
   -- All collections are closed, or a comma was taken.
-  abbrev pub Ended : ℕ → Reading (Value N) → S → ℕ → S → Type 0
+  abbrev pub Ended : ℕ → Outcome (Value N) → S → ℕ → S → Type 0
   Ended zero whole start at here = Behind zero whole start at here
   Ended (suc depth) whole start at here = Before (suc depth) whole start at here
 
-  abbrev pub EndsIfAny : Reading (Value N) → S → ℕ → Option (Ends S) → Type 0
+  abbrev pub EndsIfAny : Outcome (Value N) → S → ℕ → Option (Ends S) → Type 0
   EndsIfAny whole start at (Some e) = Ended e.depth whole start e.after.at e.after.made
   EndsIfAny whole start at None = Legible feed text at → IsErr whole
 

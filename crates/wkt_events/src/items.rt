@@ -12,7 +12,7 @@ use wkt_num::WktNum;
 /// What stands between the commas of a list.
 pub(crate) trait Item<T: WktNum, B: Builder<T> + Drop> {
     ghost use Rattle.std.specs.Prelude.{List, Bool};
-    ghost use Rattle.wkt_read.specs.Parser.Reading.{Reader};
+    ghost use Rattle.wkt_read.specs.Parser.Outcome.{Reader};
     ghost use Rattle.wkt_events.specs.Events.{Event};
     ghost use Rattle.wkt_events.specs.declared.builder.Part.{Part as PartOf};
 
@@ -58,7 +58,7 @@ pub(crate) fn items<T: WktNum, B: Builder<T> + Drop, X: Item<T, B>, const FEED_E
     requires feed { X.feed ≡ FEED_ENDS }
     requires inside { a.at ≤ length text.now }
     requires room { HasRoom B.maker text.now 0 a.at a.made }
-    ensures gives { GivesIfAny B.maker FEED_ENDS text.now (items_at X.item_at) (inner part X.between X.events) a.at a.made result }
+    ensures gives { GivesIfAny B.maker FEED_ENDS text.now (items_at T.read X.item_at) (inner part X.between X.events) a.at a.made result }
     ensures room { IfSome result (λ r. HasRoom B.maker text.now 0 r.at r.made) }
 {
     let mut a = a;

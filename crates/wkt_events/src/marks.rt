@@ -1,7 +1,7 @@
 //! Marks and EMPTY, as they come.
 ghost use Rattle.std.specs.Prelude.{◌≡◌, ◌≢◌, ℕ, ◌≤◌, [], ◌∷◌, length, get_or, Bool, true, false, IfSome};
 ghost use Rattle.wkt_num.specs.Bytes.{White};
-ghost use Rattle.wkt_read.specs.Parser.Reading.{closing_at, is_empty_word};
+ghost use Rattle.wkt_read.specs.Parser.Outcome.{closing_at, is_empty_word};
 ghost use Rattle.wkt_events.specs.Left.{left, class_in};
 ghost use Rattle.wkt_events.specs.Events.{Event};
 ghost use Rattle.wkt_events.specs.Makers.{HasRoom};
@@ -22,7 +22,7 @@ pub(crate) fn close<T: WktNum, B: Builder<T> + Drop, const FEED_ENDS: bool>(
 ) -> Option<At<B>>
     requires inside { a.at ≤ length text.now }
     requires room { HasRoom B.maker text.now 1 a.at a.made }
-    ensures gives { GivesIfAny B.maker FEED_ENDS text.now (λ _. closing_at) (λ _. Event.Close part ∷ []) a.at a.made result }
+    ensures gives { GivesIfAny B.maker FEED_ENDS text.now (λ _. closing_at T.read) (λ _. Event.Close part ∷ []) a.at a.made result }
     ensures room { IfSome result (λ r. HasRoom B.maker text.now 0 r.at r.made) }
 {
     let next = take::<FEED_ENDS>(b')', text, a.at)?;
@@ -41,7 +41,7 @@ pub(crate) fn empty<T: WktNum, B: Builder<T> + Drop, const FEED_ENDS: bool>(
 ) -> Option<At<B>>
     requires inside { a.at ≤ length text.now }
     requires room { HasRoom B.maker text.now 0 a.at a.made }
-    ensures gives { GivesIfAny B.maker FEED_ENDS text.now (λ _. empty_at) (λ _. Event.Empty part ∷ []) a.at a.made result }
+    ensures gives { GivesIfAny B.maker FEED_ENDS text.now (λ _. empty_at T.read) (λ _. Event.Empty part ∷ []) a.at a.made result }
     ensures room { IfSome result (λ r. HasRoom B.maker text.now 0 r.at r.made) }
 {
     let next = empty_word::<FEED_ENDS>(text, a.at)?;

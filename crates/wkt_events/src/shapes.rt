@@ -90,7 +90,7 @@ fn rings<T: WktNum, B: Builder<T> + Drop, const N: usize, const FEED_ENDS: bool>
     requires room { HasRoom B.maker text.now 0 a.at a.made }
     requires opened { (start : B) × IsOpened B.maker before part start a.made }
     ensures gives { (start : B) → IsOpened B.maker before part start a.made
-        → GivesIfAny B.maker FEED_ENDS text.now (items_at (line_at T.read N)) (event.polygon part N) a.at start result }
+        → GivesIfAny B.maker FEED_ENDS text.now (items_at T.read (line_at T.read N)) (event.polygon part N) a.at start result }
     ensures room { IfSome result (λ r. HasRoom B.maker text.now 0 r.at r.made) }
 {
     let some = take::<FEED_ENDS>(b'(', text, a.at).is_some();

@@ -3,7 +3,7 @@ ghost use Rattle.std.specs.Prelude.{◌≡◌, ◌<◌, ◌≤◌, length, IfSom
 ghost use Rattle.wkt_access.specs.Values.{Value};
 ghost use Rattle.wkt_access.specs.declared.dimensions.Dimension.TheVariants as dim_of;
 ghost use Rattle.wkt_types.specs.declared.geometry_type.GeometryType.TheVariants as kind_of;
-ghost use Rattle.wkt_read.specs.Parser.Reading.{Reading, value_at};
+ghost use Rattle.wkt_read.specs.Parser.Outcome.{Outcome, geometry_at as value_at};
 ghost use Rattle.wkt_events.specs.Events.{events};
 ghost use Rattle.wkt_events.specs.Heads.{GivesHeader};
 ghost use Rattle.wkt_events.specs.Makers.{HasRoom};
@@ -221,7 +221,7 @@ fn after_geometry<T: WktNum, B: Builder<T> + Drop, const FEED_ENDS: bool>(
 ) -> Option<Ends<B>>
     requires inside { a.at ≤ length text.now }
     requires room { HasRoom B.maker text.now 0 a.at a.made }
-    ensures ends { (whole : Reading (Value T)) (start : B) → Behind B.maker T.read FEED_ENDS text.now depth whole start a.at a.made → EndsIfAny B.maker T.read FEED_ENDS text.now whole start a.at result }
+    ensures ends { (whole : Outcome (Value T)) (start : B) → Behind B.maker T.read FEED_ENDS text.now depth whole start a.at a.made → EndsIfAny B.maker T.read FEED_ENDS text.now whole start a.at result }
     ensures rests { RestsIfAny FEED_ENDS text.now depth a.at result }
     ensures room { IfSome result (λ e. HasRoom B.maker text.now 0 e.after.at e.after.made) }
 {

@@ -1,5 +1,5 @@
 -- Where a walk is in a text, and what it finds there.
-use Rattle.std.proofs.Common.{◌≡◌, ℕ, ◌+◌, ◌≤◌, ◌<◌, List, [], ◌∷◌, ◌++◌, length, length-append, refl, ap, ◌∙◌, sym, subst, append_assoc, append-nil, arith, Option, Some, None, Ok, Err, Bool, true, false, inl, inr}
+use Rattle.std.proofs.Common.{◌≡◌, ℕ, ◌+◌, ◌≤◌, ◌<◌, List, [], ◌∷◌, ◌++◌, length, length-append, refl, ap, ◌∙◌, sym, subst, append_assoc, append-nil, arith, Option, Some, None, Err, Bool, true, false, inl, inr}
 use Rattle.std.specs.Prelude.{◌↔◌}
 use Rattle.wkt_num.specs.Bytes.{Lexeme}
 use Rattle.wkt_read.specs.Begun.{BegunGeometry, IsDead, NoneBegins}
@@ -23,21 +23,15 @@ use Rattle.wkt_explain.specs.Walks.{Shows, start, next, is_over, expected_at}
 use Rattle.wkt_explain.specs.Table.{told, before_place, IsToldAt}
 use Rattle.wkt_explain.specs.White.{IsPastWhite}
 use Rattle.wkt_explain.proofs.Named.{Agrees, agrees, sees}
-use Rattle.wkt_explain.proofs.Spots.{value_s}
-use Rattle.wkt_explain.proofs.Marks.{Mark, Fault, forget, forget_value, value_m}
-use Rattle.wkt_explain.proofs.Marked.{refused_with}
+use Rattle.wkt_explain.proofs.Marks.{Mark, Fault, value_m}
 use Rattle.wkt_explain.proofs.Steps.{Stands, Goes, stop_at, step, ends_at, over, begins}
 use Rattle.wkt_explain.proofs.Counts.{parens, counts}
-use Rattle.wkt_explain.proofs.Refusals.{none, too_much, too_short, read_whole, no_front, lexemes_append, end_last, too_much_at, too_short_at, front_at}
+use Rattle.wkt_explain.proofs.Refusals.{none, refused_with, too_much, too_short, read_whole, no_front, lexemes_append, end_last, too_much_at, too_short_at, front_at}
 
 module _ {N : Type 0} (read : List ℕ → Option N) where
   -- a geometry that is read off these lexemes
   abbrev pub whole : List Lexeme → Mark
   whole ls = value_m read (length ls) expected.Kind ls
-
-  -- the same without messages
-  plain_whole : (ls : List Lexeme) (m : Mark) → whole ls ≡ m → value_s read (length ls) ls ≡ forget m
-  plain_whole ls m e = sym (forget_value read (length ls) expected.Kind ls) ∙ ap forget e
 
   -- a walk over these lexemes is at its place, whatever follows
   abbrev pub IsAfter : List Lexeme → Walk → Type 0
@@ -48,16 +42,16 @@ module _ {N : Type 0} (read : List ℕ → Option N) where
   alive before l v true o h dead =
       let ls = before ++ (l ∷ []) in
       let ok = over read v.place v.depth o [] (whole ls) h in
-      let (x, f, split, g) = read_whole read (length ls) ls [] (omega arith) (plain_whole ls (Ok []) ok) in
+      let (x, f, split, g) = read_whole read (length ls) ls [] (omega arith) ok in
       dead.none_begins f [] x split g
   alive before l v false o h dead =
       let ls = before ++ (l ∷ []) in
-      dead.not_begun (too_short read (length ls) ls (omega arith) (plain_whole ls _ (ends_at read v.place v.depth o (whole ls) h)))
+      dead.not_begun (too_short read (length ls) ls (stop_at read v.place v.depth []).1 (omega arith) (ends_at read v.place v.depth o (whole ls) h))
 
   could_stand : (before : List Lexeme) (l : Lexeme) (p : Place) (depth : ℕ) (o : Option Walk) (P : Type 0) → Agrees o P → Goes read o (stop_at read p depth (l ∷ [])) [] (whole (before ++ (l ∷ []))) → P ↔ (IsDead read (before ++ (l ∷ [])) → ⊥)
   could_stand before l p depth None P never bad =
       let ls = before ++ (l ∷ []) in
-      (λ p. absurd (never p), λ h. absurd (h (too_much read (length ls) ls before [] l (omega arith) refl (plain_whole ls _ bad)).dead))
+      (λ p. absurd (never p), λ h. absurd (h (too_much read (length ls) ls before [] l (stop_at read p depth (l ∷ [])).1 (omega arith) refl bad).dead))
   could_stand before l p depth (Some v) P holds h = (λ p. alive before l v (is_over v) refl h, λ q. holds)
 
   -- what is expected at a place is what can stand there
@@ -103,12 +97,12 @@ module _ {N : Type 0} (read : List ℕ → Option N) where
     all = lexemes_of (placed text)
 
     refused : (ls : List Lexeme) (bad : Fault) → all ≡ ls → whole ls ≡ Err bad → HasNoFront read text
-    refused ls bad e h = no_front read text all (placed-split text) (subst (NoneBegins read) (sym e) (none read (length ls) ls bad.0 (omega arith) (plain_whole ls _ h)))
+    refused ls bad e h = no_front read text all (placed-split text) (subst (NoneBegins read) (sym e) (none read (length ls) ls bad (omega arith) h))
 
     -- the message of the readers, over all lexemes of the text
     refused_message : (ls : List Lexeme) (bad : Fault) → all ≡ ls → whole ls ≡ Err bad → (k : Message) → k ≡ bad.1.0 → IsRefusedWith read text k
     refused_message ls bad e h k is =
-        let answer : value_at read (length ls) false ls ≡ Err bad.1 = refused_with read (length ls) ls bad h in
+        let answer : value_at read (length ls) false ls ≡ Err bad.1 = refused_with read (length ls) ls bad (omega arith) h in
         let here : value_at read (length all) false all ≡ Err bad.1 = subst (λ l. value_at read (length l) false l ≡ Err bad.1) (sym e) answer in
         (all, bad.1.1, placed-split text, here ∙ ap (λ m. Err (m, bad.1.1)) (sym is))
 
@@ -166,7 +160,7 @@ module _ {N : Type 0} (read : List ℕ → Option N) where
 
       abbrev refused_there : (to : ℕ) → None ≡ next w s → IsPastWhite text end to → (m : Expected) → m ≡ expected_at w.place w.depth → (h : IsRefusedAt read text to x.end m) × (before_place read h ≡ before)
       refused_there to is past m em =
-          let dead = too_much read (length (before ++ bad)) (before ++ bad) before (lexemes_of later) x.lexeme (omega arith) refl (plain_whole (before ++ bad) _ (stopped is)) in
+          let dead = too_much read (length (before ++ bad)) (before ++ bad) before (lexemes_of later) x.lexeme (stop_at read w.place w.depth bad).1 (omega arith) refl (stopped is) in
           (inl (too_much_at read text b.given later x end to (subst (AreEnds text) split_at (placed-ends text)) b.ends past dead m (expected_after before w b.stands goes m em)), refl)
 
       pub at_fault : (to : ℕ) → None ≡ next w s → IsPastWhite text end to → (m : Expected) → m ≡ expected_at w.place w.depth → IsRefusedAt read text to x.end m
@@ -199,8 +193,8 @@ module _ {N : Type 0} (read : List ℕ → Option N) where
       abbrev refused_end : (to : ℕ) → IsPastWhite text end to → (m : Expected) → m ≡ expected_at w.place w.depth → (h : IsRefusedAt read text to to m) × (before_place read h ≡ lexemes_of b.given)
       refused_end to past m em =
           let ls : List Lexeme = lexemes_of b.given ++ [] in
-          let begun = subst (BegunGeometry read) (append-nil (lexemes_of b.given)) (too_short read (length ls) ls (omega arith) (plain_whole ls _ stopped_end)) in
-          let nothing = subst (NoneBegins read) (append-nil (lexemes_of b.given)) (none read (length ls) ls [] (omega arith) (plain_whole ls _ stopped_end)) in
+          let begun = subst (BegunGeometry read) (append-nil (lexemes_of b.given)) (too_short read (length ls) ls (stop_at read w.place w.depth []).1 (omega arith) stopped_end) in
+          let nothing = subst (NoneBegins read) (append-nil (lexemes_of b.given)) (none read (length ls) ls (stop_at read w.place w.depth []) (omega arith) stopped_end) in
           (inr (too_short_at read text b.given end to (subst (AreEnds text) split_end (placed-ends text)) (subst (λ p. IsSplit text (lexemes_of p)) split_end (placed-split text)) b.ends past begun nothing m (expected_after (lexemes_of b.given) w b.stands goes m em)), refl)
 
       pub at_end : (to : ℕ) → IsPastWhite text end to → (m : Expected) → m ≡ expected_at w.place w.depth → IsRefusedAt read text to to m
@@ -221,7 +215,7 @@ module _ {N : Type 0} (read : List ℕ → Option N) where
     at_over left end w b done =
         let ls : List Lexeme = lexemes_of b.given ++ lexemes_of left in
         let ok = over read w.place w.depth done (lexemes_of left) (whole ls) (b.stands (lexemes_of left)) in
-        let (v, f, split, g) = read_whole read (length ls) ls (lexemes_of left) (omega arith) (plain_whole ls _ ok) in
+        let (v, f, split, g) = read_whole read (length ls) ls (lexemes_of left) (omega arith) ok in
         front_at read text b.given left (subst (AreEnds text) b.split (placed-ends text)) v f (lexemes_append b.given left ∙ split) g
 
 -- the same text and place

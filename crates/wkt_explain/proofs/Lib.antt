@@ -1,4 +1,3 @@
-mod Spots
 mod Marks
 mod Marked
 mod Steps

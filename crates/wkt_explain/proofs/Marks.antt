@@ -1,11 +1,11 @@
 -- Readings without what they read: the lexemes after a whole part, or those from the one that is too much on, with the message of a refusal and the lexemes that it leaves.
-use Rattle.std.proofs.Common.{◌≡◌, ℕ, zero, suc, List, [], ◌∷◌, refl, ap, ◌∙◌, Option, Some, None, Result, Ok, Err, Bool, true, false, cond}
+use Rattle.std.proofs.Common.{◌≡◌, ℕ, zero, suc, List, [], ◌∷◌, Option, Some, None, Result, Ok, Err, cond}
 use Rattle.wkt_num.specs.Bytes.{Lexeme, Open, Close, Comma, Word, Num}
 use Rattle.wkt_access.specs.declared.dimensions.Dimension.{Dimension}
 use Rattle.wkt_access.specs.declared.dimensions.Dimension.TheVariants.{XY}
 use Rattle.wkt_types.specs.declared.geometry_type.GeometryType.{GeometryType}
 use Rattle.wkt_read.specs.Grammar.{KindWord, kind_word, dim_word}
-use Rattle.wkt_read.specs.Parser.Reading.{is_empty_word}
+use Rattle.wkt_read.specs.Parser.Outcome.{is_empty_word}
 use Rattle.wkt_read.specs.declared.messages.Message.{Message}
 use Rattle.wkt_read.specs.declared.messages.Message.TheVariants as message
 use Rattle.wkt_explain.specs.declared.expected.Expected.{Expected}
@@ -14,7 +14,6 @@ use Rattle.wkt_explain.specs.declared.shape.Part.{Part}
 use Rattle.wkt_explain.specs.declared.shape.Part.TheVariants as part
 use Rattle.wkt_explain.specs.Walks.{part_of, numbers_after, number_expected}
 use Rattle.wkt_explain.specs.Table.{at_end, at_place, left_at, closing}
-use Rattle.wkt_explain.proofs.Spots.{Spot, thence, close_s, opened_s, tail_s, rest_s, items_s, number_in_s, number_s, numbers_s, coord_s, one_s, list_s, member_s, part_s, worded_s, dimension_s, joined_s, kind_s, geometry_s, value_s}
 
 -- the lexemes from the one that is too much on; the message, and the lexemes that are left
 abbrev pub Fault : Type 0
@@ -22,10 +21,6 @@ Fault = List Lexeme × (Message × List Lexeme)
 
 abbrev pub Mark : Type 0
 Mark = Result (List Lexeme) Fault
-
-abbrev pub forget : Mark → Spot
-forget (Ok ls) = Ok ls
-forget (Err e) = Err e.0
 
 abbrev pub then_m : Mark → (List Lexeme → Mark) → Mark
 then_m (Ok ls) f = f ls
@@ -173,140 +168,3 @@ module _ {N : Type 0} (read : List ℕ → Option N) where
   abbrev pub value_m : ℕ → Expected → List Lexeme → Mark
   value_m zero e ls = Err ([], (at_end e, ls))
   value_m (suc n) e ls = geometry_m (value_m n expected.Member) e n ls
-
-  -- without the messages
-  forget_then : (m : Mark) (s : Spot) (f : List Lexeme → Mark) (g : List Lexeme → Spot) → forget m ≡ s → ((ls : List Lexeme) → forget (f ls) ≡ g ls) → forget (then_m m f) ≡ thence s g
-  forget_then (Ok ls) s f g e h = h ls ∙ ap (λ s. thence s g) e
-  forget_then (Err x) s f g e h = ap (λ s. thence s g) e
-
-  forget_ok : (m : Mark) (s : Spot) → forget m ≡ s → forget (then_m m (λ ls. Ok ls)) ≡ s
-  forget_ok (Ok ls) s e = e
-  forget_ok (Err x) s e = e
-
-  forget_close : (ls : List Lexeme) → forget (close_m ls) ≡ close_s ls
-  forget_close [] = refl
-  forget_close (Close ∷ r) = refl
-  forget_close (Open ∷ r) = refl
-  forget_close (Comma ∷ r) = refl
-  forget_close (Word w ∷ r) = refl
-  forget_close (Num w ∷ r) = refl
-
-  forget_shut : (m : Mark) (s : Spot) → forget m ≡ s → forget (shut m) ≡ thence s close_s
-  forget_shut (Ok ls) s e = forget_close ls ∙ ap (λ s. thence s close_s) e
-  forget_shut (Err x) s e = ap (λ s. thence s close_s) e
-
-  forget_empty : (b : Bool) (e : Expected) (w : List ℕ) (r : List Lexeme) → forget (cond b (Ok r) (Err (fault e (Word w ∷ r)))) ≡ cond b (Ok r) (Err (Word w ∷ r))
-  forget_empty true e w r = refl
-  forget_empty false e w r = refl
-
-  forget_opened : (b : List Lexeme → Mark) (c : List Lexeme → Spot) → ((r : List Lexeme) → forget (b r) ≡ c r) → (ls : List Lexeme) → forget (opened_m b ls) ≡ opened_s c ls
-  forget_opened b c h [] = refl
-  forget_opened b c h (Open ∷ r) = h r
-  forget_opened b c h (Word w ∷ r) = forget_empty (is_empty_word w) expected.Opening w r
-  forget_opened b c h (Close ∷ r) = refl
-  forget_opened b c h (Comma ∷ r) = refl
-  forget_opened b c h (Num w ∷ r) = refl
-
-  module _ (item : List Lexeme → Mark) (item_0 : List Lexeme → Spot) (same : (ls : List Lexeme) → forget (item ls) ≡ item_0 ls) where
-    forget_tail : (n : ℕ) (ls : List Lexeme) → forget (tail_m item n ls) ≡ tail_s item_0 n ls
-    forget_tail zero [] = refl
-    forget_tail (suc n) [] = refl
-    forget_tail zero (Comma ∷ r) = refl
-    forget_tail (suc n) (Comma ∷ r) = forget_then (item r) (item_0 r) (tail_m item n) (tail_s item_0 n) (same r) (forget_tail n)
-    forget_tail zero (Open ∷ r) = refl
-    forget_tail (suc n) (Open ∷ r) = refl
-    forget_tail zero (Close ∷ r) = refl
-    forget_tail (suc n) (Close ∷ r) = refl
-    forget_tail zero (Word w ∷ r) = refl
-    forget_tail (suc n) (Word w ∷ r) = refl
-    forget_tail zero (Num w ∷ r) = refl
-    forget_tail (suc n) (Num w ∷ r) = refl
-
-    thence_rest : (s : Spot) (n : ℕ) → thence (thence s (tail_s item_0 n)) close_s ≡ thence s (rest_s item_0 n)
-    thence_rest (Ok ls) n = refl
-    thence_rest (Err ls) n = refl
-
-    forget_rest : (n : ℕ) (m : Mark) (s : Spot) → forget m ≡ s → forget (shut (then_m m (tail_m item n))) ≡ thence s (rest_s item_0 n)
-    forget_rest n m s e = forget_shut (then_m m (tail_m item n)) (thence s (tail_s item_0 n)) (forget_then m s (tail_m item n) (tail_s item_0 n) e (forget_tail n)) ∙ thence_rest s n
-
-    forget_items : (n : ℕ) (ls : List Lexeme) → forget (items_m item n ls) ≡ items_s item_0 n ls
-    forget_items n = forget_opened (λ r. shut (then_m (item r) (tail_m item n))) (λ r. thence (item_0 r) (rest_s item_0 n)) (λ r. forget_rest n (item r) (item_0 r) (same r))
-
-  forget_number_in : (o : Option N) (e : Expected) (run : List ℕ) (r : List Lexeme) → forget (number_in_m o e run r) ≡ number_in_s read o run r
-  forget_number_in (Some x) e run r = refl
-  forget_number_in None e run r = refl
-
-  forget_number : (e : Expected) (ls : List Lexeme) → forget (number_m e ls) ≡ number_s read ls
-  forget_number e [] = refl
-  forget_number e (Num run ∷ r) = forget_number_in (read run) e run r
-  forget_number e (Open ∷ r) = refl
-  forget_number e (Close ∷ r) = refl
-  forget_number e (Comma ∷ r) = refl
-  forget_number e (Word w ∷ r) = refl
-
-  forget_numbers : (d : Dimension) (n : ℕ) (ls : List Lexeme) → forget (numbers_m d n ls) ≡ numbers_s read n ls
-  forget_numbers d zero ls = refl
-  forget_numbers d (suc n) ls = forget_then (number_m (number_expected d n) ls) (number_s read ls) (numbers_m d n) (numbers_s read n) (forget_number (number_expected d n) ls) (forget_numbers d n)
-
-  forget_coord : (d : Dimension) (ls : List Lexeme) → forget (coord_m d ls) ≡ coord_s read d ls
-  forget_coord d = forget_numbers d (suc (numbers_after d))
-
-  forget_list : (inner : ℕ) (d : Dimension) (n : ℕ) (ls : List Lexeme) → forget (list_m inner d n ls) ≡ list_s read inner d n ls
-  forget_list zero d n ls = forget_coord d ls
-  forget_list (suc inner) d n ls = forget_items (list_m inner d n) (list_s read inner d n) (forget_list inner d n) n ls
-
-  forget_one : (d : Dimension) (ls : List Lexeme) → forget (one_m d ls) ≡ one_s read d ls
-  forget_one d ls = forget_shut (coord_m d ls) (coord_s read d ls) (forget_coord d ls)
-
-  forget_member : (d : Dimension) (ls : List Lexeme) → forget (member_m d ls) ≡ member_s read d ls
-  forget_member d [] = refl
-  forget_member d (Open ∷ r) = forget_one d r
-  forget_member d (Word w ∷ r) = forget_empty (is_empty_word w) expected.Point w r
-  forget_member d (Num run ∷ r) = forget_then (number_in_m (read run) expected.Point run r) (number_in_s read (read run) run r) (numbers_m d (numbers_after d)) (numbers_s read (numbers_after d)) (forget_number_in (read run) expected.Point run r) (forget_numbers d (numbers_after d))
-  forget_member d (Close ∷ r) = refl
-  forget_member d (Comma ∷ r) = refl
-
-  module _ (value : List Lexeme → Mark) (value_0 : List Lexeme → Spot) (same : (ls : List Lexeme) → forget (value ls) ≡ value_0 ls) where
-    forget_part : (p : Part) (d : Dimension) (n : ℕ) (ls : List Lexeme) → forget (part_m value p d n ls) ≡ part_s read value_0 p d n ls
-    forget_part part.Point d n = forget_opened _ _ (λ r. forget_shut (then_m (coord_m d r) (λ ls. Ok ls)) (coord_s read d r) (forget_ok (coord_m d r) (coord_s read d r) (forget_coord d r)))
-    forget_part part.Line d n = forget_items (coord_m d) (coord_s read d) (forget_coord d) n
-    forget_part part.Rings d n = forget_items (list_m 1 d n) (list_s read 1 d n) (forget_list 1 d n) n
-    forget_part part.Ring d n = forget_items (coord_m d) (coord_s read d) (forget_coord d) n
-    forget_part part.Members d n = forget_items (member_m d) (member_s read d) (forget_member d) n
-    forget_part part.Member d n = forget_opened _ _ (λ r. forget_shut (then_m (coord_m d r) (λ ls. Ok ls)) (coord_s read d r) (forget_ok (coord_m d r) (coord_s read d r) (forget_coord d r)))
-    forget_part part.Polygons d n = forget_items (list_m 2 d n) (list_s read 2 d n) (forget_list 2 d n) n
-    forget_part part.PolygonRings d n = forget_items (list_m 1 d n) (list_s read 1 d n) (forget_list 1 d n) n
-    forget_part part.PolygonRing d n = forget_items (coord_m d) (coord_s read d) (forget_coord d) n
-    forget_part part.Geometries d n = forget_items value value_0 same n
-
-    forget_worded : (o : Option Dimension) (k : GeometryType) (n : ℕ) (w : List ℕ) (r : List Lexeme) → forget (worded_m value o k n w r) ≡ worded_s read value_0 o k n w r
-    forget_worded (Some d) k n w r = forget_part (part_of k) d n r
-    forget_worded None k n w r = forget_empty (is_empty_word w) expected.Dimension w r
-
-    forget_dimension : (k : GeometryType) (n : ℕ) (ls : List Lexeme) → forget (dimension_m value k n ls) ≡ dimension_s read value_0 k n ls
-    forget_dimension k n [] = refl
-    forget_dimension k n (Word w ∷ r) = forget_worded (dim_word w) k n w r
-    forget_dimension k n (Open ∷ r) = forget_part (part_of k) XY n (Open ∷ r)
-    forget_dimension k n (Close ∷ r) = refl
-    forget_dimension k n (Comma ∷ r) = refl
-    forget_dimension k n (Num w ∷ r) = refl
-
-    forget_joined : (k : GeometryType) (j : Option Dimension) (n : ℕ) (r : List Lexeme) → forget (joined_m value k j n r) ≡ joined_s read value_0 k j n r
-    forget_joined k (Some d) n r = forget_part (part_of k) d n r
-    forget_joined k None n r = forget_dimension k n r
-
-    forget_kind : (o : Option KindWord) (e : Expected) (n : ℕ) (w : List ℕ) (r : List Lexeme) → forget (kind_m value o e n w r) ≡ kind_s read value_0 o n w r
-    forget_kind None e n w r = refl
-    forget_kind (Some k) e n w r = forget_joined k.kind k.joined n r
-
-    forget_geometry : (e : Expected) (n : ℕ) (ls : List Lexeme) → forget (geometry_m value e n ls) ≡ geometry_s read value_0 n ls
-    forget_geometry e n [] = refl
-    forget_geometry e n (Word w ∷ r) = forget_kind (kind_word w) e n w r
-    forget_geometry e n (Open ∷ r) = refl
-    forget_geometry e n (Close ∷ r) = refl
-    forget_geometry e n (Comma ∷ r) = refl
-    forget_geometry e n (Num w ∷ r) = refl
-
-  pub forget_value : (n : ℕ) (e : Expected) (ls : List Lexeme) → forget (value_m n e ls) ≡ value_s read n ls
-  forget_value zero e ls = refl
-  forget_value (suc n) e ls = forget_geometry (value_m n expected.Member) (value_s read n) (forget_value n expected.Member) e n ls

@@ -1,5 +1,5 @@
 -- A text is refused at one place at most, and has no front then.
-use Rattle.std.proofs.Common.{◌≡◌, ℕ, List, [], ◌∷◌, ◌++◌, length, length-append, sym, refl, ap, ◌∙◌, subst, append-nil, arith, Option, inl, inr}
+use Rattle.std.proofs.Common.{◌≡◌, ℕ, List, [], ◌∷◌, ◌++◌, length, length-append, sym, refl, ap, ◌∙◌, subst, append-nil, arith, Option, false, inl, inr}
 use Rattle.wkt_num.specs.Bytes.{Lexeme, White}
 use Rattle.wkt_read.specs.Lexemes.{Takes, IsSplit}
 use Rattle.wkt_read.specs.Grammar.{StandFor}
@@ -42,7 +42,7 @@ module _ {N : Type 0} (read : List ℕ → Option N) (text : List ℕ) where
       where
         go : (more : List Lexeme) → CutIn f later upto more → ⊥
         go more (Later u e1 e2) = t.dead.dead.none_begins f u v e1 g
-        go more (Earlier u e1 e2) = t.dead.dead.not_begun (beginnings read upto u (subst (BegunGeometry read) e1 (whole_begun (StandFor read) (BegunGeometry read) (value_part read 0).cuts f v g)))
+        go more (Earlier u e1 e2) = t.dead.dead.not_begun (beginnings read upto u (subst (BegunGeometry read) e1 (whole_begun (StandFor read) (BegunGeometry read) (value_part read 0 false).cuts f v g)))
 
   one_dead : (p q c d : List Lexeme) → IsJustDead read p → IsJustDead read q → p ++ c ≡ q ++ d → p ≡ q
   one_dead p q c d j k e = go (cut_in p c q d e)

@@ -1,103 +1,79 @@
 -- What the end of a walk says of the lexemes and of the text.
-use Rattle.std.proofs.Common.{◌≡◌, ℕ, suc, ◌+◌, ◌≤◌, List, [], ◌∷◌, ◌++◌, length, length-append, drop, refl, ap, ◌∙◌, sym, subst, append_assoc, append-nil, arith, Option, Ok, Err}
+use Rattle.std.proofs.Common.{◌≡◌, ℕ, ◌+◌, ◌≤◌, List, [], ◌∷◌, ◌++◌, length, length-append, drop, refl, ap, ◌∙◌, sym, subst, append_assoc, append-nil, arith, Option, Ok, Err, false}
 use Rattle.std.proofs.lemmas.List.{append_cancel_right, length-drop, drop_at}
 use Rattle.wkt_num.specs.Bytes.{Lexeme, White, AllWhite}
 use Rattle.wkt_access.specs.Values.{Value}
 use Rattle.wkt_read.specs.Lexemes.{StartsOther, Takes, IsSplit}
 use Rattle.wkt_read.specs.Grammar.{StandFor}
 use Rattle.wkt_read.specs.Front.{HasNoFront}
-use Rattle.wkt_read.specs.Begun.{BegunGeometry, IsDead, NoneBegins}
+use Rattle.wkt_read.specs.Begun.{BegunGeometry, NoneBegins}
 use Rattle.wkt_read.specs.Early.{IsJustDead}
 use Rattle.wkt_read.specs.Placed.{Placed, lexemes_of, end_after, AreEnds}
-use Rattle.wkt_read.specs.Parser.Reading.{Reading, value_at}
+use Rattle.wkt_read.specs.Parser.Outcome.{value_at}
+use Rattle.wkt_read.specs.declared.messages.Message.{Message}
 use Rattle.wkt_read.proofs.LawLemmas.Splits.{span, spells_first, first_append, first_other, end_other, split_one, takes_rest, takes_after}
 use Rattle.wkt_read.proofs.LawLemmas.Fronts.{taken_begin}
 use Rattle.wkt_read.proofs.LawLemmas.FrontEnds.{front-of-lexemes}
 use Rattle.wkt_read.proofs.LawLemmas.Stable.{prefix}
 use Rattle.wkt_read.proofs.ParserLemmas.Tells.{Telling, plain, value_f}
 use Rattle.wkt_read.proofs.ParserLemmas.Told.{Told}
-use Rattle.wkt_read.proofs.ParserLemmas.Reaches.{reach}
-use Rattle.wkt_read.proofs.ParserLemmas.Readings.{value_part, sound, complete}
-use Rattle.wkt_read.proofs.ParserLemmas.Early.{beginnings}
+use Rattle.wkt_read.proofs.ParserLemmas.Readings.{value_part, sound}
+use Rattle.wkt_read.proofs.ParserLemmas.Early.{dead, just}
 use Rattle.wkt_read.proofs.ParserLemmas.Free.{none_begins}
 use Rattle.wkt_explain.specs.declared.expected.Expected.{Expected}
 use Rattle.wkt_explain.specs.Explained.{HasFront, IsExpectedAfter, IsTooMuch, IsTooShort}
 use Rattle.wkt_explain.specs.White.{IsPastWhite}
-use Rattle.wkt_explain.proofs.Spots.{spot, value_s, spot_value}
+use Rattle.wkt_explain.specs.declared.expected.Expected.TheVariants as expected
+use Rattle.wkt_explain.proofs.Marks.{Fault, value_m}
+use Rattle.wkt_explain.proofs.Marked.{mark, mark_value}
 
 module _ {N : Type 0} (read : List ℕ → Option N) where
   abbrev pub Begun : List Lexeme → Type 0
   Begun = BegunGeometry read
 
-  dead : (n : ℕ) (pre after ls left : List Lexeme) (x : Lexeme) → ls ≡ pre ++ (x ∷ after) → value_f read n ls ≡ Err (x ∷ after, left) → value_at read n ls ≡ Err left → length ls ≤ n → IsDead read (pre ++ (x ∷ []))
-  dead n pre after ls left x e told reads le = record {
-    none_begins = λ f later v e2 g.
-        let e3 : ls ≡ f ++ (later ++ after) = e ∙ sym (append_assoc pre (x ∷ []) after) ∙ ap (λ l. l ++ after) e2 ∙ append_assoc f later after in
-        let ok : value_at read n ls ≡ Ok (v, later ++ after) = ap (value_at read n) e3 ∙ complete read n v f (later ++ after) g (omega (arith, le, ap length e3)) in
-        let clash : ◌≡◌ {A = Reading (Value N)} (Err left) (Ok (v, later ++ after)) = sym reads ∙ ok in cc;
-    not_begun = λ h.
-        let e3 : ls ≡ (pre ++ (x ∷ [])) ++ after = e ∙ sym (append_assoc pre (x ∷ []) after) in
-        let part = value_part read n in
-        let far : reach (value_f read n ((pre ++ (x ∷ [])) ++ after)) ≤ length after = part.reaches (pre ++ (x ∷ [])) after h (omega (arith, le, ap length e3)) in
-        let near : reach (value_f read n ((pre ++ (x ∷ [])) ++ after)) ≡ suc (length after) = ap (λ l. reach (value_f read n l)) (sym e3) ∙ ap reach told in
-        omega (arith, far, near);
-  }
-
-  last_cut : (b a c : List Lexeme) (x y : Lexeme) → b ++ (x ∷ []) ≡ a ++ (y ∷ c) → (d : List Lexeme) × (b ≡ a ++ d)
-  last_cut b [] c x y e = (b, refl)
-  last_cut [] (z ∷ a) c x y e = absurd (omega (arith, ap length e, length-append a (y ∷ c)))
-  last_cut (w ∷ b) (z ∷ a) c x y e =
-      let same : w ≡ z = cc in
-      let (d, e2) = last_cut b a c x y (cc) in
-      (d, ap (λ l. w ∷ l) e2 ∙ ap (λ v. v ∷ (a ++ d)) same)
-
-  -- what is begun, and dead with one more
-  just : (b : List Lexeme) (x : Lexeme) → Begun b → IsDead read (b ++ (x ∷ [])) → IsJustDead read (b ++ (x ∷ []))
-  just b x begun dead = record {
-    dead = dead;
-    shortest = λ a c y e d. let (u, e2) = last_cut b a c x y e in d.not_begun (beginnings read a u (subst Begun e2 begun));
-  }
-
   -- an error, as it is told
-  module _ (n : ℕ) (ls bad : List Lexeme) (le : length ls ≤ n) where
-    abbrev Refused : Type 0
-    Refused = (left : List Lexeme) × (value_f read n ls ≡ Err (bad, left)) × (value_at read n ls ≡ Err left) × ((pre : List Lexeme) × (ls ≡ pre ++ bad) × Begun pre)
+  module _ (n : ℕ) (ls : List Lexeme) (bad : Fault) (le : length ls ≤ n) where
+    told_at : (t : Telling (Value N)) → mark t ≡ Err bad → t ≡ Err bad
+    told_at (Ok p) e = cc
+    told_at (Err r) e = let same : r ≡ bad = cc in ap (λ r. Err r) same
 
-    told_at : (t : Telling (Value N)) → value_f read n ls ≡ t → plain t ≡ value_at read n ls → Told (StandFor read) Begun ls t → spot t ≡ Err bad → Refused
-    told_at (Ok p) told reads h e = cc
-    told_at (Err r) told reads (pre, given, e1, e2, b, few) e =
-        let same : r.0 ≡ bad = cc in
-        (r.1, told ∙ ap (λ l. Err (l, r.1)) same, sym reads, (pre, e1 ∙ ap (λ l. pre ++ l) same, b))
+    refused : value_m read n expected.Kind ls ≡ Err bad → (value_f read n false ls ≡ Err bad) × (value_at read n false ls ≡ Err bad.1) × ((pre : List Lexeme) × (ls ≡ pre ++ bad.0) × Begun pre)
+    refused e =
+        let part = value_part read n false in
+        let told : value_f read n false ls ≡ Err bad = told_at (value_f read n false ls) (mark_value read n false ls ∙ e) in
+        let (pre, given, split, e2, b, few) = subst (Told (StandFor read) Begun ls) told (part.told ls le) in
+        (told, sym (part.same ls) ∙ ap plain told, (pre, split, b))
 
-    refused : value_s read n ls ≡ Err bad → Refused
-    refused e = let part = value_part read n in told_at (value_f read n ls) refl (part.same ls) (part.told ls le) (spot_value read n ls ∙ e)
+    pub none : value_m read n expected.Kind ls ≡ Err bad → NoneBegins read ls
+    none e = let (told, reads, b) = refused e in none_begins read n false ls bad.1 le reads
 
-    pub none : value_s read n ls ≡ Err bad → NoneBegins read ls
-    none e = let (left, told, reads, b) = refused e in none_begins read n ls left le reads
+    -- the message of a refusal, as the readers have it
+    pub refused_with : value_m read n expected.Kind ls ≡ Err bad → value_at read n false ls ≡ Err bad.1
+    refused_with e = let (told, reads, b) = refused e in reads
 
   -- the lexeme that is too much
-  pub too_much : (n : ℕ) (ls pre after : List Lexeme) (x : Lexeme) → length ls ≤ n → ls ≡ pre ++ (x ∷ after) → value_s read n ls ≡ Err (x ∷ after) → IsJustDead read (pre ++ (x ∷ []))
-  too_much n ls pre after x le split e =
-      let (left, told, reads, (pre2, e2, b)) = refused n ls (x ∷ after) le e in
+  pub too_much : (n : ℕ) (ls pre after : List Lexeme) (x : Lexeme) (e : Message × List Lexeme) → length ls ≤ n → ls ≡ pre ++ (x ∷ after) → value_m read n expected.Kind ls ≡ Err (x ∷ after, e) → IsJustDead read (pre ++ (x ∷ []))
+  too_much n ls pre after x e le split is =
+      let (told, reads, (pre2, e2, b)) = refused n ls (x ∷ after, e) le is in
       let same : pre2 ≡ pre = append_cancel_right pre2 pre (x ∷ after) (sym e2 ∙ split) in
-      just pre x (subst Begun same b) (dead n pre after ls left x split told reads le)
+      just read pre x (subst Begun same b) (dead read n false pre after ls e x split told reads le)
 
   -- the lexemes end too early
-  pub too_short : (n : ℕ) (ls : List Lexeme) → length ls ≤ n → value_s read n ls ≡ Err [] → Begun ls
-  too_short n ls le e =
-      let (left, told, reads, (pre, e2, b)) = refused n ls [] le e in
+  pub too_short : (n : ℕ) (ls : List Lexeme) (e : Message × List Lexeme) → length ls ≤ n → value_m read n expected.Kind ls ≡ Err ([], e) → Begun ls
+  too_short n ls e le is =
+      let (told, reads, (pre, e2, b)) = refused n ls ([], e) le is in
       subst Begun (sym (e2 ∙ append-nil pre)) b
 
   -- a geometry is read
-  read_at : (n : ℕ) (ls r : List Lexeme) → length ls ≤ n → (t : Telling (Value N)) → plain t ≡ value_at read n ls → spot t ≡ Ok r → (v : Value N) × (f : List Lexeme) × (ls ≡ f ++ r) × StandFor read f v
+  read_at : (n : ℕ) (ls r : List Lexeme) → length ls ≤ n → (t : Telling (Value N)) → plain t ≡ value_at read n false ls → mark t ≡ Ok r → (v : Value N) × (f : List Lexeme) × (ls ≡ f ++ r) × StandFor read f v
   read_at n ls r le (Ok p) reads e =
       let same : p.1 ≡ r = cc in
-      let (f, split, g) = sound read n ls p le (sym reads) in
+      let (f, split, g) = sound read n false ls p le (sym reads) in
       (p.0, f, split ∙ ap (λ l. f ++ l) same, g)
   read_at n ls r le (Err t) reads e = cc
 
-  pub read_whole : (n : ℕ) (ls r : List Lexeme) → length ls ≤ n → value_s read n ls ≡ Ok r → (v : Value N) × (f : List Lexeme) × (ls ≡ f ++ r) × StandFor read f v
-  read_whole n ls r le e = let part = value_part read n in read_at n ls r le (value_f read n ls) (part.same ls) (spot_value read n ls ∙ e)
+  pub read_whole : (n : ℕ) (ls r : List Lexeme) → length ls ≤ n → value_m read n expected.Kind ls ≡ Ok r → (v : Value N) × (f : List Lexeme) × (ls ≡ f ++ r) × StandFor read f v
+  read_whole n ls r le e = let part = value_part read n false in read_at n ls r le (value_f read n false ls) (part.same ls) (mark_value read n false ls ∙ e)
 
   -- no front
   pub no_front : (text : List ℕ) (ls : List Lexeme) → IsSplit text ls → NoneBegins read ls → HasNoFront read text

@@ -8,7 +8,7 @@ use Rattle.wkt_access.specs.declared.dimensions.Dimension.TheVariants.{XY}
 use Rattle.wkt_types.specs.declared.geometry_type.GeometryType.{GeometryType}
 use Rattle.wkt_types.specs.declared.geometry_type.GeometryType.TheVariants as kind
 use Rattle.wkt_read.specs.Grammar.{KindWord, kind_word, dim_word}
-use Rattle.wkt_read.specs.Parser.Reading.{is_empty_word}
+use Rattle.wkt_read.specs.Parser.Outcome.{is_empty_word}
 use Rattle.wkt_explain.specs.declared.shape.Part.{Part}
 use Rattle.wkt_explain.specs.declared.shape.Part.TheVariants as part
 use Rattle.wkt_explain.specs.declared.place.Place.{Place}

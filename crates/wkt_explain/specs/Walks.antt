@@ -7,7 +7,7 @@ use Rattle.wkt_access.specs.declared.dimensions.Dimension.TheVariants.{XY, XYZ, 
 use Rattle.wkt_types.specs.declared.geometry_type.GeometryType.{GeometryType}
 use Rattle.wkt_types.specs.declared.geometry_type.GeometryType.TheVariants as kind
 use Rattle.wkt_read.specs.Grammar.{KindWord, kind_word, dim_word}
-use Rattle.wkt_read.specs.Parser.Reading.{is_empty_word}
+use Rattle.wkt_read.specs.Parser.Outcome.{is_empty_word}
 use Rattle.wkt_explain.specs.declared.expected.Expected.{Expected}
 use Rattle.wkt_explain.specs.declared.expected.Expected.TheVariants as expected
 use Rattle.wkt_explain.specs.declared.shape.Part.{Part}

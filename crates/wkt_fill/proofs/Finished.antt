@@ -11,7 +11,7 @@ use Rattle.wkt_types.specs.declared.geometry_type.GeometryType.{GeometryType}
 use Rattle.wkt_types.specs.declared.geometry_type.GeometryType.TheVariants as kind
 use Rattle.wkt_read.specs.Front.{Front, HasNoFront}
 use Rattle.wkt_read.specs.Kinds.{kind_of, dim_of}
-use Rattle.wkt_read.specs.Parser.Reading.{value_at}
+use Rattle.wkt_read.specs.Parser.Outcome.{geometry_at as value_at}
 use Rattle.wkt_read.proofs.LawLemmas.Fits.{geometry_fits}
 use Rattle.wkt_events.specs.declared.builder.At.{At}
 use Rattle.wkt_events.specs.declared.builder.Part.{Part}

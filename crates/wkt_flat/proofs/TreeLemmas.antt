@@ -5,6 +5,7 @@ use Rattle.std.specs.Result.{IsOk}
 use Rattle.std.proofs.lemmas.Bool.Decides.{nat_tests}
 use Rattle.std.proofs.Math.Seq.{drop-cons}
 use Rattle.std.proofs.lemmas.List.{drop_all, map-append}
+use Rattle.wkt_flat.specs.Grown.{IsOneMore}
 use Rattle.wkt_flat.specs.Trees.{flat_eq, flats_eq}
 use Rattle.wkt_flat.specs.Tree.{flats_of, point, line, line_string, polygon, multi_point, multi_line_string, multi_polygon, collection, rect, triangle, Flat, Flats, flat_tree, flat_trees, flat_members, no_flats, geometry_step, flats_step}
 use Rattle.wkt_flat.specs.Corners.{Corners}
@@ -99,9 +100,9 @@ pushed news olds g t e is = ap (map flat_tree) e ∙ (map-append flat_tree olds 
 
 -- A geometry of a kind was copied, after others.
 pub copied : {T E : Type 0} (r : Result (Unit {0}) E) (news olds : List (Geometry T)) (g h : Geometry T) {t : Flat T} → g ≡ h → flat_tree h ≡ t →
-    OnOk r (map flat_tree news ≡ map flat_tree olds ++ t ∷ []) → OnOk r (map flat_tree news ≡ map flat_tree olds ++ flat_tree g ∷ [])
-copied (Ok u) news olds g h same is pushed = pushed ∙ ap (λ t. map flat_tree olds ++ t ∷ []) (sym (ap flat_tree same ∙ is))
-copied (Err e) news olds g h same is pushed = tt
+    OnOk r (IsOneMore (λ x. flat_tree x ≡ t) olds news) → OnOk r (map flat_tree news ≡ map flat_tree olds ++ flat_tree g ∷ [])
+copied (Ok u) news olds g h {t = t} same is more = pushed news olds more.member t more.grown more.is ∙ ap (λ t. map flat_tree olds ++ t ∷ []) (sym (ap flat_tree same ∙ is))
+copied (Err e) news olds g h same is more = tt
 
 -- Two geometries were compared by what they hold.
 pub seen : {T : Type 0} (E : T → T → Bool) (a b g h : Geometry T) {s t : Flat T} {r : Bool} → a ≡ g → b ≡ h → flat_tree g ≡ s → flat_tree h ≡ t →

@@ -1,5 +1,6 @@
 //! Copies of lists, which can run out of memory.
-ghost use Rattle.std.specs.Prelude.{◌≡◌, IfOk};
+ghost use Rattle.std.specs.Prelude.{◌≡◌, IfOk, OnOk};
+ghost use Rattle.wkt_flat.specs.Grown.{IsOneMore};
 
 use std::alloc::{AllocError, Global};
 
@@ -25,4 +26,20 @@ pub fn copies<X: Part + Drop>(alloc: Global, parts: &[X]) -> Result<Vec<X>, Allo
         all.push(part.copy(alloc)?)?;
     }
     Ok(all)
+}
+
+/// Adds a copy of a part to a list, as what the part is converted into.
+///
+/// # Errors
+/// Out of memory.
+#[inline(never)]
+pub fn push_copy_of<X: Part, G: From<X> + Drop>(
+    part: &X,
+    alloc: Global,
+    copies: &mut Vec<G>,
+) -> Result<(), AllocError>
+    ensures { OnOk result (IsOneMore (G.from_gives part.now) copies.old.items copies.new.items) }
+{
+    copies.push(G::from(part.copy(alloc)?))?;
+    Ok(())
 }

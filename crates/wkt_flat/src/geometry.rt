@@ -6,7 +6,8 @@ ghost use Rattle.wkt_flat.specs.Exact.{exact_by, exact_per};
 ghost use Rattle.wkt_flat.specs.Tree.{flat_tree, flat_trees, flat_members, collection, point, line, line_string, polygon, multi_point, multi_line_string, multi_polygon, rect, triangle};
 ghost use Rattle.wkt_flat.specs.Trees.{flat_eq, flats_eq, flat_exact, flats_exact};
 
-use crate::letting_go::let_go;
+use crate::copies::push_copy_of;
+use crate::dropping::{Nested, drop_all};
 use crate::line::Line;
 use crate::linestring::LineString;
 use crate::multilinestring::MultiLineString;
@@ -21,8 +22,8 @@ use wkt_num::WktNum;
 
 /// A collection: geometries in order, which may be collections too. It may be empty.
 ///
-/// Since it has a drop of its own, so that nesting takes no stack, no pattern of another crate takes
-/// it apart: [`GeometryCollection::into_inner`] gives its geometries.
+/// It has a custom drop, so that nesting takes no stack. So no pattern of another crate takes it
+/// apart: [`GeometryCollection::into_inner`] returns its geometries.
 #[cycle(geometry)]
 #[derive(Debug)]
 pub struct GeometryCollection<T>(pub Vec<Geometry<T>>);
@@ -57,7 +58,34 @@ impl<T: Drop> Drop for GeometryCollection<T> {
     // By a loop, so that nesting takes no stack.
     fn drop(self) {
         let GeometryCollection(geometries) = self;
-        let_go(geometries);
+        drop_all(geometries);
+    }
+}
+
+impl<T: Drop> Nested for Geometry<T> {
+    ghost use Rattle.wkt_flat.specs.Weight.{inside, total};
+
+    ghost inside = { inside };
+
+    fn of_members(members: Vec<Self>) -> Self
+        ensures { inside result ≡ total inside members.items }
+    {
+        Geometry::GeometryCollection(GeometryCollection::new_from(members))
+    }
+
+    fn into_members(self) -> Option<Vec<Self>> {
+        match self {
+            Geometry::GeometryCollection(collection) => Some(collection.into_inner()),
+            Geometry::Point(_) => None,
+            Geometry::Line(_) => None,
+            Geometry::LineString(_) => None,
+            Geometry::Polygon(_) => None,
+            Geometry::MultiPoint(_) => None,
+            Geometry::MultiLineString(_) => None,
+            Geometry::MultiPolygon(_) => None,
+            Geometry::Rect(_) => None,
+            Geometry::Triangle(_) => None,
+        }
     }
 }
 
@@ -85,116 +113,7 @@ impl<T> GeometryCollection<T> {
     }
 }
 
-// Each kind is copied in a function of its own, so that a level of nesting takes little stack.
-#[inline(never)]
-fn push_point<T: Copy + Drop>(
-    part: &Point<T>,
-    copies: &mut Vec<Geometry<T>>,
-) -> Result<(), AllocError>
-    ensures { OnOk result (map flat_tree copies.new.items ≡ map flat_tree copies.old.items ++ point part.now ∷ []) }
-{
-    copies.push(Geometry::Point(*part))?;
-    Ok(())
-}
-
-#[inline(never)]
-fn push_line<T: Copy + Drop>(
-    part: &Line<T>,
-    copies: &mut Vec<Geometry<T>>,
-) -> Result<(), AllocError>
-    ensures { OnOk result (map flat_tree copies.new.items ≡ map flat_tree copies.old.items ++ line part.now ∷ []) }
-{
-    copies.push(Geometry::Line(*part))?;
-    Ok(())
-}
-
-#[inline(never)]
-fn push_line_string<T: Copy + Drop>(
-    part: &LineString<T>,
-    alloc: Global,
-    copies: &mut Vec<Geometry<T>>,
-) -> Result<(), AllocError>
-    ensures { OnOk result
-        (map flat_tree copies.new.items ≡ map flat_tree copies.old.items ++ line_string part.now ∷ []) }
-{
-    copies.push(Geometry::LineString(part.try_clone(alloc)?))?;
-    Ok(())
-}
-
-#[inline(never)]
-fn push_polygon<T: Copy + Drop>(
-    part: &Polygon<T>,
-    alloc: Global,
-    copies: &mut Vec<Geometry<T>>,
-) -> Result<(), AllocError>
-    ensures { OnOk result (map flat_tree copies.new.items ≡ map flat_tree copies.old.items ++ polygon part.now ∷ []) }
-{
-    copies.push(Geometry::Polygon(part.try_clone(alloc)?))?;
-    Ok(())
-}
-
-#[inline(never)]
-fn push_points<T: Copy + Drop>(
-    part: &MultiPoint<T>,
-    alloc: Global,
-    copies: &mut Vec<Geometry<T>>,
-) -> Result<(), AllocError>
-    ensures { OnOk result
-        (map flat_tree copies.new.items ≡ map flat_tree copies.old.items ++ multi_point part.now ∷ []) }
-{
-    copies.push(Geometry::MultiPoint(part.try_clone(alloc)?))?;
-    Ok(())
-}
-
-#[inline(never)]
-fn push_line_strings<T: Copy + Drop>(
-    part: &MultiLineString<T>,
-    alloc: Global,
-    copies: &mut Vec<Geometry<T>>,
-) -> Result<(), AllocError>
-    ensures { OnOk result
-        (map flat_tree copies.new.items ≡ map flat_tree copies.old.items ++ multi_line_string part.now ∷ []) }
-{
-    copies.push(Geometry::MultiLineString(part.try_clone(alloc)?))?;
-    Ok(())
-}
-
-#[inline(never)]
-fn push_polygons<T: Copy + Drop>(
-    part: &MultiPolygon<T>,
-    alloc: Global,
-    copies: &mut Vec<Geometry<T>>,
-) -> Result<(), AllocError>
-    ensures { OnOk result
-        (map flat_tree copies.new.items ≡ map flat_tree copies.old.items ++ multi_polygon part.now ∷ []) }
-{
-    copies.push(Geometry::MultiPolygon(part.try_clone(alloc)?))?;
-    Ok(())
-}
-
-#[inline(never)]
-fn push_rect<T: Copy + Drop>(
-    part: &Rect<T>,
-    copies: &mut Vec<Geometry<T>>,
-) -> Result<(), AllocError>
-    ensures { OnOk result (map flat_tree copies.new.items ≡ map flat_tree copies.old.items ++ rect part.now ∷ []) }
-{
-    copies.push(Geometry::Rect(*part))?;
-    Ok(())
-}
-
-#[inline(never)]
-fn push_triangle<T: Copy + Drop>(
-    part: &Triangle<T>,
-    copies: &mut Vec<Geometry<T>>,
-) -> Result<(), AllocError>
-    ensures { OnOk result (map flat_tree copies.new.items ≡ map flat_tree copies.old.items ++ triangle part.now ∷ []) }
-{
-    copies.push(Geometry::Triangle(*part))?;
-    Ok(())
-}
-
-// The collection of those geometries, if they are filled. It alone drops them where they aren't,
+// Adds the collection of those geometries, if they are filled. It alone drops them where they aren't,
 // since that takes stack.
 #[inline(never)]
 fn push_collection<T: Copy + Drop>(
@@ -213,7 +132,8 @@ fn push_collection<T: Copy + Drop>(
     Ok(())
 }
 
-// A copy, after others.
+// Adds a copy of a geometry. The other kinds than collections are copied in functions that aren't inlined, so that a
+// level of nesting takes little stack.
 #[cycle(copy)]
 fn push_copy<T: Copy + Drop>(
     g: &Geometry<T>,
@@ -223,15 +143,15 @@ fn push_copy<T: Copy + Drop>(
     ensures { OnOk result (map flat_tree copies.new.items ≡ map flat_tree copies.old.items ++ flat_tree g.now ∷ []) }
 {
     match g {
-        Geometry::Point(p) => push_point(p, copies),
-        Geometry::Line(l) => push_line(l, copies),
-        Geometry::LineString(l) => push_line_string(l, alloc, copies),
-        Geometry::Polygon(y) => push_polygon(y, alloc, copies),
-        Geometry::MultiPoint(m) => push_points(m, alloc, copies),
-        Geometry::MultiLineString(m) => push_line_strings(m, alloc, copies),
-        Geometry::MultiPolygon(m) => push_polygons(m, alloc, copies),
-        Geometry::Rect(r) => push_rect(r, copies),
-        Geometry::Triangle(t) => push_triangle(t, copies),
+        Geometry::Point(p) => push_copy_of(p, alloc, copies),
+        Geometry::Line(l) => push_copy_of(l, alloc, copies),
+        Geometry::LineString(l) => push_copy_of(l, alloc, copies),
+        Geometry::Polygon(y) => push_copy_of(y, alloc, copies),
+        Geometry::MultiPoint(m) => push_copy_of(m, alloc, copies),
+        Geometry::MultiLineString(m) => push_copy_of(m, alloc, copies),
+        Geometry::MultiPolygon(m) => push_copy_of(m, alloc, copies),
+        Geometry::Rect(r) => push_copy_of(r, alloc, copies),
+        Geometry::Triangle(t) => push_copy_of(t, alloc, copies),
         Geometry::GeometryCollection(c) => {
             let mut geometries = Vec::with_capacity(alloc, c.0.len())?;
             let filled = push_copies(&c.0, alloc, &mut geometries);

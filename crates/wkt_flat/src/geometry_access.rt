@@ -18,6 +18,20 @@ use crate::triangle::Triangle;
 use wkt_access::{Dimensions, GeometryCollectionTrait, GeometryTrait, GeometryType};
 use wkt_num::WktNum;
 
+/// The kind of a flat geometry, with the geometry.
+type FlatType<'a, T> = GeometryType<
+    'a,
+    Point<T>,
+    LineString<T>,
+    Polygon<T>,
+    MultiPoint<T>,
+    MultiLineString<T>,
+    MultiPolygon<T>,
+    Rect<T>,
+    Triangle<T>,
+    Line<T>,
+>;
+
 impl<T: WktNum> GeometryCollectionTrait for GeometryCollection<T> {
     type T = T;
 
@@ -67,20 +81,7 @@ impl<T: WktNum> GeometryTrait for Geometry<T> {
         Dimensions::Xy
     }
 
-    fn as_type(
-        &self,
-    ) -> GeometryType<
-        '_,
-        Point<T>,
-        LineString<T>,
-        Polygon<T>,
-        MultiPoint<T>,
-        MultiLineString<T>,
-        MultiPolygon<T>,
-        Rect<T>,
-        Triangle<T>,
-        Line<T>,
-    > {
+    fn as_type(&self) -> FlatType<'_, T> {
         match self {
             Geometry::Point(p) => GeometryType::Point(p),
             Geometry::Line(l) => GeometryType::Line(l),
@@ -100,7 +101,7 @@ impl<T: WktNum> GeometryTrait for Geometry<T> {
     fn geometry(&self, i: usize) -> &Self {
         match self {
             Geometry::GeometryCollection(c) => &c.geometries()[i],
-            _ => unreachable!(),
+            _ => self,
         }
     }
 }
@@ -132,20 +133,7 @@ impl<T: WktNum> GeometryTrait for Point<T> {
         Dimensions::Xy
     }
 
-    fn as_type(
-        &self,
-    ) -> GeometryType<
-        '_,
-        Point<T>,
-        LineString<T>,
-        Polygon<T>,
-        MultiPoint<T>,
-        MultiLineString<T>,
-        MultiPolygon<T>,
-        Rect<T>,
-        Triangle<T>,
-        Line<T>,
-    > {
+    fn as_type(&self) -> FlatType<'_, T> {
         GeometryType::Point(self)
     }
 
@@ -184,20 +172,7 @@ impl<T: WktNum> GeometryTrait for Line<T> {
         Dimensions::Xy
     }
 
-    fn as_type(
-        &self,
-    ) -> GeometryType<
-        '_,
-        Point<T>,
-        LineString<T>,
-        Polygon<T>,
-        MultiPoint<T>,
-        MultiLineString<T>,
-        MultiPolygon<T>,
-        Rect<T>,
-        Triangle<T>,
-        Line<T>,
-    > {
+    fn as_type(&self) -> FlatType<'_, T> {
         GeometryType::Line(self)
     }
 
@@ -236,20 +211,7 @@ impl<T: WktNum> GeometryTrait for LineString<T> {
         Dimensions::Xy
     }
 
-    fn as_type(
-        &self,
-    ) -> GeometryType<
-        '_,
-        Point<T>,
-        LineString<T>,
-        Polygon<T>,
-        MultiPoint<T>,
-        MultiLineString<T>,
-        MultiPolygon<T>,
-        Rect<T>,
-        Triangle<T>,
-        Line<T>,
-    > {
+    fn as_type(&self) -> FlatType<'_, T> {
         GeometryType::LineString(self)
     }
 
@@ -288,20 +250,7 @@ impl<T: WktNum> GeometryTrait for Polygon<T> {
         Dimensions::Xy
     }
 
-    fn as_type(
-        &self,
-    ) -> GeometryType<
-        '_,
-        Point<T>,
-        LineString<T>,
-        Polygon<T>,
-        MultiPoint<T>,
-        MultiLineString<T>,
-        MultiPolygon<T>,
-        Rect<T>,
-        Triangle<T>,
-        Line<T>,
-    > {
+    fn as_type(&self) -> FlatType<'_, T> {
         GeometryType::Polygon(self)
     }
 
@@ -340,20 +289,7 @@ impl<T: WktNum> GeometryTrait for MultiPoint<T> {
         Dimensions::Xy
     }
 
-    fn as_type(
-        &self,
-    ) -> GeometryType<
-        '_,
-        Point<T>,
-        LineString<T>,
-        Polygon<T>,
-        MultiPoint<T>,
-        MultiLineString<T>,
-        MultiPolygon<T>,
-        Rect<T>,
-        Triangle<T>,
-        Line<T>,
-    > {
+    fn as_type(&self) -> FlatType<'_, T> {
         GeometryType::MultiPoint(self)
     }
 
@@ -392,20 +328,7 @@ impl<T: WktNum> GeometryTrait for MultiLineString<T> {
         Dimensions::Xy
     }
 
-    fn as_type(
-        &self,
-    ) -> GeometryType<
-        '_,
-        Point<T>,
-        LineString<T>,
-        Polygon<T>,
-        MultiPoint<T>,
-        MultiLineString<T>,
-        MultiPolygon<T>,
-        Rect<T>,
-        Triangle<T>,
-        Line<T>,
-    > {
+    fn as_type(&self) -> FlatType<'_, T> {
         GeometryType::MultiLineString(self)
     }
 
@@ -444,20 +367,7 @@ impl<T: WktNum> GeometryTrait for MultiPolygon<T> {
         Dimensions::Xy
     }
 
-    fn as_type(
-        &self,
-    ) -> GeometryType<
-        '_,
-        Point<T>,
-        LineString<T>,
-        Polygon<T>,
-        MultiPoint<T>,
-        MultiLineString<T>,
-        MultiPolygon<T>,
-        Rect<T>,
-        Triangle<T>,
-        Line<T>,
-    > {
+    fn as_type(&self) -> FlatType<'_, T> {
         GeometryType::MultiPolygon(self)
     }
 
@@ -496,20 +406,7 @@ impl<T: WktNum> GeometryTrait for Rect<T> {
         Dimensions::Xy
     }
 
-    fn as_type(
-        &self,
-    ) -> GeometryType<
-        '_,
-        Point<T>,
-        LineString<T>,
-        Polygon<T>,
-        MultiPoint<T>,
-        MultiLineString<T>,
-        MultiPolygon<T>,
-        Rect<T>,
-        Triangle<T>,
-        Line<T>,
-    > {
+    fn as_type(&self) -> FlatType<'_, T> {
         GeometryType::Rect(self)
     }
 
@@ -548,20 +445,7 @@ impl<T: WktNum> GeometryTrait for Triangle<T> {
         Dimensions::Xy
     }
 
-    fn as_type(
-        &self,
-    ) -> GeometryType<
-        '_,
-        Point<T>,
-        LineString<T>,
-        Polygon<T>,
-        MultiPoint<T>,
-        MultiLineString<T>,
-        MultiPolygon<T>,
-        Rect<T>,
-        Triangle<T>,
-        Line<T>,
-    > {
+    fn as_type(&self) -> FlatType<'_, T> {
         GeometryType::Triangle(self)
     }
 

@@ -6,7 +6,7 @@ use std::test::Fail;
 use wkt::geo_types::Geometry;
 use wkt::tokenizer::Tokens;
 use wkt::{Decimal, FromWktStr, ToWkt, TryFromWkt, Wkt, infer_type};
-use wkt_answers::{answer, told};
+use wkt_test_support::{answer, text_or_message};
 
 const NO_KIND: &str = "Invalid type encountered";
 
@@ -14,7 +14,7 @@ const NO_CLOSING: &str = "Missing closing parenthesis for type";
 
 // What a text over decimals of six places gives.
 fn gives(alloc: Global, text: &str) -> Result<String, AllocError> {
-    told(alloc, answer::<Decimal<6>>(alloc, text))
+    text_or_message(alloc, answer::<Decimal<6>>(alloc, text))
 }
 
 // A point in so many collections, with so many closing parentheses after it.

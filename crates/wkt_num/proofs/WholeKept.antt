@@ -1,15 +1,14 @@
 -- A whole number as it is printed keeps its text.
-use Rattle.std.proofs.Common.{◌≡◌, ◌≢◌, ℕ, zero, suc, ◌+◌, ◌-◌, ◌^◌, ◌<◌, ◌≤◌, Bool, true, false, ◌==◌, List, [], ◌∷◌, ◌++◌, length, take, get_or, slice_range, Some, ℤ, pos, negsuc, refl, sym, ap, subst, ◌∙◌, arith, inl, inr}
+use Rattle.std.proofs.Common.{◌≡◌, ◌≢◌, ℕ, zero, suc, ◌-◌, ◌^◌, ◌<◌, ◌≤◌, ◌==◌, List, [], ◌∷◌, ◌++◌, length, take, get_or, slice_range, pos, negsuc, refl, sym, ap, subst, ◌∙◌, arith}
 use Rattle.std.specs.Fmt.{decimal, signed_decimal, sign_text}
-use Rattle.std.specs.Str.Parse.{IsNumeral, AllDigits, digits_value, without_leading_plus}
+use Rattle.std.specs.Str.Parse.{IsNumeral, digits_value}
 use Rattle.std.proofs.lemmas.Int.Digits.{digits_value-lt}
 use Rattle.std.proofs.lemmas.Str.Parse.{without_leading_plus_none}
 use Rattle.std.proofs.Math.Nat.{pow-le-pow_right}
-use Rattle.std.proofs.lemmas.Bool.{cases_lt}
 use Rattle.std.proofs.lemmas.List.{append-nil}
 use Rattle.wkt_num.specs.Number.{IsNumberText}
 use Rattle.wkt_num.specs.Whole.{read_signed, read_unsigned}
-use Rattle.wkt_num.specs.WholeLaws.{first_digit, read_signed_minus, read_signed_plain, read_unsigned_some, numeral_text}
+use Rattle.wkt_num.specs.WholeLaws.{first_digit, read_signed_minus, read_signed_plain, read_unsigned_some}
 use Rattle.wkt_num.specs.Kept.{KeepsText}
 use Rattle.wkt_num.specs.Parts.{IsWholeText}
 use Rattle.wkt_num.proofs.Shown.{decimal-is}

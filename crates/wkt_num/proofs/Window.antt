@@ -3,10 +3,13 @@ use Rattle.std.proofs.Common.{◌≡◌, ℕ, zero, suc, ◌+◌, ◌-◌, ◌*�
 use Rattle.std.specs.Prelude.{not}
 use Rattle.std.specs.List.{prefix_len}
 use Rattle.std.specs.Fmt.{sign_text}
+use Rattle.std.specs.Char.{is_ascii_digit}
 use Rattle.std.specs.Str.Parse.{AllDigits}
 use Rattle.std.specs.Int.Bits.{and_self}
-use Rattle.std.proofs.lemmas.List.{length-take-le, length-map, take-take, drop-take, map-id}
+use Rattle.std.proofs.lemmas.Bool.Decides.{nat_tests}
+use Rattle.std.proofs.lemmas.List.{length-take-le, length-map, take-take, drop-take, get_or-take, map-id}
 use Rattle.std.proofs.lemmas.Simd.{chunk-fits, trailing_mask_l, zip2_splat, map-map}
+use Rattle.std.proofs.lemmas.Bool.{le-ltb}
 use borrow.Author.Tests.{ltb-false}
 use lib.Bits.{and_step}
 use lib.Count.{count_trailing_zeros}
@@ -85,6 +88,54 @@ digits-below zero (x ∷ xs) f some = go (is_other x) refl some (digits-below ze
 digits-below (suc i) [] f some = absurd (omega (arith, some))
 digits-below (suc i) (x ∷ xs) f some = digits-next x xs i _ (digits-below i xs f.1 (omega (arith, some)))
 
+-- the byte of the lowest bit is no digit
+byte-test : (b : ℕ) → b < 256 → (is_ascii_digit b ≡ true → is_other b ≡ false) × (is_other b ≡ false → is_ascii_digit b ≡ true)
+byte-test b byte = (
+  λ e. let r = range e in le-ltb 9 ((b + 208) % 256) (omega (arith, byte, r)),
+  λ e. let k = ltb-false 9 ((b + 208) % 256) e in test (omega (arith, byte, k)) (omega (arith, byte, k)),
+)
+  where
+    range : is_ascii_digit b ≡ true → (48 ≤ b) × (b ≤ 57)
+    range e = (grind (arith, nat_tests), grind (arith, nat_tests))
+
+    test : 48 ≤ b → b ≤ 57 → is_ascii_digit b ≡ true
+    test low high = grind (arith, nat_tests)
+
+byte-other : (b : ℕ) → b < 256 → is_other b ≡ true → is_ascii_digit b ≡ false
+byte-other b byte e = go (is_ascii_digit b) refl
+  where
+    go : (t : Bool) → is_ascii_digit b ≡ t → t ≡ false
+    go true f = let g : true ≡ false = sym e ∙ (byte-test b byte).0 f in cc
+    go false f = refl
+
+other-below : (from : ℕ) (xs : List ℕ) → Each1 (Fits w8) xs → 0 < mask_l (bits_from from (map is_other xs)) → is_ascii_digit (get_or xs (zeros_below (bits_from from (map is_other xs))) 0) ≡ false
+other-below zero [] f some = absurd (omega (arith, some))
+other-below zero (x ∷ xs) f some = go (is_other x) refl some (other-below zero xs f.1)
+  where
+    go : (b : Bool) → is_other x ≡ b → 0 < cond b 1 0 + 2 * mask_l (map is_other xs) → (0 < mask_l (map is_other xs) → is_ascii_digit (get_or xs (zeros_below (map is_other xs)) 0) ≡ false)
+        → is_ascii_digit (get_or (x ∷ xs) (cond (not b) (1 + zeros_below (map is_other xs)) 0) 0) ≡ false
+    go true e some more = byte-other x f.0.fits e
+    go false e some more =
+        ap (λ (n : ℕ). is_ascii_digit (get_or (x ∷ xs) n 0)) {x = 1 + zeros_below (map is_other xs)} {y = suc (zeros_below (map is_other xs))} (omega arith)
+        ∙ more (omega (arith, some))
+other-below (suc i) [] f some = absurd (omega (arith, some))
+other-below (suc i) (x ∷ xs) f some =
+    ap (λ (n : ℕ). is_ascii_digit (get_or (x ∷ xs) n 0)) {x = 1 + zeros_below (bits_from i (map is_other xs))} {y = suc (zeros_below (bits_from i (map is_other xs)))} (omega arith)
+    ∙ other-below i xs f.1 (omega (arith, some))
+
+-- where no bit is set, all are digits
+all-below : (from : ℕ) (xs : List ℕ) → Each1 (Fits w8) xs → mask_l (bits_from from (map is_other xs)) ≡ 0 → (at : ℕ) → from ≤ at → at < length xs → is_ascii_digit (get_or xs at 0) ≡ true
+all-below from [] f none at h k = absurd (omega (arith, k))
+all-below zero (x ∷ xs) f none at h k = go (is_other x) refl none (all-below zero xs f.1) at k
+  where
+    go : (b : Bool) → is_other x ≡ b → cond b 1 0 + 2 * mask_l (map is_other xs) ≡ 0 → (mask_l (map is_other xs) ≡ 0 → (at : ℕ) → 0 ≤ at → at < length xs → is_ascii_digit (get_or xs at 0) ≡ true)
+        → (at : ℕ) → at < length (x ∷ xs) → is_ascii_digit (get_or (x ∷ xs) at 0) ≡ true
+    go true e none more at k = absurd (omega (arith, none))
+    go false e none more zero k = (byte-test x f.0.fits).1 e
+    go false e none more (suc at) k = more (omega (arith, none)) at (omega arith) (omega (arith, k))
+all-below (suc i) (x ∷ xs) f none zero h k = absurd (omega (arith, h))
+all-below (suc i) (x ∷ xs) f none (suc at) h k = all-below i xs f.1 (omega (arith, none)) at (omega (arith, h)) (omega (arith, k))
+
 length-bits : (i : ℕ) (ms : List Bool) → length (bits_from i ms) ≡ length ms
 length-bits zero ms = refl
 length-bits (suc i) [] = refl
@@ -96,6 +147,7 @@ is-first bs from others fits window e some = record {
   order = omega (arith, count, d.order);
   within = omega (arith, count, d.within, long);
   digits = subst (λ (n : ℕ). AllDigits 10 (slice_range bs from n)) (sym count) (subst (AllDigits 10) same d.digits);
+  other = ap (λ (n : ℕ). is_ascii_digit (get_or bs n 0)) count ∙ ap is_ascii_digit (sym (get_or-take 32 bs (zeros_below ms) 0 (omega (arith, d.within, long)))) ∙ other-below from xs (chunk-fits w8 0 32 bs fits) some';
   some = some;
   next = ap (λ (n : ℕ). bit_and n (n - 1)) e ∙ less-and ms some' ∙ ap mask_l (next-bits from (map is_other xs) some') ∙ ap (λ (n : ℕ). others_mask bs (n + 1)) (sym count);
 }
@@ -128,6 +180,12 @@ is-first bs from others fits window e some = record {
         ap (λ (n : ℕ). take (zeros_below ms - from) (drop from (take n bs))) {x = 32} {y = from + (32 - from)} (omega (arith, d.order, d.within, long))
         ∙ ap (take (zeros_below ms - from)) (drop-take from (32 - from) bs)
         ∙ take-take (zeros_below ms - from) (32 - from) (drop from bs) (omega (arith, d.within, long))
+
+-- in a window without a bit from a place on, all are digits from there on
+pub all-digits : (bs : List ℕ) (from others : ℕ) → ((k : ℕ) → Fits w8 (get_or bs k 0)) → 32 ≤ length bs → others ≡ others_mask bs from → others ≡ 0 → (at : ℕ) → from ≤ at → at < 32 → is_ascii_digit (get_or bs at 0) ≡ true
+all-digits bs from others fits window e none at h k =
+    ap is_ascii_digit (sym (get_or-take 32 bs at 0 k))
+    ∙ all-below from (take 32 bs) (chunk-fits w8 0 32 bs fits) (sym e ∙ none) at h (omega (arith, k, length-take-le 32 bs window))
 
 -- ---- a minus
 

@@ -1,5 +1,5 @@
 -- The text of a number inside the text that it is read from.
-use Rattle.std.specs.Prelude.{◌≡◌, ◌≢◌, ℕ, ◌≤◌, List, [], ◌∷◌, length, take, drop, Option, Some}
+use Rattle.std.specs.Prelude.{◌≡◌, ◌≢◌, ℕ, ◌≤◌, ◌<◌, List, [], ◌∷◌, ◌++◌, length, take, drop, Option, Some}
 use Rattle.wkt_num.specs.Bytes.{Run, class_of}
 use Rattle.wkt_num.specs.Number.{IsNumberText}
 
@@ -17,3 +17,17 @@ pub record KeepsText {T : Type 0} (read : List ℕ → Option T) (num : T → Li
   pub stops : StopsRun (drop end bs)
   pub reads : read (take end bs) ≡ Some number
   pub text : num number ≡ take kept bs
+
+-- The bytes begin with the text, and no run goes on behind it.
+pub record StandsFirst (text bs : List ℕ) : Type 0 where
+  pub rest : List ℕ
+  pub whole : bs ≡ text ++ rest
+  pub stops : StopsRun rest
+
+-- Where the text of such a number stands first, it is found, and all of it is kept.
+abbrev pub FindsTexts : {T : Type 0} → (T → List ℕ) → (T → Type 0) → List ℕ → Option (ℕ × ℕ) → Type 0
+FindsTexts num IsSuch bs found = (x : _) → IsSuch x → StandsFirst (num x) bs → found ≡ Some (length (num x), length (num x))
+
+-- The same of texts of less than 32 bytes.
+abbrev pub FindsShort : {T : Type 0} → (T → List ℕ) → (T → Type 0) → List ℕ → Option (ℕ × ℕ) → Type 0
+FindsShort num IsSuch = FindsTexts num (λ x. IsSuch x × (length (num x) < 32))

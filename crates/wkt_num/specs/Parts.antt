@@ -1,6 +1,7 @@
 -- The parts of a decimal's text, by their places in the bytes. Only private contracts cite this file.
-use Rattle.std.specs.Prelude.{zero, suc, false, [], ◌∷◌, bit_and, ◌≡◌, ◌≢◌, ℕ, ◌+◌, ◌-◌, ◌%◌, ◌<◌, ◌≤◌, ◌==◌, Bool, List, take, map, length, nat_lt, slice_index, slice_range}
+use Rattle.std.specs.Prelude.{zero, suc, false, [], ◌∷◌, bit_and, ◌≡◌, ◌≢◌, ◌⊎◌, ℕ, ◌+◌, ◌-◌, ◌%◌, ◌<◌, ◌≤◌, ◌==◌, Bool, List, take, map, length, nat_lt, slice_index, slice_range}
 use Rattle.std.specs.Fmt.{sign_text}
+use Rattle.std.specs.Char.{is_ascii_digit}
 use Rattle.std.specs.Str.Parse.{AllDigits}
 use Rattle.wkt_num.specs.Bytes.{class_of, Run}
 use lib.Lanes.{mask_l}
@@ -13,6 +14,26 @@ pub record IsWholePart (bs : List ℕ) (first point : ℕ) : Type 0 where
   pub within : point ≤ length bs
   pub digits : AllDigits 10 (slice_range bs first point)
   pub plain : slice_index bs first ≡ 48 → point ≡ first + 1
+
+-- A point, and then digits of which the last isn't 0, at most D.
+pub record IsFraction (D : ℕ) (bs : List ℕ) (point end : ℕ) : Type 0 where
+  pub is : slice_index bs point ≡ 46
+  pub some : point + 1 < end
+  pub few : end ≤ point + 1 + D
+  pub digits : AllDigits 10 (slice_range bs (point + 1) end)
+  pub last : slice_index bs (end - 1) ≢ 48
+
+-- The bytes begin with a decimal's text whose whole part is short, and no run goes on behind it.
+pub record IsDecimalText (D : ℕ) (bs : List ℕ) (end : ℕ) : Type 0 where
+  pub few : D ≤ 18
+  pub first : ℕ
+  pub point : ℕ
+  pub minus : first ≤ 1
+  pub sign : take first bs ≡ sign_text (first == 1)
+  pub whole : IsWholePart bs first point
+  pub fraction : ((end ≡ point) × (first ≡ 1 → slice_index bs first ≢ 48)) ⊎ IsFraction D bs point end
+  pub within : end ≤ length bs
+  pub stops : end < length bs → class_of (slice_index bs end) ≢ Run
 
 -- Some digits, at most so many, of which none is a zero before others or after a minus.
 pub record IsPrinted (most : ℕ) (bs : List ℕ) (first end : ℕ) : Type 0 where
@@ -61,5 +82,6 @@ pub record IsFirstOther (bs : List ℕ) (from others at : ℕ) : Type 0 where
   pub order : from ≤ at
   pub within : at < 32
   pub digits : AllDigits 10 (slice_range bs from at)
+  pub other : is_ascii_digit (slice_index bs at) ≡ false
   pub some : 0 < others
   pub next : bit_and others (others - 1) ≡ others_mask bs (at + 1)

@@ -1,8 +1,9 @@
 //! Decimal fractions, exact and of fixed places.
-ghost use Rattle.std.specs.Prelude.{◌≡◌, ℤ, pos, ◌^◌, ◌+ℤ◌, ◌*ℤ◌, ◌<◌, ◌≤◌, Some, refl};
+ghost use Rattle.std.specs.Prelude.{◌≡◌, ℤ, pos, ◌^◌, ◌+ℤ◌, ◌*ℤ◌, ◌<◌, ◌≤◌, Some, IfSome, length, refl};
 ghost use Rattle.std.specs.Ordering.{int_cmp, int_eq, as_partial_cmp};
 ghost use Rattle.std.specs.Cmp.{int_eq_equiv, int_cmp_total, signed_po, partial_equiv_from_equiv};
-ghost use Rattle.wkt_num.specs.Decimal.{read_decimal, decimal_text, IsUnits};
+ghost use Rattle.wkt_num.specs.Decimal.{read_decimal, decimal_text, IsUnits, IsShortDecimal};
+ghost use Rattle.wkt_num.specs.Kept.{KeepsText, FindsTexts, FindsShort};
 ghost use Rattle.wkt_num.specs.Halves.{upper_half, lower_half, upper_back, lower_back};
 ghost use Rattle.wkt_num.specs.DecimalLaws.{decimal_reads_back, decimal_reads_values, decimal_number_text, decimal_same};
 
@@ -155,12 +156,20 @@ impl<const D: u32> WktNum for Decimal<D> {
     }
 
     #[inline(always)]
-    fn kept_text(bytes: &[u8]) -> Option<(usize, usize)> {
+    fn kept_text(bytes: &[u8]) -> Option<(usize, usize)>
+        ensures keeps { IfSome result (λ r. KeepsText (read_decimal 127 36 D) (decimal_text D) bytes.now r.0 r.1) }
+        ensures finds { FindsTexts (decimal_text D) (IsShortDecimal D) bytes.now result }
+    {
         kept_decimal(D, bytes)
     }
 
     #[inline(always)]
-    fn kept_in_window(bytes: &[u8]) -> Option<(usize, usize)> {
+    fn kept_in_window(bytes: &[u8]) -> Option<(usize, usize)>
+        requires { 32 ≤ length bytes.now }
+        ensures keeps { IfSome result (λ r. KeepsText (read_decimal 127 36 D) (decimal_text D) bytes.now r.0 r.1) }
+        ensures within { IfSome result (λ r. r.0 < 32) }
+        ensures finds { FindsShort (decimal_text D) (IsShortDecimal D) bytes.now result }
+    {
         kept_in_window(D, bytes)
     }
 

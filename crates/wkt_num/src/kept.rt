@@ -1,12 +1,13 @@
 //! The text of a decimal inside the text that it is read from.
-ghost use Rattle.std.specs.Prelude.{◌≡◌, ◌≢◌, ◌≤◌, ◌<◌, ◌+◌, ◌==◌, IfSome, MatchBool, length, take, slice_range, slice_index};
+ghost use Rattle.std.specs.Prelude.{◌≡◌, ◌≢◌, ◌≤◌, ◌<◌, ◌+◌, ◌-◌, ◌==◌, ℕ, true, false, Some, IfSome, IfNone, MatchBool, length, take, slice_range, slice_index, slice_index_or};
 ghost use Rattle.std.specs.Bool.{OnTrue, OnFalse};
+ghost use Rattle.std.specs.Char.{is_ascii_digit};
 ghost use Rattle.std.specs.Fmt.{sign_text};
 ghost use Rattle.std.specs.Str.Parse.{AllDigits};
 ghost use Rattle.wkt_num.specs.Bytes.{class_of, Run};
 ghost use Rattle.wkt_num.specs.Decimal.{read_decimal, decimal_text};
 ghost use Rattle.wkt_num.specs.Kept.{KeepsText};
-ghost use Rattle.wkt_num.specs.Parts.{IsWholePart, IsPlain, HasZeros, IsFirstOther, others_mask};
+ghost use Rattle.wkt_num.specs.Parts.{IsWholePart, IsDecimalText, IsPlain, HasZeros, IsFirstOther, others_mask};
 
 use crate::powers::SHORT_PLACES;
 use std::simd::prelude::*;
@@ -17,11 +18,12 @@ const MOST_WHOLE: usize = 20;
 /// The bytes of a window, in which most numbers end.
 const WINDOW: usize = 32;
 
-/// Where the number run that the bytes begin with ends, and where its number's text does. `None` says
-/// nothing: the run is none, or no canonical text with zeros after its fraction or none.
+/// Where the number run that the bytes begin with ends, and where its number's text does. Each text that
+/// is printed is found, if it has at most 18 places and at most 20 digits before the point.
 #[inline(always)]
 pub fn kept_decimal(places: u32, bytes: &[u8]) -> Option<(usize, usize)>
-    ensures { IfSome result (λ r. KeepsText (read_decimal 127 36 places) (decimal_text places) bytes.now r.0 r.1) }
+    ensures keeps { IfSome result (λ r. KeepsText (read_decimal 127 36 places) (decimal_text places) bytes.now r.0 r.1) }
+    ensures finds { (end : ℕ) → IsDecimalText places bytes.now end → result ≡ Some (end, end) }
 {
     if places > SHORT_PLACES {
         return None;
@@ -40,6 +42,7 @@ pub fn kept_in_window(places: u32, bytes: &[u8]) -> Option<(usize, usize)>
     requires { 32 ≤ length bytes.now }
     ensures keeps { IfSome result (λ r. KeepsText (read_decimal 127 36 places) (decimal_text places) bytes.now r.0 r.1) }
     ensures within { IfSome result (λ r. r.0 < 32) }
+    ensures finds { (end : ℕ) → IsDecimalText places bytes.now end → end < 32 → result ≡ Some (end, end) }
 {
     if places > SHORT_PLACES {
         return None;
@@ -101,7 +104,8 @@ fn others(bytes: &[u8]) -> u64
 pub(crate) fn first_other(bytes: &[u8], from: usize, others: u64) -> Option<usize>
     requires window { 32 ≤ length bytes.now }
     requires others { others ≡ others_mask bytes.now from }
-    ensures { IfSome result (λ at. IsFirstOther bytes.now from others at) }
+    ensures some { IfSome result (λ at. IsFirstOther bytes.now from others at) }
+    ensures none { IfNone result ((at : ℕ) → from ≤ at → at < 32 → is_ascii_digit (slice_index bytes.now at) ≡ true) }
 {
     if others == 0 {
         return None;
@@ -114,7 +118,8 @@ pub(crate) fn first_other(bytes: &[u8], from: usize, others: u64) -> Option<usiz
 #[inline(always)]
 fn kept_apart(places: u32, bytes: &[u8]) -> Option<(usize, usize)>
     requires { places ≤ 18 }
-    ensures { IfSome result (λ r. KeepsText (read_decimal 127 36 places) (decimal_text places) bytes.now r.0 r.1) }
+    ensures keeps { IfSome result (λ r. KeepsText (read_decimal 127 36 places) (decimal_text places) bytes.now r.0 r.1) }
+    ensures finds { (end : ℕ) → IsDecimalText places bytes.now end → result ≡ Some (end, end) }
 {
     kept_anywhere(places, bytes)
 }
@@ -122,7 +127,8 @@ fn kept_apart(places: u32, bytes: &[u8]) -> Option<(usize, usize)>
 #[inline(never)]
 fn kept_anywhere(places: u32, bytes: &[u8]) -> Option<(usize, usize)>
     requires { places ≤ 18 }
-    ensures { IfSome result (λ r. KeepsText (read_decimal 127 36 places) (decimal_text places) bytes.now r.0 r.1) }
+    ensures keeps { IfSome result (λ r. KeepsText (read_decimal 127 36 places) (decimal_text places) bytes.now r.0 r.1) }
+    ensures finds { (end : ℕ) → IsDecimalText places bytes.now end → result ≡ Some (end, end) }
 {
     let first = after_minus(bytes);
     let point = digits_end(bytes, first);
@@ -161,6 +167,7 @@ fn kept_fraction(
     requires stops { end < length bytes.now → class_of (slice_index bytes.now end) ≢ Run }
     ensures keeps { IfSome result (λ r. KeepsText (read_decimal 127 36 places) (decimal_text places) bytes.now r.0 r.1) }
     ensures end { IfSome result (λ r. r.0 ≡ end) }
+    ensures finds { point + 1 < end → slice_index bytes.now (end - 1) ≢ 48 → end ≤ point + 1 + places → result ≡ Some (end, end) }
 {
     let kept = before_zeros(bytes, point, end);
     if kept == point + 1 {
@@ -182,6 +189,7 @@ pub(crate) fn after_minus(bytes: &[u8]) -> usize
     ensures within { result ≤ length bytes.now }
     ensures minus { result ≤ 1 }
     ensures sign { take result bytes.now ≡ sign_text (result == 1) }
+    ensures none { result ≡ 0 → slice_index_or bytes.now 0 0 ≢ 45 }
 {
     match bytes {
         [b'-', ..] => 1,
@@ -189,13 +197,14 @@ pub(crate) fn after_minus(bytes: &[u8]) -> usize
     }
 }
 
-/// Where digits from `from` on end, or earlier.
+/// Where the digits from `from` on end.
 #[inline(always)]
 pub(crate) fn digits_end(bytes: &[u8], from: usize) -> usize
     requires { from ≤ length bytes.now }
     ensures from { from ≤ result }
     ensures within { result ≤ length bytes.now }
     ensures digits { AllDigits 10 (slice_range bytes.now from result) }
+    ensures stops { result < length bytes.now → is_ascii_digit (slice_index bytes.now result) ≡ false }
 {
     let mut at = from;
     while at < bytes.len() && bytes[at].is_ascii_digit() {
@@ -210,7 +219,7 @@ fn is_whole_part(bytes: &[u8], first: usize, point: usize) -> bool
     requires order { first ≤ point }
     requires within { point ≤ length bytes.now }
     requires digits { AllDigits 10 (slice_range bytes.now first point) }
-    ensures { OnTrue result (IsWholePart bytes.now first point) }
+    ensures { MatchBool result (IsWholePart bytes.now first point) (IsWholePart bytes.now first point → ⊥) }
 {
     let count = point - first;
     if count == 0 || count > MOST_WHOLE {
@@ -233,7 +242,7 @@ fn is_plain(places: u32, bytes: &[u8], first: usize, end: usize) -> bool
 #[inline(always)]
 fn is_minus_zero(bytes: &[u8], first: usize) -> bool
     requires { first < length bytes.now }
-    ensures { OnFalse result (first ≡ 1 → slice_index bytes.now first ≢ 48) }
+    ensures { MatchBool result ((first ≡ 1) × (slice_index bytes.now first ≡ 48)) (first ≡ 1 → slice_index bytes.now first ≢ 48) }
 {
     bytes[first] == b'0' && first == 1
 }
@@ -242,7 +251,7 @@ fn is_minus_zero(bytes: &[u8], first: usize) -> bool
 #[inline(always)]
 pub(crate) fn stops(bytes: &[u8], end: usize) -> bool
     requires { end ≤ length bytes.now }
-    ensures { OnTrue result (end < length bytes.now → class_of (slice_index bytes.now end) ≢ Run) }
+    ensures { MatchBool result (end < length bytes.now → class_of (slice_index bytes.now end) ≢ Run) ((end < length bytes.now) × (class_of (slice_index bytes.now end) ≡ Run)) }
 {
     end == bytes.len() || !is_of_run(bytes[end])
 }

@@ -1,21 +1,21 @@
 //! The text of a whole number inside the text that it is read from.
-ghost use Rattle.std.specs.Prelude.{◌≡◌, ◌≤◌, ◌<◌, ◌^◌, ◌+◌, ◌==◌, IfSome, length, take, slice_range};
-ghost use Rattle.std.specs.Bool.{OnTrue};
+ghost use Rattle.std.specs.Prelude.{◌≡◌, ◌≤◌, ◌<◌, ◌^◌, ◌+◌, ◌==◌, ℕ, Some, IfSome, MatchBool, length, take, slice_range, unsigned_abs};
 ghost use Rattle.std.specs.Fmt.{decimal, signed_decimal};
 ghost use Rattle.std.specs.Str.Parse.{AllDigits};
-ghost use Rattle.wkt_num.specs.Kept.{KeepsText};
+ghost use Rattle.wkt_num.specs.Kept.{KeepsText, FindsTexts, FindsShort};
 ghost use Rattle.wkt_num.specs.Parts.{IsWholeText, IsPrinted};
 ghost use Rattle.wkt_num.specs.Whole.{read_signed, read_unsigned};
 
 use crate::kept::{after_minus, digits_end, first_other, is_of_run, others_from, stops};
 
 /// Where the run of a number of so many bits beside the sign ends, and where its text does, which is all of it.
-/// `None` says nothing: the run may have more digits than surely fit.
+/// Each number of at most `most` digits is found.
 #[inline(always)]
 pub(crate) fn kept_signed(bits: u32, most: usize, bytes: &[u8]) -> Option<(usize, usize)>
     requires fits { 10 ^ most ≤ 2 ^ bits }
     requires narrow { bits ≤ 128 }
-    ensures { IfSome result (λ r. KeepsText (read_signed bits) signed_decimal bytes.now r.0 r.1) }
+    ensures keeps { IfSome result (λ r. KeepsText (read_signed bits) signed_decimal bytes.now r.0 r.1) }
+    ensures finds { 0 < most → FindsTexts signed_decimal (λ x. unsigned_abs x < 10 ^ most) bytes.now result }
 {
     match whole_end(most, bytes) {
         Some(end) => Some((end, end)),
@@ -31,6 +31,7 @@ pub(crate) fn signed_in_window(bits: u32, most: usize, bytes: &[u8]) -> Option<(
     requires narrow { bits ≤ 128 }
     ensures keeps { IfSome result (λ r. KeepsText (read_signed bits) signed_decimal bytes.now r.0 r.1) }
     ensures within { IfSome result (λ r. r.0 < 32) }
+    ensures finds { 0 < most → FindsShort signed_decimal (λ x. unsigned_abs x < 10 ^ most) bytes.now result }
 {
     match end_in_window(most, bytes) {
         Some(end) => Some((end, end)),
@@ -43,7 +44,8 @@ pub(crate) fn signed_in_window(bits: u32, most: usize, bytes: &[u8]) -> Option<(
 pub(crate) fn kept_unsigned(bits: u32, most: usize, bytes: &[u8]) -> Option<(usize, usize)>
     requires fits { 10 ^ most ≤ 2 ^ bits }
     requires narrow { bits ≤ 128 }
-    ensures { IfSome result (λ r. KeepsText (read_unsigned bits) decimal bytes.now r.0 r.1) }
+    ensures keeps { IfSome result (λ r. KeepsText (read_unsigned bits) decimal bytes.now r.0 r.1) }
+    ensures finds { 0 < most → FindsTexts decimal (λ x. x < 10 ^ most) bytes.now result }
 {
     match whole_end(most, bytes) {
         Some(end) => {
@@ -64,6 +66,7 @@ pub(crate) fn unsigned_in_window(bits: u32, most: usize, bytes: &[u8]) -> Option
     requires narrow { bits ≤ 128 }
     ensures keeps { IfSome result (λ r. KeepsText (read_unsigned bits) decimal bytes.now r.0 r.1) }
     ensures within { IfSome result (λ r. r.0 < 32) }
+    ensures finds { 0 < most → FindsShort decimal (λ x. x < 10 ^ most) bytes.now result }
 {
     match end_in_window(most, bytes) {
         Some(end) => {
@@ -79,7 +82,8 @@ pub(crate) fn unsigned_in_window(bits: u32, most: usize, bytes: &[u8]) -> Option
 /// Where a whole number of at most so many digits ends that the bytes begin with, as it is printed.
 #[inline(always)]
 fn whole_end(most: usize, bytes: &[u8]) -> Option<usize>
-    ensures { IfSome result (λ end. IsWholeText most bytes.now end) }
+    ensures whole { IfSome result (λ end. IsWholeText most bytes.now end) }
+    ensures finds { (end : ℕ) → IsWholeText most bytes.now end → result ≡ Some end }
 {
     let first = after_minus(bytes);
     let end = digits_end(bytes, first);
@@ -95,6 +99,7 @@ fn end_in_window(most: usize, bytes: &[u8]) -> Option<usize>
     requires { 32 ≤ length bytes.now }
     ensures whole { IfSome result (λ end. IsWholeText most bytes.now end) }
     ensures within { IfSome result (λ end. end < 32) }
+    ensures finds { (end : ℕ) → IsWholeText most bytes.now end → end < 32 → result ≡ Some end }
 {
     let first = after_minus(bytes);
     let others = others_from(bytes, first);
@@ -112,7 +117,7 @@ fn end_in_window(most: usize, bytes: &[u8]) -> Option<usize>
 fn is_printed(most: usize, bytes: &[u8], first: usize, end: usize) -> bool
     requires order { first ≤ end }
     requires within { end ≤ length bytes.now }
-    ensures { OnTrue result (IsPrinted most bytes.now first end) }
+    ensures { MatchBool result (IsPrinted most bytes.now first end) (IsPrinted most bytes.now first end → ⊥) }
 {
     let count = end - first;
     if count == 0 || count > most {

@@ -31,7 +31,8 @@ pub trait WktNum: Copy + PartialEq + PartialOrd + Debug {
         ensures { Puts W.sink f.old (num self.now) f.new result };
 
     /// Where the number run that the bytes begin with ends, and where its number's text does, which is a
-    /// beginning of it. `None` says nothing of the bytes.
+    /// beginning of it. `None` says nothing of the bytes, unless the type says which texts it finds. Whole
+    /// numbers and decimals do, in their own clauses.
     fn kept_text(bytes: &[u8]) -> Option<(usize, usize)>
         ensures { IfSome result (λ r. KeepsText read num bytes.now r.0 r.1) }
     {

@@ -1,5 +1,4 @@
 pub mod Parts
-pub mod Quiet
 pub mod Blamed
 pub mod Coords
 pub mod Readings
@@ -12,7 +11,6 @@ pub mod Reaches
 pub mod Early
 pub mod Free
 pub mod Answering
-pub mod Bridge
 pub mod OneMessage
 pub mod Valued
 pub mod Refusals

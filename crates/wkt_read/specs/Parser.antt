@@ -1,4 +1,3 @@
-pub mod Reading
 pub mod Outcome
 pub mod Promises
 pub mod Reads

@@ -2,7 +2,7 @@
 ghost use Rattle.std.specs.Prelude.{◌≡◌};
 ghost use Rattle.std.specs.Str.{str_to_ascii_uppercase};
 ghost use Rattle.wkt_read.specs.Grammar.{kind_word, dim_word};
-ghost use Rattle.wkt_read.specs.Parser.Reading.{is_empty_word};
+ghost use Rattle.wkt_read.specs.Parser.Outcome.{is_empty_word};
 ghost use Rattle.std.specs.List.{AllByRecursion};
 ghost use Rattle.wkt_read.specs.Header.{begins};
 ghost use Rattle.wkt_read.specs.HeaderSteps.{Strips, BeginsKind};

@@ -3,21 +3,9 @@ use crate::asserts::equal;
 use std::alloc::{AllocError, Global};
 use std::test::Fail;
 use wkt::events::NoRoom;
-use wkt::geo_types::{Coord, Geometry, Rect};
-use wkt::geo_types_from_wkt::ConvertFrom;
+use wkt::geo_types::{Coord, Rect};
 use wkt::to_wkt::{Counted, push_geometry};
-use wkt::{
-    AnyError, Decimal, FromWktStr, ToWkt, WholeError, Wkt, canonical_into, canonical_text,
-    front_end, infer_type, read_whole,
-};
-
-#[test]
-fn writes_the_canonical_text(rt: HostRuntime) -> Result<(), Fail> {
-    let alloc = rt.alloc();
-    let key = canonical_text::<Decimal<6>>(alloc, "point z (1.50 2 -0) and more")?;
-    equal(&rt, key.as_str(), "POINT Z(1.5 2 0)");
-    Ok(())
-}
+use wkt::{AnyError, Decimal, FromWktStr, ToWkt, Wkt, canonical_into, infer_type};
 
 // Bytes to write into.
 fn room(alloc: Global, size: usize) -> Result<Vec<u8>, AllocError> {
@@ -42,33 +30,6 @@ fn writes_it_into_a_buffer(rt: HostRuntime) -> Result<(), Fail> {
     assert!(rt; matches!(none, Err(NoRoom)));
     let refused = canonical_into::<Decimal<6>>("POINT(1)", short.as_mut_slice());
     assert!(rt; matches!(refused, Ok(None)));
-    Ok(())
-}
-
-#[test]
-fn ends_the_front(rt: HostRuntime) {
-    assert!(rt; front_end::<Decimal<6>>("POINT(1 2) and more") == Some(10));
-    assert!(rt; front_end::<Decimal<6>>("POINT(1)").is_none());
-}
-
-// The text of the flat geometry that a text is.
-fn flat_of_whole(alloc: Global, text: &str) -> Result<String, AnyError> {
-    let flat = Geometry::<i32>::convert_from(alloc, read_whole(alloc, text)?)?;
-    Ok(flat.wkt_string(alloc)?)
-}
-
-#[test]
-fn reads_whole_into_flat(rt: HostRuntime) -> Result<(), Fail> {
-    let alloc = rt.alloc();
-    equal(
-        &rt,
-        flat_of_whole(alloc, "POINT Z(1 2 3) ")?.as_str(),
-        "POINT(1 2)",
-    );
-    match flat_of_whole(alloc, "POINT(1 2) x") {
-        Err(AnyError::Whole(WholeError::Rest(at))) => equal(&rt, at, 10),
-        _ => assert!(rt; false),
-    }
     Ok(())
 }
 

@@ -3,96 +3,11 @@ use crate::asserts::equal;
 use std::alloc::Global;
 use std::test::Fail;
 use wkt::tokenizer::{PeekableTokens, Token, Tokens};
-use wkt::types::{Coord, Dimension, GeometryCollection, LineString, MultiPoint, Point, Polygon};
-use wkt::{Decimal, FromWktStr, ReadError, Wkt};
+use wkt::{FromWktStr, ReadError, Wkt};
 
 const BAD_NUMBER: &str = "Unable to parse input number as the desired output type";
 
 const NO_CLOSING: &str = "Missing closing parenthesis for type";
-
-fn xy(x: i32, y: i32) -> Coord<i32> {
-    Coord {
-        x,
-        y,
-        z: None,
-        m: None,
-    }
-}
-
-fn xyz(x: i32, y: i32, z: i32) -> Coord<i32> {
-    Coord {
-        x,
-        y,
-        z: Some(z),
-        m: None,
-    }
-}
-
-fn xym(x: i32, y: i32, m: i32) -> Coord<i32> {
-    Coord {
-        x,
-        y,
-        z: None,
-        m: Some(m),
-    }
-}
-
-#[test]
-fn reads_points(rt: HostRuntime) -> Result<(), Fail> {
-    let alloc = rt.alloc();
-    let (m, zm) = (Dimension::XYM, Dimension::XYZM);
-    for (text, want) in [
-        (
-            " \n\t\rPOINT \n\t\r( \n\r\t10 \n\t\r-20 \n\t\r) \n\t\r",
-            Point::new(Some(xy(10, -20)), Dimension::XY),
-        ),
-        (
-            "POINTZ(-117 33 10)",
-            Point::new(Some(xyz(-117, 33, 10)), Dimension::XYZ),
-        ),
-        ("pointm(1 2 3)", Point::new(Some(xym(1, 2, 3)), m)),
-        ("POINT (+-2 5)", Point::new(Some(xy(-2, 5)), Dimension::XY)),
-        ("POINT ZM EMPTY", Point::new(None, zm)),
-    ] {
-        let read = Wkt::<i32>::from_str(alloc, text)?;
-        assert!(rt; read == Wkt::from(want), "at {text}");
-    }
-    Ok(())
-}
-
-// A reader that gives up on lists fails here.
-#[test]
-fn reads_lists(rt: HostRuntime) -> Result<(), Fail> {
-    let alloc = rt.alloc();
-    let (plain, z) = (Dimension::XY, Dimension::XYZ);
-    let line = LineString::new(Vec::from_array(alloc, [xyz(1, 2, 3)])?, z);
-    assert!(rt; Wkt::<i32>::from_str(alloc, "LINEARRING Z(1 2 3)")? == Wkt::from(line));
-    let ring = LineString::new(Vec::new(alloc), plain);
-    let polygon = Polygon::new(Vec::from_array(alloc, [ring])?, plain);
-    assert!(rt; Wkt::<i32>::from_str(alloc, "POLYGON(EMPTY)")? == Wkt::from(polygon));
-    let points = [
-        Point::new(Some(xy(8, 4)), plain),
-        Point::new(Some(xy(4, 0)), plain),
-    ];
-    let points = MultiPoint::new(Vec::from_array(alloc, points)?, plain);
-    assert!(rt; Wkt::<i32>::from_str(alloc, "MULTIPOINT (8 4, (4 0))")? == Wkt::from(points));
-    let points = [
-        Point::new(Some(xyz(1, 2, 3)), z),
-        Point::new(None, z),
-        Point::new(Some(xyz(4, 5, 6)), z),
-    ];
-    let points = MultiPoint::new(Vec::from_array(alloc, points)?, z);
-    let read = Wkt::<i32>::from_str(alloc, "multipoint z(1 2 3,empty,(4 5 6))")?;
-    assert!(rt; read == Wkt::from(points));
-    let members = [
-        Wkt::from(Point::new(Some(xy(1, 2)), plain)),
-        Wkt::from(Point::new(Some(xym(1, 2, 3)), Dimension::XYM)),
-    ];
-    let members = GeometryCollection::new(Vec::from_array(alloc, members)?, z);
-    let read = Wkt::<i32>::from_str(alloc, "GEOMETRYCOLLECTION Z (POINT (1 2), POINT M(1 2 3))")?;
-    assert!(rt; read == Wkt::from(members));
-    Ok(())
-}
 
 // The number that `peek` returns, if it is one.
 fn peeked(tokens: &mut PeekableTokens<'_, i32>) -> Option<i32> {
@@ -103,25 +18,13 @@ fn peeked(tokens: &mut PeekableTokens<'_, i32>) -> Option<i32> {
 }
 
 #[test]
-fn gives_lexemes(rt: HostRuntime) {
-    let mut tokens = Tokens::<Decimal<6>>::from_str(".4 -2");
-    equal(
-        &rt,
-        &tokens.next(),
-        &Some(Ok(Token::Number(Decimal::from_units(400000)))),
-    );
-    equal(&rt, (tokens.end(), tokens.taken()), (2, 3));
-    equal(
-        &rt,
-        &tokens.next(),
-        &Some(Ok(Token::Number(Decimal::from_units(-2000000)))),
-    );
-    equal(&rt, &tokens.next(), &None);
+fn peeks(rt: HostRuntime) {
     let mut tokens = PeekableTokens::new(Tokens::<i32>::from_str("4.2p 7(¾"));
     equal(&rt, &tokens.next(), &Some(Err(BAD_NUMBER)));
     equal(&rt, peeked(&mut tokens), Some(7));
     equal(&rt, (tokens.end(), tokens.taken()), (4, 7));
     equal(&rt, &tokens.next(), &Some(Ok(Token::Number(7))));
+    equal(&rt, peeked(&mut tokens), None);
     equal(&rt, &tokens.next(), &Some(Ok(Token::ParenOpen)));
     equal(&rt, &tokens.next(), &Some(Ok(Token::Word("¾"))));
     equal(&rt, peeked(&mut tokens), None);

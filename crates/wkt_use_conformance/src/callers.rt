@@ -1,5 +1,5 @@
 //! The callers of `wkt_uses`, each called.
-use crate::asserts::{equal, equal_at};
+use crate::asserts::equal;
 use serde_json::Value;
 use std::alloc::Global;
 use std::process::Abort;
@@ -9,23 +9,18 @@ use wkt::geo_traits::{Dimensions, GeometryTrait};
 use wkt::geo_types::{Coord, Geometry, Line, LineString, Point};
 use wkt::to_wkt::CountedText;
 use wkt::tokenizer::{PeekableTokens, Tokens};
-use wkt::{Decimal, Expected, ReadError, ToWktError, TryFromWkt};
+use wkt::{Decimal, ToWktError, TryFromWkt};
 use wkt_lines::RunError;
 use wkt_uses::any_collection::{count_members, write_members};
 use wkt_uses::any_geometry::first_member;
 use wkt_uses::every_geometry::{every_geometry, every_geometry_of_stream};
 use wkt_uses::flat_from_reader::{CopyError, copy_polygon};
-use wkt_uses::flat_key::flat_key;
 use wkt_uses::flat_key_to_sink::write_flat_key;
 use wkt_uses::from_json::geometry_in;
 use wkt_uses::json_service::serve;
 use wkt_uses::key::key;
 use wkt_uses::my_map::{Figure, Map};
-use wkt_uses::my_number::Half;
 use wkt_uses::my_sinks::{Page, Piecewise, answers};
-use wkt_uses::read_and_write::{tidy, tidy_if_any, tidy_pair};
-use wkt_uses::refusal::{Answer, answer_to};
-use wkt_uses::same_place::same_place;
 use wkt_uses::scene::{Layer, scene_text};
 
 #[test]
@@ -150,25 +145,6 @@ const FLAT_KEYS: [(&str, &str); 4] = [
     ),
 ];
 
-/// The key of a flat geometry, and whether it reads back as that one.
-fn key_of(alloc: Global, geometry: &Geometry<Decimal<6>>) -> Result<(String, bool), Fail> {
-    let key = flat_key(alloc, geometry)?;
-    let reads_back = Geometry::try_from_wkt_str(alloc, &key)? == *geometry;
-    Ok((key, reads_back))
-}
-
-#[test]
-fn flat_keys(rt: HostRuntime) -> Result<(), Fail> {
-    let alloc = rt.alloc();
-    for (text, want) in &FLAT_KEYS {
-        let geometry = Geometry::<Decimal<6>>::try_from_wkt_str(alloc, text)?;
-        let (key, reads_back) = key_of(alloc, &geometry)?;
-        equal(&rt, key.as_str(), *want);
-        assert!(rt; reads_back, "{key}");
-    }
-    Ok(())
-}
-
 /// A page with room for so many bytes.
 fn page(alloc: Global, room: usize) -> Page {
     Page {
@@ -226,15 +202,6 @@ fn flat_keys_to_sinks(rt: HostRuntime) -> Result<(), Fail> {
 }
 
 #[test]
-fn reads_halves(rt: HostRuntime) -> Result<(), Fail> {
-    let alloc = rt.alloc();
-    let line = tidy::<Half>(alloc, "linestring (0 .5, 1 +1)")?;
-    equal(&rt, line.as_str(), "LINESTRING(0 .5,1 1)");
-    assert!(rt; tidy::<Half>(alloc, "POINT (0 0.5)").is_err());
-    Ok(())
-}
-
-#[test]
 fn runs(rt: HostRuntime) -> Result<(), Fail> {
     let alloc = rt.alloc();
     let input = b"point ( 10 -20.50 )\nPOINT (10)\n";
@@ -245,42 +212,6 @@ fn runs(rt: HostRuntime) -> Result<(), Fail> {
         b"POINT(10 -20.5)\nrefused\n".as_slice(),
     );
     assert!(rt; matches!(answers(alloc, input, 23), Err(RunError::Write(_))));
-    Ok(())
-}
-
-#[test]
-fn reads_and_writes(rt: HostRuntime) -> Result<(), Fail> {
-    let alloc = rt.alloc();
-    let text = tidy::<Decimal<6>>(alloc, "linestring z (1 2 3, 4 5.50 6)")?;
-    equal(&rt, text.as_str(), "LINESTRING Z(1 2 3,4 5.5 6)");
-    let pair = tidy_pair::<Decimal<6>>(alloc, "POINT (1 2)", "LINESTRING EMPTY")?;
-    equal(
-        &rt,
-        pair.as_str(),
-        "GEOMETRYCOLLECTION(POINT(1 2),LINESTRING EMPTY)",
-    );
-    assert!(rt; tidy_if_any::<Decimal<6>>(alloc, "POINT (1)")?.is_none());
-    match tidy::<Decimal<6>>(alloc, "CIRCLE (1 2)") {
-        Err(ReadError::Text(message)) => equal(&rt, message, "Invalid type encountered"),
-        _ => assert!(rt; false),
-    }
-    Ok(())
-}
-
-const PLACES: [(&str, &str, bool); 5] = [
-    ("POINT (1 2)", "point(1.0 +2.)", true),
-    ("MULTIPOINT (1 2)", "MULTIPOINT ((1 2))", true),
-    ("LINEARRING (1 2)", "LINESTRING (1 2)", true),
-    ("POINT (1 2)", "POINT (2 1)", false),
-    ("POINT Z EMPTY", "POINT EMPTY", false),
-];
-
-#[test]
-fn compares(rt: HostRuntime) -> Result<(), Fail> {
-    let alloc = rt.alloc();
-    for (one, other, same) in PLACES {
-        equal_at(&rt, one, same_place::<Decimal<6>>(alloc, one, other)?, same);
-    }
     Ok(())
 }
 
@@ -327,22 +258,5 @@ fn scenes(rt: HostRuntime) -> Result<(), Fail> {
         scene_text(alloc, &scene)?.as_str(),
         "GEOMETRYCOLLECTION(POINT(0 7),GEOMETRYCOLLECTION(LINESTRING(1 -2,3 4)),GEOMETRYCOLLECTION EMPTY)",
     );
-    Ok(())
-}
-
-#[test]
-fn answers_texts(rt: HostRuntime) -> Result<(), Fail> {
-    let alloc = rt.alloc();
-    match answer_to::<Decimal<6>>(alloc, "point ( 1 2.50 )")? {
-        Answer::Text(text) => equal(&rt, text.as_str(), "POINT(1 2.5)"),
-        Answer::Refused(..) => assert!(rt; false, "refused"),
-    }
-    match answer_to::<Decimal<6>>(alloc, "POINT(1)")? {
-        Answer::Text(_) => assert!(rt; false, "read"),
-        Answer::Refused(start, end, expected) => {
-            equal(&rt, (start, end), (7, 8));
-            assert!(rt; expected == Expected::Y);
-        }
-    }
     Ok(())
 }

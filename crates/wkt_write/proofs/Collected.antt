@@ -1,5 +1,5 @@
 -- A collection's text by the pieces that are put out: its header, what begins its list, its members, and what ends the list.
-use Rattle.std.proofs.Common.{◌≡◌, ℕ, List, ◌++◌, map, Bool, eqb}
+use Rattle.std.proofs.Common.{◌≡◌, ℕ, List, ◌++◌, map, eqb}
 use Rattle.std.specs.Prelude.{codes, Result}
 use Rattle.wkt_access.specs.declared.dimensions.Dimensions.{Dimensions}
 use Rattle.wkt_access.specs.Parts.{members_of, dimension_of, IsCollectionOf}

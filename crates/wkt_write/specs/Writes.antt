@@ -1,11 +1,12 @@
--- What a writer of a shape answers, and leaves in the sink: `s` is the sink before, and `t` after.
-use Rattle.std.specs.Prelude.{◌≡◌, ℕ, List, Some, None, Result, Ok, Err}
+-- What a writer of a shape returns, and leaves in the sink: `s` is the sink before, and `t` after.
+use Rattle.std.specs.Prelude.{◌≡◌, ℕ, List, ◌++◌, Some, None, Result, Ok, Err, OnOk}
 use Rattle.wkt_num.specs.Sink.{Sink, Adds, Breaks}
 use Rattle.wkt_access.specs.declared.error.Error.{Error}
 use Rattle.wkt_access.specs.declared.error.Error.TheVariants.{FmtError, RectUnsupportedDimension, UnknownDimension, TooFewNumbers, Memory}
 use Rattle.wkt_access.specs.Shapes.{Shape}
 use Rattle.wkt_access.specs.Texts.{shape_text}
 use Rattle.wkt_access.specs.Faults.{fault}
+use Rattle.wkt_access.specs.Faults as faults
 use Rattle.wkt_access.specs.Lawful.{IsLawful}
 
 -- The shape has no fault, its printed numbers are values of the number type, and exactly its text was added.
@@ -24,7 +25,7 @@ pub record Refused {S N : Type 0} (s : S) (shape : Shape N) (t : S) (e : Error) 
   pub found : fault shape ≡ Some e
   pub same : t ≡ s
 
--- The sink's fault is told as such, and any other error is the fault of the shape.
+-- `FmtError` is the sink's, and any other error is the fault of the shape.
 abbrev pub Fails : {S N : Type 0} → Sink S → (N → List ℕ) → S → Shape N → S → Error → Type 0
 Fails sink num s shape t (FmtError e) = BrokenOff sink num s shape t
 Fails sink num s shape t RectUnsupportedDimension = Refused s shape t RectUnsupportedDimension
@@ -32,7 +33,7 @@ Fails sink num s shape t UnknownDimension = Refused s shape t UnknownDimension
 Fails sink num s shape t TooFewNumbers = Refused s shape t TooFewNumbers
 Fails sink num s shape t (Memory e) = Refused s shape t (Memory e)
 
--- What a writer answers: the text was written, or it wasn't for this error.
+-- What a writer returns: the text was written, or it wasn't for this error.
 abbrev pub Writes : {S T N : Type 0} → Sink S → (N → Type 0) → (N → List ℕ) → S → Shape N → S → Result T Error → Type 0
 Writes sink is_value num s shape t (Ok x) = Written sink is_value num s shape t
 Writes sink is_value num s shape t (Err e) = Fails sink num s shape t e
@@ -54,3 +55,12 @@ OnFmtError (Err RectUnsupportedDimension) P = Unit {0}
 OnFmtError (Err UnknownDimension) P = Unit {0}
 OnFmtError (Err TooFewNumbers) P = Unit {0}
 OnFmtError (Err (Memory e)) P = Unit {0}
+
+-- What a writer of a shape into a string returns, and leaves there: `s` is the string's bytes before, and `t` after.
+pub record Pushes {T N : Type 0} (is_value : N → Type 0) (num : N → List ℕ) (s : List ℕ) (shape : Shape N) (t : List ℕ) (r : Result T Error) : Type 0 where
+  pub added : OnOk r (t ≡ s ++ shape_text num shape)
+  pub sound : OnOk r (faults.fault shape ≡ None)
+  pub lawful : OnOk r (IsLawful is_value shape)
+  pub fault : IfFault r (λ e. faults.fault shape ≡ Some e)
+  pub untouched : IfFault r (λ e. t ≡ s)
+  pub memory : OnFmtError r (faults.fault shape ≡ None)

@@ -19,7 +19,7 @@ use crate::check::{
     check_coord, check_coords, check_geometry, check_header, check_point_coord, check_rings,
     dimension_in, size_in,
 };
-use crate::put_kinds::put_geometry;
+use crate::put_geometries::put_geometry;
 use crate::put_parts::{
     put_closing, put_coord, put_coords, put_header, put_opening, put_point_body, put_polygon_body,
     put_separator,

@@ -1,28 +1,30 @@
-//! The eleven writers. Each checks the whole shape first, so that nothing is written of one that is refused.
+//! The eleven writers. Each checks the whole shape first, so nothing is written of one that is refused.
 #![tactic(auto)]
 
-ghost use Rattle.std.specs.Prelude.{◌≡◌, ◌++◌, OnOk, Some, None, string_bytes};
-ghost use Rattle.wkt_access.specs.Faults.{fault};
-ghost use Rattle.wkt_access.specs.Lawful.{IsLawful};
 ghost use Rattle.wkt_access.specs.Parts.{collection_of};
 ghost use Rattle.wkt_access.specs.Shapes.{Shape};
-ghost use Rattle.wkt_access.specs.Texts.{shape_text};
-ghost use Rattle.wkt_write.specs.Writes.{Writes, IfFault, OnFmtError};
+ghost use Rattle.wkt_write.specs.Writes.{Writes};
 
-use crate::check::{
-    check_collection, check_geometry, check_line, check_linestring, check_multi_linestring,
-    check_multi_point, check_multi_polygon, check_point, check_polygon, check_rect, check_triangle,
-};
-use crate::put_kinds::{
-    put_collection, put_geometry, put_line, put_linestring, put_multi_linestring, put_multi_point,
-    put_multi_polygon, put_point, put_polygon, put_rect, put_triangle,
+use crate::kinds::{
+    AnyGeometry, Collection, Kind, Line, LineString, MultiLineString, MultiPoint, MultiPolygon,
+    Point, Polygon, Rect, Triangle,
 };
 use wkt_access::{
     Error, GeometryCollectionTrait, GeometryTrait, LineStringTrait, LineTrait,
     MultiLineStringTrait, MultiPointTrait, MultiPolygonTrait, PointTrait, PolygonTrait, RectTrait,
     TriangleTrait,
 };
-use wkt_num::{CountedText, TextSink, WktNum};
+use wkt_num::{TextSink, WktNum};
+
+/// Writes a geometry of one kind, if its check finds no fault.
+#[inline(always)]
+pub(crate) fn write_kind<W: TextSink, K: Kind>(f: &mut W, g: &K) -> Result<(), Error>
+    ensures { Writes W.sink K.is_value K.num f.old (K.shape g.now) f.new result }
+{
+    g.check()?;
+    g.put(f)?;
+    Ok(())
+}
 
 /// Writes a point, as `POINT Z(1 2 3)` or `POINT EMPTY`.
 ///
@@ -34,9 +36,7 @@ pub fn write_point<W: TextSink, P: PointTrait>(f: &mut W, g: &P) -> Result<(), E
     ensures { Writes W.sink P.T.is_value P.T.num f.old (Shape.point (P.dimension g.now) (P.coordinate g.now))
         f.new result }
 {
-    check_point(g)?;
-    put_point(f, g)?;
-    Ok(())
+    write_kind(f, &Point(g))
 }
 
 /// Writes a line string, as `LINESTRING(1 2,3 4)` or `LINESTRING M EMPTY`.
@@ -47,9 +47,7 @@ pub fn write_linestring<W: TextSink, L: LineStringTrait>(f: &mut W, g: &L) -> Re
     ensures { Writes W.sink L.T.is_value L.T.num f.old (Shape.line_string (L.dimension g.now) (L.coordinates g.now))
         f.new result }
 {
-    check_linestring(g)?;
-    put_linestring(f, g)?;
-    Ok(())
+    write_kind(f, &LineString(g))
 }
 
 /// Writes a polygon, as `POLYGON((0 0,1 0,0 1,0 0))` with its exterior first.
@@ -63,9 +61,7 @@ pub fn write_polygon<W: TextSink, Y: PolygonTrait>(f: &mut W, g: &Y) -> Result<(
     ensures { Writes W.sink Y.T.is_value Y.T.num f.old (Shape.polygon (Y.dimension g.now) (Y.polygon g.now))
         f.new result }
 {
-    check_polygon(g)?;
-    put_polygon(f, g)?;
-    Ok(())
+    write_kind(f, &Polygon(g))
 }
 
 /// Writes a list of points, as `MULTIPOINT((1 2),EMPTY)`: each in parentheses, an empty one `EMPTY`.
@@ -78,9 +74,7 @@ pub fn write_multi_point<W: TextSink, M: MultiPointTrait>(f: &mut W, g: &M) -> R
     ensures { Writes W.sink M.T.is_value M.T.num f.old (Shape.multi_point (M.dimension g.now) (M.points g.now))
         f.new result }
 {
-    check_multi_point(g)?;
-    put_multi_point(f, g)?;
-    Ok(())
+    write_kind(f, &MultiPoint(g))
 }
 
 /// Writes a list of line strings, as `MULTILINESTRING((1 2,3 4),EMPTY)`.
@@ -96,9 +90,7 @@ pub fn write_multi_linestring<W: TextSink, M: MultiLineStringTrait>(
     ensures { Writes W.sink M.T.is_value M.T.num f.old
         (Shape.multi_line_string (M.dimension g.now) (M.line_strings g.now)) f.new result }
 {
-    check_multi_linestring(g)?;
-    put_multi_linestring(f, g)?;
-    Ok(())
+    write_kind(f, &MultiLineString(g))
 }
 
 /// Writes a list of polygons, as `MULTIPOLYGON(((0 0,1 0,0 1,0 0)),EMPTY)`.
@@ -111,9 +103,7 @@ pub fn write_multi_polygon<W: TextSink, M: MultiPolygonTrait>(f: &mut W, g: &M) 
     ensures { Writes W.sink M.T.is_value M.T.num f.old (Shape.multi_polygon (M.dimension g.now) (M.polygons g.now))
         f.new result }
 {
-    check_multi_polygon(g)?;
-    put_multi_polygon(f, g)?;
-    Ok(())
+    write_kind(f, &MultiPolygon(g))
 }
 
 /// Writes a geometry of any kind.
@@ -132,33 +122,7 @@ pub fn write_multi_polygon<W: TextSink, M: MultiPolygonTrait>(f: &mut W, g: &M) 
 pub fn write_geometry<W: TextSink, G: GeometryTrait>(f: &mut W, g: &G) -> Result<(), Error>
     ensures { Writes W.sink G.T.is_value G.T.num f.old (G.shape g.now) f.new result }
 {
-    check_geometry(g)?;
-    put_geometry(f, g)?;
-    Ok(())
-}
-
-/// Adds the text of a geometry of any kind to a string.
-///
-/// ```text
-/// let mut out = String::new(alloc);
-/// push_geometry(&mut out, &rect)?;
-/// ```
-///
-/// # Errors
-/// As [`write_geometry`]: the geometry's first error in the order of its text, and then the string is as it was;
-/// [`Error::FmtError`] where the string has no memory to grow into; then the geometry has no fault.
-pub fn push_geometry<G: GeometryTrait>(out: &mut String, g: &G) -> Result<(), Error>
-    ensures added { OnOk result (string_bytes out.new ≡ string_bytes out.old ++ shape_text G.T.num (G.shape g.now)) }
-    ensures sound { OnOk result (fault (G.shape g.now) ≡ None) }
-    ensures lawful { OnOk result (IsLawful G.T.is_value (G.shape g.now)) }
-    ensures fault { IfFault result (λ e. fault (G.shape g.now) ≡ Some e) }
-    ensures untouched { IfFault result (λ e. string_bytes out.new ≡ string_bytes out.old) }
-    ensures memory { OnFmtError result (fault (G.shape g.now) ≡ None) }
-{
-    let mut sink = CountedText::new(out);
-    let result = write_geometry(&mut sink, g);
-    sink.into_writer();
-    result
+    write_kind(f, &AnyGeometry(g))
 }
 
 /// Writes a collection, as `GEOMETRYCOLLECTION(POINT(1 2))` or `GEOMETRYCOLLECTION EMPTY`.
@@ -172,9 +136,7 @@ pub fn write_geometry_collection<W: TextSink, C: GeometryCollectionTrait>(
     ensures { Writes W.sink C.T.is_value C.T.num f.old (collection_of (C.dimension g.now) (C.geometries g.now))
         f.new result }
 {
-    check_collection(g)?;
-    put_collection(f, g)?;
-    Ok(())
+    write_kind(f, &Collection(g))
 }
 
 /// Writes a rectangle as a polygon of five coordinates.
@@ -188,9 +150,7 @@ pub fn write_rect<W: TextSink, R: RectTrait>(f: &mut W, g: &R) -> Result<(), Err
     ensures { Writes W.sink R.T.is_value R.T.num f.old
         (Shape.rect (R.dimension g.now) (R.min_corner g.now) (R.max_corner g.now)) f.new result }
 {
-    check_rect(g)?;
-    put_rect(f, g)?;
-    Ok(())
+    write_kind(f, &Rect(g))
 }
 
 /// Writes a triangle as a polygon of its three corners and the first again.
@@ -202,9 +162,7 @@ pub fn write_triangle<W: TextSink, Y: TriangleTrait>(f: &mut W, g: &Y) -> Result
         (Shape.triangle (Y.dimension g.now) (Y.first_corner g.now) (Y.second_corner g.now) (Y.third_corner g.now))
         f.new result }
 {
-    check_triangle(g)?;
-    put_triangle(f, g)?;
-    Ok(())
+    write_kind(f, &Triangle(g))
 }
 
 /// Writes a line as a line string of its two ends.
@@ -215,7 +173,5 @@ pub fn write_line<W: TextSink, L: LineTrait>(f: &mut W, g: &L) -> Result<(), Err
     ensures { Writes W.sink L.T.is_value L.T.num f.old (Shape.line (L.dimension g.now) (L.from g.now) (L.to g.now))
         f.new result }
 {
-    check_line(g)?;
-    put_line(f, g)?;
-    Ok(())
+    write_kind(f, &Line(g))
 }

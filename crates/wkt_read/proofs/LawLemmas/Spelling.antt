@@ -6,7 +6,7 @@ use Rattle.std.specs.Char.{to_ascii_uppercase, to_ascii_lowercase}
 use Rattle.std.proofs.lemmas.Slice.Eq.{bytes_eq-Decides}
 use Rattle.std.proofs.lemmas.Str.Ascii.{lowercase-uppercase}
 use Rattle.std.proofs.lemmas.Bool.Decides.{nat_tests, same_from_decides, Decides-like}
-use Rattle.wkt_read.specs.Parser.Reading.{is_empty_word}
+use Rattle.wkt_read.specs.Parser.Outcome.{is_empty_word}
 
 lowers : (bs : List ℕ) → str_to_ascii_lowercase (str_to_ascii_uppercase bs) ≡ str_to_ascii_lowercase bs
 lowers [] = refl

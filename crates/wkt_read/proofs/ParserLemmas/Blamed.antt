@@ -10,8 +10,7 @@ use Rattle.wkt_read.specs.Bad.{HasBad}
 use Rattle.wkt_read.specs.Grammar.{KindWord, kind_word, dim_word}
 use Rattle.wkt_read.specs.declared.messages.Message.{Message}
 use Rattle.wkt_read.specs.declared.messages.Message.TheVariants as message
-use Rattle.wkt_read.specs.Parser.Reading.{is_empty_word, members_read}
-use Rattle.wkt_read.specs.Parser.Outcome.{Outcome, ◌>>=◌, with_front, unless_bad, opening_at, closing_at, closed, framed, tail_at, many_at, number_in, number_at, coord_at, worded, numbered, dimension_at, joined_or_at, kinded, no_word, no_kind, is_ascii_word, header_at, inside_at, member_at, body_at, value_at}
+use Rattle.wkt_read.specs.Parser.Outcome.{is_empty_word, members_read, Outcome, ◌>>=◌, with_front, unless_bad, opening_at, closing_at, closed, framed, tail_at, many_at, number_in, number_at, coord_at, worded, numbered, dimension_at, joined_or_at, kinded, no_word, no_kind, is_ascii_word, header_at, inside_at, member_at, body_at, value_at}
 
 -- these are the last of the lexemes
 abbrev pub Ends : List Lexeme → List Lexeme → Type 0

@@ -3,13 +3,15 @@ use Rattle.std.proofs.Common.{◌≡◌, ℕ, zero, suc, ◌≤◌, List, [], �
 use Rattle.std.specs.Prelude.{◌⊎◌}
 use Rattle.wkt_num.specs.Bytes.{Lexeme, Open, Close, Comma, Word, Num}
 use Rattle.wkt_access.specs.declared.dimensions.Dimension.{Dimension}
+use Rattle.wkt_access.specs.declared.dimensions.Dimension.TheVariants.{XY, XYZ, XYM, XYZM}
 use Rattle.wkt_access.specs.Values.{size}
 use Rattle.wkt_read.specs.Grammar.{IsEmptyWord, Within, Numbers, Coord, Ring, Poly, Member}
 use Rattle.wkt_read.specs.Begun.{BegunCoord, BegunRing, BegunPoly, BegunMember}
-use Rattle.wkt_read.specs.Parser.Reading.{is_empty_word, number_in, number_at, coord_at, inside_at, line_string_at, line_strings_at, member_at, closing_at}
+use Rattle.wkt_read.specs.Parser.Outcome.{is_empty_word, number_in, number_at, coord_at, inside_at, line_string_at, line_strings_at, member_at, closing_at}
+use Rattle.wkt_read.specs.declared.messages.Message.{Message}
 use Rattle.wkt_read.proofs.LawLemmas.OneForm.{coord_starts}
 use Rattle.wkt_read.proofs.LawLemmas.Begun.{cuts_word, cuts_numbers, cuts_coord, cuts_member}
-use Rattle.wkt_read.proofs.ParserLemmas.Tells.{told, tell, andthen, mapped, closed_f, numbers_f, coord_f, inside_f, line_string_f, line_strings_f, member_f, plain_coord, plain_member}
+use Rattle.wkt_read.proofs.ParserLemmas.Tells.{told, tell, andthen, mapped, closed_f, parts, numbers_f, coord_f, inside_f, line_string_f, line_strings_f, member_f, plain_coord, plain_member}
 use Rattle.wkt_read.proofs.ParserLemmas.Told.{Told, told_then, told_weaken, told_closed, Framed, BegunFrame, empty_is, is_empty}
 use Rattle.wkt_read.proofs.ParserLemmas.Reaches.{reach, told_reach, reach_closed}
 use Rattle.wkt_read.proofs.ParserLemmas.Parts.{Part, Anything, Just, just_part, listed_part, whole_begun, within_cut}
@@ -25,14 +27,14 @@ module _ {N : Type 0} (read : List ℕ → Option N) where
   told_run (Some x) run rest is = (Num run ∷ [], refl, (run, refl, is), refl)
   told_run None run rest is = ([], Num run ∷ [], refl, refl, refl, omega arith)
 
-  told_number : (ls : List Lexeme) → Told NumberPart Nothing ls (tell (number_at read) ls)
+  told_number : (m : Message) (ls : List Lexeme) → Told NumberPart Nothing ls (tell (number_at read m) ls)
   unfolding number_at
-  told_number [] = ([], [], refl, refl, refl, omega arith)
-  told_number (Num run ∷ rest) = told_run (read run) run rest refl
-  told_number (Open ∷ rest) = ([], Open ∷ [], refl, refl, refl, omega arith)
-  told_number (Close ∷ rest) = ([], Close ∷ [], refl, refl, refl, omega arith)
-  told_number (Comma ∷ rest) = ([], Comma ∷ [], refl, refl, refl, omega arith)
-  told_number (Word w ∷ rest) = ([], Word w ∷ [], refl, refl, refl, omega arith)
+  told_number m [] = ([], [], refl, refl, refl, omega arith)
+  told_number m (Num run ∷ rest) = told_run (read run) run rest refl
+  told_number m (Open ∷ rest) = ([], Open ∷ [], refl, refl, refl, omega arith)
+  told_number m (Close ∷ rest) = ([], Close ∷ [], refl, refl, refl, omega arith)
+  told_number m (Comma ∷ rest) = ([], Comma ∷ [], refl, refl, refl, omega arith)
+  told_number m (Word w ∷ rest) = ([], Word w ∷ [], refl, refl, refl, omega arith)
 
   -- n numbers, which k puts after others
   abbrev pub NumbersPart : ℕ → (List N → List N) → List Lexeme → List N → Type 0
@@ -41,33 +43,42 @@ module _ {N : Type 0} (read : List ℕ → Option N) where
   abbrev pub BegunNumbers : ℕ → List Lexeme → Type 0
   BegunNumbers n f = (xs : List N) × Numbers read f xs × (length xs ≤ n)
 
-  told_numbers : (n : ℕ) (k : List N → List N) (ls : List Lexeme) → Told (NumbersPart n k) (BegunNumbers n) ls (numbers_f read n k ls)
+  told_numbers : (ms : List Message) (k : List N → List N) (ls : List Lexeme) → Told (NumbersPart (length ms) k) (BegunNumbers (length ms)) ls (numbers_f read ms k ls)
   unfolding numbers_f
-  told_numbers zero k ls = ([], refl, ([], refl, refl, refl), refl)
-  told_numbers (suc n) k ls =
-      told_then NumberPart Nothing (λ x. NumbersPart n (λ xs. k (x ∷ xs))) (λ x. BegunNumbers n) (NumbersPart (suc n) k) (BegunNumbers (suc n)) ls (tell (number_at read) ls) _ (told_number ls)
-      (λ p g e w. told_numbers n (λ xs. k (p.0 ∷ xs)) p.1)
+  told_numbers [] k ls = ([], refl, ([], refl, refl, refl), refl)
+  told_numbers (m ∷ ms) k ls =
+      told_then NumberPart Nothing (λ x. NumbersPart (length ms) (λ xs. k (x ∷ xs))) (λ x. BegunNumbers (length ms)) (NumbersPart (length (m ∷ ms)) k) (BegunNumbers (length (m ∷ ms))) ls (tell (number_at read m) ls) _ (told_number m ls)
+      (λ p g e w. told_numbers ms (λ xs. k (p.0 ∷ xs)) p.1)
       (λ pre e. ([], e, omega arith))
       (λ x g c h (run, e, is) (xs, e2, m, len). (x ∷ xs, e2, (run, h, ap (λ l. l ++ h) e, is, m), omega (arith, len)))
       (λ x g h (run, e, is) (xs, m, le). (x ∷ xs, (run, h, ap (λ l. l ++ h) e, is, m), omega (arith, le)))
 
-  numbers_exact : (xs : List N) (k : List N → List N) (f r : List Lexeme) → Numbers read f xs → numbers_f read (length xs) k (f ++ r) ≡ Ok (k xs, r)
+  numbers_exact : (xs : List N) (ms : List Message) (k : List N → List N) (f r : List Lexeme) → Numbers read f xs → length xs ≡ length ms → numbers_f read ms k (f ++ r) ≡ Ok (k xs, r)
   unfolding numbers_f number_at
-  numbers_exact [] k f r e = ap (λ l. Ok (k [], l ++ r)) e
-  numbers_exact (x ∷ xs) k f r (run, more, e, is, m) =
-      ap (λ l. numbers_f read (suc (length xs)) k (l ++ r)) e
-      ∙ ap (λ o. andthen (told (Num run ∷ (more ++ r)) (number_in read o (more ++ r))) (λ x. numbers_f read (length xs) (λ xs. k (x.0 ∷ xs)) x.1)) is
-      ∙ numbers_exact xs (λ xs. k (x ∷ xs)) more r m
+  numbers_exact [] [] k f r e len = ap (λ l. Ok (k [], l ++ r)) e
+  numbers_exact [] (p ∷ ms) k f r e len = absurd (omega (arith, len))
+  numbers_exact (x ∷ xs) [] k f r m len = absurd (omega (arith, len))
+  numbers_exact (x ∷ xs) (p ∷ ms) k f r (run, more, e, is, m) len =
+      ap (λ l. numbers_f read (p ∷ ms) k (l ++ r)) e
+      ∙ ap (λ o. andthen (told (Num run ∷ (more ++ r)) (number_in read o (more ++ r))) (λ x. numbers_f read ms (λ xs. k (x.0 ∷ xs)) x.1)) is
+      ∙ numbers_exact xs ms (λ xs. k (x ∷ xs)) more r m (omega (arith, len))
 
-  numbers_reach : (xs : List N) (n : ℕ) (k : List N → List N) (b c : List Lexeme) → Numbers read b xs → length xs ≤ n → reach (numbers_f read n k (b ++ c)) ≤ length c
+  numbers_reach : (xs : List N) (ms : List Message) (k : List N → List N) (b c : List Lexeme) → Numbers read b xs → length xs ≤ length ms → reach (numbers_f read ms k (b ++ c)) ≤ length c
   unfolding numbers_f number_at
-  numbers_reach [] n k b c e le = subst (λ l. reach (numbers_f read n k (l ++ c)) ≤ length c) (sym e) (told_reach (NumbersPart n k) (BegunNumbers n) c (numbers_f read n k c) (told_numbers n k c))
-  numbers_reach (x ∷ xs) zero k b c m le = absurd (omega (arith, le))
-  numbers_reach (x ∷ xs) (suc n) k b c (run, more, e, is, m) le =
-      let e2 : numbers_f read (suc n) k (b ++ c) ≡ numbers_f read n (λ xs. k (x ∷ xs)) (more ++ c) =
-      ap (λ l. numbers_f read (suc n) k (l ++ c)) e
-      ∙ ap (λ o. andthen (told (Num run ∷ (more ++ c)) (number_in read o (more ++ c))) (λ x. numbers_f read n (λ xs. k (x.0 ∷ xs)) x.1)) is in
-      subst (λ t. reach t ≤ length c) (sym e2) (numbers_reach xs n (λ xs. k (x ∷ xs)) more c m (omega (arith, le)))
+  numbers_reach [] ms k b c e le = subst (λ l. reach (numbers_f read ms k (l ++ c)) ≤ length c) (sym e) (told_reach (NumbersPart (length ms) k) (BegunNumbers (length ms)) c (numbers_f read ms k c) (told_numbers ms k c))
+  numbers_reach (x ∷ xs) [] k b c m le = absurd (omega (arith, le))
+  numbers_reach (x ∷ xs) (p ∷ ms) k b c (run, more, e, is, m) le =
+      let e2 : numbers_f read (p ∷ ms) k (b ++ c) ≡ numbers_f read ms (λ xs. k (x ∷ xs)) (more ++ c) =
+      ap (λ l. numbers_f read (p ∷ ms) k (l ++ c)) e
+      ∙ ap (λ o. andthen (told (Num run ∷ (more ++ c)) (number_in read o (more ++ c))) (λ x. numbers_f read ms (λ xs. k (x.0 ∷ xs)) x.1)) is in
+      subst (λ t. reach t ≤ length c) (sym e2) (numbers_reach xs ms (λ xs. k (x ∷ xs)) more c m (omega (arith, le)))
+
+  -- a message for each number
+  parts_size : (d : Dimension) → length (parts d) ≡ size d
+  parts_size XY = refl
+  parts_size XYZ = refl
+  parts_size XYM = refl
+  parts_size XYZM = refl
 
   coord_cut : (d : Dimension) (a b : List Lexeme) → BegunCoord read d (a ++ b) → BegunCoord read d a
   coord_cut d a b (xs, m, le) = let (ys, n, le2) = cuts_numbers read xs (a ++ b) a b m refl in (ys, n, omega (arith, le, le2))
@@ -76,19 +87,19 @@ module _ {N : Type 0} (read : List ℕ → Option N) where
     pub coord_part : Part (Coord read d) (BegunCoord read d) Anything (coord_at read d) (coord_f read d) n
     coord_part = record {
       same = plain_coord read d;
-      told = λ ls le. told_weaken (NumbersPart (size d) (λ xs. xs)) (BegunNumbers (size d)) (Coord read d) (BegunCoord read d) ls (coord_f read d ls)
-          (λ f c (xs, e, m, len). subst (Coord read d f) (sym e) (m, len)) (λ f b. b) (told_numbers (size d) (λ xs. xs) ls);
-      exact = λ c f r (m, len) k le. subst (λ s. numbers_f read s (λ xs. xs) (f ++ r) ≡ Ok (c, r)) len (numbers_exact c (λ xs. xs) f r m);
-      reaches = λ b c (xs, m, few) le. numbers_reach xs (size d) (λ xs. xs) b c m few;
+      told = λ ls le. told_weaken (NumbersPart (length (parts d)) (λ xs. xs)) (BegunNumbers (length (parts d))) (Coord read d) (BegunCoord read d) ls (coord_f read d ls)
+          (λ f c (xs, e, m, len). subst (Coord read d f) (sym e) (m, len ∙ parts_size d)) (λ f (xs, m, few). (xs, m, omega (arith, few, parts_size d))) (told_numbers (parts d) (λ xs. xs) ls);
+      exact = λ c f r (m, len) k le. numbers_exact c (parts d) (λ xs. xs) f r m (len ∙ sym (parts_size d));
+      reaches = λ b c (xs, m, few) le. numbers_reach xs (parts d) (λ xs. xs) b c m (omega (arith, few, parts_size d));
       cuts = cuts_coord read d;
       begun = λ a b le h. coord_cut d a b h;
     }
 
     pub line_string_part : Part (Ring read d) (BegunRing read d) Anything (line_string_at read d n) (line_string_f read d n) n
-    line_string_part = listed_part (Coord read d) (BegunCoord read d) (coord_at read d) (coord_f read d) n coord_part
+    line_string_part = listed_part read (Coord read d) (BegunCoord read d) (coord_at read d) (coord_f read d) n coord_part
 
     pub line_strings_part : Part (Poly read d) (BegunPoly read d) Anything (line_strings_at read d n) (line_strings_f read d n) n
-    line_strings_part = listed_part (Ring read d) (BegunRing read d) (line_string_at read d n) (line_string_f read d n) n line_string_part
+    line_strings_part = listed_part read (Ring read d) (BegunRing read d) (line_string_at read d n) (line_string_f read d n) n line_string_part
 
     inside_part : Part (Just (Coord read d)) (BegunCoord read d) Anything (inside_at read d) (inside_f read d) n
     inside_part = just_part (Coord read d) (BegunCoord read d) (coord_at read d) (coord_f read d) n coord_part
@@ -120,7 +131,7 @@ module _ {N : Type 0} (read : List ℕ → Option N) where
     begin : (f : List Lexeme) (o : Option (List N)) → Just (Coord read d) f o → BegunCoord read d f
     begin = whole_begun (Just (Coord read d)) (BegunCoord read d) (inside_part d 0).cuts
 
-    frame_member : (f : List Lexeme) → BegunFrame None (inside_f read d) (Just (Coord read d)) (BegunCoord read d) begin f → TheBegun f
+    frame_member : (f : List Lexeme) → BegunFrame read None (inside_f read d) (Just (Coord read d)) (BegunCoord read d) begin f → TheBegun f
     frame_member f (inl e) = inr (inr (inl e))
     frame_member f (inr b) = inr (inr (inr (inl b)))
 
@@ -132,8 +143,8 @@ module _ {N : Type 0} (read : List ℕ → Option N) where
     unfolding member_f
     told_member [] = told_bare []
     told_member (Open ∷ rest) =
-        told_weaken (Framed None (inside_f read d) (Just (Coord read d)) (BegunCoord read d) begin) (BegunFrame None (inside_f read d) (Just (Coord read d)) (BegunCoord read d) begin) TheMember TheBegun (Open ∷ rest) (closed_f (inside_f read d rest))
-        in_parens frame_member (told_closed None (inside_f read d) (Just (Coord read d)) (BegunCoord read d) begin rest (inside_f read d rest) (told_inside rest))
+        told_weaken (Framed read None (inside_f read d) (Just (Coord read d)) (BegunCoord read d) begin) (BegunFrame read None (inside_f read d) (Just (Coord read d)) (BegunCoord read d) begin) TheMember TheBegun (Open ∷ rest) (closed_f read (inside_f read d rest))
+        in_parens frame_member (told_closed read None (inside_f read d) (Just (Coord read d)) (BegunCoord read d) begin rest (inside_f read d rest) (told_inside rest))
     told_member (Word w ∷ rest) = told_word w rest (is_empty_word w) refl
     told_member (Close ∷ rest) = told_bare (Close ∷ rest)
     told_member (Comma ∷ rest) = told_bare (Comma ∷ rest)
@@ -149,7 +160,7 @@ module _ {N : Type 0} (read : List ℕ → Option N) where
         let (run, more, e) = coord_starts read d f c h in
         ap (λ l. member_f read d (l ++ r)) e ∙ ap (λ l. inside_f read d (l ++ r)) (sym e) ∙ ap (mapped (λ c. Some c)) (coord_exact c f r h)
     member_exact (Some c) f r (inr (k, e, h)) =
-        ap (λ l. member_f read d (l ++ r)) e ∙ ap (λ l. closed_f (inside_f read d l)) (append_assoc k (Close ∷ []) r) ∙ ap (λ t. closed_f (mapped (λ c. Some c) t)) (coord_exact c k (Close ∷ r) h)
+        ap (λ l. member_f read d (l ++ r)) e ∙ ap (λ l. closed_f read (inside_f read d l)) (append_assoc k (Close ∷ []) r) ∙ ap (λ t. closed_f read (mapped (λ c. Some c) t)) (coord_exact c k (Close ∷ r) h)
 
     nothing_reach : (b c : List Lexeme) → b ≡ [] → reach (member_f read d (b ++ c)) ≤ length c
     nothing_reach b c e = subst (λ l. reach (member_f read d (l ++ c)) ≤ length c) (sym e) (told_reach TheMember TheBegun c (member_f read d c) (told_member c))
@@ -165,7 +176,7 @@ module _ {N : Type 0} (read : List ℕ → Option N) where
     member_reach b c (inr (inl (x ∷ xs, (run, more, e, is, m), le))) =
         subst (λ l. reach (member_f read d (l ++ c)) ≤ length c) (sym e) (inside_reach (Num run ∷ more) c (x ∷ xs, (run, more, refl, is, m), le))
     member_reach b c (inr (inr (inl e))) = nothing_reach b c e
-    member_reach b c (inr (inr (inr (inl (k, e, h))))) = subst (λ l. reach (member_f read d (l ++ c)) ≤ length c) (sym e) (reach_closed (inside_f read d (k ++ c)) (length c) (inside_reach k c h))
+    member_reach b c (inr (inr (inr (inl (k, e, h))))) = subst (λ l. reach (member_f read d (l ++ c)) ≤ length c) (sym e) (reach_closed read (inside_f read d (k ++ c)) (length c) (inside_reach k c h))
     member_reach b c (inr (inr (inr (inr (k, e, (x, h)))))) = omega (arith, ap reach (member_exact (Some x) b c (inr (k, e, h))))
 
     member_cut : (a b : List Lexeme) → TheBegun (a ++ b) → TheBegun a

@@ -1,12 +1,13 @@
 -- An error comes early.
-use Rattle.std.proofs.Common.{◌≡◌, ℕ, suc, ◌+◌, ◌≤◌, List, [], ◌∷◌, ◌++◌, length, length-append, sym, refl, ap, ◌∙◌, subst, append_assoc, append-nil, arith, Option, Ok, Err, inl, inr}
+use Rattle.std.proofs.Common.{◌≡◌, ℕ, suc, ◌+◌, ◌≤◌, List, [], ◌∷◌, ◌++◌, length, length-append, sym, refl, ap, ◌∙◌, subst, append_assoc, append-nil, arith, Option, Ok, Err, Bool, false, inl, inr}
 use Rattle.std.specs.Prelude.{◌⊎◌}
 use Rattle.wkt_num.specs.Bytes.{Lexeme}
 use Rattle.wkt_access.specs.Values.{Value}
 use Rattle.wkt_read.specs.Grammar.{StandFor}
 use Rattle.wkt_read.specs.Begun.{BegunGeometry, IsDead}
 use Rattle.wkt_read.specs.Early.{opens, closes, IsJustDead, StopsEarly}
-use Rattle.wkt_read.specs.Parser.Reading.{Reading, value_at}
+use Rattle.wkt_read.specs.Parser.Outcome.{Outcome, value_at}
+use Rattle.wkt_read.specs.declared.messages.Message.{Message}
 use Rattle.wkt_read.proofs.LawLemmas.Begun.{CutIn, Later, Earlier, cut_in}
 use Rattle.wkt_read.proofs.ParserLemmas.Tells.{Telling, plain, value_f}
 use Rattle.wkt_read.proofs.ParserLemmas.Told.{Told}
@@ -33,17 +34,17 @@ module _ {N : Type 0} (read : List ℕ → Option N) where
   abbrev pub IsEarly : List Lexeme → List Lexeme → Type 0
   IsEarly old new = (Begun old × (new ≡ [])) ⊎ IsEarlyError old new
 
-  dead : (n : ℕ) (pre after ls left : List Lexeme) (x : Lexeme) → ls ≡ pre ++ (x ∷ after) → value_f read n ls ≡ Err (x ∷ after, left) → value_at read n ls ≡ Err left → length ls ≤ n → IsDead read (pre ++ (x ∷ []))
-  dead n pre after ls left x e told reads le = record {
+  pub dead : (n : ℕ) (inside : Bool) (pre after ls : List Lexeme) (e : Message × List Lexeme) (x : Lexeme) → ls ≡ pre ++ (x ∷ after) → value_f read n inside ls ≡ Err (x ∷ after, e) → value_at read n inside ls ≡ Err e → length ls ≤ n → IsDead read (pre ++ (x ∷ []))
+  dead n inside pre after ls e x split told reads le = record {
     none_begins = λ f later v e2 g.
-        let e3 : ls ≡ f ++ (later ++ after) = e ∙ sym (append_assoc pre (x ∷ []) after) ∙ ap (λ l. l ++ after) e2 ∙ append_assoc f later after in
-        let ok : value_at read n ls ≡ Ok (v, later ++ after) = ap (value_at read n) e3 ∙ complete read n v f (later ++ after) g (omega (arith, le, ap length e3)) in
-        let clash : ◌≡◌ {A = Reading (Value N)} (Err left) (Ok (v, later ++ after)) = sym reads ∙ ok in cc;
+        let e3 : ls ≡ f ++ (later ++ after) = split ∙ sym (append_assoc pre (x ∷ []) after) ∙ ap (λ l. l ++ after) e2 ∙ append_assoc f later after in
+        let ok : value_at read n inside ls ≡ Ok (v, later ++ after) = ap (value_at read n inside) e3 ∙ complete read n inside v f (later ++ after) g (omega (arith, le, ap length e3)) in
+        let clash : ◌≡◌ {A = Outcome (Value N)} (Err e) (Ok (v, later ++ after)) = sym reads ∙ ok in cc;
     not_begun = λ h.
-        let e3 : ls ≡ (pre ++ (x ∷ [])) ++ after = e ∙ sym (append_assoc pre (x ∷ []) after) in
-        let part = value_part read n in
-        let far : reach (value_f read n ((pre ++ (x ∷ [])) ++ after)) ≤ length after = part.reaches (pre ++ (x ∷ [])) after h (omega (arith, le, ap length e3)) in
-        let near : reach (value_f read n ((pre ++ (x ∷ [])) ++ after)) ≡ suc (length after) = ap (λ l. reach (value_f read n l)) (sym e3) ∙ ap reach told in
+        let e3 : ls ≡ (pre ++ (x ∷ [])) ++ after = split ∙ sym (append_assoc pre (x ∷ []) after) in
+        let part = value_part read n inside in
+        let far : reach (value_f read n inside ((pre ++ (x ∷ [])) ++ after)) ≤ length after = part.reaches (pre ++ (x ∷ [])) after h (omega (arith, le, ap length e3)) in
+        let near : reach (value_f read n inside ((pre ++ (x ∷ [])) ++ after)) ≡ suc (length after) = ap (λ l. reach (value_f read n inside l)) (sym e3) ∙ ap reach told in
         omega (arith, far, near);
   }
 
@@ -51,23 +52,23 @@ module _ {N : Type 0} (read : List ℕ → Option N) where
   empty_end [] left e = sym e
   empty_end (x ∷ given) left e = absurd (omega (arith, ap length e))
 
-  stops : (n : ℕ) (ls at left : List Lexeme) → value_f read n ls ≡ Err (at, left) → value_at read n ls ≡ Err left → length ls ≤ n → Told (StandFor read) Begun ls (Err (at, left)) → IsEarly ls left
-  stops n ls [] left told reads le (pre, given, e, e2, b, few) = inl (subst Begun (sym (e ∙ append-nil pre)) b, empty_end given left e2)
-  stops n ls (x ∷ after) left told reads le (pre, given, e, e2, b, few) =
-      inr (record { before = pre; fault = x; after = after; taken = given; split = e; begun = b; dead = dead n pre after ls left x e told reads le; left = e2; few = few })
+  stops : (n : ℕ) (inside : Bool) (ls at : List Lexeme) (e : Message × List Lexeme) → value_f read n inside ls ≡ Err (at, e) → value_at read n inside ls ≡ Err e → length ls ≤ n → Told (StandFor read) Begun ls (Err (at, e)) → IsEarly ls e.1
+  stops n inside ls [] e told reads le (pre, given, split, e2, b, few) = inl (subst Begun (sym (split ∙ append-nil pre)) b, empty_end given e.1 e2)
+  stops n inside ls (x ∷ after) e told reads le (pre, given, split, e2, b, few) =
+      inr (record { before = pre; fault = x; after = after; taken = given; split = split; begun = b; dead = dead n inside pre after ls e x split told reads le; left = e2; few = few })
 
-  from_told : (n : ℕ) (ls left : List Lexeme) (t : Telling (Value N)) → value_f read n ls ≡ t → value_at read n ls ≡ Err left → length ls ≤ n → plain t ≡ Err left → Told (StandFor read) Begun ls t → IsEarly ls left
-  from_told n ls left (Ok p) told reads le e h = cc
-  from_told n ls left (Err r) told reads le e h =
-      let same : r.1 ≡ left = cc in
-      subst (IsEarly ls) same (stops n ls r.0 r.1 told (reads ∙ ap (λ l. Err l) (sym same)) le h)
+  from_told : (n : ℕ) (inside : Bool) (ls : List Lexeme) (e : Message × List Lexeme) (t : Telling (Value N)) → value_f read n inside ls ≡ t → value_at read n inside ls ≡ Err e → length ls ≤ n → plain t ≡ Err e → Told (StandFor read) Begun ls t → IsEarly ls e.1
+  from_told n inside ls e (Ok p) told reads le is h = cc
+  from_told n inside ls e (Err r) told reads le is h =
+      let same : r.1 ≡ e = cc in
+      subst (λ e. IsEarly ls e.1) same (stops n inside ls r.0 r.1 told (reads ∙ ap (λ l. Err l) (sym same)) le h)
 
-  pub early : (n : ℕ) (ls left : List Lexeme) → length ls ≤ n → value_at read n ls ≡ Err left → IsEarly ls left
-  early n ls left le reads = let part = value_part read n in from_told n ls left (value_f read n ls) refl reads le (part.same ls ∙ reads) (part.told ls le)
+  pub early : (n : ℕ) (inside : Bool) (ls : List Lexeme) (e : Message × List Lexeme) → length ls ≤ n → value_at read n inside ls ≡ Err e → IsEarly ls e.1
+  early n inside ls e le reads = let part = value_part read n inside in from_told n inside ls e (value_f read n inside ls) refl reads le (part.same ls ∙ reads) (part.told ls le)
 
   -- a beginning of what is begun is begun
   pub beginnings : (a b : List Lexeme) → Begun (a ++ b) → Begun a
-  beginnings a b h = (value_part read (length (a ++ b))).begun a b (omega arith) h
+  beginnings a b h = (value_part read (length (a ++ b)) false).begun a b (omega arith) h
 
   last_cut : (b a c : List Lexeme) (x y : Lexeme) → b ++ (x ∷ []) ≡ a ++ (y ∷ c) → (d : List Lexeme) × (b ≡ a ++ d)
   last_cut b [] c x y e = (b, refl)
@@ -77,7 +78,8 @@ module _ {N : Type 0} (read : List ℕ → Option N) where
       let (d, e2) = last_cut b a c x y (cc) in
       (d, ap (λ l. w ∷ l) e2 ∙ ap (λ v. v ∷ (a ++ d)) same)
 
-  just : (b : List Lexeme) (x : Lexeme) → Begun b → IsDead read (b ++ (x ∷ [])) → IsJustDead read (b ++ (x ∷ []))
+  -- what is begun, and dead with one more
+  pub just : (b : List Lexeme) (x : Lexeme) → Begun b → IsDead read (b ++ (x ∷ [])) → IsJustDead read (b ++ (x ∷ []))
   just b x begun dead = record {
     dead = dead;
     shortest = λ a c y e d. let (u, e2) = last_cut b a c x y e in d.not_begun (beginnings a u (subst Begun e2 begun));
@@ -123,5 +125,5 @@ module _ {N : Type 0} (read : List ℕ → Option N) where
   }
 
   -- a reading that is an error stops early
-  pub error_early : (n : ℕ) (ls left : List Lexeme) → length ls ≤ n → value_at read n ls ≡ Err left → StopsEarly read ls left
-  error_early n ls left le reads = stops_early ls left (early n ls left le reads)
+  pub error_early : (n : ℕ) (inside : Bool) (ls : List Lexeme) (e : Message × List Lexeme) → length ls ≤ n → value_at read n inside ls ≡ Err e → StopsEarly read ls e.1
+  error_early n inside ls e le reads = stops_early ls e.1 (early n inside ls e le reads)

@@ -10,17 +10,19 @@ use Rattle.wkt_read.specs.Kinds.{kind_of, dim_of}
 use Rattle.wkt_read.specs.Grammar.{Header, IsEmptyWord, Listed, StandFor, Geometries}
 use Rattle.wkt_read.specs.Begun.{NoneBegins}
 use Rattle.wkt_read.specs.Front.{NeedsNoMemory}
-use Rattle.wkt_read.specs.Parser.Reading.{Reading, opening_at, header_at, value_at, IsOpened, HasMembers}
+use Rattle.wkt_read.specs.Parser.Outcome.{Outcome, opening_at, header_at, value_at, IsOpened, HasMembers}
+use Rattle.wkt_read.specs.declared.messages.Message.{Message}
+use Rattle.wkt_read.specs.declared.messages.Message.TheVariants as message
 use Rattle.wkt_read.proofs.LawLemmas.OneForm.{BeginsBody, BodyOf, geometry_body, body_begins}
 use Rattle.wkt_read.proofs.ParserLemmas.Tells.{plain, plain_header}
 use Rattle.wkt_read.proofs.ParserLemmas.Told.{is_empty}
 use Rattle.wkt_read.proofs.ParserLemmas.Readings.{begins_more, header_exact, complete}
 
-empty_shut : (b left : List Lexeme) → IsEmptyWord b → IsOpened (b ++ left) → ⊥
+empty_shut : {N : Type 0} (read : List ℕ → Option N) (b left : List Lexeme) → IsEmptyWord b → IsOpened read (b ++ left) → ⊥
 unfolding opening_at
-empty_shut b left (w, e, is) (r, o) =
-    let h : opening_at (b ++ left) ≡ Ok (false, left) = ap (λ l. opening_at (l ++ left)) e ∙ ap (λ t. cond t (Ok (false, left)) (Err left)) (is_empty w is) in
-    let clash : ◌≡◌ {A = Reading Bool} (Ok (false, left)) (Ok (true, r)) = sym h ∙ o in
+empty_shut read b left (w, e, is) (r, o) =
+    let h : opening_at read (b ++ left) ≡ Ok (false, left) = ap (λ l. opening_at read (l ++ left)) e ∙ ap (λ t. cond t (Ok (false, left)) (Err (message.Open, left))) (is_empty w is) in
+    let clash : ◌≡◌ {A = Outcome Bool} (Ok (false, left)) (Ok (true, r)) = sym h ∙ o in
     let p : ◌≡◌ {A = Bool × List Lexeme} (false, left) (true, r) = cc in
     let q : ◌≡◌ {A = Bool} false true = ap (λ (x : Bool × List Lexeme). x.0) p in cc
 
@@ -39,26 +41,26 @@ module _ {N : Type 0} (read : List ℕ → Option N) where
   small_empty (Value.collection d vs) b small w = inr (subst (Geometries read b) small w)
 
   -- the header of a geometry is read
-  header_read : (v : Value N) (ls f left h b : List Lexeme) → ls ≡ f ++ left → f ≡ h ++ b → Header (kind_of v) (dim_of v) h → BeginsBody b → header_at read ls ≡ Ok ((kind_of v, dim_of v), b ++ left)
-  header_read v ls f left h b e e2 header begins =
-      ap (header_at read) (e ∙ ap (λ l. l ++ left) e2 ∙ append_assoc h b left)
-      ∙ sym (plain_header read (h ++ (b ++ left))) ∙ ap plain (header_exact read (kind_of v) (dim_of v) h (b ++ left) header (begins_more b left begins))
+  header_read : (inside : Bool) (v : Value N) (ls f left h b : List Lexeme) → ls ≡ f ++ left → f ≡ h ++ b → Header (kind_of v) (dim_of v) h → BeginsBody b → header_at read inside ls ≡ Ok ((kind_of v, dim_of v), b ++ left)
+  header_read inside v ls f left h b e e2 header begins =
+      ap (header_at read inside) (e ∙ ap (λ l. l ++ left) e2 ∙ append_assoc h b left)
+      ∙ sym (plain_header read inside (h ++ (b ++ left))) ∙ ap plain (header_exact read inside (kind_of v) (dim_of v) h (b ++ left) header (begins_more b left begins))
 
-  pub no_members : (v : Value N) (ls f left : List Lexeme) → ls ≡ f ++ left → StandFor read f v → NeedsNoMemory v → HasMembers read ls → ⊥
-  no_members v ls f left e g small (k, d, r, eh, other, opened) =
+  pub no_members : (inside : Bool) (v : Value N) (ls f left : List Lexeme) → ls ≡ f ++ left → StandFor read f v → NeedsNoMemory v → HasMembers read inside ls → ⊥
+  no_members inside v ls f left e g small (k, d, r, eh, other, opened) =
       let (h, b, e2, header, body) = geometry_body read f v g in
-      let at : header_at read ls ≡ Ok ((kind_of v, dim_of v), b ++ left) = header_read v ls f left h b e e2 header (body_begins read b v body) in
-      let both : ◌≡◌ {A = Reading (GeometryType × Dimension)} (Ok ((k, d), r)) (Ok ((kind_of v, dim_of v), b ++ left)) = sym eh ∙ at in
+      let at : header_at read inside ls ≡ Ok ((kind_of v, dim_of v), b ++ left) = header_read inside v ls f left h b e e2 header (body_begins read b v body) in
+      let both : ◌≡◌ {A = Outcome (GeometryType × Dimension)} (Ok ((k, d), r)) (Ok ((kind_of v, dim_of v), b ++ left)) = sym eh ∙ at in
       let p : ((k, d), r) ≡ ((kind_of v, dim_of v), b ++ left) = cc in
       let same : k ≡ kind_of v = ap (λ (q : (GeometryType × Dimension) × List Lexeme). q.0.0) p in
       let rest : r ≡ b ++ left = ap (λ (q : (GeometryType × Dimension) × List Lexeme). q.1) p in
       elim (small_empty v b small body) [
         | inl point ↦ other (same ∙ point)
-        | inr em ↦ empty_shut b left em (subst IsOpened rest opened)
+        | inr em ↦ empty_shut read b left em (subst (IsOpened read) rest opened)
       ]
 
   -- where the reading is an error, no geometry begins the lexemes
-  pub none_begins : (n : ℕ) (ls left : List Lexeme) → length ls ≤ n → value_at read n ls ≡ Err left → NoneBegins read ls
-  none_begins n ls left le reads f rest v e g =
-      let ok : value_at read n ls ≡ Ok (v, rest) = ap (value_at read n) e ∙ complete read n v f rest g (omega (arith, le, ap length e)) in
-      let clash : ◌≡◌ {A = Reading (Value N)} (Err left) (Ok (v, rest)) = sym reads ∙ ok in cc
+  pub none_begins : (n : ℕ) (inside : Bool) (ls : List Lexeme) (x : Message × List Lexeme) → length ls ≤ n → value_at read n inside ls ≡ Err x → NoneBegins read ls
+  none_begins n inside ls x le reads f rest v e g =
+      let ok : value_at read n inside ls ≡ Ok (v, rest) = ap (value_at read n inside) e ∙ complete read n inside v f rest g (omega (arith, le, ap length e)) in
+      let clash : ◌≡◌ {A = Outcome (Value N)} (Err x) (Ok (v, rest)) = sym reads ∙ ok in cc

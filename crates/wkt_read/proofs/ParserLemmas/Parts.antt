@@ -4,7 +4,7 @@ use Rattle.std.specs.Prelude.{◌⊎◌}
 use Rattle.wkt_num.specs.Bytes.{Lexeme, Open, Close, Comma}
 use Rattle.wkt_read.specs.Grammar.{IsEmptyWord, Within, Many, Listed, Perhaps}
 use Rattle.wkt_read.specs.Begun.{BegunEmpty, BegunNext, BegunMany, BegunWithin, BegunListed, BegunPerhaps}
-use Rattle.wkt_read.specs.Parser.Reading.{Reading, ◌>>=◌, framed, many_at}
+use Rattle.wkt_read.specs.Parser.Outcome.{Outcome, ◌>>=◌, framed, many_at}
 use Rattle.wkt_read.proofs.LawLemmas.Begun.{CutIn, Later, Earlier, cut_in, Cuts, cuts_word, cuts_many, cuts_within, cuts_listed, cuts_perhaps}
 use Rattle.wkt_read.proofs.ParserLemmas.Tells.{Telling, plain, mapped, framed_f, tail_f, many_f, plain_mapped, plain_framed, plain_many}
 use Rattle.wkt_read.proofs.ParserLemmas.Told.{Told, told_map, told_weaken, told_tail, told_many, told_framed, frame_begun, Framed, BegunFrame}
@@ -19,7 +19,7 @@ abbrev pub Shut : List Lexeme → Type 0
 Shut r = (s : List Lexeme) × (r ≡ Close ∷ s)
 
 -- a part W, its beginnings B, what stands after it, its reading and its telling reading, up to so many lexemes
-pub record Part {A : Type 0} (W : List Lexeme → A → Type 0) (B Follows : List Lexeme → Type 0) (item : List Lexeme → Reading A) (item_f : List Lexeme → Telling A) (most : ℕ) : Type 0 where
+pub record Part {A : Type 0} (W : List Lexeme → A → Type 0) (B Follows : List Lexeme → Type 0) (item : List Lexeme → Outcome A) (item_f : List Lexeme → Telling A) (most : ℕ) : Type 0 where
   pub same : (ls : List Lexeme) → plain (item_f ls) ≡ item ls
   pub told : (ls : List Lexeme) → length ls ≤ most → Told W B ls (item_f ls)
   pub exact : (a : A) (f r : List Lexeme) → W f a → Follows r → length (f ++ r) ≤ most → item_f (f ++ r) ≡ Ok (a, r)
@@ -32,7 +32,7 @@ pub whole_begun : {A : Type 0} (W : List Lexeme → A → Type 0) (B : List Lexe
 whole_begun W B cuts f a w = cuts a f f [] w (sym (append-nil f))
 
 -- the same part with another value
-pub map_part : {A V : Type 0} (W : List Lexeme → A → Type 0) (B Follows : List Lexeme → Type 0) (item : List Lexeme → Reading A) (item_f : List Lexeme → Telling A) (most : ℕ)
+pub map_part : {A V : Type 0} (W : List Lexeme → A → Type 0) (B Follows : List Lexeme → Type 0) (item : List Lexeme → Outcome A) (item_f : List Lexeme → Telling A) (most : ℕ)
     (Wider : List Lexeme → V → Type 0) (m : A → V) → ((f : List Lexeme) (a : A) → W f a → Wider f (m a)) → ((f : List Lexeme) (v : V) → Wider f v → (a : A) × (v ≡ m a) × W f a)
     → Part W B Follows item item_f most → Part Wider B Follows (λ ls. item ls >>= (λ p. Ok (m p.0, p.1))) (λ ls. mapped m (item_f ls)) most
 map_part W B Follows item item_f most Wider m to from p = record {
@@ -62,10 +62,10 @@ many_cut {A} W B most cuts begun a b le (inr (xs, f, g, e, m, next)) = go (cut_i
     go (Earlier u e1 e2) = inr (xs, f, u, e1, m, next_cut B most begun u b (omega (arith, le, ap length e, length-append f g, ap length e2)) (subst (BegunNext B) e2 next))
 
 -- one item or more, up to a closing parenthesis
-pub many_part : {A : Type 0} (W : List Lexeme → A → Type 0) (B : List Lexeme → Type 0) (item : List Lexeme → Reading A) (item_f : List Lexeme → Telling A) (most : ℕ)
-    → Part W B Anything item item_f most → Part (Many W) (BegunMany W B) Shut (many_at item most) (many_f item_f most) most
-many_part {A} W B item item_f most p = record {
-  same = plain_many item_f item p.same most;
+pub many_part : {A N : Type 0} (read : List ℕ → Option N) (W : List Lexeme → A → Type 0) (B : List Lexeme → Type 0) (item : List Lexeme → Outcome A) (item_f : List Lexeme → Telling A) (most : ℕ)
+    → Part W B Anything item item_f most → Part (Many W) (BegunMany W B) Shut (many_at read item most) (many_f item_f most) most
+many_part {A} read W B item item_f most p = record {
+  same = plain_many read item_f item p.same most;
   told = λ ls le. told_many W B item_f most p.told most ls le le;
   exact = λ xs f r m (s, e) le.
       let short : length (f ++ (Close ∷ s)) ≤ most = omega (arith, le, ap (λ l. length (f ++ l)) e) in
@@ -92,7 +92,7 @@ within_cut V B most cuts begun (x ∷ a) b le (inr (inl (k, e, h))) =
 within_cut V B most cuts begun (x ∷ a) b le (inr (inr (k, e, (y, h)))) = cuts_within V B cuts y _ (x ∷ a) b (k, e, h) refl
 
 -- EMPTY, or a part V in parentheses which is read as W
-module _ {A X : Type 0} (empty : A) (W : List Lexeme → A → Type 0) (V : List Lexeme → X → Type 0) (B : List Lexeme → Type 0) (item : List Lexeme → Reading A) (item_f : List Lexeme → Telling A) (most : ℕ)
+module _ {A X N : Type 0} (read : List ℕ → Option N) (empty : A) (W : List Lexeme → A → Type 0) (V : List Lexeme → X → Type 0) (B : List Lexeme → Type 0) (item : List Lexeme → Outcome A) (item_f : List Lexeme → Telling A) (most : ℕ)
     (Wider : List Lexeme → A → Type 0) where
   abbrev pub BegunEither : List Lexeme → Type 0
   BegunEither ls = BegunEmpty ls ⊎ BegunWithin (λ b. (x : X) × V b x) B ls
@@ -107,13 +107,13 @@ module _ {A X : Type 0} (empty : A) (W : List Lexeme → A → Type 0) (V : List
       → ((f : List Lexeme) (a : A) → ((a ≡ empty) × IsEmptyWord f) ⊎ Within (λ b. W b a) f → Wider f a)
       → ((f : List Lexeme) (a : A) → Wider f a → ((a ≡ empty) × IsEmptyWord f) ⊎ Within (λ b. W b a) f)
       → Cuts Wider BegunEither
-      → Part W B Shut item item_f most → Part Wider BegunEither Anything (framed empty item) (framed_f empty item_f) most
+      → Part W B Shut item item_f most → Part Wider BegunEither Anything (framed read empty item) (framed_f read empty item_f) most
   framed_part whole cuts to from cuts2 p = record {
-    same = plain_framed item_f item p.same empty;
+    same = plain_framed read item_f item p.same empty;
     told = told_it;
     exact = λ a f r w k le. framed_exact a f r (from f a w) le;
-    reaches = λ b c h le. framed_reach empty item_f (λ b. (x : X) × V b x) B most
-        (λ c le. told_reach Wider BegunEither c (framed_f empty item_f c) (told_it c le))
+    reaches = λ b c h le. framed_reach read empty item_f (λ b. (x : X) × V b x) B most
+        (λ c le. told_reach Wider BegunEither c (framed_f read empty item_f c) (told_it c le))
         (λ f r (x, v) le. let (a, w) = whole f x v in (a, p.exact a f (Close ∷ r) w (r, refl) le))
         p.reaches b c h le;
     cuts = cuts2;
@@ -123,17 +123,17 @@ module _ {A X : Type 0} (empty : A) (W : List Lexeme → A → Type 0) (V : List
       begin : (f : List Lexeme) (a : A) → W f a → B f
       begin = whole_begun W B p.cuts
 
-      told_it : (ls : List Lexeme) → length ls ≤ most → Told Wider BegunEither ls (framed_f empty item_f ls)
+      told_it : (ls : List Lexeme) → length ls ≤ most → Told Wider BegunEither ls (framed_f read empty item_f ls)
       told_it ls le =
-          told_weaken (Framed empty item_f W B begin) (BegunFrame empty item_f W B begin) Wider BegunEither ls (framed_f empty item_f ls)
-          to (frame_begun empty item_f W B begin (λ b. (x : X) × V b x))
-          (told_framed empty item_f W B begin ls (λ r short. p.told r (omega (arith, le, short))))
+          told_weaken (Framed read empty item_f W B begin) (BegunFrame read empty item_f W B begin) Wider BegunEither ls (framed_f read empty item_f ls)
+          to (frame_begun read empty item_f W B begin (λ b. (x : X) × V b x))
+          (told_framed read empty item_f W B begin ls (λ r short. p.told r (omega (arith, le, short))))
 
-      framed_exact : (a : A) (f r : List Lexeme) → ((a ≡ empty) × IsEmptyWord f) ⊎ Within (λ b. W b a) f → length (f ++ r) ≤ most → framed_f empty item_f (f ++ r) ≡ Ok (a, r)
-      framed_exact a f r (inl (e, em)) le = framed_empty empty item_f f r em ∙ ap (λ x. Ok (x, r)) (sym e)
+      framed_exact : (a : A) (f r : List Lexeme) → ((a ≡ empty) × IsEmptyWord f) ⊎ Within (λ b. W b a) f → length (f ++ r) ≤ most → framed_f read empty item_f (f ++ r) ≡ Ok (a, r)
+      framed_exact a f r (inl (e, em)) le = framed_empty read empty item_f f r em ∙ ap (λ x. Ok (x, r)) (sym e)
       framed_exact a f r (inr (k, e, w)) le =
           let e2 : f ++ r ≡ Open ∷ (k ++ (Close ∷ r)) = ap (λ l. l ++ r) e ∙ ap (λ l. Open ∷ l) (append_assoc k (Close ∷ []) r) in
-          framed_parens empty item_f a f k r e (p.exact a k (Close ∷ r) w (r, refl) (omega (arith, le, ap length e2)))
+          framed_parens read empty item_f a f k r e (p.exact a k (Close ∷ r) w (r, refl) (omega (arith, le, ap length e2)))
 
 -- EMPTY, or items in parentheses
 listed_to : {A : Type 0} (W : List Lexeme → A → Type 0) (f : List Lexeme) (xs : List A) → ((xs ≡ []) × IsEmptyWord f) ⊎ Within (λ b. Many W b xs) f → Listed W f xs
@@ -146,12 +146,12 @@ listed_from : {A : Type 0} (W : List Lexeme → A → Type 0) (f : List Lexeme) 
 listed_from W f [] em = inl (refl, em)
 listed_from W f (x ∷ xs) w = inr w
 
-pub listed_part : {A : Type 0} (W : List Lexeme → A → Type 0) (B : List Lexeme → Type 0) (item : List Lexeme → Reading A) (item_f : List Lexeme → Telling A) (most : ℕ)
-    → Part W B Anything item item_f most → Part (Listed W) (BegunListed W B) Anything (framed [] (many_at item most)) (framed_f [] (many_f item_f most)) most
-listed_part {A} W B item item_f most p =
-    framed_part [] (Many W) (Many W) (BegunMany W B) (many_at item most) (many_f item_f most) most (Listed W)
+pub listed_part : {A N : Type 0} (read : List ℕ → Option N) (W : List Lexeme → A → Type 0) (B : List Lexeme → Type 0) (item : List Lexeme → Outcome A) (item_f : List Lexeme → Telling A) (most : ℕ)
+    → Part W B Anything item item_f most → Part (Listed W) (BegunListed W B) Anything (framed read [] (many_at read item most)) (framed_f read [] (many_f item_f most)) most
+listed_part {A} read W B item item_f most p =
+    framed_part read [] (Many W) (Many W) (BegunMany W B) (many_at read item most) (many_f item_f most) most (Listed W)
     (λ b xs m. (xs, m)) (cuts_many W B p.cuts) (listed_to W) (listed_from W) (cuts_listed W B p.cuts)
-    (many_part W B item item_f most p)
+    (many_part read W B item item_f most p)
 
 -- EMPTY, or one item in parentheses
 abbrev pub Just : {A : Type 0} → (List Lexeme → A → Type 0) → List Lexeme → Option A → Type 0
@@ -173,18 +173,18 @@ just_from W f None w = absurd w
 just_from W f (Some x) w = (x, refl, w)
 
 -- what may stand after matters less where anything may
-pub shut_part : {A : Type 0} (W : List Lexeme → A → Type 0) (B : List Lexeme → Type 0) (item : List Lexeme → Reading A) (item_f : List Lexeme → Telling A) (most : ℕ)
+pub shut_part : {A : Type 0} (W : List Lexeme → A → Type 0) (B : List Lexeme → Type 0) (item : List Lexeme → Outcome A) (item_f : List Lexeme → Telling A) (most : ℕ)
     → Part W B Anything item item_f most → Part W B Shut item item_f most
 shut_part W B item item_f most p = record { same = p.same; told = p.told; exact = λ a f r w k le. p.exact a f r w tt le; reaches = p.reaches; cuts = p.cuts; begun = p.begun }
 
 -- one item that is there
-pub just_part : {A : Type 0} (W : List Lexeme → A → Type 0) (B : List Lexeme → Type 0) (item : List Lexeme → Reading A) (item_f : List Lexeme → Telling A) (most : ℕ)
+pub just_part : {A : Type 0} (W : List Lexeme → A → Type 0) (B : List Lexeme → Type 0) (item : List Lexeme → Outcome A) (item_f : List Lexeme → Telling A) (most : ℕ)
     → Part W B Anything item item_f most → Part (Just W) B Anything (λ ls. item ls >>= (λ p. Ok (Some p.0, p.1))) (λ ls. mapped (λ c. Some c) (item_f ls)) most
 just_part W B item item_f most p = map_part W B Anything item item_f most (Just W) (λ c. Some c) (λ f a w. w) (just_from W) p
 
-pub perhaps_part : {A : Type 0} (W : List Lexeme → A → Type 0) (B : List Lexeme → Type 0) (item : List Lexeme → Reading A) (item_f : List Lexeme → Telling A) (most : ℕ)
-    → Part W B Anything item item_f most → Part (Perhaps W) (BegunPerhaps W B) Anything (framed None (λ ls. item ls >>= (λ p. Ok (Some p.0, p.1)))) (framed_f None (λ ls. mapped (λ c. Some c) (item_f ls))) most
-perhaps_part {A} W B item item_f most p =
-    framed_part None (Just W) W B (λ ls. item ls >>= (λ p. Ok (Some p.0, p.1))) (λ ls. mapped (λ c. Some c) (item_f ls)) most (Perhaps W)
+pub perhaps_part : {A N : Type 0} (read : List ℕ → Option N) (W : List Lexeme → A → Type 0) (B : List Lexeme → Type 0) (item : List Lexeme → Outcome A) (item_f : List Lexeme → Telling A) (most : ℕ)
+    → Part W B Anything item item_f most → Part (Perhaps W) (BegunPerhaps W B) Anything (framed read None (λ ls. item ls >>= (λ p. Ok (Some p.0, p.1)))) (framed_f read None (λ ls. mapped (λ c. Some c) (item_f ls))) most
+perhaps_part {A} read W B item item_f most p =
+    framed_part read None (Just W) W B (λ ls. item ls >>= (λ p. Ok (Some p.0, p.1))) (λ ls. mapped (λ c. Some c) (item_f ls)) most (Perhaps W)
     (λ b x w. (Some x, w)) p.cuts (perhaps_to W) (perhaps_from W) (cuts_perhaps W B p.cuts)
     (shut_part (Just W) B _ _ most (just_part W B item item_f most p))

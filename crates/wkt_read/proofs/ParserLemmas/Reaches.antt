@@ -1,10 +1,11 @@
 -- Where a reading stops: whole parts are read, and a reading that begins with a beginning of a part doesn't stop in it.
-use Rattle.std.proofs.Common.{◌≡◌, ℕ, zero, suc, ◌+◌, ◌≤◌, List, [], ◌∷◌, ◌++◌, length, length-append, sym, ap, ◌∙◌, subst, append_assoc, arith, Ok, Err, false, cond, inl, inr}
+use Rattle.std.proofs.Common.{◌≡◌, ℕ, zero, suc, ◌+◌, ◌≤◌, List, [], ◌∷◌, ◌++◌, length, length-append, sym, ap, ◌∙◌, subst, append_assoc, arith, Option, Ok, Err, false, cond, inl, inr}
 use Rattle.std.specs.Prelude.{◌⊎◌}
 use Rattle.wkt_num.specs.Bytes.{Lexeme, Open, Close, Comma, Word, Num}
 use Rattle.wkt_read.specs.Grammar.{IsEmptyWord, More, Many}
 use Rattle.wkt_read.specs.Begun.{BegunEmpty, BegunNext, BegunMany, BegunWithin}
-use Rattle.wkt_read.specs.Parser.Reading.{opening_at, closing_at}
+use Rattle.wkt_read.specs.Parser.Outcome.{opening_at, closing_at}
+use Rattle.wkt_read.specs.declared.messages.Message.TheVariants as message
 use Rattle.wkt_read.proofs.ParserLemmas.Tells.{Telling, told, andthen, fronted, mapped, closed_f, framed_f, tail_f, many_f}
 use Rattle.wkt_read.proofs.ParserLemmas.Told.{Told, is_empty}
 
@@ -29,19 +30,20 @@ reach_fronted : {A : Type 0} (front : List A) (t : Telling (List A)) (n : ℕ) �
 reach_fronted front (Ok p) n le = le
 reach_fronted front (Err r) n le = le
 
-reach_closing : {A : Type 0} (a : A) (ls : List Lexeme) → reach (closed_f (Ok (a, ls))) ≤ length ls
-unfolding closed_f closing_at
-reach_closing a [] = omega arith
-reach_closing a (Open ∷ ls) = omega arith
-reach_closing a (Close ∷ ls) = omega arith
-reach_closing a (Comma ∷ ls) = omega arith
-reach_closing a (Word w ∷ ls) = omega arith
-reach_closing a (Num w ∷ ls) = omega arith
+module _ {N : Type 0} (read : List ℕ → Option N) where
+  reach_closing : {A : Type 0} (a : A) (ls : List Lexeme) → reach (closed_f read (Ok (a, ls))) ≤ length ls
+  unfolding closed_f closing_at
+  reach_closing a [] = omega arith
+  reach_closing a (Open ∷ ls) = omega arith
+  reach_closing a (Close ∷ ls) = omega arith
+  reach_closing a (Comma ∷ ls) = omega arith
+  reach_closing a (Word w ∷ ls) = omega arith
+  reach_closing a (Num w ∷ ls) = omega arith
 
-pub reach_closed : {A : Type 0} (t : Telling A) (n : ℕ) → reach t ≤ n → reach (closed_f t) ≤ n
-unfolding closed_f
-reach_closed (Ok p) n le = let h = reach_closing p.0 p.1 in omega (arith, le, h)
-reach_closed (Err r) n le = le
+  pub reach_closed : {A : Type 0} (t : Telling A) (n : ℕ) → reach t ≤ n → reach (closed_f read t) ≤ n
+  unfolding closed_f
+  reach_closed (Ok p) n le = let h = reach_closing p.0 p.1 in omega (arith, le, h)
+  reach_closed (Err r) n le = le
 
 -- items with commas
 module _ {A : Type 0} (item : List Lexeme → Telling A) (W : List Lexeme → A → Type 0) (most : ℕ)
@@ -105,25 +107,25 @@ module _ {A : Type 0} (item : List Lexeme → Telling A) (W : List Lexeme → A 
         (reach_fronted (x ∷ []) (tail_f item n (q ++ (g ++ c))) (length c) (more_reach xs n q g c m next (omega (arith, less, enough)) (omega (arith, less, short)))))
 
 -- EMPTY or a part in parentheses
-module _ {A : Type 0} (empty : A) (body : List Lexeme → Telling A) where
-  pub framed_empty : (b c : List Lexeme) → IsEmptyWord b → framed_f empty body (b ++ c) ≡ Ok (empty, c)
+module _ {A N : Type 0} (read : List ℕ → Option N) (empty : A) (body : List Lexeme → Telling A) where
+  pub framed_empty : (b c : List Lexeme) → IsEmptyWord b → framed_f read empty body (b ++ c) ≡ Ok (empty, c)
   unfolding framed_f opening_at
-  framed_empty b c (w, e, is) = ap (λ l. framed_f empty body (l ++ c)) e ∙ ap (λ t. andthen (told (Word w ∷ c) (cond t (Ok (false, c)) (Err c))) (λ o. cond o.0 (closed_f (body o.1)) (Ok (empty, o.1)))) (is_empty w is)
+  framed_empty b c (w, e, is) = ap (λ l. framed_f read empty body (l ++ c)) e ∙ ap (λ t. andthen (told (Word w ∷ c) (cond t (Ok (false, c)) (Err (message.Open, c)))) (λ o. cond o.0 (closed_f read (body o.1)) (Ok (empty, o.1)))) (is_empty w is)
 
-  pub framed_parens : (a : A) (b k c : List Lexeme) → b ≡ Open ∷ (k ++ (Close ∷ [])) → body (k ++ (Close ∷ c)) ≡ Ok (a, Close ∷ c) → framed_f empty body (b ++ c) ≡ Ok (a, c)
+  pub framed_parens : (a : A) (b k c : List Lexeme) → b ≡ Open ∷ (k ++ (Close ∷ [])) → body (k ++ (Close ∷ c)) ≡ Ok (a, Close ∷ c) → framed_f read empty body (b ++ c) ≡ Ok (a, c)
   unfolding framed_f opening_at closed_f closing_at
-  framed_parens a b k c e h = ap (λ l. framed_f empty body (l ++ c)) e ∙ ap (λ l. closed_f (body l)) (append_assoc k (Close ∷ []) c) ∙ ap closed_f h
+  framed_parens a b k c e h = ap (λ l. framed_f read empty body (l ++ c)) e ∙ ap (λ l. closed_f read (body l)) (append_assoc k (Close ∷ []) c) ∙ ap (closed_f read) h
 
   pub framed_reach : (Whole B : List Lexeme → Type 0) (most : ℕ)
-      (nothing : (c : List Lexeme) → length c ≤ most → reach (framed_f empty body c) ≤ length c)
+      (nothing : (c : List Lexeme) → length c ≤ most → reach (framed_f read empty body c) ≤ length c)
       (whole : (f r : List Lexeme) → Whole f → length (f ++ (Close ∷ r)) ≤ most → (a : A) × (body (f ++ (Close ∷ r)) ≡ Ok (a, Close ∷ r)))
       (begun : (b c : List Lexeme) → B b → length (b ++ c) ≤ most → reach (body (b ++ c)) ≤ length c)
-      (b c : List Lexeme) → BegunEmpty b ⊎ BegunWithin Whole B b → length (b ++ c) ≤ most → reach (framed_f empty body (b ++ c)) ≤ length c
+      (b c : List Lexeme) → BegunEmpty b ⊎ BegunWithin Whole B b → length (b ++ c) ≤ most → reach (framed_f read empty body (b ++ c)) ≤ length c
   unfolding framed_f opening_at
-  framed_reach Whole B most nothing whole begun b c (inl (inl e)) le = subst (λ l. reach (framed_f empty body (l ++ c)) ≤ length c) (sym e) (nothing c (omega (arith, le, length-append b c)))
-  framed_reach Whole B most nothing whole begun b c (inr (inl e)) le = subst (λ l. reach (framed_f empty body (l ++ c)) ≤ length c) (sym e) (nothing c (omega (arith, le, length-append b c)))
+  framed_reach Whole B most nothing whole begun b c (inl (inl e)) le = subst (λ l. reach (framed_f read empty body (l ++ c)) ≤ length c) (sym e) (nothing c (omega (arith, le, length-append b c)))
+  framed_reach Whole B most nothing whole begun b c (inr (inl e)) le = subst (λ l. reach (framed_f read empty body (l ++ c)) ≤ length c) (sym e) (nothing c (omega (arith, le, length-append b c)))
   framed_reach Whole B most nothing whole begun b c (inl (inr em)) le = omega (arith, ap reach (framed_empty b c em))
-  framed_reach Whole B most nothing whole begun b c (inr (inr (inl (k, e, h)))) le = subst (λ l. reach (framed_f empty body (l ++ c)) ≤ length c) (sym e) (reach_closed (body (k ++ c)) (length c) (begun k c h (omega (arith, le, ap (λ l. length (l ++ c)) e))))
+  framed_reach Whole B most nothing whole begun b c (inr (inr (inl (k, e, h)))) le = subst (λ l. reach (framed_f read empty body (l ++ c)) ≤ length c) (sym e) (reach_closed read (body (k ++ c)) (length c) (begun k c h (omega (arith, le, ap (λ l. length (l ++ c)) e))))
   framed_reach Whole B most nothing whole begun b c (inr (inr (inr (k, e, h)))) le =
       let e2 : b ++ c ≡ Open ∷ (k ++ (Close ∷ c)) = ap (λ l. l ++ c) e ∙ ap (λ l. Open ∷ l) (append_assoc k (Close ∷ []) c) in
       let got = whole k c h (omega (arith, le, ap length e2)) in

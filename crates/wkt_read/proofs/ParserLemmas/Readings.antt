@@ -11,7 +11,8 @@ use Rattle.wkt_types.specs.declared.geometry_type.GeometryType.TheVariants as ki
 use Rattle.wkt_read.specs.Kinds.{kind_of, dim_of}
 use Rattle.wkt_read.specs.Grammar.{KindWord, kind_word, dim_word, dim_in, DimPart, Header, More, Listed, Perhaps, WithHeader, Coord, Ring, Poly, Member, StandFor, Geometries, Further}
 use Rattle.wkt_read.specs.Begun.{BegunNext, BegunEmpty, BegunWithin, BegunListed, BegunPerhaps, BegunCoord, BegunRing, BegunPoly, BegunMember, BegunBody, BegunAt, BegunGeometry}
-use Rattle.wkt_read.specs.Parser.Reading.{is_empty_word, members_read, worded, numbered, dimension_at, point_at, line_string_at, line_strings_at, polygons_at, member_at, points_at, members_at, body_at, value_at}
+use Rattle.wkt_read.specs.Parser.Outcome.{is_empty_word, members_read, no_word, no_kind, worded, numbered, dimension_at, point_at, line_string_at, line_strings_at, polygons_at, member_at, points_at, list_at, body_at, value_at}
+use Rattle.wkt_read.specs.declared.messages.Message.{Message}
 use Rattle.wkt_read.proofs.LawLemmas.OneForm.{BeginsBody, BodyOf, geometry_body, body_begins}
 use Rattle.wkt_read.proofs.LawLemmas.Begun.{CutIn, Later, Earlier, cut_in, cuts_geometry, cuts_header, body_nothing, begun_listed_at}
 use Rattle.wkt_read.proofs.ParserLemmas.Tells.{plain, told, tell, andthen, mapped, framed_f, many_f, inside_f, line_string_f, line_strings_f, polygons_f, member_f, points_f, joined_or_f, kinded_f, header_f, body_f, value_f, plain_then, plain_header, ok_told}
@@ -90,18 +91,18 @@ module _ {N : Type 0} (read : List ℕ → Option N) where
       (λ h eh. inr (e.kind, XY, word_header e None XY w h is ej (inl (refl, eh))))
       (told_dimension rest)
 
-  told_kinded : (o : Option KindWord) (w : List ℕ) (rest : List Lexeme) → kind_word w ≡ o → Told HeaderPart BegunHeader (Word w ∷ rest) (kinded_f read o (Word w ∷ rest) rest)
-  told_kinded None w rest is = ([], Word w ∷ [], refl, refl, inl refl, omega arith)
-  told_kinded (Some e) w rest is = told_joined e e.joined w rest is refl
+  told_kinded : (other : Message) (o : Option KindWord) (w : List ℕ) (rest : List Lexeme) → kind_word w ≡ o → Told HeaderPart BegunHeader (Word w ∷ rest) (kinded_f read other o (Word w ∷ rest) rest)
+  told_kinded other None w rest is = ([], Word w ∷ [], refl, refl, inl refl, omega arith)
+  told_kinded other (Some e) w rest is = told_joined e e.joined w rest is refl
 
-  told_header : (ls : List Lexeme) → Told HeaderPart BegunHeader ls (header_f read ls)
+  told_header : (inside : Bool) (ls : List Lexeme) → Told HeaderPart BegunHeader ls (header_f read inside ls)
   unfolding header_f
-  told_header [] = ([], [], refl, refl, inl refl, omega arith)
-  told_header (Word w ∷ rest) = told_kinded (kind_word w) w rest refl
-  told_header (Open ∷ rest) = ([], Open ∷ [], refl, refl, inl refl, omega arith)
-  told_header (Close ∷ rest) = ([], Close ∷ [], refl, refl, inl refl, omega arith)
-  told_header (Comma ∷ rest) = ([], Comma ∷ [], refl, refl, inl refl, omega arith)
-  told_header (Num run ∷ rest) = ([], Num run ∷ [], refl, refl, inl refl, omega arith)
+  told_header inside [] = ([], [], refl, refl, inl refl, omega arith)
+  told_header inside (Word w ∷ rest) = told_kinded (no_kind inside w) (kind_word w) w rest refl
+  told_header inside (Open ∷ rest) = ([], Open ∷ [], refl, refl, inl refl, omega arith)
+  told_header inside (Close ∷ rest) = ([], Close ∷ [], refl, refl, inl refl, omega arith)
+  told_header inside (Comma ∷ rest) = ([], Comma ∷ [], refl, refl, inl refl, omega arith)
+  told_header inside (Num run ∷ rest) = ([], Num run ∷ [], refl, refl, inl refl, omega arith)
 
   -- a header and what may stand after it
   dimension_follows : (s : List Lexeme) → BeginsBody s → dimension_at read s ≡ Ok (XY, s)
@@ -118,10 +119,10 @@ module _ {N : Type 0} (read : List ℕ → Option N) where
   joined_exact k None d h s (inr (z, eh, is)) follows =
       ap (λ l. joined_or_f read k None (l ++ s)) eh ∙ ap (λ o. mapped (λ d. (k, d)) (told (Word z ∷ s) (worded read o (is_empty_word z) z s))) is
 
-  pub header_exact : (k : GeometryType) (d : Dimension) (h s : List Lexeme) → Header k d h → BeginsBody s → header_f read (h ++ s) ≡ Ok ((k, d), s)
+  pub header_exact : (inside : Bool) (k : GeometryType) (d : Dimension) (h s : List Lexeme) → Header k d h → BeginsBody s → header_f read inside (h ++ s) ≡ Ok ((k, d), s)
   unfolding header_f
-  header_exact k d h s (w, e, more, eh, is, ek, dp) follows =
-      ap (λ l. header_f read (l ++ s)) eh ∙ ap (λ o. kinded_f read o (Word w ∷ (more ++ s)) (more ++ s)) is ∙ joined_exact e.kind e.joined d more s dp follows ∙ ap (λ k. Ok ((k, d), s)) ek
+  header_exact inside k d h s (w, e, more, eh, is, ek, dp) follows =
+      ap (λ l. header_f read inside (l ++ s)) eh ∙ ap (λ o. kinded_f read (no_kind inside w) o (Word w ∷ (more ++ s)) (more ++ s)) is ∙ joined_exact e.kind e.joined d more s dp follows ∙ ap (λ k. Ok ((k, d), s)) ek
 
   joined_reach : (k : GeometryType) (j : Option Dimension) (d : Dimension) (h c : List Lexeme) → DimPart j d h → reach (joined_or_f read k j (h ++ c)) ≤ length c
   unfolding dimension_at
@@ -132,10 +133,10 @@ module _ {N : Type 0} (read : List ℕ → Option N) where
       let at : joined_or_f read k None (h ++ c) ≡ Ok ((k, d), c) = ap (λ l. joined_or_f read k None (l ++ c)) eh ∙ ap (λ o. mapped (λ d. (k, d)) (told (Word z ∷ c) (worded read o (is_empty_word z) z c))) is in
       omega (arith, ap reach at)
 
-  header_reach : (k : GeometryType) (d : Dimension) (h c : List Lexeme) → Header k d h → reach (header_f read (h ++ c)) ≤ length c
+  header_reach : (inside : Bool) (k : GeometryType) (d : Dimension) (h c : List Lexeme) → Header k d h → reach (header_f read inside (h ++ c)) ≤ length c
   unfolding header_f
-  header_reach k d h c (w, e, more, eh, is, ek, dp) =
-      let at : header_f read (h ++ c) ≡ joined_or_f read e.kind e.joined (more ++ c) = ap (λ l. header_f read (l ++ c)) eh ∙ ap (λ o. kinded_f read o (Word w ∷ (more ++ c)) (more ++ c)) is in
+  header_reach inside k d h c (w, e, more, eh, is, ek, dp) =
+      let at : header_f read inside (h ++ c) ≡ joined_or_f read e.kind e.joined (more ++ c) = ap (λ l. header_f read inside (l ++ c)) eh ∙ ap (λ o. kinded_f read (no_kind inside w) o (Word w ∷ (more ++ c)) (more ++ c)) is in
       subst (λ t. reach t ≤ length c) (sym at) (joined_reach e.kind e.joined d more c dp)
 
   -- what stands after a header
@@ -176,12 +177,12 @@ module _ {N : Type 0} (read : List ℕ → Option N) where
   from_members d f (Value.collection e vs) (w, k, ed) = let (xs, e2, m) = geometries_from read vs f w in (xs, ap (λ d. Value.collection d vs) ed ∙ ap (λ vs. Value.collection d vs) e2, m)
   from_members d f v (w, k, ed) = let no : ⊥ = cc in absurd no
 
-  module _ (n : ℕ) (value : Part (StandFor read) Begun Anything (value_at read n) (value_f read n) n) where
-    body_part : (k : GeometryType) (d : Dimension) → Part (BodyPart k d) (BegunBody read Begun k d) Anything (body_at read (value_at read n) n k d) (body_f read (value_f read n) n k d) n
+  module _ (n : ℕ) (value : Part (StandFor read) Begun Anything (value_at read n true) (value_f read n true) n) where
+    body_part : (k : GeometryType) (d : Dimension) → Part (BodyPart k d) (BegunBody read Begun k d) Anything (body_at read (value_at read n true) n k d) (body_f read (value_f read n true) n k d) n
     body_part kind.Point d =
-        map_part (Perhaps (Coord read d)) (BegunPerhaps (Coord read d) (BegunCoord read d)) Anything (point_at read d) (framed_f None (inside_f read d)) n
+        map_part (Perhaps (Coord read d)) (BegunPerhaps (Coord read d) (BegunCoord read d)) Anything (point_at read d) (framed_f read None (inside_f read d)) n
         (BodyPart kind.Point d) (λ c. Value.point d c) (λ f c w. (w, refl, refl)) (from_point d)
-        (perhaps_part (Coord read d) (BegunCoord read d) _ _ n (coord_part read d n))
+        (perhaps_part read (Coord read d) (BegunCoord read d) _ _ n (coord_part read d n))
     body_part kind.LineString d =
         map_part (Ring read d) (BegunRing read d) Anything (line_string_at read d n) (line_string_f read d n) n
         (BodyPart kind.LineString d) (λ c. Value.line_string d c) (λ f c w. (w, refl, refl)) (from_line_string d) (line_string_part read d n)
@@ -191,18 +192,18 @@ module _ {N : Type 0} (read : List ℕ → Option N) where
     body_part kind.MultiPoint d =
         map_part (Listed (Member read d)) (BegunListed (Member read d) (BegunMember read d)) Anything (points_at read d n) (points_f read d n) n
         (BodyPart kind.MultiPoint d) (λ c. Value.multi_point d c) (λ f c w. (w, refl, refl)) (from_points d)
-        (listed_part (Member read d) (BegunMember read d) (member_at read d) (member_f read d) n (member_part read d n))
+        (listed_part read (Member read d) (BegunMember read d) (member_at read d) (member_f read d) n (member_part read d n))
     body_part kind.MultiLineString d =
         map_part (Poly read d) (BegunPoly read d) Anything (line_strings_at read d n) (line_strings_f read d n) n
         (BodyPart kind.MultiLineString d) (λ c. Value.multi_line_string d c) (λ f c w. (w, refl, refl)) (from_line_strings d) (line_strings_part read d n)
     body_part kind.MultiPolygon d =
         map_part (Listed (Poly read d)) (BegunListed (Poly read d) (BegunPoly read d)) Anything (polygons_at read d n) (polygons_f read d n) n
         (BodyPart kind.MultiPolygon d) (λ c. Value.multi_polygon d c) (λ f c w. (w, refl, refl)) (from_polygons d)
-        (listed_part (Poly read d) (BegunPoly read d) (line_strings_at read d n) (line_strings_f read d n) n (line_strings_part read d n))
+        (listed_part read (Poly read d) (BegunPoly read d) (line_strings_at read d n) (line_strings_f read d n) n (line_strings_part read d n))
     body_part kind.GeometryCollection d =
-        map_part (Listed (StandFor read)) (BegunListed (StandFor read) Begun) Anything (members_at read (value_at read n) n) (framed_f [] (many_f (value_f read n) n)) n
+        map_part (Listed (StandFor read)) (BegunListed (StandFor read) Begun) Anything (list_at read (value_at read n true) n) (framed_f read [] (many_f (value_f read n true) n)) n
         (BodyPart kind.GeometryCollection d) (λ vs. Value.collection d (members_read vs)) (λ f xs w. (geometries_to read xs f w, refl, refl)) (from_members d)
-        (listed_part (StandFor read) Begun (value_at read n) (value_f read n) n value)
+        (listed_part read (StandFor read) Begun (value_at read n true) (value_f read n true) n value)
 
   geometry_of : (v : Value N) (f : List Lexeme) → WithHeader (kind_of v) (dim_of v) (λ b. BodyOf read b v) f → StandFor read f v
   geometry_of (Value.point d c) f p = p
@@ -281,41 +282,41 @@ module _ {N : Type 0} (read : List ℕ → Option N) where
   body_follows kind.MultiPolygon d b h = listed_follows _ _ b h
   body_follows kind.GeometryCollection d b h = listed_follows _ _ b h
 
-  module _ (n : ℕ) (value : Part (StandFor read) Begun Anything (value_at read n) (value_f read n) n) where
-    with_header_told : (ls : List Lexeme) → length ls ≤ suc n → Told (StandFor read) Begun ls (andthen (header_f read ls) (λ h. body_f read (value_f read n) n h.0.0 h.0.1 h.1))
-    with_header_told ls le =
-        told_then HeaderPart BegunHeader (λ k. BodyPart k.0 k.1) (λ k. BegunBody read Begun k.0 k.1) (StandFor read) Begun ls (header_f read ls) _ (told_header ls)
+  module _ (n : ℕ) (value : Part (StandFor read) Begun Anything (value_at read n true) (value_f read n true) n) where
+    with_header_told : (inside : Bool) (ls : List Lexeme) → length ls ≤ suc n → Told (StandFor read) Begun ls (andthen (header_f read inside ls) (λ h. body_f read (value_f read n true) n h.0.0 h.0.1 h.1))
+    with_header_told inside ls le =
+        told_then HeaderPart BegunHeader (λ k. BodyPart k.0 k.1) (λ k. BegunBody read Begun k.0 k.1) (StandFor read) Begun ls (header_f read inside ls) _ (told_header inside ls)
         (λ p g e header. (body_part n value p.0.0 p.0.1).told p.1 (let long = header_long p.0.0 p.0.1 g header in omega (arith, le, ap length e, length-append g p.1)))
         header_begun
         (λ k g v h header body. after_header k.0 k.1 g h v header body)
         (λ k g h header body. close_begun (g ++ h) (inr (k.0, k.1, g, h, refl, header, body)))
 
-    with_header_exact : (v : Value N) (f r : List Lexeme) → StandFor read f v → length (f ++ r) ≤ suc n → andthen (header_f read (f ++ r)) (λ h. body_f read (value_f read n) n h.0.0 h.0.1 h.1) ≡ Ok (v, r)
-    with_header_exact v f r g le =
+    with_header_exact : (inside : Bool) (v : Value N) (f r : List Lexeme) → StandFor read f v → length (f ++ r) ≤ suc n → andthen (header_f read inside (f ++ r)) (λ h. body_f read (value_f read n true) n h.0.0 h.0.1 h.1) ≡ Ok (v, r)
+    with_header_exact inside v f r g le =
         let (h, b, e, header, body) = geometry_body read f v g in
         let long = header_long (kind_of v) (dim_of v) h header in
         let e2 : f ++ r ≡ h ++ (b ++ r) = ap (λ l. l ++ r) e ∙ append_assoc h b r in
-        ap (λ l. andthen (header_f read l) (λ h. body_f read (value_f read n) n h.0.0 h.0.1 h.1)) e2
-        ∙ ap (λ t. andthen t (λ h. body_f read (value_f read n) n h.0.0 h.0.1 h.1)) (header_exact (kind_of v) (dim_of v) h (b ++ r) header (begins_more b r (body_begins read b v body)))
+        ap (λ l. andthen (header_f read inside l) (λ h. body_f read (value_f read n true) n h.0.0 h.0.1 h.1)) e2
+        ∙ ap (λ t. andthen t (λ h. body_f read (value_f read n true) n h.0.0 h.0.1 h.1)) (header_exact inside (kind_of v) (dim_of v) h (b ++ r) header (begins_more b r (body_begins read b v body)))
         ∙ (body_part n value (kind_of v) (dim_of v)).exact v b r (body, refl, refl) tt (omega (arith, le, ap length e2, length-append h (b ++ r)))
 
-    nothing_reach : (k : GeometryType) (d : Dimension) (ls : List Lexeme) → length ls ≤ n → reach (body_f read (value_f read n) n k d ls) ≤ length ls
-    nothing_reach k d ls le = told_reach (BodyPart k d) (BegunBody read Begun k d) ls (body_f read (value_f read n) n k d ls) ((body_part n value k d).told ls le)
+    nothing_reach : (k : GeometryType) (d : Dimension) (ls : List Lexeme) → length ls ≤ n → reach (body_f read (value_f read n true) n k d ls) ≤ length ls
+    nothing_reach k d ls le = told_reach (BodyPart k d) (BegunBody read Begun k d) ls (body_f read (value_f read n true) n k d ls) ((body_part n value k d).told ls le)
 
-    with_header_reach : (b c : List Lexeme) → BegunWithHeader b → length (b ++ c) ≤ suc n → reach (andthen (header_f read (b ++ c)) (λ h. body_f read (value_f read n) n h.0.0 h.0.1 h.1)) ≤ length c
-    with_header_reach b c (inl e) le =
-        subst (λ l. reach (andthen (header_f read (l ++ c)) (λ h. body_f read (value_f read n) n h.0.0 h.0.1 h.1)) ≤ length c) (sym e)
-        (told_reach (StandFor read) Begun c (andthen (header_f read c) (λ h. body_f read (value_f read n) n h.0.0 h.0.1 h.1)) (with_header_told c (omega (arith, le, length-append b c))))
-    with_header_reach b c (inr (k, d, h, s, e, header, body)) le =
+    with_header_reach : (inside : Bool) (b c : List Lexeme) → BegunWithHeader b → length (b ++ c) ≤ suc n → reach (andthen (header_f read inside (b ++ c)) (λ h. body_f read (value_f read n true) n h.0.0 h.0.1 h.1)) ≤ length c
+    with_header_reach inside b c (inl e) le =
+        subst (λ l. reach (andthen (header_f read inside (l ++ c)) (λ h. body_f read (value_f read n true) n h.0.0 h.0.1 h.1)) ≤ length c) (sym e)
+        (told_reach (StandFor read) Begun c (andthen (header_f read inside c) (λ h. body_f read (value_f read n true) n h.0.0 h.0.1 h.1)) (with_header_told inside c (omega (arith, le, length-append b c))))
+    with_header_reach inside b c (inr (k, d, h, s, e, header, body)) le =
         let long = header_long k d h header in
         let e2 : b ++ c ≡ h ++ (s ++ c) = ap (λ l. l ++ c) e ∙ append_assoc h s c in
         let short : length (s ++ c) ≤ n = omega (arith, le, ap length e2, length-append h (s ++ c)) in
         let short2 : length c ≤ n = omega (arith, short, length-append s c) in
-        subst (λ l. reach (andthen (header_f read l) (λ h. body_f read (value_f read n) n h.0.0 h.0.1 h.1)) ≤ length c) (sym e2)
+        subst (λ l. reach (andthen (header_f read inside l) (λ h. body_f read (value_f read n true) n h.0.0 h.0.1 h.1)) ≤ length c) (sym e2)
         (elim (body_follows k d s body) [
-          | inl nil ↦ subst (λ l. reach (andthen (header_f read (h ++ (l ++ c))) (λ h. body_f read (value_f read n) n h.0.0 h.0.1 h.1)) ≤ length c) (sym nil)
-              (reach_then (length c) (header_f read (h ++ c)) (λ h. body_f read (value_f read n) n h.0.0 h.0.1 h.1) (header_reach k d h c header) (λ p le. nothing_reach p.0.0 p.0.1 p.1 (omega (arith, le, short2))))
-          | inr follows ↦ subst (λ t. reach (andthen t (λ h. body_f read (value_f read n) n h.0.0 h.0.1 h.1)) ≤ length c) (sym (header_exact k d h (s ++ c) header (begins_more s c follows)))
+          | inl nil ↦ subst (λ l. reach (andthen (header_f read inside (h ++ (l ++ c))) (λ h. body_f read (value_f read n true) n h.0.0 h.0.1 h.1)) ≤ length c) (sym nil)
+              (reach_then (length c) (header_f read inside (h ++ c)) (λ h. body_f read (value_f read n true) n h.0.0 h.0.1 h.1) (header_reach inside k d h c header) (λ p le. nothing_reach p.0.0 p.0.1 p.1 (omega (arith, le, short2))))
+          | inr follows ↦ subst (λ t. reach (andthen t (λ h. body_f read (value_f read n true) n h.0.0 h.0.1 h.1)) ≤ length c) (sym (header_exact inside k d h (s ++ c) header (begins_more s c follows)))
               ((body_part n value k d).reaches s c body short)
         ])
 
@@ -337,9 +338,9 @@ module _ {N : Type 0} (read : List ℕ → Option N) where
   geometry_long : (v : Value N) (f : List Lexeme) → StandFor read f v → 0 < length f
   geometry_long v f g = let (h, b, e, header, body) = geometry_body read f v g in let long = header_long (kind_of v) (dim_of v) h header in omega (arith, ap length e, length-append h b)
 
-  pub value_part : (n : ℕ) → Part (StandFor read) Begun Anything (value_at read n) (value_f read n) n
+  pub value_part : (n : ℕ) (inside : Bool) → Part (StandFor read) Begun Anything (value_at read n inside) (value_f read n inside) n
   unfolding value_at value_f
-  value_part zero = record {
+  value_part zero inside = record {
     same = λ ls. refl;
     told = λ ls le. none ls le;
     exact = λ v f r g k le. let long = geometry_long v f g in absurd (omega (arith, le, length-append f r));
@@ -348,34 +349,34 @@ module _ {N : Type 0} (read : List ℕ → Option N) where
     begun = λ a b le h. (1, inl (nil a b le));
   }
     where
-      none : (ls : List Lexeme) → length ls ≤ 0 → Told (StandFor read) Begun ls (Err ([], ls))
+      none : (ls : List Lexeme) → length ls ≤ 0 → Told (StandFor read) Begun ls (Err ([], (no_word inside, ls)))
       none [] le = ([], [], refl, refl, (1, inl refl), omega arith)
       none (x ∷ ls) le = absurd (omega arith)
 
       nil : (a b : List Lexeme) → length (a ++ b) ≤ 0 → a ≡ []
       nil [] b le = refl
       nil (x ∷ a) b le = absurd (omega arith)
-  value_part (suc n) =
-      let value = value_part n in
+  value_part (suc n) inside =
+      let value = value_part n true in
       record {
-        same = λ ls. plain_then (header_f read ls) _ _ _ (plain_header read ls) (λ h. (body_part n value h.0.0 h.0.1).same h.1);
-        told = with_header_told n value;
-        exact = λ v f r g k le. with_header_exact n value v f r g le;
-        reaches = λ b c h le. with_header_reach n value b c (open_begun b h) le;
+        same = λ ls. plain_then (header_f read inside ls) _ _ _ (plain_header read inside ls) (λ h. (body_part n value h.0.0 h.0.1).same h.1);
+        told = with_header_told n value inside;
+        exact = λ v f r g k le. with_header_exact n value inside v f r g le;
+        reaches = λ b c h le. with_header_reach n value inside b c (open_begun b h) le;
         cuts = cuts_geometry read;
         begun = λ a b le h. with_header_cut n value a b le (open_begun (a ++ b) h);
       }
 
   -- what is read is in the grammar
-  pub sound : (n : ℕ) (ls : List Lexeme) (p : Value N × List Lexeme) → length ls ≤ n → value_at read n ls ≡ Ok p → (f : List Lexeme) × (ls ≡ f ++ p.1) × StandFor read f p.0
-  sound n ls p le e =
-      let part = value_part n in
-      let t : value_f read n ls ≡ Ok p = ok_told (value_f read n ls) p (part.same ls ∙ e) in
+  pub sound : (n : ℕ) (inside : Bool) (ls : List Lexeme) (p : Value N × List Lexeme) → length ls ≤ n → value_at read n inside ls ≡ Ok p → (f : List Lexeme) × (ls ≡ f ++ p.1) × StandFor read f p.0
+  sound n inside ls p le e =
+      let part = value_part n inside in
+      let t : value_f read n inside ls ≡ Ok p = ok_told (value_f read n inside ls) p (part.same ls ∙ e) in
       let (f, e2, g, bal) = subst (Told (StandFor read) Begun ls) t (part.told ls le) in
       (f, e2, g)
 
   -- what is in the grammar is read, whatever follows
-  pub complete : (n : ℕ) (v : Value N) (f r : List Lexeme) → StandFor read f v → length (f ++ r) ≤ n → value_at read n (f ++ r) ≡ Ok (v, r)
-  complete n v f r g le =
-      let part = value_part n in
+  pub complete : (n : ℕ) (inside : Bool) (v : Value N) (f r : List Lexeme) → StandFor read f v → length (f ++ r) ≤ n → value_at read n inside (f ++ r) ≡ Ok (v, r)
+  complete n inside v f r g le =
+      let part = value_part n inside in
       sym (part.same (f ++ r)) ∙ ap plain (part.exact v f r g tt le)

@@ -1,5 +1,5 @@
 -- What a reading tells of the lexemes before the place where it stops.
-use Rattle.std.proofs.Common.{◌≡◌, ℕ, zero, suc, ◌+◌, ◌≤◌, ◌<◌, List, [], ◌∷◌, ◌++◌, length, length-append, sym, refl, ap, ◌∙◌, subst, append_assoc, append-nil, arith, Ok, Err, Bool, true, false, cond, inl, inr, codes}
+use Rattle.std.proofs.Common.{◌≡◌, ℕ, zero, suc, ◌+◌, ◌≤◌, ◌<◌, List, [], ◌∷◌, ◌++◌, length, length-append, sym, refl, ap, ◌∙◌, subst, append_assoc, append-nil, arith, Option, Ok, Err, Bool, true, false, cond, inl, inr, codes}
 use Rattle.std.specs.Prelude.{◌⊎◌}
 use Rattle.std.specs.Str.{str_to_ascii_uppercase}
 use Rattle.std.proofs.lemmas.Slice.Eq.{bytes_eq-Decides}
@@ -7,8 +7,10 @@ use Rattle.wkt_num.specs.Bytes.{Lexeme, Open, Close, Comma, Word, Num}
 use Rattle.wkt_read.specs.Grammar.{IsEmptyWord, Within, More, Many}
 use Rattle.wkt_read.specs.Begun.{BegunEmpty, BegunNext, BegunMany, BegunWithin}
 use Rattle.wkt_read.specs.Early.{opens, closes}
-use Rattle.wkt_read.specs.Parser.Reading.{left_by, is_empty_word, opening_at, closing_at}
-use Rattle.wkt_read.proofs.ParserLemmas.Tells.{Telling, told, andthen, fronted, mapped, closed_f, framed_f, tail_f, many_f}
+use Rattle.wkt_read.specs.Parser.Outcome.{is_empty_word, opening_at, closing_at}
+use Rattle.wkt_read.specs.declared.messages.Message.{Message}
+use Rattle.wkt_read.specs.declared.messages.Message.TheVariants as message
+use Rattle.wkt_read.proofs.ParserLemmas.Tells.{Telling, told, andthen, fronted, mapped, after_error, closed_f, framed_f, tail_f, many_f}
 
 pub opens_append : (a b : List Lexeme) → opens (a ++ b) ≡ opens a + opens b
 opens_append [] b = omega arith
@@ -29,7 +31,7 @@ closes_append (Num w ∷ a) b = closes_append a b
 -- an answer is a whole part with as many `(` as `)`; an error stops after a beginning of the part
 abbrev pub Told : {A : Type 0} → (List Lexeme → A → Type 0) → (List Lexeme → Type 0) → List Lexeme → Telling A → Type 0
 Told W B ls (Ok p) = (f : List Lexeme) × (ls ≡ f ++ p.1) × W f p.0 × (opens f ≡ closes f)
-Told W B ls (Err r) = (pre : List Lexeme) × (given : List Lexeme) × (ls ≡ pre ++ r.0) × (r.0 ≡ given ++ r.1) × B pre × (length given + closes pre ≤ 1 + opens pre)
+Told W B ls (Err r) = (pre : List Lexeme) × (given : List Lexeme) × (ls ≡ pre ++ r.0) × (r.0 ≡ given ++ r.1.1) × B pre × (length given + closes pre ≤ 1 + opens pre)
 
 -- a part after a whole one
 pub told_after : {A B : Type 0} (Wider : List Lexeme → A → Type 0) (Widest : List Lexeme → B → Type 0) (BegunWider BegunWidest : List Lexeme → Type 0) (m : A → B) (g ls rest : List Lexeme) (t : Telling A) → ls ≡ g ++ rest → opens g ≡ closes g → ((h : List Lexeme) (b : A) → Wider h b → Widest (g ++ h) (m b)) → ((h : List Lexeme) → BegunWider h → BegunWidest (g ++ h)) → Told Wider BegunWider rest t → Told Widest BegunWidest ls (mapped m t)
@@ -131,17 +133,17 @@ unfolding is_empty_word
 is_empty w e = (bytes_eq-Decides (str_to_ascii_uppercase w) (codes "EMPTY")).1 e
 
 -- what the closing place takes
-taken_closing : (ls : List Lexeme) → (g : List Lexeme) × (ls ≡ g ++ left_by (closing_at ls)) × (length g ≤ 1)
+taken_closing : {N : Type 0} (read : List ℕ → Option N) (m : Message) (ls : List Lexeme) → (g : List Lexeme) × (ls ≡ g ++ (after_error m (closing_at read ls)).1) × (length g ≤ 1)
 unfolding closing_at
-taken_closing [] = ([], refl, omega arith)
-taken_closing (Open ∷ ls) = (Open ∷ [], refl, omega arith)
-taken_closing (Close ∷ ls) = (Close ∷ [], refl, omega arith)
-taken_closing (Comma ∷ ls) = (Comma ∷ [], refl, omega arith)
-taken_closing (Word w ∷ ls) = (Word w ∷ [], refl, omega arith)
-taken_closing (Num w ∷ ls) = (Num w ∷ [], refl, omega arith)
+taken_closing read m [] = ([], refl, omega arith)
+taken_closing read m (Open ∷ ls) = (Open ∷ [], refl, omega arith)
+taken_closing read m (Close ∷ ls) = (Close ∷ [], refl, omega arith)
+taken_closing read m (Comma ∷ ls) = (Comma ∷ [], refl, omega arith)
+taken_closing read m (Word w ∷ ls) = (Word w ∷ [], refl, omega arith)
+taken_closing read m (Num w ∷ ls) = (Num w ∷ [], refl, omega arith)
 
 -- EMPTY or a part in parentheses
-module _ {A : Type 0} (empty : A) (body : List Lexeme → Telling A) (W : List Lexeme → A → Type 0) (B : List Lexeme → Type 0) (begun : (f : List Lexeme) (a : A) → W f a → B f) where
+module _ {A N : Type 0} (read : List ℕ → Option N) (empty : A) (body : List Lexeme → Telling A) (W : List Lexeme → A → Type 0) (B : List Lexeme → Type 0) (begun : (f : List Lexeme) (a : A) → W f a → B f) where
   abbrev pub Framed : List Lexeme → A → Type 0
   Framed f a = ((a ≡ empty) × IsEmptyWord f) ⊎ Within (λ b. W b a) f
 
@@ -149,7 +151,7 @@ module _ {A : Type 0} (empty : A) (body : List Lexeme → Telling A) (W : List L
   abbrev pub BegunFrame : List Lexeme → Type 0
   BegunFrame ls = (ls ≡ []) ⊎ ((b : List Lexeme) × (ls ≡ Open ∷ b) × B b)
 
-  told_closing : (a : A) (f ls rest : List Lexeme) → ls ≡ f ++ rest → W f a → opens f ≡ closes f → Told Framed BegunFrame (Open ∷ ls) (closed_f (Ok (a, rest)))
+  told_closing : (a : A) (f ls rest : List Lexeme) → ls ≡ f ++ rest → W f a → opens f ≡ closes f → Told Framed BegunFrame (Open ∷ ls) (closed_f read (Ok (a, rest)))
   unfolding closed_f closing_at
   told_closing a f ls [] e w bal = (Open ∷ f, [], ap (λ l. Open ∷ l) e, refl, inr (f, refl, begun f a w), omega (arith, bal))
   told_closing a f ls (Close ∷ r) e w bal = (Open ∷ (f ++ (Close ∷ [])), ap (λ l. Open ∷ l) (e ∙ sym (append_assoc f (Close ∷ []) r)), inr (f, refl, w), omega (arith, bal, opens_append f (Close ∷ []), closes_append f (Close ∷ [])))
@@ -158,18 +160,18 @@ module _ {A : Type 0} (empty : A) (body : List Lexeme → Telling A) (W : List L
   told_closing a f ls (Word x ∷ r) e w bal = (Open ∷ f, Word x ∷ [], ap (λ l. Open ∷ l) e, refl, inr (f, refl, begun f a w), omega (arith, bal))
   told_closing a f ls (Num x ∷ r) e w bal = (Open ∷ f, Num x ∷ [], ap (λ l. Open ∷ l) e, refl, inr (f, refl, begun f a w), omega (arith, bal))
 
-  pub told_closed : (ls : List Lexeme) (t : Telling A) → Told W B ls t → Told Framed BegunFrame (Open ∷ ls) (closed_f t)
+  pub told_closed : (ls : List Lexeme) (t : Telling A) → Told W B ls t → Told Framed BegunFrame (Open ∷ ls) (closed_f read t)
   unfolding closed_f
   told_closed ls (Ok p) (f, e, w, bal) = told_closing p.0 f ls p.1 e w bal
   told_closed ls (Err r) (pre, given, e, e2, b, le) =
-      let (g, e3, le2) = taken_closing r.1 in
-      (Open ∷ pre, given ++ g, ap (λ l. Open ∷ l) e, e2 ∙ ap (λ l. given ++ l) e3 ∙ sym (append_assoc given g (left_by (closing_at r.1))), inr (pre, refl, b), omega (arith, le, le2, length-append given g))
+      let (g, e3, le2) = taken_closing read r.1.0 r.1.1 in
+      (Open ∷ pre, given ++ g, ap (λ l. Open ∷ l) e, e2 ∙ ap (λ l. given ++ l) e3 ∙ sym (append_assoc given g (after_error r.1.0 (closing_at read r.1.1)).1), inr (pre, refl, b), omega (arith, le, le2, length-append given g))
 
-  told_word : (w : List ℕ) (rest : List Lexeme) (b : Bool) → is_empty_word w ≡ b → Told Framed BegunFrame (Word w ∷ rest) (andthen (told (Word w ∷ rest) (cond b (Ok (false, rest)) (Err rest))) (λ o. cond o.0 (closed_f (body o.1)) (Ok (empty, o.1))))
+  told_word : (w : List ℕ) (rest : List Lexeme) (b : Bool) → is_empty_word w ≡ b → Told Framed BegunFrame (Word w ∷ rest) (andthen (told (Word w ∷ rest) (cond b (Ok (false, rest)) (Err (message.Open, rest)))) (λ o. cond o.0 (closed_f read (body o.1)) (Ok (empty, o.1))))
   told_word w rest true is = (Word w ∷ [], refl, inl (refl, (w, refl, empty_is w is)), refl)
   told_word w rest false is = ([], Word w ∷ [], refl, refl, inl refl, omega arith)
 
-  pub told_framed : (ls : List Lexeme) → ((r : List Lexeme) → length r < length ls → Told W B r (body r)) → Told Framed BegunFrame ls (framed_f empty body ls)
+  pub told_framed : (ls : List Lexeme) → ((r : List Lexeme) → length r < length ls → Told W B r (body r)) → Told Framed BegunFrame ls (framed_f read empty body ls)
   unfolding framed_f opening_at
   told_framed [] inner = ([], [], refl, refl, inl refl, omega arith)
   told_framed (Open ∷ rest) inner = told_closed rest (body rest) (inner rest (omega arith))

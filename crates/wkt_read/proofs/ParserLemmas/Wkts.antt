@@ -7,7 +7,7 @@ use Rattle.wkt_num.specs.Bytes.{Lexeme, Open, Close, Comma, Word, Num}
 use Rattle.wkt_access.specs.declared.Dimension.{Dimension}
 use Rattle.wkt_access.specs.Values.{Values}
 use Rattle.wkt_read.specs.Grammar.{KindWord, kind_word, dim_word}
-use Rattle.wkt_read.specs.Parser.Reading.{is_empty_word, members_read}
+use Rattle.wkt_read.specs.Parser.Outcome.{is_empty_word, members_read, Outcome, ◌>>=◌, dimension_at, worded, numbered, joined_or_at, kinded, no_kind, no_word, opening_at, header_at, follows_at, value_at, IsOpened, HasMembers}
 use Rattle.wkt_types.specs.declared.geometry_type.GeometryType.{GeometryType}
 use Rattle.wkt_types.specs.declared.geometry.Wkt.{Wkt}
 use Rattle.wkt_types.specs.Tree.{tree, trees_of}
@@ -15,7 +15,6 @@ use Rattle.wkt_types.specs.Values.{values_of, AreUniform}
 use Rattle.wkt_read.specs.declared.error.ReadError.{ReadError}
 use Rattle.wkt_read.specs.declared.messages.Message.{Message}
 use Rattle.wkt_read.specs.declared.messages.Message.TheVariants as message
-use Rattle.wkt_read.specs.Parser.Outcome.{Outcome, ◌>>=◌, dimension_at, worded, numbered, joined_or_at, kinded, no_kind, no_word, opening_at, header_at, follows_at, value_at, IsOpened, HasMembers}
 use Rattle.wkt_read.specs.Parser.Promises.{TellsIn, Anything, Reads, ReadsPart}
 use Rattle.wkt_read.specs.Parser.Reads.{wkt_value, UniformWkt}
 use Rattle.wkt_read.specs.declared.parser.geometries.Start.{Start}

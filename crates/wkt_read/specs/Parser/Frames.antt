@@ -10,8 +10,7 @@ use Rattle.wkt_read.specs.declared.error.ReadError.TheVariants.{Text, Memory}
 use Rattle.wkt_read.specs.declared.parser.geometries.Frame.{Frame}
 use Rattle.wkt_read.specs.declared.parser.geometries.Start.{Start}
 use Rattle.wkt_read.specs.declared.parser.geometries.Start.TheVariants.{Whole, Opened}
-use Rattle.wkt_read.specs.Parser.Reading.{members_read}
-use Rattle.wkt_read.specs.Parser.Outcome.{Outcome, ◌>>=◌, with_front, closed, many_at, tail_at, value_at}
+use Rattle.wkt_read.specs.Parser.Outcome.{members_read, Outcome, ◌>>=◌, with_front, closed, many_at, tail_at, value_at}
 use Rattle.wkt_read.specs.Parser.Promises.{TellsIn, Refuses, each, All}
 use Rattle.wkt_read.specs.Parser.Reads.{wkt_value, UniformWkt}
 use Rattle.wkt_read.specs.Parser.Walks.{GoesOn}

@@ -1,20 +1,24 @@
 -- What the readers answer, as functions on lists of lexemes: a value and the lexemes after it, or the message of a refusal and the lexemes that it leaves.
-use Rattle.std.specs.Prelude.{◌≡◌, ◌≢◌, ℕ, suc, zero, List, [], ◌∷◌, ◌++◌, Option, Some, None, Result, Ok, Err, Bool, true, false, ◌&&◌, if◌then◌else◌}
+use Rattle.std.specs.Prelude.{◌≡◌, ◌≢◌, ℕ, suc, zero, List, [], ◌∷◌, ◌++◌, Option, Some, None, Result, Ok, Err, Bool, true, false, ◌&&◌, codes, if◌then◌else◌}
 use Rattle.std.specs.Char.{is_ascii}
+use Rattle.std.specs.Str.{str_to_ascii_uppercase, bytes_eq}
 use Rattle.wkt_num.specs.Bytes.{Lexeme, Open, Close, Comma, Word, Num}
 use Rattle.wkt_access.specs.declared.dimensions.Dimension.{Dimension}
 use Rattle.wkt_access.specs.declared.dimensions.Dimension.TheVariants.{XY, XYZ, XYM, XYZM}
-use Rattle.wkt_access.specs.Values.{Value}
+use Rattle.wkt_access.specs.Values.{Value, Values}
 use Rattle.wkt_types.specs.declared.geometry_type.GeometryType.{GeometryType}
 use Rattle.wkt_types.specs.declared.geometry_type.GeometryType.TheVariants as kind
 use Rattle.wkt_read.specs.Grammar.{KindWord, kind_word, dim_word}
-use Rattle.wkt_read.specs.Parser.Reading.{is_empty_word, members_read}
 use Rattle.wkt_read.specs.declared.messages.Message.{Message}
 use Rattle.wkt_read.specs.declared.messages.Message.TheVariants as message
 
 -- What is answered: what was read and the lexemes after it, or a message and the lexemes that are left.
 abbrev pub Outcome : Type 0 → Type 0
 Outcome A = Result (A × List Lexeme) (Message × List Lexeme)
+
+-- What answers: of lexemes, an outcome.
+abbrev pub Reader : Type 0 → Type 0
+Reader A = List Lexeme → Outcome A
 
 infixl 10 ◌>>=◌
 -- One part, then another after it; the first fault ends both.
@@ -26,6 +30,15 @@ abbrev pub ◌>>=◌ : {A B : Type 0} → Outcome A → (A × List Lexeme → Ou
 abbrev pub with_front : {A : Type 0} → List A → Outcome (List A) → Outcome (List A)
 with_front front (Ok p) = Ok (front ++ p.0, p.1)
 with_front front (Err e) = Err e
+
+-- Whether a run is the word EMPTY, whatever the case of its letters.
+unfoldable pub is_empty_word : List ℕ → Bool
+is_empty_word run = bytes_eq (str_to_ascii_uppercase run) (codes "EMPTY")
+
+-- The values of a list, as the members of a collection.
+abbrev pub members_read : {N : Type 0} → List (Value N) → Values N
+members_read [] = Values.no_values
+members_read (v ∷ vs) = Values.more_values v (members_read vs)
 
 -- All characters of a run are ASCII.
 abbrev pub is_ascii_word : List ℕ → Bool
@@ -220,6 +233,10 @@ module _ {N : Type 0} (read : List ℕ → Option N) where
   unfoldable pub value_at : ℕ → Bool → List Lexeme → Outcome (Value N)
   value_at zero inside lexemes = Err (no_word inside, lexemes)
   value_at (suc fuel) inside lexemes = header_at inside lexemes >>= λ h. body_at (value_at fuel true) fuel h.0.0 h.0.1 h.1
+
+  -- A geometry with the messages of a collection's member.
+  abbrev pub geometry_at : ℕ → Reader (Value N)
+  geometry_at fuel = value_at fuel true
 
   -- What stands after the header of a geometry of this kind and dimension.
   abbrev pub follows_at : GeometryType → Dimension → ℕ → List Lexeme → Outcome (Value N)

@@ -9,10 +9,10 @@ use Rattle.wkt_flat.specs.Shape.{flat_shape}
 use Rattle.wkt_read.proofs.LawLemmas.OneWkt.{wkt-one}
 use Rattle.wkt_read.proofs.LawLemmas.Fronts.{front_one}
 use Rattle.wkt_read.proofs.LawLemmas.Spelled.{front_of_text}
-use Rattle.wkt_to_wkt.specs.Back.{back}
+use Rattle.wkt_convert.specs.Back.{back}
 use Rattle.wkt_convert.specs.Flatten.{flat}
 use Rattle.wkt.proofs.BackValues.{back_is_wkt}
-use Rattle.wkt_to_wkt.proofs.Plain.{again}
+use Rattle.wkt_convert.proofs.Plain.{again}
 use Rattle.wkt.proofs.flat_laws.plain_reads_back.Goals as goal
 
 pub returns : goal.returns

@@ -11,7 +11,8 @@ use Rattle.wkt_convert.specs.Flatten.{flat}
 use Rattle.wkt_convert.specs.Outcomes.{outcome_map, outcomes}
 use Rattle.wkt_convert.proofs.Members.{flatten_members, tree-point}
 use Rattle.wkt_convert.proofs.Outcomes.{passes_on}
-use Rattle.wkt_convert.proofs.Opened.{pending, pending-last, first-of, going, going-start, finish, goes-on, opens, closes, ends, refuses}
+use Rattle.wkt_convert.proofs.Opened.{pending, pending-last, first-of}
+use Rattle.wkt_convert.proofs.OpenedFlat.{going, going-start, finish, goes-on, opens, closes, ends, refuses}
 use Rattle.wkt_convert.proofs.flatten.collection.Goals as goal
 
 pub loop-rest-init : goal.loop-rest-init
@@ -32,8 +33,8 @@ returns-in_default g c =
 
 pub loop-rest-smaller-then-rest-lt1 : goal.loop-rest-smaller-then-rest-lt1
 loop-rest-smaller-then-rest-lt1 g c =
-    let popped : pending c.loop-rest.opened.items ≡ pending c.pop.new.self.items + (1 + 2 * weights c.in-Some.outer.rest.now) =
-    ap (λ xs. pending xs) c.in-Some.ensures.items ∙ pending-last c.pop.new.self.items c.in-Some.outer in
+    let popped : pending weights c.loop-rest.opened.items ≡ pending weights c.pop.new.self.items + (1 + 2 * weights c.in-Some.outer.rest.now) =
+    ap (λ xs. pending weights xs) c.in-Some.ensures.items ∙ pending-last weights c.pop.new.self.items c.in-Some.outer in
     omega (arith, popped)
 
 pub loop-rest-preserved-then-rest-lt1 : goal.loop-rest-preserved-then-rest-lt1
@@ -81,8 +82,8 @@ loop-rest-smaller g c =
     let held = rw c.in-Members.is at c.in_ok-g-in_default-next.ensures in
     let parts : weights rest ≡ weight next + weights (take (length rest - 1) (drop 1 rest)) = ap (λ ws. weights ws) (first-of rest next c.in-len1-up.len_at_least c.next-item.is) in
     let heavy : weight next ≡ 1 + weights c.in-Members.inner.now = ap tree_weight held.1 in
-    let pushed : pending c.push-in-Members.new.all.items ≡ pending c.loop-rest.opened.items + (1 + 2 * weights (take (length rest - 1) (drop 1 rest))) =
-    ap (λ xs. pending xs) c.in_ok-push-in-Members.ensures ∙ pending-last c.loop-rest.opened.items _ in
+    let pushed : pending weights c.push-in-Members.new.all.items ≡ pending weights c.loop-rest.opened.items + (1 + 2 * weights (take (length rest - 1) (drop 1 rest))) =
+    ap (λ xs. pending weights xs) c.in_ok-push-in-Members.ensures ∙ pending-last weights c.loop-rest.opened.items _ in
     omega (arith, parts, heavy, pushed)
 
 pub loop-rest-preserved : goal.loop-rest-preserved

@@ -5,7 +5,8 @@ use Rattle.wkt_flat.specs.Equal.{coord_eq}
 use Rattle.wkt_flat.specs.Tree.{flat_tree}
 use Rattle.wkt_convert.specs.Flatten.{flat}
 use Rattle.wkt_convert.specs.Outcomes.{outcomes}
-use Rattle.wkt_convert.proofs.Opened.{finish, going, pending}
+use Rattle.wkt_convert.proofs.Opened.{pending}
+use Rattle.wkt_convert.proofs.OpenedFlat.{finish, going}
 use Rattle.wkt_convert.proofs.flatten.collection.Given as goal
 
 abbrev pub invariant-loop-rest : goal.invariant-loop-rest
@@ -14,4 +15,4 @@ invariant-loop-rest g l =
     finish E l.opened.items (going E (map flat_tree l.done.items) l.rest) ≡ outcomes (λ w. flat E (tree w)) l.ws
 
 abbrev pub decreases-loop-rest : goal.decreases-loop-rest
-decreases-loop-rest g l = pending l.opened.items + 2 * weights l.rest
+decreases-loop-rest g l = pending weights l.opened.items + 2 * weights l.rest

@@ -1,6 +1,6 @@
 -- The run is the word EMPTY, or the next lexeme is another.
 use Rattle.std.proofs.Common.{sym, ap, ◌∙◌, arith}
-use Rattle.wkt_read.specs.Parser.Reading.{is_empty_word}
+use Rattle.wkt_read.specs.Parser.Outcome.{is_empty_word}
 use Rattle.wkt_events.proofs.Words.{empty-word}
 use Rattle.wkt_events.proofs.NextWords.{word-count, word-there, only-word}
 use Rattle.wkt_events.proofs.marks.empty_word.Goals as goal

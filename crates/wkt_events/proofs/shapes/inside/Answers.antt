@@ -1,6 +1,6 @@
 -- What stands in the parentheses of each kind is read as the grammar has it.
 use Rattle.std.specs.Prelude.{option_to_list}
-use Rattle.wkt_read.specs.Parser.Reading.{closed}
+use Rattle.wkt_read.specs.Parser.Outcome.{closed}
 use Rattle.wkt_events.specs.declared.builder.Part.TheVariants as part
 use Rattle.wkt_events.specs.Events.{listed, coordinate}
 use Rattle.wkt_events.specs.Walking.{some_at}
@@ -13,7 +13,7 @@ use Rattle.wkt_events.proofs.shapes.inside.Goals as goal
 pub returns-in_err-a-in-Point-clause-gives : goal.returns-in_err-a-in-Point-clause-gives
 returns-in_err-a-in-Point-clause-gives g c = λ d start e other begun.
     inside-point g.T.WktNum.read g.B.Builder.maker _ c.args.text.now _ d g.row.N _ _ _ c.in-Point.is e
-    (gives-none g.B.Builder.maker _ c.args.text.now (λ _ ls. closed (some_at g.T.WktNum.read g.row.N ls)) (λ x. listed part.Geometry part.Point (coordinate g.row.N) (option_to_list x)) _ _ _ c.from_residual.ensures
+    (gives-none g.B.Builder.maker _ c.args.text.now (λ _ ls. closed g.T.WktNum.read (some_at g.T.WktNum.read g.row.N ls)) (λ x. listed part.Geometry part.Point (coordinate g.row.N) (option_to_list x)) _ _ _ c.from_residual.ensures
     (point-unread g.T.WktNum.read g.row.N g.B.Builder.maker _ c.args.text.now _ c.in_err-a-in-Point.ensures.gives))
 
 pub close-requires-clause-room : goal.close-requires-clause-room

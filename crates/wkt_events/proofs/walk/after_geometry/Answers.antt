@@ -1,7 +1,7 @@
 -- Behind a geometry collections are closed, until a comma comes or none is open.
 use Rattle.std.proofs.Common.{◌-◌, refl, arith, inr}
 use Rattle.wkt_num.specs.Bytes.{Comma, class_of}
-use Rattle.wkt_read.specs.Parser.Reading.{closing_at}
+use Rattle.wkt_read.specs.Parser.Outcome.{closing_at}
 use Rattle.wkt_events.proofs.Lefts.{goes-one}
 use Rattle.wkt_events.proofs.Rooms.{room-for, room-after}
 use Rattle.wkt_events.proofs.Wholes.{comes-goes, legible-comes, closes, refuses-all, at_comma, at_close, at_neither}
@@ -57,7 +57,7 @@ loop-depth-preserved g c =
     record {
       keeps = λ whole start h.
           at_close g.B.Builder.maker g.T.WktNum.read _ c.args.text.now whole start c.loop-depth.depth (c.loop-depth.depth - 1) c.loop-depth.a.at c.in-Some-close.closed.at c.loop-depth.a.made c.in-Some-close.closed.made
-          (omega arith) (i.keeps whole start h) (closes _ c.args.text.now c.loop-depth.a.at c.in-Some-close.closed.at d.value d.reads) d.makes;
+          (omega arith) (i.keeps whole start h) (closes g.T.WktNum.read _ c.args.text.now c.loop-depth.a.at c.in-Some-close.closed.at d.value d.reads) d.makes;
       comes = inr (comes-goes _ c.args.text.now c.args.a.at c.loop-depth.a.at c.in-Some-close.closed.at i.comes d.goes);
       grows = omega (arith, some, grows);
       inside = d.goes.inside;
@@ -69,4 +69,4 @@ pub returns-in-None-close-clause-ends : goal.returns-in-None-close-clause-ends
 unfolding class_of
 returns-in-None-close-clause-ends g c = λ whole start h utf8.
     at_neither g.B.Builder.maker g.T.WktNum.read _ c.args.text.now whole start c.loop-depth.depth c.loop-depth.a.at c.loop-depth.a.made
-    c.loop-depth-test.true (c.loop-depth.invariant.keeps whole start h) (c.in-None.ensures Comma refl) (refuses-all _ c.args.text.now (λ _. closing_at) c.loop-depth.a.at c.in-None-close.ensures.gives (legible-comes _ c.args.text.now c.args.a.at c.loop-depth.a.at c.loop-depth.invariant.comes utf8))
+    c.loop-depth-test.true (c.loop-depth.invariant.keeps whole start h) (c.in-None.ensures Comma refl) (refuses-all _ c.args.text.now (λ _. closing_at g.T.WktNum.read) c.loop-depth.a.at c.in-None-close.ensures.gives (legible-comes _ c.args.text.now c.args.a.at c.loop-depth.a.at c.loop-depth.invariant.comes utf8))

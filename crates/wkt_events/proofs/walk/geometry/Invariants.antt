@@ -1,7 +1,7 @@
 -- In so many open collections a geometry is to come.
 use Rattle.std.proofs.Common.{◌==◌, ◌≤◌, ◌-◌, length}
 use Rattle.std.specs.Prelude.{not}
-use Rattle.wkt_read.specs.Parser.Reading.{value_at}
+use Rattle.wkt_read.specs.Parser.Outcome.{geometry_at as value_at}
 use Rattle.wkt_events.specs.Left.{left}
 use Rattle.wkt_events.specs.Makers.{HasRoom}
 use Rattle.wkt_events.specs.Whole.{Comes, Before}

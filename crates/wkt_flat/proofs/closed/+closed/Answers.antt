@@ -1,3 +1,4 @@
+-- The rings of the first members are closed.
 use Rattle.std.proofs.Common.{sym}
 use Rattle.wkt_flat.specs.Closed.{HasClosedRings}
 use Rattle.wkt_flat.specs.Tree.{flat_tree}

@@ -1,3 +1,4 @@
+-- The rings of the first polygons are closed.
 use Rattle.std.proofs.Common.{take}
 use Rattle.std.specs.List.{AllByRecursion}
 use Rattle.wkt_flat.specs.Rings.{AreClosed}

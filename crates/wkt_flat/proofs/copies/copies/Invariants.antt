@@ -1,3 +1,4 @@
+-- The first parts are copied.
 use Rattle.std.proofs.Common.{◌≡◌, take}
 use Rattle.wkt_flat.proofs.copies.copies.Given as goal
 

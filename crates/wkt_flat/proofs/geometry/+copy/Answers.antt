@@ -1,3 +1,4 @@
+-- The copy of each kind has the same tree, and the first members are copied.
 use Rattle.std.proofs.Common.{◌≡◌, refl, ◌++◌, ap, ◌∙◌, map}
 use Rattle.wkt_flat.proofs.Members.{grown_after}
 use Rattle.wkt_flat.specs.Tree.{flat_tree, collection}
@@ -15,31 +16,31 @@ push_copy-returns-in_ok-geometries-in-GeometryCollection g t c =
     c.push_collection.ensures.pushed
 
 pub push_copy-returns-in-Point : goal.push_copy-returns-in-Point
-push_copy-returns-in-Point g t c = copied c.push_point.result _ _ _ _ c.in-Point.is (flat-point c.in-Point.p) c.push_point.ensures
+push_copy-returns-in-Point g t c = copied c.push_copy_of.result _ _ _ _ c.in-Point.is (flat-point c.in-Point.p) c.push_copy_of.ensures
 
 pub push_copy-returns-in-Line : goal.push_copy-returns-in-Line
-push_copy-returns-in-Line g t c = copied c.push_line.result _ _ _ _ c.in-Line.is (flat-line c.in-Line.l) c.push_line.ensures
+push_copy-returns-in-Line g t c = copied c.push_copy_of-in-Line.result _ _ _ _ c.in-Line.is (flat-line c.in-Line.l) c.push_copy_of-in-Line.ensures
 
 pub push_copy-returns-in-LineString : goal.push_copy-returns-in-LineString
-push_copy-returns-in-LineString g t c = copied c.push_line_string.result _ _ _ _ c.in-LineString.is (flat-line_string c.in-LineString.l) c.push_line_string.ensures
+push_copy-returns-in-LineString g t c = copied c.push_copy_of-in-LineString.result _ _ _ _ c.in-LineString.is (flat-line_string c.in-LineString.l) c.push_copy_of-in-LineString.ensures
 
 pub push_copy-returns-in-Polygon : goal.push_copy-returns-in-Polygon
-push_copy-returns-in-Polygon g t c = copied c.push_polygon.result _ _ _ _ c.in-Polygon.is (flat-polygon c.in-Polygon.y) c.push_polygon.ensures
+push_copy-returns-in-Polygon g t c = copied c.push_copy_of-in-Polygon.result _ _ _ _ c.in-Polygon.is (flat-polygon c.in-Polygon.y) c.push_copy_of-in-Polygon.ensures
 
 pub push_copy-returns-in-MultiPoint : goal.push_copy-returns-in-MultiPoint
-push_copy-returns-in-MultiPoint g t c = copied c.push_points.result _ _ _ _ c.in-MultiPoint.is (flat-multi_point c.in-MultiPoint.m) c.push_points.ensures
+push_copy-returns-in-MultiPoint g t c = copied c.push_copy_of-in-MultiPoint.result _ _ _ _ c.in-MultiPoint.is (flat-multi_point c.in-MultiPoint.m) c.push_copy_of-in-MultiPoint.ensures
 
 pub push_copy-returns-in-MultiLineString : goal.push_copy-returns-in-MultiLineString
-push_copy-returns-in-MultiLineString g t c = copied c.push_line_strings.result _ _ _ _ c.in-MultiLineString.is (flat-multi_line_string c.in-MultiLineString.m) c.push_line_strings.ensures
+push_copy-returns-in-MultiLineString g t c = copied c.push_copy_of-in-MultiLineString.result _ _ _ _ c.in-MultiLineString.is (flat-multi_line_string c.in-MultiLineString.m) c.push_copy_of-in-MultiLineString.ensures
 
 pub push_copy-returns-in-MultiPolygon : goal.push_copy-returns-in-MultiPolygon
-push_copy-returns-in-MultiPolygon g t c = copied c.push_polygons.result _ _ _ _ c.in-MultiPolygon.is (flat-multi_polygon c.in-MultiPolygon.m) c.push_polygons.ensures
+push_copy-returns-in-MultiPolygon g t c = copied c.push_copy_of-in-MultiPolygon.result _ _ _ _ c.in-MultiPolygon.is (flat-multi_polygon c.in-MultiPolygon.m) c.push_copy_of-in-MultiPolygon.ensures
 
 pub push_copy-returns-in-Rect : goal.push_copy-returns-in-Rect
-push_copy-returns-in-Rect g t c = copied c.push_rect.result _ _ _ _ c.in-Rect.is (flat-rect c.in-Rect.r) c.push_rect.ensures
+push_copy-returns-in-Rect g t c = copied c.push_copy_of-in-Rect.result _ _ _ _ c.in-Rect.is (flat-rect c.in-Rect.r) c.push_copy_of-in-Rect.ensures
 
 pub push_copy-returns-in-Triangle : goal.push_copy-returns-in-Triangle
-push_copy-returns-in-Triangle g t c = copied c.push_triangle.result _ _ _ _ c.in-Triangle.is (flat-triangle c.in-Triangle.t) c.push_triangle.ensures
+push_copy-returns-in-Triangle g t c = copied c.push_copy_of-in-Triangle.result _ _ _ _ c.in-Triangle.is (flat-triangle c.in-Triangle.t) c.push_copy_of-in-Triangle.ensures
 
 pub push_copies-loop-g-preserved : goal.push_copies-loop-g-preserved
 push_copies-loop-g-preserved g t c =

@@ -1,6 +1,7 @@
 use Rattle.std.proofs.Common.{◌<◌, ◌+◌, subst, arith}
 use Rattle.wkt_num.specs.Parts.{HasZeros}
 use Rattle.wkt_num.proofs.Placed.{keeps-point, keeps-fraction}
+use Rattle.wkt_num.proofs.FoundDecimal.{no-zeros, found-end}
 use Rattle.wkt_num.proofs.kept.kept_fraction.Goals as goal
 
 pub returns-else-is_minus_zero-clause-keeps : goal.returns-else-is_minus_zero-clause-keeps
@@ -15,3 +16,14 @@ returns-clause-keeps c =
     let past : c.args.point + 1 < c.before_zeros-kept.result = omega (arith, c.before_zeros-kept.ensures.after, c.if-kept-point.false) in
     keeps-fraction c.args.places c.args.bytes.now c.args.first c.args.point r.few r.sign r.whole c.args.end r.after r.within r.point r.stops
     c.before_zeros-kept.result past c.before_zeros-kept.ensures.zeros r.fraction c.if-kept-point-2.false
+
+pub returns-then-is_minus_zero-clause-finds : goal.returns-then-is_minus_zero-clause-finds
+returns-then-is_minus_zero-clause-finds c some last few =
+    absurd (omega (arith, some, c.if-kept-point.true, no-zeros c.args.bytes.now c.before_zeros-kept.result c.args.end c.requires.within c.before_zeros-kept.ensures.zeros last))
+
+pub returns-else-is_minus_zero-clause-finds : goal.returns-else-is_minus_zero-clause-finds
+returns-else-is_minus_zero-clause-finds c some last few =
+    absurd (omega (arith, some, c.if-kept-point.true, no-zeros c.args.bytes.now c.before_zeros-kept.result c.args.end c.requires.within c.before_zeros-kept.ensures.zeros last))
+
+pub returns-clause-finds : goal.returns-clause-finds
+returns-clause-finds c some last few = found-end c.args.end (no-zeros c.args.bytes.now c.before_zeros-kept.result c.args.end c.requires.within c.before_zeros-kept.ensures.zeros last)

@@ -10,7 +10,7 @@ use Rattle.wkt_read.specs.Placed.{AreEnds}
 use Rattle.wkt_read.proofs.LawLemmas.FrontEnds.{front-some, front-within, front-boundary}
 use Rattle.wkt_read.proofs.ParserLemmas.Answering.{to-front, from-front, no-front, split-of, text-map, message-map}
 use Rattle.wkt_read.specs.Refusal.{IsRefused, IsTextRefused}
-use Rattle.wkt_read.proofs.ParserLemmas.Bridge.{if-text-err}
+use Rattle.wkt_read.proofs.ParserLemmas.Valued.{if-text-err}
 use Rattle.wkt_read.proofs.api.read_text.Goals as goal
 
 pub returns-in-Ok-clause-found : goal.returns-in-Ok-clause-found

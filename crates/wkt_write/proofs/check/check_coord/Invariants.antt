@@ -1,3 +1,4 @@
+-- The first numbers are values.
 use Rattle.std.specs.Prelude.{take}
 use Rattle.std.specs.List.{AllByRecursion}
 use Rattle.wkt_write.proofs.check.check_coord.Given as goal

@@ -1,3 +1,4 @@
+-- The first items are written, with a comma before each.
 use Rattle.wkt_num.proofs.Calls.{puts_err}
 use Rattle.wkt_write.proofs.Listing.{following_start, following_more_at, following_broken_before, following_broken_at, following_end}
 use Rattle.wkt_write.proofs.items.put_following.Goals as goal

@@ -1,3 +1,4 @@
+-- The first items are written, with commas between them.
 use Rattle.wkt_num.proofs.Calls.{puts_err}
 use Rattle.wkt_write.proofs.Listing.{listing_start, listing_more_at, listing_broken_before, listing_broken_at}
 use Rattle.wkt_write.proofs.items.put_items.Goals as goal

@@ -1,3 +1,4 @@
+-- The body is the two ends in parentheses.
 use Rattle.wkt_num.proofs.Calls.{breaks_first, breaks_then, puts_err, puts_then}
 use Rattle.wkt_write.proofs.put_parts.put_line_body.Goals as goal
 

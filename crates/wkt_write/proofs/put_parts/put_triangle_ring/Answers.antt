@@ -1,3 +1,4 @@
+-- The ring is the three corners and the first again.
 use Rattle.wkt_num.proofs.Calls.{breaks_first, breaks_then, puts_err, puts_then}
 use Rattle.wkt_write.proofs.put_parts.put_triangle_ring.Goals as goal
 

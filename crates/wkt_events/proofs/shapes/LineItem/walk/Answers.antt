@@ -22,12 +22,12 @@ items-requires-clause-room g c =
 
 pub returns-in-Some-clause-gives : goal.returns-in-Some-clause-gives
 returns-in-Some-clause-gives g c =
-    framed-gives g.B.Builder.maker _ c.args.text.now (λ _. numbers_at g.T.WktNum.read g.row.N) (line g.row.N) _ _ _ _ (c.in-Some.ensures lex.Open open-class)
-    (opened-items g.B.Builder.maker _ c.args.text.now (λ _. numbers_at g.T.WktNum.read g.row.N) part.Line part.Point (coordinate g.row.N) _ _ _ _ c.open.ensures.makes.made c.items.ensures.gives)
+    framed-gives g.B.Builder.maker g.T.WktNum.read _ c.args.text.now (λ _. numbers_at g.T.WktNum.read g.row.N) (line g.row.N) _ _ _ _ (c.in-Some.ensures lex.Open open-class)
+    (opened-items g.B.Builder.maker g.T.WktNum.read _ c.args.text.now (λ _. numbers_at g.T.WktNum.read g.row.N) part.Line part.Point (coordinate g.row.N) _ _ _ _ c.open.ensures.makes.made c.items.ensures.gives)
 
 pub returns-in-Some-clause-room : goal.returns-in-Some-clause-room
 returns-in-Some-clause-room g c = rooms-less g.B.Builder.maker c.args.text.now _ c.items.ensures.room
 
 pub returns-in-None-clause-gives : goal.returns-in-None-clause-gives
 returns-in-None-clause-gives g c =
-    framed-none g.B.Builder.maker _ c.args.text.now (λ _. numbers_at g.T.WktNum.read g.row.N) part.Line (line g.row.N) _ _ _ refl (c.in-None.ensures lex.Open open-class) c.empty.ensures.gives
+    framed-none g.B.Builder.maker g.T.WktNum.read _ c.args.text.now (λ _. numbers_at g.T.WktNum.read g.row.N) part.Line (line g.row.N) _ _ _ refl (c.in-None.ensures lex.Open open-class) c.empty.ensures.gives

@@ -22,7 +22,7 @@ rings-requires-clause-room g c =
 
 pub returns-in-Some-clause-gives : goal.returns-in-Some-clause-gives
 returns-in-Some-clause-gives g c =
-    framed-gives g.B.Builder.maker _ c.args.text.now (line_at g.T.WktNum.read g.row.N) (polygon part.Polygon g.row.N) _ _ _ _ (c.in-Some.ensures lex.Open open-class)
+    framed-gives g.B.Builder.maker g.T.WktNum.read _ c.args.text.now (line_at g.T.WktNum.read g.row.N) (polygon part.Polygon g.row.N) _ _ _ _ (c.in-Some.ensures lex.Open open-class)
     (c.rings.ensures.gives c.args.a.made (record { amount = sym c.made-before.ensures; made = c.open.ensures.makes.made }))
 
 pub returns-in-Some-clause-room : goal.returns-in-Some-clause-room
@@ -30,4 +30,4 @@ returns-in-Some-clause-room g c = rooms-less g.B.Builder.maker c.args.text.now _
 
 pub returns-in-None-clause-gives : goal.returns-in-None-clause-gives
 returns-in-None-clause-gives g c =
-    framed-none g.B.Builder.maker _ c.args.text.now (line_at g.T.WktNum.read g.row.N) part.Polygon (polygon part.Polygon g.row.N) _ _ _ refl (c.in-None.ensures lex.Open open-class) c.empty.ensures.gives
+    framed-none g.B.Builder.maker g.T.WktNum.read _ c.args.text.now (line_at g.T.WktNum.read g.row.N) part.Polygon (polygon part.Polygon g.row.N) _ _ _ refl (c.in-None.ensures lex.Open open-class) c.empty.ensures.gives

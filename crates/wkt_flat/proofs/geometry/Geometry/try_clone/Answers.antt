@@ -1,3 +1,4 @@
+-- The copy of each kind has the same tree.
 use Rattle.std.proofs.Common.{ap, sym, ◌∙◌}
 use Rattle.wkt_flat.specs.Tree.{flat_tree, collection}
 use Rattle.wkt_flat.specs.declared.geometry.Geometry.TheVariants as variants

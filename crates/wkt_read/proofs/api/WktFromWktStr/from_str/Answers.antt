@@ -8,18 +8,17 @@ use Rattle.wkt_read.specs.Items.{bad_number}
 use Rattle.wkt_read.specs.Placed.{AreEnds}
 use Rattle.wkt_read.proofs.ParserLemmas.Answering.{advances, from-front, no-front, split-of}
 use Rattle.wkt_read.specs.Refusal.{IsRefused, IsTextRefused}
-use Rattle.wkt_read.proofs.ParserLemmas.Bridge.{to-exact, to-uniform, to-memory, to-bad, to-refusal, if-text}
-use Rattle.wkt_read.proofs.ParserLemmas.Valued.{front, on-text, on-message, found, none, free}
+use Rattle.wkt_read.proofs.ParserLemmas.Valued.{front, on-text, on-message, found, none, free, to-bad, to-refusal, if-text}
 use Rattle.wkt_read.proofs.api.WktFromWktStr.from_str.Goals as goal
 
 pub returns-clause-found : goal.returns-clause-found
 returns-clause-found g c =
-    front g.T.WktNum.read c.args.text.now c.new-tokens.result c.value.new.tokens c.value.result (subst (AreEnds c.args.text.now) (sym c.new-tokens.ensures.left) c.from_str.ensures.ends) (c.new-tokens.ensures.end ∙ c.from_str.ensures.start) (advances _ _ c.value.ensures.goes_on) (found g.T.WktNum.read c.new-tokens.result c.value.new.tokens c.value.result (to-exact g.T.WktNum.read _ _ c.value.result c.value.ensures) (to-uniform g.T.WktNum.read _ _ c.value.result c.value.ensures))
+    front g.T.WktNum.read c.args.text.now c.new-tokens.result c.value.new.tokens c.value.result (subst (AreEnds c.args.text.now) (sym c.new-tokens.ensures.left) c.from_str.ensures.ends) (c.new-tokens.ensures.end ∙ c.from_str.ensures.start) (advances _ _ c.value.ensures.goes_on) (found g.T.WktNum.read c.new-tokens.result c.value.new.tokens c.value.result c.value.ensures)
 
 pub returns-clause-no_front : goal.returns-clause-no_front
 returns-clause-no_front g c =
     on-text c.value.result (NoneBegins g.T.WktNum.read (rest c.new-tokens.result)) (HasNoFront g.T.WktNum.read c.args.text.now)
-    (no-front g.T.WktNum.read c.args.text.now c.new-tokens.result (c.new-tokens.ensures.left ∙ c.from_str.ensures.placed)) (none g.T.WktNum.read c.new-tokens.result c.value.new.tokens c.value.result (to-exact g.T.WktNum.read _ _ c.value.result c.value.ensures))
+    (no-front g.T.WktNum.read c.args.text.now c.new-tokens.result (c.new-tokens.ensures.left ∙ c.from_str.ensures.placed)) (none g.T.WktNum.read c.new-tokens.result c.value.new.tokens c.value.result c.value.ensures)
 
 pub returns-clause-bad : goal.returns-clause-bad
 returns-clause-bad g c =
@@ -29,7 +28,7 @@ returns-clause-bad g c =
 pub returns-clause-free : goal.returns-clause-free
 returns-clause-free g c = λ v end front small.
     let (after, begins) = from-front g.T.WktNum.read c.args.text.now c.new-tokens.result v end (c.new-tokens.ensures.left ∙ c.from_str.ensures.placed) front in
-    free g.T.WktNum.read c.new-tokens.result c.value.new.tokens c.value.result (to-exact g.T.WktNum.read _ _ c.value.result c.value.ensures) (to-memory g.T.WktNum.read _ _ c.value.result c.value.ensures) v after begins small
+    free g.T.WktNum.read c.new-tokens.result c.value.new.tokens c.value.result c.value.ensures v after begins small
 
 pub returns-clause-refusal : goal.returns-clause-refusal
 returns-clause-refusal g c =

@@ -4,8 +4,7 @@ use Rattle.std.specs.List.{AllByRecursion}
 use Rattle.wkt_access.specs.Values.{Value}
 use Rattle.wkt_read.specs.Ahead.{rest}
 use Rattle.wkt_read.specs.Parser.Reads.{wkt_value, UniformWkt}
-use Rattle.wkt_read.specs.Parser.Reading.{members_read}
-use Rattle.wkt_read.specs.Parser.Outcome.{◌>>=◌, value_at, many_at, IsOpened}
+use Rattle.wkt_read.specs.Parser.Outcome.{members_read, ◌>>=◌, value_at, many_at, IsOpened}
 use Rattle.wkt_read.proofs.ParserLemmas.Many.{framed-err, framed-empty, framed-paren}
 use Rattle.wkt_read.proofs.ParserLemmas.Wkts.{opening-takes}
 use Rattle.wkt_read.proofs.ParserLemmas.Frames.{start-says}

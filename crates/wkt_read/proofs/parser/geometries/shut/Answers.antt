@@ -3,8 +3,7 @@ use Rattle.wkt_access.specs.Values.{Value}
 use Rattle.wkt_read.specs.Ahead.{rest}
 use Rattle.wkt_read.specs.Parser.Reads.{wkt_value, UniformWkt}
 use Rattle.wkt_read.specs.Parser.Promises.{each, All}
-use Rattle.wkt_read.specs.Parser.Reading.{members_read}
-use Rattle.wkt_read.specs.Parser.Outcome.{◌>>=◌, closed}
+use Rattle.wkt_read.specs.Parser.Outcome.{members_read, ◌>>=◌, closed}
 use Rattle.wkt_read.specs.Parser.Frames.{shut_at}
 use Rattle.wkt_read.proofs.ParserLemmas.Many.{closed-in}
 use Rattle.wkt_read.proofs.ParserLemmas.Frames.{starts-pass, weight-err, whole-err, closes-most}

@@ -1,9 +1,0 @@
-use Rattle.std.proofs.Common.{string_bytes, rules}
-use Rattle.wkt_convert.specs.Kinds.{only_flat, polygon_kind}
-use Rattle.wkt.proofs.Texts.{source_answers}
-use Rattle.wkt.proofs.from_text.FlatPolygonTryFromWkt.try_from_wkt_reader.Goals as goal
-
-pub returns-in-Ok-clause-answer : goal.returns-in-Ok-clause-answer
-returns-in-Ok-clause-answer g c =
-    source_answers g.T.WktNum.read (λ x. x) (only_flat polygon_kind g.T.PartialEq.eq) (g.R.ByteSource.left c.args.reader.now) _ c.deref.result.now
-    c.in-Ok.ensures.text (search rules) c.deref.utf8 c.try_from_wkt_str.result c.try_from_wkt_str.ensures

@@ -1,7 +1,0 @@
-use Rattle.wkt_types.specs.Flattened.{xy}
-use Rattle.wkt_flat.proofs.Members.{grown}
-use Rattle.wkt_convert.proofs.flatten.line_string.Goals as goal
-
-pub loop-c-preserved : goal.loop-c-preserved
-loop-c-preserved g c =
-    grown xy _ _ _ _ _ _ c.loop-c-test.true c.c-item.is c.loop-c.invariant c.from.ensures c.in_ok-push.ensures.items

@@ -1,0 +1,6 @@
+use Rattle.wkt_flat.specs.Exact.{exact_by}
+use Rattle.wkt_convert.proofs.Plain.{again}
+use Rattle.wkt_convert.proofs.laws.plain_comes_back.Goals as goal
+
+pub returns : goal.returns
+returns g c t closed plain = again (exact_by g.met.T.WktNum.same) t plain closed

@@ -1,0 +1,201 @@
+//! The `Wkt` of flat values.
+ghost use Rattle.std.specs.Prelude.{◌≡◌, ◌++◌, ◌∷◌, [], IfOk, map};
+ghost use Rattle.wkt_types.specs.Tree as trees;
+ghost use Rattle.wkt_flat.specs.Tree.{Flat, flat_tree, flat_members};
+ghost use Rattle.wkt_convert.specs.Pieces.{IsPieceBack};
+ghost use Rattle.wkt_convert.specs.Back.{flat_xy, point_back, line_string_back, polygon_back, back, all_back};
+
+use crate::parts::{Open, Piece, Turn, turn_after, turn_all};
+use std::alloc::{AllocError, Global};
+use wkt_flat as flat;
+use wkt_flat::Geometry;
+use wkt_num::WktNum;
+use wkt_types::{
+    Coord, Dimension, GeometryCollection, LineString, MultiLineString, MultiPoint, MultiPolygon,
+    Point, Polygon, Wkt,
+};
+
+/// A coordinate without z and m.
+fn coord<T: Copy>(c: flat::Coord<T>) -> Coord<T>
+    ensures { result ≡ flat_xy c }
+{
+    Coord {
+        x: c.x,
+        y: c.y,
+        z: None,
+        m: None,
+    }
+}
+
+/// A point.
+pub(crate) fn point<T: Copy>(p: flat::Point<T>) -> Point<T>
+    ensures { result ≡ point_back p }
+{
+    Point::new(Some(coord(p.0)), Dimension::XY)
+}
+
+/// Without z and m.
+impl<T: Copy + Drop> Turn<Coord<T>> for flat::Coord<T> {
+    ghost turned = { flat_xy };
+
+    fn turn(&self, _alloc: Global) -> Result<Coord<T>, AllocError> {
+        Ok(coord(*self))
+    }
+}
+
+impl<T: Copy + Drop> Turn<Point<T>> for flat::Point<T> {
+    ghost turned = { point_back };
+
+    fn turn(&self, _alloc: Global) -> Result<Point<T>, AllocError> {
+        Ok(point(*self))
+    }
+}
+
+impl<T: Copy + Drop> Turn<LineString<T>> for flat::LineString<T> {
+    ghost turned = { line_string_back };
+
+    fn turn(&self, alloc: Global) -> Result<LineString<T>, AllocError> {
+        Ok(LineString::new(turn_all(alloc, &self.0)?, Dimension::XY))
+    }
+}
+
+/// The polygon has no rings where the exterior is empty.
+impl<T: Copy + Drop> Turn<Polygon<T>> for flat::Polygon<T> {
+    ghost turned = { polygon_back };
+
+    fn turn(&self, alloc: Global) -> Result<Polygon<T>, AllocError> {
+        let exterior = self.exterior();
+        if exterior.0.is_empty() {
+            return Ok(Polygon::empty(alloc, Dimension::XY));
+        }
+        let mut all = Vec::new(alloc);
+        all.push(exterior.turn(alloc)?)?;
+        Ok(Polygon::new(turn_after(alloc, self.interiors(), all)?, Dimension::XY))
+    }
+}
+
+/// A line from a start to an end.
+pub(crate) fn two<T: Copy + Drop>(
+    alloc: Global,
+    l: &flat::Line<T>,
+) -> Result<LineString<T>, AllocError>
+    ensures { IfOk result (λ r. r ≡ line_string_back (l.now.start ∷ l.now.end ∷ [])) }
+{
+    let mut all = Vec::with_capacity(alloc, 2)?;
+    all.push(coord(l.start))?;
+    all.push(coord(l.end))?;
+    Ok(LineString::new(all, Dimension::XY))
+}
+
+/// The line strings of each coordinate sequence.
+fn multi_line_string<T: Copy + Drop>(
+    alloc: Global,
+    ls: &[flat::LineString<T>],
+) -> Result<Wkt<T>, AllocError>
+    ensures { IfOk result (λ w. trees.tree w ≡ back (Flat.multi_line_string ls.now)) }
+{
+    let lines = turn_all(alloc, ls)?;
+    Ok(Wkt::MultiLineString(MultiLineString::new(lines, Dimension::XY)))
+}
+
+/// The polygons of each polygon.
+fn multi_polygon<T: Copy + Drop>(
+    alloc: Global,
+    ys: &[flat::Polygon<T>],
+) -> Result<Wkt<T>, AllocError>
+    ensures { IfOk result (λ w. trees.tree w ≡ back (Flat.multi_polygon ys.now)) }
+{
+    let polygons = turn_all(alloc, ys)?;
+    Ok(Wkt::MultiPolygon(MultiPolygon::new(polygons, Dimension::XY)))
+}
+
+/// The `Wkt` of a geometry. A collection is opened, and no more.
+// As a part of its callers it moves nothing: a point then costs a third of the instructions.
+#[inline(always)]
+fn piece_of<'a, T: WktNum>(
+    alloc: Global,
+    g: &'a Geometry<T>,
+) -> Result<Piece<'a, Geometry<T>, Wkt<T>>, AllocError>
+    ensures { IfOk result (IsPieceBack (flat_tree g.now)) }
+{
+    match g {
+        Geometry::Point(p) => Ok(Piece::Whole(Wkt::Point(point(*p)))),
+        Geometry::Line(l) => Ok(Piece::Whole(Wkt::LineString(two(alloc, l)?))),
+        Geometry::LineString(l) => Ok(Piece::Whole(Wkt::LineString(l.turn(alloc)?))),
+        Geometry::Polygon(y) => Ok(Piece::Whole(Wkt::Polygon(y.turn(alloc)?))),
+        Geometry::MultiPoint(m) => {
+            let points = MultiPoint::new(turn_all(alloc, &m.0)?, Dimension::XY);
+            Ok(Piece::Whole(Wkt::MultiPoint(points)))
+        }
+        Geometry::MultiLineString(m) => {
+            Ok(Piece::Whole(multi_line_string(alloc, m.0.as_slice())?))
+        }
+        Geometry::MultiPolygon(m) => Ok(Piece::Whole(multi_polygon(alloc, m.0.as_slice())?)),
+        Geometry::GeometryCollection(c) => Ok(Piece::Members(c.geometries())),
+        Geometry::Rect(r) => {
+            let rect = r.to_polygon(alloc)?;
+            Ok(Piece::Whole(Wkt::Polygon(rect.turn(alloc)?)))
+        }
+        Geometry::Triangle(t) => {
+            let triangle = t.to_polygon(alloc)?;
+            Ok(Piece::Whole(Wkt::Polygon(triangle.turn(alloc)?)))
+        }
+    }
+}
+
+/// The `Wkt` of a geometry.
+pub(crate) fn geometry<T: WktNum>(alloc: Global, g: &Geometry<T>) -> Result<Wkt<T>, AllocError>
+    ensures { IfOk result (λ w. trees.tree w ≡ back (flat_tree g.now)) }
+{
+    match piece_of(alloc, g)? {
+        Piece::Whole(w) => Ok(w),
+        Piece::Members(gs) => {
+            let members = geometries(alloc, gs)?;
+            Ok(Wkt::GeometryCollection(GeometryCollection::new(members, Dimension::XY)))
+        }
+    }
+}
+
+/// The `Wkt` of each geometry.
+pub(crate) fn geometries<T: WktNum>(
+    alloc: Global,
+    gs: &[Geometry<T>],
+) -> Result<Vec<Wkt<T>>, AllocError>
+    ensures { IfOk result (λ r. trees.members r.items ≡ all_back (flat_members gs.now)) }
+{
+    // The collections that are open around this one, so that nesting takes no stack.
+    let mut opened = Vec::new(alloc);
+    let mut rest = gs;
+    let mut done = Vec::with_capacity(alloc, gs.len())?;
+    loop {
+        match rest {
+            [next, others @ ..] => match next {
+                // Most members of long collections are points: they go past the other kinds.
+                Geometry::Point(p) => {
+                    done.push(Wkt::Point(point(*p)))?;
+                    rest = others;
+                }
+                _ => match piece_of(alloc, next)? {
+                    Piece::Whole(w) => {
+                        done.push(w)?;
+                        rest = others;
+                    }
+                    Piece::Members(inner) => {
+                        opened.push(Open { rest: others, done })?;
+                        rest = inner;
+                        done = Vec::with_capacity(alloc, inner.len())?;
+                    }
+                },
+            },
+            [] => {
+                let Some(outer) = opened.pop() else {
+                    return Ok(done);
+                };
+                let closed = GeometryCollection::new(done, Dimension::XY);
+                rest = outer.rest;
+                done = outer.done;
+                done.push(Wkt::GeometryCollection(closed))?;
+            }
+        }
+    }
+}

@@ -1,5 +1,0 @@
-use Rattle.wkt_flat.proofs.TreeLemmas.{flat-point, pushed}
-use Rattle.wkt_flat.proofs.geometry.push_point.Goals as goal
-
-pub returns : goal.returns
-returns g c = pushed _ _ _ _ c.in_ok-push.ensures.items (flat-point _)

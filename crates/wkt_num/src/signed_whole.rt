@@ -1,0 +1,268 @@
+//! Whole numbers with a sign: read as `FromStr` of the type reads them, and printed as `Display` prints them.
+ghost use Rattle.std.specs.Prelude.{◌≡◌, ◌≤◌, ◌<◌, ◌^◌, IfSome, length, unsigned_abs};
+ghost use Rattle.std.specs.Fmt.{signed_decimal};
+ghost use Rattle.std.proofs.Common.{lit≤};
+ghost use Rattle.wkt_num.specs.Kept.{KeepsText, FindsTexts, FindsShort};
+ghost use Rattle.wkt_num.specs.Whole.{read_signed, IsSigned};
+ghost use Rattle.wkt_num.specs.WholeLaws.{signed_reads_back, signed_reads_values, signed_text, signed_same};
+
+use crate::digits::write_whole;
+use crate::kept_whole::{kept_signed, signed_in_window};
+use crate::number::WktNum;
+use crate::sink::TextSink;
+use std::fmt;
+
+impl WktNum for i8 {
+    ghost is_value = { IsSigned 7 };
+
+    ghost num = { signed_decimal };
+
+    ghost read = { read_signed 7 };
+
+    ghost reads_back = { signed_reads_back 7 (lit≤ tt) };
+
+    ghost reads_values = { signed_reads_values 7 };
+
+    ghost number_text = { signed_text 7 (lit≤ tt) };
+
+    ghost same = { signed_same };
+
+    fn read_number(text: &str) -> Option<i8> {
+        text.parse::<i8>().ok()
+    }
+
+    fn write_number<W: TextSink>(&self, f: &mut W) -> fmt::Result {
+        write_whole(*self < 0, u128::from(self.unsigned_abs()), f)
+    }
+
+    #[inline(always)]
+    fn kept_text(bytes: &[u8]) -> Option<(usize, usize)>
+        ensures keeps { IfSome result (λ r. KeepsText (read_signed 7) signed_decimal bytes.now r.0 r.1) }
+        ensures finds { FindsTexts signed_decimal (λ x. unsigned_abs x < 10 ^ 2) bytes.now result }
+    {
+        kept_signed(7, 2, bytes)
+    }
+
+    #[inline(always)]
+    fn kept_in_window(bytes: &[u8]) -> Option<(usize, usize)>
+        requires { 32 ≤ length bytes.now }
+        ensures keeps { IfSome result (λ r. KeepsText (read_signed 7) signed_decimal bytes.now r.0 r.1) }
+        ensures within { IfSome result (λ r. r.0 < 32) }
+        ensures finds { FindsShort signed_decimal (λ x. unsigned_abs x < 10 ^ 2) bytes.now result }
+    {
+        signed_in_window(7, 2, bytes)
+    }
+
+    #[inline(always)]
+    fn reads_texts() -> bool {
+        true
+    }
+
+    fn known(&self) {
+        let _value = *self;
+    }
+}
+
+impl WktNum for i16 {
+    ghost is_value = { IsSigned 15 };
+
+    ghost num = { signed_decimal };
+
+    ghost read = { read_signed 15 };
+
+    ghost reads_back = { signed_reads_back 15 (lit≤ tt) };
+
+    ghost reads_values = { signed_reads_values 15 };
+
+    ghost number_text = { signed_text 15 (lit≤ tt) };
+
+    ghost same = { signed_same };
+
+    fn read_number(text: &str) -> Option<i16> {
+        text.parse::<i16>().ok()
+    }
+
+    fn write_number<W: TextSink>(&self, f: &mut W) -> fmt::Result {
+        write_whole(*self < 0, u128::from(self.unsigned_abs()), f)
+    }
+
+    #[inline(always)]
+    fn kept_text(bytes: &[u8]) -> Option<(usize, usize)>
+        ensures keeps { IfSome result (λ r. KeepsText (read_signed 15) signed_decimal bytes.now r.0 r.1) }
+        ensures finds { FindsTexts signed_decimal (λ x. unsigned_abs x < 10 ^ 4) bytes.now result }
+    {
+        kept_signed(15, 4, bytes)
+    }
+
+    #[inline(always)]
+    fn kept_in_window(bytes: &[u8]) -> Option<(usize, usize)>
+        requires { 32 ≤ length bytes.now }
+        ensures keeps { IfSome result (λ r. KeepsText (read_signed 15) signed_decimal bytes.now r.0 r.1) }
+        ensures within { IfSome result (λ r. r.0 < 32) }
+        ensures finds { FindsShort signed_decimal (λ x. unsigned_abs x < 10 ^ 4) bytes.now result }
+    {
+        signed_in_window(15, 4, bytes)
+    }
+
+    #[inline(always)]
+    fn reads_texts() -> bool {
+        true
+    }
+
+    fn known(&self) {
+        let _value = *self;
+    }
+}
+
+impl WktNum for i32 {
+    ghost is_value = { IsSigned 31 };
+
+    ghost num = { signed_decimal };
+
+    ghost read = { read_signed 31 };
+
+    ghost reads_back = { signed_reads_back 31 (lit≤ tt) };
+
+    ghost reads_values = { signed_reads_values 31 };
+
+    ghost number_text = { signed_text 31 (lit≤ tt) };
+
+    ghost same = { signed_same };
+
+    fn read_number(text: &str) -> Option<i32> {
+        text.parse::<i32>().ok()
+    }
+
+    fn write_number<W: TextSink>(&self, f: &mut W) -> fmt::Result {
+        write_whole(*self < 0, u128::from(self.unsigned_abs()), f)
+    }
+
+    #[inline(always)]
+    fn kept_text(bytes: &[u8]) -> Option<(usize, usize)>
+        ensures keeps { IfSome result (λ r. KeepsText (read_signed 31) signed_decimal bytes.now r.0 r.1) }
+        ensures finds { FindsTexts signed_decimal (λ x. unsigned_abs x < 10 ^ 9) bytes.now result }
+    {
+        kept_signed(31, 9, bytes)
+    }
+
+    #[inline(always)]
+    fn kept_in_window(bytes: &[u8]) -> Option<(usize, usize)>
+        requires { 32 ≤ length bytes.now }
+        ensures keeps { IfSome result (λ r. KeepsText (read_signed 31) signed_decimal bytes.now r.0 r.1) }
+        ensures within { IfSome result (λ r. r.0 < 32) }
+        ensures finds { FindsShort signed_decimal (λ x. unsigned_abs x < 10 ^ 9) bytes.now result }
+    {
+        signed_in_window(31, 9, bytes)
+    }
+
+    #[inline(always)]
+    fn reads_texts() -> bool {
+        true
+    }
+
+    fn known(&self) {
+        let _value = *self;
+    }
+}
+
+impl WktNum for i64 {
+    ghost is_value = { IsSigned 63 };
+
+    ghost num = { signed_decimal };
+
+    ghost read = { read_signed 63 };
+
+    ghost reads_back = { signed_reads_back 63 (lit≤ tt) };
+
+    ghost reads_values = { signed_reads_values 63 };
+
+    ghost number_text = { signed_text 63 (lit≤ tt) };
+
+    ghost same = { signed_same };
+
+    fn read_number(text: &str) -> Option<i64> {
+        text.parse::<i64>().ok()
+    }
+
+    fn write_number<W: TextSink>(&self, f: &mut W) -> fmt::Result {
+        write_whole(*self < 0, u128::from(self.unsigned_abs()), f)
+    }
+
+    #[inline(always)]
+    fn kept_text(bytes: &[u8]) -> Option<(usize, usize)>
+        ensures keeps { IfSome result (λ r. KeepsText (read_signed 63) signed_decimal bytes.now r.0 r.1) }
+        ensures finds { FindsTexts signed_decimal (λ x. unsigned_abs x < 10 ^ 18) bytes.now result }
+    {
+        kept_signed(63, 18, bytes)
+    }
+
+    #[inline(always)]
+    fn kept_in_window(bytes: &[u8]) -> Option<(usize, usize)>
+        requires { 32 ≤ length bytes.now }
+        ensures keeps { IfSome result (λ r. KeepsText (read_signed 63) signed_decimal bytes.now r.0 r.1) }
+        ensures within { IfSome result (λ r. r.0 < 32) }
+        ensures finds { FindsShort signed_decimal (λ x. unsigned_abs x < 10 ^ 18) bytes.now result }
+    {
+        signed_in_window(63, 18, bytes)
+    }
+
+    #[inline(always)]
+    fn reads_texts() -> bool {
+        true
+    }
+
+    fn known(&self) {
+        let _value = *self;
+    }
+}
+
+impl WktNum for i128 {
+    ghost is_value = { IsSigned 127 };
+
+    ghost num = { signed_decimal };
+
+    ghost read = { read_signed 127 };
+
+    ghost reads_back = { signed_reads_back 127 (lit≤ tt) };
+
+    ghost reads_values = { signed_reads_values 127 };
+
+    ghost number_text = { signed_text 127 (lit≤ tt) };
+
+    ghost same = { signed_same };
+
+    fn read_number(text: &str) -> Option<i128> {
+        text.parse::<i128>().ok()
+    }
+
+    fn write_number<W: TextSink>(&self, f: &mut W) -> fmt::Result {
+        write_whole(*self < 0, self.unsigned_abs(), f)
+    }
+
+    #[inline(always)]
+    fn kept_text(bytes: &[u8]) -> Option<(usize, usize)>
+        ensures keeps { IfSome result (λ r. KeepsText (read_signed 127) signed_decimal bytes.now r.0 r.1) }
+        ensures finds { FindsTexts signed_decimal (λ x. unsigned_abs x < 10 ^ 38) bytes.now result }
+    {
+        kept_signed(127, 38, bytes)
+    }
+
+    #[inline(always)]
+    fn kept_in_window(bytes: &[u8]) -> Option<(usize, usize)>
+        requires { 32 ≤ length bytes.now }
+        ensures keeps { IfSome result (λ r. KeepsText (read_signed 127) signed_decimal bytes.now r.0 r.1) }
+        ensures within { IfSome result (λ r. r.0 < 32) }
+        ensures finds { FindsShort signed_decimal (λ x. unsigned_abs x < 10 ^ 38) bytes.now result }
+    {
+        signed_in_window(127, 38, bytes)
+    }
+
+    #[inline(always)]
+    fn reads_texts() -> bool {
+        true
+    }
+
+    fn known(&self) {
+        let _value = *self;
+    }
+}

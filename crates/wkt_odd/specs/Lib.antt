@@ -1,3 +1,0 @@
-pub mod Odd
-pub mod OddLaws
-pub mod Wrong

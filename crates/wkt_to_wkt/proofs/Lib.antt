@@ -1,5 +1,0 @@
-pub mod Members
-pub mod Opened
-pub mod Backs
-pub mod Plain
-pub mod Sends

@@ -1,7 +1,0 @@
-use Rattle.wkt_to_wkt.specs.Back.{flat_xy}
-use Rattle.wkt_flat.proofs.Members.{grown}
-use Rattle.wkt_to_wkt.proofs.back.line_string.Goals as goal
-
-pub loop-c-preserved : goal.loop-c-preserved
-loop-c-preserved g c =
-    grown flat_xy _ _ _ _ _ _ c.loop-c-test.true c.c-item.is c.loop-c.invariant c.coord.ensures c.in_ok-push.ensures.items

@@ -1,6 +1,0 @@
-use Rattle.std.proofs.Common.{◌≡◌, map, take}
-use Rattle.wkt_to_wkt.specs.Back.{flat_xy}
-use Rattle.wkt_to_wkt.proofs.back.line_string.Given as goal
-
-abbrev pub invariant-loop-c : goal.invariant-loop-c
-invariant-loop-c g l = l.all.items ≡ map flat_xy (take l.c-index l.cs)

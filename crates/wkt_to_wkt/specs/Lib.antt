@@ -1,4 +1,0 @@
-pub mod Back
-pub mod Sent
-pub mod Laws
-pub mod Pieces

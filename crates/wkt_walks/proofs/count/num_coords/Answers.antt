@@ -1,6 +1,0 @@
-use Rattle.std.proofs.Common.{refl}
-use Rattle.wkt_walks.proofs.Counting.{counted}
-use Rattle.wkt_walks.proofs.count.num_coords.Goals as goal
-
-pub returns : goal.returns
-returns g c = counted (λ n. n.0) _ _ _ _ refl c.visit_coords.ensures

@@ -1,0 +1,19 @@
+-- The text is a header and the two ends.
+use Rattle.std.proofs.Common.{refl, [], ◌∷◌, false}
+use Rattle.wkt_write.specs.Pieces.{cut_coordinate}
+use Rattle.wkt_access.specs.Values.{size}
+use Rattle.wkt_num.proofs.Calls.{puts_err}
+use Rattle.wkt_write.proofs.Headed.{headed_broken, headed_adds}
+use Rattle.wkt_write.proofs.Bracketed.{two_coordinates_listed}
+use Rattle.wkt_write.proofs.kinds.LineKind.put.Goals as goal
+
+pub returns-in_err-put_header : goal.returns-in_err-put_header
+returns-in_err-put_header g c =
+    puts_err _ _ c.from_residual.ensures.1
+    (rw (← c.dim.ensures, ← c.dimension_in-d.ensures) (headed_broken (cut_coordinate g.L.T.WktNum.num (size c.dimension_in-d.result)) ((g.L.LineTrait.from c.args.self.now.0.now) ∷ (g.L.LineTrait.to c.args.self.now.0.now) ∷ []) _ _ false refl c.in_err-put_header.ensures))
+
+pub returns : goal.returns
+returns g c =
+    let e = two_coordinates_listed g.L.T.WktNum.num c.size_in.result (g.L.LineTrait.from c.args.self.now.0.now) (g.L.LineTrait.to c.args.self.now.0.now) in
+    rw (← c.dim.ensures, ← c.dimension_in-d.ensures, ← c.size_in.ensures)
+    (headed_adds (cut_coordinate g.L.T.WktNum.num c.size_in.result) ((g.L.LineTrait.from c.args.self.now.0.now) ∷ (g.L.LineTrait.to c.args.self.now.0.now) ∷ []) _ _ false refl _ _ c.in_ok-put_header.ensures (rw e c.put_line_body.ensures))

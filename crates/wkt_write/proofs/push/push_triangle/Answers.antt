@@ -1,6 +1,0 @@
-use Rattle.std.proofs.Common.{rules}
-use Rattle.wkt_write.proofs.Strings.{string_written}
-use Rattle.wkt_write.proofs.push.push_triangle.Goals as goal
-
-pub returns-clause-added : goal.returns-clause-added
-returns-clause-added g c = string_written _ _ _ _ _ _ _ _ c.write_triangle-result.ensures c.new-sink.ensures.writer c.into_writer.ensures (λ h. search (rules, h.same, h.grown))

@@ -1,4 +1,0 @@
-use Rattle.wkt_write.proofs.put_kinds.put_collection_header.Goals as goal
-
-pub returns : goal.returns
-returns g c = rw (← c.dimension_in.ensures) c.put_header.ensures
