@@ -8,13 +8,13 @@ ghost use Rattle.wkt_c.specs.Arrays.{IsTextOf, IsNoTextAt, IsNotFlat, HasMoreAt}
 ghost use Rattle.wkt_c.specs.Explained.{IsExplained, IsUnexplained};
 ghost use Rattle.wkt_c.specs.Sizes.{AreHandedOut, HaveNoRoom};
 
+use crate::arrays_call::{arrays_long, arrays_short, is_short};
 use crate::asked::{ends_as_asked, has_places};
 use crate::canonical::canonical;
 use crate::chunks::{is_last, some_at};
 use crate::column::{GivenColumn, Rows, answers, is_column};
 use crate::explain::explained_at;
-use crate::fill::{copy_to_front, copy_whole, hand_out};
-use crate::flat::flat_asked;
+use crate::fill::{copy_whole, hand_out};
 use crate::infer::infer;
 use crate::lines::answers_at;
 use crate::rebuild::{GivenArrays, text_at};
@@ -326,30 +326,10 @@ pub extern "C" fn wkt_arrays(
     if !has_places(places) {
         return NO_PLACES;
     }
-    match flat_asked(alloc, text, places) {
-        Ok(flat) => {
-            sizes.kind = flat.kind;
-            sizes.dimension = flat.dimension;
-            sizes.numbers = flat.arrays.numbers.len();
-            sizes.rings = flat.arrays.rings.len();
-            sizes.polygons = flat.arrays.polygons.len();
-            sizes.end = flat.end;
-            if !ends_as_asked(text, flat.end, places) {
-                return NOT_WHOLE;
-            }
-            if flat.arrays.numbers.len() > numbers.len()
-                || flat.arrays.rings.len() > rings.len()
-                || flat.arrays.polygons.len() > polygons.len()
-            {
-                return SMALL;
-            }
-            copy_to_front(&flat.arrays.numbers, numbers);
-            copy_to_front(&flat.arrays.rings, rings);
-            copy_to_front(&flat.arrays.polygons, polygons);
-            DONE
-        }
-        Err(status) => status,
+    if is_short(text) {
+        return arrays_short(text, places, sizes, numbers, rings, polygons);
     }
+    arrays_long(alloc, text, places, sizes, numbers, rings, polygons)
 }
 
 /// Writes the text of the geometry of those arrays, which are as `wkt_arrays` gives them, to the front of `out`,

@@ -5,6 +5,8 @@
 #![tactic(auto)]
 
 mod arrays;
+mod arrays_call;
+mod arrays_room;
 mod asked;
 mod canonical;
 mod chunks;
