@@ -1,5 +1,9 @@
 -- What stands behind a NUL is in no front.
-use Rattle.std.proofs.Common.{◌≡◌, inl, inr, ℕ, suc, List, [], ◌∷◌, ◌++◌, Option, refl, sym, ap, ◌∙◌, subst, length, arith, ◌≤◌}
+use Rattle.std.proofs.Common.{◌≡◌, ◌+◌, ◌<◌, inl, inr, ℕ, zero, suc, get_or, replicate, take, drop, length-drop, IsUtf8, List, [], ◌∷◌, ◌++◌, Option, refl, sym, ap, ◌∙◌, subst, length, arith, ◌≤◌}
+use Rattle.std.specs.Str.{IsAscii}
+use Rattle.std.proofs.lemmas.List.{get_or-drop}
+use Rattle.std.proofs.lemmas.Str.{IsUtf8-append, IsUtf8-from_ascii, IsAscii-take, IsAscii-drop}
+use Rattle.std.proofs.Math.Seq.{take-append-add, take-append_seam}
 use Rattle.wkt_num.specs.Bytes.{Lexeme, class_of}
 use Rattle.wkt_access.specs.Values.{Value}
 use Rattle.wkt_read.specs.Front.{Front, HasNoFront}
@@ -54,3 +58,38 @@ module _ {N : Type 0} (read : List ℕ → Option N) (text walked : List ℕ) (w
 -- where a front ends
 pub front-inside : {N : Type 0} (read : List ℕ → Option N) (text : List ℕ) (v : Value N) (end : ℕ) → Front read text v end → end ≤ length text
 front-inside read text v end f = omega (arith, f.ends)
+
+abbrev the-zero : ℕ
+the-zero = 0
+
+-- cleared bytes
+pub zeros-at : (n i : ℕ) → get_or (replicate n (the-zero)) i 0 ≡ the-zero
+zeros-at zero i = refl
+zeros-at (suc n) zero = refl
+zeros-at (suc n) (suc i) = zeros-at n i
+
+zero-first : (k : ℕ) (xs : List ℕ) → 0 < length xs → ((i : ℕ) → get_or xs i 0 ≡ the-zero) → (more : List ℕ) × (take (suc k) xs ≡ 0 ∷ more)
+zero-first k [] some zeros = absurd (omega (arith, some))
+zero-first k (x ∷ xs) some zeros = (take k xs, ap (λ z. z ∷ take k xs) (zeros 0))
+
+-- a text before cleared bytes
+module _ (text near : List ℕ) (room : length text + 32 ≤ length near) (zeros : (i : ℕ) → get_or near i 0 ≡ the-zero) where
+  abbrev behind : List ℕ
+  behind = drop (length text) near
+
+  front-is : take (length text + 32) (text ++ behind) ≡ text ++ take 32 behind
+  front-is = take-append-add text behind 32
+
+  pub is-walked : IsWalkedFor text (take (length text + 32) (text ++ behind))
+  is-walked =
+      let (more, e) = zero-first 31 behind (omega (arith, length-drop (length text) near, room)) (λ i. get_or-drop (length text) near i 0 ∙ zeros (length text + i)) in
+      inr (more, front-is ∙ ap (λ l. text ++ l) e)
+
+  pub walked-utf8 : IsUtf8 text → IsUtf8 (take (length text + 32) (text ++ behind))
+  walked-utf8 u =
+      let ascii : IsAscii near = λ i. omega (arith, zeros i) in
+      subst IsUtf8 (sym front-is) (IsUtf8-append text (take 32 behind) u (IsUtf8-from_ascii (take 32 behind) (IsAscii-take behind 32 (IsAscii-drop near (length text) ascii))))
+
+-- the front of bytes that are all of ASCII
+pub front-utf8 : (xs ys : List ℕ) → IsAscii (xs ++ ys) → IsUtf8 xs
+front-utf8 xs ys h = IsUtf8-from_ascii xs (subst IsAscii (take-append_seam xs ys) (IsAscii-take (xs ++ ys) (length xs) h))

@@ -94,6 +94,21 @@ fn write_in(text: &str, walked: &str, asked: u32, room: &mut [u8]) -> Result<(us
     }
 }
 
+/// The same in a room of which no more is used than the text needs.
+fn write_within(text: &str, asked: u32, room: &mut [u8]) -> Result<(usize, usize), u32>
+    requires places { places_in asked ≤ 18 }
+    requires room { 2 * length text.now + 65 ≤ length room.old }
+    requires utf8 { IsUtf8 text.now }
+    ensures canonical { MatchResult result
+        (λ r. IsCanonical (read_at (places_in asked)) (print_at (places_in asked)) text.now (take r.1 room.new) r.0)
+        (Refuses (read_at (places_in asked)) text.now) }
+    ensures within { IfOk result (λ r. r.1 ≤ length room.new) }
+    ensures bound { IfOk result (λ r. r.1 ≤ 2 * length text.now + 1) }
+    ensures whole { length room.new ≡ length room.old }
+{
+    write_in(text, text, asked, &mut room[..2 * text.len() + 65])
+}
+
 /// The same in a room that grows.
 pub(crate) fn write_long(text: &str, asked: u32, room: &mut Vec<u8>) -> Result<(usize, usize), u32>
     requires places { places_in asked ≤ 18 }
@@ -108,7 +123,7 @@ pub(crate) fn write_long(text: &str, asked: u32, room: &mut Vec<u8>) -> Result<(
         Ok(()) => {}
         Err(status) => return Err(status),
     }
-    write_in(text, text, asked, &mut room[..2 * text.len() + 65])
+    write_within(text, asked, room.as_mut_slice())
 }
 
 /// Whether each byte is of ASCII.
@@ -381,7 +396,15 @@ fn same_long(alloc: Global, one: &str, other: &str, asked: u32) -> Result<Compar
         Ok(written) => written,
         Err(status) => return Err(status),
     };
-    let same = judge(one.as_bytes(), &first[..n], end, other.as_bytes(), &second[..m], other_end, asked);
+    let same = judge(
+        one.as_bytes(),
+        &first[..n],
+        end,
+        other.as_bytes(),
+        &second[..m],
+        other_end,
+        asked,
+    );
     Ok(Compared {
         same,
         end,

@@ -4,8 +4,8 @@ ghost use Rattle.wkt_c.specs.Answer.{read_at, print_at};
 ghost use Rattle.wkt_c.specs.Chunks.{AnswersSome, AnswersNone, ends_here};
 
 use crate::lines::{Answered, answer_lines, answers};
-use crate::whole::first_line;
 use crate::status::SMALL;
+use crate::whole::first_line;
 use std::alloc::Global;
 use wkt_lines::laws::output_of_parts;
 use wkt_num::Decimal;

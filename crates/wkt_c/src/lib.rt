@@ -22,7 +22,6 @@ mod gathered;
 mod infer;
 mod joined;
 mod lines;
-
 mod rebuild;
 mod refusal;
 mod room;

@@ -6,9 +6,9 @@ ghost use Rattle.wkt_lines.specs.Output.{IsOutput};
 ghost use Rattle.wkt_c.specs.Answer.{read_at, print_at, HasNoPlaces};
 ghost use Rattle.wkt_c.specs.Chunks.{AreWholeLines};
 
-use crate::whole::whole_within;
 use crate::room::{has_room, widen};
 use crate::status::{MEMORY, NO_PLACES};
+use crate::whole::whole_within;
 use std::alloc::Global;
 use wkt_events::laws::texts_are_short;
 use wkt_events::{Answer, NoRoom, answer_line};
@@ -56,6 +56,16 @@ fn most_for(room: usize) -> usize {
     ((room - 65) / 2).min(NEAR)
 }
 
+/// The lesser of two places.
+#[inline(always)]
+fn lesser(one: usize, other: usize) -> usize
+    ensures one { result ≤ one }
+    ensures other { result ≤ other }
+    ensures is { (one ≤ result) ⊎ (result ≡ other) }
+{
+    if one < other { one } else { other }
+}
+
 /// Answers the lines behind those that are answered, as long as the next answer surely has room.
 pub(crate) fn answer_lines<const D: u32>(
     input: &[u8],
@@ -91,7 +101,7 @@ pub(crate) fn answer_lines<const D: u32>(
             }
         }
         let answer = answer_first::<D>(&input[at..end], out, len);
-        at = (at + answer.taken).min(input.len());
+        at = lesser(at + answer.taken, input.len());
         len = answer.len;
     }
     Answered {

@@ -24,8 +24,8 @@ loop-i-preserved c =
     let a = c.in_ok-add_answer.ensures.adds in
     record {
       holds = one-more (λ k answer status. IsRowAnswer whole read num (is_null given.valid.now k) (row given.texts.now given.offsets.now k) answer status) c.loop-i.i _ _ a.text a.status c.loop-i.invariant.holds
-    (subst (λ n. IsRowAnswer whole read num n (row given.texts.now given.offsets.now c.loop-i.i) a.text a.status) {x = c.is_null-null.result} {y = is_null given.valid.now c.loop-i.i} c.is_null-null.ensures a.is)
-    a.added;
+          (subst (λ n. IsRowAnswer whole read num n (row given.texts.now given.offsets.now c.loop-i.i) a.text a.status) {x = c.is_null-null.result} {y = is_null given.valid.now c.loop-i.i} c.is_null-null.ensures a.is)
+          a.added;
       bound = omega (arith, c.in_ok-add_answer.ensures.bound, c.loop-i.invariant.bound, c.requires.offsets.ascend c.loop-i.i (omega arith), below given.texts.now given.offsets.now c.requires.offsets (c.loop-i.i + 1) (omega arith));
     }
 

@@ -10,7 +10,7 @@ invariant-lines g l = record {
   end_in : l.end ≤ length l.input;
   fits : l.len ≤ length l.out;
   whole : length l.out ≡ length l.initial.out;
-  goes : l.done.taken ≤ l.at;
+  goes : l.fn.done.taken ≤ l.at;
   lines : AreWholeLines l.last l.input l.at;
   ends : AreWholeLines l.last l.input l.end;
   answers : IsOutput (read_at g.row.D) (print_at g.row.D) (take l.at l.input) (take l.len l.out);
