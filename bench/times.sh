@@ -21,7 +21,7 @@ python3 - "$work" "${TURNS:-5}" "$workloads" "$@" <<'P'
 import os, subprocess, sys, time
 work, turns, workloads, programs = sys.argv[1], int(sys.argv[2]), sys.argv[3].split(), sys.argv[4:]
 def peak_of(process):
-    # the peak that getrusage tells is no less than that of what started the program
+    # the peak by getrusage is no less than that of what started the program
     try:
         with open(f'/proc/{process}/status') as lines:
             return next((int(line.split()[1]) for line in lines if line.startswith('VmHWM')), 0)

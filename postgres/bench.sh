@@ -58,7 +58,6 @@ for what in points mixed; do
         copied "text, and a generated column of text by wkt_canonical, this column with lz4" \
             "g text, k text compression lz4 generated always as (wkt_canonical(g)) stored" $what ""
         copied "text, with lz4" "g text" $what "$lz4"
-        copied "wkt, with lz4" "g wkt" $what "$lz4"
         copied "PostGIS's geometry, with lz4" "g geometry" $what "$lz4"
         copied "text, and a generated column of text by wkt_canonical, both with lz4" "g text, k text generated always as (wkt_canonical(g)) stored" $what "$lz4"
         copied "text, and a generated column of geometry by ST_GeomFromText, both with lz4" "g text, k geometry generated always as (ST_GeomFromText(g)) stored" $what "$lz4"

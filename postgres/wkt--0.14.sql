@@ -31,10 +31,11 @@ CREATE FUNCTION wkt_typmod_in(cstring[]) RETURNS int4
     AS 'MODULE_PATHNAME', 'pg_wkt_typmod_in' LANGUAGE C IMMUTABLE STRICT PARALLEL SAFE;
 CREATE FUNCTION wkt_typmod_out(int4) RETURNS cstring
     AS 'MODULE_PATHNAME', 'pg_wkt_typmod_out' LANGUAGE C IMMUTABLE STRICT PARALLEL SAFE;
+-- Long values are stored as they are, since compressing them by pglz takes five times as long as all else.
 CREATE TYPE wkt (
     INPUT = wkt_in, OUTPUT = wkt_out, RECEIVE = wkt_recv, SEND = wkt_send,
     TYPMOD_IN = wkt_typmod_in, TYPMOD_OUT = wkt_typmod_out,
-    INTERNALLENGTH = VARIABLE, ALIGNMENT = int4, STORAGE = extended, CATEGORY = 'U', COLLATABLE = false
+    INTERNALLENGTH = VARIABLE, ALIGNMENT = int4, STORAGE = external, CATEGORY = 'U', COLLATABLE = false
 );
 CREATE FUNCTION wkt(text, int4, bool) RETURNS wkt
     AS 'MODULE_PATHNAME', 'pg_wkt_cast' LANGUAGE C IMMUTABLE STRICT PARALLEL SAFE;

@@ -3,7 +3,13 @@ CREATE EXTENSION wkt;
 CREATE FUNCTION line_of(n int) RETURNS text LANGUAGE sql AS
     $$ SELECT 'LINESTRING(' || string_agg(translate(left(md5(i::text), 9), 'abcdef', '123456') || ' ' || i, ', ') || ')' FROM generate_series(1, n) i $$;
 SELECT length(wkt_canonical(line_of(1000)));
--- A btree takes 2704 bytes, after compression
+-- A long value is stored as it is, unless its column says otherwise
+CREATE TABLE stored (at wkt, packed wkt);
+ALTER TABLE stored ALTER packed SET STORAGE extended;
+INSERT INTO stored SELECT at, at FROM (SELECT ('LINESTRING(' || repeat('1 2,', 1000) || '1 2)')::wkt at) a;
+SELECT length(at::text), pg_column_size(at), pg_column_size(packed) < 500 AS is_smaller FROM stored;
+DROP TABLE stored;
+-- A btree takes 2704 bytes
 CREATE TABLE places (at wkt PRIMARY KEY);
 INSERT INTO places SELECT line_of(1000)::wkt;
 -- The hash way: any length, by an exclusion constraint

@@ -1,2 +1,4 @@
+pub mod Hints
 pub mod Place
+pub mod Seen
 pub mod Verdicts

@@ -1,5 +1,6 @@
 -- Lines and columns of a text, by its bytes.
-use Rattle.std.specs.Prelude.{ℕ, suc, List, [], ◌∷◌, Bool, cond, ◌==◌, ◌&&◌, nat_le}
+use Rattle.std.specs.Prelude.{ℕ, suc, ◌+◌, ◌-◌, ◌^◌, min, List, [], ◌∷◌, ◌++◌, Bool, cond, ◌==◌, ◌&&◌, nat_le, codes, if◌then◌else◌}
+use Rattle.std.specs.Fmt.{decimal}
 
 -- how many line feeds there are
 abbrev pub feeds : List ℕ → ℕ
@@ -14,3 +15,25 @@ continues b = nat_le 128 b && nat_le b 191
 abbrev pub column_after : ℕ → List ℕ → ℕ
 column_after c [] = c
 column_after c (b ∷ rest) = cond (b == 10) (column_after 1 rest) (cond (continues b) (column_after c rest) (column_after (suc c) rest))
+
+-- the byte of the line behind these bytes, where the byte before them is c, by the same rule
+abbrev pub byte_after : ℕ → List ℕ → ℕ
+byte_after c [] = c
+byte_after c (b ∷ rest) = cond (b == 10) (byte_after 1 rest) (byte_after (suc c) rest)
+
+-- the number of the line behind these bytes of a text, whose first line has the number `first`
+abbrev pub line_after : ℕ → List ℕ → ℕ
+line_after first before = min (first + feeds before) (2 ^ 64 - 1)
+
+-- what a place is printed as: the file's name, the line and the column behind these bytes
+abbrev pub place_text : List ℕ → ℕ → List ℕ → List ℕ
+place_text name first before = name ++ (codes ":" ++ (decimal (line_after first before) ++ (codes ":" ++ (decimal (column_after 1 before) ++ codes ": "))))
+
+-- what is printed of a text that isn't UTF-8 behind these bytes
+abbrev pub utf8_text : List ℕ → ℕ → List ℕ → List ℕ
+utf8_text name first before =
+    name ++ (codes ":" ++ (decimal (line_after first before) ++ (codes ": not UTF-8 at byte " ++ (decimal (byte_after 1 before) ++ codes " of the line\n"))))
+
+-- a line feed for a NUL, a NUL for a line feed, and any other byte for itself
+abbrev pub other_end : ℕ → ℕ
+other_end b = if b == 0 then 10 else (if b == 10 then 0 else b)

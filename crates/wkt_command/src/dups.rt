@@ -1,4 +1,8 @@
 //! `wkt dups`: the texts that name a geometry which an earlier text names.
+ghost use Rattle.std.specs.Prelude.{◌≡◌, ℕ, List, Some, IfOk, OnOk, OnErr, if◌then◌else◌, unwrap_or};
+ghost use Rattle.std.specs.Str.{bytes_eq};
+ghost use Rattle.wkt_command.specs.Seen.{first_of};
+
 use crate::output::Output;
 use crate::report::Origin;
 use std::alloc::{AllocError, Global};
@@ -33,8 +37,13 @@ impl Seen {
     /// Where the geometry was seen first; none where it is new, and is kept now.
     ///
     /// # Errors
-    /// Out of memory.
-    pub fn earlier(&mut self, canonical: &[u8], spot: Spot) -> Result<Option<Spot>, AllocError> {
+    /// Out of memory. No geometry is kept then.
+    pub fn earlier(&mut self, canonical: &[u8], spot: Spot) -> Result<Option<Spot>, AllocError>
+        ensures first { IfOk result (λ first. first ≡ first_of self.old canonical.now) }
+        ensures kept { OnOk result ((key : List ℕ) → first_of self.new key
+            ≡ if bytes_eq canonical.now key then Some (unwrap_or (first_of self.old key) spot) else first_of self.old key) }
+        ensures unchanged { OnErr result ((key : List ℕ) → first_of self.new key ≡ first_of self.old key) }
+    {
         if let Some(first) = self.first.get(canonical) {
             return Ok(Some(*first));
         }

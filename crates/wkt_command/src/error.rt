@@ -20,7 +20,7 @@ pub enum RunError {
 }
 
 impl RunError {
-    /// Reading failed; out of memory is told apart.
+    /// Reading failed; out of memory has its own variant.
     pub fn input(error: io::Error) -> RunError {
         match error.kind() {
             ErrorKind::OutOfMemory => RunError::Memory(AllocError),
@@ -28,7 +28,7 @@ impl RunError {
         }
     }
 
-    /// Writing failed; out of memory is told apart.
+    /// Writing failed; out of memory has its own variant.
     pub fn output(error: io::Error) -> RunError {
         match error.kind() {
             ErrorKind::OutOfMemory => RunError::Memory(AllocError),

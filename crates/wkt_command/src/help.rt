@@ -19,12 +19,12 @@ usage: wkt check [OPTIONS] [FILE..]   where texts are refused, and what was expe
 Each line of a FILE is a text of well-known text. With no FILE, or where FILE is -, standard input is read.
 
   -p, --places N    numbers have at most N digits after the point, 0 to 18 (18); nothing is rounded
-  -w, --whole       a FILE is one text, over as many lines as it likes
+  -w, --whole       a FILE is one text, on any number of lines
   -0, --null        texts end at a NUL, not at a line feed
   -f, --front       what follows a geometry in its text isn't looked at
   --refused WORD    canon, kind: write WORD in place of the answer to a refused text
-  -n, --max N       check: end after N refusals (100); 0: tell all
-  -q, --quiet       tell no refusals: canon, kind and dups write their answers alone, check and same nothing
+  -n, --max N       check: end after N refusals (100); 0: no limit
+  -q, --quiet       print no refusals: canon, kind and dups write their answers alone, check and same nothing
   --progress, --no-progress
                     show on standard error how far the run is, or don't. By itself it is shown for a FILE of more
                     than 64 MB, where standard error is a terminal

@@ -1,4 +1,12 @@
 //! What a lexeme that is refused may come from: spellings of other tools.
+ghost use Rattle.std.specs.Prelude.{◌≡◌, false};
+ghost use Rattle.std.specs.List.{list_all};
+ghost use Rattle.std.specs.Char.{is_ascii_hexdigit};
+ghost use Rattle.std.specs.Str.{str_to_ascii_uppercase};
+ghost use Rattle.std.specs.Str.Parse.{without_leading_sign};
+ghost use Rattle.wkt_read.specs.Header.{begins};
+ghost use Rattle.wkt_command.specs.Hints.{begins_word, is_hexadecimal, is_curve, is_surface, kind_hint, begins_number, has_exponent, kept_after, places_in, number_hint, hint_of};
+
 use std::fmt;
 use std::fmt::Formatter;
 use wkt_explain::Expected;
@@ -35,41 +43,88 @@ impl fmt::Display for Hint {
     }
 }
 
-const CURVES: [&str; 5] = [
-    "CIRCULARSTRING",
-    "COMPOUNDCURVE",
-    "CURVEPOLYGON",
-    "MULTICURVE",
-    "MULTISURFACE",
-];
-
-const SURFACES: [&str; 3] = ["POLYHEDRALSURFACE", "TIN", "TRIANGLE"];
-
-/// Whether the word begins with these letters, small or large.
-fn begins(word: &str, start: &str) -> bool {
-    match word.get(..start.len()) {
-        Some(front) => front.eq_ignore_ascii_case(start),
-        None => false,
+/// Whether the text begins with these bytes.
+fn begins(front: &[u8], text: &[u8]) -> bool
+    ensures { result ≡ begins front.now text.now }
+{
+    let mut left = front;
+    let mut rest = text;
+    'byte: while let Some((wanted, more)) = left.split_first() {
+        match rest.split_first() {
+            Some((byte, others)) if *byte == *wanted => rest = others,
+            _ => return false,
+        }
+        left = more;
     }
+    true
 }
 
-fn is_hexadecimal(word: &str) -> bool {
-    word.len() >= 10
-        && (word.starts_with("00") || word.starts_with("01"))
-        && word.bytes().all(|b| b.is_ascii_hexdigit())
+/// The same where the text's letters count as capitals.
+fn begins_word(front: &[u8], text: &[u8]) -> bool
+    ensures { result ≡ begins_word front.now text.now }
+{
+    let mut left = front;
+    let mut rest = text;
+    'byte: while let Some((wanted, more)) = left.split_first() {
+        match rest.split_first() {
+            Some((byte, others)) if byte.to_ascii_uppercase() == *wanted => rest = others,
+            _ => return false,
+        }
+        left = more;
+    }
+    true
 }
 
-// What may stand in place of a kind word.
-fn of_kind(word: &str) -> Option<Hint> {
-    if word.starts_with('\u{FEFF}') {
+fn all_hexadecimal(word: &[u8]) -> bool
+    ensures { result ≡ list_all is_ascii_hexdigit word.now }
+{
+    let mut rest = word;
+    'byte: while let Some((byte, others)) = rest.split_first() {
+        if !byte.is_ascii_hexdigit() {
+            return false;
+        }
+        rest = others;
+    }
+    true
+}
+
+fn is_hexadecimal(word: &[u8]) -> bool
+    ensures { result ≡ is_hexadecimal word.now }
+{
+    word.len() >= 10 && (begins(b"00", word) || begins(b"01", word)) && all_hexadecimal(word)
+}
+
+fn is_curve(word: &[u8]) -> bool
+    ensures { result ≡ is_curve word.now }
+{
+    begins_word(b"CIRCULARSTRING", word)
+        || begins_word(b"COMPOUNDCURVE", word)
+        || begins_word(b"CURVEPOLYGON", word)
+        || begins_word(b"MULTICURVE", word)
+        || begins_word(b"MULTISURFACE", word)
+}
+
+fn is_surface(word: &[u8]) -> bool
+    ensures { result ≡ is_surface word.now }
+{
+    begins_word(b"POLYHEDRALSURFACE", word)
+        || begins_word(b"TIN", word)
+        || begins_word(b"TRIANGLE", word)
+}
+
+/// What may stand in place of a kind word.
+fn of_kind(word: &[u8]) -> Option<Hint>
+    ensures { result ≡ kind_hint word.now }
+{
+    if begins(b"\xef\xbb\xbf", word) {
         Some(Hint::ByteOrderMark)
     } else if is_hexadecimal(word) {
         Some(Hint::Hexadecimal)
-    } else if begins(word, "SRID=") {
+    } else if begins_word(b"SRID=", word) {
         Some(Hint::Srid)
-    } else if CURVES.iter().any(|curve| begins(word, curve)) {
+    } else if is_curve(word) {
         Some(Hint::Curve)
-    } else if SURFACES.iter().any(|surface| begins(word, surface)) {
+    } else if is_surface(word) {
         Some(Hint::Surface)
     } else {
         None
@@ -77,50 +132,113 @@ fn of_kind(word: &str) -> Option<Hint> {
 }
 
 /// The word after its sign.
-fn unsigned(word: &str) -> &str {
-    word.strip_prefix(['+', '-']).unwrap_or(word)
+fn unsigned(word: &[u8]) -> &[u8]
+    ensures { result.now ≡ without_leading_sign word.now }
+{
+    match word {
+        [b'-', digits @ ..] => digits,
+        [b'+', digits @ ..] => digits,
+        _ => word,
+    }
 }
 
-fn begins_number(word: &str) -> bool {
-    match unsigned(word).bytes().next() {
-        Some(byte) => byte.is_ascii_digit() || byte == b'.',
+fn begins_number(digits: &[u8]) -> bool
+    ensures { result ≡ begins_number digits.now }
+{
+    match digits.split_first() {
+        Some((byte, _)) => byte.is_ascii_digit() || *byte == b'.',
         None => false,
     }
 }
 
-// What may stand in place of a number.
-fn of_number(word: &str, places: u32) -> Option<Hint> {
-    let digits = unsigned(word);
-    if begins(digits, "NAN") || begins(digits, "INF") || begins(digits, "1.#") {
+fn has_exponent(digits: &[u8]) -> bool
+    ensures { result ≡ has_exponent digits.now }
+{
+    let mut rest = digits;
+    'byte: while let Some((byte, others)) = rest.split_first() {
+        if *byte == b'e' || *byte == b'E' {
+            return true;
+        }
+        rest = others;
+    }
+    false
+}
+
+/// How many digits follow the point as far as the last that isn't 0, if there are digits with at most one point.
+fn places_in(digits: &[u8]) -> Option<usize>
+    ensures { result ≡ places_in false digits.now }
+{
+    let mut rest = digits;
+    let mut any = false;
+    'byte: while let Some((byte, others)) = rest.split_first() {
+        if *byte == b'.' {
+            return if any || others.len() > 0 {
+                kept_places(others)
+            } else {
+                None
+            };
+        }
+        if !byte.is_ascii_digit() {
+            return None;
+        }
+        any = true;
+        rest = others;
+    }
+    if any { Some(0) } else { None }
+}
+
+/// How many of the digits stand as far as the last that isn't 0, if there are digits alone.
+fn kept_places(digits: &[u8]) -> Option<usize>
+    ensures { result ≡ kept_after 0 0 digits.now }
+{
+    let mut rest = digits;
+    let mut count = 0;
+    let mut kept = 0;
+    'byte: while let Some((byte, others)) = rest.split_first() {
+        if !byte.is_ascii_digit() {
+            return None;
+        }
+        count += 1;
+        if *byte != b'0' {
+            kept = count;
+        }
+        rest = others;
+    }
+    Some(kept)
+}
+
+/// What may stand in place of a number, after its sign.
+fn of_number(digits: &[u8], places: u32) -> Option<Hint>
+    ensures { result ≡ number_hint places digits.now }
+{
+    if begins_word(b"NAN", digits) || begins_word(b"INF", digits) || begins(b"1.#", digits) {
         return Some(Hint::NoNumber);
     }
-    if !begins_number(word) {
+    if !begins_number(digits) {
         return None;
     }
-    if digits.bytes().any(|b| b == b'e' || b == b'E') {
+    if has_exponent(digits) {
         return Some(Hint::Exponent);
     }
-    if !digits.bytes().all(|b| b.is_ascii_digit() || b == b'.') {
-        return None;
-    }
-    let (whole, fraction) = digits.split_once('.').unwrap_or((digits, ""));
-    if fraction.contains('.') || whole.is_empty() && fraction.is_empty() {
-        None
-    } else if fraction.trim_end_matches('0').len() > places as usize {
-        Some(Hint::Places(places))
-    } else {
-        Some(Hint::Large)
+    match places_in(digits) {
+        Some(n) if n > places as usize => Some(Hint::Places(places)),
+        Some(_) => Some(Hint::Large),
+        None => None,
     }
 }
 
 /// What the word at the place of a refusal may come from, where this was expected there.
-pub fn hint_for(expected: Expected, word: &str, places: u32) -> Option<Hint> {
+pub fn hint_for(expected: Expected, word: &[u8], places: u32) -> Option<Hint>
+    ensures { result ≡ hint_of expected word.now places }
+{
     match expected {
         Expected::Kind | Expected::Member => of_kind(word),
         Expected::Point | Expected::X | Expected::Y | Expected::Z | Expected::M => {
-            of_number(word, places)
+            of_number(unsigned(word), places)
         }
-        Expected::More | Expected::Closing if begins_number(word) => Some(Hint::Dimension),
+        Expected::More | Expected::Closing if begins_number(unsigned(word)) => {
+            Some(Hint::Dimension)
+        }
         _ => None,
     }
 }

@@ -1,5 +1,6 @@
 //! Where texts come from.
-ghost use Rattle.std.specs.Prelude.{None};
+ghost use Rattle.std.specs.Prelude.{◌≡◌, None, map};
+ghost use Rattle.wkt_command.specs.Place.{other_end};
 
 use std::fs::File;
 use std::io::{self, Read, Stdin};
@@ -30,7 +31,7 @@ impl Input {
         match self {
             Input::Standard(_) => 0,
             Input::File(file) => match file.metadata() {
-                Ok(told) if told.is_file() => told.len(),
+                Ok(found) if found.is_file() => found.len(),
                 _ => 0,
             },
         }
@@ -46,14 +47,23 @@ impl Read for Input {
     }
 }
 
-/// A NUL for a line feed, and back.
-pub fn swap_ends(bytes: &mut [u8]) {
+/// A line feed for a NUL, a NUL for a line feed, and any other byte for itself.
+fn other_end(byte: u8) -> u8
+    ensures { result ≡ other_end byte }
+{
+    match byte {
+        0 => b'\n',
+        b'\n' => 0,
+        other => other,
+    }
+}
+
+/// Puts a line feed for each NUL, and a NUL for each line feed.
+pub fn swap_ends(bytes: &mut [u8])
+    ensures { bytes.new ≡ map other_end bytes.old }
+{
     for byte in bytes.iter_mut() {
-        *byte = match *byte {
-            0 => b'\n',
-            b'\n' => 0,
-            other => other,
-        };
+        *byte = other_end(*byte);
     }
 }
 

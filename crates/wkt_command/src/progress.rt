@@ -19,7 +19,7 @@ pub struct Tally {
     pub refused: u64,
 }
 
-/// How far a file is read, told in one line that is written over.
+/// How far a file is read, shown in one line that is written over.
 #[derive(Clone, Copy)]
 pub struct Progress {
     start: Option<Instant>,

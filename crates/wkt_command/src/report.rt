@@ -1,7 +1,10 @@
-//! A refusal, as it is told.
+//! A refusal, as it is printed.
+ghost use Rattle.std.specs.Prelude.{◌≡◌, ◌++◌, ◌+◌, ◌-◌, ◌^◌, min, take, OnOk, string_bytes};
+ghost use Rattle.wkt_command.specs.Place.{line_after, place_text, utf8_text};
+
 use crate::excerpt::Excerpt;
 use crate::hint::hint_for;
-use crate::place::place_after;
+use crate::place::{byte_after, place_after};
 use std::alloc::AllocError;
 use std::fmt;
 use std::fmt::Formatter;
@@ -17,8 +20,17 @@ pub struct Origin<'a> {
 
 impl<'a> Origin<'a> {
     /// The number of a line of the text, whose lines count from 1.
-    fn line(self, line: usize) -> u64 {
-        self.line.saturating_add(line as u64).saturating_sub(1)
+    fn line(self, line: usize) -> u64
+        ensures { result ≡ min (self.entry.line + (line - 1)) (2 ^ 64 - 1) }
+    {
+        self.line.saturating_add(line.saturating_sub(1) as u64)
+    }
+
+    /// The number of the line behind these bytes of the text.
+    fn line_after(self, before: &[u8]) -> u64
+        ensures { result ≡ line_after self.entry.line before.now }
+    {
+        self.line(place_after(before).line)
     }
 }
 
@@ -32,13 +44,13 @@ pub enum Refusal<'a> {
 }
 
 /// The word from here on, which ends where white space, a parenthesis or a comma stands.
-fn word_at(text: &str, start: usize) -> &str {
-    let rest = text.get(start..).unwrap_or("");
+fn word_at(text: &[u8], start: usize) -> &[u8] {
+    let rest = text.get(start..).unwrap_or(&[]);
     let end = rest
-        .bytes()
-        .position(|b| is_white(b) || b == b'(' || b == b')' || b == b',')
+        .iter()
+        .position(|b| is_white(*b) || *b == b'(' || *b == b')' || *b == b',')
         .unwrap_or(rest.len());
-    rest.get(..end).unwrap_or("")
+    rest.get(..end).unwrap_or(&[])
 }
 
 /// The first place from here on where no white space stands.
@@ -48,7 +60,21 @@ fn past_white(text: &str, from: usize) -> usize {
     from.saturating_add(blanks)
 }
 
-/// Adds what is told of a refusal: file, line, column, what was expected, and the line with a mark under the place.
+/// Adds the place behind these bytes of a text: its file, line and column.
+///
+/// # Errors
+/// Out of memory.
+fn push_place(out: &mut String, origin: Origin<'_>, before: &[u8]) -> Result<(), AllocError>
+    ensures { OnOk result (string_bytes out.new ≡ string_bytes out.old ++ place_text origin.entry.name.now origin.entry.line before.now) }
+{
+    let place = place_after(before);
+    let name = origin.name;
+    let line = origin.line(place.line);
+    let column = place.column;
+    write!(out, "{name}:{line}:{column}: ")
+}
+
+/// Adds what is printed of a refusal: file, line, column, what was expected, and the line with a mark under the place.
 ///
 /// # Errors
 /// Out of memory.
@@ -66,16 +92,12 @@ pub fn push_refusal(
         }
     };
     let bytes = text.as_bytes();
-    let place = place_after(bytes.get(..start).unwrap_or(bytes));
-    let name = origin.name;
-    let line = origin.line(place.line);
-    let column = place.column;
-    write!(out, "{name}:{line}:{column}: ")?;
+    push_place(out, origin, bytes.get(..start).unwrap_or(bytes))?;
     match refusal {
         Refusal::Text(why) => {
             let expected = why.expected;
             write!(out, "{expected} was expected")?;
-            if let Some(hint) = hint_for(expected, word_at(text, start), places) {
+            if let Some(hint) = hint_for(expected, word_at(bytes, start), places) {
                 write!(out, " ({hint})")?;
             }
         }
@@ -85,24 +107,17 @@ pub fn push_refusal(
     write!(out, "\n{excerpt}")
 }
 
-/// Adds that a text is no UTF-8, from its byte `at` on.
+/// Adds that a text isn't UTF-8 behind these bytes of it.
 ///
 /// # Errors
 /// Out of memory.
-pub fn push_not_utf8(
-    out: &mut String,
-    origin: Origin<'_>,
-    text: &[u8],
-    at: usize,
-) -> Result<(), AllocError> {
-    let before = text.get(..at).unwrap_or(text);
+pub fn push_not_utf8(out: &mut String, origin: Origin<'_>, before: &[u8]) -> Result<(), AllocError>
+    ensures { OnOk result (string_bytes out.new ≡ string_bytes out.old ++ utf8_text origin.entry.name.now origin.entry.line before.now) }
+{
     let name = origin.name;
-    let line = origin.line(place_after(before).line);
-    let byte = match before.iter().rposition(|b| *b == b'\n') {
-        Some(feed) => before.len().saturating_sub(feed),
-        None => before.len().saturating_add(1),
-    };
-    writeln!(out, "{name}:{line}: not UTF-8 at byte {byte} of the line")
+    let line = origin.line_after(before);
+    let byte = byte_after(before);
+    write!(out, "{name}:{line}: not UTF-8 at byte {byte} of the line\n")
 }
 
 /// A number with commas between its thousands.

@@ -33,7 +33,7 @@ pub struct Run<'a> {
 /// What standard input is called.
 const STANDARD_INPUT: &str = "standard input";
 
-/// The name by which a file is told.
+/// The name under which a file is reported.
 fn shown_name(name: &str) -> &str {
     if name == "-" { STANDARD_INPUT } else { name }
 }
@@ -65,7 +65,7 @@ impl<'a> Run<'a> {
         self.tally
     }
 
-    /// Whether no more texts are looked at: `check` has told as many refusals as were asked for.
+    /// Whether no more texts are looked at: `check` has printed as many refusals as were asked for.
     pub fn is_over(&self) -> bool {
         let refused = self.tally.refused;
         self.options.command == Command::Check
@@ -168,7 +168,8 @@ impl<'a> Run<'a> {
         let text = match str::from_utf8(text) {
             Ok(text) => text,
             Err(error) => {
-                push_not_utf8(&mut self.report, origin, text, error.valid_up_to())?;
+                let before = text.get(..error.valid_up_to()).unwrap_or(text);
+                push_not_utf8(&mut self.report, origin, before)?;
                 return self.refuse(rt);
             }
         };
@@ -220,7 +221,7 @@ impl<'a> Run<'a> {
         put.map_err(RunError::output)
     }
 
-    /// Counts a refused text, and tells what stands in the report.
+    /// Counts a refused text, and prints its report.
     fn refuse(&mut self, rt: &HostRuntime) -> Result<(), RunError> {
         self.tally.refused = self.tally.refused.saturating_add(1);
         if let Some(word) = &self.options.refused {
@@ -236,12 +237,12 @@ impl<'a> Run<'a> {
                 .put(self.report.as_bytes())
                 .map_err(RunError::output);
         }
-        // Where standard error fails, the status still tells.
+        // Where standard error fails, the status still says it.
         let _ = rt.eprint(self.report.as_str());
         Ok(())
     }
 
-    /// Tells how many texts were refused, and writes out what is left.
+    /// Prints how many texts were refused, and writes out what is left.
     ///
     /// # Errors
     /// Standard output fails, or out of memory.

@@ -32,7 +32,7 @@ pub fn status(rt: &HostRuntime, options: &Options) -> Result<u8, RunError> {
 }
 
 /// Writes the canonical text of one of the two texts into the room: how long that is; none where it is refused, which is
-/// told.
+/// reported.
 fn canonical(
     rt: &HostRuntime,
     options: &Options,
@@ -62,7 +62,7 @@ fn canonical(
         options.places,
     )?;
     if !options.quiet {
-        // Where standard error fails, the status still tells.
+        // Where standard error fails, the status still says it.
         let _ = rt.eprint(report.as_str());
     }
     Ok(None)

@@ -54,7 +54,7 @@ fn misused(rt: &HostRuntime, error: &UsageError) -> u8 {
     FAILED
 }
 
-/// Tells why the run ended, but for a pipe that was closed: nobody reads on then.
+/// Reports why the run ended, unless its output is a closed pipe: nobody reads on then.
 fn failed(rt: &HostRuntime, error: &RunError) -> u8 {
     let is_closed = match error {
         RunError::Output(error) => error.kind() == ErrorKind::BrokenPipe,
@@ -103,7 +103,7 @@ fn read_all(rt: &HostRuntime, run: &mut Run<'_>, options: &Options) -> Result<u8
     Ok(status)
 }
 
-/// Reads a file; one that can't be read is told, and the run goes on.
+/// Reads a file. One that can't be read is reported, and the run goes on.
 fn read_one(rt: &HostRuntime, run: &mut Run<'_>, file: usize, name: &str) -> Result<u8, RunError> {
     match run.read_file(rt, file, name) {
         Ok(()) => Ok(0),

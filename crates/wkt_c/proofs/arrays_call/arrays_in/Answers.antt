@@ -3,10 +3,10 @@ use Rattle.std.proofs.Common.{rules, ap, ◌∙◌, inl, inr}
 use Rattle.wkt_fill.specs.Filled.{view}
 use Rattle.wkt_c.specs.Answer.{with_front}
 use Rattle.wkt_c.proofs.arrays_call.arrays_in.Goals as goal
-use Rattle.wkt_c.proofs.arrays_call.arrays_in.Goals.{then-len-numbers-via-then-len-numbers, then-len-numbers-via-else-len-numbers+then-len-rings, then-len-numbers-via-else-len-numbers+else-len-rings+then-len-polygons}
+use Rattle.wkt_c.proofs.arrays_call.arrays_in.Goals.{then-all-numbers-via-then-all-numbers, then-all-numbers-via-else-all-numbers+then-ring_ends-rings, then-all-numbers-via-else-all-numbers+else-ring_ends-rings+then-polygon_ends-polygons}
 
-pub returns-then-len-numbers-clause-small : goal.returns-then-len-numbers-clause-small
-returns-then-len-numbers-clause-small c = λ _. record {
+pub returns-then-all-numbers-clause-small : goal.returns-then-all-numbers-clause-small
+returns-then-all-numbers-clause-small c = λ _. record {
   told = record {
     ns = (view c.in-Ok.flat.arrays).flat.numbers;
     rs = (view c.in-Ok.flat.arrays).flat.rings;
@@ -16,15 +16,15 @@ returns-then-len-numbers-clause-small c = λ _. record {
     rings = search rules;
     polygons = search rules;
   };
-  small = elim c.then-len-numbers.branch [
-    | then-len-numbers-via-then-len-numbers w ↦ inl (search rules)
-    | then-len-numbers-via-else-len-numbers+then-len-rings w ↦ inr (inl (search rules))
-    | then-len-numbers-via-else-len-numbers+else-len-rings+then-len-polygons w ↦ inr (inr (search rules))
+  small = elim c.then-all-numbers.branch [
+    | then-all-numbers-via-then-all-numbers w ↦ inl (search rules)
+    | then-all-numbers-via-else-all-numbers+then-ring_ends-rings w ↦ inr (inl (search rules))
+    | then-all-numbers-via-else-all-numbers+else-ring_ends-rings+then-polygon_ends-polygons w ↦ inr (inr (search rules))
   ];
 }
 
-pub returns-else-len-polygons-clause-filled : goal.returns-else-len-polygons-clause-filled
-returns-else-len-polygons-clause-filled c = λ _. record {
+pub returns-else-polygon_ends-polygons-clause-filled : goal.returns-else-polygon_ends-polygons-clause-filled
+returns-else-polygon_ends-polygons-clause-filled c = λ _. record {
   told = record {
     ns = (view c.in-Ok.flat.arrays).flat.numbers;
     rs = (view c.in-Ok.flat.arrays).flat.rings;

@@ -1,0 +1,9 @@
+use Rattle.std.proofs.Common.{◌≡◌, length}
+use Rattle.wkt_read.specs.Header.{begins}
+use Rattle.wkt_command.proofs.hint.begins.Given as goal
+
+abbrev pub invariant-byte : goal.invariant-byte
+invariant-byte l = begins l.left l.rest ≡ begins l.front l.text
+
+abbrev pub decreases-byte : goal.decreases-byte
+decreases-byte l = length l.left

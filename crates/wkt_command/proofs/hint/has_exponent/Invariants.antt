@@ -1,0 +1,9 @@
+use Rattle.std.proofs.Common.{◌≡◌, length}
+use Rattle.wkt_command.specs.Hints.{has_exponent}
+use Rattle.wkt_command.proofs.hint.has_exponent.Given as goal
+
+abbrev pub invariant-byte : goal.invariant-byte
+invariant-byte l = has_exponent l.rest ≡ has_exponent l.digits
+
+abbrev pub decreases-byte : goal.decreases-byte
+decreases-byte l = length l.rest

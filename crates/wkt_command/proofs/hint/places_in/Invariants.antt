@@ -1,0 +1,9 @@
+use Rattle.std.proofs.Common.{◌≡◌, length, false}
+use Rattle.wkt_command.specs.Hints.{places_in}
+use Rattle.wkt_command.proofs.hint.places_in.Given as goal
+
+abbrev pub invariant-byte : goal.invariant-byte
+invariant-byte l = places_in l.any l.rest ≡ places_in false l.digits
+
+abbrev pub decreases-byte : goal.decreases-byte
+decreases-byte l = length l.rest

@@ -1,0 +1,87 @@
+-- What a refused word may come from.
+use Rattle.std.specs.Prelude.{ℕ, suc, zero, List, [], ◌∷◌, length, Bool, true, false, not, ◌&&◌, ◌||◌, ◌==◌, nat_lt, nat_le, codes, Option, Some, None, if◌then◌else◌}
+use Rattle.std.specs.List.{list_any, list_all}
+use Rattle.std.specs.Char.{is_ascii_digit, is_ascii_hexdigit}
+use Rattle.std.specs.Str.{str_to_ascii_uppercase}
+use Rattle.std.specs.Str.Parse.{without_leading_sign}
+use Rattle.wkt_read.specs.Header.{begins}
+use Rattle.wkt_explain.specs.declared.expected.Expected.{Expected}
+use Rattle.wkt_explain.specs.declared.expected.Expected.TheVariants as expected
+use Rattle.wkt_command.specs.declared.hint.Hint.{Hint}
+use Rattle.wkt_command.specs.declared.hint.Hint.TheVariants as hint
+
+-- Whether a word begins with these capitals, in whatever case.
+abbrev pub begins_word : List ℕ → List ℕ → Bool
+begins_word capitals w = begins capitals (str_to_ascii_uppercase w)
+
+-- Ten hexadecimal digits or more, by whose first two WKB says the order of its bytes.
+abbrev pub is_hexadecimal : List ℕ → Bool
+is_hexadecimal w = nat_le 10 (length w) && ((begins (codes "00") w || begins (codes "01") w) && list_all is_ascii_hexdigit w)
+
+-- The names of kinds with curves.
+abbrev pub is_curve : List ℕ → Bool
+is_curve w =
+    begins_word (codes "CIRCULARSTRING") w || (begins_word (codes "COMPOUNDCURVE") w || (begins_word (codes "CURVEPOLYGON") w
+    || (begins_word (codes "MULTICURVE") w || begins_word (codes "MULTISURFACE") w)))
+
+-- The names of other kinds of surfaces.
+abbrev pub is_surface : List ℕ → Bool
+is_surface w = begins_word (codes "POLYHEDRALSURFACE") w || (begins_word (codes "TIN") w || begins_word (codes "TRIANGLE") w)
+
+-- What stands in place of a kind word: the first of these that it is.
+abbrev pub kind_hint : List ℕ → Option Hint
+kind_hint w =
+    if begins (239 ∷ 187 ∷ 191 ∷ []) w then Some hint.ByteOrderMark
+    else (if is_hexadecimal w then Some hint.Hexadecimal
+    else (if begins_word (codes "SRID=") w then Some hint.Srid
+    else (if is_curve w then Some hint.Curve
+    else (if is_surface w then Some hint.Surface
+    else None))))
+
+-- A digit or a point stands first.
+abbrev pub begins_number : List ℕ → Bool
+begins_number [] = false
+begins_number (b ∷ bs) = is_ascii_digit b || b == 46
+
+-- An e of either case stands there.
+abbrev pub has_exponent : List ℕ → Bool
+has_exponent = list_any (λ b. b == 101 || b == 69)
+
+-- How many of these digits stand as far as the last that isn't 0, if they are digits alone; n stand before them, and `kept` of those count.
+abbrev pub kept_after : ℕ → ℕ → List ℕ → Option ℕ
+kept_after n kept [] = Some kept
+kept_after n kept (b ∷ bs) = if is_ascii_digit b then kept_after (suc n) (if b == 48 then kept else suc n) bs else None
+
+-- How many digits follow the point as far as the last that isn't 0, if there are digits with at most one point, and one digit or more; `any` says whether one stands before.
+abbrev pub places_in : Bool → List ℕ → Option ℕ
+places_in any [] = if any then Some 0 else None
+places_in any (b ∷ bs) =
+    if b == 46 then (if any || nat_lt 0 (length bs) then kept_after 0 0 bs else None)
+    else (if is_ascii_digit b then places_in true bs else None)
+
+-- What a refused number lacks, by the places that it has: it has too many of them, or is too large.
+abbrev pub places_hint : ℕ → Option ℕ → Option Hint
+places_hint most None = None
+places_hint most (Some n) = if nat_lt most n then Some (hint.Places most) else Some hint.Large
+
+-- What stands in place of a number, after its sign: the first of these that it is.
+abbrev pub number_hint : ℕ → List ℕ → Option Hint
+number_hint most ds =
+    if begins_word (codes "NAN") ds || (begins_word (codes "INF") ds || begins (codes "1.#") ds) then Some hint.NoNumber
+    else (if not (begins_number ds) then None
+    else (if has_exponent ds then Some hint.Exponent
+    else places_hint most (places_in false ds)))
+
+-- What the word at the place of a refusal may come from, by what was expected there.
+abbrev pub hint_of : Expected → List ℕ → ℕ → Option Hint
+hint_of expected.Kind w most = kind_hint w
+hint_of expected.Member w most = kind_hint w
+hint_of expected.Point w most = number_hint most (without_leading_sign w)
+hint_of expected.X w most = number_hint most (without_leading_sign w)
+hint_of expected.Y w most = number_hint most (without_leading_sign w)
+hint_of expected.Z w most = number_hint most (without_leading_sign w)
+hint_of expected.M w most = number_hint most (without_leading_sign w)
+hint_of expected.More w most = if begins_number (without_leading_sign w) then Some hint.Dimension else None
+hint_of expected.Closing w most = if begins_number (without_leading_sign w) then Some hint.Dimension else None
+hint_of expected.Dimension w most = None
+hint_of expected.Opening w most = None
