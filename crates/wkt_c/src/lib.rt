@@ -27,3 +27,4 @@ mod refusal;
 mod room;
 mod sizes;
 mod status;
+mod whole;
