@@ -14,6 +14,7 @@
  * What a call costs: it checks its whole text for UTF-8, also behind the geometry. wkt_canonical, wkt_same and
  * wkt_same_ends take memory for twice the text, and none for texts of up to 200 bytes. So a reader that goes on from
  * *end passes a piece at a time, and not all that is left of a large buffer; or it calls wkt_lines_some.
+ * A canonical text has at most twice the length of its text and 65 bytes more: a buffer of that size is never too small.
  *
  * What nothing checks, and a caller has to see to:
  * - no two pointers that are passed overlap, but for those that are only read; a size is that of its buffer;
@@ -128,7 +129,8 @@ enum {
 
 /* The canonical text of the geometry that the text begins with. *end: where the geometry ends in the text; what
  * follows may be anything that is UTF-8, or, with WKT_WHOLE, white space. WKT_OK: the text is in out, and *needed is its
- * length. WKT_TOO_SMALL: *needed is its length, and *end is told too. WKT_NOT_WHOLE: *end is told. 1..14, 20, 22, 23. */
+ * length, at most 2 * text_len + 65. WKT_TOO_SMALL: *needed is its length, and *end is told too. WKT_NOT_WHOLE: *end is
+ * told. 1..14, 20, 22, 23. */
 wkt_status wkt_canonical(const uint8_t *text, size_t text_len, uint32_t places,
                          uint8_t *out, size_t out_len, size_t *needed, size_t *end);
 
@@ -144,7 +146,8 @@ wkt_status wkt_same_ends(const uint8_t *one, size_t one_len, const uint8_t *othe
 /* Where a text is refused. WKT_OK: from byte *start to byte *stop of it is what is too much: those lexemes that stand
  * before it are the beginning of a geometry, and with it none can come any more. Nothing is from *start to *stop where
  * the text ends too early. *message: the number of the message, 1 to 14; *expected: of what could stand there, in
- * WKT_EXPECTED. WKT_ACCEPTED: the text begins with a geometry. 20, 23. It takes no memory. */
+ * WKT_EXPECTED. WKT_ACCEPTED: the text begins with a geometry. 20, 23. It takes no memory. Of a bad number it doesn't say
+ * whether it has an exponent, too many places or too many digits. */
 wkt_status wkt_explain(const uint8_t *text, size_t text_len, uint32_t places, uint32_t *message, size_t *start,
                        size_t *stop, uint32_t *expected);
 
@@ -154,7 +157,7 @@ wkt_status wkt_infer(const uint8_t *text, size_t text_len, uint32_t *kind, uint3
 
 /* All lines at once: for each line of the input, the canonical text of the geometry that it begins with or `refused`,
  * and a line feed. What the program wktline writes, if places is 18. WKT_TOO_SMALL: *needed is the length of all. 22,
- * 23. A line of n bytes is answered in at most some 2n + 8. */
+ * 23. A line of n bytes is answered in at most 2n + 8 (tested, not proved). */
 wkt_status wkt_lines(const uint8_t *input, size_t input_len, uint32_t places, uint8_t *out, size_t out_len,
                      size_t *needed);
 
@@ -162,7 +165,7 @@ wkt_status wkt_lines(const uint8_t *input, size_t input_len, uint32_t places, ui
  * are; *written: how many bytes of out are their answers; what stands behind them in out means nothing. last: 1 where the
  * input ends here, so that what is left behind its last line feed is a line too; else 0, and the caller puts more behind
  * what is left. The answers of successive calls, one after the other, are those of wkt_lines to all of the input. *taken is
- * 0 only where there is no whole line. WKT_TOO_SMALL: not even the first lines' answers fit. 22, 23. After any but WKT_OK
+ * 0 only where there is no whole line. WKT_TOO_SMALL: the answer to the first line doesn't fit. 22, 23. After any but WKT_OK
  * out means nothing, and nothing is taken. */
 wkt_status wkt_lines_some(const uint8_t *input, size_t input_len, uint32_t places, uint32_t last,
                           uint8_t *out, size_t out_len, size_t *taken, size_t *written);
@@ -173,8 +176,8 @@ wkt_status wkt_lines_some(const uint8_t *input, size_t input_len, uint32_t place
  * WKT_OK: the canonical texts of all rows are in out, one after the other, and *needed is their length; row i's is from
  * out_offsets[i] to out_offsets[i + 1]. statuses[i] is WKT_OK, or why row i has no text: 1..14, 20, WKT_NULL, or, with
  * WKT_WHOLE, WKT_NOT_WHOLE.
- * WKT_TOO_SMALL: *needed is their length. 22, 23. WKT_NOT_COLUMN: an offset is less than the one before it, or past
- * texts (as one below 0 is), or a size fits no such column. After any but WKT_OK the three buffers are as they were. */
+ * WKT_TOO_SMALL: *needed is their length, at most 2 * texts_len and a byte for each row. 22, 23. WKT_NOT_COLUMN: an offset
+ * is less than the one before it, or past texts (as one below 0 is), or a size fits no such column. After any but WKT_OK the three buffers are as they were. */
 wkt_status wkt_column_canonical(const uint8_t *texts, size_t texts_len, const int64_t *offsets, size_t offsets_len,
                                 const uint8_t *valid, size_t valid_len, uint32_t places,
                                 uint8_t *out, size_t out_len, int64_t *out_offsets, size_t out_offsets_len,

@@ -70,6 +70,40 @@ static const char *padded(size_t size) {
     return text;
 }
 
+/* Texts of each length up to 230 whose last byte is, or isn't, of UTF-8: behind the geometry, and in its last number. */
+static void last_bytes(void) {
+    static char text[ROOM];
+    size_t size;
+    for (size = 13; size < 230; size++) {
+        memset(text, ' ', sizeof text);
+        memcpy(text, "POINT(1 2)", 10);
+        text[size] = 0;
+        memcpy(text + size - 2, "\xc3\xa9", 2);
+        CHECK(canonical(text, 6, ROOM) == WKT_OK && holds("POINT(1 2)") && end_at == 10);
+        text[size - 1] = 'a';
+        CHECK(canonical(text, 6, ROOM) == WKT_NOT_UTF8 && untouched() && not_told());
+        memset(text, ' ', size);
+        memcpy(text, "POINT(1", 7);
+        memcpy(text + size - 4, "2.50", 4);
+        CHECK(canonical(text, 6, ROOM) == 7 && untouched() && not_told());
+        text[size - 1] = ')';
+        CHECK(canonical(text, 6, ROOM) == WKT_OK && holds("POINT(1 2.5)") && end_at == size);
+    }
+}
+
+/* No answer is longer than the header says: an empty geometry of one letter a name, a row of points without points. */
+static void bounds(void) {
+    static const char *const texts[] = {"POINT(1 2)", "POINT EMPTY", "MULTIPOINT(1 2,3 4,5 6,7 8,9 0)", "MULTIPOINT(1 2,EMPTY,3 4)",
+        "GEOMETRYCOLLECTION EMPTY", "POLYGON(EMPTY)", "MULTIPOLYGON((EMPTY))", "POINT(-.5 +.5)", "POINT(.1 .2)"};
+    size_t i;
+    for (i = 0; i < sizeof texts / sizeof *texts; i++) {
+        size_t size = strlen(texts[i]);
+        CHECK(canonical(texts[i], 6, 2 * size + 65) == WKT_OK && needed <= 2 * size + 1);
+        CHECK(needed == 0 || canonical(texts[i], 6, needed - 1) == WKT_TOO_SMALL);
+        CHECK(needed > 0 && untouched());
+    }
+}
+
 /* Texts of up to 200 bytes are answered with no memory, and all are the same. */
 static void short_texts(void) {
     size_t size;
@@ -605,6 +639,8 @@ int main(void) {
     versions();
     canonicals();
     short_texts();
+    last_bytes();
+    bounds();
     whole_texts();
     explanations();
     comparisons();

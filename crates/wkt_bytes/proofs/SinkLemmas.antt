@@ -1,7 +1,5 @@
 -- Steps of a loop that puts bytes out.
-use Rattle.std.proofs.Common.{◌≡◌, ℕ, zero, suc, ◌+◌, ◌-◌, List, [], ◌++◌, take, drop, length, refl, ap, sym, ◌∙◌, arith, Ok, Err, Result, OnOk, OnErr, ◌≢◌, ◌≤◌, Option, subst}
-use Rattle.std.specs.Io.KnownBytes.{Appends}
-use Rattle.wkt_bytes.specs.Sinks.{BeginningOut}
+use Rattle.std.proofs.Common.{◌≡◌, ℕ, zero, suc, ◌+◌, ◌-◌, List, [], ◌++◌, take, drop, length, refl, ap, sym, ◌∙◌, arith, Ok, Err, Result, OnErr, ◌≢◌, ◌≤◌}
 use Rattle.std.proofs.Math.Seq.{take-add}
 use Rattle.std.proofs.lemmas.List.{length-drop, take_all, append-nil, take-append-drop}
 use Rattle.wkt_bytes.specs.Sinks.{count_after_put}
@@ -16,23 +14,9 @@ pub count_kept : (E : Type 0) (f n : ℕ) (bs : List ℕ) → n ≢ 0 → count_
 count_kept E f zero bs h = absurd (h refl)
 count_kept E f (suc n) bs h = refl
 
-pub on_ok : {A E P Q : Type 0} (r : Result A E) → (P → Q) → OnOk r P → OnOk r Q
-on_ok (Ok x) f h = f h
-on_ok (Err e) f h = tt
-
-pub on_err : {A E P Q : Type 0} (r : Result A E) → (P → Q) → OnErr r P → OnErr r Q
-on_err (Ok x) f h = tt
-on_err (Err e) f h = f h
-
 pub any_err : {A E P : Type 0} (r : Result A E) → P → OnErr r P
 any_err (Ok x) h = tt
 any_err (Err e) h = h
-
-pub appends_same : (a b c d : Option (List ℕ)) (xs : List ℕ) → Appends a b xs → a ≡ c → b ≡ d → Appends c d xs
-appends_same a b c d xs h e f = subst (λ z. Appends z d xs) e (subst (λ z. Appends a z xs) f h)
-
-pub beginning_same : (a b c d : Option (List ℕ)) (xs : List ℕ) → BeginningOut a b xs → a ≡ c → b ≡ d → BeginningOut c d xs
-beginning_same a b c d xs h e f = subst (λ z. BeginningOut z d xs) e (subst (λ z. BeginningOut a z xs) f h)
 
 pub take_step : (bs : List ℕ) (at next : ℕ) → at ≤ next → take next bs ≡ take at bs ++ take (next - at) (drop at bs)
 take_step bs at next h = let e : at + (next - at) ≡ next = omega arith in ap (λ n. take n bs) (sym e) ∙ take-add at (next - at) bs

@@ -7,9 +7,9 @@ use Rattle.wkt_num.specs.Sink.{next_count}
 
 -- What is known of a sink of bytes.
 pub record SinkOfBytes (D : Type 0) : Type 1 where
-  -- What it was given and holds, where it can tell. A call that fails leaves it as it is.
+  -- What it was given and holds, where that is known. A call that fails leaves it as it is.
   pub bytes : D → Option (List ℕ)
-  -- How many calls have failed, modulo 2 ^ 64: those that answered a fault, or took nothing of something.
+  -- How many calls have failed, modulo 2 ^ 64: those that returned an error, or took nothing of something.
   pub failures : D → ℕ
   -- That a reference stays the same reference.
   pub keeps : D → D → Type 0
@@ -36,14 +36,14 @@ borrowed_sink sink = record {
   keeps_more = λ d e f h k. k ∙ h;
 }
 
--- A fault is a failure, and so is taking nothing of something.
+-- An error is a failure, and so is taking nothing of something.
 abbrev pub count_after_put : {E : Type 0} → ℕ → Result ℕ E → List ℕ → ℕ
 count_after_put n (Err e) bs = next_count n
 count_after_put n (Ok zero) [] = n
 count_after_put n (Ok zero) (b ∷ bs) = next_count n
 count_after_put n (Ok (suc k)) bs = n
 
--- A fault is a failure of a source.
+-- An error is a failure of a source.
 abbrev pub count_after_take : {E : Type 0} → ℕ → Result ℕ E → ℕ
 count_after_take n (Err e) = next_count n
 count_after_take n (Ok k) = n

@@ -1,32 +1,33 @@
--- What a wrapper holds, and what its calls do.
+-- What a wrapper holds, and what its calls do. `WriterWrapper`'s sink names the lemmas here, so they can't stand in proofs.
 use Rattle.std.specs.Prelude.{◌≡◌, ℕ, List, [], ◌++◌, Option, Some, None, Bool, true, false, take, refl}
 use Rattle.std.specs.Io.KnownBytes.{Appends}
-use Rattle.std.proofs.Common.{sym, ◌∙◌, ap, subst, append_assoc}
+use Rattle.std.proofs.Common.{◌∙◌, ap, append_assoc}
+use Rattle.std.proofs.KnownBytes.{Appends-nil, Appends-trans}
 use Rattle.std.proofs.lemmas.List.{append-nil}
 use Rattle.std.specs.declared.io.Error.{Error}
 use Rattle.wkt_num.specs.Sink.{next_count, Sink}
-use Rattle.wkt_bytes.specs.Sinks.{SinkOfBytes, BeginningOut}
+use Rattle.wkt_bytes.specs.Sinks.{SinkOfBytes}
 use Rattle.wkt_bytes.specs.declared.wrapper.State.{State}
-use Rattle.wkt_bytes.specs.declared.wrapper.State.TheVariants.{Well, Faulty, Told}
+use Rattle.wkt_bytes.specs.declared.wrapper.State.TheVariants.{Well, Faulty, Taken}
 use Rattle.wkt_bytes.specs.declared.wrapper.WriterWrapper.{WriterWrapper}
 
--- No fault has come to a wrapper in this state.
+-- No error came to a wrapper in this state.
 abbrev pub state_well : State → Bool
 state_well Well = true
 state_well (Faulty e) = false
-state_well Told = false
+state_well Taken = false
 
--- A fault has come, and was not asked for.
+-- An error came, and was not taken yet.
 abbrev pub state_untold : State → Bool
 state_untold Well = false
 state_untold (Faulty e) = true
-state_untold Told = false
+state_untold Taken = false
 
--- The error that has come, if it was not asked for.
+-- The error that came, if it was not taken yet.
 abbrev pub state_error : State → Option Error
 state_error Well = None
 state_error (Faulty e) = Some e
-state_error Told = None
+state_error Taken = None
 
 -- The writer.
 abbrev pub wrapped_writer : {W : Type 0} → WriterWrapper W → W
@@ -40,25 +41,20 @@ held_bytes w = take w.len w.held
 abbrev pub failed_calls : {W : Type 0} → WriterWrapper W → ℕ
 failed_calls w = w.failures
 
--- No fault has come.
+-- No error came.
 abbrev pub is_well : {W : Type 0} → WriterWrapper W → Bool
 is_well w = state_well w.state
 
--- A fault has come, and was not asked for.
+-- An error came, and was not taken yet.
 abbrev pub is_untold : {W : Type 0} → WriterWrapper W → Bool
 is_untold w = state_untold w.state
 
--- The error that has come, if it was not asked for.
+-- The error that came, if it was not taken yet.
 abbrev pub untold_error : {W : Type 0} → WriterWrapper W → Option Error
 untold_error w = state_error w.state
 
-pub not_well : (s : State) → (s ≡ Well → ⊥) → state_well s ≡ false
-not_well Well h = absurd (h refl)
-not_well (Faulty e) h = refl
-not_well Told h = refl
-
 module _ {W : Type 0} (sink : SinkOfBytes W) where
-  -- What s held and was handed is what went out followed by what t holds.
+  -- What s held and was given is what went out followed by what t holds.
   pub record Gathers (s : WriterWrapper W) (handed : List ℕ) (t : WriterWrapper W) : Type 0 where
     pub out : List ℕ
     pub went : Appends (sink.bytes s.writer) (sink.bytes t.writer) out
@@ -69,7 +65,7 @@ module _ {W : Type 0} (sink : SinkOfBytes W) where
     pub tied : sink.keeps s.writer t.writer
     pub still : is_well s ≡ false → t.writer ≡ s.writer
 
-  -- The writer has failed, and a beginning of what s held and was handed went out.
+  -- The writer has failed, and a beginning of what s held and was given went out.
   pub record BreaksOff (s : WriterWrapper W) (handed : List ℕ) (t : WriterWrapper W) : Type 0 where
     pub out : List ℕ
     pub lost : List ℕ
@@ -82,18 +78,8 @@ module _ {W : Type 0} (sink : SinkOfBytes W) where
     pub tied : sink.keeps s.writer t.writer
     pub still : is_well s ≡ false → t.writer ≡ s.writer
 
-pub appends_none : (a : Option (List ℕ)) → Appends a a []
-appends_none None = tt
-appends_none (Some xs) = sym (append-nil xs)
-
-pub appends_more : (a b c : Option (List ℕ)) (xs ys : List ℕ) → Appends a b xs → Appends b c ys → Appends a c (xs ++ ys)
-appends_more None b c xs ys h k = tt
-appends_more (Some as') None c xs ys h k = absurd h
-appends_more (Some as') (Some bs) None xs ys h k = absurd k
-appends_more (Some as') (Some bs) (Some cs) xs ys h k = k ∙ rw (h, append_assoc) refl
-
--- two steps, one after the other
-pub wholes : (held handed more out held' out' held'' : List ℕ) →
+-- Two steps, one after the other.
+wholes : (held handed more out held' out' held'' : List ℕ) →
     held ++ handed ≡ out ++ held' → held' ++ more ≡ out' ++ held'' →
     held ++ (handed ++ more) ≡ (out ++ out') ++ held''
 wholes held handed more out held' out' held'' h k = rw (← append_assoc, h, append_assoc, k, ← append_assoc) refl
@@ -102,7 +88,7 @@ module _ {W : Type 0} (sink : SinkOfBytes W) where
   pub gives_none : (s : WriterWrapper W) → Gathers sink s [] s
   gives_none s = record {
     out = [];
-    went = appends_none (sink.bytes s.writer);
+    went = Appends-nil (sink.bytes s.writer);
     whole = append-nil (held_bytes s);
     same = refl;
     told = refl;
@@ -114,7 +100,7 @@ module _ {W : Type 0} (sink : SinkOfBytes W) where
   pub gives_more : (s t u : WriterWrapper W) (bs cs : List ℕ) → Gathers sink s bs t → Gathers sink t cs u → Gathers sink s (bs ++ cs) u
   gives_more s t u bs cs h k = record {
     out = h.out ++ k.out;
-    went = appends_more (sink.bytes s.writer) (sink.bytes t.writer) (sink.bytes u.writer) h.out k.out h.went k.went;
+    went = Appends-trans (sink.bytes s.writer) (sink.bytes t.writer) (sink.bytes u.writer) h.out k.out h.went k.went;
     whole = wholes (held_bytes s) bs cs h.out (held_bytes t) k.out (held_bytes u) h.whole k.whole;
     same = k.same ∙ h.same;
     told = k.told ∙ h.told;
@@ -127,7 +113,7 @@ module _ {W : Type 0} (sink : SinkOfBytes W) where
   leaves_after s t u bs cs h k = record {
     out = h.out ++ k.out;
     lost = k.lost;
-    went = appends_more (sink.bytes s.writer) (sink.bytes t.writer) (sink.bytes u.writer) h.out k.out h.went k.went;
+    went = Appends-trans (sink.bytes s.writer) (sink.bytes t.writer) (sink.bytes u.writer) h.out k.out h.went k.went;
     whole = wholes (held_bytes s) bs cs h.out (held_bytes t) k.out k.lost h.whole k.whole;
     failed = k.failed;
     count = λ w. k.count (h.same ∙ w) ∙ ap next_count h.count;
@@ -151,61 +137,7 @@ module _ {W : Type 0} (sink : SinkOfBytes W) where
     still = h.still;
   }
 
-  -- a wrapper whose writer has failed takes nothing
-  pub leaves_as_is : (s : WriterWrapper W) (bs : List ℕ) → is_well s ≡ false → BreaksOff sink s bs s
-  leaves_as_is s bs h = record {
-    out = [];
-    lost = held_bytes s ++ bs;
-    went = appends_none (sink.bytes s.writer);
-    whole = refl;
-    failed = h;
-    count = λ w. cc;
-    untold = λ w. cc;
-    kept = λ _. refl;
-    tied = sink.keeps_none s.writer;
-    still = λ _. refl;
-  }
-
-  -- bytes were taken into the array alone
-  pub kept_gives : (s t : WriterWrapper W) (bs : List ℕ) → t.writer ≡ s.writer → t.state ≡ s.state → held_bytes t ≡ held_bytes s ++ bs → Gathers sink s bs t
-  kept_gives s t bs e f h = record {
-    out = [];
-    went = subst (λ (w : W). Appends (sink.bytes s.writer) (sink.bytes w) []) (sym e) (appends_none (sink.bytes s.writer));
-    whole = sym h;
-    same = ap (λ x. state_well x) f;
-    told = ap (λ x. state_untold x) f;
-    count = ap (λ w. sink.failures w) e;
-    tied = subst (λ (w : W). sink.keeps s.writer w) (sym e) (sink.keeps_none s.writer);
-    still = λ _. e;
-  }
-
-  -- from an empty array to an empty array
-  pub all_out : (s u : WriterWrapper W) (bs : List ℕ) → Gathers sink s bs u → held_bytes s ≡ [] → held_bytes u ≡ [] → Appends (sink.bytes s.writer) (sink.bytes u.writer) bs
-  all_out s u bs j e f =
-      let same : j.out ≡ bs = sym (append-nil j.out) ∙ (ap (λ xs. j.out ++ xs) (sym f) ∙ (sym j.whole ∙ ap (λ xs. xs ++ bs) e)) in
-      subst (λ xs. Appends (sink.bytes s.writer) (sink.bytes u.writer) xs) same j.went
-
-  pub all_sent : (s t u : WriterWrapper W) (bs : List ℕ) → Gathers sink s bs t → Gathers sink t [] u →
-      held_bytes s ≡ [] → held_bytes u ≡ [] → Appends (sink.bytes s.writer) (sink.bytes u.writer) bs
-  all_sent s t u bs h k e f =
-      let j = gives_more s t u bs [] h k in
-      let same : j.out ≡ bs = sym (append-nil j.out) ∙ (ap (λ xs. j.out ++ xs) (sym f) ∙ (sym j.whole ∙ rw (e, append-nil) refl)) in
-      subst (λ xs. Appends (sink.bytes s.writer) (sink.bytes u.writer) xs) same j.went
-
-  pub some_sent : (s t : WriterWrapper W) (bs : List ℕ) → BreaksOff sink s bs t → held_bytes s ≡ [] →
-      BeginningOut (sink.bytes s.writer) (sink.bytes t.writer) bs
-  some_sent s t bs h e = record {
-    out = h.out;
-    lost = h.lost;
-    went = h.went;
-    whole = sym (ap (λ xs. xs ++ bs) e) ∙ h.whole;
-  }
-
-  pub some_sent_late : (s t u : WriterWrapper W) (bs : List ℕ) → Gathers sink s bs t → BreaksOff sink t [] u →
-      held_bytes s ≡ [] → BeginningOut (sink.bytes s.writer) (sink.bytes u.writer) bs
-  some_sent_late s t u bs h k e = some_sent s u bs (rw append-nil at (leaves_after s t u bs [] h k)) e
-
--- What the calls hand the writer, through the array.
+-- What the calls write to the writer, through the array.
 abbrev pub wrapped_sink : {W : Type 0} → SinkOfBytes W → Sink (WriterWrapper W)
 wrapped_sink sink = record {
   gives = Gathers sink;

@@ -1,4 +1,4 @@
-//! The error that a wrapper met.
+//! The error of a wrapper's writer.
 ghost use Rattle.std.specs.Prelude.{◌≡◌, Some, true, false};
 ghost use Rattle.wkt_bytes.specs.Wrapper.{is_untold, untold_error, wrapped_writer, held_bytes, is_well, failed_calls};
 
@@ -6,7 +6,7 @@ use crate::sinks::ByteSink;
 use crate::wrapper::WriterWrapper;
 use std::io;
 
-/// The error that a wrapper met, of which nobody was told yet.
+/// Takes the error that came to a wrapper and was not taken yet.
 pub fn error_of<W: ByteSink>(wrapper: &mut WriterWrapper<W>) -> io::Error
     requires { is_untold wrapper.old ≡ true }
     ensures gives { Some result ≡ untold_error wrapper.old }
@@ -16,8 +16,5 @@ pub fn error_of<W: ByteSink>(wrapper: &mut WriterWrapper<W>) -> io::Error
     ensures held { held_bytes wrapper.new ≡ held_bytes wrapper.old }
     ensures count { failed_calls wrapper.new ≡ failed_calls wrapper.old }
 {
-    match wrapper.take_fault() {
-        Some(e) => e,
-        None => unreachable!(),
-    }
+    wrapper.take_fault().unwrap()
 }

@@ -9,18 +9,18 @@ use std::io::{Read, Write};
 
 /// Where bytes go: one call of `put` is one call of a writer.
 ///
-/// [`Counted`] is one over any `io::Write`. One of one's own says by `put` how many bytes were taken:
+/// [`Counted`] is one over any `io::Write`. A custom sink returns from `put` how many bytes were taken:
 ///
 /// ```text
 /// impl ByteSink for Page {
 ///     fn put(&mut self, buf: &[u8]) -> io::Result<usize> {
 /// ```
 pub trait ByteSink {
-    /// What it holds, where it can tell, how many calls have failed, and that a reference stays the
+    /// What it holds, where that is known, how many calls have failed, and that a reference stays the
     /// same reference.
     ghost sink: { SinkOfBytes Self };
 
-    /// Takes some of the bytes from the front, and answers how many.
+    /// Takes some of the bytes from the front, and returns how many.
     ///
     /// # Errors
     /// The sink's error.
@@ -33,13 +33,13 @@ pub trait ByteSink {
 
 /// Where bytes come from: one call of `take` is one call of a reader.
 pub trait ByteSource {
-    /// What is left, where it can tell. Zero bytes come to a buffer with room only where none is left.
+    /// What is left, where that is known. Zero bytes come to a buffer with room only where none is left.
     ghost left: { Self → Option (List ℕ) };
 
     /// How many calls have failed, modulo 2 ^ 64.
     ghost failures: { Self → ℕ };
 
-    /// Gives the next bytes at the front of `buf`, and answers how many.
+    /// Writes the next bytes to the front of `buf`, and returns how many.
     ///
     /// # Errors
     /// The source's error.
@@ -76,7 +76,7 @@ impl<D> Counted<D> {
         Counted { inner, count: 0 }
     }
 
-    /// Gives the writer or reader back.
+    /// Returns the writer or reader.
     pub fn into_inner(self) -> D
         ensures { result ≡ inner_of self }
     {

@@ -14,15 +14,15 @@ use wkt_num::TextSink;
 enum State {
     Well,
     Faulty(io::Error),
-    Told,
+    Taken,
 }
 
 /// Text to a byte sink: a [`TextSink`] that gathers what it is given in an array of 256 bytes, and
 /// puts the array out as soon as it is full and in [`finish`](WriterWrapper::finish).
 ///
 /// It calls `put` until all bytes are out. A count of zero is the error `WriteZero`. Nothing is tried
-/// again, `Interrupted` neither. After an error every later write and `finish` answer `fmt::Error`
-/// and hand nothing to the writer; [`take_fault`](WriterWrapper::take_fault) gives the error.
+/// again, `Interrupted` neither. After an error every later write and `finish` return `fmt::Error`
+/// and write nothing; [`take_fault`](WriterWrapper::take_fault) returns the error.
 #[derive(Drop)]
 pub struct WriterWrapper<W> {
     writer: W,
@@ -112,7 +112,7 @@ impl<W: ByteSink> WriterWrapper<W> {
         }
     }
 
-    /// Gives the writer back. What is held still is lost.
+    /// Returns the writer. What is held still is lost.
     pub fn into_writer(self) -> W
         ensures { result ≡ wrapped_writer self }
     {
@@ -243,7 +243,7 @@ impl<W: ByteSink> WriterWrapper<W> {
         self.empty()
     }
 
-    /// The error that came, the first time that it is asked for; else None.
+    /// Takes the error that came. Returns None where none came, and at each later call.
     pub fn take_fault(&mut self) -> Option<io::Error>
         ensures gives { result ≡ untold_error self.old }
         ensures told { is_untold self.new ≡ false }
@@ -253,15 +253,15 @@ impl<W: ByteSink> WriterWrapper<W> {
         ensures count { failed_calls self.new ≡ failed_calls self.old }
     {
         match self.state {
-            State::Well | State::Told => None,
-            State::Faulty(_) => match std::mem::replace(&mut self.state, State::Told) {
+            State::Well | State::Taken => None,
+            State::Faulty(_) => match std::mem::replace(&mut self.state, State::Taken) {
                 State::Faulty(e) => Some(e),
                 _ => None,
             },
         }
     }
 
-    /// The same, under the name that it had before.
+    /// Does what [`take_fault`](WriterWrapper::take_fault) does; its former name.
     pub fn take_error(&mut self) -> Option<io::Error>
         ensures gives { result ≡ untold_error self.old }
         ensures told { is_untold self.new ≡ false }

@@ -1,5 +1,5 @@
 -- What a call for a canonical text answers, of what was written and handed out.
-use Rattle.std.proofs.Common.{◌≡◌, ◌≢◌, ◌≤◌, ◌⊎◌, inl, inr, ℕ, List, Option, refl, sym, ◌∙◌, arith, drop, true}
+use Rattle.std.proofs.Common.{◌≡◌, ◌≢◌, ◌≤◌, ◌+◌, ◌*◌, ◌⊎◌, inl, inr, ℕ, List, Option, refl, sym, ◌∙◌, arith, drop, length, true}
 use Rattle.wkt_num.specs.Bytes.{AllWhite}
 use Rattle.wkt_c.specs.Answer.{read_at, print_at, places_in, asks_whole, EndsAsAsked, IsCanonical, Refuses, IsHandedOut, HasNoRoom}
 use Rattle.wkt_c.specs.Calls.{AnswersCanonical}
@@ -24,20 +24,22 @@ module _ (asked : ℕ) (text : List ℕ) (status : ℕ) where
         more = λ e. absurd (m e);
         others = λ _ _ _. r;
         kept = λ _. refl;
+        bound = λ e. absurd (elim e [ inl z ↦ omega (arith, z, r.some) | inr k ↦ n k ]);
         needed_kept = λ _ _. refl;
         end_kept = λ _ _ _. refl;
       }
 
   pub handed-call : (answer out out' : List ℕ) (needed needed' end end' : ℕ) → IsCanonical (read_at (places_in asked)) (print_at (places_in asked)) text answer end' →
-      (status ≢ 30 → EndsAsAsked (asks_whole asked) text end') → (status ≡ 0 → IsHandedOut answer needed' out out') → (status ≡ 21 → HasNoRoom answer needed' out) →
+      length answer ≤ 2 * length text + 65 → (status ≢ 30 → EndsAsAsked (asks_whole asked) text end') → (status ≡ 0 → IsHandedOut answer needed' out out') → (status ≡ 21 → HasNoRoom answer needed' out) →
       (status ≡ 30 → (asks_whole asked ≡ true) × (AllWhite (drop end' text) → ⊥)) → (1 ≤ status → out' ≡ out) → (status ≡ 30 → needed' ≡ needed) →
       (status ≡ 0) ⊎ ((status ≡ 21) ⊎ (status ≡ 30)) → AnswersCanonical asked text status out out' needed needed' end end'
-  handed-call answer out out' needed needed' end end' is ends stands lacks more kept told three = record {
+  handed-call answer out out' needed needed' end end' is short ends stands lacks more kept told three = record {
     written = λ e. (answer, is, ends (λ n. omega (arith, e, n)), stands e);
     small = λ e. (answer, is, ends (λ n. omega (arith, e, n)), lacks e);
     more = λ e. let h = more e in record { asked = h.0; utf8 = is.utf8; value = is.value; front = is.front; more = h.1 };
     others = λ some n m. absurd (elim three [ inl z ↦ omega (arith, z, some) | inr k ↦ elim k [ inl a ↦ n a | inr b ↦ m b ] ]);
     kept = kept;
+    bound = λ e. elim e [ inl z ↦ omega (arith, (stands z).size, short) | inr k ↦ omega (arith, (lacks k).size, short) ];
     needed_kept = λ some n. elim three [ inl z ↦ absurd (omega (arith, z, some)) | inr k ↦ elim k [ inl a ↦ absurd (n a) | inr b ↦ told b ] ];
     end_kept = λ some n m. absurd (elim three [ inl z ↦ omega (arith, z, some) | inr k ↦ elim k [ inl a ↦ n a | inr b ↦ m b ] ]);
   }

@@ -1,26 +1,27 @@
 -- The arrays of what was filled, or why there are none.
-use Rattle.std.proofs.Common.{◌≡◌, ◌≢◌, inl, inr, sym, ap, ◌∙◌, subst, arith, ℕ, ℤ, List, Option}
+use Rattle.std.proofs.Common.{◌≡◌, ◌≢◌, inl, inr, refl, sym, ap, ◌∙◌, subst, arith, ℕ, ℤ, List, Option}
 use Rattle.std.specs.Prelude.{IsUtf8}
 use Rattle.wkt_num.specs.Decimal.{read_decimal}
 use Rattle.wkt_access.specs.Values.{Value}
 use Rattle.wkt_read.specs.Front.{Front}
 use Rattle.wkt_read.specs.Kinds.{kind_of, dim_of}
 use Rattle.wkt_fill.specs.Arrays.{IsUnheld}
+use Rattle.wkt_fill.specs.Filled.{view}
 use Rattle.wkt_fill.specs.Fronts.{FillsFront, HoldsAll}
 use Rattle.wkt_fill.specs.declared.filler.Filler.{Filler}
 use Rattle.wkt_c.specs.Answer.{Refuses, kind_number, dimension_number, read_at}
 use Rattle.wkt_c.proofs.Handing.{out_of_memory}
 use Rattle.wkt_c.specs.Arrays.{AreOf, IsNotFlat, IsNoArrays}
 
-module _ (places : ℕ) (whole text : List ℕ) (same : whole ≡ text) (f : Filler) (end : ℕ) (h : FillsFront places whole f end) where
+module _ (places : ℕ) (text : List ℕ) (f : Filler) (end : ℕ) (h : FillsFront places text f end) where
   -- the arrays of the front
-  pub arrays-of : IsUtf8 text → f.status ≡ 0 → (k d : ℕ) → k ≡ kind_number f.kind → d ≡ dimension_number f.dimension → AreOf places text end k d f.numbers.items f.rings.items f.polygons.items
+  pub arrays-of : IsUtf8 text → f.status ≡ 0 → (k d : ℕ) → k ≡ kind_number f.kind → d ≡ dimension_number f.dimension → AreOf places text end k d (view f).flat.numbers (view f).flat.rings (view f).flat.polygons
   arrays-of utf8 z k d is at =
       let all : HoldsAll f h.value = h.holds z in
       record {
         utf8 = utf8;
         value = h.value;
-        front = subst (λ t. Front (read_at places) t h.value end) same h.front;
+        front = h.front;
         fits = h.fits;
         arrays = record {
           parts = all.parts;
@@ -37,5 +38,16 @@ module _ (places : ℕ) (whole text : List ℕ) (same : whole ≡ text) (f : Fil
   pub no-arrays : f.status ≢ 0 → IsNotFlat places text f.status
   no-arrays n = elim (h.unheld n) [
     | inl m ↦ inr (inr (out_of_memory (read_at places) text f.status m))
-    | inr k ↦ inr (inl (record { value = h.value; end = end; front = subst (λ t. Front (read_at places) t h.value end) same h.front; why = k }))
+    | inr k ↦ inr (inl (record { value = h.value; end = end; front = h.front; why = k }))
   ]
+
+-- The text isn't UTF-8.
+pub not-text : {N : Type 0} (read : List ℕ → Option N) (text : List ℕ) → (IsUtf8 text → ⊥) → Refuses read text 20
+not-text read text n = record {
+  no_front = λ _ h. absurd (omega (arith, h));
+  message = λ _ h. absurd (omega (arith, h));
+  bad = λ h. absurd (omega (arith, h));
+  not_utf8 = λ _. n;
+  others = inr (inl refl);
+  some = omega arith;
+}

@@ -5,7 +5,6 @@ pub mod PartsOf
 pub mod Rebuilt
 pub mod Steps
 pub mod Handing
-pub mod Answering
 pub mod Columns
 pub mod ArrayColumns
 pub mod TextColumns
@@ -15,3 +14,6 @@ pub mod Pieces
 pub mod Calls
 pub mod Blames
 pub mod Blanks
+pub mod Padded
+pub mod AsciiWindows
+pub mod Copied

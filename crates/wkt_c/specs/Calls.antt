@@ -1,7 +1,19 @@
 -- What the calls for canonical texts answer. Only private contracts cite these words.
-use Rattle.std.specs.Prelude.{◌≡◌, ◌≢◌, ◌≤◌, ℕ, List}
+use Rattle.std.specs.Prelude.{◌≡◌, ◌≢◌, ◌≤◌, ◌+◌, ◌*◌, ◌++◌, ◌⊎◌, ℕ, List, ◌∷◌, length, Option, Some, None}
+use Rattle.wkt_read.specs.Front.{HasNoFront}
+use Rattle.wkt_events.specs.Canonical.{HasWritten}
 use Rattle.wkt_c.specs.Answer.{read_at, print_at, places_in, asks_whole, EndsAsAsked, IsCanonical, HasMore, Compares, Refuses, IsHandedOut, HasNoRoom}
 use Rattle.wkt_c.specs.declared.canonical.Compared.{Compared}
+
+-- The bytes are the text, or the text, a NUL and more.
+abbrev pub IsWalkedFor : List ℕ → List ℕ → Type 0
+IsWalkedFor text walked = (walked ≡ text) ⊎ ((more : List ℕ) × (walked ≡ text ++ (0 ∷ more)))
+
+module _ {N : Type 0} (read : List ℕ → Option N) (num : N → List ℕ) where
+  -- The canonical text of the text's front stands at the front of a room, which has more; or the text has no front.
+  abbrev pub WritesIfAny : List ℕ → List ℕ → List ℕ → Option (ℕ × ℕ) → Type 0
+  WritesIfAny text old new (Some p) = HasWritten read num text 0 old new p.0 p.1 × (p.1 + 64 ≤ length old)
+  WritesIfAny text old new None = HasNoFront read text
 
 -- By its status, what a call says of a text, and what it has written then.
 pub record AnswersCanonical (asked : ℕ) (text : List ℕ) (status : ℕ) (out out' : List ℕ) (needed needed' end end' : ℕ) : Type 0 where
@@ -12,6 +24,7 @@ pub record AnswersCanonical (asked : ℕ) (text : List ℕ) (status : ℕ) (out 
   pub more : status ≡ 30 → HasMore (read_at (places_in asked)) (asks_whole asked) text end'
   pub others : 1 ≤ status → status ≢ 21 → status ≢ 30 → Refuses (read_at (places_in asked)) text status
   pub kept : 1 ≤ status → out' ≡ out
+  pub bound : (status ≡ 0) ⊎ (status ≡ 21) → needed' ≤ 2 * length text + 65
   pub needed_kept : 1 ≤ status → status ≢ 21 → needed' ≡ needed
   pub end_kept : 1 ≤ status → status ≢ 21 → status ≢ 30 → end' ≡ end
 

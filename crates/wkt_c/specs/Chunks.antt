@@ -1,5 +1,5 @@
 -- The answers to some lines at the front of an input.
-use Rattle.std.specs.Prelude.{◌≡◌, ◌<◌, ◌≤◌, ◌⊎◌, ℕ, zero, suc, List, Option, Bool, true, false, length, take}
+use Rattle.std.specs.Prelude.{◌≡◌, ◌+◌, ◌<◌, ◌≤◌, ◌⊎◌, ℕ, zero, suc, List, Option, Bool, true, false, length, take}
 use Rattle.wkt_lines.specs.Laws.{IsWhole}
 use Rattle.wkt_lines.specs.Output.{IsOutput}
 use Rattle.wkt_lines.specs.Splitting.{before_feed}
@@ -7,6 +7,11 @@ use Rattle.wkt_lines.specs.Splitting.{before_feed}
 -- So many bytes at the front are whole lines, or all of the input, where it ends here.
 abbrev pub AreWholeLines : Bool → List ℕ → ℕ → Type 0
 AreWholeLines last input n = IsWhole (take n input) ⊎ ((last ≡ true) × (n ≡ length input))
+
+-- So many bytes are the first line with its feed, or all of the input, where that ends here and has no feed.
+abbrev pub IsFirstLine : Bool → List ℕ → ℕ → Type 0
+IsFirstLine last input n =
+    ((n ≡ length (before_feed input) + 1) × (n ≤ length input)) ⊎ ((last ≡ true) × (n ≡ length input) × (before_feed input ≡ input))
 
 module _ {N : Type 0} (read : List ℕ → Option N) (num : N → List ℕ) where
   -- So many bytes of the input are taken, and the first `written` bytes of the buffer are the answers to them. None is taken only where there is no whole line.
@@ -17,16 +22,15 @@ module _ {N : Type 0} (read : List ℕ → Option N) (num : N → List ℕ) wher
     pub answers : IsOutput read num (take taken input) (take written out)
     pub some : taken ≡ 0 → (length input ≡ 0) ⊎ ((last ≡ false) × (before_feed input ≡ input))
 
-  -- The answers to some first lines have no room in the buffer.
+  -- The answer to the first line has no room in the buffer.
   pub record LacksRoom (last : Bool) (input out : List ℕ) : Type 0 where
     pub taken : ℕ
-    pub within : taken ≤ length input
-    pub lines : AreWholeLines last input taken
+    pub line : IsFirstLine last input taken
     pub answers : List ℕ
     pub are : IsOutput read num (take taken input) answers
     pub small : length out < length answers
 
-  -- Memory ran out, or not even the first lines' answers have room.
+  -- Memory ran out, or the answer to the first line has no room.
   abbrev pub AnswersNone : Bool → List ℕ → List ℕ → ℕ → Type 0
   AnswersNone last input out status = (status ≡ 22) ⊎ ((status ≡ 21) × LacksRoom last input out)
 

@@ -14,3 +14,4 @@ pub mod Rebuilding
 pub mod Calls
 pub mod Explained
 pub mod Chunks
+pub mod ArraysCall

@@ -1,78 +1,112 @@
 //! The one text of what a text begins with, and texts compared by it.
-ghost use Rattle.std.specs.Prelude.{◌≡◌, ◌≢◌, ◌+◌, ◌*◌, ◌≤◌, ◌<◌, ◌↔◌, ◌⊎◌, IsTrue, MatchResult, IfOk, IfSome, IsUtf8, true, take, drop, length, vec_len};
+ghost use Rattle.std.specs.Prelude.{◌≡◌, ◌≢◌, ◌+◌, ◌*◌, ◌≤◌, ◌↔◌, ◌⊎◌, ℕ, IsTrue, MatchResult, IfOk, IsUtf8, true, take, drop, length, vec_len, slice_index};
+ghost use Rattle.std.specs.Str.{IsAscii};
 ghost use Rattle.wkt_num.specs.Bytes.{AllWhite};
 ghost use Rattle.wkt_num.specs.Decimal.{IsUnits};
-ghost use Rattle.wkt_c.specs.Calls.{AnswersCanonical, AreCompared};
-ghost use Rattle.wkt_read.specs.Front.{HasNoFront};
+ghost use Rattle.wkt_c.specs.Calls.{AnswersCanonical, AreCompared, IsWalkedFor, WritesIfAny};
 ghost use Rattle.wkt_read.specs.Laws.{FrontIsWritable, OneText};
-ghost use Rattle.wkt_events.specs.Canonical.{WritesCanonical, LeavesRoom};
-ghost use Rattle.wkt_c.specs.Answer.{read_at, print_at, places_in, asks_whole, EndsAsAsked, IsCanonical, HasMore, Compares, Refuses, RefusesOne, IsHandedOut, HasNoRoom};
+ghost use Rattle.wkt_c.specs.Answer.{read_at, print_at, places_in, asks_whole, EndsAsAsked, IsCanonical, Compares, Refuses, RefusesOne, IsHandedOut, HasNoRoom};
 
 use crate::asked::{ends_as_asked, places_of};
 use crate::fill::hand_out;
 use crate::refusal::refusal_at;
 use crate::room::{make_room, no_room};
-use crate::status::{DONE, MEMORY, NOT_TEXT, NOT_WHOLE, SMALL};
+use crate::status::{DONE, NOT_TEXT, NOT_WHOLE, SMALL};
 use std::alloc::Global;
+use std::simd::prelude::*;
+use wkt_events::laws::texts_are_short;
 use wkt_events::{NoRoom, write_canonical};
 use wkt_num::Decimal;
 use wkt_read::laws::{front_is_writable, one_text};
 
 /// How long a text may be that is answered with no memory.
 const SHORT: usize = 200;
-/// The room for the answer to such a text.
-const ROOM: usize = 512;
+/// The same with the least room, which is cleared for each call.
+const SHORTEST: usize = 32;
+/// How many zeros stand behind a short text: what the walk looks at together.
+const BEHIND: usize = 32;
 
-/// Writes the one text of what a text begins with to the front of the room, with decimals of so many places.
-fn write_at(text: &str, places: u32, room: &mut [u8]) -> Result<Option<(usize, usize)>, NoRoom>
+/// Writes the canonical text of what a text begins with to the front of the room; `None` where it begins with none.
+fn write<const D: u32>(text: &str, room: &mut [u8]) -> Option<(usize, usize)>
+    requires room { 2 * length text.now + 65 ≤ length room.old }
+    ensures writes { WritesIfAny (read_at D) (print_at D) text.now room.old room.new result }
+    ensures whole { length room.new ≡ length room.old }
+{
+    match write_canonical::<Decimal<D>>(text, room, 0) {
+        Ok(Some((end, n))) => Some((end, n)),
+        Ok(None) => None,
+        Err(NoRoom) => {
+            // No effect at run time. The proof reads that decimals have no such texts.
+            texts_are_short();
+            unreachable!()
+        }
+    }
+}
+
+/// The same, with decimals of so many places.
+fn write_at(text: &str, places: u32, room: &mut [u8]) -> Option<(usize, usize)>
     requires places { places ≤ 18 }
     requires room { 2 * length text.now + 65 ≤ length room.old }
-    ensures writes { WritesCanonical (read_at places) (print_at places) text.now 0 room.old room.new result }
-    ensures within { LeavesRoom room.old result }
+    ensures writes { WritesIfAny (read_at places) (print_at places) text.now room.old room.new result }
     ensures whole { length room.new ≡ length room.old }
 {
     match places {
-        0 => write_canonical::<Decimal<0>>(text, room, 0),
-        1 => write_canonical::<Decimal<1>>(text, room, 0),
-        2 => write_canonical::<Decimal<2>>(text, room, 0),
-        3 => write_canonical::<Decimal<3>>(text, room, 0),
-        4 => write_canonical::<Decimal<4>>(text, room, 0),
-        5 => write_canonical::<Decimal<5>>(text, room, 0),
-        6 => write_canonical::<Decimal<6>>(text, room, 0),
-        7 => write_canonical::<Decimal<7>>(text, room, 0),
-        8 => write_canonical::<Decimal<8>>(text, room, 0),
-        9 => write_canonical::<Decimal<9>>(text, room, 0),
-        10 => write_canonical::<Decimal<10>>(text, room, 0),
-        11 => write_canonical::<Decimal<11>>(text, room, 0),
-        12 => write_canonical::<Decimal<12>>(text, room, 0),
-        13 => write_canonical::<Decimal<13>>(text, room, 0),
-        14 => write_canonical::<Decimal<14>>(text, room, 0),
-        15 => write_canonical::<Decimal<15>>(text, room, 0),
-        16 => write_canonical::<Decimal<16>>(text, room, 0),
-        17 => write_canonical::<Decimal<17>>(text, room, 0),
-        18 => write_canonical::<Decimal<18>>(text, room, 0),
+        0 => write::<0>(text, room),
+        1 => write::<1>(text, room),
+        2 => write::<2>(text, room),
+        3 => write::<3>(text, room),
+        4 => write::<4>(text, room),
+        5 => write::<5>(text, room),
+        6 => write::<6>(text, room),
+        7 => write::<7>(text, room),
+        8 => write::<8>(text, room),
+        9 => write::<9>(text, room),
+        10 => write::<10>(text, room),
+        11 => write::<11>(text, room),
+        12 => write::<12>(text, room),
+        13 => write::<13>(text, room),
+        14 => write::<14>(text, room),
+        15 => write::<15>(text, room),
+        16 => write::<16>(text, room),
+        17 => write::<17>(text, room),
+        18 => write::<18>(text, room),
         _ => unreachable!(),
     }
 }
 
-/// Writes the one text of what a text begins with to the front of the room, and tells where that ends, and how long its
-/// text is. `None`: the text of a number had no room.
-fn write_in(text: &str, asked: u32, room: &mut [u8]) -> Result<Option<(usize, usize)>, u32>
+/// Writes the canonical text of what a text begins with to the front of the room, and returns where that ends, and how
+/// long the canonical text is. `walked` is the text, or the text and what stands behind a NUL.
+fn write_in(text: &str, walked: &str, asked: u32, room: &mut [u8]) -> Result<(usize, usize), u32>
+    requires places { places_in asked ≤ 18 }
+    requires room { 2 * length walked.now + 65 ≤ length room.old }
+    requires utf8 { IsUtf8 text.now }
+    requires walked { IsWalkedFor text.now walked.now }
+    ensures canonical { MatchResult result
+        (λ r. IsCanonical (read_at (places_in asked)) (print_at (places_in asked)) text.now (take r.1 room.new) r.0)
+        (Refuses (read_at (places_in asked)) text.now) }
+    ensures within { IfOk result (λ r. r.1 + 64 ≤ length room.new) }
+    ensures whole { length room.new ≡ length room.old }
+{
+    let places = places_of(asked);
+    match write_at(walked, places, room) {
+        Some((end, n)) => Ok((end, n)),
+        None => Err(refusal_at(text, places)),
+    }
+}
+
+/// The same in a room of which no more is used than the text needs.
+fn write_within(text: &str, asked: u32, room: &mut [u8]) -> Result<(usize, usize), u32>
     requires places { places_in asked ≤ 18 }
     requires room { 2 * length text.now + 65 ≤ length room.old }
     requires utf8 { IsUtf8 text.now }
     ensures canonical { MatchResult result
-        (λ o. IfSome o (λ r. IsCanonical (read_at (places_in asked)) (print_at (places_in asked)) text.now (take r.1 room.new) r.0))
+        (λ r. IsCanonical (read_at (places_in asked)) (print_at (places_in asked)) text.now (take r.1 room.new) r.0)
         (Refuses (read_at (places_in asked)) text.now) }
-    ensures within { IfOk result (λ o. IfSome o (λ r. r.1 ≤ length room.new)) }
+    ensures within { IfOk result (λ r. r.1 ≤ length room.new) }
+    ensures bound { IfOk result (λ r. r.1 ≤ 2 * length text.now + 1) }
     ensures whole { length room.new ≡ length room.old }
 {
-    let places = places_of(asked);
-    match write_at(text, places, room) {
-        Ok(Some((end, n))) => Ok(Some((end, n))),
-        Ok(None) => Err(refusal_at(text, places)),
-        Err(NoRoom) => Ok(None),
-    }
+    write_in(text, text, asked, &mut room[..2 * text.len() + 65])
 }
 
 /// The same in a room that grows.
@@ -83,25 +117,62 @@ pub(crate) fn write_long(text: &str, asked: u32, room: &mut Vec<u8>) -> Result<(
         (λ r. IsCanonical (read_at (places_in asked)) (print_at (places_in asked)) text.now (take r.1 room.new.items) r.0)
         (Refuses (read_at (places_in asked)) text.now) }
     ensures within { IfOk result (λ r. r.1 ≤ vec_len room.new) }
+    ensures bound { IfOk result (λ r. r.1 ≤ 2 * length text.now + 1) }
 {
-    let mut likely = text.len();
-    // The text of a number may be so long that twice the text is no room for it.
-    for _turn in 0..64 {
-        match make_room(room, likely) {
-            Ok(()) => {}
-            Err(status) => return Err(status),
-        }
-        match write_in(text, asked, room.as_mut_slice()) {
-            Ok(Some((end, n))) => return Ok((end, n)),
-            Ok(None) => {}
-            Err(status) => return Err(status),
-        }
-        let Some(more) = likely.checked_mul(2) else {
-            return Err(MEMORY);
-        };
-        likely = more;
+    match make_room(room, text.len()) {
+        Ok(()) => {}
+        Err(status) => return Err(status),
     }
-    Err(MEMORY)
+    write_within(text, asked, room.as_mut_slice())
+}
+
+/// Whether each byte is of ASCII.
+fn is_ascii(bytes: &[u8]) -> bool
+    ensures { result ≡ true → IsAscii bytes.now }
+{
+    let mut at = 0;
+    'wide: while bytes.len() - at >= 32 {
+        let window = u8x32::from_slice(&bytes[at..]);
+        let high = window.simd_gt(u8x32::splat(127)).to_bitmask();
+        if high != 0 {
+            return false;
+        }
+        at += 32;
+    }
+    at == bytes.len()
+}
+
+/// Writes the canonical text of what a short text begins with. The text is copied before zeros first, so that the walk
+/// sees 32 bytes at once up to its end.
+fn write_short(
+    text: &[u8],
+    asked: u32,
+    near: &mut [u8],
+    room: &mut [u8],
+) -> Result<(usize, usize), u32>
+    requires places { places_in asked ≤ 18 }
+    requires near { length text.now + 32 ≤ length near.old }
+    requires zeros { (i : ℕ) → slice_index near.old i ≡ 0 }
+    requires room { 2 * length text.now + 129 ≤ length room.old }
+    ensures canonical { MatchResult result
+        (λ r. IsCanonical (read_at (places_in asked)) (print_at (places_in asked)) text.now (take r.1 room.new) r.0)
+        (Refuses (read_at (places_in asked)) text.now) }
+    ensures within { IfOk result (λ r. r.1 ≤ length room.new) }
+    ensures bound { IfOk result (λ r. r.1 ≤ 2 * length text.now + 65) }
+    ensures whole { length room.new ≡ length room.old }
+{
+    let n = text.len();
+    near[..n].copy_from_slice(text);
+    let text = if is_ascii(near) {
+        unsafe { str::from_utf8_unchecked(text) }
+    } else {
+        match str::from_utf8(text) {
+            Ok(text) => text,
+            Err(_) => return Err(NOT_TEXT),
+        }
+    };
+    let walked = unsafe { str::from_utf8_unchecked(&near[..n + BEHIND]) };
+    write_in(text, walked, asked, &mut room[..2 * n + 129])
 }
 
 /// Hands out an answer to a text whose geometry ends there, if that is as asked for and there is room for it.
@@ -128,7 +199,7 @@ fn hand_out_front(
     hand_out(answer, out, needed)
 }
 
-/// Answers a text with the one text of what it begins with.
+/// Answers a text with the canonical text of what it begins with.
 pub(crate) fn canonical(
     alloc: Global,
     text: &[u8],
@@ -140,36 +211,45 @@ pub(crate) fn canonical(
     requires { places_in asked ≤ 18 }
     ensures { AnswersCanonical asked text.now result out.old out.new needed.old needed.new end.old end.new }
 {
+    if text.len() <= SHORTEST {
+        let mut near = [0u8; 64];
+        let mut room = [0u8; 208];
+        return canonical_short(text, asked, &mut near, &mut room, out, needed, end);
+    }
+    if text.len() <= SHORT {
+        let mut near = [0u8; 256];
+        let mut room = [0u8; 544];
+        return canonical_short(text, asked, &mut near, &mut room, out, needed, end);
+    }
     match str::from_utf8(text) {
-        Ok(text) => canonical_text(alloc, text, asked, out, needed, end),
+        Ok(text) => canonical_long(alloc, text, asked, out, needed, end),
         Err(_) => NOT_TEXT,
     }
 }
 
-fn canonical_text(
-    alloc: Global,
-    text: &str,
+/// The same of a short text, with cleared bytes for it and room for the answer.
+fn canonical_short(
+    text: &[u8],
     asked: u32,
+    near: &mut [u8],
+    room: &mut [u8],
     out: &mut [u8],
     needed: &mut usize,
     end: &mut usize,
 ) -> u32
     requires places { places_in asked ≤ 18 }
-    requires utf8 { IsUtf8 text.now }
+    requires near { length text.now + 32 ≤ length near.old }
+    requires zeros { (i : ℕ) → slice_index near.old i ≡ 0 }
+    requires room { 2 * length text.now + 129 ≤ length room.old }
     ensures { AnswersCanonical asked text.now result out.old out.new needed.old needed.new end.old end.new }
 {
-    if text.len() <= SHORT {
-        let mut room = [0u8; ROOM];
-        match write_in(text, asked, &mut room) {
-            Ok(Some((at, n))) => {
-                *end = at;
-                return hand_out_front(text.as_bytes(), at, asked, &room[..n], out, needed);
-            }
-            Ok(None) => {}
-            Err(status) => return status,
+    match write_short(text, asked, near, room) {
+        Ok((at, n)) => {
+            *end = at;
+            hand_out_front(text, at, asked, &room[..n], out, needed)
         }
+        Err(status) => status,
     }
-    canonical_long(alloc, text, asked, out, needed, end)
 }
 
 /// The same of a text that isn't short.
@@ -245,10 +325,10 @@ fn is_one(one: &[u8], other: &[u8]) -> bool
 
 /// Whether two texts are of one geometry, by their canonical texts.
 fn judge(
-    one: &str,
+    one: &[u8],
     first: &[u8],
     end: usize,
-    other: &str,
+    other: &[u8],
     second: &[u8],
     other_end: usize,
     asked: u32,
@@ -263,7 +343,7 @@ fn judge(
     is_one(first, second)
 }
 
-/// What is told of two texts: whether they begin with one geometry, and where each ends.
+/// What a comparison returns of two texts: whether they begin with one geometry, and where each ends.
 #[derive(Clone, Copy)]
 pub(crate) struct Compared {
     pub(crate) same: bool,
@@ -271,37 +351,31 @@ pub(crate) struct Compared {
     pub(crate) other_end: usize,
 }
 
-/// Whether two short texts begin with one geometry. `None`: the text of a number had no room.
-fn same_short(one: &str, other: &str, asked: u32) -> Result<Option<Compared>, u32>
+/// Whether two short texts begin with one geometry.
+fn same_short(one: &[u8], other: &[u8], asked: u32) -> Result<Compared, u32>
     requires places { places_in asked ≤ 18 }
-    requires utf8 { IsUtf8 one.now }
-    requires other_utf8 { IsUtf8 other.now }
     requires short { length one.now ≤ SHORT }
     requires other_short { length other.now ≤ SHORT }
-    ensures { MatchResult result (λ o. IfSome o (AreCompared asked one.now other.now)) (RefusesOne (read_at (places_in asked)) one.now other.now) }
+    ensures { MatchResult result (AreCompared asked one.now other.now) (RefusesOne (read_at (places_in asked)) one.now other.now) }
 {
-    let mut first = [0u8; ROOM];
-    let mut second = [0u8; ROOM];
-    let written = match write_in(one, asked, &mut first) {
+    let mut near = [0u8; 256];
+    let mut first = [0u8; 544];
+    let (end, n) = match write_short(one, asked, &mut near, &mut first) {
         Ok(written) => written,
         Err(status) => return Err(status),
     };
-    let other_written = match write_in(other, asked, &mut second) {
+    let mut other_near = [0u8; 256];
+    let mut second = [0u8; 544];
+    let (other_end, m) = match write_short(other, asked, &mut other_near, &mut second) {
         Ok(written) => written,
         Err(status) => return Err(status),
-    };
-    let Some((end, n)) = written else {
-        return Ok(None);
-    };
-    let Some((other_end, m)) = other_written else {
-        return Ok(None);
     };
     let same = judge(one, &first[..n], end, other, &second[..m], other_end, asked);
-    Ok(Some(Compared {
+    Ok(Compared {
         same,
         end,
         other_end,
-    }))
+    })
 }
 
 /// Whether two texts begin with one geometry.
@@ -322,7 +396,15 @@ fn same_long(alloc: Global, one: &str, other: &str, asked: u32) -> Result<Compar
         Ok(written) => written,
         Err(status) => return Err(status),
     };
-    let same = judge(one, &first[..n], end, other, &second[..m], other_end, asked);
+    let same = judge(
+        one.as_bytes(),
+        &first[..n],
+        end,
+        other.as_bytes(),
+        &second[..m],
+        other_end,
+        asked,
+    );
     Ok(Compared {
         same,
         end,
@@ -335,18 +417,14 @@ pub(crate) fn same(alloc: Global, one: &[u8], other: &[u8], asked: u32) -> Resul
     requires places { places_in asked ≤ 18 }
     ensures { MatchResult result (AreCompared asked one.now other.now) (RefusesOne (read_at (places_in asked)) one.now other.now) }
 {
+    if one.len() <= SHORT && other.len() <= SHORT {
+        return same_short(one, other, asked);
+    }
     let Ok(one) = str::from_utf8(one) else {
         return Err(NOT_TEXT);
     };
     let Ok(other) = str::from_utf8(other) else {
         return Err(NOT_TEXT);
     };
-    if one.len() <= SHORT && other.len() <= SHORT {
-        match same_short(one, other, asked) {
-            Ok(Some(compared)) => return Ok(compared),
-            Ok(None) => {}
-            Err(status) => return Err(status),
-        }
-    }
     same_long(alloc, one, other, asked)
 }

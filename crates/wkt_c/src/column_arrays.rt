@@ -4,6 +4,7 @@ ghost use Rattle.wkt_c.specs.Answer.{places_in, asks_whole};
 ghost use Rattle.wkt_c.specs.Column.{AreOffsets, HasBits, row_count};
 ghost use Rattle.wkt_c.specs.ArrayRows.{HoldsNoArrays, AddsArrays, AddsRowArrays, HoldsArrays, row_of};
 
+use crate::arrays_room::ArraysRoom;
 use crate::asked::ends_as_asked;
 use crate::column::{GivenColumn, is_null};
 use crate::flat::flat_asked;
@@ -66,8 +67,14 @@ impl ArrayRows {
         self.add(none, status)
     }
 
-    /// Adds the arrays of a row.
-    fn add_row(&mut self, alloc: Global, text: &[u8], null: bool, asked: u32) -> Result<(), u32>
+    /// Adds the arrays of a row, which are made in the room first.
+    fn add_row(
+        &mut self,
+        text: &[u8],
+        null: bool,
+        asked: u32,
+        room: &mut ArraysRoom,
+    ) -> Result<(), u32>
         requires { places_in asked ≤ 18 }
         ensures { MatchResult result
             (λ _. AddsRowArrays (places_in asked) (asks_whole asked) null text.now self.old self.new) (λ s. s ≡ MEMORY) }
@@ -75,7 +82,8 @@ impl ArrayRows {
         if null {
             return self.add_none(NULL_ROW);
         }
-        match flat_asked(alloc, text, asked) {
+        room.make(text.len())?;
+        match flat_asked(text, asked, room.lend()) {
             Ok(flat) => {
                 if !ends_as_asked(text, flat.end, asked) {
                     return self.add_none(NOT_WHOLE);
@@ -83,9 +91,9 @@ impl ArrayRows {
                 let row = GivenArrays {
                     kind: flat.kind,
                     dimension: flat.dimension,
-                    numbers: &flat.arrays.numbers,
-                    rings: &flat.arrays.rings,
-                    polygons: &flat.arrays.polygons,
+                    numbers: flat.arrays.numbers(),
+                    rings: flat.arrays.rings(),
+                    polygons: flat.arrays.polygons(),
                 };
                 self.add(row, DONE)
             }
@@ -114,10 +122,11 @@ pub(crate) fn all_arrays(
 {
     let count = given.offsets.len() - 1;
     let mut rows = ArrayRows::new(alloc, count)?;
+    let mut room = ArraysRoom::new(alloc);
     for i in 0..count {
         let text = &given.texts[given.offsets[i]..given.offsets[i + 1]];
         let null = is_null(given.valid, i);
-        rows.add_row(alloc, text, null, asked)?;
+        rows.add_row(text, null, asked, &mut room)?;
     }
     Ok(rows)
 }

@@ -34,7 +34,7 @@ fn number_of(expected: Expected) -> u32
     }
 }
 
-/// Where the text is refused, or the status that says why that isn't told.
+/// Where the text is refused, or the status of a text that isn't refused or no text.
 fn explained<T: WktNum>(text: &[u8]) -> Result<Place, u32>
     ensures { MatchResult result (λ p. IsExplained T.read text.now p.message p.start p.stop p.expected) (IsUnexplained T.read text.now) }
 {

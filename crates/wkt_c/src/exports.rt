@@ -1,20 +1,20 @@
 //! The functions that C calls.
-ghost use Rattle.std.specs.Prelude.{◌≡◌, ◌≤◌, ◌≢◌, ◌⊎◌, ℕ, List, Bool, length};
+ghost use Rattle.std.specs.Prelude.{◌≡◌, ◌≤◌, ◌≢◌, ◌+◌, ◌*◌, ◌⊎◌, ℕ, List, Bool, length};
 ghost use Rattle.wkt_lines.specs.Output.{IsOutput};
 ghost use Rattle.wkt_c.specs.Answer.{read_at, print_at, places_in, asks_whole, EndsAsAsked, IsCanonical, HasMore, Compares, RefusesAt, RefusesOneAt, IsNamed, NamesNone, HasNoPlaces, IsHandedOut, HasNoRoom, same_number};
 ghost use Rattle.wkt_c.specs.Chunks.{AnswersSome, AnswersNone, ends_here};
-ghost use Rattle.wkt_c.specs.Column.{AreColumnAnswers, IsColumn, IsNoColumn};
+ghost use Rattle.wkt_c.specs.Column.{AreColumnAnswers, IsColumn, IsNoColumn, row_count};
 ghost use Rattle.wkt_c.specs.Arrays.{IsTextOf, IsNoTextAt, IsNotFlat, HasMoreAt};
 ghost use Rattle.wkt_c.specs.Explained.{IsExplained, IsUnexplained};
 ghost use Rattle.wkt_c.specs.Sizes.{AreHandedOut, HaveNoRoom};
 
+use crate::arrays_call::{arrays_long, arrays_short, is_short};
 use crate::asked::{ends_as_asked, has_places};
 use crate::canonical::canonical;
 use crate::chunks::{is_last, some_at};
 use crate::column::{GivenColumn, Rows, answers, is_column};
 use crate::explain::explained_at;
-use crate::fill::{copy_to_front, copy_whole, hand_out};
-use crate::flat::flat_asked;
+use crate::fill::{copy_whole, hand_out};
 use crate::infer::infer;
 use crate::lines::answers_at;
 use crate::rebuild::{GivenArrays, text_at};
@@ -38,6 +38,7 @@ pub extern "C" fn wkt_canonical(
         end.new × EndsAsAsked (asks_whole places) text.now end.new × IsHandedOut answer needed.new out.old out.new }
     ensures small { result ≡ SMALL → (answer : List ℕ) × IsCanonical (read_at (places_in places)) (print_at (places_in places)) text.now answer
         end.new × EndsAsAsked (asks_whole places) text.now end.new × HasNoRoom answer needed.new out.old }
+    ensures bound { (result ≡ DONE) ⊎ (result ≡ SMALL) → needed.new ≤ 2 * length text.now + 65 }
     ensures more { result ≡ NOT_WHOLE → HasMore (read_at (places_in places)) (asks_whole places) text.now end.new }
     ensures others { 1 ≤ result → result ≢ SMALL → result ≢ NOT_WHOLE → RefusesAt (places_in places) text.now result }
     ensures kept { 1 ≤ result → out.new ≡ out.old }
@@ -50,8 +51,8 @@ pub extern "C" fn wkt_canonical(
     canonical(alloc, text, places, out, needed, end)
 }
 
-/// Tells whether two texts begin with one geometry: `same` is 1 where their canonical texts are equal, and else
-/// 0; `end` and `other_end` tell where each geometry ends in its text. Numbers are decimals of so many places; with 256
+/// Reports whether two texts begin with one geometry: `same` is 1 where their canonical texts are equal, and else
+/// 0; `end` and `other_end` are where each geometry ends in its text. Numbers are decimals of so many places; with 256
 /// more both whole texts are to be one geometry each.
 #[unsafe(no_mangle)]
 pub extern "C" fn wkt_same_ends(
@@ -93,7 +94,7 @@ pub extern "C" fn wkt_same_ends(
     }
 }
 
-/// The same, and the ends aren't told.
+/// The same without the ends.
 #[unsafe(no_mangle)]
 pub extern "C" fn wkt_same(
     alloc: Global,
@@ -116,7 +117,7 @@ pub extern "C" fn wkt_same(
     wkt_same_ends(alloc, one, other, places, same, &mut end, &mut other_end)
 }
 
-/// Tells where `text` is refused: from byte `start` to byte `stop` is the lexeme that is too much, or nothing, where the
+/// Reports where `text` is refused: from byte `start` to byte `stop` is the lexeme that is too much, or nothing, where the
 /// text ends too early; `message` is the number of the message, and `expected` that of what could stand there. The
 /// status is 29 where the text isn't refused. Numbers are decimals of so many places.
 #[unsafe(no_mangle)]
@@ -148,7 +149,7 @@ pub extern "C" fn wkt_explain(
     }
 }
 
-/// Tells the kind (0 Point to 6 GeometryCollection) and the dimension (0 XY, 1 XYZ, 2 XYM, 3 XYZM) that the
+/// Reports the kind (0 Point to 6 GeometryCollection) and the dimension (0 XY, 1 XYZ, 2 XYM, 3 XYZM) that the
 /// header of `text` names.
 #[unsafe(no_mangle)]
 pub extern "C" fn wkt_infer(alloc: Global, text: &[u8], kind: &mut u32, dimension: &mut u32) -> u32
@@ -191,7 +192,7 @@ pub extern "C" fn wkt_lines(
     }
 }
 
-/// Writes the answers to as many whole lines at the front of `input` as fit to the front of `out`: `taken` tells how many
+/// Writes the answers to as many whole lines at the front of `input` as fit to the front of `out`: `taken` is how many
 /// bytes of the input they are, and `written` how many bytes of `out` are answers; what stands behind these means nothing.
 /// Where `last` isn't 0 the input ends here, and what is left behind its last line feed is a line too. Numbers are
 /// decimals of so many places.
@@ -270,8 +271,9 @@ pub extern "C" fn wkt_column_canonical(
     ensures written { result ≡ DONE → (answers : List ℕ)
         × AreColumnAnswers places texts.now offsets.now valid.now answers out_offsets.new statuses.new
         × IsHandedOut answers needed.new out.old out.new }
-    ensures small { result ≡ SMALL → (answers : List ℕ) × (ends : List ℕ) × (told : List ℕ) × AreColumnAnswers places
-        texts.now offsets.now valid.now answers ends told × HasNoRoom answers needed.new out.old }
+    ensures small { result ≡ SMALL → (answers : List ℕ) × (ends : List ℕ) × (codes : List ℕ) × AreColumnAnswers places
+        texts.now offsets.now valid.now answers ends codes × HasNoRoom answers needed.new out.old }
+    ensures bound { (result ≡ DONE) ⊎ (result ≡ SMALL) → needed.new ≤ 2 * length texts.now + row_count offsets.now }
     ensures column { (result ≡ DONE) ⊎ (result ≡ SMALL) →
         IsColumn texts.now offsets.now valid.now out_offsets.old statuses.old }
     ensures no_column { (IsColumn texts.now offsets.now valid.now out_offsets.old statuses.old → ⊥) → result ≡ NOT_COLUMN }
@@ -300,7 +302,7 @@ pub extern "C" fn wkt_column_canonical(
 
 /// Writes the numbers of the geometry that `text` begins with, in units of ten to the minus `places`, to the
 /// front of `numbers`, and its offsets to the fronts of `rings` and `polygons`. Where a buffer has no room,
-/// `sizes` tells how much each needs. With 256 more places the whole text is to be one geometry.
+/// `sizes` says how much each needs. With 256 more places the whole text is to be one geometry.
 #[unsafe(no_mangle)]
 pub extern "C" fn wkt_arrays(
     alloc: Global,
@@ -324,30 +326,10 @@ pub extern "C" fn wkt_arrays(
     if !has_places(places) {
         return NO_PLACES;
     }
-    match flat_asked(alloc, text, places) {
-        Ok(flat) => {
-            sizes.kind = flat.kind;
-            sizes.dimension = flat.dimension;
-            sizes.numbers = flat.arrays.numbers.len();
-            sizes.rings = flat.arrays.rings.len();
-            sizes.polygons = flat.arrays.polygons.len();
-            sizes.end = flat.end;
-            if !ends_as_asked(text, flat.end, places) {
-                return NOT_WHOLE;
-            }
-            if flat.arrays.numbers.len() > numbers.len()
-                || flat.arrays.rings.len() > rings.len()
-                || flat.arrays.polygons.len() > polygons.len()
-            {
-                return SMALL;
-            }
-            copy_to_front(&flat.arrays.numbers, numbers);
-            copy_to_front(&flat.arrays.rings, rings);
-            copy_to_front(&flat.arrays.polygons, polygons);
-            DONE
-        }
-        Err(status) => status,
+    if is_short(text) {
+        return arrays_short(text, places, sizes, numbers, rings, polygons);
     }
+    arrays_long(alloc, text, places, sizes, numbers, rings, polygons)
 }
 
 /// Writes the text of the geometry of those arrays, which are as `wkt_arrays` gives them, to the front of `out`,

@@ -71,7 +71,7 @@ fn hand_out_arrays(
 /// Writes the arrays of all texts of a column, each as `wkt_arrays` gives those of one: of each row the kind and the
 /// dimension; the numbers and offsets, one row's after the other's, to the fronts of `numbers`, `rings` and `polygons`,
 /// with where each row's begin, and the end of the last; and of each row 0, or why it has no arrays. Where a buffer has
-/// no room, `sizes` tells how much each of the three needs. A column is as for `wkt_column_canonical`.
+/// no room, `sizes` says how much each of the three needs. A column is as for `wkt_column_canonical`.
 #[unsafe(no_mangle)]
 pub extern "C" fn wkt_column_arrays(
     alloc: Global,

@@ -4,13 +4,23 @@ ghost use Rattle.wkt_c.specs.Answer.{with_front, IsHandedOut, HasNoRoom};
 
 use crate::status::{DONE, SMALL};
 
+/// How many items are copied at once.
+const PIECE: usize = 256;
+
 /// Puts the list to the front of the buffer, which has room for it.
 pub(crate) fn copy_to_front<T: Copy>(list: &[T], out: &mut [T])
     requires { length list.now ≤ length out.old }
     ensures { out.new ≡ with_front list.now out.old }
 {
     let size = list.len();
-    out[..size].copy_from_slice(list);
+    let mut at = 0;
+    // In pieces, which the C library copies by vectors and not byte by byte.
+    'pieces: while size - at > PIECE {
+        let end = at + PIECE;
+        out[at..end].copy_from_slice(&list[at..end]);
+        at = end;
+    }
+    out[at..size].copy_from_slice(&list[at..]);
 }
 
 /// Puts the list in the place of the buffer, which is as long.

@@ -43,7 +43,7 @@ impl Gathered {
         bytes
     }
 
-    // Makes places up to that one, and two thousand more at least, or tells that there is no memory.
+    // Makes places up to that one, and two thousand more at least, or returns false: there is no memory.
     #[inline(never)]
     fn grow(&mut self, end: usize) -> bool
         ensures kept { gathered self.new ≡ gathered self.old }
@@ -55,7 +55,7 @@ impl Gathered {
         self.bytes.resize(room, 0).is_ok()
     }
 
-    // Takes the bytes, or tells that there is no memory.
+    // Takes the bytes, or returns false: there is no memory.
     fn keep(&mut self, bytes: &[u8]) -> bool
         ensures kept { gathered self.new ≡ (if result then gathered self.old ++ bytes.now else gathered self.old) }
         ensures count { failed_calls self.new ≡ failed_calls self.old }

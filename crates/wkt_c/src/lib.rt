@@ -5,6 +5,8 @@
 #![tactic(auto)]
 
 mod arrays;
+mod arrays_call;
+mod arrays_room;
 mod asked;
 mod canonical;
 mod chunks;
@@ -25,3 +27,4 @@ mod refusal;
 mod room;
 mod sizes;
 mod status;
+mod whole;

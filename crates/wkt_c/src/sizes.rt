@@ -1,6 +1,6 @@
-//! What is told of arrays.
+//! The sizes of arrays.
 
-/// What `wkt_arrays` tells beside the arrays.
+/// What `wkt_arrays` returns beside the arrays.
 #[repr(C)]
 #[derive(Clone, Copy)]
 pub struct WktSizes {
@@ -18,7 +18,7 @@ pub struct WktSizes {
     pub end: usize,
 }
 
-/// What `wkt_column_arrays` tells beside the arrays.
+/// What `wkt_column_arrays` returns beside the arrays.
 #[repr(C)]
 #[derive(Clone, Copy)]
 pub struct WktColumnSizes {

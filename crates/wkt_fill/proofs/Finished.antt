@@ -5,6 +5,7 @@ use Rattle.std.specs.List.{Contains}
 use Rattle.std.proofs.lemmas.List.{append-nil}
 use Rattle.wkt_num.specs.Decimal.{read_decimal, IsUnits}
 use Rattle.wkt_num.specs.DecimalLaws.{decimal_reads_values}
+use Rattle.wkt_num.proofs.OnlyAscii.{decimal_utf8}
 use Rattle.wkt_access.specs.Values.{Value, Values, size}
 use Rattle.wkt_access.specs.WellFormed.{IsWellFormed}
 use Rattle.wkt_types.specs.declared.geometry_type.GeometryType.{GeometryType}
@@ -19,6 +20,7 @@ use Rattle.wkt_events.specs.declared.builder.Part.TheVariants as part
 use Rattle.wkt_events.specs.Events.{Event, coordinate, line, member, polygon, body, events}
 use Rattle.wkt_events.specs.Walking.{Gives, Refuses}
 use Rattle.wkt_events.proofs.Fronts.{front-of, none-of}
+use Rattle.wkt_events.proofs.Utf8Front.{text-with-front, text-behind-front}
 use Rattle.wkt_fill.specs.Arrays.{parts_of, joined, numbers_in, offsets, HasLarge, IsUnheld}
 use Rattle.wkt_fill.specs.Filling.{Flat, Headed, nothing, is_collection, end_part, push, each, ended, put, put_all, put_coordinate, put_line, put_member, put_polygon, step, steps, arrays_of}
 use Rattle.wkt_fill.specs.Filled.{Fills, filler_maker, view, Begins, Tells}
@@ -210,22 +212,28 @@ module _ (v : Value ℤ) (s0 s t : Filler) (begins : Begins s0) (fills : Fills s
     ]
   ]
 
-module _ (places : ℕ) (text bytes : List ℕ) (same : bytes ≡ text) where
+module _ (places : ℕ) (text : List ℕ) where
   abbrev read : List ℕ → Option ℤ
   read = read_decimal 127 36 places
 
-  pub filled : (s0 s t : Filler) (to : ℕ) → Begins s0 → Gives filler_maker false bytes (value_at read) events 0 s0 to s → Tells s t → FillsFront places text t to
+  -- only texts are read as numbers
+  run-text : (run : List ℕ) (x : ℤ) → read run ≡ Some x → IsUtf8 run
+  run-text run x e = subst (λ (o : Option ℤ). IfSome o (λ u. IsUtf8 run)) e (decimal_utf8 places run)
+
+  pub filled : (s0 s t : Filler) (to : ℕ) → Begins s0 → Gives filler_maker false text (value_at read) events 0 s0 to s → Tells s t → FillsFront places text t to
   filled s0 s t to begins g tells =
-      let front : Front read bytes g.value to = front-of read false bytes filler_maker s0 s to g in
+      let front : Front read text g.value to = front-of read false text filler_maker s0 s to g in
       let fits = geometry_fits (IsUnits places) read (decimal_reads_values places) g.value front.lexemes front.reads in
       let out = outcome (IsUnits places) g.value fits in
       record {
         value = g.value;
+        front = front;
+        within = omega (arith, front.ends);
+        utf8 = (text-behind-front read run-text text g.value to front, text-with-front read run-text text g.value to front);
         fits = fits;
-        front = subst (λ (bs : List ℕ). Front read bs g.value to) same front;
         holds = holds-all g.value s0 s t begins g.makes tells out;
         unheld = is-unheld g.value s0 s t begins g.makes tells out;
       }
 
-  pub unfilled : IsUtf8 text → Refuses false bytes (value_at read) 0 → HasNoFront read text
-  unfilled utf8 r = subst (HasNoFront read) same (none-of read false bytes r (subst IsUtf8 (sym same) utf8))
+  pub unfilled : Refuses false text (value_at read) 0 → IsUtf8 text → HasNoFront read text
+  unfilled r utf8 = none-of read false text r utf8

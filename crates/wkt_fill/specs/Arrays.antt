@@ -37,6 +37,6 @@ pub record HasLarge (numbers : List ℤ) : Type 0 where
 abbrev pub HasLargeNumber : Value ℤ → Type 0
 HasLargeNumber value = (parts : List (List (List (List ℤ)))) × (parts_of value ≡ Some parts) × HasLarge (numbers_in (joined parts))
 
--- Why a value has no arrays: memory ran out, it is a collection, or a number is too large.
+-- Why a value has no arrays: there was no room, it is a collection, or a number is too large.
 abbrev pub IsUnheld : Value ℤ → ℕ → Type 0
 IsUnheld value status = (status ≡ 22) ⊎ (((status ≡ 24) × (parts_of value ≡ None)) ⊎ ((status ≡ 25) × HasLargeNumber value))

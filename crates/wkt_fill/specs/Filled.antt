@@ -1,5 +1,5 @@
 -- What a filler has filled.
-use Rattle.std.specs.Prelude.{◌≡◌, ◌≢◌, ℕ, ℤ, ◌⊎◌, List, [], ◌∷◌, ◌++◌, true, false}
+use Rattle.std.specs.Prelude.{◌≡◌, ◌≢◌, ℕ, ℤ, ◌+◌, ◌⊎◌, List, [], ◌∷◌, ◌++◌, take, true, false}
 use Rattle.std.proofs.Common.{inl, inr, refl, sym, ◌∙◌, ap, subst, arith, zero, suc}
 use Rattle.std.specs.List.{Contains}
 use Rattle.wkt_events.specs.Events.{Event}
@@ -9,11 +9,11 @@ use Rattle.wkt_fill.specs.Filling.{Flat, Headed, steps, unheaded, is_collection}
 use Rattle.wkt_fill.specs.declared.filler.Filler.{Filler}
 use Rattle.wkt_fill.specs.Growing.{large-on, steps-append}
 
--- The arrays of a filler.
+-- The arrays of a filler: the first places of its room.
 abbrev pub view : Filler → Headed
-view f = record { kind = f.kind; dimension = f.dimension; flat = record { numbers = f.numbers.items; rings = f.rings.items; polygons = f.polygons.items; coordinates = f.coordinates; ring_count = f.ring_count } }
+view f = record { kind = f.kind; dimension = f.dimension; flat = record { numbers = take f.number_count f.numbers.now; rings = take (f.ring_count + 1) f.rings.now; polygons = take (f.polygon_count + 1) f.polygons.now; coordinates = f.coordinates; ring_count = f.ring_count } }
 
--- The arrays became these, unless memory ran out or a number of theirs was too large; then the filler's status says so, and stays.
+-- The arrays became these, unless the room was full or a number of theirs was too large; then the filler's status says so, and stays.
 pub record Becomes (s : Filler) (w : Headed) (t : Filler) : Type 0 where
   pub stays : s.status ≢ 0 → t.status ≡ s.status
   pub does : s.status ≡ 0 → t.status ≡ 0 → view t ≡ w
@@ -48,7 +48,7 @@ fills_more s t u es fs h k = record {
   ];
 }
 
--- What is made is arrays; there is always room, or memory runs out.
+-- What is made is arrays; where there is no room, the status says so.
 abbrev pub filler_maker : Maker ℤ Filler
 filler_maker = record {
   amount = λ f. 0;
@@ -62,12 +62,12 @@ filler_maker = record {
 abbrev pub with_flat : Filler → (Flat → Flat) → Headed
 with_flat f g = record { kind = f.kind; dimension = f.dimension; flat = g (view f).flat }
 
--- Nothing yet, unless memory ran out.
+-- Nothing yet, unless there is no room.
 pub record Begins (f : Filler) : Type 0 where
   pub fresh : f.status ≡ 0 → view f ≡ unheaded
   pub or_full : f.status ≢ 0 → f.status ≡ 22
 
--- The arrays stay; the status tells of a collection, if nothing was wrong before.
+-- The arrays stay; the status is that of a collection, if nothing was wrong before.
 pub record Tells (s t : Filler) : Type 0 where
   pub same : view t ≡ view s
   pub held : t.status ≡ 0 → (s.status ≡ 0) × (is_collection s.kind ≡ false)

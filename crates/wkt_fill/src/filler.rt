@@ -1,23 +1,37 @@
 //! Flat arrays, filled as the parts of a geometry come.
-ghost use Rattle.std.specs.Prelude.{◌≡◌, ◌≤◌, length};
+ghost use Rattle.std.specs.Prelude.{◌≡◌, ◌≢◌, ◌⊎◌, ℕ, ◌≤◌, [], ◌∷◌, Bool, length, take, get_or};
+ghost use Rattle.wkt_num.specs.Bytes.{White};
+ghost use Rattle.wkt_num.specs.Decimal.{read_decimal};
+ghost use Rattle.wkt_events.specs.Left.{class_in};
+ghost use Rattle.wkt_events.specs.Walking.{GivesNumberIfAny};
 ghost use Rattle.wkt_fill.specs.Filling.{is_collection, push, end_ring, end_polygon, end_whole, ended, put, headed, on};
-ghost use Rattle.wkt_fill.specs.Filled.{view, Becomes, Begins, Tells, with_flat};
+ghost use Rattle.wkt_fill.specs.Filled.{filler_maker, view, Becomes, Begins, Tells, with_flat};
 
-use crate::status::{MEMORY, NOT_FLAT, TOO_LARGE};
-use std::alloc::Global;
+use crate::near::units_near;
+use crate::status::{FULL, NOT_FLAT, TOO_LARGE};
 use wkt_events::builder::{At, Builder, Part};
 use wkt_events::read_number_at;
 use wkt_num::Decimal;
 use wkt_types::{Dimension, GeometryType};
 
+/// The places that arrays are written in.
+#[derive(Drop)]
+pub struct Room<'a> {
+    pub numbers: &'a mut [i64],
+    pub rings: &'a mut [usize],
+    pub polygons: &'a mut [usize],
+}
+
 /// Arrays as far as they are filled. Where `status` isn't 0 it says why they are not.
 #[derive(Drop)]
-pub struct Filler {
-    pub numbers: Vec<i64>,
-    pub rings: Vec<usize>,
-    pub polygons: Vec<usize>,
+pub struct Filler<'a> {
+    numbers: &'a mut [i64],
+    rings: &'a mut [usize],
+    polygons: &'a mut [usize],
+    number_count: usize,
     coordinates: usize,
     ring_count: usize,
+    polygon_count: usize,
     pub kind: GeometryType,
     pub dimension: Dimension,
     pub status: u32,
@@ -38,28 +52,81 @@ fn holds_nothing(kind: GeometryType) -> bool
     }
 }
 
-impl Filler {
+/// Begins offsets with 0. Where there is no room, the status that is returned says so.
+#[inline(always)]
+fn begin(offsets: &mut [usize], status: u32) -> u32
+    requires { (status ≡ 0) ⊎ (status ≡ 22) }
+    ensures begun { result ≡ 0 → (status ≡ 0) × (take 1 offsets.new ≡ 0 ∷ []) }
+    ensures full { result ≢ 0 → result ≡ 22 }
+{
+    if offsets.is_empty() {
+        return FULL;
+    }
+    offsets[0] = 0;
+    status
+}
+
+/// The first `count` of the items, or all of them.
+#[inline(always)]
+fn front<T>(items: &[T], count: usize) -> &[T]
+    ensures { result.now ≡ take count items.now }
+{
+    if count < items.len() {
+        &items[..count]
+    } else {
+        items
+    }
+}
+
+impl<'a> Filler<'a> {
     /// Arrays of nothing.
-    pub fn new(alloc: Global) -> Filler
+    #[inline(always)]
+    pub fn new(room: Room<'a>) -> Filler<'a>
         ensures { Begins result }
     {
-        let mut filler = Filler {
-            numbers: Vec::new(alloc),
-            rings: Vec::new(alloc),
-            polygons: Vec::new(alloc),
+        let Room {
+            numbers,
+            rings,
+            polygons,
+        } = room;
+        let ring_status = begin(rings, 0);
+        let status = begin(polygons, ring_status);
+        Filler {
+            numbers,
+            rings,
+            polygons,
+            number_count: 0,
             coordinates: 0,
             ring_count: 0,
+            polygon_count: 0,
             kind: GeometryType::Point,
             dimension: Dimension::XY,
-            status: 0,
-        };
-        if filler.rings.push(0).is_err() {
-            filler.status = MEMORY;
+            status,
         }
-        if filler.polygons.push(0).is_err() {
-            filler.status = MEMORY;
-        }
-        filler
+    }
+
+    /// All numbers in order.
+    #[inline(always)]
+    pub fn numbers(&self) -> &[i64]
+        ensures { result.now ≡ (view self.now).flat.numbers }
+    {
+        front(self.numbers, self.number_count)
+    }
+
+    /// Where each ring begins among the coordinates, and the end of the last.
+    #[inline(always)]
+    pub fn rings(&self) -> &[usize]
+        ensures { result.now ≡ (view self.now).flat.rings }
+    {
+        front(self.rings, self.ring_count.saturating_add(1))
+    }
+
+    /// Where each polygon begins among the rings, and the end of the last.
+    #[inline(always)]
+    pub fn polygons(&self) -> &[usize]
+        ensures { result.now ≡ (view self.now).flat.polygons }
+    {
+        front(self.polygons, self.polygon_count.saturating_add(1))
     }
 
     #[inline(always)]
@@ -67,15 +134,16 @@ impl Filler {
         requires { self.old.status ≡ 0 }
         ensures { Becomes self.old (with_flat self.old end_ring) self.new }
     {
-        let end = self.coordinates;
-        if self.rings.push(end).is_err() {
-            self.status = MEMORY;
+        let Some(place) = self.ring_count.checked_add(1) else {
+            self.status = FULL;
+            return;
+        };
+        if place >= self.rings.len() {
+            self.status = FULL;
             return;
         }
-        match self.ring_count.checked_add(1) {
-            Some(n) => self.ring_count = n,
-            None => self.status = MEMORY,
-        }
+        self.rings[place] = self.coordinates;
+        self.ring_count = place;
     }
 
     #[inline(always)]
@@ -83,10 +151,16 @@ impl Filler {
         requires { self.old.status ≡ 0 }
         ensures { Becomes self.old (with_flat self.old end_polygon) self.new }
     {
-        let end = self.ring_count;
-        if self.polygons.push(end).is_err() {
-            self.status = MEMORY;
+        let Some(place) = self.polygon_count.checked_add(1) else {
+            self.status = FULL;
+            return;
+        };
+        if place >= self.polygons.len() {
+            self.status = FULL;
+            return;
         }
+        self.polygons[place] = self.ring_count;
+        self.polygon_count = place;
     }
 
     #[inline(always)]
@@ -121,26 +195,56 @@ impl Filler {
         }
     }
 
+    /// Adds the number of a place of a coordinate.
     #[inline(always)]
+    fn put(&mut self, number: i64, place: usize)
+        ensures { Becomes self.old (on (λ k. put k place number) (view self.old)) self.new }
+    {
+        if self.status != 0 || holds_nothing(self.kind) {
+            return;
+        }
+        if self.number_count >= self.numbers.len() {
+            self.status = FULL;
+            return;
+        }
+        self.numbers[self.number_count] = number;
+        self.number_count += 1;
+        if place == 0 {
+            match self.coordinates.checked_add(1) {
+                Some(n) => self.coordinates = n,
+                None => self.status = FULL,
+            }
+        }
+    }
+
+    /// The same of units of any size.
     fn push(&mut self, units: i128, place: usize)
         ensures { Becomes self.old (on (λ k. put k place units) (view self.old)) self.new }
     {
         if self.status != 0 || holds_nothing(self.kind) {
             return;
         }
-        let Ok(number) = i64::try_from(units) else {
-            self.status = TOO_LARGE;
-            return;
-        };
-        if self.numbers.push(number).is_err() {
-            self.status = MEMORY;
-            return;
+        match i64::try_from(units) {
+            Ok(number) => self.put(number, place),
+            Err(_) => self.status = TOO_LARGE,
         }
-        if place == 0 {
-            match self.coordinates.checked_add(1) {
-                Some(n) => self.coordinates = n,
-                None => self.status = MEMORY,
+    }
+
+    /// The number that stands there, in any form.
+    #[cold]
+    #[inline(never)]
+    fn number_apart<const D: u32>(self, text: &[u8], at: usize, place: usize) -> Option<At<Self>>
+        requires { at ≤ length text.now }
+        ensures { (feed : Bool) → (count : ℕ) → class_in feed (get_or text.now at 0) ≢ White →
+            GivesNumberIfAny filler_maker feed text.now (read_decimal 127 36 D) place count at self.entry result }
+    {
+        match read_number_at::<Decimal<D>>(text, at) {
+            Some((number, end)) => {
+                let mut made = self;
+                made.push(number.units(), place);
+                Some(At { at: end, made })
             }
+            None => None,
         }
     }
 
@@ -165,7 +269,7 @@ impl Filler {
     }
 }
 
-impl<const D: u32> Builder<Decimal<D>> for Filler {
+impl<const D: u32> Builder<Decimal<D>> for Filler<'_> {
     ghost use Rattle.wkt_fill.specs.Filled.{filler_maker};
 
     ghost maker = { filler_maker };
@@ -218,13 +322,13 @@ impl<const D: u32> Builder<Decimal<D>> for Filler {
     #[inline(always)]
     fn number(self, text: &[u8], at: usize, place: usize, count: usize) -> Option<At<Self>> {
         let _ = count;
-        match read_number_at::<Decimal<D>>(text, at) {
-            Some((number, end)) => {
+        match units_near(D, &text[at..]) {
+            Some((units, end)) => {
                 let mut made = self;
-                made.push(number.units(), place);
-                Some(At { at: end, made })
+                made.put(units, place);
+                Some(At { at: at + end, made })
             }
-            None => None,
+            None => self.number_apart::<D>(text, at, place),
         }
     }
 }

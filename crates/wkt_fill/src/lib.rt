@@ -3,7 +3,9 @@
 
 mod fill;
 mod filler;
+mod near;
 mod status;
+mod tens;
 
 pub use fill::{Filled, fill_arrays};
-pub use filler::Filler;
+pub use filler::{Filler, Room};

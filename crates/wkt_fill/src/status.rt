@@ -1,7 +1,7 @@
 //! Why there are no arrays, as a number.
 
-/// Out of memory.
-pub(crate) const MEMORY: u32 = 22;
+/// There was no room for them.
+pub(crate) const FULL: u32 = 22;
 /// A collection, which has no flat arrays.
 pub(crate) const NOT_FLAT: u32 = 24;
 /// A number of more units than 64 bits hold.

@@ -8,7 +8,7 @@ use Rattle.wkt_lines.specs.Output.{IsAnswer, AreAnswers, PartOut, OnRunWrite}
 use Rattle.wkt_lines.specs.Replies.{AreReplies}
 use Rattle.wkt_lines.specs.declared.lines.RunError.{RunError}
 use Rattle.wkt_lines.specs.declared.lines.RunError.TheVariants as run
-use Rattle.wkt_bytes.specs.Wrapper.{appends_more}
+use Rattle.std.proofs.KnownBytes.{Appends-trans}
 use Rattle.std.proofs.Math.Seq.{take-append_seam}
 use Rattle.wkt_num.specs.Sink.{Sink, Adds, Breaks, GrewBy}
 use Rattle.wkt_lines.specs.declared.answer.AnswerError.{AnswerError}
@@ -80,7 +80,7 @@ begun first out rest bs line a b c h n e k w (answer, is, beg) = record {
   part = beg.out;
   lost = beg.lost;
   whole = beg.whole;
-  went = appends_more a b c out beg.out w beg.went;
+  went = Appends-trans a b c out beg.out w beg.went;
 }
 
 -- what was written is an answer

@@ -1,3 +1,4 @@
+-- Two overlapping ends of a piece are all of it.
 use Rattle.wkt_bytes.proofs.Pieces.{both_ends}
 use Rattle.wkt_bytes.proofs.wrapper.copy_ends.Goals as goal
 

@@ -1,7 +1,8 @@
+-- One more call puts the next bytes out.
 use Rattle.std.proofs.Common.{◌∙◌, arith}
 use Rattle.std.proofs.lemmas.List.{length-drop}
 use Rattle.std.specs.declared.io.Error.{Error}
-use Rattle.wkt_bytes.specs.Wrapper.{appends_more}
+use Rattle.std.proofs.KnownBytes.{Appends-trans}
 use Rattle.wkt_bytes.proofs.SinkLemmas.{rest_whole, put_step, count_kept}
 use Rattle.wkt_bytes.proofs.wrapper.put_all.Goals as goal
 
@@ -16,7 +17,7 @@ loop-at-preserved g c =
     let test = c.in-Ok.n-test in
     record {
       within = omega (arith, length-drop at bs, bound);
-      out = rw step (appends_more _ _ _ _ _ i.out h.took);
+      out = rw step (Appends-trans _ _ _ _ _ i.out h.took);
       tied = g.W.ByteSink.sink.keeps_more _ _ _ i.tied h.keeps;
       kept = h.count ∙ (count_kept Error _ _ _ test.1 ∙ i.kept);
     }

@@ -1,35 +1,55 @@
-use Rattle.std.proofs.Common.{◌≡◌, ◌+◌, ◌++◌, inl, inr, length, take, drop, sym, ap, ◌∙◌, subst, arith, length-drop, ◌-◌, take_all}
+use Rattle.std.proofs.Common.{◌≡◌, ◌+◌, ◌-◌, ◌<◌, ◌++◌, ◌∙◌, inl, inr, refl, length, take, drop, ap, sym, subst, arith, length-drop, length-take, take_all}
 use Rattle.wkt_lines.specs.Laws.{IsWhole}
 use Rattle.wkt_lines.specs.Output.{IsOutput}
-use Rattle.wkt_c.proofs.Pieces.{more_output, whole_more}
+use Rattle.wkt_c.specs.Answer.{read_at, print_at}
+use Rattle.wkt_c.specs.Chunks.{AreWholeLines, IsFirstLine}
+use Rattle.wkt_c.proofs.Pieces.{more_output, whole-pick, no-output}
 use Rattle.wkt_c.proofs.chunks.answer_some.Goals as goal
 
-pub blocks-2-preserved : goal.blocks-2-preserved
-blocks-2-preserved g c =
-    let read = g.T.WktNum.read in
-    let num = g.T.WktNum.num in
-    let i = c.blocks-2.invariant in
+pub returns-then-done-eq0-clause-answers : goal.returns-then-done-eq0-clause-answers
+returns-then-done-eq0-clause-answers g c =
+    let read = read_at g.row.D in
+    let num = print_at g.row.D in
     let input = c.args.input.now in
-    let taken = c.blocks-2.taken in
-    let written = c.blocks-2.written in
-    let piece = c.whole_within-piece.result in
-    let w = c.whole_within-piece.ensures in
-    let rest_is : take (length input - taken) (drop taken input) ≡ drop taken input = take_all (length input - taken) (drop taken input) (omega (arith, length-drop taken input)) in
-    let before : IsWhole (take taken input) = elim i.lines [ inl h ↦ h | inr e ↦ absurd (omega (arith, e.1, c.blocks-2-test.true)) ] in
-    let put : take (written + c.len-written.result) c.put_at.new.out ≡ take written c.blocks-2.out ++ c.in-Ok.text.items =
-    ap (λ n. take n c.put_at.new.out) {x = written + c.len-written.result} {y = written + length c.deref.result.now} (omega (arith, c.len-written.ensures, ap length c.deref.ensures.value))
-    ∙ c.put_at.ensures.put ∙ ap (λ xs. take written c.blocks-2.out ++ xs) c.deref.ensures.value in
+    let done = c.answer_lines-done.result in
+    let a = c.answer_lines-done.ensures in
+    let line = c.first_line-line.result in
+    let rest_is : take (length input - done.taken) (drop done.taken input) ≡ input =
+    ap (λ n. take (length input - n) (drop n input)) {x = done.taken} {y = 0} c.if-done-eq0.true ∙ take_all (length input - 0) input (omega arith) in
+    let nothing = no-output read num input (take done.written c.answer_lines-done.new.out) (subst (λ n. IsOutput read num (take n input) (take done.written c.answer_lines-done.new.out)) c.if-done-eq0.true a.answers) in
+    inr (
+      refl,
+      record {
+        taken = line;
+        line = elim c.first_line-line.ensures.line [ inl h ↦ subst (λ r. IsFirstLine c.args.last r line) rest_is h | inr z ↦ absurd (omega (arith, z, c.if-line-eq0.false)) ];
+        answers = c.in-Ok.text.items;
+        are = subst (λ r. IsOutput read num (take line r) c.in-Ok.text.items) rest_is c.in-Ok.ensures;
+        small = omega (arith, ap length nothing, length-take done.written c.answer_lines-done.new.out, a.written, a.whole, c.lines.invariant.whole, c.if-len-out.true, c.len.ensures);
+      },
+    )
+
+pub lines-preserved : goal.lines-preserved
+lines-preserved g c =
+    let read = read_at g.row.D in
+    let num = print_at g.row.D in
+    let input = c.args.input.now in
+    let done = c.answer_lines-done.result in
+    let a = c.answer_lines-done.ensures in
+    let line = c.first_line-line.result in
+    let f = c.first_line-line.ensures in
+    let rest_is : take (length input - done.taken) (drop done.taken input) ≡ drop done.taken input = take_all (length input - done.taken) (drop done.taken input) (omega (arith, length-drop done.taken input)) in
+    let less : done.taken < length input = omega (arith, f.within, ap length rest_is, length-drop done.taken input, a.taken, c.if-line-eq0.false) in
+    let before : IsWhole (take done.taken input) = elim a.lines [ inl h ↦ h | inr e ↦ absurd (omega (arith, e.1, less)) ] in
+    let put : take (done.written + c.len-in-lines.result) c.put_at.new.out ≡ take done.written c.answer_lines-done.new.out ++ c.in-Ok.text.items =
+    ap (λ n. take n c.put_at.new.out) {x = done.written + c.len-in-lines.result} {y = done.written + length c.deref.result.now} (omega (arith, c.len-in-lines.ensures, ap length c.deref.ensures.value))
+    ∙ c.put_at.ensures.put ∙ ap (λ xs. take done.written c.answer_lines-done.new.out ++ xs) c.deref.ensures.value in
     record {
-      within = omega (arith, i.within, w.within, ap length rest_is, length-drop taken input);
-      lines = elim w.whole [
-        | inl h ↦ inl (whole_more input taken piece before (subst (λ r. IsWhole (take piece r)) rest_is h))
-        | inr e ↦ inr (e.0, omega (arith, e.1, ap length rest_is, length-drop taken input, i.within))
-      ];
-      fits = omega (arith, c.put_at.ensures.whole, c.if-len-out.false, i.fits, c.len.ensures, c.len-written.ensures);
-      whole = c.put_at.ensures.whole ∙ i.whole;
+      taken = omega (arith, f.within, ap length rest_is, length-drop done.taken input, a.taken);
+      written = omega (arith, c.put_at.ensures.whole, c.if-len-out.false, a.written, c.len.ensures, c.len-in-lines.ensures);
+      whole = c.put_at.ensures.whole ∙ a.whole ∙ c.lines.invariant.whole;
+      lines = whole-pick c.args.last input done.taken line a.taken less a.lines (subst (λ r. AreWholeLines c.args.last r line) rest_is f.whole);
       answers =
-          subst (IsOutput read num (take (taken + piece) input)) (sym put)
-          (more_output read num c.output_of_parts.ensures.joined input taken piece (take written c.blocks-2.out) c.in-Ok.text.items before i.answers
-          (subst (λ r. IsOutput read num (take piece r) c.in-Ok.text.items) rest_is c.in-Ok.ensures));
-      none = λ e. absurd (omega (arith, e, c.if-piece-eq0.false));
+          subst (IsOutput read num (take (done.taken + line) input)) (sym put)
+          (more_output read num c.output_of_parts.ensures.joined input done.taken line (take done.written c.answer_lines-done.new.out) c.in-Ok.text.items before a.answers
+          (subst (λ r. IsOutput read num (take line r) c.in-Ok.text.items) rest_is c.in-Ok.ensures));
     }

@@ -1,17 +1,17 @@
 use Rattle.std.proofs.Common.{◌≡◌, ◌≤◌, ◌-◌, length, take}
 use Rattle.wkt_lines.specs.Output.{IsOutput}
+use Rattle.wkt_c.specs.Answer.{read_at, print_at}
 use Rattle.wkt_c.specs.Chunks.{AreWholeLines}
 use Rattle.wkt_c.proofs.chunks.answer_some.Given as goal
 
-abbrev pub invariant-blocks-2 : goal.invariant-blocks-2
-invariant-blocks-2 g l = record {
-  within : l.taken ≤ length l.input;
-  lines : AreWholeLines l.last l.input l.taken;
-  fits : l.written ≤ length l.out;
+abbrev pub invariant-lines : goal.invariant-lines
+invariant-lines g l = record {
+  taken : l.done.taken ≤ length l.input;
+  written : l.done.written ≤ length l.out;
   whole : length l.out ≡ length l.initial.out;
-  answers : IsOutput g.T.WktNum.read g.T.WktNum.num (take l.taken l.input) (take l.written l.out);
-  none : l.taken ≡ 0 → l.written ≡ 0;
+  lines : AreWholeLines l.last l.input l.done.taken;
+  answers : IsOutput (read_at g.row.D) (print_at g.row.D) (take l.done.taken l.input) (take l.done.written l.out);
 }
 
-abbrev pub decreases-blocks-2 : goal.decreases-blocks-2
-decreases-blocks-2 g l = length l.input - l.taken
+abbrev pub decreases-lines : goal.decreases-lines
+decreases-lines g l = length l.input - l.done.taken

@@ -1,5 +1,5 @@
 use Rattle.std.proofs.Common.{◌∙◌, ap}
-use Rattle.wkt_bytes.specs.Wrapper.{all_sent, some_sent, some_sent_late}
+use Rattle.wkt_bytes.proofs.Gathering.{all_sent, some_sent, some_sent_late}
 use Rattle.wkt_num.specs.Sink.{next_count}
 use Rattle.wkt_convert.proofs.send.send_through.Goals as goal
 

@@ -1,7 +1,8 @@
+-- The first pieces are out; where the sink fails, a beginning is.
 use Rattle.std.proofs.Common.{◌++◌, [], append_assoc, sym, ap, ◌∙◌, subst, length, length-append, take, arith}
 use Rattle.std.proofs.lemmas.List.{append-nil}
 use Rattle.std.specs.Io.KnownBytes.{Appends}
-use Rattle.wkt_bytes.specs.Wrapper.{appends_more}
+use Rattle.std.proofs.KnownBytes.{Appends-trans}
 use Rattle.wkt_lines.proofs.Answering.{err_map}
 use Rattle.wkt_lines.proofs.Firsts.{part-out}
 use Rattle.wkt_lines.proofs.pages.put_pieces.Goals as goal
@@ -12,7 +13,7 @@ pieces-preserved g c =
     record {
       out = i.out ++ c.split_at.result.0.now;
       split = append_assoc i.out c.split_at.result.0.now c.split_at.result.1.now ∙ ap (λ l. i.out ++ l) (sym c.split_at.ensures.by_index.0) ∙ i.split;
-      went = appends_more _ _ _ _ _ i.went c.in-Ok.ensures.ok;
+      went = Appends-trans _ _ _ _ _ i.went c.in-Ok.ensures.ok;
       count = c.in-Ok.ensures.kept ∙ i.count;
       tied = g.W.ByteSink.sink.keeps_more _ _ _ i.tied c.in-Ok.ensures.keeps;
     }
@@ -24,7 +25,7 @@ returns-in-Err-clause-err g c =
       length (i.out ++ take k.0 c.split_at.result.0.now),
       subst (λ l. Appends (g.W.ByteSink.sink.bytes c.args.writer.now) (g.W.ByteSink.sink.bytes c.put_all.new.writer) l)
           (part-out i.out c.split_at.result.0.now c.split_at.result.1.now c.args.bytes.now k.0 (ap (λ l. i.out ++ l) (sym c.split_at.ensures.by_index.0) ∙ i.split))
-          (appends_more _ _ _ _ _ i.went k.1),
+          (Appends-trans _ _ _ _ _ i.went k.1),
     )
 
 pub returns-clause-err : goal.returns-clause-err
@@ -35,7 +36,7 @@ returns-clause-err g c =
       length (i.out ++ take k.0 c.pieces.rest.now),
       subst (λ l. Appends (g.W.ByteSink.sink.bytes c.args.writer.now) (g.W.ByteSink.sink.bytes c.put_all-2.new.writer) l)
           (part-out i.out c.pieces.rest.now [] c.args.bytes.now k.0 (ap (λ l. i.out ++ l) (append-nil c.pieces.rest.now) ∙ i.split))
-          (appends_more _ _ _ _ _ i.went k.1),
+          (Appends-trans _ _ _ _ _ i.went k.1),
     ))
     c.put_all-2.ensures.err
 

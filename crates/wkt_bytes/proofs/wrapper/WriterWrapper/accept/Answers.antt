@@ -1,5 +1,6 @@
+-- After an error nothing is taken.
 use Rattle.std.proofs.Common.{refl}
-use Rattle.wkt_bytes.specs.Wrapper.{leaves_as_is, not_well}
+use Rattle.wkt_bytes.proofs.Gathering.{leaves_as_is, not_well}
 use Rattle.wkt_bytes.proofs.wrapper.WriterWrapper.accept.Goals as goal
 
 pub returns-in_default : goal.returns-in_default

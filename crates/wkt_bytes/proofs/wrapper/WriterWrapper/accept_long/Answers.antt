@@ -1,6 +1,8 @@
+-- What was taken so far is out or in the array, also where the array is put out, or that fails.
 use Rattle.std.proofs.Common.{◌≤◌, ◌∙◌, ap, drop, length, arith}
 use Rattle.std.proofs.lemmas.List.{append-nil}
-use Rattle.wkt_bytes.specs.Wrapper.{state_well, gives_more, kept_gives, leaves_after, leaves_longer}
+use Rattle.wkt_bytes.specs.Wrapper.{state_well, gives_more, leaves_after, leaves_longer}
+use Rattle.wkt_bytes.proofs.Gathering.{kept_gives}
 use Rattle.wkt_bytes.proofs.SinkLemmas.{any_err, take_step, with_rest}
 use Rattle.wkt_bytes.proofs.wrapper.WriterWrapper.accept_long.Goals as goal
 use Rattle.wkt_bytes.proofs.wrapper.WriterWrapper.accept_long.Goals.{then-bytes-at, else-bytes-at}

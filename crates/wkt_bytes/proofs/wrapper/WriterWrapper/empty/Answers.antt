@@ -1,3 +1,4 @@
+-- Where the writer fails, a beginning of the array is out.
 use Rattle.std.proofs.Common.{sym, ◌∙◌, take, drop, refl}
 use Rattle.std.proofs.lemmas.List.{append-nil, take-append-drop}
 use Rattle.wkt_bytes.specs.Wrapper.{held_bytes}

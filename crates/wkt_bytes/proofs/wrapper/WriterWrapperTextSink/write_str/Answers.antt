@@ -1,3 +1,4 @@
+-- What is accepted of a piece is what the sink is given.
 use Rattle.std.proofs.Common.{ap}
 use Rattle.wkt_num.specs.Sink.{next_count}
 use Rattle.wkt_bytes.proofs.wrapper.WriterWrapperTextSink.write_str.Goals as goal

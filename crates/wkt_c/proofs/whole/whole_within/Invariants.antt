@@ -1,5 +1,5 @@
 use Rattle.std.proofs.Common.{◌≤◌, length}
-use Rattle.wkt_c.proofs.chunks.whole_within.Given as goal
+use Rattle.wkt_c.proofs.whole.whole_within.Given as goal
 
 abbrev pub invariant-back : goal.invariant-back
 invariant-back l = l.at ≤ length l.rest

@@ -1,0 +1,10 @@
+use Rattle.std.proofs.Common.{arith}
+use Rattle.std.proofs.lemmas.Str.Ascii.{IsAscii-from_reads}
+use Rattle.wkt_c.proofs.AsciiWindows.{window-below}
+use Rattle.wkt_c.proofs.canonical.is_ascii.Goals as goal
+
+pub wide-preserved : goal.wide-preserved
+wide-preserved c = record {
+  within = omega arith;
+  below = window-below c.args.bytes.now c.wide.at (omega arith) c.wide.invariant.below c.if-high-ne0.false;
+}

@@ -1,0 +1,17 @@
+use Rattle.std.proofs.Common.{◌≤◌, ◌-◌, ◌^◌, length, take, true}
+use Rattle.std.specs.Prelude.{vec_len}
+use Rattle.wkt_lines.specs.Output.{IsOutput}
+use Rattle.wkt_c.specs.Answer.{read_at, print_at}
+use Rattle.wkt_c.specs.Chunks.{AreWholeLines}
+use Rattle.wkt_c.proofs.lines.answers.Given as goal
+
+abbrev pub invariant-room : goal.invariant-room
+invariant-room g l = record {
+  taken : l.done.taken ≤ length l.input;
+  written : l.done.written ≤ vec_len l.room;
+  lines : AreWholeLines true l.input l.done.taken;
+  answers : IsOutput (read_at g.row.D) (print_at g.row.D) (take l.done.taken l.input) (take l.done.written l.room.items);
+}
+
+abbrev pub decreases-room : goal.decreases-room
+decreases-room g l = 2 ^ 64 - vec_len l.room

@@ -1,0 +1,66 @@
+//! Room for the arrays of a text, which grows as longer ones come.
+ghost use Rattle.std.specs.Prelude.{◌≡◌, MatchResult, ⊤};
+
+use crate::status::MEMORY;
+use std::alloc::Global;
+use wkt_fill::Room;
+
+/// Places for arrays, which texts use one after the other.
+#[derive(Drop)]
+pub(crate) struct ArraysRoom {
+    numbers: Vec<i64>,
+    rings: Vec<usize>,
+    polygons: Vec<usize>,
+}
+
+/// How many places a list grows by at least.
+const MORE: usize = 64;
+
+/// Makes a list at least so long, by as many of those items as it takes.
+fn lengthen<T: Copy>(list: &mut Vec<T>, needed: usize, more: &[T]) -> Result<(), u32>
+    ensures { MatchResult result (λ _. ⊤) (λ s. s ≡ MEMORY) }
+{
+    if list.len() >= needed {
+        return Ok(());
+    }
+    let missing = needed - list.len();
+    if list.reserve(missing).is_err() {
+        return Err(MEMORY);
+    }
+    for _turn in 0..missing / MORE + 1 {
+        if list.extend_from_slice(more).is_err() {
+            return Err(MEMORY);
+        }
+    }
+    Ok(())
+}
+
+impl ArraysRoom {
+    /// No places.
+    pub(crate) fn new(alloc: Global) -> ArraysRoom {
+        ArraysRoom {
+            numbers: Vec::new(alloc),
+            rings: Vec::new(alloc),
+            polygons: Vec::new(alloc),
+        }
+    }
+
+    /// Makes room for the arrays of so many bytes. A number takes two of them at least, with what follows it; a ring takes
+    /// four, and a polygon six.
+    pub(crate) fn make(&mut self, bytes: usize) -> Result<(), u32>
+        ensures { MatchResult result (λ _. ⊤) (λ s. s ≡ MEMORY) }
+    {
+        lengthen(&mut self.numbers, bytes / 2 + 2, &[0; MORE])?;
+        lengthen(&mut self.rings, bytes / 4 + 2, &[0; MORE])?;
+        lengthen(&mut self.polygons, bytes / 6 + 2, &[0; MORE])
+    }
+
+    /// The places, lent to a text.
+    pub(crate) fn lend(&mut self) -> Room<'_> {
+        Room {
+            numbers: self.numbers.as_mut_slice(),
+            rings: self.rings.as_mut_slice(),
+            polygons: self.polygons.as_mut_slice(),
+        }
+    }
+}
