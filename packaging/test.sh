@@ -90,8 +90,8 @@ RT
     (cd "$dir/other/crates/mine" && rt try < /dev/null) 2> "$dir/log" | grep -qx "$answer" || { cat "$dir/log"; fail "rt try"; }
     # Again, with a crate more and then without it: the same files but for that; a change there stops it.
     cp -r "$dir/other" "$dir/before"
-    "$here/vendor.sh" "$dir/other" wkt wkt_stream > /dev/null || fail "vendor.sh with a crate more"
-    [ -d "$dir/other/crates/wkt_stream" ] || fail "wkt_stream isn't brought"
+    "$here/vendor.sh" "$dir/other" wkt wkt_lines > /dev/null || fail "vendor.sh with a crate more"
+    [ -d "$dir/other/crates/wkt_lines" ] || fail "wkt_lines isn't brought"
     "$here/vendor.sh" "$dir/other" > /dev/null || fail "vendor.sh again"
     diff -r "$dir/before" "$dir/other" > /dev/null || fail "brought again, other files"
     echo >> "$dir/other/crates/wkt_num/src/lib.rt"

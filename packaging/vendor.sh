@@ -5,9 +5,10 @@
 # Brought are src, specs and proofs of each crate to TARGET/crates, the two licences to TARGET/LICENSES/wkt, and the
 # lines of crates.txt between two comments. Called again, it puts the newest in place of what it brought, and takes away
 # crates that aren't needed any more. A crate that was changed there, or that it didn't bring, stops it before it writes.
+# The first `rt check` there of a crate over wkt proves them all: about an hour of processor time. `rt try` needs no proof.
 set -eu
 root=$(cd "$(dirname "$0")/.." && pwd)
-[ $# -ge 1 ] || { sed -n '2,8s/^# \{0,1\}//p' "$0"; exit 2; }
+[ $# -ge 1 ] || { sed -n '2,9s/^# \{0,1\}//p' "$0"; exit 2; }
 target=$(cd "$1" && pwd)
 shift
 [ $# -gt 0 ] || set -- wkt
