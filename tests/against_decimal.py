@@ -152,6 +152,10 @@ def expected(text, places):
 
 
 def a_number(random, places):
+    if random.plain:
+        after = random.randint(0, places)
+        text = str(random.randint(0, 9 if places > 15 else 999))
+        return random.choice(["", "-"]) + text + ("." + "".join(random.choice("0123456789") for _ in range(after)) if after else "")
     digits = random.choice([1, 2, 3, 3, 5, 12, 17, 18, 19, 20, 40])
     whole = "".join(random.choice("0123456789") for _ in range(random.randint(1, digits)))
     form = random.randrange(12)
@@ -270,6 +274,7 @@ def main():
     kept = len(texts)
     for _ in range(count):
         places = chance.choice([0, 1, 6, 6, 6, 9, 15, 18])
+        chance.plain = chance.random() < 0.7
         text = a_text(chance, places)
         texts.append((damaged(chance, text) if chance.random() < 0.3 else text, places))
     wrong, seen = 0, {}
