@@ -3,9 +3,7 @@ use crate::calls::Number;
 use std::alloc::{AllocError, Global};
 use wkt::geo_types::Geometry;
 use wkt::geo_types_from_wkt::Error;
-use wkt::walks::num_coords;
-use wkt::{AnyError, ToWkt, TryFromWkt};
-use wkt_uses::bounding_box::box_of_text;
+use wkt::{AnyError, TryFromWkt};
 use wkt_uses::flat_key::flat_key;
 use wkt_uses::my_number::Half;
 use wkt_uses::read_and_write::{tidy, tidy_if_any, tidy_pair};
@@ -25,7 +23,6 @@ pub(crate) fn used(alloc: Global, call: &str, of: &str, text: &str) -> Result<St
         "tidy_if_any" => Ok(tidy_or_none(alloc, text)?),
         "tidy_pair" => Ok(tidy_pair::<Number>(alloc, of, text)?),
         "answer_to" => Ok(answered(alloc, text)?),
-        "box_of_text" => boxed(alloc, text),
         _ => Ok(String::from_str(alloc, "no such call")?),
     }
 }
@@ -59,17 +56,5 @@ fn answered(alloc: Global, text: &str) -> Result<String, AllocError> {
         Answer::Refused(start, end, expected) => {
             format!(in alloc; "{start}..{end} {expected:?}")
         }
-    }
-}
-
-/// How many coordinates the geometry of a text has, and the text of the least rectangle around it, or none.
-fn boxed(alloc: Global, text: &str) -> Result<String, AnyError> {
-    let count = num_coords(&Geometry::<i64>::try_from_wkt_str(alloc, text)?);
-    match box_of_text::<i64>(alloc, text)? {
-        Some(rect) => {
-            let around = rect.wkt_string(alloc)?;
-            Ok(format!(in alloc; "{count} {around}")?)
-        }
-        None => Ok(format!(in alloc; "{count} none")?),
     }
 }

@@ -1,11 +1,75 @@
 //! Walks over the coordinates of two-dimensional geometries, and the callers that make them.
-use crate::asserts::equal;
+use crate::asserts::{equal, equal_at};
 use std::alloc::{AllocError, Global};
 use std::test::Fail;
 use wkt::geo_types::{Coord, Geometry, Line, Rect, Triangle};
-use wkt::walks::{Mapper, Visitor, bounding_rect, map_coords, visit_coords};
+use wkt::walks::{Mapper, Visitor, bounding_rect, map_coords, num_coords, visit_coords};
 use wkt::{Decimal, ToWkt, TryFromWkt};
+use wkt_uses::bounding_box::box_of_text;
 use wkt_uses::key_counts::{counts, keys};
+
+// A text, how many coordinates its geometry has, and the text of the least rectangle around it, if there is one.
+const WALKED: [(&str, usize, &str); 12] = [
+    ("POINT(1 2)", 1, "POLYGON((1 2,1 2,1 2,1 2,1 2))"),
+    ("POINT EMPTY", 0, ""),
+    ("LINESTRING(3 1,0 5)", 2, "POLYGON((3 1,3 5,0 5,0 1,3 1))"),
+    (
+        "LINESTRING Z(3 1 9,0 5 -9)",
+        2,
+        "POLYGON((3 1,3 5,0 5,0 1,3 1))",
+    ),
+    (
+        "POLYGON((0 0,4 0,2 4),(1 1,9 1,1 2))",
+        8,
+        "POLYGON((9 0,9 4,0 4,0 0,9 0))",
+    ),
+    ("POLYGON(EMPTY)", 0, ""),
+    (
+        "MULTIPOINT(1 2,-3 4)",
+        2,
+        "POLYGON((1 2,1 4,-3 4,-3 2,1 2))",
+    ),
+    (
+        "MULTILINESTRING((1 2,3 4),EMPTY,(0 0,9 -9))",
+        4,
+        "POLYGON((9 -9,9 4,0 4,0 -9,9 -9))",
+    ),
+    (
+        "MULTIPOLYGON(((0 0,1 0,0 1)),((5 5,6 5,5 6)))",
+        8,
+        "POLYGON((6 0,6 6,0 6,0 0,6 0))",
+    ),
+    ("GEOMETRYCOLLECTION EMPTY", 0, ""),
+    (
+        "GEOMETRYCOLLECTION(POINT(1 2),GEOMETRYCOLLECTION(LINESTRING(-3 4,5 -6)))",
+        3,
+        "POLYGON((5 -6,5 4,-3 4,-3 -6,5 -6))",
+    ),
+    (
+        "GEOMETRYCOLLECTION(GEOMETRYCOLLECTION EMPTY,POINT EMPTY)",
+        0,
+        "",
+    ),
+];
+
+#[test]
+fn counted_and_bounded(rt: HostRuntime) -> Result<(), Fail> {
+    let alloc = rt.alloc();
+    for (text, count, around) in &WALKED {
+        let geometry = Geometry::<i64>::try_from_wkt_str(alloc, text)?;
+        equal_at(&rt, text, num_coords(&geometry), *count);
+        let Ok(found) = box_of_text::<i64>(alloc, text) else {
+            panic!(rt; "{text} wasn't read");
+        };
+        let given = match found {
+            Some(rect) => rect.wkt_string(alloc)?,
+            None => String::new(alloc),
+        };
+        equal_at(&rt, text, given.as_str(), *around);
+    }
+    assert!(rt; box_of_text::<i64>(alloc, "POINT(1)").is_err());
+    Ok(())
+}
 
 /// The coordinates in the order in which they came.
 #[derive(Drop)]
