@@ -1,5 +1,5 @@
 -- What a collection weighs, and what is inside it, by its members.
-use Rattle.std.proofs.Common.{◌≡◌, ◌+◌, refl, ap, ap₂, sym, ◌∙◌, List, [], ◌∷◌}
+use Rattle.std.proofs.Common.{◌≡◌, ◌<◌, ◌+◌, refl, ap, ap₂, sym, ◌∙◌, List, [], ◌∷◌, arith}
 use Rattle.wkt_access.specs.declared.dimensions.Dimension.{Dimension}
 use Rattle.wkt_flat.specs.Weight.{total}
 use Rattle.wkt_types.specs.Tree.{Tree, tree, collection_tree, members, collection, point, line_string, polygon, multi_point, multi_line_string, multi_polygon}
@@ -21,6 +21,9 @@ weighed (multi_point l) = refl
 weighed (multi_line_string l) = refl
 weighed (multi_polygon l) = refl
 weighed (collection ts d) = refl
+
+pub at_least_one : {T : Type 0} (w : Wkt T) → 0 < weight w
+at_least_one w = let e : 1 + inside w ≡ weight w = weighed (tree w) in omega (arith, e)
 
 -- The total of a list is what its members weigh as those of a collection.
 totalled : {T : Type 0} (ws : List (Wkt T)) → total inside ws ≡ weights ws
