@@ -7,7 +7,7 @@ ghost use Rattle.wkt_events.specs.Plus.{plus_len};
 ghost use Rattle.wkt_events.specs.Numbers.{Numbered, NoNumber};
 
 use crate::builder::{At, Builder, Part};
-use crate::bytes::run_end;
+use crate::reading::number_there;
 use std::fmt;
 use std::marker::PhantomData;
 use std::simd::prelude::*;
@@ -195,17 +195,10 @@ impl<'a, T: WktNum> Pen<'a, T> {
         ensures some { IfSome result (λ r. Numbered T.read T.num text.now at self.entry r.made r.at) }
         ensures none { IfNone result (NoNumber T.read text.now at) }
     {
-        let end = run_end(text, at);
-        if end == at || !begins_number(text[at]) {
-            return None;
-        }
-        let start = past_plus(text, at);
-        let Ok(run) = str::from_utf8(&text[start..end]) else {
+        let Some(found) = number_there::<T>(text, at) else {
             return None;
         };
-        let Some(number) = T::read_number(run) else {
-            return None;
-        };
+        let (number, end) = found;
         let Pen { out, len, of } = self;
         let before = len;
         let mut space = Space {
