@@ -56,7 +56,7 @@
 //! let line = literals::line_string(alloc, &[(0, 0), (4, -1)])?;
 //! ```
 //!
-//! # Geometries of one's own
+//! # Custom geometries
 //! Any type with the traits of [`geo_traits`] is written as it stands, with no copy: see [`to_wkt`]. A function
 //! over those traits takes a `Wkt`, a two-dimensional geometry and any other alike:
 //!
@@ -97,7 +97,7 @@ pub use wkt_read::{FromWktStr, InferError, Message, ReadError, infer_type};
 // crate that has it.
 pub type Wkt<T> = wkt_types::Wkt<T>;
 
-/// The traits by which any representation of a geometry is accessed: a type of one's own that has them is
+/// The traits by which any representation of a geometry is accessed: a custom type that has them is
 /// written by the writers of [`to_wkt`].
 pub mod geo_traits {
     pub use wkt_access::{

@@ -29,7 +29,7 @@ fn main(rt: HostRuntime) -> ExitCode {
         Ok(0) => ExitCode::SUCCESS,
         Ok(_) => ExitCode::from(1),
         Err(e) => {
-            // Where standard error fails too, the status still tells.
+            // If standard error fails too, the status still reports it.
             let _ = eprintln!(rt; "wkt_conformance: {e}");
             ExitCode::from(2)
         }

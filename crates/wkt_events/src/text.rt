@@ -17,8 +17,8 @@ use wkt_types::GeometryType;
 
 /// Bytes with room, of which the first `len` are written. What is written after them may be taken back.
 ///
-/// A pen that had no room for the text of a number is stuck: it has a byte less, writes on from the first, and none of it
-/// counts.
+/// A pen that had no room for the text of a number is stuck: it has a byte less, writes on from the first, and its bytes
+/// count for nothing.
 #[derive(Drop)]
 pub struct Pen<'a, T> {
     pub(crate) out: &'a mut [u8],

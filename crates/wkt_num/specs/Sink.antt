@@ -67,7 +67,7 @@ module _ {S : Type 0} (text : S → List ℕ) where
     grown = h.grown;
   }
 
-  -- A sink that tells its text.
+  -- A sink that reveals its text.
   abbrev pub telling : (S → ℕ) → Sink S
   telling failures = record {
     gives = λ s bs t. text t ≡ text s ++ bs;

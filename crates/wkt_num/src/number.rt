@@ -56,7 +56,7 @@ pub trait WktNum: Copy + PartialEq + PartialOrd + Debug {
         false
     }
 
-    /// Does nothing. Its contract tells that the number is a value of the type.
+    /// Does nothing. Its contract says that the number is a value of the type.
     fn known(&self)
         ensures { is_value self.now };
 

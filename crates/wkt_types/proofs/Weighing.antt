@@ -1,4 +1,4 @@
--- How many geometries wait as a list of them is let go.
+-- How many geometries wait while a list of them is dropped.
 use Rattle.std.proofs.Common.{◌≡◌, ◌<◌, ◌≤◌, ◌+◌, ap, ◌∙◌, List, [], ◌∷◌, ◌++◌, length, get_or, slice_set, arith}
 use Rattle.wkt_access.specs.declared.dimensions.Dimension.{Dimension}
 use Rattle.wkt_types.specs.Tree.{Tree, tree, collection_tree, members, collection, point, line_string, polygon, multi_point, multi_line_string, multi_polygon}

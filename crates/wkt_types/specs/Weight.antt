@@ -1,4 +1,4 @@
--- How many geometries there are to let go: only private contracts cite it.
+-- How many geometries there are to drop: only private contracts cite it.
 use Rattle.std.specs.Prelude.{ℕ, ◌+◌, List}
 use Rattle.wkt_types.specs.declared.geometry.Wkt.{Wkt}
 use Rattle.wkt_types.specs.Tree.{Tree, Trees, point, line_string, polygon, multi_point, multi_line_string, multi_polygon, collection, no_trees, more_trees, tree, members}

@@ -1,4 +1,4 @@
-//! A scene of one's own, of layers within layers, written as a collection of collections.
+//! A custom scene, of layers within layers, written as a collection of collections.
 ghost use Rattle.std.specs.Fmt.{signed_decimal};
 ghost use Rattle.std.specs.Prelude.{◌≡◌, IfOk, length, string_bytes};
 ghost use Rattle.wkt.specs.Front.{Front};

@@ -15,7 +15,7 @@ fn main(rt: HostRuntime) -> ExitCode {
         Err(RunError::Write(_)) => "wkt: write fault",
         Err(RunError::Memory(_)) => "wkt: out of memory",
     };
-    // Where standard error fails too, the status still tells.
+    // If standard error fails too, the status still reports it.
     let _ = eprintln!(rt; "{message}");
     ExitCode::from(1)
 }

@@ -2,7 +2,7 @@ use Rattle.std.proofs.Common.{◌≡◌, ◌<◌, ◌+◌, ap, length, arith}
 use Rattle.std.proofs.lemmas.Bool.Decides.{nat_tests}
 use Rattle.wkt_types.specs.Weight.{weight, weights}
 use Rattle.wkt_types.proofs.Weighing.{at_least_one, opened, exchanged, first_within}
-use Rattle.wkt_types.proofs.letting_go.let_one_go.Goals as goal
+use Rattle.wkt_types.proofs.dropping.drop_one.Goals as goal
 
 pub returns-in_default : goal.returns-in_default
 returns-in_default g c = record { lighter = omega (arith, c.loop-members.invariant, at_least_one c.loop-members.geometry) }

@@ -1,4 +1,4 @@
-//! Geometries let go by a loop: nesting takes no stack, and nothing asks for memory.
+//! Drops geometries by a loop: nesting takes no stack, and no memory is taken.
 ghost use Rattle.std.specs.Prelude.{◌≡◌, ◌+◌, ◌<◌, IfSome};
 ghost use Rattle.wkt_types.specs.Weight.{weight, weights};
 
@@ -6,18 +6,18 @@ use crate::geometry::{GeometryCollection, Wkt};
 use std::mem;
 use wkt_access::Dimension;
 
-/// Lets the geometries go, with all that they hold.
-pub(crate) fn let_go<T: Drop>(geometries: Vec<Wkt<T>>) {
+/// Drops the geometries, with all that they hold.
+pub(crate) fn drop_geometries<T: Drop>(geometries: Vec<Wkt<T>>) {
     let mut waiting = geometries;
     while let Some(geometry) = waiting.pop() {
-        waiting = let_one_go(geometry, waiting);
+        waiting = drop_one(geometry, waiting);
     }
     waiting.destroy_empty();
 }
 
-// Lets one geometry go, and gives back what then waits. Each collection is opened once, and so is
+// Drops one geometry, and returns those that then wait. Each collection is opened once, and so is
 // each that is made here: where it is taken nothing else waits, so it isn't put away again.
-fn let_one_go<T: Drop>(geometry: Wkt<T>, waiting: Vec<Wkt<T>>) -> Vec<Wkt<T>>
+fn drop_one<T: Drop>(geometry: Wkt<T>, waiting: Vec<Wkt<T>>) -> Vec<Wkt<T>>
     ensures lighter { weights result.items < weight geometry + weights waiting.items }
 {
     let mut geometry = geometry;
@@ -41,7 +41,7 @@ fn let_one_go<T: Drop>(geometry: Wkt<T>, waiting: Vec<Wkt<T>>) -> Vec<Wkt<T>>
     }
 }
 
-// The members of a collection. Any other geometry is let go.
+// The members of a collection. Any other geometry is dropped.
 fn into_members<T: Drop>(geometry: Wkt<T>) -> Option<Vec<Wkt<T>>>
     ensures { IfSome result (λ members. weight geometry ≡ 1 + weights members.items) }
 {

@@ -1,6 +1,6 @@
 use Rattle.std.proofs.Common.{◌+◌, ◌≡◌}
 use Rattle.wkt_types.specs.Weight.{weight, weights}
-use Rattle.wkt_types.proofs.letting_go.let_one_go.Given as goal
+use Rattle.wkt_types.proofs.dropping.drop_one.Given as goal
 
 abbrev pub invariant-loop-members : goal.invariant-loop-members
 invariant-loop-members g l =
