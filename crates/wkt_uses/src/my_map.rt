@@ -87,7 +87,7 @@ impl GeometryTrait for Figure {
     fn geometry(&self, i: usize) -> &Figure {
         match self {
             Figure::Group(_, members) => &members[i],
-            _ => unreachable!(),
+            _ => self,
         }
     }
 }

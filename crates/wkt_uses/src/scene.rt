@@ -75,7 +75,7 @@ impl GeometryTrait for Layer {
     fn geometry(&self, i: usize) -> &Layer {
         match self {
             Layer::Group(_, layers) => &layers[i],
-            _ => unreachable!(),
+            _ => self,
         }
     }
 }
