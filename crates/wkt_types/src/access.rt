@@ -43,8 +43,9 @@ impl<T: WktNum> CoordTrait for Coord<T> {
         match (n, self.z, self.m) {
             (0, _, _) => self.x,
             (2, Some(z), _) => z,
-            (2 | 3, _, Some(m)) => m,
-            // The second one: there are no other places.
+            (2, None, Some(m)) => m,
+            (3, _, Some(m)) => m,
+            // Place 1: there are no others.
             _ => self.y,
         }
     }
