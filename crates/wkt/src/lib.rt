@@ -1,5 +1,7 @@
 //! Well-known text read and written, proved: every name of the crates below, in one place.
 //!
+//! Below stand all crates of the library but `wkt_fill` and `wkt_lines`; above, examples and tests.
+//!
 //! A call that takes memory has the allocator first, `alloc`, which `main` gets with `rt.alloc()`, and answers
 //! an error where there is none. Numbers are of any type with [`WktNum`]: whole ones, or a [`Decimal`] of so
 //! many places.

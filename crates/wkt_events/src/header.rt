@@ -99,7 +99,7 @@ fn after_kind<T: WktNum, const FEED_ENDS: bool>(
     }
 }
 
-/// Behind `POINT(` or `POINT (`, if one stands there with a byte behind it. `None` says nothing.
+/// Behind `POINT(` or `POINT (`, with a byte behind it. `None` doesn't imply that none stands there.
 #[inline(always)]
 pub(crate) fn point_head<T: WktNum, const FEED_ENDS: bool>(text: &[u8], at: usize) -> Option<usize>
     requires { at ≤ length text.now }
@@ -118,7 +118,8 @@ pub(crate) fn point_head<T: WktNum, const FEED_ENDS: bool>(text: &[u8], at: usiz
     None
 }
 
-/// Behind `GEOMETRYCOLLECTION(` or `GEOMETRYCOLLECTION (`, if one stands there with a byte behind it. `None` says nothing.
+/// Behind `GEOMETRYCOLLECTION(` or `GEOMETRYCOLLECTION (`, with a byte behind it. `None` doesn't imply that none stands
+/// there.
 #[inline(always)]
 pub(crate) fn collection_head<T: WktNum, const FEED_ENDS: bool>(
     text: &[u8],

@@ -1,5 +1,7 @@
 //! Answers each line of standard input on standard output: with the text of its geometry, or with
 //! `refused`.
+//!
+//! Below stands `wkt_lines`, with the call that this program makes.
 #![tactic(auto)]
 
 use std::process::ExitCode;

@@ -1,4 +1,6 @@
 //! Answers each line of standard input on standard output as `wktline` does, in the memory of the longest line.
+//!
+//! Below stands `wkt_lines`, with the call that this program makes.
 #![tactic(auto)]
 
 use std::process::ExitCode;
