@@ -12,12 +12,9 @@ mod header;
 mod items;
 pub mod laws;
 mod lines;
-mod marks;
-mod numbers;
 mod reading;
 mod shapes;
 mod text;
-mod through;
 mod walk;
 
 pub use builder::{At, Builder, Part};
