@@ -6,6 +6,7 @@ mod Alikes
 mod Written
 mod Listed
 -- Lemmas of the crates below that callers' proofs cite.
+pub use Rattle.wkt_num.proofs.Grown
 pub use Rattle.wkt_access.proofs.Collections
 pub use Rattle.wkt_access.proofs.Lists
 pub use Rattle.wkt_write.proofs.Members

@@ -36,7 +36,7 @@ pub(crate) fn number_end<T: WktNum>(text: &[u8], at: usize) -> Option<usize>
     }
 }
 
-/// The number that stands there, by its value, and where it ends.
+/// The number that stands there, in any form, and its end.
 #[inline(always)]
 pub(crate) fn number_there<T: WktNum>(text: &[u8], at: usize) -> Option<(T, usize)>
     requires { at ≤ length text.now }

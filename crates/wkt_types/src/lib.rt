@@ -1,4 +1,6 @@
 //! The types of well-known text: a geometry and its parts, each with the dimension of its header.
+//!
+//! Below stand `wkt_write` and `wkt_flat`; above, the readers (`wkt_read`) and the conversions (`wkt_convert`).
 #![tactic(auto)]
 
 mod access;

@@ -3,7 +3,7 @@ use Rattle.std.proofs.Common.{sym, ap, ◌∙◌, arith}
 use Rattle.wkt_read.specs.Parser.Outcome.{is_empty_word}
 use Rattle.wkt_events.proofs.Words.{empty-word}
 use Rattle.wkt_events.proofs.NextWords.{word-count, word-there, only-word}
-use Rattle.wkt_events.proofs.marks.empty_word.Goals as goal
+use Rattle.wkt_events.proofs.bytes.empty_word.Goals as goal
 
 pub returns-then-is_empty_in : goal.returns-then-is_empty_in
 returns-then-is_empty_in g c =

@@ -3,7 +3,7 @@ use Rattle.std.proofs.Common.{◌≡◌, ◌∙◌, sym, ap, arith, take, drop, 
 use Rattle.std.specs.Int.{w64, to_le_bytes}
 use Rattle.std.proofs.lemmas.List.{take_rest}
 use Rattle.wkt_events.proofs.FirstBytes.{collection-bytes}
-use Rattle.wkt_events.proofs.header.is_collection.Goals as goal
+use Rattle.wkt_events.proofs.walk.is_collection.Goals as goal
 
 pub returns : goal.returns
 returns c =

@@ -5,7 +5,7 @@ use Rattle.wkt_read.specs.Parser.Outcome.{closing_at}
 use Rattle.wkt_events.specs.Events.{Event}
 use Rattle.wkt_events.proofs.Giving.{gives-none, close-class}
 use Rattle.wkt_events.proofs.Closing.{closing-other, close-gives, mark-room, mark-fits}
-use Rattle.wkt_events.proofs.marks.close.Goals as goal
+use Rattle.wkt_events.proofs.bytes.close.Goals as goal
 
 pub take-requires-clause-mark : goal.take-requires-clause-mark
 take-requires-clause-mark g c = (lex.Close, close-class)

@@ -2,7 +2,7 @@
 use Rattle.std.proofs.Common.{◌∙◌, ℕ, sym, rules}
 use Rattle.std.proofs.lemmas.Nat.{le_bytes_8}
 use Rattle.wkt_events.proofs.FirstBytes.{first-eight, eight-below}
-use Rattle.wkt_events.proofs.header.eight_bytes.Goals as goal
+use Rattle.wkt_events.proofs.walk.eight_bytes.Goals as goal
 
 pub returns : goal.returns
 returns c =

@@ -2,7 +2,7 @@
 use Rattle.std.proofs.Common.{◌≡◌, ◌∙◌, sym, ap, arith, take, codes}
 use Rattle.std.specs.Int.{w32, to_le_bytes}
 use Rattle.wkt_events.proofs.FirstBytes.{point-bytes}
-use Rattle.wkt_events.proofs.header.is_point.Goals as goal
+use Rattle.wkt_events.proofs.walk.is_point.Goals as goal
 
 pub returns : goal.returns
 returns c =

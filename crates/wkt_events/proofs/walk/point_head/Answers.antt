@@ -3,7 +3,7 @@ use Rattle.std.proofs.Common.{subst, sym, arith, length, take, ap, ◌∙◌, in
 use Rattle.std.proofs.lemmas.List.{take_rest}
 use Rattle.wkt_events.specs.Behind.{OpensThere}
 use Rattle.wkt_events.proofs.NamedHeads.{point-opens}
-use Rattle.wkt_events.proofs.header.point_head.Goals as goal
+use Rattle.wkt_events.proofs.walk.point_head.Goals as goal
 
 pub returns-then-rest-eq40 : goal.returns-then-rest-eq40
 returns-then-rest-eq40 g c =

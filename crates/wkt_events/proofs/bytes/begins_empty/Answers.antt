@@ -3,7 +3,7 @@ use Rattle.std.proofs.Common.{◌≡◌, true, false, sym, ◌∙◌, arith}
 use Rattle.std.proofs.lemmas.Bool.{eq-eqb}
 use Rattle.wkt_events.proofs.Classes.{eq-of}
 use Rattle.wkt_events.proofs.FirstWord.{lacks-e, begins-letter}
-use Rattle.wkt_events.proofs.marks.begins_empty.Goals as goal
+use Rattle.wkt_events.proofs.bytes.begins_empty.Goals as goal
 
 pub returns-then-byte-eq69-clause-some : goal.returns-then-byte-eq69-clause-some
 returns-then-byte-eq69-clause-some c = λ feed is.

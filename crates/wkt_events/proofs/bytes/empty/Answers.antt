@@ -4,7 +4,7 @@ use Rattle.wkt_events.specs.Events.{Event}
 use Rattle.wkt_events.specs.Heads.{empty_at}
 use Rattle.wkt_events.proofs.Giving.{gives-none}
 use Rattle.wkt_events.proofs.Closing.{empty-other, empty-gives, empty-fits, empty-room}
-use Rattle.wkt_events.proofs.marks.empty.Goals as goal
+use Rattle.wkt_events.proofs.bytes.empty.Goals as goal
 
 pub returns-in_err-next-clause-gives : goal.returns-in_err-next-clause-gives
 returns-in_err-next-clause-gives g c =
