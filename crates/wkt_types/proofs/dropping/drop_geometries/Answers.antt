@@ -1,3 +1,4 @@
+-- The geometries that wait weigh less after each that is taken.
 use Rattle.std.proofs.Common.{◌≡◌, ◌+◌, ap, ◌∙◌, arith}
 use Rattle.wkt_types.specs.Weight.{weight, weights}
 use Rattle.wkt_types.proofs.Weighing.{popped}

@@ -1,3 +1,4 @@
+-- The members that are opened weigh less than their collection.
 use Rattle.std.proofs.Common.{◌≡◌, ◌<◌, ◌+◌, ap, length, arith}
 use Rattle.std.proofs.lemmas.Bool.Decides.{nat_tests}
 use Rattle.wkt_types.specs.Weight.{weight, weights}

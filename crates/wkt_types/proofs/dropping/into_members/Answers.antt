@@ -1,3 +1,4 @@
+-- A collection weighs one more than its members.
 use Rattle.wkt_types.proofs.Weighing.{opened}
 use Rattle.wkt_types.proofs.dropping.into_members.Goals as goal
 
