@@ -2,7 +2,6 @@ pub mod Texts
 pub mod BackValues
 mod Depth
 mod JsonPoints
-mod Blanks
 mod Alikes
 mod Written
 mod Listed
