@@ -17,7 +17,7 @@ end="# wkt: end"
 licences=$target/LICENSES/wkt
 stop() { echo "vendor.sh: $*" >&2; exit 1; }
 
-[ -e "$target/crates.txt" ] || stop "$target has no crates.txt"
+[ -e "$target/crates.txt" ] || stop "$target has no crates.txt: where its crates have BUILD.bazel, put a line for each in one; else begin with an empty one"
 # line NAME: the crate's line
 line() { grep -E "^$1( [^:]*)?:" "$root/crates.txt" || stop "no crate $1"; }
 # sums NAME: a sum of each file of a crate there
