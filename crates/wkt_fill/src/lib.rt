@@ -1,6 +1,7 @@
 //! Text to flat arrays, with no value between.
 #![tactic(auto)]
 
+mod eight;
 mod fill;
 mod filler;
 mod near;
