@@ -128,8 +128,10 @@ fn long_texts() {
         format!("LINESTRING(-{} {}.0,1 2)", digits("0"), digits("0")),
         format!("POINT(1 {}", digits("7")),
     ];
-    for text in texts {
-        check::some(text.as_bytes(), &[0, 1, 2, 4, 8, 15, 19, 50, 51, 53, 54, 55, 56, 57, 58]);
+    for (i, text) in texts.iter().enumerate() {
+        // Of those with many rings not all.
+        let operations: &[u32] = if i < 3 { &[1, 15, 51, 54, 56] } else { &[0, 1, 2, 4, 8, 15, 50, 51, 53, 54, 55, 56, 57, 58] };
+        check::some(text.as_bytes(), operations);
     }
 }
 
