@@ -5,7 +5,7 @@ use crate::c_calls::{
 };
 use crate::reader::{text as text_of, units, Numbers, Path, Value};
 
-/// What wkt_arrays tells beside the arrays.
+/// What wkt_arrays returns beside the arrays.
 #[repr(C)]
 #[derive(Clone, Copy, Debug, Default, PartialEq)]
 struct Sizes {
@@ -168,10 +168,10 @@ struct Wanted {
     more: bool,
 }
 
-/// The buffers of a call of wkt_arrays, and what it told.
+/// The buffers of a call of wkt_arrays, and the sizes that it returned.
 struct Filled {
     status: u32,
-    told: Sizes,
+    sizes: Sizes,
     numbers: Buffer<i64>,
     rings: Buffer<usize>,
     polygons: Buffer<usize>,
@@ -181,15 +181,15 @@ impl Filled {
     fn of(asked: &Asked, places: u32, room: [usize; 3], poor: bool) -> Filled {
         let mut numbers = Buffer::new(room[0], i64::MIN + 5);
         let (mut rings, mut polygons) = (Buffer::new(room[1], 1 << 60), Buffer::new(room[2], 1 << 60));
-        let mut told = Sizes::default();
+        let mut sizes = Sizes::default();
         let ask = || unsafe {
             wkt_arrays(
-                pointer(asked.data), asked.data.len(), places, &mut told, numbers.at(), room[0], rings.at(), room[1],
+                pointer(asked.data), asked.data.len(), places, &mut sizes, numbers.at(), room[0], rings.at(), room[1],
                 polygons.at(), room[2],
             )
         };
         let status = if poor { asked.poor_call(ask) } else { asked.call(ask) };
-        Filled { status, told, numbers, rings, polygons }
+        Filled { status, sizes, numbers, rings, polygons }
     }
 
     fn is_untouched(&self) -> bool {
@@ -210,12 +210,12 @@ fn check_filled(asked: &Asked, wanted: &Wanted, places: u32, most: [usize; 3]) {
     let room = [0, 1, 2].map(|i| whole[i].min(most[i]));
     let filled = Filled::of(asked, places, room, false);
     let fits = match &wanted.arrays {
-        Err(status) => filled.status == *status && filled.told == Sizes::default() && filled.is_untouched(),
-        Ok(_) if wanted.more => filled.status == NOT_WHOLE && filled.told == sizes && filled.is_untouched(),
-        Ok(_) if room != whole => filled.status == SMALL && filled.told == sizes && filled.is_untouched(),
-        Ok(arrays) => filled.status == 0 && filled.told == sizes && filled.holds(arrays),
+        Err(status) => filled.status == *status && filled.sizes == Sizes::default() && filled.is_untouched(),
+        Ok(_) if wanted.more => filled.status == NOT_WHOLE && filled.sizes == sizes && filled.is_untouched(),
+        Ok(_) if room != whole => filled.status == SMALL && filled.sizes == sizes && filled.is_untouched(),
+        Ok(arrays) => filled.status == 0 && filled.sizes == sizes && filled.holds(arrays),
     };
-    let library = (filled.status, filled.told, filled.numbers.items, filled.rings.items, filled.polygons.items);
+    let library = (filled.status, filled.sizes, filled.numbers.items, filled.rings.items, filled.polygons.items);
     asked.ensure(fits, "wkt_arrays", library, (wanted, room, places));
     if asked.salt % 4 == 0 {
         let poor = Filled::of(asked, places, room, true);

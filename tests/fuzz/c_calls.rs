@@ -104,7 +104,7 @@ impl Asked<'_> {
     }
 
     /// A call that hands out a text, or says why there is none: with room enough, with too little, with little memory.
-    /// `rest` tells whether what else it tells is as wanted, of its status.
+    /// `rest` says whether its other results are as wanted, for its status.
     pub fn hands_out(
         &self,
         wanted: Result<&[u8], u32>,
@@ -192,14 +192,14 @@ fn check_canonical_at(asked: &Asked, places: u32) {
     let has_places = places % WHOLE <= 18;
     let text = if has_places { canonical(data, places) } else { Err(NO_PLACES) };
     let end = read(data, places).map_or(usize::MAX, |(_, end)| end);
-    let told = std::cell::Cell::new(usize::MAX);
+    let ends_at = std::cell::Cell::new(usize::MAX);
     let ask = |out, m, needed: &mut usize| unsafe {
         let mut end = usize::MAX;
         let status = wkt_canonical(pointer(data), data.len(), places, out, m, needed, &mut end);
-        told.set(end);
+        ends_at.set(end);
         status
     };
-    let rest = |status| told.get() == if matches!(status, 0 | SMALL | NOT_WHOLE) { end } else { usize::MAX };
+    let rest = |status| ends_at.get() == if matches!(status, 0 | SMALL | NOT_WHOLE) { end } else { usize::MAX };
     asked.hands_out(text.as_ref().map(String::as_bytes).map_err(|status| *status), ask, rest);
     let bound = text.map_or(0, |text| text.len());
     asked.ensure(bound <= 2 * data.len() + 65, "the bound of a canonical text", bound, data.len());
@@ -217,10 +217,10 @@ pub fn changed(data: &[u8], salt: usize) -> Vec<u8> {
     data
 }
 
-/// What a comparison may say: the status, what it says of the two, and the two ends.
+/// The results of a comparison: the status, whether the two are the same, and the two ends.
 type Compared = (u32, u32, usize, usize);
 
-/// What wkt_same_ends may say of two texts.
+/// What wkt_same_ends may answer for two texts.
 fn comparisons(one: &[u8], other: &[u8], places: u32) -> Vec<Compared> {
     let none = |status| (status, 9, usize::MAX, usize::MAX);
     match (read(one, places), read(other, places)) {
@@ -246,18 +246,18 @@ fn check_same(asked: &Asked) {
 fn check_same_with(asked: &Asked, other: &[u8], places: u32) {
     let wanted = comparisons(asked.data, other, places);
     let (one, n, m) = (pointer(asked.data), asked.data.len(), other.len());
-    let ask = |told: &mut Compared| unsafe {
-        wkt_same_ends(one, n, pointer(other), m, places, &mut told.1, &mut told.2, &mut told.3)
+    let ask = |compared: &mut Compared| unsafe {
+        wkt_same_ends(one, n, pointer(other), m, places, &mut compared.1, &mut compared.2, &mut compared.3)
     };
-    let mut told = (0, 9, usize::MAX, usize::MAX);
-    told.0 = asked.call(|| ask(&mut told));
-    asked.ensure(wanted.contains(&told), "wkt_same_ends", (told, other), &wanted);
+    let mut compared = (0, 9, usize::MAX, usize::MAX);
+    compared.0 = asked.call(|| ask(&mut compared));
+    asked.ensure(wanted.contains(&compared), "wkt_same_ends", (compared, other), &wanted);
     let mut poor = (0, 9, usize::MAX, usize::MAX);
     poor.0 = asked.poor_call(|| ask(&mut poor));
-    asked.ensure(poor.0 == MEMORY || poor == told, "wkt_same_ends without memory", (poor, other), told);
+    asked.ensure(poor.0 == MEMORY || poor == compared, "wkt_same_ends without memory", (poor, other), compared);
     let mut same = 9;
     let status = asked.call(|| unsafe { wkt_same(one, n, pointer(other), m, places, &mut same) });
-    asked.ensure((status, same) == (told.0, told.1), "wkt_same", (status, same, other), told);
+    asked.ensure((status, same) == (compared.0, compared.1), "wkt_same", (status, same, other), compared);
 }
 
 fn check_infer(asked: &Asked) {

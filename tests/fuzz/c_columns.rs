@@ -4,7 +4,7 @@ use crate::c_calls::{
     canonical, has_more, pointer, read, Asked, Buffer, Bytes, Room, MEMORY, NOT_COLUMN, NOT_WHOLE, NULL_ROW, SMALL, WHOLE,
 };
 
-/// What wkt_column_arrays tells beside the arrays.
+/// What wkt_column_arrays returns beside the arrays.
 #[repr(C)]
 #[derive(Clone, Copy, Debug, Default, PartialEq)]
 struct Sizes {
@@ -36,7 +36,7 @@ extern "C" {
     ) -> u32;
 }
 
-/// A column: the lines of the input are its rows, and bits of the salt tell which are null.
+/// A column: the lines of the input are its rows, and bits of the salt say which are null.
 #[derive(Clone, Debug)]
 struct Column<'a> {
     texts: &'a [u8],
@@ -111,37 +111,37 @@ pub fn check_texts(asked: &Asked) {
 type Answers<'a> = (&'a [u8], &'a [i64], &'a [u32]);
 
 fn check_column_call(asked: &Asked, column: &Column, places: u32, wanted: Result<Answers, u32>, room: [usize; 2]) {
-    hands_out_column(asked, wanted, room, |out, m, needed, told| unsafe {
+    hands_out_column(asked, wanted, room, |out, m, needed, answers| unsafe {
         wkt_column_canonical(
             pointer(column.texts), column.texts.len(), pointer(&column.offsets), column.offsets.len(),
-            pointer(&column.valid), column.valid.len(), places, out, m, told.0.at(), room[0], told.1.at(), room[1],
+            pointer(&column.valid), column.valid.len(), places, out, m, answers.0.at(), room[0], answers.1.at(), room[1],
             needed,
         )
     });
 }
 
 /// The offsets and the statuses that a call hands out.
-type Told = (Buffer<i64>, Buffer<u32>);
+type Answered = (Buffer<i64>, Buffer<u32>);
 
 /// A call that hands out the texts of a column, with buffers of that room for their offsets and statuses.
 fn hands_out_column(
     asked: &Asked,
     wanted: Result<Answers, u32>,
     room: [usize; 2],
-    call: impl Fn(Room, usize, &mut usize, &mut Told) -> u32,
+    call: impl Fn(Room, usize, &mut usize, &mut Answered) -> u32,
 ) {
     let buffers = std::cell::RefCell::new((Buffer::new(0, -7i64), Buffer::new(0, 77u32)));
     let ask = |out, m, needed: &mut usize| {
-        let mut told = (Buffer::new(room[0], -7i64), Buffer::new(room[1], 77u32));
-        let status = call(out, m, needed, &mut told);
-        *buffers.borrow_mut() = told;
+        let mut answers = (Buffer::new(room[0], -7i64), Buffer::new(room[1], 77u32));
+        let status = call(out, m, needed, &mut answers);
+        *buffers.borrow_mut() = answers;
         status
     };
     let rest = |status| {
-        let told = buffers.borrow();
+        let answers = buffers.borrow();
         match wanted {
-            Ok((_, ends, statuses)) if status == 0 => told.0.holds(ends) && told.1.holds(statuses),
-            _ => told.0.holds(&[]) && told.1.holds(&[]),
+            Ok((_, ends, statuses)) if status == 0 => answers.0.holds(ends) && answers.1.holds(statuses),
+            _ => answers.0.holds(&[]) && answers.1.holds(&[]),
         }
     };
     asked.hands_out(wanted.map(|(text, _, _)| text), ask, rest);
@@ -196,9 +196,9 @@ impl Rows {
     }
 }
 
-/// The nine buffers of a call of wkt_column_arrays, and what it told.
+/// The nine buffers of a call of wkt_column_arrays, and the sizes that it returned.
 struct Filled {
-    told: Sizes,
+    sizes: Sizes,
     kinds: Buffer<u32>,
     dimensions: Buffer<u32>,
     numbers: Buffer<i64>,
@@ -219,7 +219,7 @@ struct Rooms {
 impl Filled {
     fn new(room: Rooms) -> Filled {
         Filled {
-            told: Sizes::default(),
+            sizes: Sizes::default(),
             kinds: Buffer::new(room.rows[0], 77),
             dimensions: Buffer::new(room.rows[1], 77),
             numbers: Buffer::new(room.sizes.numbers, i64::MIN + 5),
@@ -235,7 +235,7 @@ impl Filled {
         unsafe {
             wkt_column_arrays(
                 pointer(column.texts), column.texts.len(), pointer(&column.offsets), column.offsets.len(),
-                pointer(&column.valid), column.valid.len(), places, &mut self.told, self.kinds.at(), room.rows[0],
+                pointer(&column.valid), column.valid.len(), places, &mut self.sizes, self.kinds.at(), room.rows[0],
                 self.dimensions.at(), room.rows[1], self.numbers.at(), room.sizes.numbers, number_ends.at(),
                 room.ends[0], self.rings.at(), room.sizes.rings, ring_ends.at(), room.ends[1], self.polygons.at(),
                 room.sizes.polygons, polygon_ends.at(), room.ends[2], self.statuses.at(), room.rows[2],
@@ -281,13 +281,13 @@ fn check_fill(asked: &Asked, column: &Column, places: u32, rows: &Rows, room: Ro
         let mut filled = Filled::new(room);
         let call = |filled: &mut Filled| filled.ask(column, places, room);
         let status = if poor { asked.poor_call(|| call(&mut filled)) } else { asked.call(|| call(&mut filled)) };
-        let told = filled.told == rows.sizes();
+        let sized = filled.sizes == rows.sizes();
         let fits = match status {
-            MEMORY => poor && filled.is_untouched() && filled.told == Sizes::default(),
-            SMALL => room.sizes != rows.sizes() && told && filled.is_untouched(),
-            status => status == 0 && room.sizes == rows.sizes() && told && filled.holds(rows),
+            MEMORY => poor && filled.is_untouched() && filled.sizes == Sizes::default(),
+            SMALL => room.sizes != rows.sizes() && sized && filled.is_untouched(),
+            status => status == 0 && room.sizes == rows.sizes() && sized && filled.holds(rows),
         };
-        asked.ensure(fits, "wkt_column_arrays", (status, poor, filled.told, filled.statuses.items), (rows, room, column));
+        asked.ensure(fits, "wkt_column_arrays", (status, poor, filled.sizes, filled.statuses.items), (rows, room, column));
     }
 }
 
@@ -303,8 +303,8 @@ fn check_wrong_column(asked: &Asked, column: &Column, places: u32, mut room: Roo
     }
     let mut filled = Filled::new(room);
     let status = asked.call(|| filled.ask(&wrong, places, room));
-    let fits = status == NOT_COLUMN && filled.told == Sizes::default() && filled.is_untouched();
-    asked.ensure(fits, "wkt_column_arrays of no column", (status, filled.told), (wrong, room));
+    let fits = status == NOT_COLUMN && filled.sizes == Sizes::default() && filled.is_untouched();
+    asked.ensure(fits, "wkt_column_arrays of no column", (status, filled.sizes), (wrong, room));
 }
 
 /// The texts of the rows' arrays, of some of which one thing is changed.
@@ -339,14 +339,14 @@ fn check_back(asked: &Asked, column: &Column, places: u32) {
 }
 
 fn check_back_call(asked: &Asked, rows: &Rows, valid: &[u8], places: u32, wanted: Result<Answers, u32>, room: [usize; 2]) {
-    hands_out_column(asked, wanted, room, |out, m, needed, told| unsafe {
+    hands_out_column(asked, wanted, room, |out, m, needed, answers| unsafe {
         let [number_ends, ring_ends, polygon_ends] = &rows.ends;
         wkt_column_from_arrays(
             pointer(&rows.kinds), rows.kinds.len(), pointer(&rows.dimensions), rows.dimensions.len(),
             pointer(&rows.numbers), rows.numbers.len(), pointer(number_ends), number_ends.len(), pointer(&rows.rings),
             rows.rings.len(), pointer(ring_ends), ring_ends.len(), pointer(&rows.polygons), rows.polygons.len(),
-            pointer(polygon_ends), polygon_ends.len(), pointer(valid), valid.len(), places, out, m, told.0.at(), room[0],
-            told.1.at(), room[1], needed,
+            pointer(polygon_ends), polygon_ends.len(), pointer(valid), valid.len(), places, out, m, answers.0.at(), room[0],
+            answers.1.at(), room[1], needed,
         )
     });
 }

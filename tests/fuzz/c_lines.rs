@@ -30,7 +30,7 @@ pub fn check_whole(asked: &Asked, places: u32, wanted: &[u8]) {
     asked.ensure(fits, "wkt_lines at a page's end", (status, out.escape_ascii()), wanted.escape_ascii());
 }
 
-/// What a call of wkt_lines_some told, and what stands in its buffer, of which nothing behind may be written.
+/// What a call of wkt_lines_some returned, and what stands in its buffer, behind which nothing may be written.
 struct Given {
     status: u32,
     taken: usize,
@@ -46,8 +46,8 @@ fn some(asked: &Asked, input: &[u8], places: u32, last: bool, room: usize, poor:
     };
     let status = if poor { asked.poor_call(ask) } else { asked.call(ask) };
     asked.ensure(out.items[room..].iter().all(|byte| *byte == 0xa5), "wkt_lines_some writes past its room", room, status);
-    let told = status == 0 || (taken, written) == (usize::MAX, usize::MAX);
-    asked.ensure(told, "wkt_lines_some tells sizes", (taken, written), status);
+    let kept = status == 0 || (taken, written) == (usize::MAX, usize::MAX);
+    asked.ensure(kept, "wkt_lines_some changes sizes", (taken, written), status);
     Given { status, taken, written, out: out.items }
 }
 

@@ -126,7 +126,7 @@ pub fn check_explain(asked: &Asked) {
         let status = asked.call(ask);
         asked.takes_no_memory("wkt_explain");
         let library = (status, message, place);
-        let told = wanted.map_or_else(|status| (status, 99, (usize::MAX, usize::MAX, 99)), |(message, place)| (0, message, place));
-        asked.ensure(library == told, "wkt_explain", library, told);
+        let answer = wanted.map_or_else(|status| (status, 99, (usize::MAX, usize::MAX, 99)), |(message, place)| (0, message, place));
+        asked.ensure(library == answer, "wkt_explain", library, answer);
     }
 }

@@ -175,7 +175,7 @@ fn are_written_alike<T: WktNum>(a: &[Wkt<T>], b: &[Wkt<T>]) -> bool
 }
 
 /// Whether two geometries are one, in whatever way they are put together: they have one canonical value, and so one
-/// text. `==` compares what they hold, and tells apart `POLYGON(EMPTY)` and `POLYGON EMPTY`, which have one text. It
+/// text. `==` compares what they hold: `POLYGON(EMPTY)` and `POLYGON EMPTY` differ there, and have one text. It
 /// takes no memory. Of geometries that are compared often, `into_canonical` makes what `==` then compares so.
 ///
 /// ```text

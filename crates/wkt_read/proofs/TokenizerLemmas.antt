@@ -2,3 +2,4 @@ pub mod Placings
 pub mod Steps
 pub mod Afters
 pub mod Cursors
+pub mod Blanks

@@ -1,4 +1,6 @@
 //! The types of well-known text: a geometry and its parts, each with the dimension of its header.
+//!
+//! Below stand `wkt_write` and `wkt_flat`; above, the readers (`wkt_read`) and the conversions (`wkt_convert`).
 #![tactic(auto)]
 
 mod access;
@@ -7,11 +9,11 @@ mod convert;
 mod coord;
 mod dimension;
 mod display;
+mod dropping;
 mod geometry;
 mod geometry_access;
 mod geometry_type;
 pub mod laws;
-mod letting_go;
 mod linestring;
 mod multilinestring;
 mod multipoint;
