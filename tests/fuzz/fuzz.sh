@@ -35,11 +35,11 @@ build() {
     sed -E -e 's/@"(wkt_fuzz|wkt_c::exports|wkt_c::exports_arrays)::(wkt_[a-z_]+)"/@\2/g' \
         -e 's/^define internal (noundef )?i32 @(wkt_[a-z_]+)\(/define i32 @\2(/' \
         -e 's/^define i32 @main\(\)/define i32 @rattle_main()/' "$WORK/whole.ll" > "$WORK/wkt_fuzz.ll"
-    # The flags of rt try, with libFuzzer's counters in the place of its address sanitizer.
+    # The flags of rt try, with libFuzzer's counters in the place of its address sanitizer; -O2 takes a minute more.
     flags="--target=x86_64-unknown-linux-gnu -mllvm -no-trap-after-noreturn -ffunction-sections -fdata-sections
         -mllvm -trap-unreachable -mllvm -no-x86-call-frame-opt -mllvm -disable-machine-licm
         -mllvm -disable-postra-machine-licm -mllvm -sink-common-insts=false --no-default-config -c -x ir -fPIE"
-    nice -n 10 "$kit/toolchain/bin/clang" $flags "$WORK/wkt_fuzz.ll" -O2 \
+    nice -n 10 "$kit/toolchain/bin/clang" $flags "$WORK/wkt_fuzz.ll" -O1 \
         -fsanitize-coverage=inline-8bit-counters,pc-table -o "$WORK/wkt_fuzz.o"
     rustc --edition 2021 -O -Cpanic=abort -Coverflow-checks=on --crate-type staticlib --crate-name harness \
         "$here/harness.rs" -o "$WORK/libharness.a"
