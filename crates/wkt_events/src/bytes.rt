@@ -1,13 +1,13 @@
-//! Bytes at places in a text that ends at NUL or with its last byte, and the marks and EMPTY that stand there. Where
-//! `FEED_ENDS`, the text ends at LF too, which else is white space.
-ghost use Rattle.std.specs.Prelude.{◌≡◌, ◌≢◌, ◌↔◌, ◌≤◌, ◌<◌, ◌+◌, [], ◌∷◌, Bool, true, false, IsTrue, IfSome, MatchOption, length, get_or};
+//! Bytes at places in a text that ends at NUL or with its last byte, and the marks, EMPTY and coordinates that stand there.
+//! Where `FEED_ENDS`, the text ends at LF too, which else is white space.
+ghost use Rattle.std.specs.Prelude.{◌≡◌, ◌≢◌, ◌↔◌, ◌≤◌, ◌<◌, ◌+◌, ℕ, [], ◌∷◌, Bool, true, false, IsTrue, IfSome, MatchOption, length, get_or};
 ghost use Rattle.wkt_num.specs.Bytes.{Lexeme, White, Mark, Run, class_of};
 ghost use Rattle.wkt_events.specs.Left.{line_of, class_in, left_placed, left, IsRunEnd, TakesOne, BeginsOther};
 ghost use Rattle.wkt_events.specs.Windows.{low_mask};
 ghost use Rattle.wkt_read.specs.Parser.Outcome.{closing_at};
-ghost use Rattle.wkt_events.specs.Events.{Event};
+ghost use Rattle.wkt_events.specs.Events.{Event, coordinate};
 ghost use Rattle.wkt_events.specs.Makers.{HasRoom};
-ghost use Rattle.wkt_events.specs.Walking.{GivesIfAny};
+ghost use Rattle.wkt_events.specs.Walking.{GivesIfAny, numbers_at};
 ghost use Rattle.wkt_events.specs.Heads.{TakesEmptyIfAny, LacksEmpty, BeginsWord, empty_at};
 
 use crate::builder::{At, Builder, Part};
@@ -208,4 +208,24 @@ pub(crate) fn begins_empty(text: &[u8], at: usize) -> bool
         return true;
     }
     byte == b'e'
+}
+
+/// A coordinate of `N` numbers.
+#[inline(always)]
+pub(crate) fn coordinate<T: WktNum, B: Builder<T> + Drop, const N: usize, const FEED_ENDS: bool>(
+    text: &[u8],
+    a: At<B>,
+) -> Option<At<B>>
+    requires some { 1 ≤ N }
+    requires inside { a.at ≤ length text.now }
+    requires room { HasRoom B.maker text.now 1 a.at a.made }
+    ensures gives { GivesIfAny B.maker FEED_ENDS text.now (λ _. numbers_at T.read N) (coordinate N) a.at a.made result }
+    ensures room { IfSome result (λ r. HasRoom B.maker text.now 0 r.at r.made) }
+{
+    let mut a = a;
+    for i in 0..N {
+        let at = skip_white::<FEED_ENDS>(text, a.at);
+        a = a.made.number(text, at, i, N)?;
+    }
+    Some(a)
 }

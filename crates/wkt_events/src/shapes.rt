@@ -10,7 +10,7 @@ ghost use Rattle.wkt_events.specs.Makers.{HasRoom, IsOpened};
 ghost use Rattle.wkt_events.specs.Walking.{GivesIfAny, items_at, numbers_at, line_at, rings_at, point_at, inside_at};
 
 use crate::builder::{At, Builder, Part};
-use crate::bytes::{begins_empty, close, empty, skip_white, take};
+use crate::bytes::{begins_empty, close, coordinate, empty, skip_white, take};
 use crate::items::{Item, items};
 use wkt_num::WktNum;
 use wkt_types::GeometryType;
@@ -263,24 +263,4 @@ impl<T: WktNum, B: Builder<T> + Drop, const N: usize, const FEED_ENDS: bool> Ite
             }
         }
     }
-}
-
-/// A coordinate of `N` numbers.
-#[inline(always)]
-fn coordinate<T: WktNum, B: Builder<T> + Drop, const N: usize, const FEED_ENDS: bool>(
-    text: &[u8],
-    a: At<B>,
-) -> Option<At<B>>
-    requires some { 1 ≤ N }
-    requires inside { a.at ≤ length text.now }
-    requires room { HasRoom B.maker text.now 1 a.at a.made }
-    ensures gives { GivesIfAny B.maker FEED_ENDS text.now (λ _. numbers_at T.read N) (event.coordinate N) a.at a.made result }
-    ensures room { IfSome result (λ r. HasRoom B.maker text.now 0 r.at r.made) }
-{
-    let mut a = a;
-    for i in 0..N {
-        let at = skip_white::<FEED_ENDS>(text, a.at);
-        a = a.made.number(text, at, i, N)?;
-    }
-    Some(a)
 }

@@ -1,3 +1,4 @@
+-- Lexemes as they are taken from a text.
 pub mod Placings
 pub mod Steps
 pub mod Afters

@@ -7,7 +7,7 @@ mod access;
 mod canonical;
 mod convert;
 mod coord;
-mod dimension;
+pub mod dimension;
 mod display;
 mod dropping;
 mod geometry;

@@ -1,3 +1,4 @@
+-- For each count of places, the law of decimals of that many.
 use Rattle.std.proofs.Common.{◌≡◌, ℕ, subst, sym, arith}
 use Rattle.wkt_num.specs.Decimal.{IsUnits}
 use Rattle.wkt_read.specs.Laws.{FrontIsWritable}

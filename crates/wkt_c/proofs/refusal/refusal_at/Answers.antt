@@ -1,3 +1,4 @@
+-- For each count of places, the refusal of decimals of that many.
 use Rattle.std.proofs.Common.{◌≡◌, subst, arith}
 use Rattle.wkt_read.specs.Front.{HasNoFront}
 use Rattle.wkt_c.specs.Answer.{read_at}

@@ -1,3 +1,4 @@
+-- A piece stands behind the page's text, or the page is as it was.
 use Rattle.std.proofs.Common.{◌∙◌, ◌++◌, ap}
 use Rattle.wkt_num.specs.Sink.{next_count}
 use Rattle.wkt_num.proofs.Grown.{none_grew}

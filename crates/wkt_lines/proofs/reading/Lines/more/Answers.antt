@@ -1,3 +1,4 @@
+-- No line is held while more is taken.
 use Rattle.wkt_lines.proofs.Lining.{no_line}
 use Rattle.wkt_lines.proofs.reading.Lines.more.Goals as goal
 

@@ -1,3 +1,4 @@
+-- A piece that the writer took is one call's text; after an error a beginning of it may be out.
 use Rattle.std.proofs.Common.{refl, [], ◌∷◌}
 use Rattle.std.proofs.lemmas.List.{append-nil}
 use Rattle.wkt_num.specs.Borrowed.{broke_at_once, calls_none}

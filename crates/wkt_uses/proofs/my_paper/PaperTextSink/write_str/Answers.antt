@@ -1,3 +1,4 @@
+-- A piece is added whole, or nothing of it is.
 use Rattle.std.proofs.Common.{refl}
 use Rattle.wkt.proofs.Grown.{none_grew}
 use Rattle.wkt_uses.proofs.my_paper.PaperTextSink.write_str.Goals as goal

@@ -4,7 +4,7 @@ use Rattle.wkt_events.specs.Events.{coordinate}
 use Rattle.wkt_events.specs.Walking.{numbers_at}
 use Rattle.wkt_events.proofs.Giving.{gives-none}
 use Rattle.wkt_events.proofs.Coordinates.{numbers-none, numbers-next, numbers-fail, numbers-all}
-use Rattle.wkt_events.proofs.shapes.coordinate.Goals as goal
+use Rattle.wkt_events.proofs.bytes.coordinate.Goals as goal
 
 pub loop-i-init : goal.loop-i-init
 loop-i-init g c = numbers-none g.B.Builder.maker _ c.args.text.now g.T.WktNum.read g.row.N c.args.a.at c.args.a.made c.requires.inside c.requires.room
