@@ -1,108 +1,91 @@
-//! The functions for C, called as C calls them, and what include/wkt.h says of them, by the plain reader.
+//! The functions for C, called as C calls them, and what include/wkt.h says of them, by the plain reader: those of one text.
 use crate::check::{fail, heap_calls, heap_fail_at, heap_held};
-use crate::reader::{infer, output, read_front, text as text_of, units, NoKind, Numbers, Path, Value};
+use crate::reader::{infer, read_front, text as text_of, NoKind, Numbers, Value};
+use crate::{c_arrays, c_columns, c_lines, places};
 use std::fmt::Debug;
 use std::ptr::null_mut;
 
-/// What wkt_arrays returns beside the arrays.
-#[repr(C)]
-#[derive(Clone, Copy, Debug, Default, PartialEq)]
-struct Sizes {
-    kind: u32,
-    dimension: u32,
-    numbers: usize,
-    rings: usize,
-    polygons: usize,
-    end: usize,
-}
-
-type Bytes = *const u8;
-type Room = *mut u8;
+pub type Bytes = *const u8;
+pub type Room = *mut u8;
 
 extern "C" {
     fn wkt_canonical(
         text: Bytes, n: usize, places: u32, out: Room, m: usize, needed: &mut usize, end: &mut usize,
     ) -> u32;
     fn wkt_same(one: Bytes, n: usize, other: Bytes, m: usize, places: u32, same: &mut u32) -> u32;
+    fn wkt_same_ends(
+        one: Bytes, n: usize, other: Bytes, m: usize, places: u32, same: &mut u32, end: &mut usize,
+        other_end: &mut usize,
+    ) -> u32;
     fn wkt_infer(text: Bytes, n: usize, kind: &mut u32, dimension: &mut u32) -> u32;
-    fn wkt_lines(input: Bytes, n: usize, places: u32, out: Room, m: usize, needed: &mut usize) -> u32;
-    fn wkt_column_canonical(
-        texts: Bytes, texts_len: usize, offsets: *const i64, offsets_len: usize, valid: Bytes, valid_len: usize,
-        places: u32, out: Room, out_len: usize, ends: *mut i64, ends_len: usize, statuses: *mut u32,
-        statuses_len: usize, needed: &mut usize,
-    ) -> u32;
-    fn wkt_arrays(
-        text: Bytes, n: usize, places: u32, sizes: &mut Sizes, numbers: *mut i64, numbers_len: usize,
-        rings: *mut usize, rings_len: usize, polygons: *mut usize, polygons_len: usize,
-    ) -> u32;
-    fn wkt_from_arrays(
-        kind: u32, dimension: u32, numbers: *const i64, numbers_len: usize, rings: *const usize, rings_len: usize,
-        polygons: *const usize, polygons_len: usize, places: u32, out: Room, m: usize, needed: &mut usize,
-    ) -> u32;
 }
 
-const NOT_UTF8: u32 = 20;
-const SMALL: u32 = 21;
-const MEMORY: u32 = 22;
-const NO_PLACES: u32 = 23;
-const COLLECTION: u32 = 24;
-const TOO_LARGE: u32 = 25;
-const NOT_ARRAYS: u32 = 26;
-const NOT_COLUMN: u32 = 27;
-const NULL_ROW: u32 = 28;
+pub const NOT_UTF8: u32 = 20;
+pub const SMALL: u32 = 21;
+pub const MEMORY: u32 = 22;
+pub const NO_PLACES: u32 = 23;
+pub const COLLECTION: u32 = 24;
+pub const TOO_LARGE: u32 = 25;
+pub const NOT_ARRAYS: u32 = 26;
+pub const NOT_COLUMN: u32 = 27;
+pub const NULL_ROW: u32 = 28;
+pub const ACCEPTED: u32 = 29;
+pub const NOT_WHOLE: u32 = 30;
+/// Added to the places where a text is to be one geometry as a whole.
+pub const WHOLE: u32 = 256;
 
 /// The places that the fuzzed library has (fuzz.sh).
-const PLACES: [u32; 3] = [0, 6, 18];
+pub const PLACES: [u32; 3] = [0, 6, 18];
 /// How many items stand behind each buffer, which nothing may write.
-const BEHIND: usize = 9;
+pub const BEHIND: usize = 9;
 
 /// A buffer that is handed out, and the items behind it.
-struct Buffer<T> {
-    items: Vec<T>,
+pub struct Buffer<T> {
+    pub items: Vec<T>,
     size: usize,
     fill: T,
 }
 
 impl<T: Copy + PartialEq> Buffer<T> {
-    fn new(size: usize, fill: T) -> Buffer<T> {
+    pub fn new(size: usize, fill: T) -> Buffer<T> {
         Buffer { items: vec![fill; size + BEHIND], size, fill }
     }
 
     /// NULL where it has no item.
-    fn at(&mut self) -> *mut T {
+    pub fn at(&mut self) -> *mut T {
         if self.size == 0 { null_mut() } else { self.items.as_mut_ptr() }
     }
 
     /// Whether it begins so, and the rest and all behind it are as they were.
-    fn holds(&self, front: &[T]) -> bool {
+    pub fn holds(&self, front: &[T]) -> bool {
         self.items.starts_with(front) && self.items[front.len()..].iter().all(|item| *item == self.fill)
     }
 }
 
-fn bytes(size: usize) -> Buffer<u8> {
+pub fn bytes(size: usize) -> Buffer<u8> {
     Buffer::new(size, 0xa5)
 }
 
-fn pointer<T>(items: &[T]) -> *const T {
+pub fn pointer<T>(items: &[T]) -> *const T {
     if items.is_empty() { std::ptr::null() } else { items.as_ptr() }
 }
 
 /// One input of one operation.
-struct Asked<'a> {
+pub struct Asked<'a> {
     op: u32,
-    data: &'a [u8],
-    salt: usize,
+    pub data: &'a [u8],
+    pub salt: usize,
 }
 
 impl Asked<'_> {
-    fn ensure(&self, holds: bool, why: &str, library: impl Debug, wanted: impl Debug) {
+    pub fn ensure(&self, holds: bool, why: &str, library: impl Debug, wanted: impl Debug) {
         if !holds {
             fail(self.op, self.data, &format!("{why}\n  library {library:?}\n  wanted  {wanted:?}"));
         }
     }
 
     /// The status of a call, after which no memory is held.
-    fn call(&self, call: impl FnOnce() -> u32) -> u32 {
+    pub fn call(&self, call: impl FnOnce() -> u32) -> u32 {
         unsafe { heap_calls = 0 };
         let status = call();
         self.ensure(unsafe { heap_held } == 0, "allocations are held after the call", status, 0);
@@ -110,7 +93,7 @@ impl Asked<'_> {
     }
 
     /// The same, with an allocation that fails.
-    fn poor_call(&self, call: impl FnOnce() -> u32) -> u32 {
+    pub fn poor_call(&self, call: impl FnOnce() -> u32) -> u32 {
         let calls = unsafe { heap_calls };
         if calls > 0 {
             unsafe { heap_fail_at = (self.salt / 8) as i64 % calls };
@@ -122,7 +105,7 @@ impl Asked<'_> {
 
     /// A call that hands out a text, or says why there is none: with room enough, with too little, with little memory.
     /// `rest` says whether its other results are as wanted, for its status.
-    fn hands_out(
+    pub fn hands_out(
         &self,
         wanted: Result<&[u8], u32>,
         ask: impl Fn(Room, usize, &mut usize) -> u32,
@@ -165,37 +148,61 @@ impl Asked<'_> {
         self.ensure(false, &why, library, wanted);
     }
 
-    fn places(&self) -> u32 {
+    /// The last call took none.
+    pub fn takes_no_memory(&self, what: &str) {
+        self.ensure(unsafe { heap_calls } == 0, what, "takes memory", "none");
+    }
+
+    pub fn places(&self) -> u32 {
         PLACES[self.salt / 3 % 3]
+    }
+
+    /// Those places, and for some inputs that the whole text is asked for.
+    pub fn asked_places(&self) -> u32 {
+        self.places() + if self.salt / 9 % 2 == 0 { 0 } else { WHOLE }
     }
 }
 
 /// The geometry at the front of a text of bytes, and its end, or the status that says why there is none.
-fn read(data: &[u8], places: u32) -> Result<(Value, usize), u32> {
+pub fn read(data: &[u8], places: u32) -> Result<(Value, usize), u32> {
     let text = std::str::from_utf8(data).map_err(|_| NOT_UTF8)?;
-    read_front(text, Numbers::Decimal(places as usize)).map_err(|reason| reason as u32)
+    read_front(text, Numbers::Decimal(places as usize % WHOLE as usize)).map_err(|reason| reason as u32)
 }
 
-fn canonical(data: &[u8], places: u32) -> Result<String, u32> {
-    read(data, places).map(|(value, _)| text_of(&value))
+/// Whether more than white space stands behind the geometry, where the whole text is asked for.
+pub fn has_more(data: &[u8], end: usize, places: u32) -> bool {
+    places >= WHOLE && !data[end..].iter().all(|byte| b" \n\r\t".contains(byte))
+}
+
+/// The canonical text as it is asked for.
+pub fn canonical(data: &[u8], places: u32) -> Result<String, u32> {
+    let (value, end) = read(data, places)?;
+    if has_more(data, end, places) { Err(NOT_WHOLE) } else { Ok(text_of(&value)) }
 }
 
 fn check_canonical(asked: &Asked) {
     for places in [0, 6, 18, 19] {
-        let data = asked.data;
-        let read = if places > 18 { Err(NO_PLACES) } else { read(data, places) };
-        let text = read.as_ref().map(|(value, _)| text_of(value));
-        let ends_at = std::cell::Cell::new(usize::MAX);
-        let ask = |out, m, needed: &mut usize| unsafe {
-            let mut end = usize::MAX;
-            let status = wkt_canonical(pointer(data), data.len(), places, out, m, needed, &mut end);
-            ends_at.set(end);
-            status
-        };
-        let end = read.as_ref().map_or(usize::MAX, |(_, end)| *end);
-        let rest = |status| ends_at.get() == end || !(status == 0 || status == SMALL);
-        asked.hands_out(text.as_ref().map(String::as_bytes).map_err(|status| **status), ask, rest);
+        check_canonical_at(asked, places);
+        check_canonical_at(asked, places + WHOLE);
     }
+}
+
+fn check_canonical_at(asked: &Asked, places: u32) {
+    let data = asked.data;
+    let has_places = places % WHOLE <= 18;
+    let text = if has_places { canonical(data, places) } else { Err(NO_PLACES) };
+    let end = read(data, places).map_or(usize::MAX, |(_, end)| end);
+    let ends_at = std::cell::Cell::new(usize::MAX);
+    let ask = |out, m, needed: &mut usize| unsafe {
+        let mut end = usize::MAX;
+        let status = wkt_canonical(pointer(data), data.len(), places, out, m, needed, &mut end);
+        ends_at.set(end);
+        status
+    };
+    let rest = |status| ends_at.get() == if matches!(status, 0 | SMALL | NOT_WHOLE) { end } else { usize::MAX };
+    asked.hands_out(text.as_ref().map(String::as_bytes).map_err(|status| *status), ask, rest);
+    let bound = text.map_or(0, |text| text.len());
+    asked.ensure(bound <= 2 * data.len() + 65, "the bound of a canonical text", bound, data.len());
 }
 
 /// The input with one of its digits changed, or, if it has none, without its last byte.
@@ -210,27 +217,47 @@ pub fn changed(data: &[u8], salt: usize) -> Vec<u8> {
     data
 }
 
-fn check_same(asked: &Asked) {
-    let places = asked.places();
-    let mine = canonical(asked.data, places);
-    let others = [mine.clone().unwrap_or_default().into_bytes(), changed(asked.data, asked.salt)];
-    for other in others {
-        let theirs = canonical(&other, places);
-        let wanted: &[(u32, u32)] = match (&mine, &theirs) {
-            (Ok(one), Ok(other)) => &[(0, (one == other) as u32)],
-            (Err(one), Err(other)) => &[(*one, 9), (*other, 9)],
-            (Err(status), _) | (_, Err(status)) => &[(*status, 9)],
-        };
-        let ask = |same: &mut u32| unsafe {
-            wkt_same(pointer(asked.data), asked.data.len(), pointer(&other), other.len(), places, same)
-        };
-        let (mut same, mut poor_same) = (9, 9);
-        let status = asked.call(|| ask(&mut same));
-        asked.ensure(wanted.contains(&(status, same)), "wkt_same", (status, same, &other), wanted);
-        let poor = asked.poor_call(|| ask(&mut poor_same));
-        let fits = poor == MEMORY || (poor, poor_same) == (status, same);
-        asked.ensure(fits, "wkt_same without memory", (poor, poor_same, &other), (status, same));
+/// The results of a comparison: the status, whether the two are the same, and the two ends.
+type Compared = (u32, u32, usize, usize);
+
+/// What wkt_same_ends may answer for two texts.
+fn comparisons(one: &[u8], other: &[u8], places: u32) -> Vec<Compared> {
+    let none = |status| (status, 9, usize::MAX, usize::MAX);
+    match (read(one, places), read(other, places)) {
+        (Ok((mine, end)), Ok((theirs, other_end))) => {
+            let more = has_more(one, end, places) || has_more(other, other_end, places);
+            let same = (text_of(&mine) == text_of(&theirs)) as u32;
+            vec![if more { (NOT_WHOLE, 9, end, other_end) } else { (0, same, end, other_end) }]
+        }
+        (Err(mine), Err(theirs)) => vec![none(mine), none(theirs)],
+        (Err(status), _) | (_, Err(status)) => vec![none(status)],
     }
+}
+
+fn check_same(asked: &Asked) {
+    let places = asked.asked_places();
+    let mine = canonical(asked.data, places).unwrap_or_default();
+    let others = [mine.into_bytes(), changed(asked.data, asked.salt)];
+    for other in others {
+        check_same_with(asked, &other, places);
+    }
+}
+
+fn check_same_with(asked: &Asked, other: &[u8], places: u32) {
+    let wanted = comparisons(asked.data, other, places);
+    let (one, n, m) = (pointer(asked.data), asked.data.len(), other.len());
+    let ask = |compared: &mut Compared| unsafe {
+        wkt_same_ends(one, n, pointer(other), m, places, &mut compared.1, &mut compared.2, &mut compared.3)
+    };
+    let mut compared = (0, 9, usize::MAX, usize::MAX);
+    compared.0 = asked.call(|| ask(&mut compared));
+    asked.ensure(wanted.contains(&compared), "wkt_same_ends", (compared, other), &wanted);
+    let mut poor = (0, 9, usize::MAX, usize::MAX);
+    poor.0 = asked.poor_call(|| ask(&mut poor));
+    asked.ensure(poor.0 == MEMORY || poor == compared, "wkt_same_ends without memory", (poor, other), compared);
+    let mut same = 9;
+    let status = asked.call(|| unsafe { wkt_same(one, n, pointer(other), m, places, &mut same) });
+    asked.ensure((status, same) == (compared.0, compared.1), "wkt_same", (status, same, other), compared);
 }
 
 fn check_infer(asked: &Asked) {
@@ -251,299 +278,40 @@ fn check_infer(asked: &Asked) {
     let status = asked.poor_call(|| ask(&mut kind, &mut dimension));
     asked.ensure(status == MEMORY || status == wanted.err().unwrap_or(0), "wkt_infer without memory", status, wanted);
 }
-
-fn check_lines(asked: &Asked) {
-    let (data, places) = (asked.data, asked.places());
-    let wanted = output(data, Numbers::Decimal(places as usize));
-    let ask = |out, m, needed: &mut usize| unsafe { wkt_lines(pointer(data), data.len(), places, out, m, needed) };
-    asked.hands_out(Ok(&wanted), ask, |_| true);
+/// A text with what wkt_canonical and wkt_lines say of it.
+pub struct Fixed {
+    text: Vec<u8>,
+    places: u32,
+    wanted: Result<String, u32>,
+    end: usize,
+    lines: Vec<u8>,
 }
 
-/// Flat arrays, as include/wkt.h has them.
-#[derive(Clone, Debug, PartialEq)]
-struct Arrays {
-    kind: u32,
-    dimension: u32,
-    numbers: Vec<i64>,
-    rings: Vec<usize>,
-    polygons: Vec<usize>,
-}
-
-impl Arrays {
-    fn sizes(&self, end: usize) -> Sizes {
-        let [numbers, rings, polygons] = [self.numbers.len(), self.rings.len(), self.polygons.len()];
-        Sizes { kind: self.kind, dimension: self.dimension, numbers, rings, polygons, end }
+impl Fixed {
+    pub fn new(text: &[u8], places: u32) -> Fixed {
+        let end = read(text, places).map_or(usize::MAX, |(_, end)| end);
+        let lines = c_lines::answers(text, places);
+        Fixed { text: text.to_vec(), places, wanted: canonical(text, places), end, lines }
     }
-}
 
-/// Where each list begins in all that they hold, and the end of the last.
-fn offsets<X>(lists: &[Vec<X>]) -> Vec<usize> {
-    let ends = lists.iter().scan(0, |end, list| {
-        *end += list.len();
-        Some(*end)
-    });
-    std::iter::once(0).chain(ends).collect()
-}
-
-fn arrays(value: &Value, places: u32) -> Result<Arrays, u32> {
-    let (kind, dimension, polygons): (u32, usize, Vec<Vec<Path>>) = match value.clone() {
-        Value::Point(dim, coord) => (0, dim, vec![vec![coord.into_iter().collect()]]),
-        Value::LineString(dim, path) => (1, dim, vec![vec![path]]),
-        Value::Polygon(dim, rings) => (2, dim, vec![rings]),
-        Value::MultiPoint(dim, all) => (3, dim, vec![all.into_iter().map(|one| one.into_iter().collect()).collect()]),
-        Value::MultiLineString(dim, paths) => (4, dim, vec![paths]),
-        Value::MultiPolygon(dim, polygons) => (5, dim, polygons),
-        Value::Collection(..) => return Err(COLLECTION),
-    };
-    let rings: Vec<Path> = polygons.concat();
-    let numbers = rings.concat().concat();
-    let number = |number: &String| i64::try_from(units(number, places as usize)).map_err(|_| TOO_LARGE);
-    Ok(Arrays {
-        kind,
-        dimension: dimension as u32,
-        numbers: numbers.iter().map(number).collect::<Result<_, _>>()?,
-        rings: offsets(&rings),
-        polygons: offsets(&polygons),
-    })
-}
-
-/// The lists that such offsets make of those items.
-fn lists<X: Clone>(items: &[X], offsets: &[usize]) -> Option<Vec<Vec<X>>> {
-    let whole = offsets.first() == Some(&0) && offsets.last() == Some(&items.len());
-    let lists = offsets.windows(2).map(|at| items.get(at[0]..at[1]).map(<[X]>::to_vec));
-    if whole { lists.collect() } else { None }
-}
-
-/// The text of the geometry of such arrays, if they are those of one.
-fn text_of_arrays(arrays: &Arrays, places: u32) -> Result<String, u32> {
-    let value = value_of_arrays(arrays, places as usize).ok_or(NOT_ARRAYS)?;
-    Ok(text_of(&value))
-}
-
-fn value_of_arrays(arrays: &Arrays, places: usize) -> Option<Value> {
-    let dim = arrays.dimension as usize;
-    let size = *[2, 3, 3, 4].get(dim)?;
-    if arrays.numbers.len() % size != 0 {
-        return None;
-    }
-    let number = |units: &i64| {
-        let (digits, sign) = (format!("{:0>1$}", units.unsigned_abs(), places + 1), if *units < 0 { "-" } else { "" });
-        let (before, after) = digits.split_at(digits.len() - places);
-        Numbers::Decimal(places).read(&format!("{sign}{before}.{after}"))
-    };
-    let numbers: Vec<String> = arrays.numbers.iter().map(number).collect::<Option<_>>()?;
-    let coords: Path = numbers.chunks(size).map(<[String]>::to_vec).collect();
-    let mut polygons: Vec<Vec<Path>> = lists(&lists(&coords, &arrays.rings)?, &arrays.polygons)?;
-    if arrays.kind == 5 {
-        return Some(Value::MultiPolygon(dim, polygons));
-    }
-    let rings = if polygons.len() == 1 { polygons.remove(0) } else { return None };
-    let only = |ring: &Path| if ring.len() < 2 { Some(ring.first().cloned()) } else { None };
-    match (arrays.kind, &rings[..]) {
-        (0, [ring]) => Some(Value::Point(dim, only(ring)?)),
-        (1, [ring]) => Some(Value::LineString(dim, ring.clone())),
-        (2, _) => Some(Value::Polygon(dim, rings)),
-        (3, _) => Some(Value::MultiPoint(dim, rings.iter().map(only).collect::<Option<_>>()?)),
-        (4, _) => Some(Value::MultiLineString(dim, rings)),
-        _ => None,
-    }
-}
-
-/// The arrays with one thing changed.
-fn changed_arrays(mut arrays: Arrays, salt: usize) -> Arrays {
-    let at = salt / 12;
-    let offset = |offsets: &mut Vec<usize>, step: usize| {
-        let which = at % offsets.len();
-        offsets[which] = offsets[which].wrapping_add(step);
-    };
-    match salt % 12 {
-        0 => arrays.kind = (at % 9) as u32,
-        1 => arrays.dimension = (at % 5) as u32,
-        2 => offset(&mut arrays.rings, 1),
-        3 => offset(&mut arrays.rings, usize::MAX),
-        4 => offset(&mut arrays.polygons, 1),
-        5 => offset(&mut arrays.polygons, usize::MAX),
-        6 => arrays.rings.truncate(at % 3),
-        7 => arrays.polygons.truncate(at % 2),
-        8 => arrays.rings.push(arrays.numbers.len() / 2),
-        9 => arrays.polygons.push(arrays.rings.len() - 1),
-        10 => arrays.numbers.truncate(at % 9),
-        _ => arrays.numbers.extend(vec![i64::MIN; at % 5]),
-    }
-    arrays
-}
-
-fn check_arrays(asked: &Asked) {
-    let places = asked.places();
-    let wanted = read(asked.data, places).and_then(|(value, end)| arrays(&value, places).map(|arrays| (arrays, end)));
-    check_filled(asked, &wanted, places, [usize::MAX; 3]);
-    let mut fewer = [usize::MAX; 3];
-    fewer[asked.salt % 3] = asked.salt / 3 % 4;
-    check_filled(asked, &wanted, places, fewer);
-    if let Ok((arrays, _)) = wanted {
-        check_from_arrays(asked, &arrays, places, canonical(asked.data, places));
-        let other = changed_arrays(arrays, asked.salt);
-        check_from_arrays(asked, &other, places, text_of_arrays(&other, places));
-    }
-}
-
-/// The buffers of a call of wkt_arrays, and the sizes that it returned.
-struct Filled {
-    status: u32,
-    sizes: Sizes,
-    numbers: Buffer<i64>,
-    rings: Buffer<usize>,
-    polygons: Buffer<usize>,
-}
-
-impl Filled {
-    fn of(asked: &Asked, places: u32, room: [usize; 3], poor: bool) -> Filled {
-        let mut numbers = Buffer::new(room[0], i64::MIN + 5);
-        let (mut rings, mut polygons) = (Buffer::new(room[1], 1 << 60), Buffer::new(room[2], 1 << 60));
-        let mut sizes = Sizes::default();
-        let ask = || unsafe {
-            wkt_arrays(
-                pointer(asked.data), asked.data.len(), places, &mut sizes, numbers.at(), room[0], rings.at(), room[1],
-                polygons.at(), room[2],
-            )
+    /// They say it of the same text at that place.
+    pub fn check(&self, at: &[u8]) {
+        let asked = Asked { op: 50, data: at, salt: 1 };
+        let mut out = [0; 256];
+        let (mut needed, mut end) = (0, usize::MAX);
+        let (text, n) = (at.as_ptr(), at.len());
+        let status = unsafe { wkt_canonical(text, n, self.places, out.as_mut_ptr(), 256, &mut needed, &mut end) };
+        let fits = match &self.wanted {
+            Ok(text) => status == 0 && out[..needed] == *text.as_bytes() && end == self.end,
+            Err(why) => status == *why,
         };
-        let status = if poor { asked.poor_call(ask) } else { asked.call(ask) };
-        Filled { status, sizes, numbers, rings, polygons }
+        asked.ensure(fits && at == self.text, "wkt_canonical at a page's end", (status, out.escape_ascii()), &self.wanted);
+        c_lines::check_whole(&asked, self.places, &self.lines);
     }
-
-    fn is_untouched(&self) -> bool {
-        self.numbers.holds(&[]) && self.rings.holds(&[]) && self.polygons.holds(&[])
-    }
-
-    fn holds(&self, arrays: &Arrays) -> bool {
-        self.numbers.holds(&arrays.numbers) && self.rings.holds(&arrays.rings) && self.polygons.holds(&arrays.polygons)
-    }
-}
-
-/// wkt_arrays with room for those sizes, or so much of it.
-fn check_filled(asked: &Asked, wanted: &Result<(Arrays, usize), u32>, places: u32, most: [usize; 3]) {
-    let sizes = match wanted {
-        Ok((arrays, end)) => arrays.sizes(*end),
-        Err(_) => Sizes { numbers: 2, rings: 2, polygons: 2, ..Sizes::default() },
-    };
-    let whole = [sizes.numbers, sizes.rings, sizes.polygons];
-    let room = [0, 1, 2].map(|i| whole[i].min(most[i]));
-    let filled = Filled::of(asked, places, room, false);
-    let fits = match wanted {
-        Err(status) => filled.status == *status && filled.is_untouched(),
-        Ok(_) if room != whole => filled.status == SMALL && filled.sizes == sizes && filled.is_untouched(),
-        Ok((arrays, _)) => filled.status == 0 && filled.sizes == sizes && filled.holds(arrays),
-    };
-    let library = (filled.status, filled.sizes, filled.numbers.items, filled.rings.items, filled.polygons.items);
-    asked.ensure(fits, "wkt_arrays", library, (wanted, room, places));
-    if asked.salt % 4 == 0 {
-        let poor = Filled::of(asked, places, room, true);
-        let fits = if poor.status == MEMORY { poor.is_untouched() } else { poor.status == filled.status };
-        asked.ensure(fits, "wkt_arrays without memory", poor.status, filled.status);
-    }
-}
-
-fn check_from_arrays(asked: &Asked, arrays: &Arrays, places: u32, wanted: Result<String, u32>) {
-    let Arrays { kind, dimension, numbers, rings, polygons } = arrays;
-    let ask = |out, m, needed: &mut usize| unsafe {
-        wkt_from_arrays(
-            *kind, *dimension, pointer(numbers), numbers.len(), pointer(rings), rings.len(), pointer(polygons),
-            polygons.len(), places, out, m, needed,
-        )
-    };
-    asked.hands_out(wanted.as_ref().map(String::as_bytes).map_err(|status| *status), ask, |_| true);
-}
-
-/// A column: the lines of the input are its rows, and bits of the salt say which are null.
-struct Column<'a> {
-    texts: &'a [u8],
-    offsets: Vec<i64>,
-    valid: Vec<u8>,
-}
-
-impl Column<'_> {
-    fn new(data: &[u8], salt: usize) -> Column<'_> {
-        let lines = data.split_inclusive(|byte| *byte == b'\n').scan(0, |end, line| {
-            *end += line.len() as i64;
-            Some(*end)
-        });
-        let mut offsets: Vec<i64> = std::iter::once(0).chain(lines).collect();
-        if salt % 5 == 0 && offsets.len() > 1 {
-            offsets.remove(salt / 5 % offsets.len());
-        }
-        let bits = |i: usize| (salt.wrapping_mul(i + 7) >> 3) as u8 | (salt >> 2) as u8;
-        let valid = if salt % 3 == 0 { vec![] } else { (0..offsets.len().div_ceil(8)).map(bits).collect() };
-        Column { texts: data, offsets, valid }
-    }
-
-    fn is_null(&self, row: usize) -> bool {
-        !self.valid.is_empty() && self.valid[row / 8] & (1 << (row % 8)) == 0
-    }
-
-    /// The text of all rows, where each begins, and their statuses.
-    fn answers(&self, places: u32) -> (Vec<u8>, Vec<i64>, Vec<u32>) {
-        let (mut text, mut ends, mut statuses) = (vec![], vec![0], vec![]);
-        for (row, at) in self.offsets.windows(2).enumerate() {
-            let read = canonical(&self.texts[at[0] as usize..at[1] as usize], places);
-            match if self.is_null(row) { Err(NULL_ROW) } else { read } {
-                Ok(one) => {
-                    text.extend(one.into_bytes());
-                    statuses.push(0);
-                }
-                Err(status) => statuses.push(status),
-            }
-            ends.push(text.len() as i64);
-        }
-        (text, ends, statuses)
-    }
-}
-
-fn check_column(asked: &Asked) {
-    let places = asked.places();
-    let column = Column::new(asked.data, asked.salt);
-    let (text, ends, statuses) = column.answers(places);
-    check_column_call(asked, &column, places, Ok((&text, &ends, &statuses)), [ends.len(), statuses.len()]);
-    // An offset that goes back or past the texts, too few bits, or too little room for the answers.
-    let mut wrong = Column { offsets: column.offsets.clone(), valid: column.valid.clone(), ..column };
-    let mut room = [ends.len(), statuses.len()];
-    let last = ends.len() - 1;
-    match asked.salt / 7 % 5 {
-        0 => wrong.offsets[last] = asked.data.len() as i64 + 1,
-        1 if last > 0 => wrong.offsets[last - 1] = -1,
-        2 if last > 0 => wrong.offsets[last - 1] = wrong.offsets[last] + 1,
-        3 if last > 0 => room[1] -= 1,
-        4 if last > 8 => wrong.valid = vec![255],
-        _ => room[0] -= 1,
-    }
-    check_column_call(asked, &wrong, places, Err(NOT_COLUMN), room);
-}
-
-type Answers<'a> = (&'a [u8], &'a [i64], &'a [u32]);
-
-fn check_column_call(asked: &Asked, column: &Column, places: u32, wanted: Result<Answers, u32>, room: [usize; 2]) {
-    let buffers = std::cell::RefCell::new((Buffer::new(0, -7i64), Buffer::new(0, 77u32)));
-    let ask = |out, m, needed: &mut usize| unsafe {
-        let mut answers = (Buffer::new(room[0], -7i64), Buffer::new(room[1], 77u32));
-        let status = wkt_column_canonical(
-            pointer(column.texts), column.texts.len(), pointer(&column.offsets), column.offsets.len(),
-            pointer(&column.valid), column.valid.len(), places, out, m, answers.0.at(), room[0], answers.1.at(), room[1],
-            needed,
-        );
-        *buffers.borrow_mut() = answers;
-        status
-    };
-    let rest = |status| {
-        let answers = buffers.borrow();
-        match wanted {
-            Ok((_, ends, statuses)) if status == 0 => answers.0.holds(ends) && answers.1.holds(statuses),
-            _ => answers.0.holds(&[]) && answers.1.holds(&[]),
-        }
-    };
-    asked.hands_out(wanted.map(|(text, _, _)| text), ask, rest);
 }
 
 /// The operations on the functions for C.
-pub const OPERATIONS: std::ops::RangeInclusive<u32> = 50..=55;
+pub const OPERATIONS: std::ops::RangeInclusive<u32> = 50..=58;
 
 pub fn check(op: u32, data: &[u8], salt: usize) {
     let asked = Asked { op, data, salt };
@@ -551,8 +319,11 @@ pub fn check(op: u32, data: &[u8], salt: usize) {
         50 => check_canonical(&asked),
         51 => check_same(&asked),
         52 => check_infer(&asked),
-        53 => check_lines(&asked),
-        54 => check_arrays(&asked),
-        _ => check_column(&asked),
+        53 => c_lines::check_lines(&asked),
+        54 => c_arrays::check_arrays(&asked),
+        55 => c_columns::check_texts(&asked),
+        56 => places::check_explain(&asked),
+        57 => c_lines::check_lines_some(&asked),
+        _ => c_columns::check_arrays(&asked),
     }
 }

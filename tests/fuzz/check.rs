@@ -1,5 +1,6 @@
 //! What is asked of the library for one input, and compared with the plain reader.
 use crate::c_calls;
+use crate::fixed::Guarded;
 use crate::reader::{self, infer, message, output, read_front, text as text_of, whole, NoKind, Numbers, Reader, Value};
 use std::sync::OnceLock;
 
@@ -23,8 +24,10 @@ const ROOM: usize = 1 << 20;
 const NO_END: usize = usize::MAX;
 /// The first and the last of the operations that read the front over a number type.
 const FRONTS: std::ops::RangeInclusive<u32> = 1..=14;
-const OPERATIONS: [u32; 29] =
-    [0, 1, 2, 3, 4, 5, 6, 7, 8, 9, 10, 11, 12, 13, 14, 15, 20, 21, 22, 23, 24, 30, 31, 32, 33, 34, 40, 41, 42];
+const OPERATIONS: [u32; 33] = [
+    0, 1, 2, 3, 4, 5, 6, 7, 8, 9, 10, 11, 12, 13, 14, 15, 16, 17, 18, 19, 20, 21, 22, 23, 24, 30, 31, 32, 33, 34, 40, 41,
+    42,
+];
 
 #[derive(Clone, PartialEq, Eq)]
 pub struct Said {
@@ -49,9 +52,13 @@ fn refused(reason: usize) -> Said {
 
 /// What the library says; no allocation is held after the call.
 fn library(op: u32, text: &[u8]) -> Said {
+    library_with(op, text, NO_END)
+}
+
+/// The same, with something for the operation to begin with.
+fn library_with(op: u32, text: &[u8], mut end: usize) -> Said {
     static mut OUT: [u8; ROOM] = [0; ROOM];
     let mut needed = 0;
-    let mut end = NO_END;
     unsafe {
         heap_calls = 0;
         let out = &raw mut OUT as *mut u8;
@@ -71,6 +78,7 @@ fn numbers(op: u32) -> Numbers {
         2 => Numbers::Decimal(0),
         3 => Numbers::Decimal(36),
         4 => Numbers::Decimal(6),
+        18 | 19 => Numbers::Long,
         5 => whole::<i8>(),
         6 => whole::<i16>(),
         7 => whole::<i32>(),
@@ -221,16 +229,26 @@ fn shapes(text: &str) -> Said {
     said(0, texts.join("\n").as_bytes(), NO_END)
 }
 
-fn lines(data: &[u8]) -> Said {
-    said(0, &output(data, Numbers::Decimal(18)), NO_END)
+fn lines(op: u32, data: &[u8]) -> Said {
+    said(0, &output(data, if op == 18 { numbers(op) } else { Numbers::Decimal(18) }), NO_END)
+}
+
+/// Of a sink that takes so many bytes and then fails, at each byte of a short output.
+fn cut_short(op: u32, data: &[u8], salt: usize) {
+    let whole = wanted(op, data).answer;
+    let step = if whole.len() < 40 { 1 } else { 1 + whole.len() / 5 + salt % 7 };
+    for most in (0..whole.len()).step_by(step) {
+        let cut = said(9, &whole[..most], most);
+        same(op, data, &library_with(op, data, most), &cut, "a sink that fails");
+    }
 }
 
 fn wanted(op: u32, data: &[u8]) -> Said {
     let Ok(text) = std::str::from_utf8(data) else {
-        return if op == 0 || op == 15 { lines(data) } else { said(2, b"", NO_END) };
+        return if matches!(op, 0 | 15..=18) { lines(op, data) } else { said(2, b"", NO_END) };
     };
     match op {
-        0 | 15 => lines(data),
+        0 | 15..=18 => lines(op, data),
         20 => header(text),
         21 => fronts(text, true),
         22 => fronts(text, false),
@@ -245,7 +263,9 @@ fn wanted(op: u32, data: &[u8]) -> Said {
 }
 
 pub fn fail(op: u32, text: &[u8], why: &str) -> ! {
-    eprintln!("DIFFERENCE operation {op}: {why}\n  text \"{}\"", text.escape_ascii());
+    let why: String = why.chars().take(4000).collect();
+    let front = &text[..text.len().min(4000)];
+    eprintln!("DIFFERENCE operation {op}: {why}\n  text of {} bytes \"{}\"", text.len(), front.escape_ascii());
     std::process::abort()
 }
 
@@ -298,9 +318,22 @@ fn at_a_front(op: u32, data: &[u8], ours: &Said, salt: usize) {
     same(op, &longer, &library(op, &longer), ours, "what follows the front changes it");
 }
 
+/// The input where nothing can be read behind it.
+fn guarded(data: &[u8]) -> &'static [u8] {
+    static mut PAGES: Option<Guarded> = None;
+    let pages = unsafe { (*(&raw mut PAGES)).get_or_insert_with(|| Guarded::new(ROOM)) };
+    pages.put(data, 0)
+}
+
 pub fn all(data: &[u8]) {
+    some(data, asked());
+}
+
+/// The same by those operations.
+pub fn some(data: &[u8], operations: &[u32]) {
+    let data = guarded(data);
     let salt = data.iter().fold(0usize, |sum, byte| sum.wrapping_mul(31).wrapping_add(*byte as usize));
-    for &op in asked() {
+    for &op in operations {
         // Each geometry of a text is read from a text of its own: many of them take long.
         if op == 22 && data.len() > 512 {
             continue;
@@ -309,17 +342,25 @@ pub fn all(data: &[u8]) {
             c_calls::check(op, data, salt);
             continue;
         }
-        if op == 24 {
-            let pair = doubled(data, salt);
-            same(op, &pair, &library(op, &pair), &wanted(op, &pair), "same_geometry");
-        }
-        let ours = library(op, data);
-        same(op, data, &ours, &wanted(op, data), "the library and the plain reader differ");
-        if ours.status == 0 && FRONTS.contains(&op) {
-            at_a_front(op, data, &ours, salt);
-        }
-        if salt % 8 == op as usize % 8 {
-            with_little_memory(op, data, &ours, salt);
-        }
+        one(op, data, salt);
+    }
+}
+
+fn one(op: u32, data: &[u8], salt: usize) {
+    if op == 24 {
+        let pair = doubled(data, salt);
+        same(op, &pair, &library(op, &pair), &wanted(op, &pair), "same_geometry");
+    }
+    let ours = library(op, data);
+    same(op, data, &ours, &wanted(op, data), "the library and the plain reader differ");
+    if matches!(op, 16 | 17) {
+        // The sink takes memory too.
+        return cut_short(op, data, salt);
+    }
+    if ours.status == 0 && FRONTS.contains(&op) {
+        at_a_front(op, data, &ours, salt);
+    }
+    if salt % 8 == op as usize % 8 {
+        with_little_memory(op, data, &ours, salt);
     }
 }

@@ -21,10 +21,10 @@ build() {
     git clone -q "$root" "$WORK/wkt"
     mkdir -p "$WORK/wkt/crates/wkt_fuzz/src"
     cp "$here/program.txt" "$WORK/wkt/crates/wkt_fuzz/src/main.rt"
-    echo 'wkt_fuzz: wkt wkt_lines wkt_c serde_json' >> "$WORK/wkt/crates.txt"
+    echo 'wkt_fuzz: wkt wkt_bytes wkt_lines wkt_c wkt_test_support serde_json' >> "$WORK/wkt/crates.txt"
     # There the functions for C are called like any other, over 0, 6 and 18 places: all nineteen take long to build.
     sed -i 's/^wkt_c staticlib:/wkt_c:/' "$WORK/wkt/crates.txt"
-    sed -i -E 's/^mod (exports|sizes);/pub mod \1;/' "$WORK/wkt/crates/wkt_c/src/lib.rt"
+    sed -i -E 's/^mod (exports|exports_arrays|sizes);/pub mod \1;/' "$WORK/wkt/crates/wkt_c/src/lib.rt"
     sed -i -E '/^        ([1-57-9]|1[0-7]) => [a-z_]+::</d' "$WORK/wkt/crates/wkt_c/src/"*.rt
     cd "$WORK/wkt/crates/wkt_fuzz"
     nice -n 10 python3 "$here/module.py" "$WORK/module.bc" < /dev/null > "$WORK/try.log" 2>&1 || true
@@ -32,14 +32,14 @@ build() {
     [ -s "$WORK/module.bc" ] || { cat "$WORK/try.log"; echo "fuzz.sh: rt try left no module" >&2; exit 2; }
     "$kit/toolchain/bin/clang" -x ir "$WORK/module.bc" -S -emit-llvm -Xclang -disable-llvm-passes -o "$WORK/whole.ll"
     # The functions get their C names, and the program's main gives way to libFuzzer's.
-    sed -E -e 's/@"(wkt_fuzz|wkt_c::exports)::(wkt_[a-z_]+)"/@\2/g' \
+    sed -E -e 's/@"(wkt_fuzz|wkt_c::exports|wkt_c::exports_arrays)::(wkt_[a-z_]+)"/@\2/g' \
         -e 's/^define internal (noundef )?i32 @(wkt_[a-z_]+)\(/define i32 @\2(/' \
         -e 's/^define i32 @main\(\)/define i32 @rattle_main()/' "$WORK/whole.ll" > "$WORK/wkt_fuzz.ll"
-    # The flags of rt try, with libFuzzer's counters in the place of its address sanitizer.
+    # The flags of rt try, with libFuzzer's counters in the place of its address sanitizer; -O2 takes a minute more.
     flags="--target=x86_64-unknown-linux-gnu -mllvm -no-trap-after-noreturn -ffunction-sections -fdata-sections
         -mllvm -trap-unreachable -mllvm -no-x86-call-frame-opt -mllvm -disable-machine-licm
         -mllvm -disable-postra-machine-licm -mllvm -sink-common-insts=false --no-default-config -c -x ir -fPIE"
-    nice -n 10 "$kit/toolchain/bin/clang" $flags "$WORK/wkt_fuzz.ll" -O2 \
+    nice -n 10 "$kit/toolchain/bin/clang" $flags "$WORK/wkt_fuzz.ll" -O1 \
         -fsanitize-coverage=inline-8bit-counters,pc-table -o "$WORK/wkt_fuzz.o"
     rustc --edition 2021 -O -Cpanic=abort -Coverflow-checks=on --crate-type staticlib --crate-name harness \
         "$here/harness.rs" -o "$WORK/libharness.a"
@@ -72,14 +72,14 @@ if [ "$minutes" = keep ]; then
     exit 0
 fi
 status=0
-# With no minutes it runs the corpus and the seeds once.
-how=(-runs=0)
-[ "$minutes" = 0 ] || how=(-max_total_time=$((minutes * 60)))
-nice -n 10 "$WORK/fuzz" "${how[@]}" -max_len="${MAX_LEN:-600}" -entropic=0 -dict="$here/wkt.dict" -timeout="${SLOW:-30}" \
+# With no minutes it runs the fixed inputs, the corpus and the seeds once.
+how=(-runs=0) fixed=1
+[ "$minutes" = 0 ] || how=(-max_total_time=$((minutes * 60))) fixed=
+WKT_FUZZ_FIXED=$fixed nice -n 10 "$WORK/fuzz" "${how[@]}" -max_len="${MAX_LEN:-600}" -entropic=0 -dict="$here/wkt.dict" -timeout="${SLOW:-30}" \
     -rss_limit_mb=3000 -print_final_stats=1 -artifact_prefix="$WORK/found/" "$WORK/corpus" "$WORK/seeds" \
     > "$WORK/log" 2>&1 || status=1
-[ $status = 0 ] || [ -n "$(ls "$WORK/found")" ] || status=2
+[ $status = 0 ] || [ -n "$(ls "$WORK/found")" ] || grep -qa DIFFERENCE "$WORK/log" || status=2
 grep -a -A4 DIFFERENCE "$WORK/log" || true
-grep -aE "Loaded .* modules|^Done|stat::|DONE|SUMMARY" "$WORK/log" || tail -n 20 "$WORK/log"
+grep -aE "fixed inputs|Loaded .* modules|^Done|stat::|DONE|SUMMARY" "$WORK/log" || tail -n 20 "$WORK/log"
 echo "corpus: $(find "$WORK/corpus" -type f | wc -l) inputs; log: $WORK/log"
 exit $status

@@ -1,13 +1,27 @@
 //! The two functions that libFuzzer calls: one input is checked (`check`), or changed (`mutate`).
 //!
-//! WKT_FUZZ_OPERATIONS=1,50 in the environment asks for these operations of program.txt and of c_calls.rs alone.
+//! WKT_FUZZ_OPERATIONS=1,50 in the environment asks for these operations of program.txt and of c_calls.rs alone, and
+//! WKT_FUZZ_FIXED=1 for the inputs of fixed.rs before the first.
+mod c_arrays;
 mod c_calls;
+mod c_columns;
+mod c_lines;
 mod check;
+mod fixed;
 mod mutate;
+mod places;
 mod reader;
 
 extern "C" {
     fn LLVMFuzzerMutate(data: *mut u8, size: usize, max_size: usize) -> usize;
+}
+
+#[no_mangle]
+pub extern "C" fn LLVMFuzzerInitialize(_count: *mut i32, _words: *mut *mut *mut i8) -> i32 {
+    if std::env::var_os("WKT_FUZZ_FIXED").is_some_and(|value| !value.is_empty()) {
+        fixed::check();
+    }
+    0
 }
 
 #[no_mangle]

@@ -7,10 +7,15 @@ pub const DIMENSIONS: [&str; 4] = ["", "Z", "M", "ZM"];
 /// The messages of a coordinate's places, by its dimension.
 const AXES: [&[usize]; 4] = [&[8, 9], &[8, 9, 10], &[8, 9, 11], &[8, 9, 10, 11]];
 
+/// The text of the one number of `Long` (crates/wkt_test_support).
+const LONG: &str = ".llllllllllllllllllll";
+
 /// A number type: what it reads is kept as the text that it prints.
 #[derive(Clone, Copy)]
 pub enum Numbers {
     Decimal(usize),
+    /// One number, of two texts.
+    Long,
     Whole(fn(&str) -> Option<String>),
 }
 
@@ -25,6 +30,7 @@ impl Numbers {
         let run = run.strip_prefix('+').unwrap_or(run);
         match self {
             Numbers::Decimal(places) => decimal(places, run),
+            Numbers::Long => [".l", LONG].contains(&run).then(|| LONG.to_string()),
             Numbers::Whole(read) => read(run),
         }
     }
@@ -92,7 +98,7 @@ pub fn message(refused: Refused) -> &'static str {
 }
 
 #[derive(Clone, Copy, PartialEq)]
-enum Lexeme<'a> {
+pub enum Lexeme<'a> {
     Open,
     Close,
     Comma,
@@ -123,7 +129,7 @@ impl<'a> Reader<'a> {
     }
 
     /// The next lexeme, and its end.
-    fn peek(&self) -> (Lexeme<'a>, usize) {
+    pub fn peek(&self) -> (Lexeme<'a>, usize) {
         let rest = self.text[self.at..].trim_start_matches([' ', '\n', '\r', '\t']);
         let start = self.text.len() - rest.len();
         let lexeme = match rest.chars().next() {
@@ -140,13 +146,22 @@ impl<'a> Reader<'a> {
         (lexeme, start + 1)
     }
 
-    fn take(&mut self) -> Lexeme<'a> {
+    /// Where the next lexeme stands: at the text's end where there is none.
+    pub fn next_place(&self) -> (usize, usize) {
+        match self.peek() {
+            (Lexeme::End, _) => (self.text.len(), self.text.len()),
+            (Lexeme::Number(run) | Lexeme::Word(run), end) => (end - run.len(), end),
+            (_, end) => (end - 1, end),
+        }
+    }
+
+    pub fn take(&mut self) -> Lexeme<'a> {
         let (lexeme, end) = self.peek();
         self.at = end;
         lexeme
     }
 
-    fn is_bad(&self, lexeme: Lexeme) -> bool {
+    pub fn is_bad(&self, lexeme: Lexeme) -> bool {
         matches!(lexeme, Lexeme::Number(run) if self.numbers.read(run).is_none())
     }
 
@@ -179,7 +194,7 @@ impl<'a> Reader<'a> {
     fn dimension(&mut self) -> Result<usize, Refused> {
         match self.peek().0 {
             Lexeme::Word(word) => {
-                let dim = (1..4).find(|dim| word.eq_ignore_ascii_case(DIMENSIONS[*dim]));
+                let dim = dimension_word(word);
                 if dim.is_some() {
                     self.take();
                 }
@@ -251,12 +266,17 @@ impl<'a> Reader<'a> {
     }
 }
 
-fn is_empty(word: &str) -> bool {
+/// The dimension of Z, M or ZM.
+pub fn dimension_word(word: &str) -> Option<usize> {
+    (1..4).find(|dim| word.eq_ignore_ascii_case(DIMENSIONS[*dim]))
+}
+
+pub fn is_empty(word: &str) -> bool {
     word.eq_ignore_ascii_case("EMPTY")
 }
 
 /// The kind of a kind word, and the dimension that is joined to it, if one is.
-fn kind_of(word: &str) -> Option<(usize, Option<usize>)> {
+pub fn kind_of(word: &str) -> Option<(usize, Option<usize>)> {
     if word.eq_ignore_ascii_case("LINEARRING") {
         return Some((1, None));
     }
