@@ -114,6 +114,6 @@ fn is_right(rt: &impl Print, row: &str, given: &str, want: &str) -> Result<bool,
     Ok(false)
 }
 
-fn printed(result: io::Result<()>) -> Result<(), TableError> {
-    result.map_err(TableError::Print)
+fn printed(print: io::Result<()>) -> Result<(), TableError> {
+    print.map_err(TableError::Print)
 }
