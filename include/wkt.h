@@ -5,8 +5,8 @@
  * `places` is 0 to 18.
  *
  * Every function answers a status. After any status but WKT_OK the caller's buffers are as they were (but for
- * wkt_lines_some), and so is what a call tells (*needed, *end, *same, *sizes ..), but where a comment says that it is
- * told. Texts need no 0 at the end, and may hold any bytes.
+ * wkt_lines_some), and so are the results (*needed, *end, *same, *sizes ..), but where a comment says that one is
+ * set. Texts need no 0 at the end, and may hold any bytes.
  *
  * Each function is proved to do what its comment says, in crates/wkt_c/src/exports.rt. Only tested, and not proved, are
  * wkt_version, what a call costs, and that memory suffices: a call that always answered WKT_NO_MEMORY would be proved.
@@ -124,13 +124,13 @@ enum {
     "`,` or `)`", "`)`" }
 /* names.py: end */
 /* Of a text that begins with no geometry the message is proved to be that of the table in docs/GRAMMAR.md; 14 never
- * comes. After WKT_TOO_SMALL the sizes that are needed are told, and so is the rest. WKT_NULL is of a row alone. A
+ * comes. After WKT_TOO_SMALL the sizes that are needed are set, and so is the rest. WKT_NULL is of a row alone. A
  * coordinate has 2, 3, 3 and 4 numbers, by its dimension. */
 
 /* The canonical text of the geometry that the text begins with. *end: where the geometry ends in the text; what
  * follows may be anything that is UTF-8, or, with WKT_WHOLE, white space. WKT_OK: the text is in out, and *needed is its
- * length, at most 2 * text_len + 65. WKT_TOO_SMALL: *needed is its length, and *end is told too. WKT_NOT_WHOLE: *end is
- * told. 1..14, 20, 22, 23. */
+ * length, at most 2 * text_len + 65. WKT_TOO_SMALL: *needed is its length, and *end is set too. WKT_NOT_WHOLE: *end is
+ * set. 1..14, 20, 22, 23. */
 wkt_status wkt_canonical(const uint8_t *text, size_t text_len, uint32_t places,
                          uint8_t *out, size_t out_len, size_t *needed, size_t *end);
 
@@ -139,7 +139,7 @@ wkt_status wkt_canonical(const uint8_t *text, size_t text_len, uint32_t places,
 wkt_status wkt_same(const uint8_t *one, size_t one_len, const uint8_t *other, size_t other_len, uint32_t places,
                     uint32_t *same);
 
-/* The same; and *end and *other_end: where each geometry ends in its text. WKT_NOT_WHOLE: both are told too. */
+/* The same; and *end and *other_end: where each geometry ends in its text. WKT_NOT_WHOLE: both are set too. */
 wkt_status wkt_same_ends(const uint8_t *one, size_t one_len, const uint8_t *other, size_t other_len, uint32_t places,
                          uint32_t *same, size_t *end, size_t *other_end);
 
@@ -183,7 +183,7 @@ wkt_status wkt_column_canonical(const uint8_t *texts, size_t texts_len, const in
                                 uint8_t *out, size_t out_len, int64_t *out_offsets, size_t out_offsets_len,
                                 wkt_status *statuses, size_t statuses_len, size_t *needed);
 
-/* What wkt_arrays tells beside the arrays; with WKT_NOT_WHOLE too. */
+/* What wkt_arrays returns beside the arrays; with WKT_NOT_WHOLE too. */
 typedef struct {
     uint32_t kind, dimension;
     size_t numbers, rings, polygons; /* the sizes of the arrays */
@@ -195,13 +195,13 @@ typedef struct {
  * of the last. A line string, a line and a point (of one coordinate, or none if it is empty) count as a ring, and the
  * rings of each kind but MultiPolygon as one polygon. So a Point has rings {0, 1} and polygons {0, 1}, and
  * POLYGON EMPTY has rings {0} and polygons {0, 0}. (GeoArrow: numbers are the interleaved coordinates, rings and
- * polygons its offsets.) WKT_TOO_SMALL: *sizes tells all sizes. 1..14, 20, 22, 23, 24, 25, and WKT_NOT_WHOLE, with
+ * polygons its offsets.) WKT_TOO_SMALL: *sizes has all sizes. 1..14, 20, 22, 23, 24, 25, and WKT_NOT_WHOLE, with
  * WKT_WHOLE. */
 wkt_status wkt_arrays(const uint8_t *text, size_t text_len, uint32_t places, WktSizes *sizes,
                       int64_t *numbers, size_t numbers_len, size_t *rings, size_t rings_len,
                       size_t *polygons, size_t polygons_len);
 
-/* What wkt_column_arrays tells beside the arrays: how many numbers, and how many offsets of rings and of polygons, all
+/* What wkt_column_arrays returns beside the arrays: how many numbers, and how many offsets of rings and of polygons, all
  * rows have. */
 typedef struct {
     size_t numbers, rings, polygons;
@@ -212,8 +212,8 @@ typedef struct {
  * offsets of rings and of polygons, each of which begins with 0. The three buffers of offsets have room for as many
  * offsets as are given, kinds, dimensions and statuses for one of each row. statuses[i] is WKT_OK, or why row i has no
  * arrays: 1..14, 20, 24, 25, WKT_NULL, or, with WKT_WHOLE, WKT_NOT_WHOLE; there are no numbers and no offsets of such a
- * row, and its kind and dimension are 0. WKT_OK: *sizes tells how much of numbers, rings and polygons is filled.
- * WKT_TOO_SMALL: *sizes tells how much each of the three needs. 22, 23. WKT_NOT_COLUMN: as of wkt_column_canonical. After
+ * row, and its kind and dimension are 0. WKT_OK: *sizes says how much of numbers, rings and polygons is filled.
+ * WKT_TOO_SMALL: *sizes says how much each of the three needs. 22, 23. WKT_NOT_COLUMN: as of wkt_column_canonical. After
  * any but WKT_OK the nine buffers are as they were. */
 wkt_status wkt_column_arrays(const uint8_t *texts, size_t texts_len, const int64_t *offsets, size_t offsets_len,
                              const uint8_t *valid, size_t valid_len, uint32_t places, WktColumnSizes *sizes,

@@ -69,25 +69,18 @@ debs() {
 }
 
 vendor() {
-    mkdir -p "$dir/other/crates"
+    mkdir -p "$dir/other/crates/mine/src"
     cp "$root/HANDLES" "$dir/other"
     : > "$dir/other/crates.txt"
-    (cd "$dir/other" && rt new crates/mine start_io > /dev/null) || fail "rt new"
-    echo 'mine: wkt' > "$dir/other/crates.txt"
-    rm -rf "$dir"/other/crates/mine/{specs,proofs,src/*,stdin,stdout}
+    (cd "$dir/other" && rt new crates/theirs start_io > /dev/null) || fail "rt new"
+    printf '%s\n' 'theirs:' 'mine: wkt anyhow' > "$dir/other/crates.txt"
     "$here/vendor.sh" "$dir/other" > /dev/null || fail "vendor.sh"
-    cat > "$dir/other/crates/mine/src/main.rt" << 'RT'
-#![tactic(auto)]
-
-use wkt::{Decimal, FromWktStr, ReadError, Wkt};
-
-fn main(rt: HostRuntime) -> Result<(), ReadError> {
-    let geometry = Wkt::<Decimal<6>>::from_str(rt.alloc(), "point ( 1 2.50 )")?;
-    let _ = println!(rt; "{geometry}");
-    Ok(())
-}
-RT
-    (cd "$dir/other/crates/mine" && rt try < /dev/null) 2> "$dir/log" | grep -qx "$answer" || { cat "$dir/log"; fail "rt try"; }
+    # The first program of README, and what it prints there.
+    sed -n '/^```rust$/,/^```$/{//!p}' "$root/README.md" > "$dir/other/crates/mine/src/main.rt"
+    sed -n '/^\$ rt try$/,/^```$/{//!p}' "$root/README.md" > "$dir/want"
+    # Where `rt try` is ended from outside, as without memory, its only words are run=none.
+    (cd "$dir/other/crates/mine" && rt try < /dev/null) > "$dir/said" 2> "$dir/log" && cmp "$dir/said" "$dir/want" ||
+        { cat "$dir/log"; fail "rt try"; }
     # Again, with a crate more and then without it: the same files but for that; a change there stops it.
     cp -r "$dir/other" "$dir/before"
     "$here/vendor.sh" "$dir/other" wkt wkt_lines > /dev/null || fail "vendor.sh with a crate more"

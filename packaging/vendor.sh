@@ -5,7 +5,7 @@
 # Brought are src, specs and proofs of each crate to TARGET/crates, the two licences to TARGET/LICENSES/wkt, and the
 # lines of crates.txt between two comments. Called again, it puts the newest in place of what it brought, and takes away
 # crates that aren't needed any more. A crate that was changed there, or that it didn't bring, stops it before it writes.
-# The first `rt check` there of a crate over wkt proves them all: about an hour of processor time. `rt try` needs no proof.
+# The first `rt check` there of a crate over wkt proves them all: 50 minutes of one processor. `rt try` needs no proof.
 set -eu
 root=$(cd "$(dirname "$0")/.." && pwd)
 [ $# -ge 1 ] || { sed -n '2,9s/^# \{0,1\}//p' "$0"; exit 2; }
@@ -17,7 +17,7 @@ end="# wkt: end"
 licences=$target/LICENSES/wkt
 stop() { echo "vendor.sh: $*" >&2; exit 1; }
 
-[ -e "$target/crates.txt" ] || stop "$target has no crates.txt"
+[ -e "$target/crates.txt" ] || stop "$target has no crates.txt: where its crates have BUILD.bazel, put a line for each in one; else begin with an empty one"
 # line NAME: the crate's line
 line() { grep -E "^$1( [^:]*)?:" "$root/crates.txt" || stop "no crate $1"; }
 # sums NAME: a sum of each file of a crate there

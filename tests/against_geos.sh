@@ -2,7 +2,7 @@
 # Reads the table of texts by GEOS: where a text is answered with a canonical text, GEOS has to read both as equal
 # geometries, if it reads the text at all.
 #
-# Told apart: rows whose text GEOS doesn't read (M, tokens without a space, spare text after the geometry, ..), and
+# Counted apart: rows whose text GEOS doesn't read (M, tokens without a space, spare text after the geometry, ..), and
 # LINEARRING, which GEOS reads as a ring and the canonical text names as a line string. A -0 is equal to 0.
 #
 # It needs g++ and libgeos-dev, and is no part of the gate.

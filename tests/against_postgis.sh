@@ -32,7 +32,7 @@ cd "$dir/base"
 as "$bin/initdb" -D "$dir/base/data" -A trust -U wkt -E UTF8 --locale C.UTF-8 > "$dir/base.log" 2>&1
 as "$bin/pg_ctl" -D "$dir/base/data" -w -o "-k $dir/base -h ''" -l "$dir/base/log" start > /dev/null
 trap 'as "$bin/pg_ctl" -D "$dir/base/data" -m immediate stop > /dev/null; rm -rf "$dir"' EXIT
-"$bin/psql" -q -h "$dir/base" -U wkt -d postgres -v ON_ERROR_STOP=1 > "$dir/told" <<SQL
+"$bin/psql" -q -h "$dir/base" -U wkt -d postgres -v ON_ERROR_STOP=1 > "$dir/output" <<SQL
 create extension postgis;
 create function taken(t text) returns geometry language plpgsql as
     \$\$ begin return ST_GeomFromText(t); exception when others then return null; end \$\$;
@@ -58,7 +58,7 @@ from both_ways group by how order by count(*) desc;
 select 'wrong:', text, '=>', canonical from both_ways
 where one is not null and (other is null or no_minus_zero(one) <> no_minus_zero(other)) limit 20;
 SQL
-cat "$dir/told"
-if grep -q wrong: "$dir/told" || ! grep -q "the same bytes" "$dir/told"; then
+cat "$dir/output"
+if grep -q wrong: "$dir/output" || ! grep -q "the same bytes" "$dir/output"; then
     exit 1
 fi

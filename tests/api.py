@@ -154,7 +154,7 @@ def named(text):
     return re.sub(r"[\w:]+", lambda it: NAMED.get(it.group(), it.group()), text)
 
 
-def told(item, level):
+def line_of(item, level):
     """A line of the page for an item."""
     clauses = item.clauses()
     tail = f" Clauses: {clauses}." if clauses else ""
@@ -167,10 +167,10 @@ def ghost_of(item):
     return named(" ".join(row.strip() for row in item.head).removeprefix("ghost ").rstrip(";"))
 
 
-def tell(name, item, calls):
+def page_of(name, item, calls):
     """The lines of the page for a public item: a function, a type with its calls, or a trait with its members."""
     if re.match(r"pub (unsafe )?(fn|const)\b", item.head[0]):
-        return [told(item, "")]
+        return [line_of(item, "")]
     head = re.sub(r" where .*", "", item.signature())
     # A type may be handed on by a name of its own.
     head = re.sub(r"^(struct|enum|trait) \w+", rf"\1 {name}", head)
@@ -182,7 +182,7 @@ def tell(name, item, calls):
             if member.head[0].strip().startswith("ghost"):
                 page.append(f"  - ghost `{ghost_of(member)}`" + (f": {member.sentence()}" if member.sentence() else ""))
             else:
-                page.append(told(member, "  "))
+                page.append(line_of(member, "  "))
     elif item.head[0].startswith("pub enum"):
         rows = [row.strip().replace("#[from] ", "") for row in item.body if re.match(r"    [A-Z]", row)]
         variants = [re.match(r"\w+(\(.*\))?", row).group() for row in rows]
@@ -192,7 +192,7 @@ def tell(name, item, calls):
         fields = [re.match(r"    pub ([\w]+: .*?),?$", row).group(1) for row in item.body if re.match(r"    pub ", row)]
         if fields:
             page.append("  - fields: " + ", ".join(f"`{field}`" for field in fields))
-    return page + [told(call, "  ") for call in calls]
+    return page + [line_of(call, "  ") for call in calls]
 
 
 def main():
@@ -222,7 +222,7 @@ def main():
         for section in sorted(sections):
             print(f"\n## `{section}`")
             for here, item, calls in sorted(sections[section], key=lambda entry: entry[0].lower()):
-                print("\n".join(tell(here, item, calls)))
+                print("\n".join(page_of(here, item, calls)))
 
 
 if __name__ == "__main__":

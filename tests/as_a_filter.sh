@@ -74,7 +74,7 @@ ssize_t read(int file, void *bytes, size_t length) {
     if (file == 0 && getenv("INTERRUPT") && ++reads == 2) { errno = EINTR; return -1; }
     return syscall(SYS_read, file, bytes, length);
 }
-__attribute__((destructor)) static void tell(void) {
+__attribute__((destructor)) static void report(void) {
     if (getenv("COUNT")) dprintf(2, "%ld writes\n", writes);
 }
 C

@@ -4,7 +4,7 @@
 # wktline, wktstream and the command wkt answer lines of every kind: each refusal has to end them with their words and status, after the
 # whole answers to some first lines. wkt_conformance reads each text by three calls, copies the geometry, puts the copy together again from
 # its parts and displays it, converts it to a two-dimensional one and back, reads that from the text, from bytes and
-# from JSON, and writes it in three ways: each refusal has to end it as out of memory, with no row told as wrong, or to
+# from JSON, and writes it in three ways: each refusal has to end it as out of memory, with no row reported as wrong, or to
 # change nothing. Then the same of ten thousand nested collections, at growths all over the run. A test of the macros
 # has to end as out of memory, which no wrong value does, or to pass.
 #

@@ -21,8 +21,8 @@ python=python3
 # Doubles: degrees, metres of Web Mercator, and of any size from 1e-20 to 1e20.
 "$python" "$there/doubles.py" > "$work/doubles"
 printf '%-12s %-44s %-8s %7s %7s %7s %7s\n' program call doubles texts read same exact
-# told FILE: lines of program, call, sort of doubles, texts, read, kept the same, those with both numbers exact, against the rule
-told() {
+# figures FILE: lines of program, call, sort of doubles, texts, read, kept the same, those with both numbers exact, against the rule
+figures() {
     grep -E "^([^	]*	){2}[^	]*$" "$1" >> "$work/again" || true
     grep -vE "^([^	]*	){2}[^	]*$" "$1" > "$work/counts"
     cut -f 1 "$work/counts" | uniq >> "$work/programs"
@@ -34,7 +34,7 @@ told() {
 
 for tool in shapely gdal; do
     if WKT_LIB=$wkt/libwkt.so PYTHONDONTWRITEBYTECODE=1 PYTHONPATH=$root/python "$python" "$there/$tool.py" "$work/doubles" "$there/kinds" > "$work/$tool" 2> "$work/err"; then
-        told "$work/$tool"
+        figures "$work/$tool"
     else
         echo "$tool: $(tail -n 1 "$work/err")"
         grep -q "^ModuleNotFoundError" "$work/err" || status=1
@@ -43,7 +43,7 @@ done
 if echo '#include <geos_c.h>' | gcc -E - > /dev/null 2>&1; then
     gcc -O2 -Wall -Wextra -I"$wkt" "$there/geos.c" "$wkt/libwkt.a" -lgeos_c -lm -o "$work/geos_texts"
     "$work/geos_texts" "$work/doubles" "$there/kinds" > "$work/geos"
-    told "$work/geos"
+    figures "$work/geos"
 else
     echo "no headers of GEOS"
 fi
@@ -51,7 +51,7 @@ if command -v sqlite3 > /dev/null && sqlite3 :memory: "select load_extension('mo
     cp "$root"/sqlite/{Makefile,wkt_sqlite.c} "$work" && make -s -C "$work" WKT="$wkt" > "$work/make.log" 2>&1 || { cat "$work/make.log"; exit 1; }
     sqlite3 -cmd ".load $work/mod_wkt" -cmd ".load mod_spatialite" "$work/db" ".mode tabs" "create table doubles (sort text, x real, y real)" ".import $work/doubles doubles" \
         "create table kinds (key text)" ".import $there/kinds kinds" ".read $there/spatialite.sql" > "$work/spatialite"
-    told "$work/spatialite"
+    figures "$work/spatialite"
 else
     echo "no SpatiaLite"
 fi
@@ -61,7 +61,7 @@ fi
     "$bin/psql" -X -q -At -F $'\t' -v ON_ERROR_STOP=1 -c "create extension wkt" -c "create extension postgis" \
         -c "create table doubles (sort text, x float8, y float8)" -c "\\copy doubles from '$work/doubles'" -c "create table kinds (n serial, key text)" -c "\\copy kinds (key) from '$there/kinds'" -f "$there/postgis.sql"
 ) > "$work/postgis" || { cat "$work/postgis"; status=1; }
-if [ -s "$work/postgis" ]; then told "$work/postgis"; else echo "PostGIS: $(head -n 1 "$work/server")"; fi
+if [ -s "$work/postgis" ]; then figures "$work/postgis"; else echo "PostGIS: $(head -n 1 "$work/server")"; fi
 # The keys of other kinds that don't stay the same, of the programs that are there.
 grep -f <(sed 's/.*/^&	/' "$work/programs" | sort -u) "$there/kinds.expected" | diff - "$work/again" > "$work/differ" ||
     { echo "wrong: of tests/other_tools/kinds other keys stay the same"; cat "$work/differ"; status=1; }

@@ -3,12 +3,16 @@
 
 `rt lib` would prove them all once more: it takes only libraries that a check of its own left, and which later checks can
 begin with. Where `rt ci` left none, or what it left doesn't serve, the status isn't 0: then `rt lib` is to be run.
+
+--when-proved ENDED FILE: beside an `rt ci` that is yet to come or runs. It waits until each of those libraries stands anew,
+and builds FILE, with what processors are free. It gives up when the file ENDED is there and a library isn't.
 """
 
 import os
 import shutil
 import subprocess
 import sys
+import time
 
 TOP = os.path.dirname(os.path.dirname(os.path.abspath(__file__)))
 CRATE = "wkt_c"
@@ -34,13 +38,30 @@ def below(name, uses):
     return found
 
 
+def await_libraries(libraries, ended):
+    """Returns whether each library was made since this was called, as soon as all were, or when the file `ended` is there."""
+    since = time.time()
+    while True:
+        over = os.path.exists(ended) or not os.path.isdir(os.path.dirname(ended))
+        if all(os.path.isdir(it) and os.stat(it).st_ctime >= since for it in libraries):
+            return True
+        if over:
+            return False
+        time.sleep(5)
+
+
 def main():
+    ended, to = sys.argv[2:] if sys.argv[1:2] == ["--when-proved"] else (None, f"out/lib{CRATE}.a")
     rt = shutil.which("rt")
     if not rt:
         return 2
     kit = os.path.dirname(os.path.dirname(os.path.realpath(rt)))
     uses = uses_of()
     made = {name: f"{TOP}/crates/{name}/out/rlib" for name in below(CRATE, uses)}
+    if ended:
+        os.nice(19)
+        if not await_libraries([f"{it}/{name}.rlib" for name, it in made.items()], ended):
+            return 2
     # A stamp beside a library says that a check of rt's own left it: rt lib takes those.
     if not all(os.path.isdir(f"{it}/{name}.rlib") and not os.path.exists(f"{it}/stamp") for name, it in made.items()):
         return 2
@@ -52,9 +73,9 @@ def main():
     for it in made.values():
         words += ["-L", f"dependency={it}"]
     words += ["--antt-project", f"{kit}/rattle/logic/antt-project.json", "--logic-built", f"{kit}/logic_built"]
-    words += ["--jobs", str(min(4, len(os.sched_getaffinity(0)))), "--toolchain", f"{kit}/toolchain", "--backend", "llvm"]
+    words += ["--jobs", str(min(2 if ended else 4, len(os.sched_getaffinity(0)))), "--toolchain", f"{kit}/toolchain", "--backend", "llvm"]
     how = {"cwd": f"{TOP}/crates/{CRATE}", "stdout": subprocess.DEVNULL}
-    return subprocess.run([f"{kit}/bin/rattle", "build", *words, "-o", f"out/lib{CRATE}.a"], **how).returncode
+    return subprocess.run([f"{kit}/bin/rattle", "build", *words, "-o", to], **how).returncode
 
 
 if __name__ == "__main__":

@@ -1,5 +1,5 @@
 #!/usr/bin/env bash
-# Plants wrong bodies under the functions of each library (rt plant --all), or of those that are named, and tells how many
+# Plants wrong bodies under the functions of each library (rt plant --all), or of those that are named, and prints how many
 # of them the contracts refuse and how many they let through. Each that they let through has to be one of those listed
 # here, which are right, with the reason; any other fails.
 #
@@ -24,7 +24,7 @@ wkt_test_support answer: \{ Err\(AnswerError::Differ\) \}
 wkt_bytes put_all: \{ .*Err\(_\) => Err\(io::Error::from\(.*\)\) .*\}
 # What an explanation is displayed as is tested, as the texts of errors are.
 wkt_explain <Explanation<'a> as fmt::Display>::fmt: \{ Ok\(\(\)\) \}
-# Which fault a source gives is no part of a contract.
+# Which error a source gives is no part of a contract.
 wkt_lines Block::fill: \{ .*Err\(.*\).* \}
 # The lines that ended within what was seen before are none, so to look from the start finds the same.
 wkt_lines Block::whole: \{ .*whole\(self, 0\) \}

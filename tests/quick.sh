@@ -16,7 +16,7 @@ counted() {
     echo "$1: $4$2 passed, $3 failed ($((SECONDS - start)) s)"
     echo "$2 $3" > "$dir/$1.count"
 }
-# ended FILE: whether rt try came to an end, and not to a fault or a limit
+# ended FILE: whether rt try came to an end, and not to a crash or a limit
 ended() { tail -n 1 "$1" | grep -q '^run=ended '; }
 
 # tests CRATE: its tests
@@ -30,7 +30,7 @@ tests() {
     counted "$1" "$passed" "$failed" "tests: "
 }
 
-# rows: the table and the files of rows, which tell what is wrong themselves
+# rows: the table and the files of rows, which print what is wrong themselves
 rows() {
     local said=$dir/rows.said data=() passed failed start=$SECONDS
     cd crates/wkt_conformance || return

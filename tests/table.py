@@ -8,6 +8,7 @@ texts are made one for each kind, dimension, spelling and body.
 
 The reader below is written from docs/GRAMMAR.md alone, and shares nothing with the library.
 """
+import os
 import re
 import sys
 from decimal import Decimal
@@ -15,21 +16,9 @@ from decimal import Decimal
 KINDS = ["POINT", "LINESTRING", "POLYGON", "MULTIPOINT", "MULTILINESTRING", "MULTIPOLYGON", "GEOMETRYCOLLECTION"]
 NUMBERS = {"": 2, "Z": 3, "M": 3, "ZM": 4}
 AXES = {"": "XY", "Z": "XYZ", "M": "XYM", "ZM": "XYZM"}
-MESSAGES = [
-    "Invalid WKT format",
-    "Encountered non-ascii word",
-    "Invalid type encountered",
-    "Unexpected word before open paren",
-    "End of stream",
-    "Missing open parenthesis for type",
-    "Missing closing parenthesis for type",
-    "Expected a number for the X coordinate",
-    "Expected a number for the Y coordinate",
-    "Expected a number for the Z coordinate",
-    "Expected a number for the M coordinate",
-    "Expected a word in GEOMETRYCOLLECTION",
-    "Unable to parse input number as the desired output type",
-]
+# The messages, in the order of their numbers.
+with open(os.path.join(os.path.dirname(__file__), "../docs/names.tsv"), encoding="utf-8") as names:
+    MESSAGES = [line.rstrip("\n").split("\t")[3] for line in names if line.startswith("message\t")]
 
 
 class Refused(Exception):

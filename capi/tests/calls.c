@@ -303,13 +303,13 @@ static void columns(void) {
     const char *answers = "POINT(1 2.5)POINT EMPTYPOINT(3 4)";
     static const int64_t offsets[8] = {0, 13, 14, 24, 25, 36, 36, 46};
     static const int64_t want[8] = {0, 12, 12, 12, 12, 23, 23, 33};
-    static const wkt_status told[7] = {WKT_OK, 3, WKT_NULL, WKT_NOT_UTF8, WKT_OK, 1, WKT_OK};
+    static const wkt_status want_statuses[7] = {WKT_OK, 3, WKT_NULL, WKT_NOT_UTF8, WKT_OK, 1, WKT_OK};
     static const int64_t back[3] = {0, 14, 13}, below[2] = {-1, 13}, past[3] = {0, 13, 47}, later[2] = {36, 46};
     static const uint8_t valid[2] = {0xfb, 0};
     int64_t many[ROWS + 1], zero = 0;
     size_t i;
     CHECK(column(texts, offsets, valid, 7, ROOM) == WKT_OK && holds(answers));
-    CHECK(!memcmp(ends, want, sizeof want) && !memcmp(statuses, told, sizeof told) && ends[8] == -7);
+    CHECK(!memcmp(ends, want, sizeof want) && !memcmp(statuses, want_statuses, sizeof want_statuses) && ends[8] == -7);
     CHECK(column(texts, offsets, NULL, 7, ROOM) == WKT_OK && statuses[2] == WKT_OK && ends[3] == 22 && needed == 43);
     CHECK(column(texts, later, NULL, 1, ROOM) == WKT_OK && holds("POINT(3 4)") && ends[0] == 0 && ends[1] == 10);
     CHECK(column(texts, offsets, valid, 7, 32) == WKT_TOO_SMALL && needed == 33 && column_untouched());
@@ -354,12 +354,12 @@ static void arrays(void) {
     static const size_t want_rings[4] = {0, 4, 8, 12}, want_polygons[4] = {0, 2, 2, 3};
     int64_t numbers[24], few[2] = {7, 7}, point[2] = {15, -20};
     size_t rings[4], polygons[4], one[2] = {0, 1}, three[2] = {0, 2};
-    WktSizes told, kept;
-    CHECK(wkt_arrays(BYTES(text), 1, &told, NULL, 0, NULL, 0, NULL, 0) == WKT_TOO_SMALL);
-    CHECK(told.kind == 5 && told.dimension == 0 && told.end == strlen(text) - 2);
-    CHECK(told.numbers == 24 && told.rings == 4 && told.polygons == 4);
-    CHECK(wkt_arrays(BYTES(text), 1, &told, few, 2, rings, 4, polygons, 4) == WKT_TOO_SMALL && few[0] == 7);
-    CHECK(wkt_arrays(BYTES(text), 1, &told, numbers, 24, rings, 4, polygons, 4) == WKT_OK);
+    WktSizes sizes, kept;
+    CHECK(wkt_arrays(BYTES(text), 1, &sizes, NULL, 0, NULL, 0, NULL, 0) == WKT_TOO_SMALL);
+    CHECK(sizes.kind == 5 && sizes.dimension == 0 && sizes.end == strlen(text) - 2);
+    CHECK(sizes.numbers == 24 && sizes.rings == 4 && sizes.polygons == 4);
+    CHECK(wkt_arrays(BYTES(text), 1, &sizes, few, 2, rings, 4, polygons, 4) == WKT_TOO_SMALL && few[0] == 7);
+    CHECK(wkt_arrays(BYTES(text), 1, &sizes, numbers, 24, rings, 4, polygons, 4) == WKT_OK);
     CHECK(!memcmp(numbers, want, sizeof want) && !memcmp(rings, want_rings, sizeof want_rings));
     CHECK(!memcmp(polygons, want_polygons, sizeof want_polygons));
     memset(out, '#', ROOM);
@@ -376,26 +376,27 @@ static void arrays(void) {
     CHECK(wkt_from_arrays(0, 0, NULL, 0, NULL, 0, NULL, 0, 1, out, ROOM, &needed) == WKT_NOT_ARRAYS);
     memset(out, '#', ROOM);
     CHECK(wkt_from_arrays(0, 0, point, 2, one, 2, one, 2, 1, out, ROOM, &needed) == WKT_OK && holds("POINT(1.5 -2)"));
-    CHECK(wkt_arrays(BYTES("GEOMETRYCOLLECTION EMPTY"), 6, &told, NULL, 0, NULL, 0, NULL, 0) == WKT_COLLECTION);
-    CHECK(wkt_arrays(BYTES("POINT(1 9223372036854.775808)"), 6, &told, NULL, 0, NULL, 0, NULL, 0) == WKT_TOO_LARGE);
-    CHECK(wkt_arrays(BYTES("POINT(1 9223372036854.775807)"), 6, &told, NULL, 0, NULL, 0, NULL, 0) == WKT_TOO_SMALL);
-    memset(&told, 0x77, sizeof told);
-    memcpy(&kept, &told, sizeof told);
-    CHECK(wkt_arrays(BYTES("POINT(1 2)"), 19, &told, NULL, 0, NULL, 0, NULL, 0) == WKT_NO_PLACES);
-    CHECK(wkt_arrays(BYTES("POINT(1 2"), 6, &told, NULL, 0, NULL, 0, NULL, 0) == 7);
-    CHECK(wkt_arrays(BYTES("\xff"), 6, &told, NULL, 0, NULL, 0, NULL, 0) == WKT_NOT_UTF8);
-    CHECK(!memcmp(&kept, &told, sizeof told));
-    CHECK(wkt_arrays(BYTES("POINT(1 2)"), 6, &told, numbers, 24, rings, 4, polygons, 1) == WKT_TOO_SMALL && told.polygons == 2);
-    CHECK(wkt_arrays(BYTES("POINT(1 2) x"), 6 | WKT_WHOLE, &told, numbers, 24, rings, 4, polygons, 4) == WKT_NOT_WHOLE);
-    CHECK(told.end == 10);
-    CHECK(wkt_arrays(BYTES("POINT(1 2) "), 6 | WKT_WHOLE, &told, numbers, 24, rings, 4, polygons, 4) == WKT_OK);
+    CHECK(wkt_arrays(BYTES("GEOMETRYCOLLECTION EMPTY"), 6, &sizes, NULL, 0, NULL, 0, NULL, 0) == WKT_COLLECTION);
+    CHECK(wkt_arrays(BYTES("POINT(1 9223372036854.775808)"), 6, &sizes, NULL, 0, NULL, 0, NULL, 0) == WKT_TOO_LARGE);
+    CHECK(wkt_arrays(BYTES("POINT(1 9223372036854.775807)"), 6, &sizes, NULL, 0, NULL, 0, NULL, 0) == WKT_TOO_SMALL);
+    memset(&sizes, 0x77, sizeof sizes);
+    memcpy(&kept, &sizes, sizeof sizes);
+    CHECK(wkt_arrays(BYTES("POINT(1 2)"), 19, &sizes, NULL, 0, NULL, 0, NULL, 0) == WKT_NO_PLACES);
+    CHECK(wkt_arrays(BYTES("POINT(1 2"), 6, &sizes, NULL, 0, NULL, 0, NULL, 0) == 7);
+    CHECK(wkt_arrays(BYTES("\xff"), 6, &sizes, NULL, 0, NULL, 0, NULL, 0) == WKT_NOT_UTF8);
+    CHECK(!memcmp(&kept, &sizes, sizeof sizes));
+    CHECK(wkt_arrays(BYTES("POINT(1 2)"), 6, &sizes, numbers, 24, rings, 4, polygons, 1) == WKT_TOO_SMALL);
+    CHECK(sizes.polygons == 2);
+    CHECK(wkt_arrays(BYTES("POINT(1 2) x"), 6 | WKT_WHOLE, &sizes, numbers, 24, rings, 4, polygons, 4) == WKT_NOT_WHOLE);
+    CHECK(sizes.end == 10);
+    CHECK(wkt_arrays(BYTES("POINT(1 2) "), 6 | WKT_WHOLE, &sizes, numbers, 24, rings, 4, polygons, 4) == WKT_OK);
     /* Five numbers are none of two coordinates of x and y. */
     CHECK(wkt_from_arrays(1, 0, numbers, 5, three, 2, one, 2, 1, out, ROOM, &needed) == WKT_NOT_ARRAYS);
 }
 
 /* What wkt_column_arrays fills, with room for ROWS rows. */
 static struct {
-    WktColumnSizes told;
+    WktColumnSizes sizes;
     int64_t numbers[32], number_ends[ROWS + 1], ring_ends[ROWS + 1], polygon_ends[ROWS + 1];
     size_t rings[32], polygons[32];
     uint32_t kinds[ROWS], dimensions[ROWS];
@@ -407,19 +408,21 @@ static wkt_status fill_of(const char *texts, const int64_t *offsets, const uint8
                           size_t numbers, size_t rings, size_t polygons, const size_t sizes[6]) {
     memset(&got, 0x77, sizeof got);
     memcpy(&before, &got, sizeof got);
-    return wkt_column_arrays(BYTES(texts), offsets, rows + 1, valid, valid ? (rows + 7) / 8 : 0, places, &got.told,
+    return wkt_column_arrays(BYTES(texts), offsets, rows + 1, valid, valid ? (rows + 7) / 8 : 0, places, &got.sizes,
                              got.kinds, sizes[3], got.dimensions, sizes[4], got.numbers, numbers, got.number_ends,
                              sizes[0], got.rings, rings, got.ring_ends, sizes[1], got.polygons, polygons,
                              got.polygon_ends, sizes[2], got.statuses, sizes[5]);
 }
 
 static int arrays_untouched(void) {
-    before.told = got.told;
+    before.sizes = got.sizes;
     return !memcmp(&got, &before, sizeof got);
 }
 
 /* So are the sizes. */
-static int sizes_untouched(void) { return got.told.numbers == got.told.rings && got.told.rings == (size_t)0x7777777777777777; }
+static int sizes_untouched(void) {
+    return got.sizes.numbers == got.sizes.rings && got.sizes.rings == (size_t)0x7777777777777777;
+}
 
 /* Each row by itself has the same arrays. */
 static int each_alone(const char *texts, const int64_t *offsets, size_t rows, uint32_t places) {
@@ -456,13 +459,13 @@ static void column_arrays(void) {
     static const int64_t numbers[16] = {10, 25, 10, 20, 30, 40, 50, 60, 0, 0, 40, 0, 0, 40, 0, 0};
     static const size_t rings[6] = {0, 1, 0, 2, 0, 4}, polygons[7] = {0, 1, 0, 1, 0, 1, 1};
     static const uint32_t kinds[9] = {0, 0, 0, 0, 1, 0, 0, 0, 5}, dimensions[9] = {0, 0, 0, 0, 1, 0, 0, 0, 0};
-    static const wkt_status told[9] = {WKT_OK, 3, WKT_NULL, WKT_NOT_UTF8, WKT_OK, WKT_COLLECTION, WKT_BAD_NUMBER,
-                                       WKT_TOO_LARGE, WKT_OK};
+    static const wkt_status want_statuses[9] = {WKT_OK,         3,              WKT_NULL,      WKT_NOT_UTF8, WKT_OK,
+                                                WKT_COLLECTION, WKT_BAD_NUMBER, WKT_TOO_LARGE, WKT_OK};
     static const uint8_t valid[2] = {0xfb, 1};
     static const int64_t zero = 0;
     size_t fit[6] = {10, 10, 10, 9, 9, 9}, none[6] = {1, 1, 1, 0, 0, 0}, i;
     CHECK(fill_of(texts, offsets, valid, 9, 1, 32, 32, 32, fit) == WKT_OK);
-    CHECK(got.told.numbers == 16 && got.told.rings == 6 && got.told.polygons == 7);
+    CHECK(got.sizes.numbers == 16 && got.sizes.rings == 6 && got.sizes.polygons == 7);
     CHECK(!memcmp(got.numbers, numbers, sizeof numbers) && got.numbers[16] == before.numbers[16]);
     CHECK(!memcmp(got.rings, rings, sizeof rings) && got.rings[6] == before.rings[6]);
     CHECK(!memcmp(got.polygons, polygons, sizeof polygons) && got.polygons[7] == before.polygons[7]);
@@ -470,16 +473,17 @@ static void column_arrays(void) {
     CHECK(!memcmp(got.ring_ends, ring_ends, sizeof ring_ends));
     CHECK(!memcmp(got.polygon_ends, polygon_ends, sizeof polygon_ends));
     CHECK(!memcmp(got.kinds, kinds, sizeof kinds) && !memcmp(got.dimensions, dimensions, sizeof dimensions));
-    CHECK(!memcmp(got.statuses, told, sizeof told) && each_alone(texts, offsets, 9, 1));
+    CHECK(!memcmp(got.statuses, want_statuses, sizeof want_statuses) && each_alone(texts, offsets, 9, 1));
     CHECK(fill_of(texts, offsets, NULL, 9, 1, 18, 8, 9, fit) == WKT_OK && got.statuses[2] == WKT_OK);
-    CHECK(got.told.numbers == 18 && each_alone(texts, offsets, 9, 1));
+    CHECK(got.sizes.numbers == 18 && each_alone(texts, offsets, 9, 1));
     CHECK(fill_of(texts, offsets, valid, 9, 1, 15, 6, 7, fit) == WKT_TOO_SMALL && arrays_untouched());
-    CHECK(got.told.numbers == 16 && got.told.rings == 6 && got.told.polygons == 7);
+    CHECK(got.sizes.numbers == 16 && got.sizes.rings == 6 && got.sizes.polygons == 7);
     CHECK(fill_of(texts, offsets, valid, 9, 1, 16, 5, 7, fit) == WKT_TOO_SMALL && arrays_untouched());
     CHECK(fill_of(texts, offsets, valid, 9, 1, 16, 6, 6, fit) == WKT_TOO_SMALL && arrays_untouched());
     CHECK(fill_of(texts, offsets, valid, 9, 1, 16, 6, 7, fit) == WKT_OK);
     CHECK(fill_of(texts, offsets, valid, 9, 19, 32, 32, 32, fit) == WKT_NO_PLACES && sizes_untouched() && arrays_untouched());
-    CHECK(fill_of(texts, &zero, NULL, 0, 1, 0, 0, 0, none) == WKT_OK && got.told.numbers == 0 && got.number_ends[0] == 0);
+    CHECK(fill_of(texts, &zero, NULL, 0, 1, 0, 0, 0, none) == WKT_OK);
+    CHECK(got.sizes.numbers == 0 && got.number_ends[0] == 0);
     for (i = 0; i < 6; i++) {
         fit[i]--;
         CHECK(fill_of(texts, offsets, valid, 9, 1, 32, 32, 32, fit) == WKT_NOT_COLUMN && arrays_untouched());
@@ -511,12 +515,12 @@ static void column_texts(void) {
     const char *texts = "point(1 2.50)XLINESTRING Z(1 2 3,4 5 6)MULTIPOLYGON(((0 0,4 0,0 4,0 0)),EMPTY)POINT EMPTY";
     const char *answers = "POINT(1 2.5)LINESTRING Z(1 2 3,4 5 6)MULTIPOLYGON(((0 0,4 0,0 4,0 0)),EMPTY)POINT EMPTY";
     static const int64_t offsets[6] = {0, 13, 14, 39, 78, 89}, want[6] = {0, 12, 12, 37, 76, 87};
-    static const wkt_status told[5] = {WKT_OK, WKT_NULL, WKT_OK, WKT_OK, WKT_OK};
+    static const wkt_status want_statuses[5] = {WKT_OK, WKT_NULL, WKT_OK, WKT_OK, WKT_OK};
     static const size_t fit[6] = {6, 6, 6, 5, 5, 5};
     static const uint8_t valid = 0x1d;
     CHECK(fill_of(texts, offsets, NULL, 5, 1, 32, 32, 32, fit) == WKT_OK && got.statuses[1] == 3);
     CHECK(texts_of(5, &valid, 1, ROOM) == WKT_OK && holds(answers));
-    CHECK(!memcmp(ends, want, sizeof want) && !memcmp(statuses, told, sizeof told) && ends[6] == -7);
+    CHECK(!memcmp(ends, want, sizeof want) && !memcmp(statuses, want_statuses, sizeof want_statuses) && ends[6] == -7);
     CHECK(texts_of(5, NULL, 1, ROOM) == WKT_OK && holds(answers) && statuses[1] == WKT_NOT_ARRAYS);
     CHECK(texts_of(5, &valid, 1, 86) == WKT_TOO_SMALL && needed == 87 && column_untouched());
     CHECK(texts_of(5, &valid, 1, 87) == WKT_OK && holds(answers));
@@ -584,7 +588,7 @@ static wkt_status call(int which) {
     int64_t got[16];
     size_t got_rings[3], got_polygons[3];
     uint32_t same;
-    WktSizes told;
+    WktSizes sizes;
     switch (which) {
     case 0: return wkt_canonical(BYTES(text), 6, out, ROOM, &needed, &end_at);
     case 1: return wkt_same(BYTES(text), BYTES(text), 6, &same);
@@ -610,7 +614,7 @@ static wkt_status call(int which) {
         wkt_status status = wkt_lines_some(BYTES(text), 6, 1, got_some, ROOM, &taken, &written);
         return status;
     }
-    case 6: return wkt_arrays(BYTES(text), 6, &told, got, 16, got_rings, 3, got_polygons, 3);
+    case 6: return wkt_arrays(BYTES(text), 6, &sizes, got, 16, got_rings, 3, got_polygons, 3);
     default: return wkt_from_arrays(1, 0, numbers, 6, rings, 2, polygons, 2, 6, out, ROOM, &needed);
     }
 }

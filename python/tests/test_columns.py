@@ -151,7 +151,7 @@ class Kinds(unittest.TestCase):
         self.assertEqual(wkt.canonical(arrow(many)).to_pylist(), wkt.canonical(many))
 
     @unittest.skipIf(numpy is None, "no NumPy")
-    def test_arrow_lets_go(self):
+    def test_arrow_releases(self):
         """What is lent lives until its release is called, moved or not, and until its capsule is gone."""
         from wkt import _arrow as api
 
@@ -176,12 +176,12 @@ class Kinds(unittest.TestCase):
         rows = 150_001
         texts = ["point(%d 1.%d)" % (i, i) for i in range(rows)]
         texts[70_000] = None
-        told = []
-        answers = wkt.canonical(texts, progress=told.append)
+        seen = []
+        answers = wkt.canonical(texts, progress=seen.append)
         wanted = ["POINT(%d %s)" % (i, ("1.%d" % i).rstrip("0").rstrip(".")) for i in range(rows)]
         wanted[70_000] = None
         self.assertEqual(answers, wanted)
-        self.assertEqual((told[-1], sorted(told), len(told) > 1), (rows, told, True))
+        self.assertEqual((seen[-1], sorted(seen), len(seen) > 1), (rows, seen, True))
         self.assertEqual(wkt.same(texts, answers), [True] * 70_000 + [None] + [True] * 80_000)
         self.assertEqual(wkt.same(texts[0], texts[:3]), [True, False, False])
         held = wkt.to_arrays_column(texts)
@@ -265,20 +265,20 @@ class Whole(unittest.TestCase):
 
 class Words(unittest.TestCase):
     def test_explanations(self):
-        told = wkt.explain("LINESTRING(1 2,3 x)")
-        self.assertEqual((told.start, told.stop, told.expected), (17, 18, "a second number"))
-        self.assertEqual((told.line, told.column), (1, 18))
-        self.assertEqual(str(told), "LINESTRING(1 2,3 x)\n                 ^ a second number was expected")
+        found = wkt.explain("LINESTRING(1 2,3 x)")
+        self.assertEqual((found.start, found.stop, found.expected), (17, 18, "a second number"))
+        self.assertEqual((found.line, found.column), (1, 18))
+        self.assertEqual(str(found), "LINESTRING(1 2,3 x)\n                 ^ a second number was expected")
         self.assertIsNone(wkt.explain("POINT(1 2) and more"))
         self.assertEqual(wkt.explain("POINT(1 2.55)", places=1).message, "Unable to parse input number as the desired output type")
-        told = wkt.explain("POINT(\n\t1.x")
-        self.assertEqual((told.line, told.column), (2, 2))
-        self.assertEqual(str(told).split("\n")[1], "\t^^^ a first number was expected")
+        found = wkt.explain("POINT(\n\t1.x")
+        self.assertEqual((found.line, found.column), (2, 2))
+        self.assertEqual(str(found).split("\n")[1], "\t^^^ a first number was expected")
         # Characters of a str, and bytes of bytes.
         text = "PÖINT"
         self.assertEqual((wkt.explain(text).stop, wkt.explain(text.encode()).stop), (5, 6))
         self.assertEqual(str(wkt.explain(text)), str(wkt.explain(text.encode())))
-        self.assertEqual(pickle.loads(pickle.dumps(told)), told)
+        self.assertEqual(pickle.loads(pickle.dumps(found)), found)
         with self.assertRaises(wkt.WktError) as raised:
             wkt.explain(b"\xff")
         self.assertEqual(raised.exception.status, 20)
@@ -290,8 +290,8 @@ class Words(unittest.TestCase):
         self.assertEqual(line[marks.index("^")], "x")
 
     def test_columns_of_explanations(self):
-        told = wkt.explain(TEXTS + [b"\xff"])
-        self.assertEqual([it and it.expected for it in told], [None, None, None, "a kind of geometry, such as POINT,", None, None])
+        found = wkt.explain(TEXTS + [b"\xff"])
+        self.assertEqual([it and it.expected for it in found], [None, None, None, "a kind of geometry, such as POINT,", None, None])
 
     def test_errors_say_where(self):
         with self.assertRaises(wkt.WktError) as raised:
@@ -362,10 +362,10 @@ class Streams(unittest.TestCase):
         self.assertEqual(sink.getvalue(), b"refused\n")
 
     def test_partial_writes_and_progress(self):
-        data, told, sink = b"point ( 1 2.50 )\n" * 300_000, [], Partial()
-        self.assertEqual(wkt.stream(io.BytesIO(data), sink, progress=told.append), 300_000)
+        data, seen, sink = b"point ( 1 2.50 )\n" * 300_000, [], Partial()
+        self.assertEqual(wkt.stream(io.BytesIO(data), sink, progress=seen.append), 300_000)
         self.assertEqual(sink.held, b"POINT(1 2.5)\n" * 300_000)
-        self.assertEqual((told[-1], sorted(told), len(told) > 3), (len(data), told, True))
+        self.assertEqual((seen[-1], sorted(seen), len(seen) > 3), (len(data), seen, True))
 
     def test_long_line(self):
         line = b"LINESTRING(" + b",".join([b"1 2.50"] * 500_000) + b")\n"

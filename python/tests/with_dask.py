@@ -213,8 +213,8 @@ def compared(client, path, refused, folder):
     took("a dataframe grouped by key, %d partitions" % frame.npartitions, start)
     assert answer.index.tolist() == counts.index.tolist() and answer.tolist() == counts.tolist(), "other counts"
     print("the dataframe: the counts of one run")
-    told = frame.id[key.isna() & frame.geometry.notnull()].compute().tolist()
-    assert told == refused, (told, refused)
+    rows = frame.id[key.isna() & frame.geometry.notnull()].compute().tolist()
+    assert rows == refused, (rows, refused)
     try:
         frame.map_partitions(checked, meta=("key", "object")).compute()
         raise AssertionError("no row was refused")

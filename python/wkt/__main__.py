@@ -112,7 +112,7 @@ class Progress:
         self.shown, self.size, self.drawn = shown, size, False
         self.start = self.last = time.monotonic()
 
-    def tell(self, done: int, texts: int, refused: int) -> None:
+    def report(self, done: int, texts: int, refused: int) -> None:
         now = time.monotonic()
         if not self.shown or now - self.last < 0.25:
             return
@@ -174,9 +174,9 @@ def why(text: bytes, name: str, line: int, places: int) -> str:
         shown = text.decode("utf-8")
     except UnicodeDecodeError as error:
         return _report.not_utf8(text, error.start, name, line)
-    told = explained(shown, places)
-    if told is not None:
-        return _report.refused(told, name, line, places)
+    explanation = explained(shown, places)
+    if explanation is not None:
+        return _report.refused(explanation, name, line, places)
     return _report.more_follows(shown, len(text[: end_of(text, places)].decode("utf-8")), name, line)
 
 
@@ -194,7 +194,7 @@ class Run:
         most = 1 if self.options.quiet else self.options.most
         return self.options.command == "check" and most > 0 and self.refused >= most
 
-    def tell(self, words: str) -> None:
+    def report(self, words: str) -> None:
         if self.options.command == "check":
             self.out.write(words.encode())
         else:
@@ -215,19 +215,19 @@ class Run:
     def refuse(self, name: str, line: int, text: bytes) -> None:
         self.refused += 1
         if not self.options.quiet:
-            self.tell(why(text, name, line, self.options.places))
+            self.report(why(text, name, line, self.options.places))
         if self.options.refused is not None:
             self.out.write(self.options.refused.encode() + b"\n")
 
     def block(self, name: str, line: int, texts: List[bytes]) -> int:
         """Answers some texts, of which the first begins at a line; it returns the line behind the last."""
         for first, keys, statuses in canonical_blocks(texts, self.places, texts=self.options.command != "check"):
-            told = statuses.tolist()
-            if self.options.command == "check" and self.options.end == "line" and not any(told):
-                self.texts += len(told)
-                line += len(told)
+            codes = statuses.tolist()
+            if self.options.command == "check" and self.options.end == "line" and not any(codes):
+                self.texts += len(codes)
+                line += len(codes)
                 continue
-            for i, status in enumerate(told):
+            for i, status in enumerate(codes):
                 text = texts[first + i]
                 self.texts += 1
                 if status:
@@ -248,7 +248,7 @@ class Run:
             try:
                 for texts, done in pieces(source, self.options.end):
                     line = self.block(name, line, texts)
-                    progress.tell(done, self.texts, self.refused)
+                    progress.report(done, self.texts, self.refused)
                     self.out.flush()
                     if self.is_over():
                         break
@@ -262,7 +262,7 @@ class Run:
         first = "the first " if self.is_over() else ""
         what = "line" if self.options.end == "line" else "text"
         plural = "" if self.texts == 1 else "s"
-        self.tell("%s of %s%s %s%s refused\n" % (thousands(self.refused), first, thousands(self.texts), what, plural))
+        self.report("%s of %s%s %s%s refused\n" % (thousands(self.refused), first, thousands(self.texts), what, plural))
 
 
 def compare(options: Options) -> int:

@@ -89,7 +89,7 @@ def _parts(*held: Any) -> Any:
     return itertools.chain.from_iterable((pointer(values), len(values)) for values in held)
 
 
-def _three(told: Any, likely: int, call: Callable[..., int]) -> Tuple[Any, Any, Any]:
+def _three(sizes: Any, likely: int, call: Callable[..., int]) -> Tuple[Any, Any, Any]:
     """The numbers and the offsets of rings and of polygons that a call fills, which says how many they are."""
     room = (likely, likely, likely)
     while True:
@@ -97,23 +97,23 @@ def _three(told: Any, likely: int, call: Callable[..., int]) -> Tuple[Any, Any, 
         status = call(*_parts(*held))
         if status != TOO_SMALL:
             break
-        room = (told.numbers, told.rings, told.polygons)
+        room = (sizes.numbers, sizes.rings, sizes.polygons)
     check(status)
     numbers, rings, polygons = held
-    return numbers[: told.numbers], rings[: told.rings], polygons[: told.polygons]
+    return numbers[: sizes.numbers], rings[: sizes.rings], polygons[: sizes.polygons]
 
 
 def _text_arrays(text: Text, places: int) -> Arrays:
-    data, told = encoded(text), _library.Sizes()
+    data, sizes = encoded(text), _library.Sizes()
 
     def call(*three: Any) -> int:
-        status: int = _library.wkt_arrays(data, len(data), places, ctypes.byref(told), *three)
+        status: int = _library.wkt_arrays(data, len(data), places, ctypes.byref(sizes), *three)
         if status and status != TOO_SMALL and status < 20:
             raise refusal(status, text, places)
         return status
 
-    three = _three(told, len(data) // 2 + 4, call)
-    return Arrays(KINDS[told.kind], DIMENSIONS[told.dimension], *three)
+    three = _three(sizes, len(data) // 2 + 4, call)
+    return Arrays(KINDS[sizes.kind], DIMENSIONS[sizes.dimension], *three)
 
 
 def to_arrays(
@@ -151,14 +151,14 @@ def _rows(held: ColumnArrays) -> Iterator[Optional[Arrays]]:
 
 def _column_call(held: Packed, places: int, words: Any, ends: Any, three: Any) -> Tuple[int, Any]:
     """The status of a call for the arrays of some rows, and what it says of the sizes."""
-    told = _library.ColumnSizes()
+    sizes = _library.ColumnSizes()
     joined = (part for values, end in zip(three, ends) for part in _parts(values, end))
     status = _library.wkt_column_arrays(
-        *parts(held), places, ctypes.byref(told), *_parts(*words[:2]), *joined, *_parts(words[2])
+        *parts(held), places, ctypes.byref(sizes), *_parts(*words[:2]), *joined, *_parts(words[2])
     )
     if status != TOO_SMALL:
         check(status)
-    return status, (told.numbers, told.rings, told.polygons)
+    return status, (sizes.numbers, sizes.rings, sizes.polygons)
 
 
 def _likely(held: Packed) -> int:
@@ -230,11 +230,11 @@ def _column_arrays(texts: Any, places: int, progress: Progress) -> ColumnArrays:
     filling = _Filling(count)
     # Without NumPy one call takes all rows, since no other shares its arrays.
     step = BLOCK if numpy is not None else max(count, 1)
-    with shown(progress, count) as tell:
+    with shown(progress, count) as report:
         for first in range(0, max(count, 1), step):
             part = pack(rows[first : first + step], first) if held is None else _arrow.part(held, first, step)
             filling.add(first, part, places)
-            tell(first + part.rows)
+            report(first + part.rows)
     del kept
     return filling.made()
 

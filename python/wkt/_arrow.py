@@ -146,7 +146,7 @@ def canonical_buffers(held: Packed, places: int, progress: Progress) -> Texts:
     out = numpy.empty(int(spans) + int(spans) // 8 + 64, numpy.uint8)
     ends, statuses = numpy.zeros(held.rows + 1, numpy.int64), numpy.empty(held.rows, numpy.uint32)
     at, needed = 0, _library.size()
-    with shown(progress, held.rows) as tell:
+    with shown(progress, held.rows) as report:
         for first in range(0, held.rows, BLOCK):
             block = part(held, first)
             last = first + block.rows
@@ -165,7 +165,7 @@ def canonical_buffers(held: Packed, places: int, progress: Progress) -> Texts:
             check(status)
             where[0][:] += at
             at += needed.value
-            tell(last)
+            report(last)
     return Texts(out[:at], ends, statuses)
 
 
@@ -292,6 +292,6 @@ def _raise_first(held: Packed, texts: Texts, places: int) -> None:
 def statuses(column: Any, places: int, progress: Progress = None) -> Any:
     """The status of each row, as an array of the column's shape."""
     held, capsules = packed(column)
-    told = canonical_buffers(held, places, progress).statuses
+    result = canonical_buffers(held, places, progress).statuses
     del capsules
-    return told.reshape(column.shape) if _is_fixed(column) else told
+    return result.reshape(column.shape) if _is_fixed(column) else result

@@ -115,7 +115,7 @@ Block = Tuple[int, List[Optional[str]], Any]
 def canonical_blocks(rows: Sequence[Any], places: int, progress: Progress = None, texts: bool = True) -> Iterator[Block]:
     """Of each block of rows where it begins, the canonical texts (if they are wanted), and the status of each row."""
     room = Room(1)
-    with shown(progress, len(rows)) as tell:
+    with shown(progress, len(rows)) as report:
         for first in range(0, len(rows), BLOCK):
             block = rows[first : first + BLOCK]
             held = pack(block, first)
@@ -123,7 +123,7 @@ def canonical_blocks(rows: Sequence[Any], places: int, progress: Progress = None
             ends, statuses = zeros("q", held.rows + 1), zeros("I", held.rows)
             needed = room.call(_canonical_call(held, places, ends, statuses))
             yield first, unpacked(room.out, needed, ends, statuses, block) if texts else [], statuses
-            tell(first + held.rows)
+            report(first + held.rows)
 
 
 def _canonical_call(held: Packed, places: int, ends: Any, statuses: Any) -> Callable[[Any, int, Any], int]:
@@ -141,8 +141,8 @@ class shown:
 
     def __init__(self, progress: Progress, total: Optional[int], unit: str = " rows", above: int = 1_000_000) -> None:
         self.bar: Any = None
-        self.tell = progress if callable(progress) else None
-        if progress not in (None, False, True) and self.tell is None:
+        self.report = progress if callable(progress) else None
+        if progress not in (None, False, True) and self.report is None:
             raise TypeError("progress is a function or a bool, and not %s" % type(progress).__name__)
         if progress is True:
             import tqdm  # type: ignore[import]
@@ -151,13 +151,13 @@ class shown:
                 self.bar = tqdm.tqdm(total=total, unit=unit, unit_scale=True)
 
     def __enter__(self) -> Callable[[int], None]:
-        def told(done: int) -> None:
+        def counted(done: int) -> None:
             if self.bar is not None:
                 self.bar.update(done - self.bar.n)
-            if self.tell is not None:
-                self.tell(done)
+            if self.report is not None:
+                self.report(done)
 
-        return told
+        return counted
 
     def __exit__(self, *error: Any) -> None:
         if self.bar is not None:

@@ -102,22 +102,22 @@ def same(
         raise ValueError("columns of %d and of %d rows" % (rows, len(others)))
     answers: List[Optional[bool]] = []
     blocks = zip(canonical_blocks(ones, places, progress), canonical_blocks(others, places))
-    for (first, texts, told), (_, their_texts, their_told) in blocks:
+    for (first, texts, codes), (_, their_texts, their_codes) in blocks:
         if invalid == "raise":
-            _raise_of_two(((ones, told), (others, their_told)), first, places)
+            _raise_of_two(((ones, codes), (others, their_codes)), first, places)
         answers += [None if a is None or b is None else a == b for a, b in zip(texts, their_texts)]
     return answers
 
 
 def _raise_of_two(both: Sequence[Tuple[Sequence[Any], Any]], first: int, places: int) -> None:
     """Raises the error of the first row that is refused in one of two columns and null in neither."""
-    rows = sorted({i for _, told in both for i in refused_of(told)})
+    rows = sorted({i for _, codes in both for i in refused_of(codes)})
     for i in rows:
-        if any(told[i] == NULL for _, told in both):
+        if any(codes[i] == NULL for _, codes in both):
             continue
-        for column, told in both:
-            if told[i]:
-                raise refusal(int(told[i]), column[first + i], places, first + i)
+        for column, codes in both:
+            if codes[i]:
+                raise refusal(int(codes[i]), column[first + i], places, first + i)
 
 
 def _same_as(column: Sequence[Any], text: Any, places: int, invalid: str, progress: Progress) -> List[Optional[bool]]:
@@ -163,10 +163,10 @@ def reads(text: Any, places: int = 18, progress: Progress = None, whole: bool = 
         return status in (0, TOO_SMALL)
     if _arrow.is_texts(text):
         return _arrow.statuses(text, places, progress) == 0
-    told: List[bool] = []
+    codes: List[bool] = []
     for _, _, statuses in canonical_blocks(column_of(text), places, progress, texts=False):
-        told += [status == 0 for status in statuses.tolist()]
-    return like(text, told, bool)
+        codes += [status == 0 for status in statuses.tolist()]
+    return like(text, codes, bool)
 
 
 def explain(text: Any, places: int = 18, progress: Progress = None) -> Any:

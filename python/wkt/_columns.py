@@ -99,16 +99,16 @@ def check_invalid(invalid: Any, known: Sequence[str] = INVALID) -> None:
 def canonical_rows(rows: Sequence[Any], places: int, invalid: str, progress: Progress) -> Tuple[List[Any], Any]:
     """The canonical texts of some rows, and the status of each."""
     answers: List[Any] = []
-    told = zeros("I", len(rows))
+    codes = zeros("I", len(rows))
     for first, texts, statuses in canonical_blocks(rows, places, progress):
-        told[first : first + len(statuses)] = statuses
+        codes[first : first + len(statuses)] = statuses
         if invalid != "null":
             for i in refused_of(statuses):
                 if invalid == "raise":
                     raise refusal(int(statuses[i]), rows[first + i], places, first + i)
                 texts[i] = rows[first + i]
         answers += texts
-    return answers, told
+    return answers, codes
 
 
 def canonical_like(values: Any, places: int, invalid: str, progress: Progress) -> Any:

@@ -8,7 +8,7 @@ from ._values import places_of
 PIECE = 1 << 20
 
 
-def _pieces(source: Any, tell: Callable[[int], None]) -> Iterator[bytes]:
+def _pieces(source: Any, report: Callable[[int], None]) -> Iterator[bytes]:
     done = 0
     while True:
         data = source.read(PIECE)
@@ -18,7 +18,7 @@ def _pieces(source: Any, tell: Callable[[int], None]) -> Iterator[bytes]:
             return
         yield bytes(data)
         done += len(data)
-        tell(done)
+        report(done)
 
 
 def _write(sink: Any, data: Any) -> None:
@@ -29,10 +29,10 @@ def _write(sink: Any, data: Any) -> None:
         view = view[len(view) if taken is None else taken :]
 
 
-def _whole_lines(source: Any, tell: Callable[[int], None]) -> Iterator[bytes]:
+def _whole_lines(source: Any, report: Callable[[int], None]) -> Iterator[bytes]:
     """The input by pieces, each of whole lines; the last may end without a line feed."""
     rest: List[bytes] = []
-    for data in _pieces(source, tell):
+    for data in _pieces(source, report):
         cut = data.rfind(b"\n") + 1
         if cut:
             yield b"".join([*rest, data[:cut]])
@@ -53,8 +53,8 @@ def stream(source: Any, sink: Any, places: int = 18, progress: Progress = None) 
     """
     places = places_of(places)
     count, room = 0, Room(1)
-    with shown(progress, None, " bytes") as tell:
-        for data in _whole_lines(source, tell):
+    with shown(progress, None, " bytes") as report:
+        for data in _whole_lines(source, report):
             room.holds(len(data) + len(data) // 8 + 64)
 
             def call(out: Any, length: int, needed: Any) -> int:

@@ -4,7 +4,7 @@ use crate::reader::{infer, output, read_front, text as text_of, units, NoKind, N
 use std::fmt::Debug;
 use std::ptr::null_mut;
 
-/// What wkt_arrays tells beside the arrays.
+/// What wkt_arrays returns beside the arrays.
 #[repr(C)]
 #[derive(Clone, Copy, Debug, Default, PartialEq)]
 struct Sizes {
@@ -121,7 +121,7 @@ impl Asked<'_> {
     }
 
     /// A call that hands out a text, or says why there is none: with room enough, with too little, with little memory.
-    /// `rest` tells whether what else it tells is as wanted, of its status.
+    /// `rest` says whether its other results are as wanted, for its status.
     fn hands_out(
         &self,
         wanted: Result<&[u8], u32>,
@@ -185,15 +185,15 @@ fn check_canonical(asked: &Asked) {
         let data = asked.data;
         let read = if places > 18 { Err(NO_PLACES) } else { read(data, places) };
         let text = read.as_ref().map(|(value, _)| text_of(value));
-        let told = std::cell::Cell::new(usize::MAX);
+        let ends_at = std::cell::Cell::new(usize::MAX);
         let ask = |out, m, needed: &mut usize| unsafe {
             let mut end = usize::MAX;
             let status = wkt_canonical(pointer(data), data.len(), places, out, m, needed, &mut end);
-            told.set(end);
+            ends_at.set(end);
             status
         };
         let end = read.as_ref().map_or(usize::MAX, |(_, end)| *end);
-        let rest = |status| told.get() == end || !(status == 0 || status == SMALL);
+        let rest = |status| ends_at.get() == end || !(status == 0 || status == SMALL);
         asked.hands_out(text.as_ref().map(String::as_bytes).map_err(|status| **status), ask, rest);
     }
 }
@@ -387,10 +387,10 @@ fn check_arrays(asked: &Asked) {
     }
 }
 
-/// The buffers of a call of wkt_arrays, and what it told.
+/// The buffers of a call of wkt_arrays, and the sizes that it returned.
 struct Filled {
     status: u32,
-    told: Sizes,
+    sizes: Sizes,
     numbers: Buffer<i64>,
     rings: Buffer<usize>,
     polygons: Buffer<usize>,
@@ -400,15 +400,15 @@ impl Filled {
     fn of(asked: &Asked, places: u32, room: [usize; 3], poor: bool) -> Filled {
         let mut numbers = Buffer::new(room[0], i64::MIN + 5);
         let (mut rings, mut polygons) = (Buffer::new(room[1], 1 << 60), Buffer::new(room[2], 1 << 60));
-        let mut told = Sizes::default();
+        let mut sizes = Sizes::default();
         let ask = || unsafe {
             wkt_arrays(
-                pointer(asked.data), asked.data.len(), places, &mut told, numbers.at(), room[0], rings.at(), room[1],
+                pointer(asked.data), asked.data.len(), places, &mut sizes, numbers.at(), room[0], rings.at(), room[1],
                 polygons.at(), room[2],
             )
         };
         let status = if poor { asked.poor_call(ask) } else { asked.call(ask) };
-        Filled { status, told, numbers, rings, polygons }
+        Filled { status, sizes, numbers, rings, polygons }
     }
 
     fn is_untouched(&self) -> bool {
@@ -431,10 +431,10 @@ fn check_filled(asked: &Asked, wanted: &Result<(Arrays, usize), u32>, places: u3
     let filled = Filled::of(asked, places, room, false);
     let fits = match wanted {
         Err(status) => filled.status == *status && filled.is_untouched(),
-        Ok(_) if room != whole => filled.status == SMALL && filled.told == sizes && filled.is_untouched(),
-        Ok((arrays, _)) => filled.status == 0 && filled.told == sizes && filled.holds(arrays),
+        Ok(_) if room != whole => filled.status == SMALL && filled.sizes == sizes && filled.is_untouched(),
+        Ok((arrays, _)) => filled.status == 0 && filled.sizes == sizes && filled.holds(arrays),
     };
-    let library = (filled.status, filled.told, filled.numbers.items, filled.rings.items, filled.polygons.items);
+    let library = (filled.status, filled.sizes, filled.numbers.items, filled.rings.items, filled.polygons.items);
     asked.ensure(fits, "wkt_arrays", library, (wanted, room, places));
     if asked.salt % 4 == 0 {
         let poor = Filled::of(asked, places, room, true);
@@ -454,7 +454,7 @@ fn check_from_arrays(asked: &Asked, arrays: &Arrays, places: u32, wanted: Result
     asked.hands_out(wanted.as_ref().map(String::as_bytes).map_err(|status| *status), ask, |_| true);
 }
 
-/// A column: the lines of the input are its rows, and bits of the salt tell which are null.
+/// A column: the lines of the input are its rows, and bits of the salt say which are null.
 struct Column<'a> {
     texts: &'a [u8],
     offsets: Vec<i64>,
@@ -523,20 +523,20 @@ type Answers<'a> = (&'a [u8], &'a [i64], &'a [u32]);
 fn check_column_call(asked: &Asked, column: &Column, places: u32, wanted: Result<Answers, u32>, room: [usize; 2]) {
     let buffers = std::cell::RefCell::new((Buffer::new(0, -7i64), Buffer::new(0, 77u32)));
     let ask = |out, m, needed: &mut usize| unsafe {
-        let mut told = (Buffer::new(room[0], -7i64), Buffer::new(room[1], 77u32));
+        let mut answers = (Buffer::new(room[0], -7i64), Buffer::new(room[1], 77u32));
         let status = wkt_column_canonical(
             pointer(column.texts), column.texts.len(), pointer(&column.offsets), column.offsets.len(),
-            pointer(&column.valid), column.valid.len(), places, out, m, told.0.at(), room[0], told.1.at(), room[1],
+            pointer(&column.valid), column.valid.len(), places, out, m, answers.0.at(), room[0], answers.1.at(), room[1],
             needed,
         );
-        *buffers.borrow_mut() = told;
+        *buffers.borrow_mut() = answers;
         status
     };
     let rest = |status| {
-        let told = buffers.borrow();
+        let answers = buffers.borrow();
         match wanted {
-            Ok((_, ends, statuses)) if status == 0 => told.0.holds(ends) && told.1.holds(statuses),
-            _ => told.0.holds(&[]) && told.1.holds(&[]),
+            Ok((_, ends, statuses)) if status == 0 => answers.0.holds(ends) && answers.1.holds(statuses),
+            _ => answers.0.holds(&[]) && answers.1.holds(&[]),
         }
     };
     asked.hands_out(wanted.map(|(text, _, _)| text), ask, rest);

@@ -1,4 +1,4 @@
-/* Counts the allocations that are held, and fails one of them where it is told to. Linked with
+/* Counts the allocations that are held, and fails the one that is asked for. Linked with
  * --wrap, so that the calls of the Rattle code come here, and from here go to the toolchain's functions. */
 #include <stdint.h>
 #include <stddef.h>

@@ -1,23 +1,6 @@
 //! A plain reader and writer of well-known text, from docs/GRAMMAR.md alone: what the fuzz compares the library with. It
 //! goes by recursion, makes a `String` of each number, and shares nothing with the library.
 
-/// The thirteen messages, by their numbers in docs/GRAMMAR.md.
-const MESSAGES: [&str; 13] = [
-    "Invalid WKT format",
-    "Encountered non-ascii word",
-    "Invalid type encountered",
-    "Unexpected word before open paren",
-    "End of stream",
-    "Missing open parenthesis for type",
-    "Missing closing parenthesis for type",
-    "Expected a number for the X coordinate",
-    "Expected a number for the Y coordinate",
-    "Expected a number for the Z coordinate",
-    "Expected a number for the M coordinate",
-    "Expected a word in GEOMETRYCOLLECTION",
-    "Unable to parse input number as the desired output type",
-];
-
 pub const KINDS: [&str; 7] =
     ["POINT", "LINESTRING", "POLYGON", "MULTIPOINT", "MULTILINESTRING", "MULTIPOLYGON", "GEOMETRYCOLLECTION"];
 pub const DIMENSIONS: [&str; 4] = ["", "Z", "M", "ZM"];
@@ -101,8 +84,11 @@ pub enum Value {
 /// The number of a message.
 pub type Refused = usize;
 
+/// The text of a message; docs/names.tsv has a row for each.
 pub fn message(refused: Refused) -> &'static str {
-    MESSAGES[refused - 1]
+    let row = format!("message\t{refused}\t");
+    let named = include_str!("../../docs/names.tsv").lines().find_map(|line| line.strip_prefix(&row));
+    named.and_then(|rest| rest.split('\t').nth(1)).expect("a message of that number")
 }
 
 #[derive(Clone, Copy, PartialEq)]

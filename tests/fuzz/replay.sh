@@ -1,7 +1,7 @@
 #!/usr/bin/env bash
 # Builds the fuzz afresh and runs its seeds and its corpus once, on one core, with low priority: some two minutes.
 #
-# Status 0: no difference, or this machine has not what it takes, which is told. Else: a difference, or it failed.
+# Status 0: no difference, or this machine lacks what it takes, which is printed. Else: a difference, or it failed.
 set -u
 here=$(cd "$(dirname "$0")" && pwd)
 dir=$(mktemp -d)

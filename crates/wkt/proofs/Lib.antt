@@ -2,11 +2,11 @@ pub mod Texts
 pub mod BackValues
 mod Depth
 mod JsonPoints
-mod Blanks
 mod Alikes
 mod Written
 mod Listed
 -- Lemmas of the crates below that callers' proofs cite.
+pub use Rattle.wkt_num.proofs.Grown
 pub use Rattle.wkt_access.proofs.Collections
 pub use Rattle.wkt_access.proofs.Lists
 pub use Rattle.wkt_write.proofs.Members

@@ -1,4 +1,4 @@
--- What is written of a geometry, which the tests of two geometries tell exactly.
+-- What is written of a geometry, which the tests of two geometries decide exactly.
 use Rattle.std.proofs.Common.{◌≡◌, refl, ap, ap₂, sym, subst, ◌∙◌, List, [], ◌∷◌, ◌++◌, map, take, Option, Some, None, option_map, Bool, true, false, ◌&&◌, slice_get, ◌↔◌, IsTrue}
 use Rattle.std.specs.Prelude.{option_to_list}
 use Rattle.std.specs.Cmp.Lexicographic.{pointwise}

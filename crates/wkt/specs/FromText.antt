@@ -1,4 +1,4 @@
--- What a text, and the bytes of a source, are answered with: the flat value of the front's geometry, or the named fault.
+-- What a text, and the bytes of a source, are answered with: the flat value of the front's geometry, or the error by name.
 use Rattle.std.specs.Prelude.{◌≡◌, ℕ, List, Option, Result, Ok, Err, Bool, IsUtf8}
 use Rattle.wkt_types.specs.Tree.{Tree}
 use Rattle.wkt_types.specs.Outcome.{Outcome, value, refused, empty_point, mismatched}
@@ -28,7 +28,7 @@ module _ {T : Type 0} (read : List ℕ → Option T) where
   TextAnswers see turn text (Err (Memory e)) = Unit {0}
   TextAnswers see turn text (Err _) = ⊥
 
-  -- Bytes that aren't UTF-8 are refused so, and any others are answered as a text. A source that fails tells nothing of them.
+  -- Bytes that aren't UTF-8 are refused so, and any others are answered as a text. Nothing is said of them if the source fails.
   abbrev pub BytesAnswer : {X R : Type 0} → (R → X) → (Tree T → Outcome X) → List ℕ → Result R ConvertError → Type 0
   BytesAnswer see turn bytes (Err (WrongNumberOfGeometries n)) = ⊥
   BytesAnswer see turn bytes (Err (Reader e)) = Unit {0}

@@ -42,7 +42,7 @@ pub enum AnyError {
     Memory(#[from] AllocError),
 }
 
-/// The same of a list that couldn't grow: what it was to take is let go.
+/// The error of a list that couldn't grow: the value it was to take is dropped.
 impl<V: Drop> From<AllocFailed<V>> for AnyError {
     ghost use Rattle.wkt.specs.declared.any_error.AnyError.TheVariants.{Memory};
 

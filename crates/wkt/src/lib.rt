@@ -1,5 +1,7 @@
 //! Well-known text read and written, proved: every name of the crates below, in one place.
 //!
+//! Below stand all crates of the library but `wkt_fill` and `wkt_lines`; above, examples and tests.
+//!
 //! A call that takes memory has the allocator first, `alloc`, which `main` gets with `rt.alloc()`, and answers
 //! an error where there is none. Numbers are of any type with [`WktNum`]: whole ones, or a [`Decimal`] of so
 //! many places.
@@ -56,7 +58,7 @@
 //! let line = literals::line_string(alloc, &[(0, 0), (4, -1)])?;
 //! ```
 //!
-//! # Geometries of one's own
+//! # Custom geometries
 //! Any type with the traits of [`geo_traits`] is written as it stands, with no copy: see [`to_wkt`]. A function
 //! over those traits takes a `Wkt`, a two-dimensional geometry and any other alike:
 //!
@@ -97,7 +99,7 @@ pub use wkt_read::{FromWktStr, InferError, Message, ReadError, infer_type};
 // crate that has it.
 pub type Wkt<T> = wkt_types::Wkt<T>;
 
-/// The traits by which any representation of a geometry is accessed: a type of one's own that has them is
+/// The traits by which any representation of a geometry is accessed: a custom type that has them is
 /// written by the writers of [`to_wkt`].
 pub mod geo_traits {
     pub use wkt_access::{

@@ -4,7 +4,6 @@ ghost use Rattle.std.specs.Cmp.Lexicographic.{pointwise};
 ghost use Rattle.wkt_access.specs.Shapes.{canon};
 ghost use Rattle.wkt_access.specs.Texts.{shape_text};
 ghost use Rattle.wkt_access.specs.declared.dimensions.Dimension.{Dimension};
-ghost use Rattle.wkt_types.specs.Exact.{dim_eq};
 ghost use Rattle.wkt_types.specs.Tree.{tree, members};
 ghost use Rattle.wkt_types.specs.Values.{tree_shape};
 ghost use Rattle.wkt.specs.Same.{IsWritable};
@@ -13,19 +12,8 @@ ghost use Rattle.wkt.specs.Alike.{third, fourth, written_rings, coord_alike, poi
 use wkt_access::Dimension;
 use wkt_num::WktNum;
 use wkt_read::laws::one_text;
+use wkt_types::dimension::is_same;
 use wkt_types::{Coord, LineString, Point, Polygon, Wkt};
-
-fn is_same(a: Dimension, b: Dimension) -> bool
-    ensures { result ≡ dim_eq a b }
-{
-    matches!(
-        (a, b),
-        (Dimension::XY, Dimension::XY)
-            | (Dimension::XYZ, Dimension::XYZ)
-            | (Dimension::XYM, Dimension::XYM)
-            | (Dimension::XYZM, Dimension::XYZM)
-    )
-}
 
 /// A part of a geometry, compared by what is written of it under a header of some dimension.
 trait Alike {
@@ -175,7 +163,7 @@ fn are_written_alike<T: WktNum>(a: &[Wkt<T>], b: &[Wkt<T>]) -> bool
 }
 
 /// Whether two geometries are one, in whatever way they are put together: they have one canonical value, and so one
-/// text. `==` compares what they hold, and tells apart `POLYGON(EMPTY)` and `POLYGON EMPTY`, which have one text. It
+/// text. `==` compares what they hold: `POLYGON(EMPTY)` and `POLYGON EMPTY` differ there, and have one text. It
 /// takes no memory. Of geometries that are compared often, `into_canonical` makes what `==` then compares so.
 ///
 /// ```text

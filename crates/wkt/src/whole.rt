@@ -1,7 +1,6 @@
 //! A text that is one geometry as a whole.
-ghost use Rattle.std.specs.Prelude.{◌↔◌, ◌≡◌, ◌≤◌, ◌<◌, IsTrue, IfOk, length};
+ghost use Rattle.std.specs.Prelude.{◌<◌, IfOk, length};
 ghost use Rattle.std.specs.Str.{IsCharBoundary};
-ghost use Rattle.wkt_num.specs.Bytes.{AllWhite};
 ghost use Rattle.wkt_types.specs.Tree.{tree};
 ghost use Rattle.wkt_read.specs.Items.{bad_number};
 ghost use Rattle.wkt_read.specs.Front.{Front, HasNoFront, NeedsNoMemory};
@@ -12,7 +11,7 @@ ghost use Rattle.wkt.specs.WholeText.{IsWhole, HasRest, OnUnread, OnRest};
 use std::alloc::Global;
 use thiserror::Error;
 use wkt_num::WktNum;
-use wkt_read::words::is_white;
+use wkt_read::words::is_blank;
 use wkt_read::{FromWktStr, ReadError};
 use wkt_types::Wkt;
 
@@ -25,18 +24,6 @@ pub enum WholeError {
     /// The geometry at the front ends at this byte, and more than white space follows it.
     #[error("more than white space after the geometry, which ends at byte {0}")]
     Rest(usize),
-}
-
-/// Whether there is nothing but white space.
-fn is_blank(bytes: &[u8]) -> bool
-    ensures { IsTrue result ↔ AllWhite bytes.now }
-{
-    for byte in bytes {
-        if !is_white(*byte) {
-            return false;
-        }
-    }
-    true
 }
 
 /// The geometry that the text is: it may have white space before and after it, and nothing else. A NUL ends a text

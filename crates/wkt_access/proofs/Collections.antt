@@ -13,7 +13,7 @@ module _ {A N : Type 0} (f : A → Shape N) (s : Shape N) (d : Dimensions) (xs :
   members_are : members_of s ≡ map f xs
   members_are = ap members_of is ∙ each_gathered (map f xs)
 
-  -- it is told by its header and its members
+  -- its header and its members determine it
   pub whole : collection_of d (members_of s) ≡ s
   whole = ap (λ gs. collection_of d gs) members_are ∙ sym is
 

@@ -445,7 +445,7 @@ pub trait GeometryCollectionTrait {
     /// The member at place `i`, which is below the count.
     ///
     /// An implementation that never has members writes an `ensures` of its own here, for the reason
-    /// told at [`GeometryTrait::geometry`].
+    /// given at [`GeometryTrait::geometry`].
     fn geometry(&self, i: usize) -> &Self::GeometryType
         requires { i < length (geometries self.now) }
         ensures { slice_get (geometries self.now) i ≡ Some (Self.GeometryType.shape result.now) };

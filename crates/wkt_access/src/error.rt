@@ -49,7 +49,7 @@ impl From<AllocError> for Error {
     }
 }
 
-/// What a `Display` implementation answers: the sink's own fault, and else the one fault that there is.
+/// What a `Display` implementation returns: the sink's own error, or else the one error that a formatter has.
 impl From<Error> for fmt::Error {
     ghost use Rattle.std.specs.Prelude.{◌≡◌};
     ghost use Rattle.wkt_access.specs.Errors.{fmt_error_of};

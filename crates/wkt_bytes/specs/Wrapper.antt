@@ -54,7 +54,7 @@ abbrev pub untold_error : {W : Type 0} → WriterWrapper W → Option Error
 untold_error w = state_error w.state
 
 module _ {W : Type 0} (sink : SinkOfBytes W) where
-  -- What s held and was given is what went out followed by what t holds.
+  -- The bytes that s held, and then those given, are the bytes that went out, and then those that t holds.
   pub record Gathers (s : WriterWrapper W) (handed : List ℕ) (t : WriterWrapper W) : Type 0 where
     pub out : List ℕ
     pub went : Appends (sink.bytes s.writer) (sink.bytes t.writer) out

@@ -1,4 +1,6 @@
 //! Sinks and sources of bytes, and text to a sink of bytes.
+//!
+//! Below stands `wkt_num`; above, what takes or gives bytes: `wkt_convert`, `wkt_lines` and the programs.
 #![tactic(auto)]
 
 mod error;

@@ -14,7 +14,6 @@ pub mod Fitting
 pub mod Pieces
 pub mod Calls
 pub mod Blames
-pub mod Blanks
 pub mod Padded
 pub mod AsciiWindows
 pub mod Copied

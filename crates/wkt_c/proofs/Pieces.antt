@@ -8,7 +8,8 @@ use Rattle.wkt_lines.specs.Laws.{IsWhole, OutputOfParts}
 use Rattle.wkt_lines.specs.Output.{IsOutput}
 use Rattle.wkt_lines.specs.Lines.{input_lines}
 use Rattle.wkt_lines.specs.Replies.{AreReplies}
-use Rattle.wkt_lines.specs.Splitting.{before_feed, after_feed, lines_step}
+use Rattle.wkt_lines.specs.Splitting.{before_feed, after_feed}
+use Rattle.wkt_lines.proofs.Splits.{lines_step}
 use Rattle.wkt_events.specs.Answers.{IsAnswer}
 use Rattle.wkt_c.specs.Chunks.{AreWholeLines}
 

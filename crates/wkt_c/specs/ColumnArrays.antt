@@ -90,7 +90,7 @@ abbrev pub AreColumnArrays : ℕ → List ℕ → List ℕ → List ℕ → Colu
 AreColumnArrays asked texts offsets valid a statuses =
     AreRowArrays (places_in asked) (asks_whole asked) texts offsets valid (row_count offsets) a statuses
 
--- What is told of the sizes.
+-- The sizes that a call returns.
 pub record AreColumnSizes (a : ColumnArrays) (s : WktColumnSizes) : Type 0 where
   pub numbers : s.numbers ≡ length a.numbers
   pub rings : s.rings ≡ length a.rings
@@ -113,7 +113,7 @@ abbrev pub AreFilled : ℕ → List ℕ → List ℕ → List ℕ → List ℕ �
 AreFilled asked texts offsets valid statuses sizes numbers rings polygons new =
     (arrays : ColumnArrays) × AreColumnArrays asked texts offsets valid arrays statuses × FillColumn arrays sizes numbers rings polygons new
 
--- One of the three buffers has no room; the sizes are told.
+-- One of the three buffers has no room; the sizes are returned.
 pub record LackRoom (a : ColumnArrays) (s : WktColumnSizes) (old : ColumnArrays) : Type 0 where
   pub sizes : AreColumnSizes a s
   pub small : (length old.numbers < length a.numbers) ⊎ ((length old.rings < length a.rings) ⊎ (length old.polygons < length a.polygons))

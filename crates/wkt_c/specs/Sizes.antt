@@ -4,7 +4,7 @@ use Rattle.wkt_c.specs.Answer.{with_front}
 use Rattle.wkt_c.specs.Arrays.{AreOf}
 use Rattle.wkt_c.specs.declared.sizes.WktSizes.{WktSizes}
 
--- The arrays of the text's front, and their sizes as told.
+-- The arrays of the text's front, and the sizes that are returned.
 pub record AreTold (places : ℕ) (text : List ℕ) (s : WktSizes) : Type 0 where
   pub ns : List ℤ
   pub rs : List ℕ

@@ -1,9 +1,9 @@
 //! What a call asks for beside a text: how many places, and whether the text is to be one geometry as a whole.
-ghost use Rattle.std.specs.Prelude.{◌≡◌, ◌↔◌, ◌<◌, ◌≤◌, IsTrue, length, drop, true, false};
+ghost use Rattle.std.specs.Prelude.{◌≡◌, ◌<◌, ◌≤◌, length, drop, true, false};
 ghost use Rattle.wkt_num.specs.Bytes.{AllWhite};
 ghost use Rattle.wkt_c.specs.Answer.{places_in, asks_whole, EndsAsAsked};
 
-use wkt_read::words::is_white;
+use wkt_read::words::is_blank;
 
 /// What is added to the number of places where whole texts are asked for.
 const WHOLE: u32 = 256;
@@ -30,18 +30,6 @@ fn asks_whole(asked: u32) -> bool
     ensures { result ≡ asks_whole asked }
 {
     asked >= WHOLE
-}
-
-/// Whether there is nothing but white space.
-fn is_blank(bytes: &[u8]) -> bool
-    ensures { IsTrue result ↔ AllWhite bytes.now }
-{
-    for byte in bytes {
-        if !is_white(*byte) {
-            return false;
-        }
-    }
-    true
 }
 
 /// Whether a geometry that ends there is as asked for.

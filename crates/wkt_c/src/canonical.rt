@@ -69,8 +69,7 @@ fn write_at(text: &str, places: u32, room: &mut [u8]) -> Option<(usize, usize)>
         15 => write::<15>(text, room),
         16 => write::<16>(text, room),
         17 => write::<17>(text, room),
-        18 => write::<18>(text, room),
-        _ => unreachable!(),
+        _ => write::<18>(text, room),
     }
 }
 
@@ -311,8 +310,7 @@ fn laws_at(places: u32)
         15 => laws::<15>(),
         16 => laws::<16>(),
         17 => laws::<17>(),
-        18 => laws::<18>(),
-        _ => unreachable!(),
+        _ => laws::<18>(),
     }
 }
 

@@ -83,7 +83,6 @@ pub(crate) fn explained_at(text: &[u8], places: u32) -> Result<Place, u32>
         15 => explained::<Decimal<15>>(text),
         16 => explained::<Decimal<16>>(text),
         17 => explained::<Decimal<17>>(text),
-        18 => explained::<Decimal<18>>(text),
-        _ => unreachable!(),
+        _ => explained::<Decimal<18>>(text),
     }
 }

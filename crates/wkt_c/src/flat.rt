@@ -101,8 +101,7 @@ fn flat_at<'a>(text: &[u8], places: u32, room: Room<'a>) -> Result<Flat<'a>, u32
         15 => make_flat::<15>(text, room),
         16 => make_flat::<16>(text, room),
         17 => make_flat::<17>(text, room),
-        18 => make_flat::<18>(text, room),
-        _ => unreachable!(),
+        _ => make_flat::<18>(text, room),
     }
 }
 

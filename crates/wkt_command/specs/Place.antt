@@ -1,11 +1,11 @@
 -- Lines and columns of a text, by its bytes.
-use Rattle.std.specs.Prelude.{ℕ, suc, ◌+◌, ◌-◌, ◌^◌, min, List, [], ◌∷◌, ◌++◌, Bool, cond, ◌==◌, ◌&&◌, nat_le, codes, if◌then◌else◌}
+use Rattle.std.specs.Prelude.{ℕ, suc, ◌+◌, ◌-◌, ◌^◌, min, List, [], ◌∷◌, ◌++◌, Bool, ◌==◌, ◌&&◌, nat_le, codes, if◌then◌else◌}
 use Rattle.std.specs.Fmt.{decimal}
 
 -- how many line feeds there are
 abbrev pub feeds : List ℕ → ℕ
 feeds [] = 0
-feeds (b ∷ rest) = cond (b == 10) (suc (feeds rest)) (feeds rest)
+feeds (b ∷ rest) = if b == 10 then suc (feeds rest) else feeds rest
 
 -- whether a byte of UTF-8 continues a character, and begins none
 abbrev pub continues : ℕ → Bool
@@ -14,12 +14,12 @@ continues b = nat_le 128 b && nat_le b 191
 -- the column behind these bytes, where the column before them is c: a line feed begins a line, whose first column is 1
 abbrev pub column_after : ℕ → List ℕ → ℕ
 column_after c [] = c
-column_after c (b ∷ rest) = cond (b == 10) (column_after 1 rest) (cond (continues b) (column_after c rest) (column_after (suc c) rest))
+column_after c (b ∷ rest) = if b == 10 then column_after 1 rest else (if continues b then column_after c rest else column_after (suc c) rest)
 
 -- the byte of the line behind these bytes, where the byte before them is c, by the same rule
 abbrev pub byte_after : ℕ → List ℕ → ℕ
 byte_after c [] = c
-byte_after c (b ∷ rest) = cond (b == 10) (byte_after 1 rest) (byte_after (suc c) rest)
+byte_after c (b ∷ rest) = if b == 10 then byte_after 1 rest else byte_after (suc c) rest
 
 -- the number of the line behind these bytes of a text, whose first line has the number `first`
 abbrev pub line_after : ℕ → List ℕ → ℕ

@@ -1,13 +1,12 @@
 //! Whether a text is read.
-ghost use Rattle.std.specs.Prelude.{◌≡◌, ◌+◌, ◌*◌, ◌≤◌, ◌↔◌, [], IfOk, IsTrue, OnOk, length, vec_len};
-ghost use Rattle.wkt_num.specs.Bytes.{AllWhite};
+ghost use Rattle.std.specs.Prelude.{◌+◌, ◌*◌, ◌≤◌, [], IfOk, OnOk, vec_len};
 ghost use Rattle.wkt_command.specs.Verdicts.{IsVerdict, room_bytes};
 
 use std::alloc::{AllocError, Global};
 use wkt_events::{NoRoom, write_canonical};
 use wkt_explain::{Explanation, explain};
 use wkt_num::WktNum;
-use wkt_read::words::is_white;
+use wkt_read::words::is_blank;
 
 /// Room for a canonical text.
 #[derive(Drop)]
@@ -74,18 +73,6 @@ pub enum Verdict<'a> {
     Refused(Explanation<'a>),
     /// More than white space follows its geometry, which ends at this byte.
     Rest(usize),
-}
-
-/// Whether there is nothing but white space.
-fn is_blank(bytes: &[u8]) -> bool
-    ensures { IsTrue result ↔ AllWhite bytes.now }
-{
-    for byte in bytes {
-        if !is_white(*byte) {
-            return false;
-        }
-    }
-    true
 }
 
 /// Whether the text is read, with its canonical text in the room; of a front, whatever follows it.

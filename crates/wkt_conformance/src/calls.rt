@@ -71,10 +71,14 @@ fn header(alloc: Global, text: &str) -> Result<String, AnyError> {
 fn same(alloc: Global, one: &str, other: &str) -> Result<String, AnyError> {
     let one = Wkt::<Number>::from_str(alloc, one)?;
     let other = Wkt::<Number>::from_str(alloc, other)?;
-    Ok(told_same(alloc, &one, &other)?)
+    Ok(same_by_texts(alloc, &one, &other)?)
 }
 
-fn told_same(alloc: Global, one: &Wkt<Number>, other: &Wkt<Number>) -> Result<String, AllocError> {
+fn same_by_texts(
+    alloc: Global,
+    one: &Wkt<Number>,
+    other: &Wkt<Number>,
+) -> Result<String, AllocError> {
     let same = same_geometry(one, other);
     let texts = one.to_string(alloc)? == other.to_string(alloc)?;
     if same_geometry(other, one) != same || texts != same {

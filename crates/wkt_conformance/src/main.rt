@@ -1,5 +1,7 @@
 //! The tables of texts, which this program checks.
 //!
+//! Below stand `wkt`, `wkt_lines`, `wkt_uses` and `wkt_test_support`.
+//!
 //! Each line of standard input is a text, a tab, and what reading the text over decimals of eighteen
 //! places gives: the text of its geometry, or the message. The table that stands beside the sources
 //! has one text for each kind, dimension, place and cause that can be met there; it was made by a
@@ -29,7 +31,7 @@ fn main(rt: HostRuntime) -> ExitCode {
         Ok(0) => ExitCode::SUCCESS,
         Ok(_) => ExitCode::from(1),
         Err(e) => {
-            // Where standard error fails too, the status still tells.
+            // If standard error fails too, the status still reports it.
             let _ = eprintln!(rt; "wkt_conformance: {e}");
             ExitCode::from(2)
         }

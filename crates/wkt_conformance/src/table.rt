@@ -34,7 +34,7 @@ pub fn check_all(rt: &HostRuntime) -> Result<u64, TableError> {
     Ok(wrong)
 }
 
-/// Why the arguments or a file aren't there; out of memory is told apart.
+/// Why the arguments or a file aren't there; out of memory is an error by itself.
 fn unread(error: io::Error) -> TableError {
     match error.kind() {
         ErrorKind::OutOfMemory => TableError::Memory(AllocError),
@@ -58,7 +58,7 @@ fn text_of(bytes: &[u8]) -> Result<&str, TableError> {
     }
 }
 
-/// Checks each row of a table of texts, and tells which are wrong, and how many.
+/// Checks each row of a table of texts, and prints which are wrong, and how many.
 fn check_table(rt: &impl Print, alloc: Global, table: &str) -> Result<u64, TableError> {
     let mut rows = 0u64;
     let mut wrong = 0u64;
@@ -73,11 +73,11 @@ fn check_table(rt: &impl Print, alloc: Global, table: &str) -> Result<u64, Table
             wrong = wrong.wrapping_add(1);
         }
     }
-    tell(println!(rt; "{rows} rows, {wrong} wrong"))?;
+    printed(println!(rt; "{rows} rows, {wrong} wrong"))?;
     Ok(wrong)
 }
 
-/// Checks each row of a file, but for its head, and tells which are wrong, and how many.
+/// Checks each row of a file, but for its head, and prints which are wrong, and how many.
 fn check_file(rt: &HostRuntime, alloc: Global, name: &str) -> Result<u64, TableError> {
     let bytes = bytes_of(alloc, fs::open(rt, name).map_err(unread)?)?;
     let mut rows = 0u64;
@@ -91,11 +91,11 @@ fn check_file(rt: &HostRuntime, alloc: Global, name: &str) -> Result<u64, TableE
             wrong = wrong.wrapping_add(1);
         }
     }
-    tell(println!(rt; "{name}: {rows} rows, {wrong} wrong"))?;
+    printed(println!(rt; "{name}: {rows} rows, {wrong} wrong"))?;
     Ok(wrong)
 }
 
-/// Whether the row of a line is right; one that isn't is told.
+/// Whether the row of a line is right. Prints one that isn't.
 fn check_line(rt: &impl Print, alloc: Global, line: &str) -> Result<bool, TableError> {
     match row_of(alloc, line) {
         Ok(Row { given, want }) => is_right(rt, line, &given, &want),
@@ -103,17 +103,17 @@ fn check_line(rt: &impl Print, alloc: Global, line: &str) -> Result<bool, TableE
     }
 }
 
-/// Whether what was given is what is wanted; else both are told.
+/// Whether the answer is the wanted one. Prints both if it isn't.
 fn is_right(rt: &impl Print, row: &str, given: &str, want: &str) -> Result<bool, TableError>
     ensures { IfOk result (λ right. IsTrue right ↔ (given.now ≡ want.now)) }
 {
     if given == want {
         return Ok(true);
     }
-    tell(println!(rt; "{row}: {given}, but wanted {want}"))?;
+    printed(println!(rt; "{row}: {given}, but wanted {want}"))?;
     Ok(false)
 }
 
-fn tell(printed: io::Result<()>) -> Result<(), TableError> {
-    printed.map_err(TableError::Print)
+fn printed(result: io::Result<()>) -> Result<(), TableError> {
+    result.map_err(TableError::Print)
 }

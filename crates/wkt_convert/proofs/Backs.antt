@@ -1,4 +1,4 @@
--- A flat_tree value and its `Wkt` are written as one value, and neither has a fault.
+-- A flat_tree value and its `Wkt` are written as one value, and neither has an error.
 use Rattle.std.proofs.Common.{◌≡◌, ℕ, List, [], ◌∷◌, map, Some, None, refl, ap, ap₂, sym, ◌∙◌}
 use Rattle.std.specs.Option.{option_or}
 use Rattle.wkt_access.specs.Shapes.{Shape, canon, canons, rings_of, polygon_of, shapes_of, cut}

@@ -110,7 +110,7 @@ module _ {T : Type 0} (E : flat_coord.Coord T → flat_coord.Coord T → Bool) w
   ends [] done rest closed none = ap (going (map flat_tree done)) (none-left rest none) ∙ going-none (map flat_tree done)
   ends (x ∷ xs) done rest closed none = absurd (omega arith)
 
-  -- the first fault is that of all
+  -- the first error is that of all
   pub refuses : (xs : List (Open (Wkt T) (Geometry T))) (done : List (Flat T)) (w : Wkt T) (rest others : List (Wkt T)) (k : Fault) →
       rest ≡ w ∷ others → flat E (tree w) ≡ refused k → finish xs (going done rest) ≡ refused k
   refuses xs done w rest others k split fails = ap (finish xs) (ap (going done) split ∙ going-refused done w others k fails) ∙ finish-refused xs k

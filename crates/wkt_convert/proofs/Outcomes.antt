@@ -6,7 +6,7 @@ use Rattle.wkt_types.specs.declared.convert.ConvertError.{ConvertError}
 use Rattle.wkt_types.specs.declared.convert.ConvertError.TheVariants.{PointConversionError, MismatchedGeometry, WrongNumberOfGeometries, InvalidWKT, Reader, Utf8}
 use Rattle.wkt_types.specs.declared.convert.ConvertError.TheVariants as convert
 
--- a refusal of one outcome is one of another that has the same faults
+-- a refusal of one outcome is one of another that has the same errors
 pub passes_on : {X Y R Q : Type 0} (see : R → X) (see' : Q → Y) (o : Outcome X) (o' : Outcome Y) → ((k : Fault) → o ≡ refused k → o' ≡ refused k) →
     (e : ConvertError) → Answers see o (Err e) → Answers see' o' (Err e)
 passes_on see see' o o' f PointConversionError h = f _ h

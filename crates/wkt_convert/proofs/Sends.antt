@@ -1,4 +1,4 @@
--- A shape without fault is refused for memory alone, or never.
+-- A shape without error is refused for memory alone, or never.
 use Rattle.std.proofs.Common.{◌≡◌, Result, Ok, Err, Some, None, OnOk, sym, ◌∙◌}
 use Rattle.std.specs.Prelude.{IfErr}
 use Rattle.wkt_access.specs.declared.error.Error.{Error}

@@ -1,4 +1,4 @@
--- The flat value of what a `Wkt` holds, or the named fault: z, m and dimensions are dropped, the order is kept, and rings are closed.
+-- The flat value of what a `Wkt` holds, or the error by name: z, m and dimensions are dropped, the order is kept, and rings are closed.
 use Rattle.std.specs.Prelude.{List, [], ◌∷◌, map, Bool, Option, Some, None, ℕ, codes}
 use Rattle.wkt_types.specs.Held.{Held, HeldPoint}
 use Rattle.wkt_types.specs.Tree.{Tree, Trees}
@@ -24,7 +24,7 @@ first_outside E (r ∷ rs) = closed_rings E r rs
 abbrev pub rings : {T : Type 0} → (flat_coord.Coord T → flat_coord.Coord T → Bool) → Held (Held (Coord T)) → Rings (flat_coord.Coord T)
 rings E y = first_outside E (map sequence y.parts)
 
--- The points of a multipoint, or the fault of its first empty member.
+-- The points of a multipoint, or the error of its first empty member.
 abbrev pub points : {T : Type 0} → List (HeldPoint (Coord T)) → Outcome (List (flat_point.Point T))
 points ps = outcomes (λ p. point_or_fault p.coord) ps
 
@@ -44,7 +44,7 @@ abbrev mutual
   flat E (Tree.multi_polygon m) = value (Flat.multi_polygon (map (rings E) m.parts))
   flat E (Tree.collection ts d) = outcome_map Flat.collection (flat_all E ts)
 
-  -- The members of a collection, or the first fault.
+  -- The members of a collection, or the first error.
   pub flat_all : {T : Type 0} → (flat_coord.Coord T → flat_coord.Coord T → Bool) → Trees T → Outcome (Flats T)
   flat_all E Trees.no_trees = value Flats.no_flats
   flat_all E (Trees.more_trees t ts) = outcome_both Flats.more_flats (flat E t) (flat_all E ts)

@@ -36,7 +36,7 @@ pub record FlatKind (T X : Type 0) : Type 0 where
   pub name : List ℕ
   pub content : Flat T → Option X
 
--- The content of a flat value that is of the kind asked for; a fault of the conversion comes first.
+-- The content of a flat value that is of the kind asked for; an error of the conversion comes first.
 abbrev pub only : {T X : Type 0} → FlatKind T X → Outcome (Flat T) → Outcome X
 only kind (value t) = asked kind.name (flat_name t) (kind.content t)
 only kind (refused k) = refused k

@@ -13,7 +13,7 @@ use Rattle.wkt_convert.specs.Flatten.{flat}
 use Rattle.wkt_convert.specs.declared.parts.Piece.{Piece}
 use Rattle.wkt_convert.specs.declared.parts.Piece.TheVariants.{Whole, Members}
 
--- The flat value of the tree, the members of the collection that it is, or its fault; or memory was lacking.
+-- The flat value of the tree, the members of the collection that it is, or its error; or memory was lacking.
 abbrev pub IsPiece : {T : Type 0} → (flat_coord.Coord T → flat_coord.Coord T → Bool) → Tree T → Result (Piece (Wkt T) (Geometry T)) ConvertError → Type 0
 IsPiece E t (Ok (Whole g)) = flat E t ≡ value (flat_tree g)
 IsPiece E t (Ok (Members ws)) = (d : Dimension) × (t ≡ Tree.collection (members ws.now) d)

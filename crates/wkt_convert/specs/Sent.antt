@@ -7,7 +7,7 @@ use Rattle.wkt_access.specs.Faults.{fault}
 use Rattle.wkt_convert.specs.declared.send.ToWktError.{ToWktError}
 use Rattle.wkt_convert.specs.declared.send.ToWktError.TheVariants as send
 
--- Why a shape has no text here: it has this fault, or memory was lacking. A sink's fault never comes.
+-- Why a shape has no text here: it has this error, or memory was lacking. A sink's error never comes.
 abbrev pub IsRefusal : {N : Type 0} → Shape N → Error → Type 0
 IsRefusal s (FmtError e) = ⊥
 IsRefusal s RectUnsupportedDimension = fault s ≡ Some RectUnsupportedDimension

@@ -1,4 +1,6 @@
 //! Geometries of well-known text converted into two-dimensional types and back, and these types as text.
+//!
+//! Below stand `wkt_types` and `wkt_flat`, and `wkt_bytes` for text that goes to a sink; above, `wkt`.
 #![tactic(auto)]
 
 mod back;

@@ -46,7 +46,7 @@ pub trait ToWkt<T: WktNum> {
     /// The text of its `Wkt`.
     ///
     /// # Errors
-    /// The fault of the shape, for the first one in the order of the text; `Memory` when out of
+    /// The error of the shape, for the first one in the order of the text; `Memory` when out of
     /// memory, for the string too. `FmtError` never comes.
     fn wkt_string(&self, alloc: Global) -> Result<String, Error>
         ensures text { IfOk result (λ s. string_bytes s ≡ shape_text T.num (tree_shape (held self.now))) }
@@ -61,7 +61,7 @@ pub trait ToWkt<T: WktNum> {
     /// Puts the text of its `Wkt` out. Ok means that the whole text is out.
     ///
     /// # Errors
-    /// `Shape` for the fault of the shape, or when out of memory: then nothing went out. `Io`
+    /// `Shape` for the error of the shape, or when out of memory: then nothing went out. `Io`
     /// where the writer failed, or took nothing (`WriteZero`): then a beginning of the text is out.
     fn write_wkt<W: ByteSink>(&self, alloc: Global, writer: &mut W) -> Result<(), ToWktError>
         ensures ok { OnOk result

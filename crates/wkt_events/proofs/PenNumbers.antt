@@ -14,10 +14,10 @@ use Rattle.wkt_events.specs.Left.{class_in, left, IsMark, TakesOne}
 use Rattle.wkt_events.specs.Walking.{GivesNumberIfAny, Legible}
 use Rattle.wkt_events.specs.Written.{Extends, Wrote, IsStuck, separator}
 use Rattle.wkt_events.specs.Numbers.{IsNumberAt, NoNumber, Numbered, ReadsNumberIfAny}
-use Rattle.wkt_events.specs.PenMaker.{pen_maker, wrote_of, wrote_more}
+use Rattle.wkt_events.specs.PenMaker.{pen_maker, wrote_more}
 use Rattle.wkt_events.proofs.Lefts.{takes-mark, takes-run, takes-left, left-nul}
 use Rattle.wkt_events.proofs.RunTexts.{number-text}
-use Rattle.wkt_events.proofs.Runs.{run-some}
+use Rattle.wkt_events.proofs.Runs.{wrote_of, run-some}
 
 -- a run that begins as a number is one
 number-lexeme : (run : List ℕ) → 0 < length run → IsTrue (starts_number (get_or run 0 0)) → lexeme_of run ≡ Num (without_plus run)

@@ -10,9 +10,12 @@ use Rattle.wkt_num.specs.Kept.{KeepsText, StopsRun}
 use Rattle.wkt_read.specs.Lexemes.{starts_number, without_plus}
 use Rattle.wkt_events.specs.Plus.{plus_len}
 use Rattle.wkt_events.specs.declared.text.Pen.{Pen}
-use Rattle.wkt_events.specs.Written.{Extends}
-use Rattle.wkt_events.specs.PenMaker.{wrote_of}
+use Rattle.wkt_events.specs.Written.{Extends, Wrote}
 use Rattle.wkt_events.specs.Numbers.{IsNumberAt, Numbered}
+
+-- what was added was written
+pub wrote_of : {N : Type 0} (s t : Pen N) (bs : List ℕ) → Extends s bs t → Wrote s bs t
+wrote_of s t bs h = record { shorter = omega (arith, h.whole); unless = λ _. h }
 
 -- the text of a number is some bytes
 some-bytes : (bs : List ℕ) → IsNumberText bs → 0 < length bs

@@ -9,7 +9,8 @@ use Rattle.std.proofs.lemmas.Bool.{cases_lt, eq-eqb}
 use Rattle.std.proofs.Math.Nat.{mul-le-mul_right, pow-le-pow_right, pow-suc, mod-lt, div-le_self}
 use borrow.Author.Tests.{eqb-true, ltb-true, leb-true}
 use Rattle.wkt_num.specs.Whole.{is_numeral, keep_if, read_signed, read_unsigned}
-use Rattle.wkt_num.specs.WholeLaws.{numeral_from, both_true}
+use Rattle.wkt_num.specs.WholeLaws.{both_true}
+use Rattle.wkt_num.proofs.Numerals.{numeral_from}
 use Rattle.wkt_num.specs.Decimal.{before_point, after_point, units_of, read_magnitude, read_decimal, with_sign, and_then, fraction_digits, fraction_text, magnitude_text, decimal_text}
 use Rattle.wkt_num.specs.DecimalLaws.{not_negative}
 use Rattle.wkt_num.specs.Fraction.{fraction-none}

@@ -1,4 +1,4 @@
--- What a line is answered with, as wkt_lines has it (specs/Output).
+-- The answer to a line: the definition of `wkt_lines` (specs/Output), for the crates below it.
 use Rattle.std.specs.Prelude.{◌≡◌, ℕ, List, [], ◌∷◌, ◌++◌, ◌⊎◌, Option, codes, take, drop, IsUtf8, Result, Ok, Err}
 use Rattle.wkt_access.specs.Values.{Value}
 use Rattle.wkt_access.specs.Shapes.{shape_of}

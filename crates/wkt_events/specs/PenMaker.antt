@@ -54,10 +54,6 @@ extends_more s t u bs cs h k = record {
   written = k.written ∙ ap (λ l. l ++ cs) h.written ∙ append_assoc (take s.len s.out.now) bs cs;
 }
 
--- What was added was written.
-pub wrote_of : {N : Type 0} (s t : Pen N) (bs : List ℕ) → Extends s bs t → Wrote s bs t
-wrote_of s t bs h = record { shorter = omega (arith, h.whole); unless = λ _. h }
-
 pub wrote_more : {N : Type 0} (s t u : Pen N) (bs cs : List ℕ) → Wrote s bs t → Wrote t cs u → Wrote s (bs ++ cs) u
 wrote_more s t u bs cs h k =
     let first = h.shorter in let then = k.shorter in

@@ -6,8 +6,8 @@ use Rattle.wkt_events.specs.Walking.{Gives, Refuses}
 use Rattle.wkt_events.specs.LongTexts.{HasLongText}
 use Rattle.wkt_events.specs.PenMaker.{pen_maker}
 use Rattle.wkt_events.specs.declared.text.Pen.{Pen}
-use Rattle.wkt_events.specs.declared.through.Next.{Next}
-use Rattle.wkt_events.specs.declared.through.Next.TheVariants as next
+use Rattle.wkt_events.specs.declared.canonical.Next.{Next}
+use Rattle.wkt_events.specs.declared.canonical.Next.TheVariants as next
 
 -- What holds where it was written.
 abbrev pub IfEnds : Next → (ℕ → Type 0) → Type 0

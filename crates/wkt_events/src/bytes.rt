@@ -1,12 +1,20 @@
-//! Bytes at places in a text that ends at NUL or with its last byte. Where `FEED_ENDS`, it ends at LF too, which else is
-//! white space.
-ghost use Rattle.std.specs.Prelude.{◌≡◌, ◌≢◌, ◌↔◌, ◌≤◌, ◌<◌, ◌+◌, IsTrue, MatchOption, length, get_or};
+//! Bytes at places in a text that ends at NUL or with its last byte, and the marks, EMPTY and coordinates that stand there.
+//! Where `FEED_ENDS`, the text ends at LF too, which else is white space.
+ghost use Rattle.std.specs.Prelude.{◌≡◌, ◌≢◌, ◌↔◌, ◌≤◌, ◌<◌, ◌+◌, ℕ, [], ◌∷◌, Bool, true, false, IsTrue, IfSome, MatchOption, length, get_or};
 ghost use Rattle.wkt_num.specs.Bytes.{Lexeme, White, Mark, Run, class_of};
 ghost use Rattle.wkt_events.specs.Left.{line_of, class_in, left_placed, left, IsRunEnd, TakesOne, BeginsOther};
 ghost use Rattle.wkt_events.specs.Windows.{low_mask};
+ghost use Rattle.wkt_read.specs.Parser.Outcome.{closing_at};
+ghost use Rattle.wkt_events.specs.Events.{Event, coordinate};
+ghost use Rattle.wkt_events.specs.Makers.{HasRoom};
+ghost use Rattle.wkt_events.specs.Walking.{GivesIfAny, numbers_at};
+ghost use Rattle.wkt_events.specs.Heads.{TakesEmptyIfAny, LacksEmpty, BeginsWord, empty_at};
 
+use crate::builder::{At, Builder, Part};
 use std::simd::prelude::*;
+use wkt_num::WktNum;
 use wkt_read::words;
+use wkt_read::words::is_empty_in;
 
 /// The bytes of a window, in which most runs end.
 const WINDOW: usize = 32;
@@ -135,4 +143,89 @@ fn run_end_far(text: &[u8], from: usize) -> usize
         at += 1;
     }
     at
+}
+
+/// The closing parenthesis that has to come next.
+#[inline(always)]
+pub(crate) fn close<T: WktNum, B: Builder<T> + Drop, const FEED_ENDS: bool>(
+    text: &[u8],
+    a: At<B>,
+    part: Part,
+) -> Option<At<B>>
+    requires inside { a.at ≤ length text.now }
+    requires room { HasRoom B.maker text.now 1 a.at a.made }
+    ensures gives { GivesIfAny B.maker FEED_ENDS text.now (λ _. closing_at T.read) (λ _. Event.Close part ∷ []) a.at a.made result }
+    ensures room { IfSome result (λ r. HasRoom B.maker text.now 0 r.at r.made) }
+{
+    let next = take::<FEED_ENDS>(b')', text, a.at)?;
+    Some(At {
+        at: next,
+        made: a.made.close(part),
+    })
+}
+
+/// The word EMPTY, which has to come next.
+#[inline(never)]
+pub(crate) fn empty<T: WktNum, B: Builder<T> + Drop, const FEED_ENDS: bool>(
+    text: &[u8],
+    a: At<B>,
+    part: Part,
+) -> Option<At<B>>
+    requires inside { a.at ≤ length text.now }
+    requires room { HasRoom B.maker text.now 0 a.at a.made }
+    ensures gives { GivesIfAny B.maker FEED_ENDS text.now (λ _. empty_at T.read) (λ _. Event.Empty part ∷ []) a.at a.made result }
+    ensures room { IfSome result (λ r. HasRoom B.maker text.now 0 r.at r.made) }
+{
+    let next = empty_word::<FEED_ENDS>(text, a.at)?;
+    Some(At {
+        at: next,
+        made: a.made.empty(part),
+    })
+}
+
+/// Past the word EMPTY.
+pub(crate) fn empty_word<const FEED_ENDS: bool>(text: &[u8], at: usize) -> Option<usize>
+    requires { at ≤ length text.now }
+    ensures { TakesEmptyIfAny FEED_ENDS text.now at result }
+{
+    let start = skip_white::<FEED_ENDS>(text, at);
+    let end = run_end(text, start);
+    if is_empty_in(&text[start..end]) {
+        Some(end)
+    } else {
+        None
+    }
+}
+
+/// Whether the word EMPTY may come next, where no white space does.
+#[inline(always)]
+pub(crate) fn begins_empty(text: &[u8], at: usize) -> bool
+    ensures some { (feed : Bool) → result ≡ true → BeginsWord (left feed text.now at) }
+    ensures none { (feed : Bool) → class_in feed (get_or text.now at 0) ≢ White → result ≡ false → LacksEmpty (left feed text.now at) }
+{
+    let byte = byte_at(text, at);
+    if byte == b'E' {
+        return true;
+    }
+    byte == b'e'
+}
+
+/// A coordinate of `N` numbers.
+#[inline(always)]
+pub(crate) fn coordinate<T: WktNum, B: Builder<T> + Drop, const N: usize, const FEED_ENDS: bool>(
+    text: &[u8],
+    a: At<B>,
+) -> Option<At<B>>
+    requires some { 1 ≤ N }
+    requires inside { a.at ≤ length text.now }
+    requires room { HasRoom B.maker text.now 1 a.at a.made }
+    ensures gives { GivesIfAny B.maker FEED_ENDS text.now (λ _. numbers_at T.read N) (coordinate N) a.at a.made result }
+    ensures room { IfSome result (λ r. HasRoom B.maker text.now 0 r.at r.made) }
+{
+    let mut a = a;
+    for i in 0..N {
+        let at = skip_white::<FEED_ENDS>(text, a.at);
+        a = a.made.number(text, at, i, N)?;
+    }
+    Some(a)
 }

@@ -1,16 +1,13 @@
 //! Headers: kinds, dimensions, EMPTY.
-ghost use Rattle.std.specs.Bool.{OnTrue};
-ghost use Rattle.std.specs.Prelude.{◌≡◌, ◌≢◌, ◌≤◌, ◌+◌, length, get_or, take, Option, true, codes, IfSome};
-ghost use Rattle.std.specs.Int.{w32, w64, to_le_bytes};
+ghost use Rattle.std.specs.Prelude.{◌≢◌, ◌≤◌, length, get_or, take, Option, true};
 ghost use Rattle.wkt_access.specs.declared.dimensions.Dimension.TheVariants.{XY};
 ghost use Rattle.wkt_types.specs.declared.geometry_type.GeometryType.TheVariants as kind_of;
 ghost use Rattle.wkt_num.specs.Bytes.{Open, Run, class_of};
 ghost use Rattle.wkt_events.specs.Left.{left, BeginsOther};
 ghost use Rattle.wkt_events.specs.Behind.{GivesBehindIfAny};
-ghost use Rattle.wkt_events.specs.Heads.{GivesHeader, GivesHeaderIfAny};
+ghost use Rattle.wkt_events.specs.Heads.{GivesHeaderIfAny};
 
-use crate::bytes::{run_end, skip_white, take};
-use crate::marks::empty_word;
+use crate::bytes::{empty_word, run_end, skip_white, take};
 use wkt_access::Dimension;
 use wkt_num::WktNum;
 use wkt_read::words::{dimension_in, is_empty_in, kind_in};
@@ -97,110 +94,4 @@ fn after_kind<T: WktNum, const FEED_ENDS: bool>(
             })
         }
     }
-}
-
-/// Behind `POINT(` or `POINT (`, if one stands there with a byte behind it. `None` says nothing.
-#[inline(always)]
-pub(crate) fn point_head<T: WktNum, const FEED_ENDS: bool>(text: &[u8], at: usize) -> Option<usize>
-    requires { at ≤ length text.now }
-    ensures { IfSome result (λ to. GivesHeader T.read FEED_ENDS text.now at kind_of.Point XY true to) }
-{
-    let rest = &text[at..];
-    if rest.len() < 8 || !is_point(rest) {
-        return None;
-    }
-    if rest[5] == b'(' {
-        return Some(at + 6);
-    }
-    if rest[5] == b' ' && rest[6] == b'(' {
-        return Some(at + 7);
-    }
-    None
-}
-
-/// Behind `GEOMETRYCOLLECTION(` or `GEOMETRYCOLLECTION (`, if one stands there with a byte behind it. `None` says nothing.
-#[inline(always)]
-pub(crate) fn collection_head<T: WktNum, const FEED_ENDS: bool>(
-    text: &[u8],
-    at: usize,
-) -> Option<usize>
-    requires { at ≤ length text.now }
-    ensures { IfSome result (λ to. GivesHeader T.read FEED_ENDS text.now at kind_of.GeometryCollection XY true to) }
-{
-    let rest = &text[at..];
-    if rest.len() < 21 || !is_collection(rest) {
-        return None;
-    }
-    if rest[18] == b'(' {
-        return Some(at + 19);
-    }
-    if rest[18] == b' ' && rest[19] == b'(' {
-        return Some(at + 20);
-    }
-    None
-}
-
-/// The bytes `POIN`, as one number.
-const POIN: u32 = 0x4e49_4f50;
-
-/// The bytes `GEOMETRY`.
-const GEOMETRY: u64 = 0x5952_5445_4d4f_4547;
-
-/// The bytes `COLLECTI`.
-const COLLECTI: u64 = 0x4954_4345_4c4c_4f43;
-
-/// Whether the bytes begin with `POINT`.
-#[inline(always)]
-fn is_point(bytes: &[u8]) -> bool
-    requires { 5 ≤ length bytes.now }
-    ensures { OnTrue result (take 5 bytes.now ≡ codes "POINT") }
-{
-    if four_bytes(bytes) != POIN {
-        return false;
-    }
-    if bytes[4] != b'T' {
-        return false;
-    }
-    true
-}
-
-/// Whether the bytes begin with `GEOMETRYCOLLECTION`.
-#[inline(always)]
-fn is_collection(bytes: &[u8]) -> bool
-    requires { 18 ≤ length bytes.now }
-    ensures { OnTrue result (take 18 bytes.now ≡ codes "GEOMETRYCOLLECTION") }
-{
-    if eight_bytes(bytes) != GEOMETRY {
-        return false;
-    }
-    if eight_bytes(&bytes[8..]) != COLLECTI {
-        return false;
-    }
-    if bytes[16] != b'O' {
-        return false;
-    }
-    if bytes[17] != b'N' {
-        return false;
-    }
-    true
-}
-
-/// The first four bytes as one number, the lowest first.
-#[inline(always)]
-fn four_bytes(bytes: &[u8]) -> u32
-    requires { 4 ≤ length bytes.now }
-    ensures { to_le_bytes w32 result ≡ take 4 bytes.now }
-{
-    u32::from_le_bytes([bytes[0], bytes[1], bytes[2], bytes[3]])
-}
-
-/// The first eight.
-#[inline(always)]
-fn eight_bytes(bytes: &[u8]) -> u64
-    requires { 8 ≤ length bytes.now }
-    ensures { to_le_bytes w64 result ≡ take 8 bytes.now }
-{
-    u64::from_le_bytes([
-        bytes[0], bytes[1], bytes[2], bytes[3], bytes[4], bytes[5], bytes[6], bytes[7],
-    ])
 }

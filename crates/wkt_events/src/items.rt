@@ -5,8 +5,7 @@ ghost use Rattle.wkt_events.specs.Walking.{GivesIfAny, items_at};
 ghost use Rattle.wkt_events.specs.Events.{inner};
 
 use crate::builder::{At, Builder, Part};
-use crate::bytes::take;
-use crate::marks::close;
+use crate::bytes::{close, take};
 use wkt_num::WktNum;
 
 /// What stands between the commas of a list.

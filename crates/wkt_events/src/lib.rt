@@ -1,4 +1,6 @@
 //! Text to canonical text, with no value between: a walk over the bytes, by the grammar.
+//!
+//! Below stands `wkt_read`, with the grammar; above, a second builder (`wkt_fill`), `wkt_lines` and `wkt`.
 #![tactic(auto)]
 
 pub mod builder;
@@ -10,12 +12,9 @@ mod header;
 mod items;
 pub mod laws;
 mod lines;
-mod marks;
-mod numbers;
 mod reading;
 mod shapes;
 mod text;
-mod through;
 mod walk;
 
 pub use builder::{At, Builder, Part};

@@ -36,8 +36,9 @@ pub(crate) fn number_end<T: WktNum>(text: &[u8], at: usize) -> Option<usize>
     }
 }
 
+/// The number that stands there, in any form, and its end.
 #[inline(always)]
-fn number_there<T: WktNum>(text: &[u8], at: usize) -> Option<(T, usize)>
+pub(crate) fn number_there<T: WktNum>(text: &[u8], at: usize) -> Option<(T, usize)>
     requires { at ≤ length text.now }
     ensures some { IfSome result (λ p. IsNumberAt T.read text.now at p.1 p.0) }
     ensures none { IfNone result (NoNumber T.read text.now at) }

@@ -10,10 +10,8 @@ ghost use Rattle.wkt_events.specs.Makers.{HasRoom, IsOpened};
 ghost use Rattle.wkt_events.specs.Walking.{GivesIfAny, items_at, numbers_at, line_at, rings_at, point_at, inside_at};
 
 use crate::builder::{At, Builder, Part};
-use crate::bytes::{skip_white, take};
+use crate::bytes::{begins_empty, close, coordinate, empty, skip_white, take};
 use crate::items::{Item, items};
-use crate::marks::{begins_empty, close, empty};
-use crate::numbers::coordinate;
 use wkt_num::WktNum;
 use wkt_types::GeometryType;
 

@@ -7,7 +7,7 @@ ghost use Rattle.wkt_events.specs.Plus.{plus_len};
 ghost use Rattle.wkt_events.specs.Numbers.{Numbered, NoNumber};
 
 use crate::builder::{At, Builder, Part};
-use crate::bytes::run_end;
+use crate::reading::number_there;
 use std::fmt;
 use std::marker::PhantomData;
 use std::simd::prelude::*;
@@ -17,8 +17,8 @@ use wkt_types::GeometryType;
 
 /// Bytes with room, of which the first `len` are written. What is written after them may be taken back.
 ///
-/// A pen that had no room for the text of a number is stuck: it has a byte less, writes on from the first, and none of it
-/// counts.
+/// A pen that had no room for the text of a number is stuck: it has a byte less, writes on from the first, and its bytes
+/// count for nothing.
 #[derive(Drop)]
 pub struct Pen<'a, T> {
     pub(crate) out: &'a mut [u8],
@@ -195,15 +195,7 @@ impl<'a, T: WktNum> Pen<'a, T> {
         ensures some { IfSome result (λ r. Numbered T.read T.num text.now at self.entry r.made r.at) }
         ensures none { IfNone result (NoNumber T.read text.now at) }
     {
-        let end = run_end(text, at);
-        if end == at || !begins_number(text[at]) {
-            return None;
-        }
-        let start = past_plus(text, at);
-        let Ok(run) = str::from_utf8(&text[start..end]) else {
-            return None;
-        };
-        let Some(number) = T::read_number(run) else {
+        let Some((number, end)) = number_there::<T>(text, at) else {
             return None;
         };
         let Pen { out, len, of } = self;
@@ -215,11 +207,7 @@ impl<'a, T: WktNum> Pen<'a, T> {
         };
         match number.write_number(&mut space) {
             Ok(()) => {
-                let Space {
-                    out,
-                    len,
-                    failures: _,
-                } = space;
+                let (out, len) = (space.out, space.len);
                 // Each byte of the text was given room for two.
                 if len - before < 2 * (end - at) {
                     return Some(At {
@@ -240,14 +228,9 @@ impl<'a, T: WktNum> Pen<'a, T> {
                 })
             }
             Err(_) => {
-                let Space {
-                    out,
-                    len: _,
-                    failures: _,
-                } = space;
                 Some(At {
                     at: end,
-                    made: Pen::stuck(out),
+                    made: Pen::stuck(space.out),
                 })
             }
         }

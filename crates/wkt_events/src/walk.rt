@@ -1,5 +1,8 @@
 //! Whole geometries, of which collections are counted while they are open, so that nesting takes neither stack nor memory.
-ghost use Rattle.std.specs.Prelude.{◌≡◌, ◌<◌, ◌≤◌, length, IfSome, true};
+//! The two commonest headers are recognized here, by comparisons.
+ghost use Rattle.std.specs.Bool.{OnTrue};
+ghost use Rattle.std.specs.Int.{w32, w64, to_le_bytes};
+ghost use Rattle.std.specs.Prelude.{◌≡◌, ◌<◌, ◌≤◌, take, length, codes, IfSome, true};
 ghost use Rattle.wkt_access.specs.Values.{Value};
 ghost use Rattle.wkt_access.specs.declared.dimensions.Dimension.TheVariants as dim_of;
 ghost use Rattle.wkt_types.specs.declared.geometry_type.GeometryType.TheVariants as kind_of;
@@ -11,9 +14,8 @@ ghost use Rattle.wkt_events.specs.Walking.{GivesIfAny};
 ghost use Rattle.wkt_events.specs.Whole.{StartsIfAny, StartsAt, Opens, Behind, EndsIfAny, RestsIfAny};
 
 use crate::builder::{At, Builder, Part};
-use crate::bytes::take;
-use crate::header::{Header, collection_head, point_head, read_header};
-use crate::marks::close;
+use crate::bytes::{close, take};
+use crate::header::{Header, read_header};
 use crate::shapes::inside;
 use wkt_num::WktNum;
 use wkt_types::{Dimension, GeometryType};
@@ -246,4 +248,108 @@ fn after_geometry<T: WktNum, B: Builder<T> + Drop, const FEED_ENDS: bool>(
         }
     }
     Some(Ends { after: a, depth: 0 })
+}
+
+/// Behind `POINT(` or `POINT (`, with a byte behind it. `None` doesn't imply that none stands there.
+#[inline(always)]
+fn point_head<T: WktNum, const FEED_ENDS: bool>(text: &[u8], at: usize) -> Option<usize>
+    requires { at ≤ length text.now }
+    ensures { IfSome result (λ to. GivesHeader T.read FEED_ENDS text.now at kind_of.Point dim_of.XY true to) }
+{
+    let rest = &text[at..];
+    if rest.len() < 8 || !is_point(rest) {
+        return None;
+    }
+    if rest[5] == b'(' {
+        return Some(at + 6);
+    }
+    if rest[5] == b' ' && rest[6] == b'(' {
+        return Some(at + 7);
+    }
+    None
+}
+
+/// Behind `GEOMETRYCOLLECTION(` or `GEOMETRYCOLLECTION (`, with a byte behind it. `None` doesn't imply that none stands
+/// there.
+#[inline(always)]
+fn collection_head<T: WktNum, const FEED_ENDS: bool>(text: &[u8], at: usize) -> Option<usize>
+    requires { at ≤ length text.now }
+    ensures { IfSome result (λ to. GivesHeader T.read FEED_ENDS text.now at kind_of.GeometryCollection dim_of.XY true to) }
+{
+    let rest = &text[at..];
+    if rest.len() < 21 || !is_collection(rest) {
+        return None;
+    }
+    if rest[18] == b'(' {
+        return Some(at + 19);
+    }
+    if rest[18] == b' ' && rest[19] == b'(' {
+        return Some(at + 20);
+    }
+    None
+}
+
+/// The bytes `POIN`, as one number.
+const POIN: u32 = 0x4e49_4f50;
+
+/// The bytes `GEOMETRY`.
+const GEOMETRY: u64 = 0x5952_5445_4d4f_4547;
+
+/// The bytes `COLLECTI`.
+const COLLECTI: u64 = 0x4954_4345_4c4c_4f43;
+
+/// Whether the bytes begin with `POINT`.
+#[inline(always)]
+fn is_point(bytes: &[u8]) -> bool
+    requires { 5 ≤ length bytes.now }
+    ensures { OnTrue result (take 5 bytes.now ≡ codes "POINT") }
+{
+    if four_bytes(bytes) != POIN {
+        return false;
+    }
+    if bytes[4] != b'T' {
+        return false;
+    }
+    true
+}
+
+/// Whether the bytes begin with `GEOMETRYCOLLECTION`.
+#[inline(always)]
+fn is_collection(bytes: &[u8]) -> bool
+    requires { 18 ≤ length bytes.now }
+    ensures { OnTrue result (take 18 bytes.now ≡ codes "GEOMETRYCOLLECTION") }
+{
+    if eight_bytes(bytes) != GEOMETRY {
+        return false;
+    }
+    if eight_bytes(&bytes[8..]) != COLLECTI {
+        return false;
+    }
+    if bytes[16] != b'O' {
+        return false;
+    }
+    if bytes[17] != b'N' {
+        return false;
+    }
+    true
+}
+
+/// The first four bytes as one number, the lowest first.
+#[inline(always)]
+fn four_bytes(bytes: &[u8]) -> u32
+    requires { 4 ≤ length bytes.now }
+    ensures { to_le_bytes w32 result ≡ take 4 bytes.now }
+{
+    u32::from_le_bytes([bytes[0], bytes[1], bytes[2], bytes[3]])
+}
+
+/// The first eight.
+#[inline(always)]
+fn eight_bytes(bytes: &[u8]) -> u64
+    requires { 8 ≤ length bytes.now }
+    ensures { to_le_bytes w64 result ≡ take 8 bytes.now }
+{
+    u64::from_le_bytes([
+        bytes[0], bytes[1], bytes[2], bytes[3], bytes[4], bytes[5], bytes[6], bytes[7],
+    ])
 }

@@ -54,7 +54,7 @@ module _ {N : Type 0} (read : List ℕ → Option N) where
       (λ p. absurd (never p), λ h. absurd (h (too_much read (length ls) ls before [] l (stop_at read p depth (l ∷ [])).1 (omega arith) refl bad).dead))
   could_stand before l p depth (Some v) P holds h = (λ p. alive before l v (is_over v) refl h, λ q. holds)
 
-  -- what is expected at a place is what can stand there
+  -- exactly the expected lexemes can stand at a place
   expected_after : (before : List Lexeme) (w : Walk) → IsAfter before w → is_over w ≡ false → (e : Expected) → e ≡ expected_at w.place w.depth → IsExpectedAfter read before e
   expected_after before w after goes e is = subst (IsExpectedAfter read before) (sym is) (λ l.
       let (s, shows) = sees read l in

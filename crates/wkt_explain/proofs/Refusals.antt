@@ -31,7 +31,7 @@ module _ {N : Type 0} (read : List ℕ → Option N) where
   abbrev pub Begun : List Lexeme → Type 0
   Begun = BegunGeometry read
 
-  -- an error, as it is told
+  -- an error, with the place where it stops
   module _ (n : ℕ) (ls : List Lexeme) (bad : Fault) (le : length ls ≤ n) where
     told_at : (t : Telling (Value N)) → mark t ≡ Err bad → t ≡ Err bad
     told_at (Ok p) e = cc

@@ -100,12 +100,12 @@ module _ {N : Type 0} (read : List ℕ → Option N) where
   abbrev pub Stands : Place → ℕ → List Lexeme → Mark → Type 0
   Stands p depth ls whole = (n : ℕ) × (length ls ≤ n) × Under (frames p depth) (length ls) whole (spot_at p depth n ls)
 
-  -- a walk goes on, or stops with this fault
+  -- a walk goes on, or stops with this error
   abbrev pub Goes : Option Walk → Fault → List Lexeme → Mark → Type 0
   Goes None x later whole = whole ≡ Err x
   Goes (Some w) x later whole = Stands w.place w.depth later whole
 
-  -- the fault of a place
+  -- the error of a place
   abbrev pub stop_at : Place → ℕ → List Lexeme → Fault
   stop_at p depth ls = closed_by (frames p depth) (fault read (expected_at p depth) ls)
 
@@ -365,7 +365,7 @@ module _ {N : Type 0} (read : List ℕ → Option N) where
       (λ run y is (n, m, a, b, h). too_much (collections depth) _ whole _ (subst (Under (collections depth) (suc (length r)) whole) (rest_num depth r whole (V n) m run) h))
       (λ run is (n, m, a, b, h). too_much (collections depth) _ whole _ (subst (Under (collections depth) (suc (length r)) whole) (rest_num depth r whole (V n) m run) h))
 
-  -- after an item the fault is that of the closing place
+  -- after an item the error is that of the closing place
   more_or_closing : (p : Part) → (item_expected p ≡ expected.More) ⊎ (item_expected p ≡ expected.Closing)
   more_or_closing part.Point = inr refl
   more_or_closing part.Line = inl refl
@@ -392,7 +392,7 @@ module _ {N : Type 0} (read : List ℕ → Option N) where
   unclosed_closing (Word w) r = refl
   unclosed_closing (Num w) r = refl
 
-  -- a fault after an item of a part
+  -- an error after an item of a part
   abbrev item_fault : List Frame → Frame → Expected → Lexeme → List Lexeme → Type 0
   item_fault fs f e x r = closed_by fs (unclosed_at (x ∷ r)) ≡ closed_by (f ∷ fs) (fault read e (x ∷ r))
 

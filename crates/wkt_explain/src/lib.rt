@@ -1,4 +1,6 @@
 //! Where and why a text is refused.
+//!
+//! Below stands `wkt_read`, with the grammar; above, `wkt`, `wkt_command` and `wkt_c`.
 #![tactic(auto)]
 
 mod api;

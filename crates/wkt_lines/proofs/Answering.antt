@@ -14,7 +14,8 @@ use Rattle.wkt_num.specs.Sink.{Sink, Adds, Breaks, GrewBy}
 use Rattle.wkt_lines.specs.declared.answer.AnswerError.{AnswerError}
 use Rattle.wkt_lines.specs.declared.answer.AnswerError.TheVariants as answered
 use Rattle.wkt_lines.specs.Answer.{AnswersLine, OnSink, OnAnswerMemory}
-use Rattle.wkt_lines.specs.Splitting.{lines_step, before_feed, after_feed}
+use Rattle.wkt_lines.specs.Splitting.{before_feed, after_feed}
+use Rattle.wkt_lines.proofs.Splits.{lines_step}
 
 lines_on : (xs : List ℕ) → (xs ≢ []) → input_lines xs ≡ before_feed xs ∷ input_lines (after_feed xs)
 lines_on [] h = absurd (h refl)

@@ -1,3 +1,4 @@
+pub mod Splits
 pub mod Answering
 pub mod Adding
 pub mod Firsts

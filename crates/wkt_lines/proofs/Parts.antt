@@ -2,10 +2,10 @@
 use Rattle.std.proofs.Common.{◌≡◌, ℕ, List, [], ◌∷◌, ◌++◌, ◌==◌, if◌then◌else◌, true, false, refl, sym, ap, ◌∙◌, subst, append_assoc, inl, inr, Option}
 use Rattle.std.proofs.lemmas.List.{append-nil}
 use Rattle.wkt_lines.specs.Lines.{onto_first, pieces, without_last_empty, input_lines}
-use Rattle.wkt_lines.specs.Splitting.{pieces_some, two_pieces}
 use Rattle.wkt_lines.specs.Replies.{AreReplies}
 use Rattle.wkt_lines.specs.Output.{IsAnswer, AreAnswers, IsOutput}
 use Rattle.wkt_lines.specs.Laws.{IsWhole, AreWhole, joined, AreOutputs}
+use Rattle.wkt_lines.proofs.Splits.{pieces_some, two_pieces}
 
 onto_append : (b : ℕ) (ps qs : List (List ℕ)) (p : List ℕ) (rest : List (List ℕ)) → ps ≡ p ∷ rest → onto_first b (ps ++ qs) ≡ onto_first b ps ++ qs
 onto_append b [] qs p rest e = absurd (cc)

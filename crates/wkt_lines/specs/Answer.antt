@@ -1,4 +1,4 @@
--- A fact for one fault of an answer.
+-- A fact for one error of an answer.
 use Rattle.std.specs.Prelude.{◌≡◌, ℕ, List, Result, Ok, Err}
 use Rattle.wkt_num.specs.Sink.{Sink, Adds, Breaks}
 use Rattle.wkt_lines.specs.declared.answer.AnswerError.{AnswerError}

@@ -34,7 +34,7 @@ module _ {N : Type 0} (read : List ℕ → Option N) (num : N → List ℕ) wher
   PartOut = PartReplied (IsAnswer read num)
 
   module _ {D : Type 0} (sink : SinkOfBytes D) where
-    -- The output for an input went out whole, by the sink that tells its bytes.
+    -- The output for an input went out whole, by the sink that reveals its bytes.
     abbrev pub IsAllOut : D → D → List ℕ → Type 0
     IsAllOut old new = AllOut (sink.bytes old) (sink.bytes new)
 

@@ -18,7 +18,7 @@ module _ {R : Type 0} where
   abbrev pub unread : Lines R → List ℕ
   unread l = drop l.next (unanswered l.block)
 
-  -- What is still to come, where the source can tell: that, and then what is left in the source.
+  -- What is still to come, where the source reveals it: that, and then what is left in the source.
   abbrev pub to_come : (R → Option (List ℕ)) → Lines R → Option (List ℕ)
   to_come left l = prepend_known (unread l) (left (source_of l))
 

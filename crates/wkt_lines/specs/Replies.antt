@@ -51,7 +51,7 @@ module _ (is : List ℕ → List ℕ → Type 0) where
     pub went : Appends old new (out ++ part)
 
   module _ {D : Type 0} (sink : SinkOfBytes D) where
-    -- The answers to all lines went out, by the sink that tells its bytes.
+    -- The answers to all lines went out, by the sink that reveals its bytes.
     abbrev pub IsAllReplied : D → D → List ℕ → Type 0
     IsAllReplied old new = AllReplied (sink.bytes old) (sink.bytes new)
 

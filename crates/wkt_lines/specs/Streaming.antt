@@ -1,4 +1,4 @@
--- What is out of what was taken from a source, which also one that doesn't tell its bytes gave.
+-- What is out of what was taken from a source, also from one that doesn't reveal its bytes.
 use Rattle.std.specs.Prelude.{◌≡◌, ℕ, List, [], ◌++◌, ◌⊎◌, Option}
 use Rattle.std.specs.Io.KnownBytes.{Consumes, IsAtEnd}
 use Rattle.wkt_bytes.specs.Sinks.{SinkOfBytes}
@@ -34,7 +34,7 @@ module _ (is : List ℕ → List ℕ → Type 0) where
   abbrev pub TakenReplied : Option (List ℕ) → Option (List ℕ) → Option (List ℕ) → Option (List ℕ) → Type 0
   TakenReplied left rest old new = (taken : List ℕ) × Consumes left rest taken × WholeReplied old new taken
 
-  -- The same by the sink that tells its bytes.
+  -- The same by the sink that reveals its bytes.
   abbrev pub IsTakenReplied : {D : Type 0} → SinkOfBytes D → Option (List ℕ) → Option (List ℕ) → D → D → Type 0
   IsTakenReplied sink left rest old new = TakenReplied left rest (sink.bytes old) (sink.bytes new)
 

@@ -12,7 +12,7 @@ use wkt_num::{TextSink, WktNum};
 /// Writes the answers to all lines of the input to a sink of text, each followed by a line feed.
 ///
 /// # Errors
-/// [`AnswerError`] tells when each comes, and what was added then.
+/// [`AnswerError`] says when each comes, and what was added then.
 pub fn write_answers<T: WktNum, W: TextSink>(
     alloc: Global,
     input: &[u8],

@@ -38,7 +38,7 @@ pub enum RunError {
 /// `refused` where it has none or isn't UTF-8, and a line feed.
 ///
 /// # Errors
-/// [`RunError`] tells when each comes, and what is out then: after `Memory` the answers to the lines before the one that
+/// [`RunError`] says when each comes, and what is out then: after `Memory` the answers to the lines before the one that
 /// there was no memory for, or nothing, where memory ran out as the input was read. Nothing is tried again.
 pub fn run<R: ByteSource, W: ByteSink>(
     alloc: Global,

@@ -150,7 +150,7 @@ impl<R: ByteSource> Lines<R> {
         ensures read_count { OnRead result
             (R.failures (source_of self.new) ≡ next_count (R.failures (source_of self.old))) }
     {
-        self.let_go();
+        self.forget_given();
         if let Err(e) = self.block.make_room() {
             return Err(ReadAllError::Memory(e));
         }
@@ -161,7 +161,7 @@ impl<R: ByteSource> Lines<R> {
     }
 
     /// Drops what was given.
-    fn let_go(&mut self)
+    fn forget_given(&mut self)
         ensures start { self.new.start ≡ 0 }
         ensures end { self.new.end ≡ 0 }
         ensures unread { unread self.new ≡ unread self.old }

@@ -45,7 +45,7 @@ pub trait Reply {
 /// ```
 ///
 /// # Errors
-/// [`AnswerError`] tells when each comes, and what was added then.
+/// [`AnswerError`] says when each comes, and what was added then.
 pub fn write_replies<A: Reply, W: TextSink>(
     alloc: Global,
     reply: &A,

@@ -3,9 +3,10 @@ use crate::asserts::equal;
 use std::alloc::{AllocError, Global};
 use std::process::Abort;
 use std::test::Fail;
-use wkt::geo_types::Geometry;
+use wkt::geo_types::{Coord, Geometry};
 use wkt::tokenizer::Tokens;
-use wkt::{Decimal, FromWktStr, ToWkt, TryFromWkt, Wkt, infer_type};
+use wkt::walks::{Mapper, map_coords, num_coords};
+use wkt::{Decimal, FromWktStr, ToWkt, TryFromWkt, Wkt, infer_type, same_geometry};
 use wkt_test_support::{answer, text_or_message};
 
 const NO_KIND: &str = "Invalid type encountered";
@@ -49,7 +50,7 @@ fn depth(rt: HostRuntime) -> Result<(), Fail> {
     Ok(())
 }
 
-// The text of a copy of the geometry, if the copy is equal.
+// The text of a copy of the geometry made canonical, if the copy is equal by both calls that compare.
 fn copied(alloc: Global, text: &str) -> Result<String, Fail> {
     let geometry = Wkt::<Decimal<6>>::from_str(alloc, text)?;
     copy_text(alloc, &geometry)
@@ -57,8 +58,8 @@ fn copied(alloc: Global, text: &str) -> Result<String, Fail> {
 
 fn copy_text(alloc: Global, geometry: &Wkt<Decimal<6>>) -> Result<String, Fail> {
     let copy = geometry.try_clone(alloc)?;
-    if copy == *geometry {
-        Ok(copy.to_string(alloc)?)
+    if copy == *geometry && same_geometry(&copy, geometry) {
+        Ok(copy.into_canonical().to_string(alloc)?)
     } else {
         Err(Fail::from("a copy that is equal"))
     }
@@ -83,12 +84,43 @@ fn back_text(alloc: Global, geometry: &Geometry<Decimal<6>>) -> Result<String, A
     geometry.to_wkt(alloc)?.to_string(alloc)
 }
 
+// Each coordinate with x for y.
+#[derive(Drop)]
+struct Swapped;
+
+impl Mapper<i32, i32> for Swapped {
+    ghost maps = { λ _ c. record { x = c.y; y = c.x } };
+
+    fn coord(&self, coord: &Coord<i32>) -> Coord<i32> {
+        Coord {
+            x: coord.y,
+            y: coord.x,
+        }
+    }
+}
+
+// How many coordinates the two-dimensional geometry of the text has, and its text with x for y.
+fn walked(alloc: Global, text: &str) -> Result<(usize, String), Fail> {
+    let geometry = Geometry::<i32>::try_from_wkt_str(alloc, text)?;
+    Ok((num_coords(&geometry), swapped(alloc, &geometry)?))
+}
+
+fn swapped(alloc: Global, geometry: &Geometry<i32>) -> Result<String, Fail> {
+    let swapped = map_coords(alloc, geometry, &Swapped)?;
+    Ok(swapped.wkt_string(alloc)?)
+}
+
+// As many levels as README says that a stack of 8 MB carries.
 #[test]
 fn great_depth(rt: HostRuntime) -> Result<(), Fail> {
     let alloc = rt.alloc();
     let text = nested(alloc, 10000, 10000)?;
     assert!(rt; copied(alloc, &text)?.as_str() == text.as_str());
     assert!(rt; converted(alloc, &text)?.as_str() == text.as_str());
+    let (coordinates, swapped) = walked(alloc, &text)?;
+    equal(&rt, coordinates, 1);
+    equal(&rt, swapped.len(), text.len());
+    assert!(rt; swapped.contains("POINT(2 1)"));
     let open = nested(alloc, 10000, 9999)?;
     assert!(rt; Wkt::<Decimal<6>>::from_str(alloc, &open).is_err());
     Ok(())

@@ -1,4 +1,4 @@
--- What callers of `kept_text` need of the run that it tells.
+-- What callers of `kept_text` need of the run that it finds.
 use Rattle.std.proofs.Common.{◌≡◌, ℕ, true, false, List, [], ◌∷◌, take, Option, Some, ap, sym, ◌∙◌}
 use Rattle.std.specs.Str.Parse.{without_leading_plus}
 use Rattle.std.proofs.lemmas.Str.Parse.{without_leading_plus_none}

@@ -21,7 +21,7 @@ module _ {S : Type 0} {sink : Sink S} where
   pub breaks_first : {s t : S} {a : List ℕ} (b : List ℕ) → Breaks sink s a t → Breaks sink s (a ++ b) t
   breaks_first b h = record { left = sink.longer _ _ _ b h.left; failed = h.failed }
 
-  -- a call ends at the fault of another
+  -- a call ends at the error of another
   pub puts_err : {T E : Type 0} {s t : S} {bs : List ℕ} (Q : E → Type 0) (r : Result T E) → IsErrAnd r Q → Breaks sink s bs t → Puts sink s bs t r
   puts_err Q (Ok x) h p = absurd h
   puts_err Q (Err e) h p = p

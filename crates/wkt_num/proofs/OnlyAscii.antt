@@ -6,7 +6,8 @@ use Rattle.std.proofs.lemmas.Str.Parse.{digit_from_value}
 use Rattle.std.specs.Str.Parse.{AllDigits, digits_value, starts_with_minus, without_leading_plus, without_leading_sign}
 use borrow.Author.Tests.{eqb-true}
 use Rattle.wkt_num.specs.Whole.{is_numeral, keep_if, read_unsigned, read_signed}
-use Rattle.wkt_num.specs.WholeLaws.{numeral_from, both_true}
+use Rattle.wkt_num.specs.WholeLaws.{both_true}
+use Rattle.wkt_num.proofs.Numerals.{numeral_from}
 use Rattle.wkt_num.specs.Decimal.{before_point, after_point, units_of, read_magnitude, read_decimal, with_sign, and_then}
 
 ascii-more : (b : ℕ) (bs : List ℕ) → b < 128 → IsAscii bs → IsAscii (b ∷ bs)

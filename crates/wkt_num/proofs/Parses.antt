@@ -7,9 +7,10 @@ use mir.Val.{hbits}
 use Rattle.std.specs.Str.Parse.{IsNumeral, digits_value, without_leading_plus, without_leading_sign, starts_with_minus, ParsesUnsigned, ParsesSigned}
 use borrow.Author.Tests.{lt-ltb, ltb-true, le-leb, leb-true}
 use Rattle.wkt_num.specs.Whole.{read_unsigned, read_signed, IsSigned, is_numeral, keep_if}
-use Rattle.wkt_num.specs.WholeLaws.{both_true, numeral_from, numeral_fits, negative_signed}
+use Rattle.wkt_num.specs.WholeLaws.{both_true, numeral_fits, negative_signed}
+use Rattle.wkt_num.proofs.Numerals.{numeral_from}
 
--- An answer that tells a fact apart is the test's.
+-- An answer that decides a fact is the test's.
 pub ok_iff_keeps : {A E P : Type 0} (r : Result A E) (b : Bool) (x : A) → OkIff r P x → (b ≡ true → P) → (P → b ≡ true) → result_ok r ≡ keep_if b x
 ok_iff_keeps (Ok y) b x h to from = ap (λ z. Some z) h.1 ∙ sym (ap (λ c. keep_if c x) (from h.0))
 ok_iff_keeps (Err e) true x h to from = absurd (h (to refl))

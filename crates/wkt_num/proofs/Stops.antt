@@ -28,7 +28,7 @@ stops = 1 ∷ (replicate 8 0 ++ (1 ∷ 1 ∷ 0 ∷ 0 ∷ 1 ∷ (replicate 18 0 +
 abbrev is_clear : ℕ → Bool
 is_clear b = get_or stops b 0 == 0
 
--- of each byte below n the table tells
+-- the table is right for each byte below n
 abbrev all_tell : ℕ → Bool
 all_tell zero = true
 all_tell (suc n) = same (is_clear n) (is_run (class_of n)) && all_tell n

@@ -206,7 +206,7 @@ minus-less bs (suc zero) all window minus sign e =
     (omega (arith, e, m.0), ap (λ (n : ℕ). bit_and n (n - 1)) e ∙ m.1)
 minus-less bs (suc (suc n)) all window minus sign e = absurd (omega (arith, minus))
 
--- ---- what the lanes tell
+-- ---- what the lanes say
 
 pub mask-of : (bs : List ℕ) → 32 ≤ length bs
     → mask_l (map (top (hbits w8)) (zip2 (λ a b. cond (nat_lt a b) (2 ^ bits w8 - 1) 0) (replicate 32 9) (zip2 (λ a b. (a + (256 - b)) % 256) (chunk 0 32 bs) (replicate 32 48)))) % 2 ^ 64 ≡ others_mask bs 0

@@ -5,7 +5,6 @@ use Rattle.std.specs.List.{FoldsTo, concat}
 use Rattle.std.specs.Fmt.{WritesInCalls, HasWrittenStyled, IsFlush}
 use Rattle.std.specs.declared.fmt.Formatter.{Formatter}
 use Rattle.std.proofs.Common.{sym, ap, subst, ◌∙◌, append_assoc}
-use Rattle.std.proofs.lemmas.List.{append-nil}
 use Rattle.wkt_num.specs.Sink.{Sink}
 
 -- What was borrowed took the bytes, and the reference is still the same.
@@ -77,9 +76,6 @@ module _ {W : Type 0} (gives : W → List ℕ → W → Type 0) where
 
   pub calls_none : (s : W) → WritesInCalls gives s [] s
   calls_none s = record { parts = []; calls = refl; whole = refl }
-
-  pub calls_once : (s t : W) (bs : List ℕ) → gives s bs t → WritesInCalls gives s bs t
-  calls_once s t bs h = record { parts = bs ∷ []; calls = (t, h, refl); whole = append-nil bs }
 
   pub calls_more : (s t u : W) (bs cs : List ℕ) → WritesInCalls gives s bs t → WritesInCalls gives t cs u → WritesInCalls gives s (bs ++ cs) u
   calls_more s t u bs cs h k = record {

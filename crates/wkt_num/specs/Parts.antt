@@ -63,7 +63,7 @@ pub record HasZeros (bs : List ℕ) (kept end : ℕ) : Type 0 where
   pub zeros : slice_range bs kept end ≡ zeros (end - kept)
   pub last : slice_index bs (kept - 1) ≢ 48
 
--- The byte is no digit, as a lane of bytes tells, which wrap.
+-- The byte is no digit, by the sums of a lane of bytes, which wrap.
 abbrev pub is_other : ℕ → Bool
 is_other b = nat_lt 9 ((b + 208) % 256)
 

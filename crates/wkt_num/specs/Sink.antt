@@ -1,5 +1,5 @@
 -- What calls on a sink of text do.
-use Rattle.std.specs.Prelude.{◌≡◌, ℕ, ◌+◌, ◌%◌, ◌^◌, List, [], ◌++◌, Result, Ok, Err, refl}
+use Rattle.std.specs.Prelude.{◌≡◌, ℕ, ◌+◌, ◌%◌, ◌^◌, List, [], ◌++◌, Result, Ok, Err}
 use Rattle.std.proofs.Common.{sym, ap, ◌∙◌, append_assoc}
 use Rattle.std.proofs.lemmas.List.{append-nil}
 
@@ -46,10 +46,6 @@ pub record GrewBy (old bs new : List ℕ) : Type 0 where
   pub begins : part ++ rest ≡ bs
   pub grown : new ≡ old ++ part
 
--- nothing was added
-pub none_grew : (old bs new : List ℕ) → new ≡ old → GrewBy old bs new
-none_grew old bs new e = record { part = []; rest = bs; begins = refl; grown = e ∙ sym (append-nil old) }
-
 module _ {S : Type 0} (text : S → List ℕ) where
   pub grew_after : (s t u : S) (bs cs : List ℕ) → text t ≡ text s ++ bs → GrewBy (text t) cs (text u) → GrewBy (text s) (bs ++ cs) (text u)
   grew_after s t u bs cs h k = record {
@@ -67,7 +63,7 @@ module _ {S : Type 0} (text : S → List ℕ) where
     grown = h.grown;
   }
 
-  -- A sink that tells its text.
+  -- A sink that reveals its text.
   abbrev pub telling : (S → ℕ) → Sink S
   telling failures = record {
     gives = λ s bs t. text t ≡ text s ++ bs;

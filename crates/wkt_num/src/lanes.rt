@@ -5,7 +5,7 @@ ghost use Rattle.wkt_num.specs.Lanes.{DigitLanes, lanes_value, last_lanes};
 
 use std::simd::prelude::*;
 
-/// The number that the last `count` bytes spell, if they are digits. `None` says nothing of them.
+/// The number that the last `count` bytes spell, if they are digits. `None` implies nothing.
 #[inline(always)]
 pub fn last_digits(body: &[u8], count: usize) -> Option<u64>
     requires { (8 ≤ length body.now) × (count ≤ length body.now) }

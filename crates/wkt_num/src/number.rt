@@ -31,7 +31,7 @@ pub trait WktNum: Copy + PartialEq + PartialOrd + Debug {
         ensures { Puts W.sink f.old (num self.now) f.new result };
 
     /// Where the number run that the bytes begin with ends, and where its number's text does, which is a
-    /// beginning of it. `None` says nothing of the bytes, unless the type says which texts it finds. Whole
+    /// beginning of it. `None` implies nothing about the bytes, unless the type says which texts it finds. Whole
     /// numbers and decimals do, in their own clauses.
     fn kept_text(bytes: &[u8]) -> Option<(usize, usize)>
         ensures { IfSome result (λ r. KeepsText read num bytes.now r.0 r.1) }
@@ -40,7 +40,7 @@ pub trait WktNum: Copy + PartialEq + PartialOrd + Debug {
     }
 
     /// As [`kept_text`](WktNum::kept_text), of 32 bytes or more, where the run ends within the first 32.
-    /// `None` says nothing of the bytes.
+    /// `None` implies nothing about the bytes.
     fn kept_in_window(bytes: &[u8]) -> Option<(usize, usize)>
         requires { 32 ≤ length bytes.now }
         ensures keeps { IfSome result (λ r. KeepsText read num bytes.now r.0 r.1) }
@@ -49,14 +49,14 @@ pub trait WktNum: Copy + PartialEq + PartialOrd + Debug {
         None
     }
 
-    /// Whether only bytes that are UTF-8 are read as numbers. `false` says nothing.
+    /// Whether only bytes that are UTF-8 are read as numbers. `false` implies nothing.
     fn reads_texts() -> bool
         ensures { result ≡ true → ReadsTexts read }
     {
         false
     }
 
-    /// Does nothing. Its contract tells that the number is a value of the type.
+    /// Does nothing. Its contract says that the number is a value of the type.
     fn known(&self)
         ensures { is_value self.now };
 

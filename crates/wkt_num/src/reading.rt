@@ -66,7 +66,7 @@ const SHORT_BYTES: usize = 19;
 /// The fewest bytes that a vector is loaded from.
 const VECTOR_BYTES: usize = 8;
 
-/// The units of a body of fewer bytes. `None` says nothing of the body.
+/// The units of a body of fewer bytes. `None` implies nothing about the body.
 #[inline(always)]
 fn read_few(places: u32, body: &[u8]) -> Option<u128>
     ensures { IfSome result (λ units. read_magnitude (2 ^ 127) places body.now ≡ Some units) }
@@ -82,7 +82,7 @@ fn read_few(places: u32, body: &[u8]) -> Option<u128>
 }
 
 /// The number of the digits of such a body, and how many of them follow a point. A count past all
-/// places says nothing of the body.
+/// places implies nothing about the body.
 #[inline(always)]
 fn few_digits(body: &[u8]) -> (u32, usize)
     ensures { (D : ℕ) → D ≤ 18 → result.1 ≤ D
@@ -125,7 +125,7 @@ fn small_digits(body: &[u8], from: usize, number: u32) -> (u32, usize)
     (all, at)
 }
 
-/// The units by vectors, for a body of common length around a point. `None` says nothing of the body.
+/// The units by vectors, for a body of common length around a point. `None` implies nothing about the body.
 #[inline(always)]
 fn read_near(places: u32, body: &[u8]) -> Option<u128>
     ensures { IfSome result (λ units. read_magnitude (2 ^ 127) places body.now ≡ Some units) }
@@ -147,7 +147,7 @@ fn read_near(places: u32, body: &[u8]) -> Option<u128>
 }
 
 /// The same in 64 bits, for a short body of digits, or of digits around a point with at most `places`
-/// after it. `None` says nothing of the body: it is then read in the plain way.
+/// after it. `None` implies nothing about the body: it is then read in the plain way.
 #[inline(always)]
 fn read_short(places: u32, body: &[u8]) -> Option<u128>
     ensures { IfSome result (λ units. read_magnitude (2 ^ 127) places body.now ≡ Some units) }

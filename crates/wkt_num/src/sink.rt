@@ -3,12 +3,12 @@ ghost use Rattle.wkt_num.specs.Sink.{Sink, Puts};
 
 use std::fmt;
 
-/// A sink of text, which tells what it was given and how often it has failed.
+/// A sink of text, which knows what it was given and how often it has failed.
 ///
 /// [`CountedText`](crate::CountedText) makes one of any `fmt::Write`.
 pub trait TextSink {
-    /// What calls give it, what a call that fails leaves, and how many have failed. A sink that knows
-    /// its text is `telling` it.
+    /// What calls give it, what a call that fails leaves, and how many have failed: `telling` for a
+    /// sink that reveals its text.
     ghost sink: { Sink Self };
 
     /// Adds a piece of text. After an error a beginning of the piece, or nothing of it, was added.

@@ -1,3 +1,4 @@
+-- What the laws rest on: splits, fronts, headers and words.
 pub mod OneForm
 pub mod Splits
 pub mod Fronts

@@ -1,3 +1,4 @@
+-- The readers and the grammar: parts, their readings, and where these stop.
 pub mod Parts
 pub mod Blamed
 pub mod Coords

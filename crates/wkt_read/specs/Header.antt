@@ -1,5 +1,5 @@
 -- The kind and the dimension that the header of a text names. It speaks of places in the text and of no lexeme. Where the header ends is this project's own choice.
-use Rattle.std.specs.Prelude.{ℕ, List, [], ◌∷◌, length, drop, Option, Some, None, Bool, true, false, cond, not, ◌&&◌, ◌||◌, ◌==◌, nat_eq, codes, is_none, if◌then◌else◌}
+use Rattle.std.specs.Prelude.{ℕ, List, [], ◌∷◌, length, drop, Option, Some, None, Bool, true, false, not, ◌&&◌, ◌||◌, ◌==◌, nat_eq, codes, is_none, if◌then◌else◌}
 use Rattle.std.specs.Str.{str_to_ascii_uppercase, trim_start}
 use Rattle.wkt_access.specs.declared.dimensions.Dimension.{Dimension}
 use Rattle.wkt_access.specs.declared.dimensions.Dimension.TheVariants.{XY, XYZ, XYM, XYZM}
@@ -38,9 +38,9 @@ with_byte b (Some c) = Some (record { header = b ∷ c.header; by_empty = c.by_e
 unfoldable pub header_cut : List ℕ → Option Cut
 header_cut [] = None
 header_cut (b ∷ t) =
-    cond (b == 40) (Some (record { header = []; by_empty = false }))
-    (cond (begins (codes "EMPTY") (str_to_ascii_uppercase (b ∷ t))) (Some (record { header = []; by_empty = true }))
-    (with_byte b (header_cut t)))
+    if b == 40 then Some (record { header = []; by_empty = false })
+    else (if begins (codes "EMPTY") (str_to_ascii_uppercase (b ∷ t)) then Some (record { header = []; by_empty = true })
+    else with_byte b (header_cut t))
 
 -- Whether a space, LF, CR or TAB is there.
 abbrev pub has_space : List ℕ → Bool
@@ -50,7 +50,7 @@ has_space (b ∷ t) = (b == 32 || b == 10 || b == 13 || b == 9) || has_space t
 -- The kind of the word without a dimension that the header begins with, and what follows that word in the header.
 abbrev pub named_in : List KindWord → List ℕ → Option (GeometryType × List ℕ)
 named_in [] header = None
-named_in (e ∷ es) header = cond (is_none e.joined && begins e.word header) (Some (e.kind, drop (length e.word) header)) (named_in es header)
+named_in (e ∷ es) header = if is_none e.joined && begins e.word header then Some (e.kind, drop (length e.word) header) else named_in es header
 
 -- The dimension that what follows says: by ZM, else Z, else M, anywhere in it.
 abbrev pub dim_said : List ℕ → Dimension

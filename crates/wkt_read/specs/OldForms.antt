@@ -1,4 +1,4 @@
--- The grammar of earlier forms of this library, where EMPTY was no member of a multipoint; a reader of today's needs none of it.
+-- The grammar of earlier forms of this library, where EMPTY was no member of a multipoint; to read texts today, this isn't needed.
 use Rattle.std.specs.Prelude.{◌≡◌, ℕ, List, [], ◌∷◌, ◌++◌, Option, Some, None, ◌⊎◌, ◌↔◌}
 use Rattle.std.specs.List.{AllByRecursion}
 use Rattle.wkt_num.specs.Bytes.{Lexeme, Open, Close, Comma}

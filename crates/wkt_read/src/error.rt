@@ -25,7 +25,7 @@ impl From<AllocError> for ReadError {
     }
 }
 
-/// The same of a list that couldn't grow: what it was to take is let go.
+/// The error of a list that couldn't grow: the value it was to take is dropped.
 impl<V: Drop> From<AllocFailed<V>> for ReadError {
     ghost use Rattle.wkt_read.specs.declared.error.ReadError.TheVariants.{Memory};
 

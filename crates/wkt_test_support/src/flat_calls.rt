@@ -10,7 +10,7 @@ use wkt::to_wkt::{Counted, ToWktError};
 use wkt::{FromWktStr, ReadError, ToWkt, TryFromWkt, Wkt, WktNum};
 
 /// The flat value, or the words of the error in its place.
-type Told<T> = Result<Geometry<T>, String>;
+type Outcome<T> = Result<Geometry<T>, String>;
 
 /// Whether the flat value of a text's geometry, or the error in its place, is one by every call that
 /// gives it, and whether its text is one by every call that writes it.
@@ -19,17 +19,17 @@ pub(crate) fn flat_alike<T: WktNum>(
     text: &str,
     geometry: &Wkt<T>,
 ) -> Result<bool, AllocError> {
-    let flat = told(alloc, try_into_geometry(alloc, geometry))?;
+    let flat = outcome(alloc, try_into_geometry(alloc, geometry))?;
     Ok(
         by_text_alike(alloc, text, &flat)?
             && by_bytes_alike(alloc, text, &flat)?
             && json_alike(alloc, text, geometry, &flat)?
-            && told_alike(alloc, &flat)?,
+            && outcome_alike(alloc, &flat)?,
     )
 }
 
 /// Whether two calls answered alike.
-fn same<T: WktNum>(one: &Told<T>, other: &Told<T>) -> bool {
+fn same<T: WktNum>(one: &Outcome<T>, other: &Outcome<T>) -> bool {
     match (one, other) {
         (Ok(one), Ok(other)) => one == other,
         (Err(one), Err(other)) => one == other,
@@ -38,16 +38,20 @@ fn same<T: WktNum>(one: &Told<T>, other: &Told<T>) -> bool {
 }
 
 /// Whether a flat value, if there is one, is copied and written by each call alike.
-fn told_alike<T: WktNum>(alloc: Global, told: &Told<T>) -> Result<bool, AllocError> {
-    match told {
+fn outcome_alike<T: WktNum>(alloc: Global, outcome: &Outcome<T>) -> Result<bool, AllocError> {
+    match outcome {
         Ok(flat) => Ok(flat.try_clone(alloc)? == *flat && written_alike(alloc, flat)?),
         Err(_) => Ok(true),
     }
 }
 
 /// Whether a text gives that flat value or error.
-fn by_text_alike<T: WktNum>(alloc: Global, text: &str, flat: &Told<T>) -> Result<bool, AllocError> {
-    let read = told(alloc, Geometry::try_from_wkt_str(alloc, text))?;
+fn by_text_alike<T: WktNum>(
+    alloc: Global,
+    text: &str,
+    flat: &Outcome<T>,
+) -> Result<bool, AllocError> {
+    let read = outcome(alloc, Geometry::try_from_wkt_str(alloc, text))?;
     Ok(same(&read, flat))
 }
 
@@ -55,10 +59,10 @@ fn by_text_alike<T: WktNum>(alloc: Global, text: &str, flat: &Told<T>) -> Result
 fn by_bytes_alike<T: WktNum>(
     alloc: Global,
     text: &str,
-    flat: &Told<T>,
+    flat: &Outcome<T>,
 ) -> Result<bool, AllocError> {
     let mut bytes = Counted::new(text.as_bytes());
-    let read = told(alloc, Geometry::try_from_wkt_reader(alloc, &mut bytes))?;
+    let read = outcome(alloc, Geometry::try_from_wkt_reader(alloc, &mut bytes))?;
     Ok(same(&read, flat))
 }
 
@@ -67,7 +71,7 @@ fn json_alike<T: WktNum>(
     alloc: Global,
     text: &str,
     geometry: &Wkt<T>,
-    flat: &Told<T>,
+    flat: &Outcome<T>,
 ) -> Result<bool, AllocError> {
     let json = Value::String(String::from_str(alloc, text)?);
     Ok(flat_from_json(alloc, &json, flat)? && is_from_json(alloc, &json, geometry)?)
@@ -77,11 +81,11 @@ fn json_alike<T: WktNum>(
 fn flat_from_json<T: WktNum>(
     alloc: Global,
     json: &Value,
-    flat: &Told<T>,
+    flat: &Outcome<T>,
 ) -> Result<bool, AllocError> {
     match deserialize_geometry(alloc, json) {
         Ok(geometry) => Ok(same(&Ok(geometry), flat)),
-        Err(ValueError::Fault(error)) => Ok(same(&told(alloc, Err(error))?, flat)),
+        Err(ValueError::Fault(error)) => Ok(same(&outcome(alloc, Err(error))?, flat)),
         Err(ValueError::NotAString) => Ok(false),
     }
 }
@@ -100,10 +104,10 @@ fn is_from_json<T: WktNum>(
 }
 
 /// What a call answered; out of memory comes first.
-fn told<T: WktNum>(
+fn outcome<T: WktNum>(
     alloc: Global,
     answer: Result<Geometry<T>, ConvertError>,
-) -> Result<Told<T>, AllocError> {
+) -> Result<Outcome<T>, AllocError> {
     match answer {
         Ok(geometry) => Ok(Ok(geometry)),
         Err(ConvertError::Memory(e)) => Err(e),

@@ -11,7 +11,7 @@ fn shown(alloc: Global, text: &str) -> Result<String, AllocError> {
     }
 }
 
-// Whether a header of so many letters is told whole.
+// Whether the error shows a header of so many letters whole.
 fn tells_prefix(alloc: Global, length: usize) -> Result<bool, AllocError> {
     let mut text = String::new(alloc);
     let mut wanted = String::from_str(alloc, "Unsupported WKT prefix ")?;

@@ -1,5 +1,7 @@
-//! Tests of values that cross crates: texts read, told apart and written, two-dimensional values, and what of the docs'
+//! Tests of values that cross crates: texts read, compared and written, two-dimensional values, and what of the docs'
 //! examples is no row of a table. A text and its answer is a row of `wkt_conformance`.
+//!
+//! Below stand `wkt` and `wkt_types`.
 #![tactic(auto)]
 
 #[cfg(test)]

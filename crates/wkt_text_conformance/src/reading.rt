@@ -71,7 +71,7 @@ fn goes_on_after_a_geometry(rt: HostRuntime) -> Result<(), Fail> {
     Ok(())
 }
 
-// After a fault the lexemes go on behind the one that was too much.
+// After an error the lexemes go on behind the one that was too much.
 #[test]
 fn goes_on_after_a_fault(rt: HostRuntime) -> Result<(), Fail> {
     let mut tokens = PeekableTokens::new(Tokens::<i32>::from_str("POLYGON((1 2,x),3 4"));

@@ -191,7 +191,7 @@ mutual
   all_known no_trees = tt
   all_known (more_trees t ts) = (any_known t, all_known ts)
 
--- what is made canonical is what its canonical value is read as
+-- `into_canonical` makes the geometry that the text of the canonical value is read as
 pub canonical_is_read : {T : Type 0} (t : Tree T) → fault (tree_shape t) ≡ None → IsWktOf (canon (tree_shape t)) (canonical t)
 canonical_is_read t h =
     let fits = known_well_formed Any (tree_shape t) h (any_known t) in

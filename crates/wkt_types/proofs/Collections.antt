@@ -26,7 +26,7 @@ module _ {T : Type 0} (c : GeometryCollection T) (ws : List (Wkt T)) (d : Dimens
   pub geometry_is : (w : Wkt T) → w ≡ views.GeometryCollection c → member_shape w ≡ collection_of (header_of d) (map member_shape ws)
   geometry_is w k = ap (λ v. member_shape v) k ∙ (ap tree_shape (tree-collection c) ∙ collection_is)
 
--- a collection is told by its header and its members
+-- its header and its members determine a collection
 pub told_whole : {T : Type 0} (c : GeometryCollection T) → collection_of (header_of (tree_dim (collection_tree c))) (members_of (tree_shape (collection_tree c))) ≡ tree_shape (collection_tree c)
 told_whole c =
     let h = tree-members c in

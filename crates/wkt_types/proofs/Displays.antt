@@ -1,4 +1,4 @@
--- What was displayed, where a shape has no fault.
+-- What was displayed, where a shape has no error.
 use Rattle.std.proofs.Common.{◌≡◌, ℕ, List, Option, Some, None, Result, Ok, Err, true, false, refl, ap, ◌∙◌}
 use Rattle.std.specs.Borrow.{MutBor}
 use Rattle.std.specs.Prelude.{IfSome}
@@ -44,7 +44,7 @@ module _ {W N : Type 0} (gives : W → List ℕ → W → Type 0) (num : N → L
     untouched = h;
   }
 
--- the text that is displayed of a shape without a fault
+-- the text that is displayed of a shape without an error
 pub shown_is : {N : Type 0} (num : N → List ℕ) (s : Shape N) (bs : List ℕ) → fault s ≡ None → IfSome (shown num s) (λ t. bs ≡ t) → bs ≡ shape_text num s
 shown_is num s bs e h = rw e at h
 

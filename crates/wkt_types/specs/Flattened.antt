@@ -13,7 +13,7 @@ xy c = record { x = c.x; y = c.y }
 abbrev pub xy_point : {T : Type 0} → Coord T → flat_point.Point T
 xy_point c = record { 0 = xy c }
 
--- A flat point has a coordinate, so an empty point is a fault.
+-- A flat point has a coordinate, so an empty point is an error.
 abbrev pub point_or_fault : {T : Type 0} → Option (Coord T) → Outcome (flat_point.Point T)
 point_or_fault None = refused empty_point
 point_or_fault (Some c) = value (xy_point c)

@@ -8,7 +8,7 @@ pub data Fault : Type 0 where
   empty_point : Fault
   mismatched : List ℕ → List ℕ → Fault
 
--- A flat value, or a fault by name.
+-- A flat value, or an error by name.
 pub data Outcome (X : Type 0) : Type 0 where
   value : X → Outcome X
   refused : Fault → Outcome X

@@ -1,4 +1,4 @@
--- How many geometries there are to let go: only private contracts cite it.
+-- How many geometries there are to drop. Only private contracts cite these words.
 use Rattle.std.specs.Prelude.{ℕ, ◌+◌, List}
 use Rattle.wkt_types.specs.declared.geometry.Wkt.{Wkt}
 use Rattle.wkt_types.specs.Tree.{Tree, Trees, point, line_string, polygon, multi_point, multi_line_string, multi_polygon, collection, no_trees, more_trees, tree, members}
@@ -18,6 +18,19 @@ abbrev mutual
   pub trees_weight : {T : Type 0} → Trees T → ℕ
   trees_weight no_trees = 0
   trees_weight (more_trees t ts) = tree_weight t + trees_weight ts
+
+-- How many geometries are in a geometry.
+abbrev pub tree_inside : {T : Type 0} → Tree T → ℕ
+tree_inside (point p) = 0
+tree_inside (line_string l) = 0
+tree_inside (polygon l) = 0
+tree_inside (multi_point l) = 0
+tree_inside (multi_line_string l) = 0
+tree_inside (multi_polygon l) = 0
+tree_inside (collection ts d) = trees_weight ts
+
+abbrev pub inside : {T : Type 0} → Wkt T → ℕ
+inside w = tree_inside (tree w)
 
 -- How many geometries a `Wkt` is, with those in it.
 abbrev pub weight : {T : Type 0} → Wkt T → ℕ

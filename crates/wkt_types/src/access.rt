@@ -42,11 +42,11 @@ impl<T: WktNum> CoordTrait for Coord<T> {
     fn nth(&self, n: usize) -> T {
         match (n, self.z, self.m) {
             (0, _, _) => self.x,
-            (1, _, _) => self.y,
             (2, Some(z), _) => z,
             (2, None, Some(m)) => m,
-            (3, Some(_), Some(m)) => m,
-            _ => unreachable!(),
+            (3, _, Some(m)) => m,
+            // Place 1: there are no others.
+            _ => self.y,
         }
     }
 }

@@ -12,7 +12,7 @@ pub(crate) fn and_same(parts: bool, a: Dimension, b: Dimension) -> bool
 }
 
 /// Whether two dimensions are the same.
-fn is_same(a: Dimension, b: Dimension) -> bool
+pub fn is_same(a: Dimension, b: Dimension) -> bool
     ensures { result ≡ dim_eq a b }
 {
     matches!(

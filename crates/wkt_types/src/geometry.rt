@@ -10,7 +10,6 @@ ghost use Rattle.wkt_types.specs.Tree.{tree, collection_tree, members, no_trees,
 ghost use Rattle.wkt_types.specs.Trees.{tree_eq, trees_eq, tree_exact};
 
 use crate::dimension::and_same;
-use crate::letting_go::let_go;
 use crate::linestring::LineString;
 use crate::multilinestring::MultiLineString;
 use crate::multipoint::MultiPoint;
@@ -19,6 +18,7 @@ use crate::point::Point;
 use crate::polygon::Polygon;
 use std::alloc::{AllocError, Global};
 use wkt_access::Dimension;
+use wkt_flat::dropping::drop_all;
 use wkt_num::WktNum;
 
 /// A collection: geometries in order, each with its own dimension, and the dimension of the header.
@@ -53,7 +53,7 @@ impl<T: Drop> Drop for GeometryCollection<T> {
     // By a loop, so that nesting takes no stack.
     fn drop(self) {
         let GeometryCollection { geometries, dim: _ } = self;
-        let_go(geometries);
+        drop_all(geometries);
     }
 }
 

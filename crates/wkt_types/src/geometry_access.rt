@@ -93,7 +93,7 @@ impl<T: WktNum> GeometryTrait for Wkt<T> {
     fn geometry(&self, i: usize) -> &Self {
         match self {
             Wkt::GeometryCollection(c) => &c.geometries()[i],
-            _ => unreachable!(),
+            _ => self,
         }
     }
 }

@@ -1,17 +1,19 @@
 //! The types of well-known text: a geometry and its parts, each with the dimension of its header.
+//!
+//! Below stand `wkt_write` and `wkt_flat`; above, the readers (`wkt_read`) and the conversions (`wkt_convert`).
 #![tactic(auto)]
 
 mod access;
 mod canonical;
 mod convert;
 mod coord;
-mod dimension;
+pub mod dimension;
 mod display;
+mod dropping;
 mod geometry;
 mod geometry_access;
 mod geometry_type;
 pub mod laws;
-mod letting_go;
 mod linestring;
 mod multilinestring;
 mod multipoint;

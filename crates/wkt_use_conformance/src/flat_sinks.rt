@@ -24,7 +24,7 @@ fn point() -> Point<Number> {
     )
 }
 
-/// The kind of the writer's error that the answer tells.
+/// The kind of the writer's error in the answer.
 fn io_kind(answer: Result<(), ToWktError>) -> Option<ErrorKind> {
     match answer {
         Err(ToWktError::Io(e)) => Some(e.kind()),

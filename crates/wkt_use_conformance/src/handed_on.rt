@@ -104,7 +104,7 @@ fn piecewise(rest: &[u8]) -> Piecewise<'_> {
     Piecewise { rest, step: 7 }
 }
 
-/// What a wrapper tells that had text for the sink.
+/// The error that a wrapper returns which had text for the sink.
 fn of_wrapper(failing: &mut Failing) -> Option<io::Error> {
     let mut wrapper = WriterWrapper::new(failing);
     let _ = wrapper.write_str("POINT");
@@ -165,7 +165,7 @@ fn came_unchanged(
     given: Given,
 ) -> Result<(), Fail> {
     let Some(came) = came else {
-        panic!(rt; "call {call} told no error of its sink or source");
+        panic!(rt; "call {call} returned no error of its sink or source");
     };
     let want = error(given);
     assert!(rt; came.kind() == want.kind(), "of call {call}");

@@ -1,5 +1,7 @@
 //! Tests of the library in use: the callers of `wkt_uses`, called; sinks and sources that are slow, full or fail, under
 //! the library and under the programs.
+//!
+//! Below stand `wkt_uses` and the crates that it calls.
 #![tactic(auto)]
 
 #[cfg(test)]

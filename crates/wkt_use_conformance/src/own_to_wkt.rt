@@ -1,4 +1,4 @@
-//! A type of one's own that has `to_wkt` alone: its text comes by the bodies that `ToWkt` has.
+//! A custom type that has `to_wkt` alone: its text comes by the default bodies of `ToWkt`.
 use crate::asserts::equal;
 use crate::slow_sinks::Slow;
 use std::alloc::{AllocError, Global};
@@ -8,26 +8,26 @@ use wkt::error::Error;
 use wkt::types::{Coord, Dimension, GeometryCollection, Point};
 use wkt::{FromWktStr, ToWkt, ToWktError, Wkt};
 
-/// What is drawn, as it is told to others.
+/// A drawing, which has a geometry for others.
 #[derive(Drop)]
 struct Drawing {
-    told: Wkt<i32>,
+    shown: Wkt<i32>,
 }
 
 impl ToWkt<i32> for Drawing {
     ghost use Rattle.wkt.specs.Tree.{tree};
 
-    ghost held = { λ d. tree d.told };
+    ghost held = { λ d. tree d.shown };
 
     fn to_wkt(&self, alloc: Global) -> Result<Wkt<i32>, AllocError> {
-        self.told.try_clone(alloc)
+        self.shown.try_clone(alloc)
     }
 }
 
 /// The drawing of this text.
 fn drawing_of(alloc: Global, text: &str) -> Result<Drawing, Fail> {
-    let told = Wkt::<i32>::from_str(alloc, text)?;
-    Ok(Drawing { told })
+    let shown = Wkt::<i32>::from_str(alloc, text)?;
+    Ok(Drawing { shown })
 }
 
 /// A point of x and y under another header.
@@ -72,7 +72,7 @@ fn writes(rt: HostRuntime) -> Result<(), Fail> {
     Ok(())
 }
 
-/// The fault comes by both calls, from a sink that fails too, and nothing goes out.
+/// Both calls return the error of the shape, also where the sink fails, and nothing goes out.
 fn is_refused(alloc: Global, drawing: &Drawing) -> bool {
     let mut writer = Slow::new(5, 100);
     let mut broken = Slow::new(5, 0);
@@ -99,13 +99,13 @@ fn with_short(alloc: Global, dimension: Dimension) -> Result<Wkt<i32>, AllocErro
 fn refuses(rt: HostRuntime) -> Result<(), Fail> {
     let alloc = rt.alloc();
     for dimension in [Dimension::XYZ, Dimension::XYM, Dimension::XYZM] {
-        let told = short(dimension);
-        assert!(rt; is_refused(alloc, &Drawing { told }));
-        let told = with_short(alloc, dimension)?;
-        assert!(rt; is_refused(alloc, &Drawing { told }));
+        let shown = short(dimension);
+        assert!(rt; is_refused(alloc, &Drawing { shown }));
+        let shown = with_short(alloc, dimension)?;
+        assert!(rt; is_refused(alloc, &Drawing { shown }));
     }
-    let told = short(Dimension::XY);
-    assert!(rt; !is_refused(alloc, &Drawing { told }));
+    let shown = short(Dimension::XY);
+    assert!(rt; !is_refused(alloc, &Drawing { shown }));
     Ok(())
 }
 

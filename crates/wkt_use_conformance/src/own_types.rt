@@ -1,4 +1,4 @@
-//! The representation of one's own in `wkt_uses`, written by all eleven writers.
+//! The custom representation in `wkt_uses`, written by all eleven writers.
 use crate::asserts::equal;
 use std::alloc::{AllocError, Global};
 use std::process::Abort;

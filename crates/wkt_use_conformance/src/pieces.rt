@@ -6,7 +6,7 @@ use std::test::Fail;
 use wkt::to_wkt::{ByteSource, Counted};
 use wkt_lines::{RunError, stream};
 
-/// Gives one piece a call; an empty one is a fault.
+/// Gives one piece a call; an empty one is an error.
 #[derive(Drop)]
 struct Pieces<'a> {
     pieces: &'a [&'a [u8]],

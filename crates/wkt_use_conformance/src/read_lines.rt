@@ -1,4 +1,4 @@
-//! Lines read one by one, and answered by answers of one's own.
+//! Lines read one by one, and answered by custom answers.
 ghost use Rattle.std.specs.Prelude.{◌≡◌};
 
 use crate::asserts::equal;

@@ -64,7 +64,7 @@ module _ {N : Type 0} (num : N → List ℕ) where
         failed = c.failed ∙ ap next_count (b.unfailed ∙ a.unfailed);
       })
 
--- the i-th shape has no fault either
+-- the i-th shape has no error either
 pub sound_more : {N : Type 0} (ss : List (Shape N)) (i : ℕ) (m : Shape N)
     → All (λ s. fault s ≡ None) (take i ss) → slice_get ss i ≡ Some m → fault m ≡ None → All (λ s. fault s ≡ None) (take (i + 1) ss)
 sound_more {N} ss i m all e n =

@@ -36,7 +36,7 @@ IfRead (Ok x) P = Unit {0}
 IfRead (Err (copy.Read e)) P = P e
 IfRead (Err (copy.Write e)) P = Unit {0}
 
--- The fact is claimed where the polygon wasn't written whole. The sink's fault alone comes then.
+-- The fact is claimed where the polygon wasn't written whole. The sink's error alone comes then.
 abbrev pub OnWrite : {A : Type 0} → Result A CopyError → Type 0 → Type 0
 OnWrite (Ok x) P = Unit {0}
 OnWrite (Err (copy.Read e)) P = Unit {0}

@@ -12,7 +12,7 @@ abbrev pub lined : {N : Type 0} → (N → List ℕ) → List (Shape N) → List
 lined num [] = []
 lined num (s ∷ ss) = shape_text num s ++ (10 ∷ lined num ss)
 
--- One of the shapes has this fault, those before it have none, and exactly their lines were added.
+-- One of the shapes has this error, those before it have none, and exactly their lines were added.
 pub record StoppedAt {S N : Type 0} (sink : Sink S) (num : N → List ℕ) (s : S) (ss : List (Shape N)) (t : S) (e : Error) : Type 0 where
   pub place : ℕ
   pub shape : Shape N

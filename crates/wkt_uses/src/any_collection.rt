@@ -20,7 +20,7 @@ pub fn count_members<C: GeometryCollectionTrait>(collection: &C) -> usize
 /// Writes the members of a collection, each on a line of its own.
 ///
 /// # Errors
-/// The fault of the first member that has one: the members before it are written then, and nothing of it.
+/// The error of the first member that has one: the members before it are written then, and nothing of it.
 /// `FmtError` where the sink fails: a beginning of the lines is written then.
 pub fn write_members<W: TextSink, C: GeometryCollectionTrait>(
     f: &mut W,

@@ -16,7 +16,7 @@ use wkt::to_wkt::push_geometry;
 /// one key exactly if their canonical values are equal (`wkt::laws::one_text`).
 ///
 /// # Errors
-/// The first fault of the geometry, in the order of its text; `FmtError` when out of memory.
+/// The first error of the geometry, in the order of its text; `FmtError` when out of memory.
 pub fn key<G: GeometryTrait>(alloc: Global, geometry: &G) -> Result<String, Error>
     ensures text { IfOk result (λ s. string_bytes s ≡ shape_text G.T.num (G.shape geometry.now)) }
     ensures reads_back { IfOk result

@@ -1,6 +1,8 @@
 //! Callers of `wkt`, proved, each in a file of its own and written to be copied from.
 //! `wkt_use_conformance` calls and tests them.
 //!
+//! Below stand `wkt` and `wkt_lines`; above, its tests.
+//!
 //! `docs/CALLING.md` has the calls that they make, with the clause that each of them rests on.
 #![tactic(auto)]
 

@@ -1,4 +1,4 @@
-//! A representation of one's own: polygons, lists of them, rectangles and triangles.
+//! A custom representation: polygons, lists of them, rectangles and triangles.
 ghost use Rattle.std.specs.Prelude.{map};
 ghost use Rattle.wkt_uses.specs.Mine.{polygon_of};
 

@@ -1,4 +1,4 @@
-//! A representation of one's own: line strings, lists of them, and a line between two coordinates.
+//! A custom representation: line strings, lists of them, and a line between two coordinates.
 ghost use Rattle.std.specs.Prelude.{map};
 ghost use Rattle.wkt_uses.specs.Mine.{line_of};
 

@@ -1,4 +1,4 @@
-//! A representation of one's own: a geometry of any kind that may hold geometries, and a collection.
+//! A custom representation: a geometry of any kind that may hold geometries, and a collection.
 ghost use Rattle.std.specs.Prelude.{map};
 ghost use Rattle.wkt_uses.specs.Mine.{figure_shape};
 
@@ -87,7 +87,7 @@ impl GeometryTrait for Figure {
     fn geometry(&self, i: usize) -> &Figure {
         match self {
             Figure::Group(_, members) => &members[i],
-            _ => unreachable!(),
+            _ => self,
         }
     }
 }

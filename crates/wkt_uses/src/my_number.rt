@@ -1,4 +1,4 @@
-//! A number type of one's own: halves of at most one, with the four laws of `WktNum`.
+//! A custom number type: halves of at most one, with the four laws of `WktNum`.
 ghost use Rattle.std.proofs.Common.{rules};
 
 use std::fmt;

@@ -1,4 +1,4 @@
-//! A sink of text of one's own, which tells its text and fails after so many pieces.
+//! A custom sink of text, which reveals its text and fails after so many pieces.
 ghost use Rattle.std.specs.Prelude.{◌≡◌, []};
 
 use std::alloc::Global;

@@ -1,4 +1,4 @@
-//! A representation of one's own, over whole numbers, by the access traits: coordinates and points.
+//! A custom representation over whole numbers, by the access traits: coordinates and points.
 //! `my_lines`, `my_areas` and `my_map` have the other kinds.
 ghost use Rattle.std.specs.Prelude.{◌≤◌, map, option_map, vec_len};
 

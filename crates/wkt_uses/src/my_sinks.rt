@@ -1,4 +1,4 @@
-//! A source and a sink of one's own, and the program's `run` over them.
+//! A custom source and a custom sink, and the program's `run` over them.
 ghost use Rattle.std.specs.Prelude.{◌≡◌, ◌<◌, IfOk};
 ghost use Rattle.wkt_lines.specs.Numbers.{read_line, print_line};
 ghost use Rattle.wkt_lines.specs.Output.{OnRunRead, IsOutput};

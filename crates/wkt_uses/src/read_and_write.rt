@@ -1,4 +1,4 @@
-//! A text is read, and the geometry, changed or not, is written. An error is told apart.
+//! A text is read, and the geometry, changed or not, is written. Each error is matched.
 ghost use Rattle.std.specs.Prelude.{◌≡◌, ◌⊎◌, [], ◌∷◌, IfOk, MatchOption, string_bytes};
 ghost use Rattle.wkt.specs.Answered.{OnText};
 ghost use Rattle.wkt.specs.Front.{HasNoFront};

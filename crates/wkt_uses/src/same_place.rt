@@ -10,8 +10,8 @@ use wkt::laws::{front_is_writable, one_text};
 use wkt::{ReadError, WktNum};
 
 /// Whether the geometries at the fronts of two texts are the same: of one kind and dimension, with
-/// the same numbers in the same order. `==` of `Wkt` wouldn't do, since it compares what is held: it tells
-/// `POLYGON(EMPTY)` from `POLYGON EMPTY`, which have one text. Of geometries at hand, `wkt::same_geometry`
+/// the same numbers in the same order. `==` of `Wkt` wouldn't do, since it compares what is held:
+/// `POLYGON(EMPTY)` and `POLYGON EMPTY` differ there, and have one text. Of geometries at hand, `wkt::same_geometry`
 /// answers this without their texts.
 ///
 /// # Errors

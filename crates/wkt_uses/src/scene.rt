@@ -1,4 +1,4 @@
-//! A scene of one's own, of layers within layers, written as a collection of collections.
+//! A custom scene, of layers within layers, written as a collection of collections.
 ghost use Rattle.std.specs.Fmt.{signed_decimal};
 ghost use Rattle.std.specs.Prelude.{◌≡◌, IfOk, length, string_bytes};
 ghost use Rattle.wkt.specs.Front.{Front};
@@ -75,7 +75,7 @@ impl GeometryTrait for Layer {
     fn geometry(&self, i: usize) -> &Layer {
         match self {
             Layer::Group(_, layers) => &layers[i],
-            _ => unreachable!(),
+            _ => self,
         }
     }
 }

@@ -1,5 +1,7 @@
 //! Walks over the coordinates of two-dimensional geometries, as the crate `geo` has them.
 //!
+//! Below stands `wkt_flat`; above, `wkt`.
+//!
 //! [`visit_coords`] hands each coordinate of a geometry to a [`Visitor`] in turn; [`num_coords`] and
 //! [`bounding_rect`] are two such walks. None of them takes memory. [`map_coords`] makes a geometry anew, with each
 //! coordinate as a [`Mapper`] has it. Collections are walked on the stack.

@@ -1,4 +1,4 @@
--- The value of a shape without a fault is well-formed, where its numbers are known.
+-- The value of a shape without an error is well-formed, where its numbers are known.
 use Rattle.std.proofs.Common.{◌≡◌, ℕ, ◌≤◌, List, [], ◌∷◌, length, take, map, Bool, true, false, cond, nat_lt, Option, Some, None, refl, arith, ltb-false, option_map}
 use Rattle.std.specs.List.{AllByRecursion}
 use Rattle.std.proofs.lemmas.List.{length-take-le}
@@ -16,7 +16,7 @@ use Rattle.wkt_write.proofs.Firsts.{none_of_or}
 use Rattle.wkt_write.proofs.Headed.{under_clean}
 use Rattle.wkt_write.proofs.Members.{inside_clean}
 
--- a list without a fault, and its images
+-- a list without an error, and its images
 all_fit : {A B : Type 0} (f : A → Option Error) (H : A → Type 0) (G : B → Type 0) (g : A → B) → ((x : A) → f x ≡ None → H x → G (g x)) → (xs : List A) → first_fault f xs ≡ None → AllByRecursion H xs → AllByRecursion G (map g xs)
 all_fit f H G g one [] e h = tt
 all_fit f H G g one (x ∷ xs) e h =

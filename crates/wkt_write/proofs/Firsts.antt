@@ -1,4 +1,4 @@
--- The first fault of a list, as a loop finds it.
+-- The first error of a list, as a loop finds it.
 use Rattle.std.proofs.Common.{◌≡◌, ℕ, zero, suc, ◌+◌, ◌<◌, ◌≤◌, List, [], ◌∷◌, length, take, Option, Some, None, Result, Ok, Err, refl, ap, sym, ◌∙◌, subst, slice_get, add-one, arith}
 use Rattle.std.specs.List.{AllByRecursion}
 use Rattle.std.specs.Prelude.{IfSome}
@@ -8,7 +8,7 @@ use Rattle.wkt_access.specs.declared.error.Error.{Error}
 use Rattle.wkt_access.specs.Faults.{first_fault}
 use Rattle.wkt_write.specs.Known.{Clear, Checks}
 
--- the n members of xs have no fault up to the i-th, and H holds of them
+-- the n members of xs have no error up to the i-th, and H holds of them
 pub record Clean {A : Type 0} (f : A → Option Error) (H : A → Type 0) (xs : List A) (i n : ℕ) : Type 0 where
   pub all : n ≡ length xs
   pub clean : first_fault f (take i xs) ≡ None
@@ -77,7 +77,7 @@ pub checks_more : {T P Q : Type 0} (r : Result T Error) (found : Option Error) �
 checks_more (Ok x) found h f = record { none = h.none; holds = f h.holds }
 checks_more (Err e) found h f = h
 
--- where a list has no fault, no member has one
+-- where a list has no error, no member has one
 pub none_at : {A : Type 0} (f : A → Option Error) (xs : List A) (i : ℕ) (x : A) → first_fault f xs ≡ None → slice_get xs i ≡ Some x → f x ≡ None
 none_at f [] i x h g = cc
 none_at f (y ∷ ys) zero x h g = let e : y ≡ x = cc in ap f (sym e) ∙ (none_of_or (f y) (first_fault f ys) h).0

@@ -57,13 +57,13 @@ module _ {A S : Type 0} {sink : Sink S} where
     pub listing_more : {s t u v : S} {x : A} → Listing sink separator f xs i n s t → slice_get xs i ≡ Some x → Adds sink t (before separator i) u → Adds sink u (f x) v → Listing sink separator f xs (i + 1) n s v
     listing_more {x = x} p h q r = record { all = p.all; added = rw (add-one, joined_more separator f xs i x h) (adds_then p.added (adds_then q r)) }
 
-    -- the fault comes before an item
+    -- the error comes before an item
     pub listing_broken_before : {s t u : S} → Listing sink separator f xs i n s t → i < n → Breaks sink t (before separator i) u → Breaks sink s (separated separator (map f xs)) u
     listing_broken_before p h q =
         let x = some_at xs i (omega (arith, p.all)) in
         breaks_in (joined_begins separator f xs (suc i)) (rw (joined_more separator f xs i x.0 x.1) (breaks_then p.added (breaks_first (f x.0) q)))
 
-    -- the fault comes in an item
+    -- the error comes in an item
     pub listing_broken : {s t u v : S} {x : A} → Listing sink separator f xs i n s t → slice_get xs i ≡ Some x → Adds sink t (before separator i) u → Breaks sink u (f x) v → Breaks sink s (separated separator (map f xs)) v
     listing_broken {x = x} p h q r =
         breaks_in (joined_begins separator f xs (suc i)) (rw (joined_more separator f xs i x h) (breaks_then p.added (breaks_then q r)))
@@ -84,13 +84,13 @@ module _ {A S : Type 0} {sink : Sink S} where
     pub following_more : {s t u v : S} {x : A} → Following sink separator f xs i n s t → slice_get xs i ≡ Some x → Adds sink t separator u → Adds sink u (f x) v → Following sink separator f xs (i + 1) n s v
     following_more {x = x} p h q r = record { all = p.all; added = rw (add-one, later_more separator f xs i x h) (adds_then p.added (adds_then q r)) }
 
-    -- the fault comes before an item
+    -- the error comes before an item
     pub following_broken_before : {s t u : S} → Following sink separator f xs i n s t → i < n → Breaks sink t separator u → Breaks sink s (each_after separator (map f xs)) u
     following_broken_before p h q =
         let x = some_at xs i (omega (arith, p.all)) in
         breaks_in (later_begins separator f xs (suc i)) (rw (later_more separator f xs i x.0 x.1) (breaks_then p.added (breaks_first (f x.0) q)))
 
-    -- the fault comes in an item
+    -- the error comes in an item
     pub following_broken : {s t u v : S} {x : A} → Following sink separator f xs i n s t → slice_get xs i ≡ Some x → Adds sink t separator u → Breaks sink u (f x) v → Breaks sink s (each_after separator (map f xs)) v
     following_broken {x = x} p h q r =
         breaks_in (later_begins separator f xs (suc i)) (rw (later_more separator f xs i x h) (breaks_then p.added (breaks_then q r)))

@@ -1,4 +1,4 @@
--- The faults of a collection, and what is known of its numbers, by the list of its members.
+-- The errors of a collection, and what is known of its numbers, by the list of its members.
 use Rattle.std.proofs.Common.{◌≡◌, ℕ, List, [], ◌∷◌, length, Option, Some, None, refl, ap, sym, ◌∙◌, slice_get}
 use Rattle.std.specs.List.{AllByRecursion}
 use Rattle.std.specs.Option.{option_or}
@@ -11,7 +11,7 @@ use Rattle.wkt_access.specs.Faults.{fault, faults, first_fault, under}
 use Rattle.wkt_access.specs.Shapes.{Shape, Shapes, printed}
 use Rattle.wkt_access.specs.Parts.{each, gathered, members_of, dimension_of, IsCollectionOf}
 
--- no member of a gathered list is at fault that isn't in the list
+-- no member of a gathered list has an error that isn't in the list
 pub faults_gathered : {N : Type 0} (gs : List (Shape N)) → faults (gathered gs) ≡ first_fault fault gs
 faults_gathered [] = refl
 faults_gathered (g ∷ gs) = ap (option_or (fault g)) (faults_gathered gs)
@@ -33,7 +33,7 @@ members_counted n (Shape.rect d a b) h = absurd h
 members_counted n (Shape.triangle d a b c) h = absurd h
 members_counted n (Shape.line d a b) h = absurd h
 
--- the fault of a collection
+-- the error of a collection
 pub collection_fault : {N : Type 0} (n : ℕ) (s : Shape N) → IsCollectionOf n s → fault s ≡ under (printed (dimension_of s)) (λ _. first_fault fault (members_of s))
 collection_fault n (Shape.collection d gs) h = ap (λ o. under (printed d) (λ _. o)) (faults_each gs)
 collection_fault n (Shape.point d c) h = absurd h
@@ -50,7 +50,7 @@ collection_fault n (Shape.line d a b) h = absurd h
 pub collection_refused : {N : Type 0} (n : ℕ) (s : Shape N) (d : Dimensions) (e : Error) → IsCollectionOf n s → d ≡ dimension_of s → ((inside : ℕ → Option Error) → under (printed d) inside ≡ Some e) → fault s ≡ Some e
 collection_refused n s d e h q r = collection_fault n s h ∙ rw q at (r (λ _. first_fault fault (members_of s)))
 
--- it isn't: the fault is that of the members
+-- it isn't: the error is that of the members
 pub collection_checked : {N : Type 0} (n : ℕ) (s : Shape N) (d : Dimensions) (k : ℕ) → IsCollectionOf n s → d ≡ dimension_of s → ((inside : ℕ → Option Error) → under (printed d) inside ≡ inside k) → fault s ≡ first_fault fault (members_of s)
 collection_checked n s d k h q r = collection_fault n s h ∙ rw q at (r (λ _. first_fault fault (members_of s)))
 

@@ -1,4 +1,4 @@
--- A shape is refused by a word of its own, and never as a fault of the sink.
+-- The error of a shape is never that of the sink.
 use Rattle.std.proofs.Common.{◌≡◌, ℕ, List, [], ◌∷◌, length, Bool, true, false, cond, nat_lt, Option, Some, None, refl}
 use Rattle.std.specs.Prelude.{option_to_list}
 use Rattle.std.specs.Option.{option_or}

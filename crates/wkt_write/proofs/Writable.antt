@@ -14,7 +14,7 @@ use Rattle.wkt_access.specs.Lawful.{IsLawful}
 use Rattle.wkt_write.proofs.Canon.{known_well_formed}
 use Rattle.wkt_access.specs.WellFormed.{CoordFits, LineStringFits, PolygonFits, PointFits, IsWellFormed, AreWellFormed}
 
--- no fault in a list whose items have none
+-- no error in a list whose items have none
 all_clear : {A B : Type 0} (f : B → Option Error) (H : B → Type 0) (G : A → Type 0) (g : A → B) → ((x : A) → G x → (f (g x) ≡ None) × H (g x)) → (xs : List A) → AllByRecursion G xs → (first_fault f (map g xs) ≡ None) × AllByRecursion H (map g xs)
 all_clear f H G g one [] h = (refl, tt)
 all_clear f H G g one (x ∷ xs) h =

@@ -11,7 +11,7 @@ pub record Clear (found : Option Error) (P : Type 0) : Type 0 where
   pub none : found ≡ None
   pub holds : P
 
--- What a call answers that looks for a fault.
+-- What a call answers that looks for an error.
 abbrev pub Checks : {T : Type 0} → Result T Error → Option Error → Type 0 → Type 0
 Checks r found P = MatchResult r (λ _. Clear found P) (λ e. found ≡ Some e)
 
@@ -59,6 +59,6 @@ module _ {N : Type 0} (is_value : N → Type 0) where
     AllKnown Shapes.no_shapes = Unit {0}
     AllKnown (Shapes.more_shapes g gs) = Known g × AllKnown gs
 
--- What a call answers that looks for the fault of a shape: where there is none, its numbers are known.
+-- What a call answers that looks for the error of a shape: where there is none, its numbers are known.
 abbrev pub ChecksShape : {T N : Type 0} → (N → Type 0) → Result T Error → Shape N → Type 0
 ChecksShape is_value r s = Checks r (fault s) (Known is_value s)

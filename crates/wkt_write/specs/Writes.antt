@@ -9,23 +9,23 @@ use Rattle.wkt_access.specs.Faults.{fault}
 use Rattle.wkt_access.specs.Faults as faults
 use Rattle.wkt_access.specs.Lawful.{IsLawful}
 
--- The shape has no fault, its printed numbers are values of the number type, and exactly its text was added.
+-- The shape has no error, its printed numbers are values of the number type, and exactly its text was added.
 pub record Written {S N : Type 0} (sink : Sink S) (is_value : N → Type 0) (num : N → List ℕ) (s : S) (shape : Shape N) (t : S) : Type 0 where
   pub sound : fault shape ≡ None
   pub lawful : IsLawful is_value shape
   pub added : Adds sink s (shape_text num shape) t
 
--- The shape has no fault, and the sink failed when a beginning of the text was added.
+-- The shape has no error, and the sink failed when a beginning of the text was added.
 pub record BrokenOff {S N : Type 0} (sink : Sink S) (num : N → List ℕ) (s : S) (shape : Shape N) (t : S) : Type 0 where
   pub sound : fault shape ≡ None
   pub broken : Breaks sink s (shape_text num shape) t
 
--- The shape has this fault, and the sink is as it was.
+-- The shape has this error, and the sink is as it was.
 pub record Refused {S N : Type 0} (s : S) (shape : Shape N) (t : S) (e : Error) : Type 0 where
   pub found : fault shape ≡ Some e
   pub same : t ≡ s
 
--- `FmtError` is the sink's, and any other error is the fault of the shape.
+-- `FmtError` is the sink's, and any other error is the error of the shape.
 abbrev pub Fails : {S N : Type 0} → Sink S → (N → List ℕ) → S → Shape N → S → Error → Type 0
 Fails sink num s shape t (FmtError e) = BrokenOff sink num s shape t
 Fails sink num s shape t RectUnsupportedDimension = Refused s shape t RectUnsupportedDimension
@@ -38,7 +38,7 @@ abbrev pub Writes : {S T N : Type 0} → Sink S → (N → Type 0) → (N → Li
 Writes sink is_value num s shape t (Ok x) = Written sink is_value num s shape t
 Writes sink is_value num s shape t (Err e) = Fails sink num s shape t e
 
--- The fact is claimed of an error that is a fault of the shape, and not of the sink.
+-- The fact is claimed of an error that is an error of the shape, and not of the sink.
 abbrev pub IfFault : {T : Type 0} → Result T Error → (Error → Type 0) → Type 0
 IfFault (Ok x) P = Unit {0}
 IfFault (Err (FmtError e)) P = Unit {0}

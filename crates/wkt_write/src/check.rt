@@ -1,4 +1,4 @@
-//! Looks for the first fault in the order of the text: of the parts of all kinds, and of a geometry of any kind.
+//! Looks for the first error in the order of the text: of the parts of all kinds, and of a geometry of any kind.
 #![tactic(auto, using(crate::proofs::Firsts::clean_start, crate::proofs::Firsts::clean_more, crate::proofs::Firsts::clean_fault, crate::proofs::Firsts::clean_end))]
 
 ghost use Rattle.std.specs.Prelude.{◌≡◌, ℕ, Some, None, Option, IfOk, IfErr};
@@ -76,7 +76,7 @@ pub(crate) fn check_coord<C: CoordTrait>(c: &C, k: usize) -> Result<(), Error>
     Ok(())
 }
 
-/// The first fault of the coordinates of a line string or a ring, under a header of `k` numbers.
+/// The first error of the coordinates of a line string or a ring, under a header of `k` numbers.
 pub(crate) fn check_coords<L: LineStringTrait>(l: &L, k: usize) -> Result<(), Error>
     ensures { Checks result (coordinates_fault k (L.coordinates l.now))
         (KnownCoords L.T.is_value k (L.coordinates l.now)) }
@@ -84,7 +84,7 @@ pub(crate) fn check_coords<L: LineStringTrait>(l: &L, k: usize) -> Result<(), Er
     check_items(&Coords(l), k)
 }
 
-/// The first fault of the rings of a polygon that are written.
+/// The first error of the rings of a polygon that are written.
 pub(crate) fn check_rings<Y: PolygonTrait>(y: &Y, k: usize) -> Result<(), Error>
     ensures { Checks result (polygon_fault k (Y.polygon y.now)) (KnownPolygon Y.T.is_value k (Y.polygon y.now)) }
 {
@@ -100,7 +100,7 @@ pub(crate) fn check_rings<Y: PolygonTrait>(y: &Y, k: usize) -> Result<(), Error>
     }
 }
 
-/// The fault of a point's coordinate, if there is one.
+/// The error of a point's coordinate, if there is one.
 pub(crate) fn check_point_coord<P: PointTrait>(p: &P, k: usize) -> Result<(), Error>
     ensures { Checks result (point_fault k (P.coordinate p.now)) (KnownPoint P.T.is_value k (P.coordinate p.now)) }
 {
@@ -122,7 +122,7 @@ pub(crate) fn check_header(d: Dimensions) -> Result<usize, Error>
     }
 }
 
-/// The first fault of a geometry of any kind.
+/// The first error of a geometry of any kind.
 pub(crate) fn check_geometry<G: GeometryTrait>(g: &G) -> Result<(), Error>
     ensures { ChecksShape G.T.is_value result (G.shape g.now) }
 {

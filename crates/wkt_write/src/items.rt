@@ -39,7 +39,7 @@ pub(crate) trait Items {
     /// All of them in order.
     ghost items: { Self → List Item };
 
-    /// The first fault of an item.
+    /// The first error of an item.
     ghost fault_of: { ℕ → Item → Option Error };
 
     /// What is known of an item without one.
@@ -52,19 +52,19 @@ pub(crate) trait Items {
     fn count(&self) -> usize
         ensures { result ≡ length (items self.now) };
 
-    /// The first fault of the item at place `i`.
+    /// The first error of the item at place `i`.
     fn check(&self, i: usize, k: usize) -> Result<(), Error>
         requires { i < length (items self.now) }
         ensures { IfSome (slice_get (items self.now) i) (λ x. Checks result (fault_of k x) (KnownOf k x)) };
 
-    /// Writes the item at place `i`. No item has a fault.
+    /// Writes the item at place `i`. No item has an error.
     fn put<W: TextSink>(&self, f: &mut W, i: usize, k: usize) -> fmt::Result
         requires place { i < length (items self.now) }
         requires clean { first_fault (fault_of k) (items self.now) ≡ None }
         ensures { IfSome (slice_get (items self.now) i) (λ x. Puts W.sink f.old (text_of k x) f.new result) };
 }
 
-/// The first fault of the items.
+/// The first error of the items.
 pub(crate) fn check_items<X: Items>(items: &X, k: usize) -> Result<(), Error>
     ensures { Checks result (first_fault (X.fault_of k) (X.items items.now))
         (AllByRecursion (X.KnownOf k) (X.items items.now)) }
@@ -75,7 +75,7 @@ pub(crate) fn check_items<X: Items>(items: &X, k: usize) -> Result<(), Error>
     Ok(())
 }
 
-/// The first fault of a geometry of these items, whose header says `dim`.
+/// The first error of a geometry of these items, whose header says `dim`.
 #[inline(always)]
 pub(crate) fn check_listed<X: Items>(dim: Dimensions, items: &X) -> Result<(), Error>
     ensures { Checks result (under (printed dim) (λ k. first_fault (X.fault_of k) (X.items items.now)))

@@ -1,4 +1,4 @@
-//! The two passes of a writer, by kind: the first looks for a fault, and the second writes a shape without one.
+//! The two passes of a writer, by kind: the first looks for an error, and the second writes a shape without one.
 //!
 //! `write` and `push` are written once, over [`Kind`].
 #![tactic(auto, using(crate::proofs::Firsts::none_at))]
@@ -43,7 +43,7 @@ pub(crate) trait Kind {
     /// Its shape.
     ghost shape: { Self → Shape Number };
 
-    /// Looks for the first fault.
+    /// Looks for the first error.
     fn check(&self) -> Result<(), Error>
         ensures { ChecksShape is_value result (shape self.now) };
 

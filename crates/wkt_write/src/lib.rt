@@ -1,4 +1,6 @@
 //! The writers of well-known text, over the access traits.
+//!
+//! Below stands `wkt_access`; above, `wkt_types`, whose values are written by these writers, and all that writes.
 #![tactic(auto)]
 
 mod check;

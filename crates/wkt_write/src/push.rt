@@ -38,7 +38,7 @@ fn push_kind<K: Kind>(out: &mut String, g: &K) -> Result<(), Error>
 ///
 /// # Errors
 /// As [`write_geometry`]: the geometry's first error in the order of its text, and then the string is as it was;
-/// [`Error::FmtError`] where the string has no memory to grow into; then the geometry has no fault.
+/// [`Error::FmtError`] where the string has no memory to grow into; then the geometry has no error.
 pub fn push_geometry<G: GeometryTrait>(out: &mut String, g: &G) -> Result<(), Error>
     ensures { Pushes G.T.is_value G.T.num (string_bytes out.old) (G.shape g.now) (string_bytes out.new) result }
 {
@@ -54,7 +54,7 @@ pub fn push_geometry<G: GeometryTrait>(out: &mut String, g: &G) -> Result<(), Er
 ///
 /// # Errors
 /// As of [`write_point`]: the first error in the order of the text, and then the string is as it was;
-/// [`Error::FmtError`] where the string has no memory to grow into; then the shape has no fault.
+/// [`Error::FmtError`] where the string has no memory to grow into; then the shape has no error.
 pub fn push_point<P: PointTrait>(out: &mut String, g: &P) -> Result<(), Error>
     ensures { Pushes P.T.is_value P.T.num (string_bytes out.old)
         (Shape.point (P.dimension g.now) (P.coordinate g.now))

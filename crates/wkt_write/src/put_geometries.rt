@@ -1,4 +1,4 @@
-//! Writes a geometry of any kind. It has no fault.
+//! Writes a geometry of any kind. It has no error.
 #![tactic(auto, using(crate::proofs::Firsts::none_at))]
 
 ghost use Rattle.std.specs.Prelude.{◌≡◌, ◌++◌, None, codes};

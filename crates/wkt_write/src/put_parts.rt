@@ -1,4 +1,4 @@
-//! Writes the parts that several kinds share. Each part has no fault.
+//! Writes the parts that several kinds share. Each part has no error.
 //!
 //! A body is what follows a header: the items of a geometry in parentheses, or EMPTY. `k` is how many
 //! numbers of each coordinate are written.

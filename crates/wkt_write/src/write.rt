@@ -16,7 +16,7 @@ use wkt_access::{
 };
 use wkt_num::{TextSink, WktNum};
 
-/// Writes a geometry of one kind, if its check finds no fault.
+/// Writes a geometry of one kind, if its check finds no error.
 #[inline(always)]
 pub(crate) fn write_kind<W: TextSink, K: Kind>(f: &mut W, g: &K) -> Result<(), Error>
     ensures { Writes W.sink K.is_value K.num f.old (K.shape g.now) f.new result }

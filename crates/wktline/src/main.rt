@@ -1,5 +1,7 @@
 //! Answers each line of standard input on standard output: with the text of its geometry, or with
 //! `refused`.
+//!
+//! Below stands `wkt_lines`, with the call that this program makes.
 #![tactic(auto)]
 
 use std::process::ExitCode;
@@ -15,7 +17,7 @@ fn main(rt: HostRuntime) -> ExitCode {
         Err(RunError::Write(_)) => "wkt: write fault",
         Err(RunError::Memory(_)) => "wkt: out of memory",
     };
-    // Where standard error fails too, the status still tells.
+    // If standard error fails too, the status still reports it.
     let _ = eprintln!(rt; "{message}");
     ExitCode::from(1)
 }

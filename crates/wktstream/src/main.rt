@@ -1,4 +1,6 @@
 //! Answers each line of standard input on standard output as `wktline` does, in the memory of the longest line.
+//!
+//! Below stands `wkt_lines`, with the call that this program makes.
 #![tactic(auto)]
 
 use std::process::ExitCode;
@@ -14,7 +16,7 @@ fn main(rt: HostRuntime) -> ExitCode {
         Err(RunError::Write(_)) => "wkt: write fault",
         Err(RunError::Memory(_)) => "wkt: out of memory",
     };
-    // Where standard error fails too, the status still tells.
+    // If standard error fails too, the status still reports it.
     let _ = eprintln!(rt; "{message}");
     ExitCode::from(1)
 }

@@ -12,7 +12,7 @@ use Rattle.wkt_types.specs.Values.{value_of, values_of, point_numbers, line_stri
 use Rattle.wkt_read.specs.Answered.{IsFrontTo}
 use Rattle.wkt_read.proofs.LawLemmas.Fronts.{front_one}
 
--- lists of parts that are told apart by what they are read as
+-- lists of parts that differ in what they are read as
 lists-one : {A B : Type 0} (P : A → Type 0) (f : A → B) → ((x y : A) → P x → P y → f x ≡ f y → x ≡ y) → (xs ys : List A) → AllByRecursion P xs → AllByRecursion P ys → map f xs ≡ map f ys → xs ≡ ys
 lists-one P f one [] [] h k e = refl
 lists-one P f one [] (y ∷ ys) h k e = cc

@@ -18,7 +18,7 @@ Anything r = Unit {0}
 abbrev pub Shut : List Lexeme → Type 0
 Shut r = (s : List Lexeme) × (r ≡ Close ∷ s)
 
--- a part W, its beginnings B, what stands after it, its reading and its telling reading, up to so many lexemes
+-- a part W, its beginnings B, what stands after it, its reading and its reading with the place where it stops, up to so many lexemes
 pub record Part {A : Type 0} (W : List Lexeme → A → Type 0) (B Follows : List Lexeme → Type 0) (item : List Lexeme → Outcome A) (item_f : List Lexeme → Telling A) (most : ℕ) : Type 0 where
   pub same : (ls : List Lexeme) → plain (item_f ls) ≡ item ls
   pub told : (ls : List Lexeme) → length ls ≤ most → Told W B ls (item_f ls)

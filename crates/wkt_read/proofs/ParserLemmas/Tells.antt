@@ -1,4 +1,4 @@
--- The outcome that also tells where it stops: an error has the lexemes from the bad one on (none if the lexemes end) beside its message and the lexemes that are left.
+-- The outcome with the place where it stops: an error has the lexemes from the bad one on (none if they end) beside its message and the lexemes left.
 use Rattle.std.proofs.Common.{◌≡◌, ℕ, zero, suc, List, [], ◌∷◌, ◌++◌, refl, ap, ◌∙◌, Option, Some, None, Result, Ok, Err, Bool, true, false, cond}
 use Rattle.wkt_num.specs.Bytes.{Lexeme, Open, Close, Comma, Word, Num}
 use Rattle.wkt_access.specs.declared.dimensions.Dimension.{Dimension}
@@ -129,7 +129,7 @@ module _ {N : Type 0} (read : List ℕ → Option N) where
   value_f zero inside ls = Err ([], (no_word inside, ls))
   value_f (suc n) inside ls = andthen (header_f inside ls) (λ h. body_f (value_f n true) n h.0.0 h.0.1 h.1)
 
--- it is the outcome, told
+-- without the place it is the outcome
 pub plain_told : {A : Type 0} (ls : List Lexeme) (r : Outcome A) → plain (told ls r) ≡ r
 plain_told ls (Ok p) = refl
 plain_told ls (Err e) = refl
@@ -226,7 +226,7 @@ module _ {N : Type 0} (read : List ℕ → Option N) where
   plain_member d (Comma ∷ rest) = plain_inside d (Comma ∷ rest)
   plain_member d (Num w ∷ rest) = plain_inside d (Num w ∷ rest)
 
--- what the outcome answers is told
+-- the answer of the outcome is that of the outcome with the place
 pub ok_told : {A : Type 0} (t : Telling A) (p : A × List Lexeme) → plain t ≡ Ok p → t ≡ Ok p
 ok_told (Ok q) p e = let h : q ≡ p = cc in ap (λ r. Ok r) h
 ok_told (Err r) p e = cc

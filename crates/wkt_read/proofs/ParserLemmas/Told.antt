@@ -1,4 +1,4 @@
--- What a reading tells of the lexemes before the place where it stops.
+-- What is known of the lexemes before the place where a reading stops.
 use Rattle.std.proofs.Common.{◌≡◌, ℕ, zero, suc, ◌+◌, ◌≤◌, ◌<◌, List, [], ◌∷◌, ◌++◌, length, length-append, sym, refl, ap, ◌∙◌, subst, append_assoc, append-nil, arith, Option, Ok, Err, Bool, true, false, cond, inl, inr, codes}
 use Rattle.std.specs.Prelude.{◌⊎◌}
 use Rattle.std.specs.Str.{str_to_ascii_uppercase}

@@ -21,7 +21,7 @@ abbrev pub Reader : Type 0 → Type 0
 Reader A = List Lexeme → Outcome A
 
 infixl 10 ◌>>=◌
--- One part, then another after it; the first fault ends both.
+-- One part, then another after it; the first error ends both.
 abbrev pub ◌>>=◌ : {A B : Type 0} → Outcome A → (A × List Lexeme → Outcome B) → Outcome B
 (Ok x) >>= f = f x
 (Err e) >>= f = Err e
@@ -147,13 +147,13 @@ module _ {N : Type 0} (read : List ℕ → Option N) where
     m ← number_at message.M z.1
     Ok (x.0 ∷ y.0 ∷ z.0 ∷ m.0 ∷ [], m.1)
 
-  -- After a kind word alone: a dimension word is taken, EMPTY stays, and any other word is a fault and stays.
+  -- After a kind word alone: a dimension word is taken, EMPTY stays, and any other word is an error and stays.
   abbrev pub worded : Option Dimension → Bool → List ℕ → List Lexeme → Outcome Dimension
   worded (Some d) empty run rest = Ok (d, rest)
   worded None true run rest = Ok (XY, Word run ∷ rest)
   worded None false run rest = Err (message.Word, Word run ∷ rest)
 
-  -- After a kind word alone: a number stays, and is a fault where the number type doesn't read it.
+  -- After a kind word alone: a number stays, and is an error where the number type doesn't read it.
   abbrev pub numbered : Option N → List ℕ → List Lexeme → Outcome Dimension
   numbered (Some x) run rest = Ok (XY, Num run ∷ rest)
   numbered None run rest = Err (message.End, Num run ∷ rest)

@@ -45,7 +45,7 @@ TellsIn view Is outcome (Err (Text text)) left = Refuses text outcome left
 TellsIn view Is outcome (Err (Memory e)) left = Unit {0}
 
 module _ {N : Type 0} (read : List ℕ → Option N) where
-  -- The closing place was taken after a body: its fault comes before the body's.
+  -- The closing place was taken after a body: its error comes before the body's.
   abbrev pub ClosesAt : {X : Type 0} → Result X ReadError → Result X ReadError → List Lexeme → List Lexeme → Type 0
   ClosesAt (Ok x) (Ok y) old new = (closing_at read old ≡ Ok (tt, new)) × (y ≡ x)
   ClosesAt (Ok x) (Err (Text n)) old new = Refuses n (closing_at read old) new

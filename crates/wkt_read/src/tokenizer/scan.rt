@@ -1,7 +1,7 @@
 //! What a byte does in a text, and the runs and marks in its bytes.
 ghost use Rattle.std.specs.Prelude.{◌≡◌, ◌≢◌, ◌↔◌, ◌≤◌, IsTrue, MatchOption};
 ghost use Rattle.std.specs.Str.{IsCharBoundary};
-ghost use Rattle.wkt_num.specs.Bytes.{class_of, White};
+ghost use Rattle.wkt_num.specs.Bytes.{class_of, White, AllWhite};
 ghost use Rattle.wkt_read.specs.Lexemes.{starts_number};
 ghost use Rattle.wkt_read.specs.Tokenizer.Cursors.{taken_in};
 ghost use Rattle.wkt_read.specs.Tokenizer.Scan.{meant, coming_at, Found, IsRunSoFar, EndsRun, RunGoesOn, RunEnds};
@@ -40,6 +40,18 @@ pub fn is_white(byte: u8) -> bool
     ensures { IsTrue result ↔ (class_of byte ≡ White) }
 {
     matches!(class_of(byte), Class::White)
+}
+
+/// Whether there is nothing but white space.
+pub fn is_blank(bytes: &[u8]) -> bool
+    ensures { IsTrue result ↔ AllWhite bytes.now }
+{
+    for byte in bytes {
+        if !is_white(*byte) {
+            return false;
+        }
+    }
+    true
 }
 
 /// Whether a run that begins with this byte is a number.

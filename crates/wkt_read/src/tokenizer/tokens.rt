@@ -101,7 +101,7 @@ impl<'a, T: WktNum> Tokens<'a, T> {
     ghost use Rattle.wkt_read.specs.Placed.{placed, lexemes_of, AreEnds};
     ghost use Rattle.wkt_read.specs.Stream.{coming, bytes_taken, end_of_last, Steps};
 
-    /// The lexemes of the text; none of it is taken yet.
+    /// The lexemes of the text, before the first is taken.
     pub fn from_str(text: &'a str) -> Self
         ensures placed { coming result ≡ placed text.now }
         ensures split { IsSplit text.now (lexemes_of (coming result)) }

@@ -1,3 +1,4 @@
+-- The message on a bad number comes only where the number type refuses one.
 use Rattle.std.proofs.Common.{sym, ◌∙◌}
 use Rattle.wkt.proofs.Blamed.{bad_of}
 use Rattle.wkt.proofs.canonical.canonical_text.Goals as goal

@@ -1,3 +1,4 @@
+-- The text of a flat value is read as its `Wkt`.
 use Rattle.std.proofs.Common.{length}
 use Rattle.wkt_access.specs.Shapes.{canon}
 use Rattle.wkt_access.specs.Texts.{shape_text}

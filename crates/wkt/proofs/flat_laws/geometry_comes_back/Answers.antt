@@ -1,3 +1,4 @@
+-- A geometry's rings are closed, so a plain one comes back from its text.
 use Rattle.wkt_flat.specs.Tree.{flat_tree}
 use Rattle.wkt.proofs.flat_laws.geometry_comes_back.Goals as goal
 

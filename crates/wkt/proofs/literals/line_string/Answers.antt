@@ -1,3 +1,4 @@
+-- The line string has all given coordinates, in order.
 use Rattle.std.proofs.Common.{ap, ap₂, ◌∙◌, List, map}
 use Rattle.std.proofs.lemmas.List.{take_all}
 use Rattle.wkt_access.specs.declared.dimensions.Dimension.{Dimension}

@@ -1,3 +1,4 @@
+-- The rings so far have the given coordinates, in order.
 use Rattle.std.proofs.Common.{◌≡◌, map, take}
 use Rattle.wkt.specs.Literals.{line_string_through}
 use Rattle.wkt.proofs.literals.polygon.Given as goal

@@ -1,3 +1,4 @@
+-- The members so far are written alike, and depth shrinks on the way into a collection.
 use Rattle.std.proofs.Common.{rules, refl, ap, ◌≡◌, ◌∙◌, sym, arith, suc, ◌+◌, ◌*◌, ◌<◌, length}
 use Rattle.wkt_types.specs.Tree.{tree, members}
 use Rattle.wkt_types.proofs.TreeLemmas.{tree-collection}

@@ -1,3 +1,4 @@
+-- The parts so far are written alike, and the lists are as long.
 use Rattle.std.proofs.Common.{refl, ◌∙◌, sym, arith, ◌<◌, length}
 use Rattle.wkt.proofs.Alikes.{part_step, parts_end}
 use Rattle.wkt.proofs.same.are_alike.Goals as goal

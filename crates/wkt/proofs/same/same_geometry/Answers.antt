@@ -1,3 +1,4 @@
+-- Geometries that are written alike have one canonical value, and so one text.
 use Rattle.wkt_flat.specs.Exact.{exact_by}
 use Rattle.wkt.proofs.Written.{told_alike}
 use Rattle.wkt.proofs.same.same_geometry.Goals as goal

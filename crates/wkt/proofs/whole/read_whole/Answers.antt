@@ -1,3 +1,4 @@
+-- An error of memory comes only where memory is needed.
 use Rattle.std.proofs.Common.{◌≡◌, true, false}
 use Rattle.wkt.proofs.whole.read_whole.Goals as goal
 

@@ -1,4 +1,4 @@
--- What was read so far is what the source lost.
+-- The bytes read so far are those that the source lost.
 use Rattle.std.proofs.Common.{◌≡◌, ◌-◌, ◌^◌, vec_len}
 use Rattle.std.specs.Io.KnownBytes.{Consumes}
 use Rattle.wkt_bytes.proofs.read.read_all.Given as goal

@@ -1,3 +1,4 @@
+-- A number that is too large is one of the coordinate's.
 use Rattle.std.proofs.Common.{rules, ◌++◌, ◌∷◌, [], option_to_list}
 use Rattle.std.proofs.lemmas.List.Elements.{Contains-append_left, Contains-append_right}
 use Rattle.wkt_c.proofs.Large.{full-in, err-map}

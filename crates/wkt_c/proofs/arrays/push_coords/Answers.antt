@@ -1,3 +1,4 @@
+-- A number that is too large is one of the list's.
 use Rattle.std.proofs.Common.{rules, arith}
 use Rattle.wkt_types.specs.Coords.{numbers_of}
 use Rattle.wkt_c.proofs.Large.{full-in, err-map, in-part}

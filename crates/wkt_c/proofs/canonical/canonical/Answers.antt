@@ -1,3 +1,4 @@
+-- The bytes behind a short text are zeros.
 use Rattle.wkt_c.proofs.Padded.{zeros-at}
 use Rattle.wkt_c.proofs.canonical.canonical.Goals as goal
 

@@ -1,3 +1,4 @@
+-- The windows so far are ASCII.
 use Rattle.std.proofs.Common.{arith}
 use Rattle.std.proofs.lemmas.Str.Ascii.{IsAscii-from_reads}
 use Rattle.wkt_c.proofs.AsciiWindows.{window-below}

@@ -1,3 +1,4 @@
+-- The texts are one exactly if their bytes are.
 use Rattle.std.proofs.Common.{subst}
 use Rattle.wkt_num.specs.Decimal.{IsUnits}
 use Rattle.wkt_access.specs.Shapes.{shape_of}

@@ -1,3 +1,4 @@
+-- Bytes that aren't UTF-8 are no text.
 use Rattle.std.proofs.Common.{inr, refl}
 use Rattle.wkt_c.specs.Answer.{read_at, places_in}
 use Rattle.wkt_c.proofs.Handing.{no-text}

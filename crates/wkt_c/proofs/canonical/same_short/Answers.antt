@@ -1,3 +1,4 @@
+-- The bytes behind both short texts are zeros.
 use Rattle.wkt_c.proofs.Padded.{zeros-at}
 use Rattle.wkt_c.proofs.canonical.same_short.Goals as goal
 

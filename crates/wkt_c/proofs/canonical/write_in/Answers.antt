@@ -1,3 +1,4 @@
+-- The front of the text and of what is walked are the same.
 use Rattle.std.proofs.Common.{subst, take}
 use Rattle.wkt_c.specs.Answer.{read_at, print_at, IsCanonical}
 use Rattle.wkt_c.proofs.Padded.{front-walked, none-walked}

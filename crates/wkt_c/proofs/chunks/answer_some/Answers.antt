@@ -1,3 +1,4 @@
+-- The answers to the lines so far are out, and a line more still fits or doesn't.
 use Rattle.std.proofs.Common.{◌≡◌, ◌+◌, ◌-◌, ◌<◌, ◌++◌, ◌∙◌, inl, inr, refl, length, take, drop, ap, sym, subst, arith, length-drop, length-take, take_all}
 use Rattle.wkt_lines.specs.Laws.{IsWhole}
 use Rattle.wkt_lines.specs.Output.{IsOutput}

@@ -1,3 +1,4 @@
+-- The rows so far are answered, and the next lies within the texts.
 use Rattle.std.proofs.Common.{◌≡◌, ◌+◌, ◌≤◌, ap, sym, length, subst, arith}
 use Rattle.std.specs.List.{slice_index}
 use Rattle.wkt_c.specs.Answer.{read_at, print_at, places_in, asks_whole}

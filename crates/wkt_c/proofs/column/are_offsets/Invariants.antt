@@ -1,3 +1,4 @@
+-- The offsets so far go up, and stay within the texts.
 use Rattle.std.proofs.Common.{ℕ, ◌+◌, ◌<◌, ◌≤◌}
 use Rattle.std.specs.List.{slice_index}
 use Rattle.wkt_c.proofs.column.are_offsets.Given as goal

@@ -1,3 +1,4 @@
+-- The rows so far have their arrays, and the next lies within the texts.
 use Rattle.std.proofs.Common.{◌≡◌, ◌+◌, subst, arith}
 use Rattle.wkt_c.specs.Answer.{places_in, asks_whole}
 use Rattle.wkt_c.specs.Column.{row_count, row, is_null}

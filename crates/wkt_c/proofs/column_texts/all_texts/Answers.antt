@@ -1,3 +1,4 @@
+-- The rows so far have their texts, and the next lies within the arrays.
 use Rattle.std.proofs.Common.{◌≡◌, ◌+◌, subst, length, arith}
 use Rattle.wkt_c.specs.Column.{is_null}
 use Rattle.wkt_c.specs.ColumnArrays.{row_arrays, IsRowText}

@@ -1,3 +1,4 @@
+-- The place is that of the refusal, or the text is read.
 use Rattle.std.proofs.Common.{inl, arith}
 use Rattle.wkt_c.proofs.explain.explained_text.Goals as goal
 

@@ -1,3 +1,4 @@
+-- The pieces so far are copied, and the rest is as it was.
 use Rattle.std.proofs.Common.{◌+◌, ◌++◌, ◌∙◌, ap, arith, length, drop, take_all}
 use Rattle.wkt_c.proofs.Copied.{copied-piece}
 use Rattle.wkt_c.proofs.fill.copy_to_front.Goals as goal

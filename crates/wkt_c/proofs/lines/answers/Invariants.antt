@@ -1,3 +1,4 @@
+-- The lines so far are answered, and the room grows until the next one fits.
 use Rattle.std.proofs.Common.{◌≤◌, ◌-◌, ◌^◌, length, take, true}
 use Rattle.std.specs.Prelude.{vec_len}
 use Rattle.wkt_lines.specs.Output.{IsOutput}

@@ -1,3 +1,4 @@
+-- The numbers of a coordinate, by its dimension.
 use Rattle.std.proofs.Common.{◌≡◌, ◌*◌, ◌∙◌, ap, arith}
 use Rattle.wkt_access.specs.Values.{size}
 use Rattle.wkt_c.proofs.Fitting.{fits-two, fits-three, fits-four}

@@ -1,3 +1,4 @@
+-- The line string has the coordinates of its ring.
 use Rattle.std.proofs.Common.{◌∙◌, map, ap, sym, subst}
 use Rattle.wkt_num.specs.Decimal.{IsUnits}
 use Rattle.wkt_access.specs.WellFormed.{LineStringFits}

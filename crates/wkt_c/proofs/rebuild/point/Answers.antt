@@ -1,3 +1,4 @@
+-- A ring of one coordinate or none is a point.
 use Rattle.std.proofs.Common.{length, inr, refl, ap, arith}
 use Rattle.std.proofs.lemmas.List.{length-map}
 use Rattle.wkt_types.specs.Coords.{numbers_of}

@@ -1,3 +1,4 @@
+-- The points so far have the coordinates of their rings.
 use Rattle.std.proofs.Common.{rules, ◌≡◌, ◌<◌, ◌≤◌, ◌+◌, ◌∙◌, ◌++◌, ◌∷◌, [], ℤ, List, IfErr, map, length, ap, arith}
 use Rattle.std.proofs.lemmas.List.{map_push}
 use Rattle.wkt_c.specs.Answer.{IsRefused}

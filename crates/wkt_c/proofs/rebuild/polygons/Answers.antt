@@ -1,3 +1,4 @@
+-- The polygons so far have their rings.
 use Rattle.std.proofs.Common.{rules, ◌≡◌, ◌∙◌, ◌++◌, ◌∷◌, [], ℤ, List, IfErr, map, ap, sym, subst, arith}
 use Rattle.std.proofs.lemmas.List.{map_push}
 use Rattle.wkt_types.specs.Values.{line_string_numbers, polygon_numbers}

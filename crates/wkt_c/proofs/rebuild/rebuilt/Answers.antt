@@ -1,3 +1,4 @@
+-- Each kind is made of its arrays, or these are of none.
 use Rattle.std.proofs.Common.{rules, ◌≡◌, ◌≤◌, ℤ, List, IfErr, length, refl}
 use Rattle.std.specs.List.{All}
 use Rattle.wkt_access.specs.declared.dimensions.Dimension.{Dimension}

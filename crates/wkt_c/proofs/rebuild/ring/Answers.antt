@@ -1,3 +1,4 @@
+-- The coordinates so far are those of the ring.
 use Rattle.std.proofs.Common.{rules, ◌≡◌, ◌<◌, ◌+◌, ◌*◌, ◌∙◌, ◌++◌, ◌∷◌, [], IfErr, map, length, ap, arith}
 use Rattle.std.proofs.lemmas.List.{map_push}
 use Rattle.wkt_access.specs.Values.{size}

@@ -1,3 +1,4 @@
+-- Arrays that the geometry doesn't have again are of none.
 use Rattle.std.proofs.Common.{◌≡◌, refl, ap, sym, ◌∙◌, inr, arith}
 use Rattle.wkt_types.specs.Tree.{tree}
 use Rattle.wkt_c.specs.Answer.{kind_number, dimension_number}

@@ -1,3 +1,4 @@
+-- Offsets that go up are those of a geometry, or of none.
 use Rattle.std.proofs.Common.{inr, refl}
 use Rattle.wkt_c.specs.Arrays.{joined}
 use Rattle.wkt_c.proofs.Handing.{match-of}

@@ -1,3 +1,4 @@
+-- The room grows until it is as large as asked for.
 use Rattle.std.proofs.Common.{◌≡◌, ◌<◌, ◌≤◌, ◌-◌, take}
 use Rattle.std.specs.Prelude.{vec_len}
 use Rattle.wkt_c.proofs.room.widen.Given as goal

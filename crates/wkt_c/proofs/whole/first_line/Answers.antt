@@ -1,3 +1,4 @@
+-- The first line is whole, with its line feed.
 use Rattle.std.proofs.Common.{inl}
 use Rattle.wkt_c.proofs.Pieces.{whole_line}
 use Rattle.wkt_c.proofs.whole.first_line.Goals as goal

@@ -1,3 +1,4 @@
+-- The place from which the search goes back stays within the rest.
 use Rattle.std.proofs.Common.{◌≤◌, length}
 use Rattle.wkt_c.proofs.whole.whole_within.Given as goal
 

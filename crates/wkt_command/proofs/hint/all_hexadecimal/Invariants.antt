@@ -1,3 +1,4 @@
+-- Whether the rest is hexadecimal decides it for the whole word.
 use Rattle.std.proofs.Common.{◌≡◌, length}
 use Rattle.std.specs.List.{list_all}
 use Rattle.std.specs.Char.{is_ascii_hexdigit}

@@ -1,3 +1,4 @@
+-- What is left of the word decides, at what is left of the text.
 use Rattle.std.proofs.Common.{◌≡◌, length}
 use Rattle.std.specs.Str.{str_to_ascii_uppercase}
 use Rattle.wkt_read.specs.Header.{begins}

@@ -1,3 +1,4 @@
+-- Whether the rest has an exponent decides it for all digits.
 use Rattle.std.proofs.Common.{◌≡◌, length}
 use Rattle.wkt_command.specs.Hints.{has_exponent}
 use Rattle.wkt_command.proofs.hint.has_exponent.Given as goal

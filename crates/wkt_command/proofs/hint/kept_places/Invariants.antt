@@ -1,3 +1,4 @@
+-- The count and the last place kept, with the rest, give the answer for all digits.
 use Rattle.std.proofs.Common.{◌≡◌, ◌+◌, ◌≤◌, length}
 use Rattle.wkt_command.specs.Hints.{kept_after}
 use Rattle.wkt_command.proofs.hint.kept_places.Given as goal

@@ -1,3 +1,4 @@
+-- The rest, and whether there was a digit, give the answer for all digits.
 use Rattle.std.proofs.Common.{◌≡◌, length, false}
 use Rattle.wkt_command.specs.Hints.{places_in}
 use Rattle.wkt_command.proofs.hint.places_in.Given as goal

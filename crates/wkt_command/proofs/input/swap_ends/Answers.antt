@@ -1,3 +1,4 @@
+-- The bytes so far are swapped, and the others are as they were.
 use Rattle.std.proofs.Common.{◌≡◌, ℕ, ◌<◌, ap, sym, ◌∙◌, arith, length}
 use Rattle.wkt_command.specs.Place.{other_end}
 use Rattle.wkt_command.proofs.InPlace.{replaced_next, length_same}

@@ -1,3 +1,4 @@
+-- What is done and what still waits make the value of the whole at each step, and the loop ends.
 use Rattle.std.proofs.Common.{◌≡◌, ◌+◌, ◌-◌, ◌*◌, ap, sym, ◌∙◌, length, take, drop, map, arith}
 use Rattle.wkt_types.specs.Tree as trees
 use Rattle.wkt_types.specs.Tree.{tree, trees_of}

@@ -1,3 +1,4 @@
+-- Each kind is the tree of its definition.
 use Rattle.std.proofs.Common.{rules, ◌≡◌, ap, sym, ◌∙◌, map}
 use Rattle.wkt_access.specs.declared.dimensions.Dimension.TheVariants.{XY}
 use Rattle.wkt_types.specs.Held.{held}

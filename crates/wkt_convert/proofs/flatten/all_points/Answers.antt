@@ -1,3 +1,4 @@
+-- The points so far are flat, or an empty one is the first error.
 use Rattle.std.proofs.Common.{ap}
 use Rattle.wkt_types.specs.Flattened.{point_or_fault}
 use Rattle.wkt_types.specs.Outcome.{empty_point}

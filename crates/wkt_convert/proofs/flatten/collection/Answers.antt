@@ -1,3 +1,4 @@
+-- What is done and what still waits make the outcome of the whole at each step, and the loop ends.
 use Rattle.std.proofs.Common.{◌≡◌, ◌+◌, ◌-◌, ◌*◌, ap, sym, ◌∙◌, length, take, drop, map, arith}
 use Rattle.std.proofs.lemmas.Result.{err_from_is_err_and}
 use Rattle.wkt_types.specs.Tree.{tree}

@@ -1,3 +1,4 @@
+-- A collection is the one with the members that were made.
 use Rattle.std.proofs.Common.{ap, sym, ◌∙◌}
 use Rattle.wkt_types.specs.Outcome.{value}
 use Rattle.wkt_flat.specs.Equal.{coord_eq}

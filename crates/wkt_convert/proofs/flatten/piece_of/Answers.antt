@@ -1,3 +1,4 @@
+-- Each kind has the flat value of its definition, or its error.
 use Rattle.std.proofs.Common.{ap, sym, ◌∙◌}
 use Rattle.std.proofs.lemmas.Result.{err_from_is_err_and}
 use Rattle.wkt_types.specs.Tree.{tree}

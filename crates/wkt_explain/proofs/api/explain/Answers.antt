@@ -1,3 +1,4 @@
+-- The message on a bad number comes only where the number type refuses one.
 use Rattle.std.proofs.Common.{◌∙◌, sym, length, false}
 use Rattle.wkt_read.specs.declared.messages.Message.TheVariants as message
 use Rattle.wkt_read.proofs.MessageTexts.{one-text}

@@ -1,3 +1,4 @@
+-- The bytes so far are white space.
 use Rattle.wkt_explain.proofs.Whites.{one_more, stops_at}
 use Rattle.wkt_explain.proofs.api.past_white.Goals as goal
 

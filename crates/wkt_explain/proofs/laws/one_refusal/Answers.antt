@@ -1,3 +1,4 @@
+-- A text is refused at no more than one place.
 use Rattle.wkt_explain.proofs.OnePlace.{one_place}
 use Rattle.wkt_explain.proofs.laws.one_refusal.Goals as goal
 

@@ -1,3 +1,4 @@
+-- Closing the parts and then the collections is closing all parentheses.
 use Rattle.wkt_explain.proofs.Closings.{closings_both}
 use Rattle.wkt_explain.proofs.table.closed.Goals as goal
 

@@ -1,3 +1,4 @@
+-- The first parenthesis that is open closes, or no parenthesis is open.
 use Rattle.std.proofs.Common.{◌+◌, ◌-◌, ◌∷◌, arith}
 use Rattle.wkt_read.specs.Placed.{lexemes_of}
 use Rattle.wkt_read.specs.Stream.{coming}

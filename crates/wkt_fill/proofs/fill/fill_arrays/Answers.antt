@@ -1,3 +1,4 @@
+-- The arrays that were filled are those of the front, or the text has no front or no arrays.
 use Rattle.wkt_fill.proofs.Finished.{filled, unfilled}
 use Rattle.wkt_fill.proofs.fill.fill_arrays.Goals as goal
 

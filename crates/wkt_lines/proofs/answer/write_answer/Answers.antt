@@ -1,3 +1,4 @@
+-- A line without a front, or without UTF-8, is answered with `refused`.
 use Rattle.std.proofs.Common.{codes, inl, inr, refl}
 use Rattle.wkt_lines.proofs.Answering.{answer_ok, answer_sink}
 use Rattle.wkt_lines.proofs.answer.write_answer.Goals as goal

@@ -1,3 +1,4 @@
+-- The text of a front is UTF-8.
 use Rattle.wkt_lines.proofs.Firsts.{text-utf8}
 use Rattle.wkt_lines.proofs.answer.write_front.Goals as goal
 

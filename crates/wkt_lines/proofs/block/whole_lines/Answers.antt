@@ -1,3 +1,4 @@
+-- The input up to its last line feed is whole lines.
 use Rattle.wkt_lines.proofs.Lining.{first_whole}
 use Rattle.wkt_lines.proofs.block.whole_lines.Goals as goal
 

@@ -1,3 +1,4 @@
+-- The answers to the lines so far are out or on the page, and an error says which.
 use Rattle.std.proofs.Common.{◌≡◌, ◌++◌, ◌-◌, ℕ, List, [], Some, Err, refl, sym, ap, ◌∙◌, take, drop, length, take-append-drop}
 use Rattle.wkt_num.specs.Sink.{next_count}
 use Rattle.wkt_lines.proofs.Answering.{write_map}

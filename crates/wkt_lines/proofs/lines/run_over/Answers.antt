@@ -1,3 +1,4 @@
+-- All bytes that the source had were taken.
 use Rattle.std.proofs.Common.{List, ℕ, sym, subst}
 use Rattle.std.specs.Io.KnownBytes.{Consumes}
 use Rattle.wkt_lines.proofs.Outcomes.{ok_map}

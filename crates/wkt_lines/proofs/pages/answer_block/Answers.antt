@@ -1,3 +1,4 @@
+-- The answers to the lines so far are out or on the page, and an error says which.
 use Rattle.std.proofs.Common.{◌≡◌, ◌+◌, ◌≤◌, [], length, length-drop, arith, Err, subst, sym, ap}
 use Rattle.wkt_lines.specs.Pages.{page_text, PutsOut}
 use Rattle.wkt_lines.proofs.Paging.{Paged, paged_none, paged_by, paged_drained, paged_next, near, on_write, on_write_count, on_memory, on_count, on_ok}

@@ -1,3 +1,4 @@
+-- The reply and its line feed were added, or the sink broke off.
 use Rattle.std.proofs.Common.{Err}
 use Rattle.wkt_lines.proofs.Adding.{sink_map, adds_more, breaks_longer}
 use Rattle.wkt_lines.proofs.reply.reply_to_line.Goals as goal

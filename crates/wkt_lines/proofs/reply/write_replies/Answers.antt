@@ -1,3 +1,4 @@
+-- The replies to the lines so far were added, and the next line's follows them.
 use Rattle.std.proofs.Common.{◌≡◌, [], ◌∷◌, ◌++◌, ◌≢◌, ◌∙◌, ap, Err, length, refl, arith}
 use Rattle.std.proofs.lemmas.Grind.{common_steps}
 use Rattle.wkt_lines.proofs.Answering.{one_more, one_reply}

@@ -1,3 +1,4 @@
+-- The answers to the whole lines that came so far are out, and the rest is held.
 use Rattle.std.proofs.Common.{◌≡◌, ◌++◌, ℕ, List, [], inl, inr, Err, refl, sym, ap, ◌∙◌, subst, take, drop, take-append-drop}
 use Rattle.std.proofs.lemmas.List.{append-nil}
 use Rattle.wkt_num.specs.Sink.{next_count}

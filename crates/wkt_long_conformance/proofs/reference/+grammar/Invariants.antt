@@ -1,3 +1,4 @@
+-- The calls of the slow program go one level down.
 use Rattle.wkt_long_conformance.proofs.reference.+grammar.Given as goal
 
 abbrev pub decreases-one : goal.decreases-one

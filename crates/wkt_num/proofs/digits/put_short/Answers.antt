@@ -1,3 +1,4 @@
+-- A digit more stands before those that are put, down to the first.
 use Rattle.std.proofs.Common.{◌∙◌, ◌+◌, ◌-◌, ◌/◌, ◌++◌, ◌<◌, ◌^◌, drop, set, ℕ, List, ap, arith, length-set}
 use Rattle.std.specs.Fmt.{decimal}
 use Rattle.wkt_num.proofs.Onto.{put-more, put-first, fewer}

@@ -1,3 +1,4 @@
+-- One, two or three digits, by where the first of them is that isn't zero.
 use Rattle.std.proofs.Common.{◌≡◌, ◌*◌, ◌/◌, ◌++◌, ℕ, drop, set, length, refl, arith, length-set}
 use Rattle.std.specs.Fmt.{decimal}
 use Rattle.wkt_num.proofs.Onto.{put-first, put-next, tenth, hundredth}

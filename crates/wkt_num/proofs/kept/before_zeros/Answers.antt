@@ -1,3 +1,4 @@
+-- The byte before the zeros so far is a zero too.
 use Rattle.std.proofs.Common.{◌≡◌, ◌<◌, ◌-◌, ℕ, List, get_or, inl, inr, ap, sym, ◌∙◌, arith}
 use Rattle.std.proofs.lemmas.Bool.{cases_eq}
 use Rattle.wkt_num.proofs.Placed.{zero-more}

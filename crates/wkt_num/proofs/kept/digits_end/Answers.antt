@@ -1,3 +1,4 @@
+-- One digit more, as far as they go.
 use Rattle.std.proofs.Common.{sym, ◌∙◌, arith}
 use Rattle.wkt_num.proofs.Placed.{digit-more}
 use Rattle.wkt_num.proofs.kept.digits_end.Goals as goal

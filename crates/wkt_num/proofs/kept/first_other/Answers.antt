@@ -1,3 +1,4 @@
+-- The lowest bit of the mask is the first byte that is no digit; with no bit all are digits.
 use Rattle.std.proofs.Common.{arith}
 use Rattle.wkt_num.proofs.Window.{is-first, all-digits}
 use Rattle.wkt_num.proofs.kept.first_other.Goals as goal

@@ -1,3 +1,4 @@
+-- The table has the class of each byte.
 use Rattle.wkt_num.proofs.Stops.{table-tells}
 use Rattle.wkt_num.proofs.kept.is_of_run.Goals as goal
 

@@ -1,3 +1,4 @@
+-- The text ends with the last digit that isn't zero, or before the point; a minus goes with the last zero.
 use Rattle.std.proofs.Common.{◌<◌, ◌+◌, subst, arith}
 use Rattle.wkt_num.specs.Parts.{HasZeros}
 use Rattle.wkt_num.proofs.Placed.{keeps-point, keeps-fraction}

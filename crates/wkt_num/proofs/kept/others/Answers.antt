@@ -1,3 +1,4 @@
+-- The mask has a bit for each byte of the window that is no digit.
 use Rattle.wkt_num.proofs.Window.{mask-of}
 use Rattle.wkt_num.proofs.kept.others.Goals as goal
 

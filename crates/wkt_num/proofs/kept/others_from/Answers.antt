@@ -1,3 +1,4 @@
+-- Without the lower bits it is the mask of the bytes from there on.
 use Rattle.wkt_num.proofs.Window.{minus-less}
 use Rattle.wkt_num.proofs.kept.others_from.Goals as goal
 

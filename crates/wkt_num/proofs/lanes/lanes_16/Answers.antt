@@ -1,3 +1,4 @@
+-- The lanes are the last bytes of the body, each less 48.
 use Rattle.std.proofs.Common.{arith}
 use Rattle.wkt_num.proofs.Vectors.{kept, lanes-are}
 use Rattle.wkt_num.proofs.lanes.lanes_16.Goals as goal

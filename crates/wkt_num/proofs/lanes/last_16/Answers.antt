@@ -1,3 +1,4 @@
+-- No lane is past 9 exactly if all bytes are digits, whose value the lanes have then.
 use Rattle.std.proofs.Common.{length, sym, ap, ◌∙◌, arith}
 use Rattle.wkt_num.proofs.Vectors.{none-over, over-mask, length-last, last-digits, last-value}
 use Rattle.wkt_num.specs.Lanes.{DigitLanes}

@@ -1,3 +1,4 @@
+-- Pairs and fours of digits make the number of eight.
 use Rattle.std.proofs.Common.{sym, ◌∙◌}
 use Rattle.wkt_num.proofs.Vectors.{pairs-of, alone, no-more}
 use Rattle.wkt_num.proofs.lanes.number_8.Goals as goal

@@ -1,3 +1,4 @@
+-- Each row of the table is that power of five, by computing all of them.
 use Rattle.std.proofs.Common.{◌^◌, ◌==◌, slice_index_or, refl, arith}
 use borrow.Author.Tests.{eqb-true}
 use Rattle.wkt_num.specs.declared.powers.TheConstants.{FIVES}

@@ -1,3 +1,4 @@
+-- No fraction has no point; any other is put behind the point without the zeros at its end.
 use Rattle.wkt_num.proofs.Printed.{no-fraction, some-fraction}
 use Rattle.wkt_num.proofs.printing.put_fraction.Goals as goal
 

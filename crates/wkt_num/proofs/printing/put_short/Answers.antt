@@ -1,3 +1,4 @@
+-- The fraction, padded to eighteen places, stands behind the point, and its last zeros are cut.
 use Rattle.std.proofs.Common.{◌∙◌, ◌++◌, ◌*◌, ◌/◌, ◌≤◌, ◌≡◌, length, take, refl, ap, arith}
 use Rattle.wkt_num.proofs.Padded.{length-padded}
 use Rattle.wkt_num.proofs.Eighteen.{small, scaled, cut, all, whole-ends, whole-long, copied, copied-there, copied-long}

@@ -1,3 +1,4 @@
+-- The whole part and the fraction are the text of the units.
 use Rattle.wkt_num.proofs.Printed.{fraction-less, units-piece}
 use Rattle.wkt_num.proofs.printing.put_small.Goals as goal
 

@@ -1,3 +1,4 @@
+-- Two eights of digits are the number padded to sixteen.
 use Rattle.std.proofs.Common.{◌∙◌, ◌++◌, ◌/◌, ◌%◌, sym, refl, ap₂, arith, append_assoc}
 use Rattle.wkt_num.specs.Padded.{padded}
 use Rattle.wkt_num.proofs.Eighteen.{padded-two}

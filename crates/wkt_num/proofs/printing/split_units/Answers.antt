@@ -1,3 +1,4 @@
+-- The power of ten fits 128 bits and isn't zero.
 use Rattle.std.proofs.Common.{arith}
 use Rattle.wkt_num.specs.Units.{ten_pos}
 use Rattle.wkt_num.proofs.Printed.{ten-fits}

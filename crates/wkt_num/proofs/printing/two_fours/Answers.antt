@@ -1,3 +1,4 @@
+-- The lanes are the digits of two numbers below ten thousand.
 use Rattle.wkt_num.proofs.Fours.{two-fours}
 use Rattle.wkt_num.proofs.printing.two_fours.Goals as goal
 

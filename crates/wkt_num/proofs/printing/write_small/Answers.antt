@@ -1,3 +1,4 @@
+-- The bytes that were put are ASCII, so they are UTF-8.
 use Rattle.std.proofs.Common.{subst, sym, arith}
 use Rattle.std.specs.Str.{IsUtf8}
 use Rattle.std.proofs.lemmas.Str.{IsUtf8-from_ascii}

@@ -1,3 +1,4 @@
+-- The leading bits of the mask count the zeros at the end of the digits.
 use Rattle.std.proofs.Common.{◌++◌, eqb, not, refl, sym, ap, ◌∙◌, arith, w8}
 use Rattle.std.specs.List.{prefix_len}
 use lib.Count.{count_trailing_zeros}

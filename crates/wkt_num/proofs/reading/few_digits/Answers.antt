@@ -1,3 +1,4 @@
+-- The digits are those of a body without a point, or with the point among them.
 use Rattle.std.proofs.Common.{◌<◌, ◌-◌, ◌^◌, ℕ, length, refl, ap, arith}
 use Rattle.wkt_num.proofs.Short.{whole-body, point-body}
 use Rattle.wkt_num.proofs.reading.few_digits.Goals as goal

@@ -1,3 +1,4 @@
+-- The whole part, the fraction and its last zeros make the units of the body.
 use Rattle.std.proofs.Common.{◌≡◌, ◌+◌, ◌*◌, ◌-◌, ◌<◌, ◌≤◌, ◌^◌, ℕ, List, drop, length, sym, ap, subst, ◌∙◌, arith, length-drop}
 use Rattle.std.specs.Str.Parse.{AllDigits, digits_value}
 use Rattle.wkt_num.proofs.Short.{near-fraction, near-whole, near-tail, near-body}

@@ -1,3 +1,4 @@
+-- The digits around the point make the units of the body.
 use Rattle.std.proofs.Common.{◌<◌, length, ◌∙◌, arith}
 use Rattle.wkt_num.proofs.Short.{whole-body, point-body}
 use Rattle.wkt_num.proofs.reading.read_short.Goals as goal

@@ -1,3 +1,4 @@
+-- A magnitude that was read is small enough for its sign.
 use Rattle.std.proofs.Common.{◌^◌}
 use Rattle.wkt_num.specs.ReadDecimal.{magnitude-small}
 use Rattle.wkt_num.proofs.reading.read_signed.Goals as goal

@@ -1,3 +1,4 @@
+-- The geometry at the front of the tokens is read, or none begins there, and the tokens say where it ended.
 use Rattle.wkt_read.proofs.ParserLemmas.Answering.{advances}
 use Rattle.wkt_read.proofs.ParserLemmas.Valued.{found, taken, none, early, free, to-bad, to-refusal}
 use Rattle.wkt_read.proofs.api.read.Goals as goal

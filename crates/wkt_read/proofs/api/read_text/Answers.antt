@@ -1,3 +1,4 @@
+-- What was read of a text's lexemes is what the text has at its front, in bytes.
 use Rattle.std.proofs.Common.{◌∙◌, sym, subst}
 use Rattle.wkt_types.specs.declared.geometry.Wkt.{Wkt}
 use Rattle.wkt_read.specs.Ahead.{rest}

@@ -1,3 +1,4 @@
+-- Whether the bytes from here on have a space decides it for the text.
 use Rattle.std.proofs.Common.{◌≡◌, drop}
 use Rattle.wkt_read.specs.Header.{has_space}
 use Rattle.wkt_read.proofs.infer.has_space.Given as goal

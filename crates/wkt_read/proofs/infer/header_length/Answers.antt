@@ -1,3 +1,4 @@
+-- A byte more isn't where the header ends; it ends at `(`, or before EMPTY.
 use Rattle.std.proofs.Common.{◌∙◌, sym, arith, ap, codes}
 use Rattle.wkt_read.specs.Header.{begins}
 use Rattle.wkt_read.proofs.LawLemmas.HeaderPlaces.{header_step, header_paren, header_empty, header_none, empty_ascii, is_test, not_test, rest_text}

@@ -1,3 +1,4 @@
+-- The word doesn't begin at the places so far.
 use Rattle.std.proofs.Common.{◌∙◌, sym, arith}
 use Rattle.wkt_read.proofs.LawLemmas.HeaderPlaces.{holds_next}
 use Rattle.wkt_read.proofs.infer.holds.Goals as goal

@@ -1,3 +1,4 @@
+-- The header ends where the definition cuts it, or there is none.
 use Rattle.std.proofs.Common.{◌≡◌, ◌∙◌, sym, ap, subst, take}
 use Rattle.wkt_read.specs.Header.{header_rule, header_cut, cut_answer}
 use Rattle.wkt_read.specs.HeaderSteps.{header_answer}

@@ -1,3 +1,4 @@
+-- The bytes so far begin with the word, in any case of their letters.
 use Rattle.std.proofs.Common.{◌∙◌, sym}
 use Rattle.wkt_read.proofs.LawLemmas.HeaderPlaces.{begins_short}
 use Rattle.wkt_read.proofs.keywords.begins.Goals as goal

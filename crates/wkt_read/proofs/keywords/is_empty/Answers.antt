@@ -1,3 +1,4 @@
+-- A run is EMPTY in any case of its letters.
 use Rattle.wkt_read.proofs.LawLemmas.Spelling.{empty-word}
 use Rattle.wkt_read.proofs.keywords.is_empty.Goals as goal
 

@@ -1,3 +1,4 @@
+-- Bytes are EMPTY in any case of their letters.
 use Rattle.wkt_read.proofs.LawLemmas.Spelling.{empty-word}
 use Rattle.wkt_read.proofs.keywords.is_empty_in.Goals as goal
 

@@ -1,3 +1,4 @@
+-- The bytes of a run are looked up.
 use Rattle.std.proofs.Common.{subst}
 use Rattle.wkt_read.specs.Grammar.{kind_word}
 use Rattle.wkt_read.specs.Keywords.{Names}

@@ -1,3 +1,4 @@
+-- What follows the word, where the run begins with it.
 use Rattle.std.proofs.Common.{◌∙◌, sym, length}
 use Rattle.wkt_read.proofs.LawLemmas.HeaderPlaces.{upper_long, upper_rest}
 use Rattle.wkt_read.proofs.keywords.strip.Goals as goal

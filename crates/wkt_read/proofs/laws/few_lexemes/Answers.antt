@@ -1,3 +1,4 @@
+-- A text has no more lexemes than bytes.
 use Rattle.wkt_read.proofs.LawLemmas.Few.{few}
 use Rattle.wkt_read.proofs.laws.few_lexemes.Goals as goal
 

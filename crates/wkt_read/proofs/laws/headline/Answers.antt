@@ -1,3 +1,4 @@
+-- The parts of the main statement, each by its law.
 use Rattle.wkt_read.proofs.laws.headline.Goals as goal
 
 pub returns : goal.returns

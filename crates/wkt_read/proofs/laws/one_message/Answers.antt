@@ -1,3 +1,4 @@
+-- A text has a front, or exactly one message.
 use Rattle.wkt_read.proofs.ParserLemmas.OneMessage.{one-message}
 use Rattle.wkt_read.proofs.laws.one_message.Goals as goal
 

@@ -1,3 +1,4 @@
+-- Two well-formed values have one text exactly if they are one.
 use Rattle.std.proofs.Common.{ap}
 use Rattle.wkt_access.specs.Texts.{text}
 use Rattle.wkt_read.proofs.LawLemmas.Spelled.{text_one}

@@ -1,3 +1,4 @@
+-- At most one `Wkt` holds a value as the readers make it.
 use Rattle.wkt_read.proofs.LawLemmas.OneWkt.{wkt-one}
 use Rattle.wkt_read.proofs.laws.one_wkt.Goals as goal
 

@@ -1,3 +1,4 @@
+-- The shape of a value that was read has no error, and its numbers are values.
 use Rattle.std.proofs.Common.{◌≡◌, sym, ap, subst}
 use Rattle.wkt_access.specs.Shapes.{shape_of}
 use Rattle.wkt_access.specs.Faults.{fault}

@@ -1,3 +1,4 @@
+-- What is displayed of the front is its text.
 use Rattle.std.proofs.Common.{ap, ◌∙◌}
 use Rattle.wkt_access.specs.Texts.{shape_text}
 use Rattle.wkt_types.proofs.Displays.{shown_is}

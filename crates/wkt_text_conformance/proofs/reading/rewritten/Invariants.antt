@@ -1,3 +1,4 @@
+-- Each front that is read leaves less of the text.
 use Rattle.std.proofs.Common.{length}
 use Rattle.wkt_text_conformance.proofs.reading.rewritten.Given as goal
 

@@ -1,3 +1,4 @@
+-- Each part, and each member of a collection, is put under its header.
 use Rattle.std.proofs.Common.{◌≡◌, ◌<◌, ◌+◌, ◌*◌, rules, ap, sym, ◌∙◌, arith, length, map}
 use Rattle.std.proofs.lemmas.List.{length-map}
 use Rattle.wkt_types.specs.Canonical.{canonical, parts_under, point_under, line_under, polygon_under}

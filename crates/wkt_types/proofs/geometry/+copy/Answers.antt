@@ -1,3 +1,4 @@
+-- The copies so far are the first members, with the same trees.
 use Rattle.std.proofs.Common.{◌≡◌, ◌++◌, ap, ◌∙◌, map}
 use Rattle.wkt_types.specs.Tree.{tree}
 use Rattle.wkt_types.proofs.TreeLemmas.{tree-point, tree-line_string, tree-polygon, tree-multi_point, tree-multi_line_string, tree-multi_polygon, tree-collection, tree-members, copied, copied-in, on-ok-map}

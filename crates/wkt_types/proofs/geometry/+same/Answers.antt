@@ -1,3 +1,4 @@
+-- The members so far are equal, and a comparison of two geometries is that of their trees.
 use Rattle.std.proofs.Common.{refl, ◌∙◌, sym, arith, ◌<◌, length}
 use Rattle.wkt_types.proofs.TreeLemmas.{members_ends, members_step, seen, tree-line_string, tree-multi_line_string, tree-multi_point, tree-multi_polygon, tree-point, tree-polygon}
 use Rattle.wkt_types.proofs.geometry.+same.Goals as goal

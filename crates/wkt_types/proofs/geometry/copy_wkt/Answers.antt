@@ -1,3 +1,4 @@
+-- The copy of each kind has the tree of the original.
 use Rattle.std.proofs.Common.{ap, sym, ◌∙◌}
 use Rattle.wkt_types.specs.Tree.{tree}
 use Rattle.wkt_types.specs.declared.geometry.Wkt.TheVariants as variants

@@ -1,3 +1,4 @@
+-- A line string is pushed behind the copies.
 use Rattle.std.proofs.Common.{ap, ◌∙◌}
 use Rattle.wkt_types.specs.Tree.{line_string}
 use Rattle.wkt_types.proofs.TreeLemmas.{tree-line_string, pushed}

@@ -1,3 +1,4 @@
+-- Line strings are pushed behind the copies.
 use Rattle.std.proofs.Common.{ap, ◌∙◌}
 use Rattle.wkt_types.specs.Tree.{multi_line_string}
 use Rattle.wkt_types.proofs.TreeLemmas.{tree-multi_line_string, pushed}

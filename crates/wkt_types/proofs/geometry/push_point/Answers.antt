@@ -1,3 +1,4 @@
+-- A point is pushed behind the copies.
 use Rattle.wkt_types.proofs.TreeLemmas.{tree-point, pushed}
 use Rattle.wkt_types.proofs.geometry.push_point.Goals as goal
 

@@ -1,3 +1,4 @@
+-- Points are pushed behind the copies.
 use Rattle.std.proofs.Common.{ap, ◌∙◌}
 use Rattle.wkt_types.specs.Tree.{multi_point}
 use Rattle.wkt_types.proofs.TreeLemmas.{tree-multi_point, pushed}

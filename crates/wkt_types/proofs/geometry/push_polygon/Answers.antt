@@ -1,3 +1,4 @@
+-- A polygon is pushed behind the copies.
 use Rattle.std.proofs.Common.{ap, ◌∙◌}
 use Rattle.wkt_types.specs.Tree.{polygon}
 use Rattle.wkt_types.proofs.TreeLemmas.{tree-polygon, pushed}

@@ -1,3 +1,4 @@
+-- Polygons are pushed behind the copies.
 use Rattle.std.proofs.Common.{ap, ◌∙◌}
 use Rattle.wkt_types.specs.Tree.{multi_polygon}
 use Rattle.wkt_types.proofs.TreeLemmas.{tree-multi_polygon, pushed}

@@ -1,3 +1,4 @@
+-- Two canonical geometries are equal exactly if their canonical values are.
 use Rattle.wkt_types.proofs.Canonicals.{canonical_one}
 use Rattle.wkt_types.proofs.laws.canonical_is_one.Goals as goal
 

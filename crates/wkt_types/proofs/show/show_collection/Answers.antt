@@ -1,3 +1,4 @@
+-- A collection without an error is displayed as its text; with one, nothing is.
 use Rattle.std.proofs.Common.{rules, ap}
 use Rattle.wkt_num.specs.Counted.{formatter_of}
 use Rattle.wkt_access.specs.Parts.{collection_of}

@@ -1,3 +1,4 @@
+-- A geometry without an error is displayed as its text; with one, nothing is.
 use Rattle.std.proofs.Common.{rules, ap}
 use Rattle.wkt_num.specs.Counted.{formatter_of}
 use Rattle.wkt_num.proofs.Handed.{displayed_styled}

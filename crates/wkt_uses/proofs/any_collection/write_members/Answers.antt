@@ -1,3 +1,4 @@
+-- The lines of the members so far were added; an error is the first member's that has one, or the sink's.
 use Rattle.std.proofs.Common.{refl, ap, ◌∙◌, Err}
 use Rattle.std.proofs.lemmas.List.{take_all}
 use Rattle.std.proofs.lemmas.Result.{err_from_is_err_and}

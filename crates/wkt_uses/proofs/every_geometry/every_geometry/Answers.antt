@@ -1,3 +1,4 @@
+-- The geometries so far begin the texts so far.
 use Rattle.wkt_uses.proofs.Ordering.{begins_more}
 use Rattle.wkt_uses.proofs.every_geometry.every_geometry.Goals as goal
 

@@ -1,3 +1,4 @@
+-- The key is read as the flat value, if that is plain.
 use Rattle.std.proofs.Common.{string_bytes}
 use Rattle.wkt.specs.FlatTree.{flat_tree}
 use Rattle.wkt.specs.Back.{wkt_text}

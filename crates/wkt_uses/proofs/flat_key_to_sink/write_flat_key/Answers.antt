@@ -1,3 +1,4 @@
+-- What went out is read as the flat value, if that is plain.
 use Rattle.wkt.specs.FlatTree.{flat_tree}
 use Rattle.wkt_uses.proofs.FlatKeys.{after_ok, names_plain}
 use Rattle.wkt_uses.proofs.flat_key_to_sink.write_flat_key.Goals as goal

@@ -1,3 +1,4 @@
+-- The JSON text is that of the object.
 use Rattle.std.proofs.Common.{◌≡◌, codes, rules}
 use Rattle.serde_json.specs.Data.{null, object, member, no_members}
 use Rattle.serde_json.specs.View.{view}

@@ -1,3 +1,4 @@
+-- The JSON text is that of the object with the place.
 use Rattle.std.proofs.Common.{◌≡◌, codes, rules}
 use Rattle.serde_json.specs.Data.{number, unsigned, object, member, no_members}
 use Rattle.serde_json.specs.View.{view}

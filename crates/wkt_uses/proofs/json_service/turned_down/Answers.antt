@@ -1,3 +1,4 @@
+-- A text without a front is refused, and the place is where `explain` says.
 use Rattle.std.proofs.Common.{Result, Ok, Err, IfOk}
 use Rattle.wkt_uses.proofs.json_service.turned_down.Goals as goal
 

@@ -1,3 +1,4 @@
+-- The key is read as the canonical value of the geometry.
 use Rattle.std.proofs.Common.{string_bytes}
 use Rattle.wkt.specs.Shapes.{canon}
 use Rattle.wkt_uses.proofs.Shows.{front_of_text}

@@ -1,3 +1,4 @@
+-- No more keys are counted than there are lines.
 use Rattle.std.proofs.Common.{arith}
 use Rattle.std.proofs.lemmas.Grind.{text_counts}
 use Rattle.wkt_uses.proofs.key_counts.counts.Goals as goal

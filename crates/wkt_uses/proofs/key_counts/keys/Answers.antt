@@ -1,3 +1,4 @@
+-- The keys so far are those of the lines so far that are read.
 use Rattle.std.proofs.Common.{◌∙◌, ap, string_bytes}
 use Rattle.wkt_uses.proofs.KeyLists.{more_none_at, more_key_at}
 use Rattle.wkt_uses.proofs.key_counts.keys.Goals as goal

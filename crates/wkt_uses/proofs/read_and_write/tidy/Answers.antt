@@ -1,3 +1,4 @@
+-- What is displayed is the text of the front's value.
 use Rattle.std.proofs.Common.{ap, ◌∙◌}
 use Rattle.wkt.specs.Texts.{shape_text}
 use Rattle.wkt.proofs.Displays.{shown_is}

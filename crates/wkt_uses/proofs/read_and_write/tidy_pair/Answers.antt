@@ -1,3 +1,4 @@
+-- Both texts are those of the values of the fronts.
 use Rattle.std.proofs.Common.{ap, ◌∙◌}
 use Rattle.wkt.specs.Shapes.{shape_of}
 use Rattle.wkt.specs.Texts.{shape_text}

@@ -1,3 +1,4 @@
+-- A text that isn't refused has a front, so no error of its text comes.
 use Rattle.wkt.specs.Explained.{HasFront}
 use Rattle.wkt.specs.Front.{HasNoFront}
 use Rattle.wkt_uses.proofs.refusal.answer_to.Goals as goal

@@ -1,3 +1,4 @@
+-- Two fronts are the same exactly if their texts are.
 use Rattle.wkt.specs.Shapes.{shape_of}
 use Rattle.wkt_uses.proofs.Shows.{same_text}
 use Rattle.wkt_uses.proofs.same_place.same_place.Goals as goal

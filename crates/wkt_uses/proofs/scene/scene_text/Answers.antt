@@ -1,3 +1,4 @@
+-- The text is read as the canonical value of the scene.
 use Rattle.std.proofs.Common.{string_bytes}
 use Rattle.wkt.specs.Shapes.{canon}
 use Rattle.wkt.specs.Whole.{read_signed}

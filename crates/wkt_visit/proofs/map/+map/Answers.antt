@@ -1,3 +1,4 @@
+-- Each part of each kind is mapped, and each member of a collection.
 use Rattle.std.proofs.Common.{ap, sym, ◌∙◌, map}
 use Rattle.wkt_flat.specs.Tree.{Flat, flat_tree, flats_of}
 use Rattle.wkt_flat.proofs.TreeLemmas.{flat-point, flat-line, flat-line_string, flat-polygon, flat-multi_point, flat-multi_line_string, flat-multi_polygon, flat-rect, flat-triangle, flat-collection, flat-members}

@@ -1,3 +1,4 @@
+-- The coordinates so far are mapped, in order.
 use Rattle.wkt_flat.proofs.Members.{grown}
 use Rattle.wkt_visit.proofs.map.map_each.Goals as goal
 

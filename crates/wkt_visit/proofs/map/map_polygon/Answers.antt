@@ -1,3 +1,4 @@
+-- The exterior and the interiors are mapped, and rings stay closed.
 use Rattle.std.proofs.Common.{ap, ◌∙◌, subst, map}
 use Rattle.std.specs.List.{AllByRecursion}
 use Rattle.wkt_flat.specs.Equal.{coord_eq, coord_exact}

@@ -1,3 +1,4 @@
+-- The polygons so far are mapped, in order.
 use Rattle.wkt_visit.specs.Mapped.{rings_mapped}
 use Rattle.wkt_flat.proofs.Members.{grown}
 use Rattle.wkt_visit.proofs.map.map_polygons.Goals as goal

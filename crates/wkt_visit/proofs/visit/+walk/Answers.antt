@@ -1,3 +1,4 @@
+-- The members so far are visited, one after the other.
 use Rattle.std.proofs.Common.{ap, sym, ◌∙◌, subst}
 use Rattle.wkt_flat.specs.Tree.{flat_tree, flat_members}
 use Rattle.wkt_flat.proofs.TreeLemmas.{flat-members}

@@ -1,3 +1,4 @@
+-- The coordinates so far are visited, in order.
 use Rattle.wkt_visit.proofs.Visiting.{visits_next_self}
 use Rattle.wkt_visit.proofs.visit.visit_each.Goals as goal
 

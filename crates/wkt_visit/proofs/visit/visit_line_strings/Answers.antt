@@ -1,3 +1,4 @@
+-- The line strings so far are visited, in order.
 use Rattle.std.proofs.Common.{subst, ◌∙◌}
 use Rattle.wkt_visit.specs.Visits.{Visits}
 use Rattle.wkt_visit.proofs.Visiting.{visits_next}

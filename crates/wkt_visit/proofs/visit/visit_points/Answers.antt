@@ -1,3 +1,4 @@
+-- The points so far are visited, in order.
 use Rattle.wkt_visit.proofs.Visiting.{visits_next_one}
 use Rattle.wkt_visit.proofs.visit.visit_points.Goals as goal
 

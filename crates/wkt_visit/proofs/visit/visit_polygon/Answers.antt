@@ -1,3 +1,4 @@
+-- The exterior is visited, and then the interiors.
 use Rattle.std.proofs.Common.{subst, ap₂, ◌∙◌, ◌++◌, flat_map}
 use Rattle.wkt_visit.specs.Visits.{Visits}
 use Rattle.wkt_visit.proofs.Visiting.{visits_then}

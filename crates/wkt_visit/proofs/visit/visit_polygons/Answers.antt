@@ -1,3 +1,4 @@
+-- The polygons so far are visited, in order.
 use Rattle.wkt_visit.specs.Coords.{polygon_coords}
 use Rattle.wkt_visit.proofs.Visiting.{visits_next}
 use Rattle.wkt_visit.proofs.visit.visit_polygons.Goals as goal

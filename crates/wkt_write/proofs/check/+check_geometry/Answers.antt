@@ -1,4 +1,4 @@
--- The first members have no fault, or the next one has the first.
+-- The first members have no error, or the next one has the first.
 use Rattle.std.proofs.Common.{rules, ◌<◌, ◌∙◌}
 use Rattle.std.proofs.lemmas.Result.{err_from_is_err_and}
 use Rattle.wkt_write.proofs.Depth.{depth, member_below}

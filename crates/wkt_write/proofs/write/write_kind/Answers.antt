@@ -1,4 +1,4 @@
--- The check's fault is the writer's; without one, what the second pass leaves is.
+-- The check's error is the writer's; without one, what the second pass leaves is.
 use Rattle.std.proofs.lemmas.Result.{err_from_is_err_and}
 use Rattle.wkt_write.proofs.Canon.{lawful}
 use Rattle.wkt_write.proofs.Refusals.{refusal}

@@ -1,3 +1,4 @@
+-- The bytes that a source gave are answered as the definition says.
 use Rattle.std.proofs.Common.{rules}
 use Rattle.wkt.proofs.Texts.{source_answers}
 use Rattle.wkt.proofs.from_text.AnyTryFromWkt.try_from_wkt_reader.Goals as goal

@@ -1,4 +1,4 @@
--- What is accepted of a piece is what the sink is given.
+-- The sink is given the accepted part of a piece.
 use Rattle.std.proofs.Common.{ap}
 use Rattle.wkt_num.specs.Sink.{next_count}
 use Rattle.wkt_bytes.proofs.wrapper.WriterWrapperTextSink.write_str.Goals as goal

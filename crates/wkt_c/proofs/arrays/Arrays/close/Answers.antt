@@ -1,3 +1,4 @@
+-- A polygon ends behind the rings so far.
 use Rattle.std.proofs.Common.{refl}
 use Rattle.wkt_c.proofs.Steps.{polygon-closed, ok-map}
 use Rattle.wkt_c.proofs.arrays.Arrays.close.Goals as goal

@@ -1,3 +1,4 @@
+-- The line strings so far are rings, in order.
 use Rattle.std.proofs.Common.{rules, map, arith}
 use Rattle.wkt_types.specs.Values.{line_string_numbers}
 use Rattle.wkt_types.specs.Coords.{numbers_of}

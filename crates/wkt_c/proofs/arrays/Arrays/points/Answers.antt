@@ -1,3 +1,4 @@
+-- The points so far are rings, in order.
 use Rattle.std.proofs.Common.{rules, arith}
 use Rattle.wkt_c.specs.Arrays.{joined, member_numbers}
 use Rattle.wkt_c.proofs.Large.{full-in, err-map, in-mapped}

@@ -1,3 +1,4 @@
+-- The polygons so far are there with their rings, in order.
 use Rattle.std.proofs.Common.{rules, map, arith}
 use Rattle.wkt_types.specs.Values.{line_string_numbers, polygon_numbers}
 use Rattle.wkt_c.specs.Arrays.{numbers_in}

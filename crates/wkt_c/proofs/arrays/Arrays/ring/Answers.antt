@@ -1,3 +1,4 @@
+-- A ring more is there, with the numbers of its coordinates.
 use Rattle.std.proofs.Common.{refl, sym, ap, subst, flat_map, ◌∙◌, ◌++◌, rules}
 use Rattle.std.proofs.lemmas.List.{length-map}
 use Rattle.std.proofs.lemmas.List.Folds.{flat_map-map}

@@ -1,3 +1,4 @@
+-- The arrays are those of the geometry, by its kind; a collection has none.
 use Rattle.std.proofs.Common.{rules, map, [], IfErr}
 use Rattle.wkt_types.specs.Values.{polygon_numbers}
 use Rattle.wkt_c.specs.Arrays.{member_numbers, numbers_in}

@@ -1,3 +1,4 @@
+-- A row more has its text and its status.
 use Rattle.wkt_c.proofs.Handing.{match-map}
 use Rattle.wkt_c.proofs.column.Rows.add.Goals as goal
 

@@ -1,3 +1,4 @@
+-- A row more has its arrays and its status.
 use Rattle.wkt_c.proofs.Handing.{match-map}
 use Rattle.wkt_c.proofs.column_arrays.ArrayRows.add.Goals as goal
 

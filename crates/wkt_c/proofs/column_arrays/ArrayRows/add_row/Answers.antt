@@ -1,3 +1,4 @@
+-- A row is null, refused, followed by more than it may be, or has its arrays.
 use Rattle.wkt_c.specs.Answer.{places_in, asks_whole}
 use Rattle.std.proofs.Common.{inl}
 use Rattle.wkt_c.proofs.Handing.{match-map}

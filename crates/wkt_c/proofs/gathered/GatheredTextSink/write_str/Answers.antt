@@ -1,5 +1,7 @@
+-- A piece stands behind what was gathered, or all is as it was.
 use Rattle.std.proofs.Common.{◌∙◌, ◌++◌, ap}
-use Rattle.wkt_num.specs.Sink.{none_grew, next_count}
+use Rattle.wkt_num.specs.Sink.{next_count}
+use Rattle.wkt_num.proofs.Grown.{none_grew}
 use Rattle.wkt_c.specs.Gathered.{gathered}
 use Rattle.wkt_c.proofs.gathered.GatheredTextSink.write_str.Goals as goal
 

@@ -1,3 +1,4 @@
+-- The flat value is the multipoint of the points.
 use Rattle.std.proofs.Common.{ap, sym, ◌∙◌}
 use Rattle.wkt_types.specs.Outcome.{value}
 use Rattle.wkt_flat.specs.Tree.{Flat}

@@ -1,3 +1,4 @@
+-- The tree is that of the collection that was made.
 use Rattle.std.proofs.Common.{ap, sym, ◌∙◌}
 use Rattle.wkt_access.specs.declared.dimensions.Dimension.TheVariants.{XY}
 use Rattle.wkt_types.specs.Tree as trees

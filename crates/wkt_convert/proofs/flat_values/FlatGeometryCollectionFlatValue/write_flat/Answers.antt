@@ -1,3 +1,4 @@
+-- The text is that of the members, gathered as a collection.
 use Rattle.wkt_access.proofs.Members.{gathered_each}
 use Rattle.wkt_flat.specs.Shape.{flat_shapes}
 use Rattle.wkt_flat.specs.Tree.{flat_trees}

@@ -1,3 +1,4 @@
+-- The tree is that of the line string that was made.
 use Rattle.std.proofs.Common.{ap, ◌∙◌}
 use Rattle.wkt_types.specs.Tree as trees
 use Rattle.wkt_convert.proofs.Members.{tree-line_string}

@@ -1,3 +1,4 @@
+-- The tree is that of the multipoint that was made.
 use Rattle.std.proofs.Common.{rules, ◌≡◌, ap, ◌∙◌, map}
 use Rattle.wkt_access.specs.declared.dimensions.Dimension.TheVariants.{XY}
 use Rattle.wkt_types.specs.Held.{held}

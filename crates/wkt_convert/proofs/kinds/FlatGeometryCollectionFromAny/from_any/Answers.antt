@@ -1,3 +1,4 @@
+-- The collection has the members of its tree.
 use Rattle.std.proofs.Common.{ap, sym, subst, ◌∙◌}
 use Rattle.wkt_types.specs.Outcome.{Answers}
 use Rattle.wkt_types.specs.Tree.{Tree, tree}

@@ -1,3 +1,4 @@
+-- A flat value of another kind is no line, and its kind is reported.
 use Rattle.wkt_convert.proofs.FlatKinds.{no_line}
 use Rattle.wkt_convert.proofs.kinds.FlatLineOneKind.of_kind.Goals as goal
 

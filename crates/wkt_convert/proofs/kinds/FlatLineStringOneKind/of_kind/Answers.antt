@@ -1,3 +1,4 @@
+-- A flat value of another kind is no line string, and its kind is reported.
 use Rattle.wkt_convert.proofs.FlatKinds.{no_line_string}
 use Rattle.wkt_convert.proofs.kinds.FlatLineStringOneKind.of_kind.Goals as goal
 

@@ -1,3 +1,4 @@
+-- A flat value of another kind is no list of line strings, and its kind is reported.
 use Rattle.wkt_convert.proofs.FlatKinds.{no_line_strings}
 use Rattle.wkt_convert.proofs.kinds.FlatMultiLineStringOneKind.of_kind.Goals as goal
 

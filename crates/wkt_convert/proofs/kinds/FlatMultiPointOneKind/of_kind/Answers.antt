@@ -1,3 +1,4 @@
+-- A flat value of another kind is no multipoint, and its kind is reported.
 use Rattle.wkt_convert.proofs.FlatKinds.{no_points}
 use Rattle.wkt_convert.proofs.kinds.FlatMultiPointOneKind.of_kind.Goals as goal
 

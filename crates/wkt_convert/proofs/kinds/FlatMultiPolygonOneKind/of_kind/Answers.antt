@@ -1,3 +1,4 @@
+-- A flat value of another kind is no multipolygon, and its kind is reported.
 use Rattle.wkt_convert.proofs.FlatKinds.{no_polygons}
 use Rattle.wkt_convert.proofs.kinds.FlatMultiPolygonOneKind.of_kind.Goals as goal
 

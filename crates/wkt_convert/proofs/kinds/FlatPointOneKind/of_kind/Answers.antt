@@ -1,3 +1,4 @@
+-- A flat value of another kind is no point, and its kind is reported.
 use Rattle.wkt_convert.proofs.FlatKinds.{no_point}
 use Rattle.wkt_convert.proofs.kinds.FlatPointOneKind.of_kind.Goals as goal
 

@@ -1,3 +1,4 @@
+-- A flat value of another kind is no polygon, and its kind is reported.
 use Rattle.wkt_convert.proofs.FlatKinds.{no_rings}
 use Rattle.wkt_convert.proofs.kinds.FlatPolygonOneKind.of_kind.Goals as goal
 

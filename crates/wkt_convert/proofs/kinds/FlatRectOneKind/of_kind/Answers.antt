@@ -1,3 +1,4 @@
+-- A flat value of another kind is no rectangle, and its kind is reported.
 use Rattle.wkt_convert.proofs.FlatKinds.{no_corners}
 use Rattle.wkt_convert.proofs.kinds.FlatRectOneKind.of_kind.Goals as goal
 

@@ -1,3 +1,4 @@
+-- A flat value of another kind is no triangle, and its kind is reported.
 use Rattle.wkt_convert.proofs.FlatKinds.{no_triangle}
 use Rattle.wkt_convert.proofs.kinds.FlatTriangleOneKind.of_kind.Goals as goal
 

@@ -1,3 +1,4 @@
+-- The string has the text of the flat value; without memory there is none.
 use Rattle.std.proofs.Common.{◌≡◌, ℕ, List, subst, string_bytes}
 use Rattle.std.specs.Prelude.{IfOk, OnOk}
 use Rattle.wkt_access.specs.WellFormed.{IsWellFormed}

@@ -1,3 +1,4 @@
+-- The sink took the text of the flat value, or the error is the sink's, that of the shape, or memory's.
 use Rattle.std.proofs.Common.{ℕ, List, OnOk, subst}
 use Rattle.std.specs.Io.KnownBytes.{Appends}
 use Rattle.wkt_bytes.specs.Sinks.{BeginningOut}

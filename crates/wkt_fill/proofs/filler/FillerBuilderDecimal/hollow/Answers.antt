@@ -1,3 +1,4 @@
+-- A polygon without rings adds nothing but its end.
 use Rattle.wkt_fill.proofs.Doing.{hollowed}
 use Rattle.wkt_fill.proofs.filler.FillerBuilderDecimal.hollow.Goals as goal
 

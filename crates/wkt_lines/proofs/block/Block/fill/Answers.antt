@@ -1,3 +1,4 @@
+-- What came stands behind what was held.
 use Rattle.std.proofs.Common.{◌≡◌, ◌≤◌, ◌+◌, ◌++◌, ℕ, List, length, take, ap, ◌∙◌, arith, rules}
 use Rattle.std.proofs.lemmas.List.{with_items_is, places, length-take-le}
 use Rattle.wkt_lines.proofs.Feeding.{comes}

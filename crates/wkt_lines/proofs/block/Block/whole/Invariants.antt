@@ -1,3 +1,4 @@
+-- No line feed stands behind this place.
 use Rattle.std.proofs.Common.{◌≡◌, ◌≢◌, ℕ, ◌≤◌, ◌<◌, length, get_or}
 use Rattle.wkt_lines.proofs.block.Block.whole.Given as goal
 

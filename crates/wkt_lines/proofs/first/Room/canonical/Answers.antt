@@ -1,3 +1,4 @@
+-- The text stands at the front of the room, which has its size.
 use Rattle.std.proofs.Common.{◌≡◌, ◌≤◌, length, arith}
 use Rattle.wkt_lines.proofs.Firsts.{text-back}
 use Rattle.wkt_lines.proofs.first.Room.canonical.Goals as goal

@@ -1,3 +1,4 @@
+-- The first line alone is answered as the first of the input.
 use Rattle.std.proofs.Common.{◌≡◌, ◌∙◌, ap, length, take, ◌+◌}
 use Rattle.wkt_events.specs.Left.{before_feed}
 use Rattle.wkt_lines.specs.First.{AnswersFirst, room_bytes}

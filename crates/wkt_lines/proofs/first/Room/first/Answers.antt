@@ -1,3 +1,4 @@
+-- A line that ends nearby is answered with the bytes nearby alone.
 use Rattle.std.proofs.Common.{◌≡◌, arith, ◌∙◌, ap, length, length-take, take, ◌+◌}
 use Rattle.wkt_events.specs.Left.{before_feed}
 use Rattle.wkt_lines.proofs.Firsts.{first-of, near-line}

@@ -1,3 +1,4 @@
+-- A reply to the first line is on the page, or the page is as it was.
 use Rattle.std.proofs.Common.{◌≡◌, ◌+◌, ◌++◌, ◌∷◌, [], List, ℕ, subst, sym, ap, ◌∙◌, take, length, arith}
 use Rattle.std.proofs.Math.Seq.{take-append_seam}
 use Rattle.wkt_lines.specs.Pages.{page_text, reply_of}

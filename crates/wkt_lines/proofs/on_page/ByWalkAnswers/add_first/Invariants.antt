@@ -1,3 +1,4 @@
+-- The page grows until the answer fits.
 use Rattle.std.proofs.Common.{◌≡◌, ◌-◌, ◌^◌, length}
 use Rattle.std.specs.Prelude.{vec_len}
 use Rattle.wkt_lines.specs.Pages.{page_text, HasRoomFor}

@@ -1,5 +1,7 @@
+-- A piece stands behind the page's text, or the page is as it was.
 use Rattle.std.proofs.Common.{◌∙◌, ◌++◌, ap}
-use Rattle.wkt_num.specs.Sink.{none_grew, next_count}
+use Rattle.wkt_num.specs.Sink.{next_count}
+use Rattle.wkt_num.proofs.Grown.{none_grew}
 use Rattle.wkt_lines.specs.Pages.{page_text}
 use Rattle.wkt_lines.proofs.page.PageTextSink.write_str.Goals as goal
 

@@ -1,3 +1,4 @@
+-- A line is what stands before the next line feed, or at the end.
 use Rattle.std.proofs.Common.{sym, subst}
 use Rattle.std.specs.Io.KnownBytes.{prepend_known}
 use Rattle.wkt_lines.specs.Reading.{source_of, line_of, unread, to_come, GivesLine}

@@ -1,3 +1,4 @@
+-- No line feed was seen in what came so far.
 use Rattle.std.proofs.Common.{◌≡◌, ◌+◌, ◌≤◌, ℕ, List, length, take, drop, arith, ap, sym, ◌∙◌, subst, length-append}
 use Rattle.std.proofs.KnownBytes.{Keeps-trans}
 use Rattle.wkt_lines.specs.Splitting.{before_feed, after_feed}

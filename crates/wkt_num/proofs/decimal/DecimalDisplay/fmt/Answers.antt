@@ -1,3 +1,4 @@
+-- What is displayed is the decimal's text, plain and under the formatter's options.
 use Rattle.std.proofs.Common.{rules}
 use Rattle.wkt_num.proofs.Calls.{when_ok}
 use Rattle.wkt_num.proofs.Handed.{displayed_styled, displayed_plain}

@@ -1,3 +1,4 @@
+-- A piece that the formatter took was written whatever its options.
 use Rattle.std.proofs.Common.{refl}
 use Rattle.wkt_num.specs.Borrowed.{broke_at_once, shows_none}
 use Rattle.wkt_num.proofs.formatted.FormatterTextTextSink.write_str.Goals as goal

@@ -1,3 +1,4 @@
+-- `parse` of std reads the numbers that the definition reads.
 use Rattle.std.proofs.Common.{◌∙◌}
 use Rattle.std.specs.Int.{w16}
 use Rattle.wkt_num.proofs.Parses.{parse_read_signed}

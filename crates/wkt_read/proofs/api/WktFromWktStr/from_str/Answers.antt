@@ -1,3 +1,4 @@
+-- The text's front is found, or the text has none and the message is that of its lexemes.
 use Rattle.std.proofs.Common.{◌∙◌, sym, subst}
 use Rattle.wkt_read.specs.Ahead.{rest}
 use Rattle.wkt_read.specs.Begun.{NoneBegins}

@@ -1,3 +1,4 @@
+-- No message before this number has the text.
 use Rattle.std.proofs.Common.{◌∙◌, sym, ap, arith}
 use Rattle.wkt_read.specs.Messages.{message_text}
 use Rattle.wkt_read.proofs.MessageTexts.{none-first, none-next, none-at-all, one-text}

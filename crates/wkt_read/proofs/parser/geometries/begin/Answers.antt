@@ -1,3 +1,4 @@
+-- Each kind is read whole, a collection is opened, or the error is that of the definition.
 use Rattle.wkt_read.specs.Ahead.{rest}
 use Rattle.wkt_read.specs.Parser.Outcome.{HasMembers}
 use Rattle.wkt_read.proofs.ParserLemmas.Wkts.{value-header-err, value-part, members, shorter, start-part}

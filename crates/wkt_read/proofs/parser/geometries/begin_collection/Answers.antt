@@ -1,3 +1,4 @@
+-- A collection is EMPTY, or opened by its parenthesis.
 use Rattle.std.proofs.Common.{[], ap, sym, ◌∙◌, subst, arith, Ok, true}
 use Rattle.std.specs.Prelude.{map}
 use Rattle.std.specs.List.{AllByRecursion}

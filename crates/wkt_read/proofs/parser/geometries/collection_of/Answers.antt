@@ -1,3 +1,4 @@
+-- The collection has the value of its members, each uniform.
 use Rattle.std.proofs.Common.{ap, sym, subst, ◌∙◌}
 use Rattle.wkt_access.specs.Values.{Value}
 use Rattle.wkt_types.specs.Values.{value_of, IsUniform}

@@ -1,3 +1,4 @@
+-- The open collections and the tokens that are left make the outcome of the whole at each step, and the loop ends.
 use Rattle.std.proofs.Common.{◌≡◌, ◌∷◌, [], ap, sym, refl, subst, ◌∙◌, arith, length, length-append, Ok}
 use Rattle.std.proofs.lemmas.List.{nil_from_length}
 use Rattle.std.specs.Prelude.{Vec}

@@ -1,3 +1,4 @@
+-- The outcome of the body is that of the line string.
 use Rattle.wkt_access.specs.Values.{Value}
 use Rattle.wkt_types.specs.Coords.{numbers_of}
 use Rattle.wkt_types.specs.Values.{HasDim}

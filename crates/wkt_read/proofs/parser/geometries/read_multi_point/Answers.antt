@@ -1,3 +1,4 @@
+-- The outcome of the body is that of the multipoint.
 use Rattle.wkt_access.specs.Values.{Value}
 use Rattle.wkt_types.specs.Values.{IsPointIn, point_numbers}
 use Rattle.wkt_read.specs.Ahead.{rest}

@@ -1,3 +1,4 @@
+-- The outcome of the body is that of the multipolygon.
 use Rattle.wkt_access.specs.Values.{Value}
 use Rattle.wkt_types.specs.Values.{IsPolygonIn, polygon_numbers}
 use Rattle.wkt_read.specs.Ahead.{rest}

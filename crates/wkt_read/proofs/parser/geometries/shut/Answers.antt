@@ -1,3 +1,4 @@
+-- A collection that is closed is a member of the one around it, or the end.
 use Rattle.std.proofs.Common.{ap, sym, ◌∙◌, Ok, Err}
 use Rattle.wkt_access.specs.Values.{Value}
 use Rattle.wkt_read.specs.Ahead.{rest}

@@ -1,3 +1,4 @@
+-- Each kind is read by its reader, and the outcome is that of the definition.
 use Rattle.wkt_read.specs.Ahead.{rest}
 use Rattle.wkt_read.specs.Parser.Reads.{wkt_value, UniformWkt}
 use Rattle.wkt_read.specs.Parser.Outcome.{HasMembers}

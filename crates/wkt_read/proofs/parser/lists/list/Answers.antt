@@ -1,3 +1,4 @@
+-- A list is EMPTY, or items between parentheses.
 use Rattle.std.proofs.Common.{[], ap, sym, ◌∙◌, subst, arith, Ok}
 use Rattle.std.specs.Prelude.{map}
 use Rattle.std.specs.List.{AllByRecursion}

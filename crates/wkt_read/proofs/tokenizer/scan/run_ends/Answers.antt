@@ -1,3 +1,4 @@
+-- A run goes on by each byte of it, and ends at any other.
 use Rattle.std.proofs.Common.{ap, sym, refl, subst, length, ◌<◌, arith}
 use Rattle.wkt_read.proofs.TokenizerLemmas.Steps.{run-step, run-end, run-end-text, late-run}
 use Rattle.wkt_read.specs.declared.tokenizer.scan.Class.TheVariants as class

@@ -1,3 +1,4 @@
+-- A plus is one byte, so what follows it begins at a boundary of characters.
 use Rattle.std.proofs.Common.{◌≡◌, ◌<◌, length, arith, get_or, ap, sym, ◌∙◌}
 use Rattle.std.proofs.lemmas.Str.{IsCharBoundary-after_ascii}
 use Rattle.wkt_read.proofs.tokenizer.tokens.number_in.Goals as goal

@@ -1,3 +1,4 @@
+-- The point at a place is the part at that place.
 use Rattle.wkt_types.proofs.Members.{part_is}
 use Rattle.wkt_types.proofs.access.MultiPointMultiPointTrait.point.Goals as goal
 

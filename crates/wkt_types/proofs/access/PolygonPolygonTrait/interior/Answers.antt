@@ -1,3 +1,4 @@
+-- The interior at a place is the ring behind it.
 use Rattle.std.proofs.Common.{rules}
 use Rattle.wkt_types.proofs.Members.{interior_is}
 use Rattle.wkt_types.proofs.access.PolygonPolygonTrait.interior.Goals as goal

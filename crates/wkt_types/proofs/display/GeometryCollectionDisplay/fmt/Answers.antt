@@ -1,3 +1,4 @@
+-- A collection is displayed as the geometry with its header and its members.
 use Rattle.std.proofs.Common.{subst}
 use Rattle.wkt_types.specs.Shown.{Shows}
 use Rattle.wkt_types.proofs.Collections.{told_whole}

@@ -1,3 +1,4 @@
+-- The collection has the given geometries, and the dimension of the first.
 use Rattle.std.proofs.Common.{◌≡◌, ap, sym, ◌∙◌, [], map, slice_get, Some}
 use Rattle.wkt_types.specs.Tree.{tree, collected}
 use Rattle.wkt_types.proofs.TreeLemmas.{collected_some}

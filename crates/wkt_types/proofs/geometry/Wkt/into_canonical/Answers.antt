@@ -1,3 +1,4 @@
+-- The value is the canonical one, and reading its text gives this geometry.
 use Rattle.std.proofs.Common.{ap, sym, ◌∙◌, subst}
 use Rattle.wkt_access.specs.Shapes.{canon}
 use Rattle.wkt_types.specs.Tree.{tree}

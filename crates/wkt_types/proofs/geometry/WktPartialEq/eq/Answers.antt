@@ -1,3 +1,4 @@
+-- `==` decides whether the trees are equal.
 use Rattle.wkt_flat.specs.Exact.{exact_by}
 use Rattle.wkt_types.specs.Trees.{tree_exact}
 use Rattle.wkt_flat.proofs.Sames.{told}

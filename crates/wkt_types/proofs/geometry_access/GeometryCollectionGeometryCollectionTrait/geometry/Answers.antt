@@ -1,3 +1,4 @@
+-- The member at a place is the geometry at that place, which the list has.
 use Rattle.std.proofs.Common.{arith}
 use Rattle.wkt_access.proofs.Collections.{count_is, member_at}
 use Rattle.wkt_types.proofs.Collections.{member_shape, collection_is}

@@ -1,3 +1,4 @@
+-- A collection has as many members as its list.
 use Rattle.std.proofs.Common.{refl}
 use Rattle.wkt_access.proofs.Collections.{is_collection}
 use Rattle.wkt_types.proofs.Collections.{member_shape, geometry_is}

@@ -1,3 +1,4 @@
+-- The member at a place is the geometry at that place, which the list has.
 use Rattle.std.proofs.Common.{arith}
 use Rattle.wkt_access.proofs.Collections.{count_is, member_at}
 use Rattle.wkt_types.proofs.Collections.{member_shape, geometry_is}
@@ -9,5 +10,5 @@ offset_bounds-geometries-i g c = omega (arith, count_is member_shape _ _ _ (geom
 pub bounds-geometries-i : goal.bounds-geometries-i
 bounds-geometries-i g c = omega (arith, count_is member_shape _ _ _ (geometry_is c.in-GeometryCollection.c _ _ c.geometries.ensures c.args.self.now c.in-GeometryCollection.is), c.requires)
 
-pub returns : goal.returns
-returns g c = member_at member_shape _ _ _ (geometry_is c.in-GeometryCollection.c _ _ c.geometries.ensures c.args.self.now c.in-GeometryCollection.is) _ _ c.requires c.index-geometries-i.is
+pub returns-in-GeometryCollection : goal.returns-in-GeometryCollection
+returns-in-GeometryCollection g c = member_at member_shape _ _ _ (geometry_is c.in-GeometryCollection.c _ _ c.geometries.ensures c.args.self.now c.in-GeometryCollection.is) _ _ c.requires c.index-geometries-i.is

@@ -1,3 +1,4 @@
+-- The line string has the given coordinates, and the dimension of the first.
 use Rattle.std.proofs.Common.{ap, sym, ◌∙◌, Some, slice_get}
 use Rattle.wkt_types.specs.Coords.{coord_dim}
 use Rattle.wkt_types.proofs.Firsts.{first_none, first_dim_some}

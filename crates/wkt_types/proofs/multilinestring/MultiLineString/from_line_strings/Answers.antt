@@ -1,3 +1,4 @@
+-- It has the given line strings, and the dimension of the first.
 use Rattle.std.proofs.Common.{ap, sym, ◌∙◌, Some, slice_get}
 use Rattle.wkt_types.proofs.Firsts.{first_none, first_dim_some}
 use Rattle.wkt_types.proofs.multilinestring.MultiLineString.from_line_strings.Goals as goal

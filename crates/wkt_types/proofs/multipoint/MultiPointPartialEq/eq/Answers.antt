@@ -1,3 +1,4 @@
+-- `==` decides whether the points and the dimension are equal.
 use Rattle.std.proofs.Common.{rules}
 use Rattle.wkt_flat.specs.Exact.{exact_by}
 use Rattle.wkt_types.specs.Exact.{held_exact}

@@ -1,3 +1,4 @@
+-- The polygon has the given rings, and the dimension of the first.
 use Rattle.std.proofs.Common.{ap, sym, ◌∙◌, Some, slice_get}
 use Rattle.wkt_types.proofs.Firsts.{first_none, first_dim_some}
 use Rattle.wkt_types.proofs.polygon.Polygon.from_rings.Goals as goal

@@ -1,3 +1,4 @@
+-- The rings are put under the header, and none are kept where the exterior is empty.
 use Rattle.std.proofs.Common.{◌≡◌, ap, sym, ◌∙◌, map, ◌==◌, not, length, slice_get}
 use Rattle.std.proofs.lemmas.List.{with_items_is}
 use Rattle.wkt_types.specs.Canonical.{line_under, polygon_under, rings_written}

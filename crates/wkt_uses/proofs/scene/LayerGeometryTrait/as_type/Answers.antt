@@ -1,3 +1,4 @@
+-- A group has as many members as its list.
 use Rattle.std.proofs.Common.{◌∙◌}
 use Rattle.wkt.proofs.Collections.{is_collection}
 use Rattle.wkt_uses.specs.Scene.{layer_shape}

@@ -1,4 +1,4 @@
--- The fault of a collection is the first fault of its members.
+-- The error of a collection is the first error of its members.
 use Rattle.wkt_write.proofs.Members.{faults_gathered, known_gathered}
 use Rattle.wkt_write.proofs.Firsts.{checks_more}
 use Rattle.wkt_write.proofs.kinds.CollectionKind.check.Goals as goal

@@ -1,4 +1,4 @@
--- A collection without fault has members without one, and its text is theirs behind a header.
+-- A collection without error has members without one, and its text is theirs behind a header.
 use Rattle.std.proofs.Common.{sym, ◌∙◌}
 use Rattle.wkt_access.specs.Faults.{faults}
 use Rattle.wkt_access.specs.Parts.{gathered}

@@ -1,3 +1,4 @@
+-- A coordinate more is pushed.
 use Rattle.std.proofs.Common.{refl, rules}
 use Rattle.wkt_read.specs.Parser.Outcome.{coord_at}
 use Rattle.wkt_read.proofs.parser.lists.CoordItem.push.Goals as goal

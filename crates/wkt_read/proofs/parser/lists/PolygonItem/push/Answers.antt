@@ -1,3 +1,4 @@
+-- A polygon more is pushed, or its error is the list's.
 use Rattle.std.proofs.Common.{ap, rules}
 use Rattle.std.specs.Prelude.{map}
 use Rattle.wkt_types.specs.Values.{IsLineStringIn, IsPolygonIn, line_string_numbers, polygon_numbers}

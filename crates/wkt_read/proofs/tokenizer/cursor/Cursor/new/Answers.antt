@@ -1,3 +1,4 @@
+-- Nothing is taken, and the start is a boundary of characters.
 use Rattle.std.proofs.Common.{ap, sym, subst, length, arith}
 use Rattle.std.specs.Str.{IsCharBoundary}
 use Rattle.std.proofs.lemmas.Str.{IsCharBoundary-start}

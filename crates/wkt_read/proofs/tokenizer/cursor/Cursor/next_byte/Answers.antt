@@ -1,3 +1,4 @@
+-- A cursor behind one byte more is still in its text.
 use Rattle.wkt_read.proofs.TokenizerLemmas.Cursors.{behind}
 use Rattle.wkt_read.proofs.tokenizer.cursor.Cursor.next_byte.Goals as goal
 

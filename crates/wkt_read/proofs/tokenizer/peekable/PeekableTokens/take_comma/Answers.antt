@@ -1,3 +1,4 @@
+-- A comma is taken, and any other token is left.
 use Rattle.std.proofs.Common.{◌∷◌, Some, ap, sym, ◌∙◌, arith}
 use Rattle.wkt_num.specs.Bytes.{Comma}
 use Rattle.wkt_read.specs.Ahead.{left, taken_of, end_of}

@@ -1,3 +1,4 @@
+-- The lexemes of the text are all to come, each with its end.
 use Rattle.std.proofs.Common.{refl, sym, subst, ◌≤◌, length}
 use Rattle.wkt_read.specs.Lexemes.{IsSplit}
 use Rattle.wkt_read.specs.Placed.{lexemes_of, AreEnds}

@@ -1,6 +1,0 @@
-use Rattle.std.proofs.Common.{◌↔◌, drop}
-use Rattle.wkt_num.specs.Bytes.{AllWhite}
-use Rattle.wkt.proofs.whole.is_blank.Given as goal
-
-abbrev pub invariant-loop-byte : goal.invariant-loop-byte
-invariant-loop-byte l = AllWhite l.bytes ↔ AllWhite (drop l.byte-index l.bytes)

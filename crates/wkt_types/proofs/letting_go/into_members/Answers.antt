@@ -1,5 +1,0 @@
-use Rattle.wkt_types.proofs.Weighing.{opened}
-use Rattle.wkt_types.proofs.letting_go.into_members.Goals as goal
-
-pub returns-in-GeometryCollection : goal.returns-in-GeometryCollection
-returns-in-GeometryCollection g c = opened _ _ _ _ c.in-GeometryCollection.is c.into_inner.ensures
