@@ -7,6 +7,7 @@ ghost use Rattle.wkt_events.specs.Plus.{plus_len};
 ghost use Rattle.wkt_events.specs.Numbers.{Numbered, NoNumber};
 
 use crate::builder::{At, Builder, Part};
+use crate::bytes::run_end;
 use crate::reading::number_there;
 use std::fmt;
 use std::marker::PhantomData;
