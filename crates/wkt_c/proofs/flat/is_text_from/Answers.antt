@@ -1,5 +1,5 @@
 -- A last byte of ASCII is text.
-use Rattle.std.proofs.Common.{sym, rules}
+use Rattle.std.proofs.Common.{rules}
 use Rattle.wkt_c.proofs.Tails.{last-ascii}
 use Rattle.wkt_c.proofs.flat.is_text_from.Goals as goal
 

@@ -1,3 +1,4 @@
+-- The items so far stand behind those before.
 use Rattle.std.proofs.Common.{◌≡◌, ◌++◌, take}
 use Rattle.wkt_c.proofs.joined.append.Given as goal
 

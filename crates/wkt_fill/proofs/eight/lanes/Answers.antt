@@ -1,3 +1,4 @@
+-- The last bytes are loaded with lanes of 0 before them.
 use Rattle.std.proofs.Common.{◌+◌, arith}
 use Rattle.wkt_num.proofs.Vectors.{kept, lanes-are}
 use Rattle.wkt_fill.proofs.eight.lanes.Goals as goal

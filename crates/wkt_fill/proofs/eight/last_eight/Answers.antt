@@ -1,3 +1,4 @@
+-- Lanes of which none is over 9 are digits.
 use Rattle.std.proofs.Common.{length, sym, ap, ◌∙◌, arith}
 use Rattle.wkt_num.proofs.Vectors.{none-over, over-mask, length-last, last-digits, last-value}
 use Rattle.wkt_num.specs.Lanes.{DigitLanes}

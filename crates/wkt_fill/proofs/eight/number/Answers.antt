@@ -1,3 +1,4 @@
+-- Two digits a lane make the number of all eight.
 use Rattle.std.proofs.Common.{sym, ◌∙◌}
 use Rattle.wkt_num.proofs.Vectors.{pairs-of, alone, no-more}
 use Rattle.wkt_fill.proofs.eight.number.Goals as goal

@@ -1,6 +1,6 @@
 -- Digits that are read at once are those that are read one after the other.
-use Rattle.std.proofs.Common.{◌≤◌, ◌+◌, arith}
-use Rattle.wkt_fill.proofs.Eights.{AtOnce, at-once}
+use Rattle.std.proofs.Common.{arith}
+use Rattle.wkt_fill.proofs.Eights.{at-once}
 use Rattle.wkt_fill.proofs.near.fraction_from.Goals as goal
 
 pub overflow_mul-result : goal.overflow_mul-result
