@@ -3,9 +3,7 @@
 # capi/out or in the folder that is given: arrays.sh [FOLDER]. It needs valgrind and python3.
 #
 # A figure is as in bench/measure.sh: the count on 3 MB of lines less that on 1 MB, over the difference in bytes. What
-# stands around the calls is counted apart and taken off. Over an unproved build with the flags of the proved one, lines of
-# points took 30.6 by wkt_arrays and 42.2 by wkt_column_arrays, points of whole numbers 43.5 by wkt_arrays (before: 56.7,
-# 66.5 and 90.2).
+# stands around the calls is counted apart and taken off. bench/README.md has figures.
 set -eu
 here=$(cd "$(dirname "$0")" && pwd)
 lib=${1:-$here/../out}

@@ -59,7 +59,7 @@ static wkt_status canonical(const char *text, uint32_t places, size_t room) {
     return wkt_canonical(BYTES(text), places, out, room, &needed, &end_at);
 }
 
-static int not_told(void) { return needed == 99 && end_at == 99; }
+static int not_set(void) { return needed == 99 && end_at == 99; }
 
 /* A text of that many bytes, which begins with POINT(1 2) and has nothing but white space behind it. */
 static const char *padded(size_t size) {
@@ -81,11 +81,11 @@ static void last_bytes(void) {
         memcpy(text + size - 2, "\xc3\xa9", 2);
         CHECK(canonical(text, 6, ROOM) == WKT_OK && holds("POINT(1 2)") && end_at == 10);
         text[size - 1] = 'a';
-        CHECK(canonical(text, 6, ROOM) == WKT_NOT_UTF8 && untouched() && not_told());
+        CHECK(canonical(text, 6, ROOM) == WKT_NOT_UTF8 && untouched() && not_set());
         memset(text, ' ', size);
         memcpy(text, "POINT(1", 7);
         memcpy(text + size - 4, "2.50", 4);
-        CHECK(canonical(text, 6, ROOM) == 7 && untouched() && not_told());
+        CHECK(canonical(text, 6, ROOM) == 7 && untouched() && not_set());
         text[size - 1] = ')';
         CHECK(canonical(text, 6, ROOM) == WKT_OK && holds("POINT(1 2.5)") && end_at == size);
     }
@@ -122,10 +122,10 @@ static void whole_texts(void) {
     CHECK(canonical("POINT(1 2) x", 6 | WKT_WHOLE, ROOM) == WKT_NOT_WHOLE && untouched() && needed == 99 && end_at == 10);
     CHECK(canonical("POINT(1 2) x", 6 | WKT_WHOLE, 2) == WKT_NOT_WHOLE && untouched() && needed == 99 && end_at == 10);
     CHECK(canonical("POINT(1 2)\n\nPOINT(3 4)", 6 | WKT_WHOLE, ROOM) == WKT_NOT_WHOLE && end_at == 10);
-    CHECK(canonical("POINT(1 2 x", 6 | WKT_WHOLE, ROOM) == 7 && untouched() && not_told());
+    CHECK(canonical("POINT(1 2 x", 6 | WKT_WHOLE, ROOM) == 7 && untouched() && not_set());
     CHECK(canonical("POINT(1 2)", 6 | WKT_WHOLE, 9) == WKT_TOO_SMALL && untouched() && needed == 10 && end_at == 10);
     CHECK(canonical("POINT(1 2)", 18 | WKT_WHOLE, ROOM) == WKT_OK);
-    CHECK(canonical("POINT(1 2)", 19 | WKT_WHOLE, ROOM) == WKT_NO_PLACES && untouched() && not_told());
+    CHECK(canonical("POINT(1 2)", 19 | WKT_WHOLE, ROOM) == WKT_NO_PLACES && untouched() && not_set());
     CHECK(canonical("POINT(1 2)", 255, ROOM) == WKT_NO_PLACES && canonical("POINT(1 2)", 512, ROOM) == WKT_NO_PLACES);
     CHECK(canonical("POINT(1 2)", 0xffffffffu, ROOM) == WKT_NO_PLACES);
     memset(out, '#', ROOM);
@@ -150,11 +150,11 @@ static void canonicals(void) {
     CHECK(canonical("POINT(1 2)", 19, ROOM) == WKT_NO_PLACES && untouched());
     CHECK(canonical("POINT(1 2)", 6, 9) == WKT_TOO_SMALL && untouched() && needed == 10 && end_at == 10);
     CHECK(canonical("POINT(1 2)", 6, 10) == WKT_OK && holds("POINT(1 2)"));
-    CHECK(canonical("POINT(1 2)\xff", 6, ROOM) == WKT_NOT_UTF8 && untouched() && not_told());
-    CHECK(canonical("\xffPOINT(1 2)", 6, ROOM) == WKT_NOT_UTF8 && untouched() && not_told());
+    CHECK(canonical("POINT(1 2)\xff", 6, ROOM) == WKT_NOT_UTF8 && untouched() && not_set());
+    CHECK(canonical("\xffPOINT(1 2)", 6, ROOM) == WKT_NOT_UTF8 && untouched() && not_set());
     CHECK(canonical("POINT(1 2) \xc3\xa9", 6, ROOM) == WKT_OK && holds("POINT(1 2)") && end_at == 10);
     for (i = 1; i < sizeof refused / sizeof *refused; i++)
-        CHECK(canonical(refused[i], 0, ROOM) == i && untouched() && not_told());
+        CHECK(canonical(refused[i], 0, ROOM) == i && untouched() && not_set());
     CHECK(wkt_canonical(NULL, 0, 6, NULL, 0, &needed, &end_at) == 1);
     CHECK(wkt_canonical(BYTES("POINT(1 2)"), 6, NULL, 0, &needed, &end_at) == WKT_TOO_SMALL && needed == 10);
 }

@@ -1,9 +1,8 @@
-"""Columns of each kind, what becomes of refused rows, explanations, streams, Arrow and GeoArrow."""
+"""Columns of each kind, what becomes of refused rows, explanations, streams and Arrow."""
 import gc
 import io
 import os
 import pickle
-import random
 import threading
 import time
 import unittest
@@ -19,10 +18,6 @@ try:
     import pandas
 except ImportError:
     pandas = None
-try:
-    import shapely.wkt
-except ImportError:
-    shapely = None
 try:
     import tqdm
 except ImportError:
@@ -448,92 +443,6 @@ class Long(unittest.TestCase):
 
         with self.assertRaises(KeyError):
             wkt.canonical(["POINT(1 2)"], progress=wrong)
-
-
-def nested(flat, offsets):
-    """The nested lists of GeoArrow's buffers."""
-    for one in reversed(offsets):
-        flat = [flat[start:end] for start, end in zip(one[:-1], one[1:])]
-    return flat
-
-
-def theirs(geometry):
-    """The coordinates of a geometry of Shapely, nested as GeoArrow has them."""
-    kind = geometry.geom_type
-    if kind == "Point":
-        return None if geometry.is_empty else list(geometry.coords[0])
-    if kind == "LineString":
-        return [list(place) for place in geometry.coords]
-    if kind == "Polygon":
-        rings = [] if geometry.is_empty else [geometry.exterior] + list(geometry.interiors)
-        return [[list(place) for place in ring.coords] for ring in rings]
-    if kind == "MultiPoint":
-        return [list(point.coords[0]) for point in geometry.geoms]
-    return [theirs(member) for member in geometry.geoms]
-
-
-@unittest.skipIf(numpy is None, "no NumPy")
-class GeoArrow(unittest.TestCase):
-    def texts(self, kind, z, make):
-        number = lambda: "%.3f" % make.uniform(-180, 180)  # noqa: E731
-        place = lambda: " ".join(number() for _ in range(3 if z else 2))  # noqa: E731
-
-        def line(least=2):
-            return "(" + ",".join(place() for _ in range(make.randrange(least, 6))) + ")"
-
-        def ring():
-            first = place()
-            return "(" + ",".join([first] + [place() for _ in range(make.randrange(2, 5))] + [first]) + ")"
-
-        def many(one):
-            return "(" + ",".join(one() for _ in range(make.randrange(1, 4))) + ")"
-
-        body = {
-            "Point": lambda: "(%s)" % place(),
-            "LineString": line,
-            "Polygon": lambda: many(ring),
-            "MultiPoint": lambda: many(lambda: "(%s)" % place()),
-            "MultiLineString": lambda: many(line),
-            "MultiPolygon": lambda: many(lambda: many(ring)),
-        }[kind]
-        head = kind.upper() + (" Z" if z else "")
-        return [head + body() for _ in range(100)] + [None, head + " EMPTY"] + [head + body() for _ in range(3)]
-
-    @unittest.skipIf(shapely is None, "no Shapely")
-    def test_six_kinds(self):
-        make = random.Random(3)
-        for kind in wkt.KINDS[:6]:
-            for z in (False, True):
-                texts = self.texts(kind, z, make)
-                held = wkt.to_arrays_column(texts, 6)
-                made = held.geoarrow(6)
-                self.assertEqual((made.extension, made.dimension), ("geoarrow." + kind.lower(), "XYZ" if z else "XY"))
-                mine = nested(made.coordinates.tolist(), [offsets.tolist() for offsets in made.offsets])
-                self.assertEqual((len(mine), len(made.valid)), (len(texts), len(texts)))
-                for text, got, valid in zip(texts, mine, made.valid):
-                    self.assertEqual(valid, text is not None)
-                    if text is None:
-                        continue
-                    wanted = theirs(shapely.wkt.loads(text))
-                    if wanted is None:
-                        self.assertTrue(all(number != number for number in got))
-                    else:
-                        self.assertEqual(got, wanted, text)
-
-    def test_mixed(self):
-        for texts in (["POINT(1 2)", "LINESTRING(1 2,3 4)"], ["POINT(1 2)", "POINT Z(1 2 3)"]):
-            with self.assertRaises(ValueError):
-                wkt.to_arrays_column(texts).geoarrow()
-        made = wkt.to_arrays_column(["POINT(1 2)", "x", None]).geoarrow()
-        self.assertEqual(made.valid.tolist(), [True, False, False])
-        self.assertEqual(made.coordinates[0].tolist(), [1, 2])
-        self.assertEqual(wkt.to_arrays_column([]).geoarrow().extension, "geoarrow.point")
-
-    def test_halves(self):
-        """The doubles are the nearest ones."""
-        texts = ["POINT(%s %s)" % (a, b) for a, b in (("0.1", "0.3"), ("2.675", "-1.005"), ("9007199254.740991", "0.000001"))]
-        made = wkt.to_arrays_column(texts, 6).geoarrow(6)
-        self.assertEqual(made.coordinates.tolist(), [[0.1, 0.3], [2.675, -1.005], [9007199254.740991, 0.000001]])
 
 
 if __name__ == "__main__":

@@ -18,7 +18,7 @@ each() {
     local name=$1 folder=$2
     shift 2
     (cd "$work" && env "$@" PYTHONPATH="$folder:$here" "$python" -W error -m unittest -v test_wkt test_arguments \
-        test_columns) > "$work/said" 2>&1 || { cat "$work/said"; echo "$name: the tests fail"; exit 1; }
+        test_columns test_geoarrow) > "$work/said" 2>&1 || { cat "$work/said"; echo "$name: the tests fail"; exit 1; }
     ! grep -E "skipped" "$work/said" || { echo "$name: a test was skipped"; exit 1; }
     echo "$name: $(grep '^Ran' "$work/said"), $(tail -n 1 "$work/said")"
 }

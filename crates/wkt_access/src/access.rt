@@ -412,7 +412,6 @@ pub trait GeometryTrait {
         ensures collection { IfCollection result (λ count. IsCollectionOf count (shape self.now)) };
 
     /// The member of a collection at place `i`, which is below the count. Other kinds have no members.
-    ///
     /// An implementation that is never a collection answers `self` and writes a clause of its own,
     /// `ensures { result.now ≡ self.now }`: it would else inherit a `requires` that no call meets.
     fn geometry(&self, i: usize) -> &Self
@@ -443,7 +442,6 @@ pub trait GeometryCollectionTrait {
         ensures { result ≡ length (geometries self.now) };
 
     /// The member at place `i`, which is below the count.
-    ///
     /// An implementation that never has members writes an `ensures` of its own here, for the reason
     /// given at [`GeometryTrait::geometry`].
     fn geometry(&self, i: usize) -> &Self::GeometryType

@@ -8,6 +8,7 @@ pub mod Handing
 pub mod Columns
 pub mod ArrayColumns
 pub mod TextColumns
+pub mod Tails
 pub mod Filled
 pub mod Fitting
 pub mod Pieces

@@ -16,6 +16,8 @@ use wkt_fill::Room;
 
 /// How long a text may be whose arrays are made in a room on the stack.
 const SHORT: usize = 64;
+/// The same with the least room, which is cleared for each call.
+const SHORTEST: usize = 32;
 
 /// Whether the arrays of a text are made on the stack.
 #[inline(always)]
@@ -87,10 +89,37 @@ pub(crate) fn arrays_short(
     ensures { AnswersArrays places text.now result sizes.old sizes.new numbers.old numbers.new rings.old rings.new
         polygons.old polygons.new }
 {
+    if text.len() <= SHORTEST {
+        return arrays_shortest(text, places, sizes, numbers, rings, polygons);
+    }
     // As many as a text of that length may have: see ArraysRoom::make.
     let mut few_numbers = [0i64; SHORT / 2 + 2];
     let mut few_rings = [0usize; SHORT / 4 + 2];
     let mut few_polygons = [0usize; SHORT / 6 + 2];
+    let room = Room {
+        numbers: &mut few_numbers,
+        rings: &mut few_rings,
+        polygons: &mut few_polygons,
+    };
+    arrays_in(text, places, room, sizes, numbers, rings, polygons)
+}
+
+/// The same of a text of the fewest bytes.
+fn arrays_shortest(
+    text: &[u8],
+    places: u32,
+    sizes: &mut WktSizes,
+    numbers: &mut [i64],
+    rings: &mut [usize],
+    polygons: &mut [usize],
+) -> u32
+    requires { places_in places ≤ 18 }
+    ensures { AnswersArrays places text.now result sizes.old sizes.new numbers.old numbers.new rings.old rings.new
+        polygons.old polygons.new }
+{
+    let mut few_numbers = [0i64; SHORTEST / 2 + 2];
+    let mut few_rings = [0usize; SHORTEST / 4 + 2];
+    let mut few_polygons = [0usize; SHORTEST / 6 + 2];
     let room = Room {
         numbers: &mut few_numbers,
         rings: &mut few_rings,

@@ -24,7 +24,8 @@ fn lengthen<T: Copy>(list: &mut Vec<T>, needed: usize, more: &[T]) -> Result<(),
         return Ok(());
     }
     let missing = needed - list.len();
-    if list.reserve(missing).is_err() {
+    // With the last piece, so that no list is moved as it grows.
+    if list.reserve(missing.saturating_add(MORE)).is_err() {
         return Err(MEMORY);
     }
     for _turn in 0..missing / MORE + 1 {

@@ -54,6 +54,10 @@ fn is_text_from(text: &[u8], end: usize) -> bool
     if end == text.len() {
         return true;
     }
+    // A line feed alone, mostly.
+    if end + 1 == text.len() && text[end] < 128 {
+        return true;
+    }
     match str::from_utf8(&text[end..]) {
         Ok(_) => true,
         Err(_) => false,

@@ -12,7 +12,11 @@ pub(crate) struct Joined<T> {
     pub(crate) ends: Vec<usize>,
 }
 
+/// How many items are added one by one, since more at once cost a call for each list.
+const FEW: usize = 8;
+
 /// Adds an item to a list.
+#[inline(always)]
 pub(crate) fn push<T: Copy>(list: &mut Vec<T>, item: T) -> Result<(), u32>
     ensures { MatchResult result (λ _. list.new.items ≡ list.old.items ++ item ∷ []) (λ s. s ≡ MEMORY) }
 {
@@ -20,6 +24,23 @@ pub(crate) fn push<T: Copy>(list: &mut Vec<T>, item: T) -> Result<(), u32>
         Ok(_) => Ok(()),
         Err(_) => Err(MEMORY),
     }
+}
+
+/// Adds items to a list.
+#[inline(always)]
+fn append<T: Copy>(items: &mut Vec<T>, list: &[T]) -> Result<(), u32>
+    ensures { MatchResult result (λ _. items.new.items ≡ items.old.items ++ list.now) (λ s. s ≡ MEMORY) }
+{
+    if list.len() > FEW {
+        return match items.extend_from_slice(list) {
+            Ok(_) => Ok(()),
+            Err(_) => Err(MEMORY),
+        };
+    }
+    for item in list {
+        push(items, *item)?;
+    }
+    Ok(())
 }
 
 impl<T: Copy> Joined<T> {
@@ -41,9 +62,7 @@ impl<T: Copy> Joined<T> {
     pub(crate) fn add(&mut self, list: &[T]) -> Result<(), u32>
         ensures { MatchResult result (λ _. AddsList list.now self.old self.new) (λ s. s ≡ MEMORY) }
     {
-        if self.items.extend_from_slice(list).is_err() {
-            return Err(MEMORY);
-        }
+        append(&mut self.items, list)?;
         let end = self.items.len();
         push(&mut self.ends, end)
     }

@@ -7,6 +7,7 @@ ghost use Rattle.wkt_events.specs.Plus.{plus_len};
 ghost use Rattle.wkt_events.specs.Numbers.{Numbered, NoNumber};
 
 use crate::builder::{At, Builder, Part};
+use crate::bytes::run_end;
 use crate::reading::number_there;
 use std::fmt;
 use std::marker::PhantomData;
@@ -257,10 +258,25 @@ impl<'a, T: WktNum> Pen<'a, T> {
         self.number_apart(text, at)
     }
 
-    /// The same for a number that no window shows whole, or that isn't written as it stands.
+    /// The same for a number that no window shows whole, or that isn't written as it stands. Where a text is refused there is
+    /// mostly no run at all.
     #[cold]
     #[inline(never)]
     fn number_apart(self, text: &[u8], at: usize) -> Option<At<Self>>
+        requires at { at ≤ length text.now }
+        requires room { HasBytes self (2 * (length text.now - at)) }
+        ensures some { IfSome result (λ r. Numbered T.read T.num text.now at self.entry r.made r.at) }
+        ensures none { IfNone result (NoNumber T.read text.now at) }
+    {
+        if run_end(text, at) == at {
+            return None;
+        }
+        self.kept_number(text, at)
+    }
+
+    /// The same of a run.
+    #[inline(never)]
+    fn kept_number(self, text: &[u8], at: usize) -> Option<At<Self>>
         requires at { at ≤ length text.now }
         requires room { HasBytes self (2 * (length text.now - at)) }
         ensures some { IfSome result (λ r. Numbered T.read T.num text.now at self.entry r.made r.at) }

@@ -1,14 +1,11 @@
 -- Parentheses that have to close, one after the other.
-use Rattle.std.proofs.Common.{◌≡◌, ◌+◌, ◌-◌, ◌<◌, ℕ, zero, suc, List, [], ◌∷◌, refl, sym, ap, ◌∙◌, arith, Option, Some, None, Result, true, false, if◌then◌else◌}
-use Rattle.std.specs.Borrow.{Bor}
-use Rattle.wkt_read.specs.Items.{Says}
+use Rattle.std.proofs.Common.{◌≡◌, ◌+◌, ◌-◌, ◌<◌, ℕ, zero, suc, List, [], ◌∷◌, refl, sym, ap, ◌∙◌, arith, Option, Some, None, true, false, if◌then◌else◌}
 use Rattle.wkt_read.specs.Placed.{lexemes_of}
-use Rattle.wkt_read.specs.Stream.{coming, Gives}
-use Rattle.wkt_read.specs.declared.tokenizer.tokens.Token.{Token}
+use Rattle.wkt_read.specs.Stream.{coming}
 use Rattle.wkt_read.specs.declared.tokenizer.tokens.Tokens.{Tokens}
 use Rattle.wkt_explain.specs.declared.seen.Seen.{Seen}
-use Rattle.wkt_explain.specs.Walks.{Shows}
-use Rattle.wkt_explain.proofs.Streams.{gives_some, gives_none, none_left}
+use Rattle.wkt_explain.specs.Walks.{Shows, Sees}
+use Rattle.wkt_explain.proofs.Streams.{sees_some, sees_none, none_left}
 use Rattle.wkt_num.specs.Bytes.{Lexeme}
 use Rattle.wkt_read.specs.declared.messages.Message.{Message}
 use Rattle.wkt_read.specs.declared.messages.Message.TheVariants as message
@@ -38,16 +35,16 @@ module _ {N : Type 0} (read : List ℕ → Option N) where
 
   module _ (whole : Message × List Lexeme) (left : ℕ) (m : Message) (s t : Tokens N) (same : whole ≡ closings read left m (lexemes_of (coming s))) (some : 0 < left) where
     -- where no lexeme is left
-    pub stops : Gives read s None t → whole ≡ (message.Close, lexemes_of (coming t))
-    stops gives =
-        same ∙ ap (λ ls. closings read left m (lexemes_of ls)) (gives_none read s t gives) ∙ closings_end left m some ∙ ap (λ ls. (message.Close, lexemes_of ls)) (sym (none_left read s t gives))
+    pub stops : Sees read s None t → whole ≡ (message.Close, lexemes_of (coming t))
+    stops sees =
+        same ∙ ap (λ ls. closings read left m (lexemes_of ls)) (sees_none read s t sees) ∙ closings_end left m some ∙ ap (λ ls. (message.Close, lexemes_of ls)) (sym (none_left read s t sees))
 
     -- where a parenthesis had to close
-    pub goes_on : (item : Result (Token N) (Bor (List ℕ))) → Gives read s (Some item) t → (k : Message) (seen : Seen) → ((l : Lexeme) → Says read item l → Shows read seen l)
+    pub goes_on : (seen : Seen) → Sees read s (Some seen) t → (k : Message)
         → ((l : Lexeme) (r : List Lexeme) → Shows read seen l → closing read m (l ∷ r) ≡ (k, r)) → whole ≡ closings read (left - 1) k (lexemes_of (coming t))
-    goes_on item gives k seen shows closes =
-        let (x, e, ends, says) = gives_some read s t item gives in
-        let one = closes x.lexeme (lexemes_of (coming t)) (shows x.lexeme says) in
+    goes_on seen sees k closes =
+        let (x, e, ends, shows) = sees_some read s t seen sees in
+        let one = closes x.lexeme (lexemes_of (coming t)) shows in
         same ∙ ap (λ ls. closings read left m (lexemes_of ls)) e ∙ closings_one left m k x.lexeme (lexemes_of (coming t)) some one (left - 1) (omega (arith, some))
 
   pub closings_both : (a b : ℕ) (m k j : Message) (ls r q : List Lexeme) → closings read a m ls ≡ (k, r) → closings read b k r ≡ (j, q) → j ≡ (closings read (a + b) m ls).0

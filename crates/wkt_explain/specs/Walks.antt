@@ -8,6 +8,8 @@ use Rattle.wkt_types.specs.declared.geometry_type.GeometryType.{GeometryType}
 use Rattle.wkt_types.specs.declared.geometry_type.GeometryType.TheVariants as kind
 use Rattle.wkt_read.specs.Grammar.{KindWord, kind_word, dim_word}
 use Rattle.wkt_read.specs.Parser.Outcome.{is_empty_word}
+use Rattle.wkt_read.specs.Stream.{Steps}
+use Rattle.wkt_read.specs.declared.tokenizer.tokens.Tokens.{Tokens}
 use Rattle.wkt_explain.specs.declared.expected.Expected.{Expected}
 use Rattle.wkt_explain.specs.declared.expected.Expected.TheVariants as expected
 use Rattle.wkt_explain.specs.declared.shape.Part.{Part}
@@ -26,6 +28,17 @@ Shows read seen.Comma l = l ≡ lex.Comma
 Shows read (seen.Word w) l = l ≡ lex.Word w.now
 Shows {T} read seen.Number l = (run : List ℕ) × (x : T) × (l ≡ lex.Num run) × (read run ≡ Some x)
 Shows read seen.Unread l = (run : List ℕ) × (l ≡ lex.Num run) × (read run ≡ None)
+
+-- what was seen is what comes next, if a lexeme does
+abbrev pub Shown : {T : Type 0} → (List ℕ → Option T) → Option Lexeme → Option Seen → Type 0
+Shown read None None = Unit {0}
+Shown read None (Some s) = ⊥
+Shown read (Some l) None = ⊥
+Shown read (Some l) (Some s) = Shows read s l
+
+-- one step of a stream, and what was seen of the lexeme that it took
+abbrev pub Sees : {T : Type 0} → (List ℕ → Option T) → Tokens T → Option Seen → Tokens T → Type 0
+Sees read s r t = (l : Option Lexeme) × Steps s l t × Shown read l r
 
 -- what stands in the parentheses after the header of this kind
 abbrev pub part_of : GeometryType → Part

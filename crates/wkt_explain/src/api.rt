@@ -11,7 +11,7 @@ ghost use Rattle.wkt_explain.specs.White.{IsPastWhite};
 
 use crate::explanation::{Explanation, Refusal};
 use crate::place::Walk;
-use crate::seen::look;
+use crate::seen::see;
 use crate::table::{message_at_end, message_there};
 use std::alloc::{AllocError, Global};
 use wkt_num::WktNum;
@@ -58,21 +58,21 @@ pub fn refusal<T: WktNum>(text: &str) -> Option<Refusal>
     let mut walk = Walk::start();
     'lexemes: while !walk.is_over() {
         let before = tokens.end();
-        let expected = walk.expected();
-        let Some(item) = tokens.next() else {
+        let Some(seen) = see(&mut tokens) else {
+            let expected = walk.expected();
             let end = past_white(text.as_bytes(), before);
             return Some(Refusal {
-                message: message_at_end::<T>(&walk, expected),
+                message: message_at_end::<T>(walk, expected),
                 start: end,
                 end,
                 expected,
             });
         };
-        let seen = look(item);
         let Some(next) = walk.next(seen) else {
+            let expected = walk.expected();
             let end = tokens.end();
             return Some(Refusal {
-                message: message_there(&walk, expected, seen, &mut tokens),
+                message: message_there(walk, expected, seen, tokens),
                 start: past_white(text.as_bytes(), before),
                 end,
                 expected,

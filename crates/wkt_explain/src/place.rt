@@ -1,5 +1,7 @@
 //! A place in the text of a geometry, and the place after its next lexeme.
 ghost use Rattle.std.specs.Prelude.{◌≡◌, ◌+◌, ◌<◌, ◌≤◌, IfSome};
+ghost use Rattle.wkt_read.specs.Grammar.{kind_word};
+ghost use Rattle.wkt_read.specs.Keywords.{Names};
 ghost use Rattle.wkt_explain.specs.Walks.{part_of, numbers_after, inside, outside, after_kind, after_dimension, after_opening, after_member, after_number, after_item, after_geometry};
 
 use crate::seen::Seen;
@@ -20,7 +22,7 @@ pub(crate) enum Place {
     /// A member of a multipoint begins here.
     Member(Dimension),
     /// A number of a coordinate, after which there are so many more.
-    Number(Part, Dimension, usize),
+    Number(Part, Dimension, u8),
     /// After an item of a part.
     Item(Part, Dimension),
     /// After a geometry.
@@ -34,6 +36,7 @@ pub(crate) struct Walk {
     pub(crate) depth: usize,
 }
 
+#[inline(always)]
 fn at(depth: usize, place: Place) -> Walk
     ensures { result ≡ record { place = place; depth = depth } }
 {
@@ -41,6 +44,7 @@ fn at(depth: usize, place: Place) -> Walk
 }
 
 // What stands in the parentheses after the header of this kind.
+#[inline(always)]
 fn part_of(kind: GeometryType) -> Part
     ensures { result ≡ part_of kind }
 {
@@ -55,7 +59,8 @@ fn part_of(kind: GeometryType) -> Part
 }
 
 /// How many numbers a coordinate has after its first.
-pub(crate) fn numbers_after(dim: Dimension) -> usize
+#[inline(always)]
+pub(crate) fn numbers_after(dim: Dimension) -> u8
     ensures { result ≡ numbers_after dim }
 {
     match dim {
@@ -66,6 +71,7 @@ pub(crate) fn numbers_after(dim: Dimension) -> usize
 }
 
 // Where the first item of a part begins, after its parenthesis.
+#[inline(always)]
 fn inside(part: Part, dim: Dimension, depth: usize) -> Walk
     requires room { depth < usize.MAX }
     ensures place { result ≡ inside part dim depth }
@@ -83,6 +89,7 @@ fn inside(part: Part, dim: Dimension, depth: usize) -> Walk
 }
 
 // After a whole part.
+#[inline(always)]
 fn outside(part: Part, dim: Dimension, depth: usize) -> Walk
     ensures place { result ≡ outside part dim depth }
     ensures deeper { result.depth ≤ depth + 1 }
@@ -97,6 +104,15 @@ fn outside(part: Part, dim: Dimension, depth: usize) -> Walk
     at(depth, place)
 }
 
+/// The kind that the word names, and the dimension that is joined to it. It is a call, so that a walk stays in registers.
+#[inline(never)]
+fn kind_named(word: &str) -> Option<(GeometryType, Option<Dimension>)>
+    ensures { Names result (kind_word word.now) }
+{
+    kind_of(word)
+}
+
+#[inline(always)]
 pub(crate) fn after_kind(depth: usize, seen: Seen<'_>) -> Option<Walk>
     ensures place { result ≡ after_kind depth seen.entry }
     ensures deeper { IfSome result (λ w. w.depth ≤ depth + 1) }
@@ -104,13 +120,14 @@ pub(crate) fn after_kind(depth: usize, seen: Seen<'_>) -> Option<Walk>
     let Seen::Word(word) = seen else {
         return None;
     };
-    let place = match kind_of(word)? {
+    let place = match kind_named(word)? {
         (kind, Some(dim)) => Place::Opening(part_of(kind), dim),
         (kind, None) => Place::Dimension(kind),
     };
     Some(at(depth, place))
 }
 
+#[inline(always)]
 pub(crate) fn after_dimension(kind: GeometryType, depth: usize, seen: Seen<'_>) -> Option<Walk>
     requires room { depth < usize.MAX }
     ensures place { result ≡ after_dimension kind depth seen.entry }
@@ -124,6 +141,7 @@ pub(crate) fn after_dimension(kind: GeometryType, depth: usize, seen: Seen<'_>) 
     after_opening(part_of(kind), Dimension::XY, depth, seen)
 }
 
+#[inline(always)]
 pub(crate) fn after_opening(
     part: Part,
     dim: Dimension,
@@ -141,6 +159,7 @@ pub(crate) fn after_opening(
     }
 }
 
+#[inline(always)]
 pub(crate) fn after_member(dim: Dimension, depth: usize, seen: Seen<'_>) -> Option<Walk>
     ensures place { result ≡ after_member dim depth seen.entry }
     ensures deeper { IfSome result (λ w. w.depth ≤ depth + 1) }
@@ -153,10 +172,11 @@ pub(crate) fn after_member(dim: Dimension, depth: usize, seen: Seen<'_>) -> Opti
     Some(at(depth, place))
 }
 
+#[inline(always)]
 pub(crate) fn after_number(
     part: Part,
     dim: Dimension,
-    more: usize,
+    more: u8,
     depth: usize,
     seen: Seen<'_>,
 ) -> Option<Walk>
@@ -170,6 +190,7 @@ pub(crate) fn after_number(
     }
 }
 
+#[inline(always)]
 pub(crate) fn after_item(part: Part, dim: Dimension, depth: usize, seen: Seen<'_>) -> Option<Walk>
     requires room { depth < usize.MAX }
     ensures place { result ≡ after_item part dim depth seen.entry }
@@ -183,6 +204,7 @@ pub(crate) fn after_item(part: Part, dim: Dimension, depth: usize, seen: Seen<'_
     }
 }
 
+#[inline(always)]
 pub(crate) fn after_geometry(depth: usize, seen: Seen<'_>) -> Option<Walk>
     ensures place { result ≡ after_geometry depth seen.entry }
     ensures deeper { IfSome result (λ w. w.depth ≤ depth + 1) }

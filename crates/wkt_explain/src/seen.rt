@@ -1,10 +1,10 @@
 //! Lexemes, as far as a walk looks at them.
-ghost use Rattle.wkt_num.specs.Bytes.{Lexeme};
-ghost use Rattle.wkt_read.specs.Items.{Says};
-ghost use Rattle.wkt_explain.specs.Walks.{Shows};
+ghost use Rattle.wkt_read.specs.Tokenizer.Unread.{found};
+ghost use Rattle.wkt_explain.specs.Walks.{Shown, Sees};
 
 use wkt_num::WktNum;
-use wkt_read::Token;
+use wkt_read::Tokens;
+use wkt_read::words::Lexeme;
 
 /// A lexeme, as far as a walk looks at it.
 #[derive(Clone, Copy)]
@@ -19,15 +19,27 @@ pub(crate) enum Seen<'a> {
     Unread,
 }
 
-pub(crate) fn look<'a, T: WktNum>(item: Result<Token<'a, T>, &'static str>) -> Seen<'a>
-    ensures { (l : Lexeme) → Says T.read item.entry l → Shows T.read result l }
+#[inline(always)]
+fn look<'a, T: WktNum>(lexeme: Lexeme<'a>) -> Option<Seen<'a>>
+    ensures { Shown T.read (found lexeme.entry) result }
 {
-    match item {
-        Ok(Token::ParenOpen) => Seen::Open,
-        Ok(Token::ParenClose) => Seen::Close,
-        Ok(Token::Comma) => Seen::Comma,
-        Ok(Token::Word(word)) => Seen::Word(word),
-        Ok(Token::Number(_)) => Seen::Number,
-        Err(_) => Seen::Unread,
-    }
+    Some(match lexeme {
+        Lexeme::End => return None,
+        Lexeme::Open => Seen::Open,
+        Lexeme::Close => Seen::Close,
+        Lexeme::Comma => Seen::Comma,
+        Lexeme::Word(word) => Seen::Word(word),
+        Lexeme::Number(digits) => match T::read_number(digits) {
+            Some(_) => Seen::Number,
+            None => Seen::Unread,
+        },
+    })
+}
+
+/// The next lexeme, which is taken; `None` at the text's end. No message is made of a number that isn't read.
+#[inline(always)]
+pub(crate) fn see<'a, T: WktNum>(tokens: &mut Tokens<'a, T>) -> Option<Seen<'a>>
+    ensures { Sees T.read tokens.old result tokens.new }
+{
+    look::<T>(tokens.next_lexeme())
 }

@@ -8,7 +8,7 @@ ghost use Rattle.wkt_explain.specs.Table.{at_end, at_other, at_word, at_bad, at_
 
 use crate::expected::Expected;
 use crate::place::{Place, Walk};
-use crate::seen::{Seen, look};
+use crate::seen::{Seen, see};
 use crate::shape::Part;
 use wkt_num::WktNum;
 use wkt_read::{Message, Tokens};
@@ -108,10 +108,10 @@ fn closings<T: WktNum>(message: Message, count: usize, tokens: &mut Tokens<'_, T
     let mut told = message;
     let mut left = count;
     'places: while left > 0 {
-        let Some(item) = tokens.next() else {
+        let Some(seen) = see(tokens) else {
             return Message::Close;
         };
-        told = closing::<T>(told, look(item));
+        told = closing::<T>(told, seen);
         left -= 1;
     }
     told
@@ -175,26 +175,29 @@ fn stayed<T: WktNum>(
     message
 }
 
-/// The message of a text that is refused at the place for the lexeme that was seen.
+/// The message of a text that is refused at the place for the lexeme that was seen. The tokens behind it come by value, so
+/// that a walk over those before it has them in registers.
+#[inline(never)]
 pub(crate) fn message_there<T: WktNum>(
-    walk: &Walk,
+    walk: Walk,
     expected: Expected,
     seen: Seen<'_>,
-    tokens: &mut Tokens<'_, T>,
+    tokens: Tokens<'_, T>,
 ) -> Message
-    ensures { (l : Lexeme) → Shows T.read seen.entry l → result ≡ told T.read expected (own walk.now.place + walk.now.depth) (l ∷ lexemes_of (coming tokens.old)) }
+    ensures { (l : Lexeme) → Shows T.read seen.entry l → result ≡ told T.read expected (own walk.place + walk.depth) (l ∷ lexemes_of (coming tokens.entry)) }
 {
     let message = at_place::<T>(expected, seen);
     let parts = own(walk.place);
+    let mut rest = tokens;
     if stays::<T>(expected, seen) {
-        return stayed(message, parts, walk.depth, seen, tokens);
+        return stayed(message, parts, walk.depth, seen, &mut rest);
     }
-    closed(message, parts, walk.depth, tokens)
+    closed(message, parts, walk.depth, &mut rest)
 }
 
 /// The message of a text that ends too early, at the place.
-pub(crate) fn message_at_end<T: WktNum>(walk: &Walk, expected: Expected) -> Message
-    ensures { result ≡ told T.read expected (own walk.now.place + walk.now.depth) [] }
+pub(crate) fn message_at_end<T: WktNum>(walk: Walk, expected: Expected) -> Message
+    ensures { result ≡ told T.read expected (own walk.place + walk.depth) [] }
 {
     let parts = own(walk.place);
     if parts > 0 {

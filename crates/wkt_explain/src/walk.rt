@@ -23,6 +23,7 @@ impl Walk {
     }
 
     /// Whether a geometry was walked over that is in no collection.
+    #[inline(always)]
     pub(crate) fn is_over(&self) -> bool
         ensures { result ≡ is_over self.now }
     {
@@ -30,6 +31,7 @@ impl Walk {
     }
 
     /// The place after the lexeme, or none where it is too much.
+    #[inline(always)]
     pub(crate) fn next(&self, seen: Seen<'_>) -> Option<Walk>
         requires room { self.now.depth < usize.MAX }
         ensures place { result ≡ next self.now seen.entry }
@@ -64,7 +66,7 @@ impl Walk {
 }
 
 // Which number of a coordinate has so many more after it.
-fn number_expected(dim: Dimension, more: usize) -> Expected
+fn number_expected(dim: Dimension, more: u8) -> Expected
     ensures { result ≡ number_expected dim more }
 {
     let after_first = numbers_after(dim);

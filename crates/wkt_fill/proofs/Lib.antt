@@ -4,3 +4,4 @@ pub mod Holding
 pub mod Finished
 pub mod Units
 pub mod Nearby
+pub mod Eights

@@ -32,8 +32,9 @@ pub struct Filler<'a> {
     coordinates: usize,
     ring_count: usize,
     polygon_count: usize,
-    pub kind: GeometryType,
+    // Before the kind, so that what isn't looked at for a number is of a width that stays where it is.
     pub dimension: Dimension,
+    pub kind: GeometryType,
     pub status: u32,
 }
 
@@ -230,10 +231,20 @@ impl<'a> Filler<'a> {
         }
     }
 
-    /// The number that stands there, in any form.
+    /// The number that stands there, in any form. What it answers comes through memory, whose place is cleared here, away
+    /// from the way before it, which answers in registers.
+    #[inline(always)]
+    fn number_apart<const D: u32>(self, text: &[u8], at: usize, place: usize) -> Option<At<Self>>
+        requires { at ≤ length text.now }
+        ensures { (feed : Bool) → (count : ℕ) → class_in feed (get_or text.now at 0) ≢ White →
+            GivesNumberIfAny filler_maker feed text.now (read_decimal 127 36 D) place count at self.entry result }
+    {
+        self.number_anywhere::<D>(text, at, place)
+    }
+
     #[cold]
     #[inline(never)]
-    fn number_apart<const D: u32>(self, text: &[u8], at: usize, place: usize) -> Option<At<Self>>
+    fn number_anywhere<const D: u32>(self, text: &[u8], at: usize, place: usize) -> Option<At<Self>>
         requires { at ≤ length text.now }
         ensures { (feed : Bool) → (count : ℕ) → class_in feed (get_or text.now at 0) ≢ White →
             GivesNumberIfAny filler_maker feed text.now (read_decimal 127 36 D) place count at self.entry result }

@@ -3,6 +3,7 @@
 //! Below stands `wkt_events`, whose walk calls this builder; above, `wkt_c`.
 #![tactic(auto)]
 
+mod eight;
 mod fill;
 mod filler;
 mod near;

@@ -6,7 +6,9 @@ ghost use Rattle.std.specs.Str.Parse.{AllDigits, digits_value_after};
 ghost use Rattle.wkt_num.specs.Bytes.{class_of, Run};
 ghost use Rattle.wkt_fill.specs.Near.{BeginsUnits, signed};
 
+use crate::eight::last_eight;
 use crate::tens::{MOST_PLACES, ten_to};
+use std::simd::prelude::*;
 
 /// A number that ends before this place surely fits 64 bits as a whole.
 const MOST: usize = 18;
@@ -37,7 +39,7 @@ pub(crate) fn units_near(places: u32, bytes: &[u8]) -> Option<(i64, usize)>
         let units = scaled(first == 1, whole, ten_to(places))?;
         return Some((units, point));
     }
-    let (all, end) = digits_from(bytes, point + 1, most, whole);
+    let (all, end) = fraction_from(bytes, point + 1, most, whole);
     if end >= most || may_go_on(bytes[end]) {
         return None;
     }
@@ -81,6 +83,44 @@ fn digits_from(bytes: &[u8], from: usize, most: usize, number: u64) -> (u64, usi
         at += 1;
     }
     (all, at)
+}
+
+/// The same of digits after a point, which are read at once where they are few.
+#[inline(always)]
+fn fraction_from(bytes: &[u8], from: usize, most: usize, number: u64) -> (u64, usize)
+    requires few { most ≤ 18 }
+    requires within { most ≤ length bytes.now }
+    requires small { number < 10 ^ from }
+    ensures from { from ≤ result.1 }
+    ensures within { from ≤ most → result.1 ≤ most }
+    ensures digits { AllDigits 10 (slice_range bytes.now from result.1) }
+    ensures value { result.0 ≡ digits_value_after 10 number (slice_range bytes.now from result.1) }
+    ensures small { result.0 < 10 ^ result.1 }
+{
+    let count = digits_near(bytes, from, most);
+    if count == 0 || from + count < 8 {
+        return digits_from(bytes, from, most, number);
+    }
+    let end = from + count;
+    match last_eight(&bytes[..end], count) {
+        Some(fraction) => (number * ten_to(count as u32) + fraction, end),
+        None => digits_from(bytes, from, most, number),
+    }
+}
+
+/// How many digits stand there before a byte that is none, if these are eight bytes before `most`, else 0.
+#[inline(always)]
+fn digits_near(bytes: &[u8], from: usize, most: usize) -> usize
+    requires within { most ≤ length bytes.now }
+    ensures few { result < 8 }
+    ensures within { 0 < result → from + result ≤ most }
+{
+    if from >= most || most - from < 8 {
+        return 0;
+    }
+    let digits = u8x8::from_slice(&bytes[from..]) - u8x8::splat(48);
+    let count = digits.simd_gt(u8x8::splat(9)).to_bitmask().trailing_zeros() as usize;
+    if count < 8 { count } else { 0 }
 }
 
 /// Whether a run may go on with this byte. It doesn't at a space, a closing parenthesis or a comma.

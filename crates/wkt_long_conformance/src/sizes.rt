@@ -102,12 +102,12 @@ impl Mapper<i32, i32> for Swapped {
 // How many coordinates the two-dimensional geometry of the text has, and its text with x for y.
 fn walked(alloc: Global, text: &str) -> Result<(usize, String), Fail> {
     let geometry = Geometry::<i32>::try_from_wkt_str(alloc, text)?;
-    Ok((num_coords(&geometry), swapped(alloc, &geometry)?))
+    Ok((num_coords(&geometry), turned(alloc, &geometry)?))
 }
 
-fn swapped(alloc: Global, geometry: &Geometry<i32>) -> Result<String, Fail> {
-    let swapped = map_coords(alloc, geometry, &Swapped)?;
-    Ok(swapped.wkt_string(alloc)?)
+fn turned(alloc: Global, geometry: &Geometry<i32>) -> Result<String, Fail> {
+    let turned = map_coords(alloc, geometry, &Swapped)?;
+    Ok(turned.wkt_string(alloc)?)
 }
 
 // As many levels as README says that a stack of 8 MB carries.
@@ -117,10 +117,10 @@ fn great_depth(rt: HostRuntime) -> Result<(), Fail> {
     let text = nested(alloc, 10000, 10000)?;
     assert!(rt; copied(alloc, &text)?.as_str() == text.as_str());
     assert!(rt; converted(alloc, &text)?.as_str() == text.as_str());
-    let (coordinates, swapped) = walked(alloc, &text)?;
+    let (coordinates, turned) = walked(alloc, &text)?;
     equal(&rt, coordinates, 1);
-    equal(&rt, swapped.len(), text.len());
-    assert!(rt; swapped.contains("POINT(2 1)"));
+    equal(&rt, turned.len(), text.len());
+    assert!(rt; turned.contains("POINT(2 1)"));
     let open = nested(alloc, 10000, 9999)?;
     assert!(rt; Wkt::<Decimal<6>>::from_str(alloc, &open).is_err());
     Ok(())

@@ -12,7 +12,7 @@ fn shown(alloc: Global, text: &str) -> Result<String, AllocError> {
 }
 
 // Whether the error shows a header of so many letters whole.
-fn tells_prefix(alloc: Global, length: usize) -> Result<bool, AllocError> {
+fn shows_prefix(alloc: Global, length: usize) -> Result<bool, AllocError> {
     let mut text = String::new(alloc);
     let mut wanted = String::from_str(alloc, "Unsupported WKT prefix ")?;
     for _ in 0..length {
@@ -28,8 +28,8 @@ fn tells_prefix(alloc: Global, length: usize) -> Result<bool, AllocError> {
 fn long_prefixes(rt: HostRuntime) -> Result<(), Fail> {
     let alloc = rt.alloc();
     for length in 1..=300 {
-        assert!(rt; tells_prefix(alloc, length)?, "of {length} letters");
+        assert!(rt; shows_prefix(alloc, length)?, "of {length} letters");
     }
-    assert!(rt; tells_prefix(alloc, 100000)?);
+    assert!(rt; shows_prefix(alloc, 100000)?);
     Ok(())
 }

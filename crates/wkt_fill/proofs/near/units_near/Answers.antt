@@ -14,7 +14,7 @@ returns-then-bytes-point-ne46 c =
 pub returns : goal.returns
 returns c =
     let d = c.digits_from-whole in
-    let e = c.digits_from-all in
+    let e = c.fraction_from-all in
     held c.args.places c.args.bytes.now e.result.1 c.in_ok-units-2.units
     (fraction-units c.args.places c.args.bytes.now c.after_minus-first.result d.result.1 c.if-places-gt-MOST_PLACES.false c.after_minus-first.ensures.sign (omega (arith, d.ensures.from, c.if-point-first.false)) (search rules) d.ensures.digits
     e.result.1 e.result.0 c.ten_to-2.result _ (omega (arith, e.ensures.from)) (search rules) c.if-bytes-point-ne46.false e.ensures.digits c.if-after-places.false

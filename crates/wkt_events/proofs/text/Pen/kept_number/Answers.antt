@@ -3,7 +3,7 @@ use Rattle.std.proofs.Common.{rules}
 use Rattle.wkt_num.specs.Number.{ReadsTexts}
 use Rattle.wkt_events.proofs.Runs.{kept-numbered}
 use Rattle.wkt_events.proofs.TextsUtf8.{num-utf8}
-use Rattle.wkt_events.proofs.text.Pen.number_apart.Goals as goal
+use Rattle.wkt_events.proofs.text.Pen.kept_number.Goals as goal
 
 pub returns-in-Some-clause-some : goal.returns-in-Some-clause-some
 returns-in-Some-clause-some g c =

@@ -1,0 +1,57 @@
+//! The digits that end some bytes, at most eight at once.
+ghost use Rattle.std.specs.Prelude.{◌≡◌, ◌+◌, ◌-◌, ◌*◌, ◌≤◌, ◌<◌, IfSome, length, drop};
+ghost use Rattle.std.specs.Str.Parse.{AllDigits, digits_value};
+ghost use Rattle.wkt_num.specs.Lanes.{DigitLanes, lanes_value, last_lanes};
+
+use std::simd::prelude::*;
+
+/// Sixteen lanes to hide, and sixteen to keep.
+static KEEP: [u8; 32] = [
+    0, 0, 0, 0, 0, 0, 0, 0, 0, 0, 0, 0, 0, 0, 0, 0, 255, 255, 255, 255, 255, 255, 255, 255, 255,
+    255, 255, 255, 255, 255, 255, 255,
+];
+
+/// The number that the last `count` bytes spell, if they are digits. `None` says nothing of them.
+#[inline(always)]
+pub(crate) fn last_eight(body: &[u8], count: usize) -> Option<u64>
+    requires { (8 ≤ length body.now) × (count ≤ 8) }
+    ensures digits { IfSome result (λ _. AllDigits 10 (drop (length body.now - count) body.now)) }
+    ensures value { IfSome result (λ n. n ≡ digits_value 10 (drop (length body.now - count) body.now)) }
+{
+    let digits = lanes(body, count);
+    if digits.simd_gt(u8x8::splat(9)).to_bitmask() != 0 {
+        return None;
+    }
+    Some(number(digits))
+}
+
+/// The last `count` bytes less 48, after lanes of 0.
+#[inline(always)]
+fn lanes(body: &[u8], count: usize) -> u8x8
+    requires { (8 ≤ length body.now) × (count ≤ 8) }
+    ensures { result ≡ last_lanes 8 count body.now }
+{
+    let bytes = u8x8::from_slice(&body[body.len() - 8..]);
+    (bytes - u8x8::splat(48)) & u8x8::from_slice(&KEEP[8 + count..])
+}
+
+/// The number of eight digits.
+#[inline(always)]
+fn number(digits: u8x8) -> u64
+    requires { DigitLanes digits }
+    ensures { result ≡ lanes_value digits }
+{
+    // Two digits a and b in 16 bits are a + 256 b, and 2561 times that has 10 a + b in its upper byte.
+    let pairs = (u16x4::from_le_bytes(digits) * u16x4::splat(2561)) >> u16x4::splat(8);
+    let [a, b, c, d] = pairs.to_array();
+    joined(a, b, c, d)
+}
+
+/// The number of four pairs of digits.
+#[inline(always)]
+fn joined(a: u16, b: u16, c: u16, d: u16) -> u64
+    requires { (a < 100) × (b < 100) × (c < 100) × (d < 100) }
+    ensures { result ≡ a * 1000000 + b * 10000 + c * 100 + d }
+{
+    u64::from(a) * 1_000_000 + u64::from(b) * 10_000 + u64::from(c) * 100 + u64::from(d)
+}

@@ -1,0 +1,130 @@
+#!/usr/bin/env python3
+"""Tries the wrong bodies by the functions that they change, over the libraries that `rt ci` left: wrong_functions.py [CRATE..]
+
+tests/wrong_bodies.sh checks the whole crate with each of them. This checks the functions alone, in seconds, several at a
+time, and proves no library again: so all can be tried after a gate. A wrong body that its functions let through is tried
+by its file and then by its crate, since a function without clauses is held by those that call it.
+"""
+
+import concurrent.futures
+import os
+import pathlib
+import re
+import shutil
+import subprocess
+import sys
+import tempfile
+
+from lib_for_c import TOP, below, uses_of
+
+FUNCTION = re.compile(r"\s*(?:pub(?:\([a-z]+\))?\s+)?(?:const\s+)?(?:unsafe\s+)?(?:extern \"C\" )?fn\s+(\w+)")
+IMPL = re.compile(r"impl(?:<[^{]*?>)?\s+(?:(?:\w+::)*(\w+)(?:<.*?>)?\s+for\s+)?&?(?:'\w+ )?(?:mut )?(\w+)")
+TRAIT = re.compile(r"(?:pub(?:\([a-z]+\))? )?trait\s+(\w+)")
+
+
+class Edit:
+    """A wrong body: for each change its file, and the old and the new text."""
+
+    def __init__(self, crate, path):
+        self.crate, self.path, self.changes = crate, path, []
+        file = old = None
+        for line in path.read_text(encoding="utf-8").splitlines():
+            word, _, text = line.partition(": ")
+            if word == "file":
+                file = text.strip()
+            elif word == "old":
+                old = text
+            elif line.startswith("new:"):
+                self.changes.append((file, old, text))
+
+    def applied(self, folder):
+        """Applies it in a copy of the crate."""
+        for file, old, new in self.changes:
+            path = pathlib.Path(folder, file)
+            text = path.read_text(encoding="utf-8")
+            if text.count(old) != 1:
+                sys.exit(f"{self.path}: stale")
+            path.write_text(text.replace(old, new), encoding="utf-8")
+
+    def named(self):
+        """What to check, from the narrowest on: the functions by type and name, by name, by file, and the whole crate."""
+        found = [named_at(self.crate, file, old) for file, old, _ in self.changes]
+        levels = [{name for name in names if name} for names in zip(*found)]
+        return [*(level for level in levels if level and found[0][1]), set()]
+
+
+def named_at(crate, file, old):
+    """The function around a text by its type and name and by its name alone, and the file's module."""
+    text = pathlib.Path(TOP, "crates", crate, file).read_text(encoding="utf-8")
+    lines = text[: text.find(old) + len(old)].split("\n")
+    module = re.sub(r"^src/|\.rt$", "", file).replace("/", "::")
+    at = next((at for at in reversed(range(len(lines))) if FUNCTION.match(lines[at])), None)
+    if at is None:
+        return None, None, module
+    name, owner = FUNCTION.match(lines[at])[1], None
+    if lines[at].startswith(" "):
+        head = next(line for line in reversed(lines[:at]) if IMPL.match(line) or TRAIT.match(line))
+        impl = IMPL.match(head)
+        owner = impl[2] + (impl[1] or "") if impl else TRAIT.match(head)[1]
+    return (f"{owner}::{name}" if owner else f"{module}::{name}"), name, module
+
+
+def words_for(crate, uses, is_static):
+    """The words of a check of the crate over the libraries that stand."""
+    kit = os.path.dirname(os.path.dirname(os.path.realpath(shutil.which("rt"))))
+    made = {name: f"{TOP}/crates/{name}/out/rlib" for name in below(crate, uses)}
+    for name, folder in made.items():
+        if not os.path.isdir(f"{folder}/{name}.rlib"):
+            sys.exit(f"{crate}: no library of {name}: run rt ci")
+    is_program = os.path.exists(f"{TOP}/crates/{crate}/src/main.rt")
+    words = [f"{kit}/bin/rattle", "check", "--crate-name", crate, f"src/{'main' if is_program else 'lib'}.rt"]
+    words += ["--extern", f"std={kit}/rlibs/std.rlib", "-L", f"dependency={kit}/rlibs"]
+    for name in uses[crate]:
+        words += ["--extern", f"{name}={made.get(name, f'{kit}/rlibs')}/{name}.rlib"]
+    for folder in made.values():
+        words += ["-L", f"dependency={folder}"]
+    words += ["--antt-project", f"{kit}/rattle/logic/antt-project.json", "--logic-built", f"{kit}/logic_built"]
+    return words + ["--links", f"{crate}=", "--jobs", "1"] + ["--crate-type", "staticlib"] * is_static
+
+
+def tried(edit, words):
+    """Whether the wrong body is refused, and what says so."""
+    with tempfile.TemporaryDirectory() as room:
+        for part in ("src", "specs", "proofs"):
+            if os.path.isdir(f"{TOP}/crates/{edit.crate}/{part}"):
+                shutil.copytree(f"{TOP}/crates/{edit.crate}/{part}", f"{room}/{part}")
+        edit.applied(room)
+        for names in edit.named():
+            only = [word for name in sorted(names) for word in ("--only", name)]
+            ran = subprocess.run([*words, *only], cwd=room, stdin=subprocess.DEVNULL, capture_output=True, text=True, errors="replace")
+            said = ran.stdout + ran.stderr
+            refused = re.search(r"^\w+ \S+: not proved$", said, re.M)
+            if ran.returncode == 1 and refused:
+                return True, refused[0]
+            if ran.returncode not in (0, 2):
+                return False, f"not tried: {said.strip().splitlines()[-1] if said.strip() else ran.returncode}"
+    return False, "the whole crate is proved with it"
+
+
+def main():
+    uses = uses_of()
+    with open(f"{TOP}/crates.txt", encoding="utf-8") as rows:
+        static = {row.split()[0] for row in rows if " staticlib:" in row}
+    folder = pathlib.Path(TOP, "tests/wrong_bodies")
+    crates = sys.argv[1:] or sorted(it.name for it in folder.iterdir())
+    edits = []
+    for crate in crates:
+        paths = [*folder.joinpath(crate).glob("*.edit"), *pathlib.Path(TOP, "crates", crate, "must-fail").glob("*.edit")]
+        words = words_for(crate, uses, crate in static)
+        edits += [(Edit(crate, path), words) for path in sorted(paths)]
+    passed = 0
+    with concurrent.futures.ThreadPoolExecutor(len(os.sched_getaffinity(0))) as pool:
+        for (edit, _), (refused, why) in zip(edits, pool.map(lambda it: tried(*it), edits)):
+            passed += refused
+            print(f"{edit.crate}/{edit.path.stem}: {'refused' if refused else 'NOT REFUSED'}: {why}", flush=True)
+    print(f"{passed} refused, {len(edits) - passed} not")
+    return 0 if passed == len(edits) else 1
+
+
+if __name__ == "__main__":
+    sys.exit(main())
