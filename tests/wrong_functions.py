@@ -98,9 +98,9 @@ def tried(edit, words):
             only = [word for name in sorted(names) for word in ("--only", name)]
             ran = subprocess.run([*words, *only], cwd=room, stdin=subprocess.DEVNULL, capture_output=True, text=True, errors="replace")
             said = ran.stdout + ran.stderr
-            refused = re.search(r"^\w+ \S+: not proved$", said, re.M)
-            if ran.returncode == 1 and refused:
-                return True, refused[0]
+            refused = re.search(r"^(only=\d+ proved=\d+|logic=not-proved.*)$", said, re.M)
+            if ran.returncode == 1 and refused and not re.search(r"error\[[\w-]+\]", said):
+                return True, f"{' '.join(sorted(names)) or 'the crate'}: {refused[0]}"
             if ran.returncode not in (0, 2):
                 return False, f"not tried: {said.strip().splitlines()[-1] if said.strip() else ran.returncode}"
     return False, "the whole crate is proved with it"
