@@ -11,7 +11,7 @@ static KEEP: [u8; 32] = [
     255, 255, 255, 255, 255, 255, 255,
 ];
 
-/// The number that the last `count` bytes spell, if they are digits. `None` says nothing of them.
+/// The number that the last `count` bytes spell. After `None` they may still be digits.
 #[inline(always)]
 pub(crate) fn last_eight(body: &[u8], count: usize) -> Option<u64>
     requires { (8 ≤ length body.now) × (count ≤ 8) }
