@@ -4,6 +4,7 @@
 ghost use Rattle.std.specs.Prelude.{◌≡◌, ℕ, Some, None, Option, IfOk, IfErr};
 ghost use Rattle.wkt_access.specs.Faults.{coordinate_fault, coordinates_fault, point_fault, polygon_fault, fault, under};
 ghost use Rattle.wkt_write.specs.Known.{Checks, ChecksShape, KnownCoord, KnownCoords, KnownPoint, KnownPolygon};
+ghost use Rattle.wkt_access.specs.Parts.{IsCollectionOf};
 ghost use Rattle.wkt_access.specs.Shapes.{printed, dimension};
 ghost use Rattle.wkt_access.specs.Values.{size};
 
@@ -123,6 +124,7 @@ pub(crate) fn check_header(d: Dimensions) -> Result<usize, Error>
 }
 
 /// The first error of a geometry of any kind.
+#[cycle(geometries)]
 pub(crate) fn check_geometry<G: GeometryTrait>(g: &G) -> Result<(), Error>
     ensures { ChecksShape G.T.is_value result (G.shape g.now) }
 {
@@ -133,15 +135,22 @@ pub(crate) fn check_geometry<G: GeometryTrait>(g: &G) -> Result<(), Error>
         GeometryType::MultiPoint(m) => MultiPoint(m).check(),
         GeometryType::MultiLineString(m) => MultiLineString(m).check(),
         GeometryType::MultiPolygon(m) => MultiPolygon(m).check(),
-        GeometryType::GeometryCollection(n) => {
-            check_header(g.dim())?;
-            for i in 0..n {
-                check_geometry(g.geometry(i))?;
-            }
-            Ok(())
-        }
+        GeometryType::GeometryCollection(n) => check_members(g, n),
         GeometryType::Rect(r) => Rect(r).check(),
         GeometryType::Triangle(y) => Triangle(y).check(),
         GeometryType::Line(l) => Line(l).check(),
     }
+}
+
+/// The first error of a geometry that is a collection of `count` members.
+#[cycle(geometries)]
+fn check_members<G: GeometryTrait>(g: &G, count: usize) -> Result<(), Error>
+    requires { IsCollectionOf count (G.shape g.now) }
+    ensures { ChecksShape G.T.is_value result (G.shape g.now) }
+{
+    check_header(g.dim())?;
+    for i in 0..count {
+        check_geometry(g.geometry(i))?;
+    }
+    Ok(())
 }

@@ -86,6 +86,7 @@ pub(crate) fn check_listed<X: Items>(dim: Dimensions, items: &X) -> Result<(), E
 }
 
 /// Writes the items, with commas between them.
+#[tactic(auto, using(crate::proofs::Firsts::none_at, crate::proofs::Listing::listing_broken_before, crate::proofs::Listing::listing_broken_at, wkt_num::proofs::Calls::puts_err))]
 fn put_items<W: TextSink, X: Items>(f: &mut W, items: &X, k: usize) -> fmt::Result
     requires { first_fault (X.fault_of k) (X.items items.now) ≡ None }
     ensures { Puts W.sink f.old (separated (codes ",") (map (X.text_of k) (X.items items.now))) f.new result }
@@ -98,6 +99,7 @@ fn put_items<W: TextSink, X: Items>(f: &mut W, items: &X, k: usize) -> fmt::Resu
 }
 
 /// Writes the items, with a comma before each.
+#[tactic(auto, using(crate::proofs::Firsts::none_at, crate::proofs::Listing::following_broken_before, crate::proofs::Listing::following_broken_at, wkt_num::proofs::Calls::puts_err, wkt_num::proofs::Calls::adds_none))]
 pub(crate) fn put_following<W: TextSink, X: Items>(f: &mut W, items: &X, k: usize) -> fmt::Result
     requires { first_fault (X.fault_of k) (X.items items.now) ≡ None }
     ensures { Puts W.sink f.old (each_after (codes ",") (map (X.text_of k) (X.items items.now))) f.new result }

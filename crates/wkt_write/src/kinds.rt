@@ -1,9 +1,9 @@
 //! The two passes of a writer, by kind: the first looks for an error, and the second writes a shape without one.
 //!
-//! `write` and `push` are written once, over [`Kind`].
+//! A writer is one function over [`Kind`].
 #![tactic(auto, using(crate::proofs::Firsts::none_at))]
 
-ghost use Rattle.std.specs.Prelude.{◌≡◌, ℕ, List, None};
+ghost use Rattle.std.specs.Prelude.{◌≡◌, None};
 ghost use Rattle.wkt_access.specs.Faults.{fault};
 ghost use Rattle.wkt_access.specs.Parts.{collection_of};
 ghost use Rattle.wkt_access.specs.Shapes.{Shape};
@@ -32,25 +32,19 @@ use wkt_num::{TextSink, WktNum};
 /// A geometry of one kind, as its writer sees it.
 pub(crate) trait Kind {
     /// The type of its numbers.
-    ghost Number: { Type 0 };
-
-    /// Which of them are values.
-    ghost is_value: { Number → Type 0 };
-
-    /// The text of a number.
-    ghost num: { Number → List ℕ };
+    type T: WktNum;
 
     /// Its shape.
-    ghost shape: { Self → Shape Number };
+    ghost shape: { Self → Shape Self.T };
 
     /// Looks for the first error.
     fn check(&self) -> Result<(), Error>
-        ensures { ChecksShape is_value result (shape self.now) };
+        ensures { ChecksShape Self.T.is_value result (shape self.now) };
 
     /// Writes the text.
     fn put<W: TextSink>(&self, f: &mut W) -> fmt::Result
         requires { fault (shape self.now) ≡ None }
-        ensures { Puts W.sink f.old (shape_text num (shape self.now)) f.new result };
+        ensures { Puts W.sink f.old (shape_text Self.T.num (shape self.now)) f.new result };
 }
 
 /// A geometry of any kind.
@@ -58,11 +52,7 @@ pub(crate) trait Kind {
 pub(crate) struct AnyGeometry<'a, G>(pub(crate) &'a G);
 
 impl<G: GeometryTrait> Kind for AnyGeometry<'_, G> {
-    ghost Number = { G.T };
-
-    ghost is_value = { G.T.is_value };
-
-    ghost num = { G.T.num };
+    type T = G::T;
 
     ghost shape = { λ x. G.shape x.0.now };
 
@@ -80,11 +70,7 @@ impl<G: GeometryTrait> Kind for AnyGeometry<'_, G> {
 pub(crate) struct Point<'a, P>(pub(crate) &'a P);
 
 impl<P: PointTrait> Kind for Point<'_, P> {
-    ghost Number = { P.T };
-
-    ghost is_value = { P.T.is_value };
-
-    ghost num = { P.T.num };
+    type T = P::T;
 
     ghost shape = { λ x. Shape.point (P.dimension x.0.now) (P.coordinate x.0.now) };
 
@@ -105,11 +91,7 @@ impl<P: PointTrait> Kind for Point<'_, P> {
 pub(crate) struct LineString<'a, L>(pub(crate) &'a L);
 
 impl<L: LineStringTrait> Kind for LineString<'_, L> {
-    ghost Number = { L.T };
-
-    ghost is_value = { L.T.is_value };
-
-    ghost num = { L.T.num };
+    type T = L::T;
 
     ghost shape = { λ x. Shape.line_string (L.dimension x.0.now) (L.coordinates x.0.now) };
 
@@ -129,11 +111,7 @@ impl<L: LineStringTrait> Kind for LineString<'_, L> {
 pub(crate) struct Polygon<'a, Y>(pub(crate) &'a Y);
 
 impl<Y: PolygonTrait> Kind for Polygon<'_, Y> {
-    ghost Number = { Y.T };
-
-    ghost is_value = { Y.T.is_value };
-
-    ghost num = { Y.T.num };
+    type T = Y::T;
 
     ghost shape = { λ x. Shape.polygon (Y.dimension x.0.now) (Y.polygon x.0.now) };
 
@@ -156,11 +134,7 @@ impl<Y: PolygonTrait> Kind for Polygon<'_, Y> {
 pub(crate) struct MultiPoint<'a, M>(pub(crate) &'a M);
 
 impl<M: MultiPointTrait> Kind for MultiPoint<'_, M> {
-    ghost Number = { M.T };
-
-    ghost is_value = { M.T.is_value };
-
-    ghost num = { M.T.num };
+    type T = M::T;
 
     ghost shape = { λ x. Shape.multi_point (M.dimension x.0.now) (M.points x.0.now) };
 
@@ -180,11 +154,7 @@ impl<M: MultiPointTrait> Kind for MultiPoint<'_, M> {
 pub(crate) struct MultiLineString<'a, M>(pub(crate) &'a M);
 
 impl<M: MultiLineStringTrait> Kind for MultiLineString<'_, M> {
-    ghost Number = { M.T };
-
-    ghost is_value = { M.T.is_value };
-
-    ghost num = { M.T.num };
+    type T = M::T;
 
     ghost shape = { λ x. Shape.multi_line_string (M.dimension x.0.now) (M.line_strings x.0.now) };
 
@@ -204,11 +174,7 @@ impl<M: MultiLineStringTrait> Kind for MultiLineString<'_, M> {
 pub(crate) struct MultiPolygon<'a, M>(pub(crate) &'a M);
 
 impl<M: MultiPolygonTrait> Kind for MultiPolygon<'_, M> {
-    ghost Number = { M.T };
-
-    ghost is_value = { M.T.is_value };
-
-    ghost num = { M.T.num };
+    type T = M::T;
 
     ghost shape = { λ x. Shape.multi_polygon (M.dimension x.0.now) (M.polygons x.0.now) };
 
@@ -228,11 +194,7 @@ impl<M: MultiPolygonTrait> Kind for MultiPolygon<'_, M> {
 pub(crate) struct Collection<'a, C>(pub(crate) &'a C);
 
 impl<C: GeometryCollectionTrait> Kind for Collection<'_, C> {
-    ghost Number = { C.T };
-
-    ghost is_value = { C.T.is_value };
-
-    ghost num = { C.T.num };
+    type T = C::T;
 
     ghost shape = { λ x. collection_of (C.dimension x.0.now) (C.geometries x.0.now) };
 
@@ -259,11 +221,7 @@ fn know_rect_corner<C: CoordTrait>(c: &C)
 pub(crate) struct Rect<'a, R>(pub(crate) &'a R);
 
 impl<R: RectTrait> Kind for Rect<'_, R> {
-    ghost Number = { R.T };
-
-    ghost is_value = { R.T.is_value };
-
-    ghost num = { R.T.num };
+    type T = R::T;
 
     ghost shape = { λ x. Shape.rect (R.dimension x.0.now) (R.min_corner x.0.now) (R.max_corner x.0.now) };
 
@@ -292,11 +250,7 @@ impl<R: RectTrait> Kind for Rect<'_, R> {
 pub(crate) struct Triangle<'a, Y>(pub(crate) &'a Y);
 
 impl<Y: TriangleTrait> Kind for Triangle<'_, Y> {
-    ghost Number = { Y.T };
-
-    ghost is_value = { Y.T.is_value };
-
-    ghost num = { Y.T.num };
+    type T = Y::T;
 
     ghost shape = { λ x. Shape.triangle (Y.dimension x.0.now)
         (Y.first_corner x.0.now) (Y.second_corner x.0.now) (Y.third_corner x.0.now) };
@@ -322,11 +276,7 @@ impl<Y: TriangleTrait> Kind for Triangle<'_, Y> {
 pub(crate) struct Line<'a, L>(pub(crate) &'a L);
 
 impl<L: LineTrait> Kind for Line<'_, L> {
-    ghost Number = { L.T };
-
-    ghost is_value = { L.T.is_value };
-
-    ghost num = { L.T.num };
+    type T = L::T;
 
     ghost shape = { λ x. Shape.line (L.dimension x.0.now) (L.from x.0.now) (L.to x.0.now) };
 
