@@ -5,7 +5,7 @@ use Rattle.std.proofs.lemmas.List.{append-nil}
 use Rattle.wkt_num.specs.Sink.{Sink, Adds, Breaks, Puts}
 use Rattle.wkt_access.specs.Shapes.{PolygonShape, rings_of, rings_under, rect_ring}
 use Rattle.wkt_access.specs.Texts.{separated, listed, coordinate_text}
-use Rattle.wkt_write.specs.Pieces.{each_after, has_none, opening, closing, cut_coordinates, cut_point, cut_polygon, cut_coordinate, two_coordinates_text, triangle_ring_text, rect_corner_text, rect_ring_text}
+use Rattle.wkt_write.specs.Pieces.{each_after, has_none, opening, closing, cut_coordinates, cut_point, cut_polygon, cut_coordinate, two_coordinates_text, triangle_text, rect_corner_text, rect_ring_text}
 use Rattle.wkt_num.proofs.Calls.{breaks_first, breaks_then, puts_then}
 use Rattle.wkt_write.proofs.Lists.{none_mapped}
 
@@ -96,7 +96,7 @@ joined_two s t u = joined_more s t u [] ∙ ap (λ l. t ++ (s ++ l)) (joined_one
 joined_next : (s t u l : List ℕ) (ts : List (List ℕ)) → separated s (u ∷ ts) ≡ l → separated s (t ∷ u ∷ ts) ≡ t ++ (s ++ l)
 joined_next s t u l ts h = joined_more s t u ts ∙ ap (λ z. t ++ (s ++ z)) h
 
-pub triangle_ring_listed : {N : Type 0} (num : N → List ℕ) (k : ℕ) (a b c : List N) → listed (map (cut_coordinate num k) (a ∷ b ∷ c ∷ a ∷ [])) ≡ codes "(" ++ (triangle_ring_text num k a b c ++ codes ")")
+triangle_ring_listed : {N : Type 0} (num : N → List ℕ) (k : ℕ) (a b c : List N) → listed (map (cut_coordinate num k) (a ∷ b ∷ c ∷ a ∷ [])) ≡ codes "(" ++ ((two_coordinates_text num k a b ++ (codes "," ++ two_coordinates_text num k c a)) ++ codes ")")
 unfolding listed
 triangle_ring_listed num k a b c =
     let x = cut_coordinate num k a in
@@ -117,8 +117,10 @@ pub one_listed : (t : List ℕ) → listed (t ∷ []) ≡ codes "(" ++ (t ++ cod
 unfolding separated listed
 one_listed t = ap (λ l. codes "(" ++ (l ++ codes ")")) (append-nil t)
 
-pub triangle_listed : {N : Type 0} (num : N → List ℕ) (k : ℕ) (a b c : List N) → listed (map (cut_coordinates num k) ((a ∷ b ∷ c ∷ a ∷ []) ∷ [])) ≡ codes "((" ++ (triangle_ring_text num k a b c ++ codes "))")
+pub triangle_listed : {N : Type 0} (num : N → List ℕ) (k : ℕ) (a b c : List N) → listed (map (cut_coordinates num k) ((a ∷ b ∷ c ∷ a ∷ []) ∷ [])) ≡ triangle_text num k a b c
 triangle_listed num k a b c =
+    let ab = two_coordinates_text num k a b in
+    let ca = two_coordinates_text num k c a in
     one_listed (cut_coordinates num k (a ∷ b ∷ c ∷ a ∷ []))
     ∙ ap (λ l. codes "(" ++ (l ++ codes ")")) (triangle_ring_listed num k a b c)
-    ∙ ap (λ l. codes "((" ++ l) (append_assoc (triangle_ring_text num k a b c) (codes ")") (codes ")"))
+    ∙ ap (λ l. codes "((" ++ l) (append_assoc (ab ++ (codes "," ++ ca)) (codes ")") (codes ")") ∙ (append_assoc ab (codes "," ++ ca) (codes "))") ∙ ap (λ l. ab ++ l) (append_assoc (codes ",") ca (codes "))"))))

@@ -15,6 +15,7 @@ use Rattle.wkt_access.specs.Values.{size}
 use Rattle.wkt_num.specs.Sink.{Sink, Adds, Breaks, Puts}
 use Rattle.wkt_access.specs.Texts.{headed, listed, suffix, space_if_empty, coordinate_text, coordinates_text, polygon_text, text, texts}
 use Rattle.wkt_access.proofs.Members.{each_gathered}
+use Rattle.wkt_write.proofs.Members.{of_collection}
 use Rattle.wkt_write.proofs.Bracketed.{one_listed, rect_ring_listed}
 use Rattle.wkt_num.proofs.Calls.{breaks_first, breaks_then, puts_then}
 
@@ -93,16 +94,9 @@ by_header None inside h = cc
 by_header (Some k) inside h = h
 
 pub collection_text : {N : Type 0} (num : N → List ℕ) (n : ℕ) (s : Shape N) → IsCollectionOf n s → shape_text num s ≡ headed (codes "GEOMETRYCOLLECTION") (dimension (dimension_of s)) (map (shape_text num) (members_of s))
-collection_text num n (Shape.collection d gs) h = shapes_text num d gs
-collection_text num n (Shape.point d c) h = absurd h
-collection_text num n (Shape.line_string d cs) h = absurd h
-collection_text num n (Shape.polygon d y) h = absurd h
-collection_text num n (Shape.multi_point d ps) h = absurd h
-collection_text num n (Shape.multi_line_string d ls) h = absurd h
-collection_text num n (Shape.multi_polygon d ys) h = absurd h
-collection_text num n (Shape.rect d a b) h = absurd h
-collection_text num n (Shape.triangle d a b c) h = absurd h
-collection_text num n (Shape.line d a b) h = absurd h
+collection_text {N} num n =
+    of_collection (λ (s : Shape N). shape_text num s ≡ headed (codes "GEOMETRYCOLLECTION") (dimension (dimension_of s)) (map (shape_text num) (members_of s))) n
+    (λ d gs h. shapes_text num d gs)
 
 -- under a header that is printed nothing is refused
 pub under_clean : (d : Dimensions) (inside : ℕ → Option Error) → under (printed d) inside ≡ None → inside (size (dimension d)) ≡ None

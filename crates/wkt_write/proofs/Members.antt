@@ -20,31 +20,28 @@ pub faults_each : {N : Type 0} (gs : Shapes N) → faults gs ≡ first_fault fau
 faults_each Shapes.no_shapes = refl
 faults_each (Shapes.more_shapes g gs) = ap (option_or (fault g)) (faults_each gs)
 
+-- what holds of the collections of n members holds of each shape that is one
+pub of_collection : {N : Type 0} (P : Shape N → Type 0) (n : ℕ) → ((d : Dimensions) (gs : Shapes N) → n ≡ length (each gs) → P (Shape.collection d gs)) → (s : Shape N) → IsCollectionOf n s → P s
+of_collection P n f (Shape.collection d gs) h = f d gs h
+of_collection P n f (Shape.point d c) h = absurd h
+of_collection P n f (Shape.line_string d cs) h = absurd h
+of_collection P n f (Shape.polygon d y) h = absurd h
+of_collection P n f (Shape.multi_point d ps) h = absurd h
+of_collection P n f (Shape.multi_line_string d ls) h = absurd h
+of_collection P n f (Shape.multi_polygon d ys) h = absurd h
+of_collection P n f (Shape.rect d a b) h = absurd h
+of_collection P n f (Shape.triangle d a b c) h = absurd h
+of_collection P n f (Shape.line d a b) h = absurd h
+
 -- the count of a collection's members
 pub members_counted : {N : Type 0} (n : ℕ) (s : Shape N) → IsCollectionOf n s → n ≡ length (members_of s)
-members_counted n (Shape.collection d gs) h = h
-members_counted n (Shape.point d c) h = absurd h
-members_counted n (Shape.line_string d cs) h = absurd h
-members_counted n (Shape.polygon d y) h = absurd h
-members_counted n (Shape.multi_point d ps) h = absurd h
-members_counted n (Shape.multi_line_string d ls) h = absurd h
-members_counted n (Shape.multi_polygon d ys) h = absurd h
-members_counted n (Shape.rect d a b) h = absurd h
-members_counted n (Shape.triangle d a b c) h = absurd h
-members_counted n (Shape.line d a b) h = absurd h
+members_counted {N} n = of_collection (λ (s : Shape N). n ≡ length (members_of s)) n (λ d gs h. h)
 
 -- the error of a collection
 pub collection_fault : {N : Type 0} (n : ℕ) (s : Shape N) → IsCollectionOf n s → fault s ≡ under (printed (dimension_of s)) (λ _. first_fault fault (members_of s))
-collection_fault n (Shape.collection d gs) h = ap (λ o. under (printed d) (λ _. o)) (faults_each gs)
-collection_fault n (Shape.point d c) h = absurd h
-collection_fault n (Shape.line_string d cs) h = absurd h
-collection_fault n (Shape.polygon d y) h = absurd h
-collection_fault n (Shape.multi_point d ps) h = absurd h
-collection_fault n (Shape.multi_line_string d ls) h = absurd h
-collection_fault n (Shape.multi_polygon d ys) h = absurd h
-collection_fault n (Shape.rect d a b) h = absurd h
-collection_fault n (Shape.triangle d a b c) h = absurd h
-collection_fault n (Shape.line d a b) h = absurd h
+collection_fault {N} n =
+    of_collection (λ (s : Shape N). fault s ≡ under (printed (dimension_of s)) (λ _. first_fault fault (members_of s))) n
+    (λ d gs h. ap (λ o. under (printed d) (λ _. o)) (faults_each gs))
 
 -- a collection's header is refused
 pub collection_refused : {N : Type 0} (n : ℕ) (s : Shape N) (d : Dimensions) (e : Error) → IsCollectionOf n s → d ≡ dimension_of s → ((inside : ℕ → Option Error) → under (printed d) inside ≡ Some e) → fault s ≡ Some e
@@ -83,13 +80,5 @@ known_gathered is_value (g ∷ gs) h = (h.0, known_gathered is_value gs h.1)
 
 -- a collection whose members are known
 pub collection_known : {N : Type 0} (is_value : N → Type 0) (n : ℕ) (s : Shape N) → IsCollectionOf n s → AllByRecursion (Known is_value) (members_of s) → Known is_value s
-collection_known is_value n (Shape.collection d gs) h g = known_each is_value gs g
-collection_known is_value n (Shape.point d c) h g = absurd h
-collection_known is_value n (Shape.line_string d cs) h g = absurd h
-collection_known is_value n (Shape.polygon d y) h g = absurd h
-collection_known is_value n (Shape.multi_point d ps) h g = absurd h
-collection_known is_value n (Shape.multi_line_string d ls) h g = absurd h
-collection_known is_value n (Shape.multi_polygon d ys) h g = absurd h
-collection_known is_value n (Shape.rect d a b) h g = absurd h
-collection_known is_value n (Shape.triangle d a b c) h g = absurd h
-collection_known is_value n (Shape.line d a b) h g = absurd h
+collection_known {N} is_value n =
+    of_collection (λ (s : Shape N). AllByRecursion (Known is_value) (members_of s) → Known is_value s) n (λ d gs h. known_each is_value gs)

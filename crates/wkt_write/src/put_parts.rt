@@ -7,7 +7,7 @@
 ghost use Rattle.std.specs.Prelude.{◌≡◌, ◌≤◌, ◌<◌, [], ◌∷◌, ◌++◌, length, Some, None, map, codes, option_to_list};
 ghost use Rattle.wkt_access.specs.Faults.{coordinates_fault, point_fault, polygon_fault, first_fault};
 ghost use Rattle.wkt_access.specs.Shapes.{rings_of};
-ghost use Rattle.wkt_write.specs.Pieces.{before, each_after, has_none, opening, closing, gap, cut_coordinate, cut_coordinates, cut_point, cut_polygon, two_coordinates_text, triangle_ring_text, rect_corner_text, rect_ring_text};
+ghost use Rattle.wkt_write.specs.Pieces.{before, each_after, has_none, opening, closing, gap, cut_coordinate, cut_coordinates, cut_point, cut_polygon, two_coordinates_text, triangle_text, rect_corner_text, rect_ring_text};
 ghost use Rattle.wkt_access.specs.Texts.{separated, listed, suffix};
 ghost use Rattle.wkt_num.specs.Sink.{Puts};
 
@@ -196,25 +196,6 @@ fn put_two_coords<W: TextSink, C: CoordTrait>(f: &mut W, a: &C, b: &C, k: usize)
     put_coord(f, b, k)
 }
 
-/// Writes three coordinates and the first again, with commas between them.
-fn put_triangle_ring<W: TextSink, C: CoordTrait>(
-    f: &mut W,
-    a: &C,
-    b: &C,
-    c: &C,
-    k: usize,
-) -> fmt::Result
-    requires a { k ≤ length (C.numbers a.now) }
-    requires b { k ≤ length (C.numbers b.now) }
-    requires c { k ≤ length (C.numbers c.now) }
-    ensures { Puts W.sink f.old (triangle_ring_text C.T.num k (C.numbers a.now) (C.numbers b.now) (C.numbers c.now))
-        f.new result }
-{
-    put_two_coords(f, a, b, k)?;
-    f.write_str(",")?;
-    put_two_coords(f, c, a, k)
-}
-
 /// Writes the x of one coordinate and the y of another.
 #[inline(always)]
 fn put_rect_corner<W: TextSink, C: CoordTrait>(f: &mut W, a: &C, b: &C) -> fmt::Result
@@ -253,7 +234,7 @@ pub(crate) fn put_line_body<W: TextSink, L: LineTrait>(f: &mut W, l: &L, k: usiz
     f.write_str(")")
 }
 
-/// Writes the body of a triangle, which is that of a polygon.
+/// Writes the body of a triangle: as that of a polygon, its three corners and the first again.
 pub(crate) fn put_triangle_body<W: TextSink, Y: TriangleTrait>(
     f: &mut W,
     y: &Y,
@@ -261,11 +242,11 @@ pub(crate) fn put_triangle_body<W: TextSink, Y: TriangleTrait>(
 ) -> fmt::Result
     requires { coordinates_fault k (Y.first_corner y.now ∷ Y.second_corner y.now ∷ Y.third_corner y.now ∷ []) ≡ None }
     ensures { Puts W.sink f.old
-        (codes "((" ++ (triangle_ring_text Y.T.num k
-        (Y.first_corner y.now) (Y.second_corner y.now) (Y.third_corner y.now) ++ codes "))"))
-        f.new result }
+        (triangle_text Y.T.num k (Y.first_corner y.now) (Y.second_corner y.now) (Y.third_corner y.now)) f.new result }
 {
     f.write_str("((")?;
-    put_triangle_ring(f, y.first(), y.second(), y.third(), k)?;
+    put_two_coords(f, y.first(), y.second(), k)?;
+    f.write_str(",")?;
+    put_two_coords(f, y.third(), y.first(), k)?;
     f.write_str("))")
 }
