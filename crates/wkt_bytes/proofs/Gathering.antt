@@ -1,10 +1,10 @@
 -- What went out through a wrapper, from what its calls gathered.
-use Rattle.std.proofs.Common.{◌≡◌, ◌++◌, ℕ, List, [], Bool, false, refl, sym, ◌∙◌, ap, subst}
+use Rattle.std.proofs.Common.{◌≡◌, ◌++◌, ℕ, List, [], false, refl, sym, ◌∙◌, ap, subst}
 use Rattle.std.proofs.KnownBytes.{Appends-nil}
 use Rattle.std.proofs.lemmas.List.{append-nil}
 use Rattle.std.specs.Io.KnownBytes.{Appends}
 use Rattle.wkt_bytes.specs.Sinks.{SinkOfBytes, BeginningOut}
-use Rattle.wkt_bytes.specs.Wrapper.{state_well, state_untold, held_bytes, is_well, Gathers, BreaksOff, gives_more, leaves_after}
+use Rattle.wkt_bytes.specs.Wrapper.{state_well, state_untaken, held_bytes, is_well, Gathers, BreaksOff, gives_more, leaves_after}
 use Rattle.wkt_bytes.specs.declared.wrapper.State.{State}
 use Rattle.wkt_bytes.specs.declared.wrapper.State.TheVariants.{Well, Faulty, Taken}
 use Rattle.wkt_bytes.specs.declared.wrapper.WriterWrapper.{WriterWrapper}
@@ -24,7 +24,7 @@ module _ {W : Type 0} (sink : SinkOfBytes W) where
     whole = refl;
     failed = h;
     count = λ w. cc;
-    untold = λ w. cc;
+    untaken = λ w. cc;
     kept = λ _. refl;
     tied = sink.keeps_none s.writer;
     still = λ _. refl;
@@ -37,7 +37,7 @@ module _ {W : Type 0} (sink : SinkOfBytes W) where
     went = subst (λ (w : W). Appends (sink.bytes s.writer) (sink.bytes w) []) (sym e) (Appends-nil (sink.bytes s.writer));
     whole = sym h;
     same = ap (λ x. state_well x) f;
-    told = ap (λ x. state_untold x) f;
+    taken = ap (λ x. state_untaken x) f;
     count = ap (λ w. sink.failures w) e;
     tied = subst (λ (w : W). sink.keeps s.writer w) (sym e) (sink.keeps_none s.writer);
     still = λ _. e;

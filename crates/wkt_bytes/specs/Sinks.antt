@@ -1,5 +1,5 @@
 -- Sinks of bytes: what they hold, how they count failures, and what went out.
-use Rattle.std.specs.Prelude.{◌≡◌, ℕ, zero, suc, List, [], ◌∷◌, ◌++◌, Option, Result, Ok, Err, refl}
+use Rattle.std.specs.Prelude.{◌≡◌, ℕ, ◌<◌, zero, suc, List, [], ◌∷◌, ◌++◌, length, take, Option, Result, Ok, Err, OnOk, OnErr, refl}
 use Rattle.std.specs.Borrow.{MutBor}
 use Rattle.std.proofs.Common.{◌∙◌}
 use Rattle.std.specs.Io.KnownBytes.{Appends}
@@ -63,3 +63,12 @@ module _ {D : Type 0} (sink : SinkOfBytes D) where
   -- A beginning of these bytes went out, and nothing else.
   abbrev pub IsPartOut : D → D → List ℕ → Type 0
   IsPartOut old new bs = BeginningOut (sink.bytes old) (sink.bytes new) bs
+
+  -- All of these bytes went out, or an error came when a beginning of them was out.
+  pub record PutsAll {A E : Type 0} (bs : List ℕ) (old new : D) (result : Result A E) : Type 0 where
+    pub ok : OnOk result (IsOut old new bs)
+    pub kept : OnOk result (sink.failures new ≡ sink.failures old)
+    pub err : OnErr result ((k : ℕ) × IsOut old new (take k bs))
+    pub some : OnErr result (0 < length bs)
+    pub failed : OnErr result (sink.failures new ≡ next_count (sink.failures old))
+    pub keeps : sink.keeps old new

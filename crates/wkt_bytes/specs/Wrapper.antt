@@ -18,10 +18,10 @@ state_well (Faulty e) = false
 state_well Taken = false
 
 -- An error came, and was not taken yet.
-abbrev pub state_untold : State → Bool
-state_untold Well = false
-state_untold (Faulty e) = true
-state_untold Taken = false
+abbrev pub state_untaken : State → Bool
+state_untaken Well = false
+state_untaken (Faulty e) = true
+state_untaken Taken = false
 
 -- The error that came, if it was not taken yet.
 abbrev pub state_error : State → Option Error
@@ -46,12 +46,21 @@ abbrev pub is_well : {W : Type 0} → WriterWrapper W → Bool
 is_well w = state_well w.state
 
 -- An error came, and was not taken yet.
-abbrev pub is_untold : {W : Type 0} → WriterWrapper W → Bool
-is_untold w = state_untold w.state
+abbrev pub is_untaken : {W : Type 0} → WriterWrapper W → Bool
+is_untaken w = state_untaken w.state
 
 -- The error that came, if it was not taken yet.
-abbrev pub untold_error : {W : Type 0} → WriterWrapper W → Option Error
-untold_error w = state_error w.state
+abbrev pub untaken_error : {W : Type 0} → WriterWrapper W → Option Error
+untaken_error w = state_error w.state
+
+-- The error is taken, and nothing else changes.
+pub record TakesFault {W : Type 0} (s : WriterWrapper W) (error : Option Error) (t : WriterWrapper W) : Type 0 where
+  pub gives : error ≡ untaken_error s
+  pub taken : is_untaken t ≡ false
+  pub well : is_well t ≡ is_well s
+  pub writer : wrapped_writer t ≡ wrapped_writer s
+  pub held : held_bytes t ≡ held_bytes s
+  pub count : failed_calls t ≡ failed_calls s
 
 module _ {W : Type 0} (sink : SinkOfBytes W) where
   -- The bytes that s held, and then those given, are the bytes that went out, and then those that t holds.
@@ -60,7 +69,7 @@ module _ {W : Type 0} (sink : SinkOfBytes W) where
     pub went : Appends (sink.bytes s.writer) (sink.bytes t.writer) out
     pub whole : held_bytes s ++ handed ≡ out ++ held_bytes t
     pub same : is_well t ≡ is_well s
-    pub told : is_untold t ≡ is_untold s
+    pub taken : is_untaken t ≡ is_untaken s
     pub count : sink.failures t.writer ≡ sink.failures s.writer
     pub tied : sink.keeps s.writer t.writer
     pub still : is_well s ≡ false → t.writer ≡ s.writer
@@ -73,8 +82,8 @@ module _ {W : Type 0} (sink : SinkOfBytes W) where
     pub whole : held_bytes s ++ handed ≡ out ++ lost
     pub failed : is_well t ≡ false
     pub count : is_well s ≡ true → sink.failures t.writer ≡ next_count (sink.failures s.writer)
-    pub untold : is_well s ≡ true → is_untold t ≡ true
-    pub kept : is_well s ≡ false → is_untold t ≡ is_untold s
+    pub untaken : is_well s ≡ true → is_untaken t ≡ true
+    pub kept : is_well s ≡ false → is_untaken t ≡ is_untaken s
     pub tied : sink.keeps s.writer t.writer
     pub still : is_well s ≡ false → t.writer ≡ s.writer
 
@@ -91,7 +100,7 @@ module _ {W : Type 0} (sink : SinkOfBytes W) where
     went = Appends-nil (sink.bytes s.writer);
     whole = append-nil (held_bytes s);
     same = refl;
-    told = refl;
+    taken = refl;
     count = refl;
     tied = sink.keeps_none s.writer;
     still = λ _. refl;
@@ -103,7 +112,7 @@ module _ {W : Type 0} (sink : SinkOfBytes W) where
     went = Appends-trans (sink.bytes s.writer) (sink.bytes t.writer) (sink.bytes u.writer) h.out k.out h.went k.went;
     whole = wholes (held_bytes s) bs cs h.out (held_bytes t) k.out (held_bytes u) h.whole k.whole;
     same = k.same ∙ h.same;
-    told = k.told ∙ h.told;
+    taken = k.taken ∙ h.taken;
     count = k.count ∙ h.count;
     tied = sink.keeps_more s.writer t.writer u.writer h.tied k.tied;
     still = λ w. k.still (h.same ∙ w) ∙ h.still w;
@@ -117,8 +126,8 @@ module _ {W : Type 0} (sink : SinkOfBytes W) where
     whole = wholes (held_bytes s) bs cs h.out (held_bytes t) k.out k.lost h.whole k.whole;
     failed = k.failed;
     count = λ w. k.count (h.same ∙ w) ∙ ap next_count h.count;
-    untold = λ w. k.untold (h.same ∙ w);
-    kept = λ w. k.kept (h.same ∙ w) ∙ h.told;
+    untaken = λ w. k.untaken (h.same ∙ w);
+    kept = λ w. k.kept (h.same ∙ w) ∙ h.taken;
     tied = sink.keeps_more s.writer t.writer u.writer h.tied k.tied;
     still = λ w. k.still (h.same ∙ w) ∙ h.still w;
   }
@@ -131,7 +140,7 @@ module _ {W : Type 0} (sink : SinkOfBytes W) where
     whole = rw (← append_assoc, h.whole, append_assoc) refl;
     failed = h.failed;
     count = h.count;
-    untold = h.untold;
+    untaken = h.untaken;
     kept = h.kept;
     tied = h.tied;
     still = h.still;

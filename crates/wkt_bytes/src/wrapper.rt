@@ -1,7 +1,7 @@
 //! Text to a byte sink, gathered in an array.
-ghost use Rattle.std.specs.Prelude.{◌≡◌, ℕ, ◌≤◌, ◌<◌, ◌+◌, ◌*◌, [], ◌++◌, OnOk, OnErr, Ok, length, take, true, false};
-ghost use Rattle.std.specs.Io.KnownBytes.{Appends};
-ghost use Rattle.wkt_num.specs.Sink.{next_count, Puts};
+ghost use Rattle.std.specs.Prelude.{◌≡◌, ◌≤◌, ◌<◌, ◌+◌, ◌*◌, [], ◌++◌, OnOk, OnErr, length, true};
+ghost use Rattle.wkt_num.specs.Sink.{Puts};
+ghost use Rattle.wkt_bytes.specs.Sinks.{PutsAll};
 
 use crate::sinks::ByteSink;
 use std::io::ErrorKind;
@@ -39,13 +39,7 @@ pub struct WriterWrapper<W> {
 /// # Errors
 /// The sink's, or `WriteZero` where it took nothing; a beginning of the bytes is out then.
 pub fn put_all<W: ByteSink>(writer: &mut W, bytes: &[u8]) -> Result<(), io::Error>
-    ensures ok { OnOk result (Appends (W.sink.bytes writer.old) (W.sink.bytes writer.new) bytes.now) }
-    ensures kept { OnOk result (W.sink.failures writer.new ≡ W.sink.failures writer.old) }
-    ensures err { OnErr result
-        ((k : ℕ) × Appends (W.sink.bytes writer.old) (W.sink.bytes writer.new) (take k bytes.now)) }
-    ensures some { OnErr result (0 < length bytes.now) }
-    ensures failed { OnErr result (W.sink.failures writer.new ≡ next_count (W.sink.failures writer.old)) }
-    ensures keeps { W.sink.keeps writer.old writer.new }
+    ensures { PutsAll W.sink bytes.now writer.old writer.new result }
 {
     let mut at = 0;
     while at < bytes.len() {
@@ -94,7 +88,7 @@ fn copy_ends<const N: usize>(from: &[u8], to: &mut [u8])
 }
 
 impl<W: ByteSink> WriterWrapper<W> {
-    ghost use Rattle.wkt_bytes.specs.Wrapper.{held_bytes, failed_calls, is_well, is_untold, untold_error, wrapped_writer, Gathers, BreaksOff};
+    ghost use Rattle.wkt_bytes.specs.Wrapper.{held_bytes, failed_calls, is_well, wrapped_writer, Gathers, BreaksOff, TakesFault};
 
     /// A wrapper of this writer, which holds nothing yet.
     pub fn new(writer: W) -> WriterWrapper<W>
@@ -210,12 +204,7 @@ impl<W: ByteSink> WriterWrapper<W> {
     {
         let mut at = 0;
         while at < bytes.len() {
-            let room = 256 - self.len;
-            let next = if bytes.len() - at < room {
-                bytes.len()
-            } else {
-                at + room
-            };
+            let next = at + (256 - self.len).min(bytes.len() - at);
             self.keep(&bytes[at..next]);
             at = next;
             if self.len == 256 {
@@ -245,12 +234,7 @@ impl<W: ByteSink> WriterWrapper<W> {
 
     /// Takes the error that came. Returns None where none came, and at each later call.
     pub fn take_fault(&mut self) -> Option<io::Error>
-        ensures gives { result ≡ untold_error self.old }
-        ensures told { is_untold self.new ≡ false }
-        ensures well { is_well self.new ≡ is_well self.old }
-        ensures writer { wrapped_writer self.new ≡ wrapped_writer self.old }
-        ensures held { held_bytes self.new ≡ held_bytes self.old }
-        ensures count { failed_calls self.new ≡ failed_calls self.old }
+        ensures { TakesFault self.old result self.new }
     {
         match self.state {
             State::Well | State::Taken => None,
@@ -263,12 +247,7 @@ impl<W: ByteSink> WriterWrapper<W> {
 
     /// Does what [`take_fault`](WriterWrapper::take_fault) does; its former name.
     pub fn take_error(&mut self) -> Option<io::Error>
-        ensures gives { result ≡ untold_error self.old }
-        ensures told { is_untold self.new ≡ false }
-        ensures well { is_well self.new ≡ is_well self.old }
-        ensures writer { wrapped_writer self.new ≡ wrapped_writer self.old }
-        ensures held { held_bytes self.new ≡ held_bytes self.old }
-        ensures count { failed_calls self.new ≡ failed_calls self.old }
+        ensures { TakesFault self.old result self.new }
     {
         self.take_fault()
     }

@@ -7,7 +7,7 @@ use Rattle.wkt_convert.proofs.send.send_through.Goals as goal
 pub error_of-requires-in-Err-FmtError : goal.error_of-requires-in-Err-FmtError
 error_of-requires-in-Err-FmtError g c =
     let b = rw c.in-Err-FmtError.field-0-is at c.in-Err-FmtError.ensures in
-    b.broken.left.untold c.requires.well
+    b.broken.left.untaken c.requires.well
 
 pub returns-in-Err-FmtError-clause-io : goal.returns-in-Err-FmtError-clause-io
 returns-in-Err-FmtError-clause-io g c =
@@ -37,7 +37,7 @@ returns-in-Ok-finish-clause-keeps g c =
 
 pub error_of-requires : goal.error_of-requires
 error_of-requires g c =
-    c.in-Err-finish.ensures.err.untold (c.in-Ok.ensures.added.given.same ∙ c.requires.well)
+    c.in-Err-finish.ensures.err.untaken (c.in-Ok.ensures.added.given.same ∙ c.requires.well)
 
 pub returns-in-Err-finish-clause-io : goal.returns-in-Err-finish-clause-io
 returns-in-Err-finish-clause-io g c =

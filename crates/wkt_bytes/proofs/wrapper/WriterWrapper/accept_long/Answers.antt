@@ -1,23 +1,18 @@
 -- What was taken so far is out or in the array, also where the array is put out, or that fails.
-use Rattle.std.proofs.Common.{◌≤◌, ◌∙◌, ap, drop, length, arith}
+use Rattle.std.proofs.Common.{◌+◌, ◌∙◌, ap, drop, arith}
 use Rattle.std.proofs.lemmas.List.{append-nil}
 use Rattle.wkt_bytes.specs.Wrapper.{state_well, gives_more, leaves_after, leaves_longer}
 use Rattle.wkt_bytes.proofs.Gathering.{kept_gives}
 use Rattle.wkt_bytes.proofs.SinkLemmas.{any_err, take_step, with_rest}
 use Rattle.wkt_bytes.proofs.wrapper.WriterWrapper.accept_long.Goals as goal
-use Rattle.wkt_bytes.proofs.wrapper.WriterWrapper.accept_long.Goals.{then-bytes-at, else-bytes-at}
 
 pub loop-at-preserved : goal.loop-at-preserved
 loop-at-preserved g c =
     let i = c.loop-at.invariant in
-    let bs = c.args.bytes.now in
-    let next = c.if-bytes-at.next in
-    let low : c.loop-at.at ≤ next = elim c.if-bytes-at.branch [ then-bytes-at w ↦ omega arith | else-bytes-at w ↦ omega arith ] in
-    let high : next ≤ length bs = elim c.if-bytes-at.branch [ then-bytes-at w ↦ omega arith | else-bytes-at w ↦ omega arith ] in
     let k = kept_gives g.W.ByteSink.sink _ c.keep.new.self _ c.keep.ensures.writer c.keep.ensures.state c.keep.ensures.held in
     record {
-      within = high;
-      gave = rw (take_step bs c.loop-at.at next low) (gives_more g.W.ByteSink.sink _ _ _ _ _ i.gave k);
+      within = omega arith;
+      gave = rw (take_step c.args.bytes.now c.loop-at.at (c.loop-at.at + c.min.result) (omega arith)) (gives_more g.W.ByteSink.sink _ _ _ _ _ i.gave k);
       well = ap (λ s. state_well s) c.keep.ensures.state ∙ i.well;
       failures = c.keep.ensures.failures ∙ i.failures;
     }
@@ -25,27 +20,19 @@ loop-at-preserved g c =
 pub loop-at-preserved-in-Continue-1 : goal.loop-at-preserved-in-Continue-1
 loop-at-preserved-in-Continue-1 g c =
     let i = c.loop-at.invariant in
-    let bs = c.args.bytes.now in
-    let next = c.if-bytes-at.next in
-    let low : c.loop-at.at ≤ next = elim c.if-bytes-at.branch [ then-bytes-at w ↦ omega arith | else-bytes-at w ↦ omega arith ] in
-    let high : next ≤ length bs = elim c.if-bytes-at.branch [ then-bytes-at w ↦ omega arith | else-bytes-at w ↦ omega arith ] in
-    let k = kept_gives g.W.ByteSink.sink _ c.keep.new.self _ c.keep.ensures.writer c.keep.ensures.state c.keep.ensures.held in
-    let m = gives_more g.W.ByteSink.sink _ _ _ _ _ i.gave k in
-    let e = gives_more g.W.ByteSink.sink _ _ _ _ _ m c.in_ok-empty.ensures.ok in
+    let taken = gives_more g.W.ByteSink.sink _ _ _ _ _ i.gave (kept_gives g.W.ByteSink.sink _ c.keep.new.self _ c.keep.ensures.writer c.keep.ensures.state c.keep.ensures.held) in
+    let emptied = gives_more g.W.ByteSink.sink _ _ _ _ _ taken c.in_ok-empty.ensures.ok in
     record {
-      within = high;
-      gave = rw (take_step bs c.loop-at.at next low) (rw append-nil at e);
+      within = omega arith;
+      gave = rw (take_step c.args.bytes.now c.loop-at.at (c.loop-at.at + c.min.result) (omega arith)) (rw append-nil at emptied);
       well = c.in_ok-empty.ensures.well;
       failures = c.empty.ensures.failures ∙ (c.keep.ensures.failures ∙ i.failures);
     }
 
 pub returns-in_err-empty-clause-err : goal.returns-in_err-empty-clause-err
 returns-in_err-empty-clause-err g c =
-    let i = c.loop-at.invariant in
     let bs = c.args.bytes.now in
-    let next = c.if-bytes-at.next in
-    let low : c.loop-at.at ≤ next = elim c.if-bytes-at.branch [ then-bytes-at w ↦ omega arith | else-bytes-at w ↦ omega arith ] in
-    let k = kept_gives g.W.ByteSink.sink _ c.keep.new.self _ c.keep.ensures.writer c.keep.ensures.state c.keep.ensures.held in
-    let m = gives_more g.W.ByteSink.sink _ _ _ _ _ i.gave k in
-    let l = leaves_longer g.W.ByteSink.sink _ _ _ (drop next bs) (leaves_after g.W.ByteSink.sink _ _ _ _ _ m c.in_err-empty.ensures.err) in
-    any_err c.from_residual.result (rw (with_rest bs c.loop-at.at next low) at l)
+    let next = c.loop-at.at + c.min.result in
+    let taken = gives_more g.W.ByteSink.sink _ _ _ _ _ c.loop-at.invariant.gave (kept_gives g.W.ByteSink.sink _ c.keep.new.self _ c.keep.ensures.writer c.keep.ensures.state c.keep.ensures.held) in
+    let broke = leaves_longer g.W.ByteSink.sink _ _ _ (drop next bs) (leaves_after g.W.ByteSink.sink _ _ _ _ _ taken c.in_err-empty.ensures.err) in
+    any_err c.from_residual.result (rw (with_rest bs c.loop-at.at next (omega arith)) at broke)

@@ -15,7 +15,7 @@ returns-in-Err-clause-err g c =
       whole = append-nil held ∙ sym (take-append-drop h.err.0 held);
       failed = refl;
       count = λ _. h.failed;
-      untold = λ _. refl;
+      untaken = λ _. refl;
       kept = λ w. let r = c.requires in cc;
       tied = c.put_all.ensures.keeps;
       still = λ w. let r = c.requires in cc;
