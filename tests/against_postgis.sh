@@ -5,9 +5,9 @@
 # It needs PostgreSQL with PostGIS, and python3 (as the user postgres if it runs as root), and is no part of the gate.
 set -eu
 cd "$(dirname "$0")/.."
+. tests/server.sh
 dir=$(mktemp -d)
 trap 'rm -rf "$dir"' EXIT
-chmod 755 "$dir"
 # Rows that are read, as hexadecimal digits: a canonical text begins with two capitals, and no message does.
 python3 - crates/wkt_conformance/stdin > "$dir/rows" <<'PY'
 import re
@@ -20,19 +20,9 @@ with open(sys.argv[1], encoding="utf-8", newline="\n") as table:
             print(text.encode().hex(), canonical.encode().hex())
 PY
 
-postgres=$(command -v pg_ctl || ls /usr/lib/postgresql/*/bin/pg_ctl 2> /dev/null | tail -n 1 || true)
-bin=$(dirname "$(readlink -f "$postgres")")
-as() { "$@"; }
-if [ "$(id -u)" = 0 ]; then
-    as() { setpriv --reuid postgres --regid postgres --clear-groups "$@"; }
-fi
-mkdir "$dir/base"
-[ "$(id -u)" = 0 ] && chown postgres "$dir/base"
-cd "$dir/base"
-as "$bin/initdb" -D "$dir/base/data" -A trust -U wkt -E UTF8 --locale C.UTF-8 > "$dir/base.log" 2>&1
-as "$bin/pg_ctl" -D "$dir/base/data" -w -o "-k $dir/base -h ''" -l "$dir/base/log" start > /dev/null
-trap 'as "$bin/pg_ctl" -D "$dir/base/data" -m immediate stop > /dev/null; rm -rf "$dir"' EXIT
-"$bin/psql" -q -h "$dir/base" -U wkt -d postgres -v ON_ERROR_STOP=1 > "$dir/output" <<SQL
+find_server
+start_server "$dir" -E UTF8 --locale C.UTF-8
+ask > "$dir/output" <<SQL
 create extension postgis;
 create function taken(t text) returns geometry language plpgsql as
     \$\$ begin return ST_GeomFromText(t); exception when others then return null; end \$\$;

@@ -6,9 +6,9 @@
 # where one is installed (as the user postgres if this runs as root).
 set -eu
 cd "$(dirname "$0")/.."
+. tests/server.sh
 dir=$(mktemp -d)
 trap 'rm -rf "$dir"' EXIT
-chmod 755 "$dir"
 cp crates/wktstream/out/wktstream "$dir/wktstream"
 program=$dir/wktstream
 wrong=0
@@ -41,23 +41,13 @@ cat "$dir"/part.a?.answers > "$dir/parts"
 same "four parts, by split and xargs" "$dir/parts"
 
 # A database of its own, which is gone when this ends.
-postgres=$(command -v pg_ctl || ls /usr/lib/postgresql/*/bin/pg_ctl 2> /dev/null | tail -n 1 || true)
-if [ -z "$postgres" ]; then
+find_server
+if [ -z "$bin" ]; then
     echo "no PostgreSQL is installed: COPY .. FROM PROGRAM was not tried"
     exit $wrong
 fi
-bin=$(dirname "$(readlink -f "$postgres")")
-as() { "$@"; }
-if [ "$(id -u)" = 0 ]; then
-    as() { setpriv --reuid postgres --regid postgres --clear-groups "$@"; }
-fi
-mkdir "$dir/base"
-[ "$(id -u)" = 0 ] && chown postgres "$dir/base"
-cd "$dir/base"
-as "$bin/initdb" -D "$dir/base/data" -A trust -U wkt > "$dir/base.log" 2>&1
-as "$bin/pg_ctl" -D "$dir/base/data" -w -o "-k $dir/base -h ''" -l "$dir/base/log" start > /dev/null
-trap 'as "$bin/pg_ctl" -D "$dir/base/data" -m immediate stop > /dev/null; rm -rf "$dir"' EXIT
-"$bin/psql" -q -h "$dir/base" -U wkt -d postgres -v ON_ERROR_STOP=1 <<SQL
+start_server "$dir"
+ask <<SQL
 create table answers (place bigserial, answer text);
 copy answers (answer) from program '$program < $dir/lines';
 \o $dir/table

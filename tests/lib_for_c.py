@@ -59,7 +59,8 @@ def main():
     uses = uses_of()
     made = {name: f"{TOP}/crates/{name}/out/rlib" for name in below(CRATE, uses)}
     if ended:
-        os.nice(19)
+        # Behind the proofs, but not so far that it waits for the last of them: the gate's last steps need it.
+        os.nice(5)
         if not await_libraries([f"{it}/{name}.rlib" for name, it in made.items()], ended):
             return 2
     # A stamp beside a library says that a check of rt's own left it: rt lib takes those.
