@@ -3,14 +3,13 @@
 # tests of each crate that has some, and each program over its stored input; wktline and wktstream over the keys of
 # tests/keys.tsv too. quick.sh [CRATE..]: all of these crates, or those that are named.
 #
-# It builds each crate with checks (rt try, by rt_try.py), two at a time (JOBS=N: N at a time). Not run here, and said
-# so: wkt_long_conformance, whose texts are too many and too deep for a build with checks.
+# It builds each crate with checks (rt try), two at a time (JOBS=N: N at a time). Not run here, and said so:
+# wkt_long_conformance, whose texts are too many and too deep for a build with checks.
 set -u
 cd "$(dirname "$0")/.."
 jobs=${JOBS:-2}
 dir=$(mktemp -d)
 trap 'rm -rf "$dir"' EXIT
-try=$PWD/tests/rt_try.py
 
 # counted CRATE PASSED FAILED WORDS: what came of a crate
 counted() {
@@ -23,7 +22,7 @@ ended() { tail -n 1 "$1" | grep -q '^run=ended '; }
 # tests CRATE: its tests
 tests() {
     local said=$dir/$1.said passed failed start=$SECONDS
-    (cd "crates/$1" && "$try" --test) > "$said" 2>&1 < /dev/null
+    (cd "crates/$1" && rt try --test) > "$said" 2>&1 < /dev/null
     passed=$(sed -n 's/^test result: .* \([0-9]*\) passed;.*/\1/p' "$said")
     failed=$(sed -n 's/^test result: .*; \([0-9]*\) failed;.*/\1/p' "$said")
     [ -n "$passed" ] || { tail -n 20 "$said"; passed=0 failed=1; }
@@ -36,7 +35,7 @@ rows() {
     local said=$dir/rows.said data=() passed failed start=$SECONDS
     cd crates/wkt_conformance || return
     for file in data/*; do data+=(--data "${file#data/}=$file"); done
-    "$try" --steps 0 "${data[@]}" -- $(cat args) < stdin > "$said" 2> "$said.err"
+    rt try --steps 0 "${data[@]}" -- $(cat args) < stdin > "$said" 2> "$said.err"
     passed=$(sed -n 's/^\(.*: \)\?\([0-9]*\) rows, \([0-9]*\) wrong$/\2 \3/p' "$said" | awk '{ n += $1 - $2 } END { print n + 0 }')
     failed=$(sed -n 's/^\(.*: \)\?\([0-9]*\) rows, \([0-9]*\) wrong$/\3/p' "$said" | awk '{ n += $1 } END { print n + 0 }')
     cat "$said"
@@ -58,7 +57,7 @@ keys() {
 lines() {
     local said=$dir/$1.said passed=0 failed=0 start=$SECONDS
     cmp crates/wktline/stdin "crates/$1/stdin" && cmp crates/wktline/stdout "crates/$1/stdout" || failed=1
-    (cd "crates/$1" && "$try" --steps 0 --cases "$dir/cases") > "$said" 2>&1 < /dev/null
+    (cd "crates/$1" && rt try --steps 0 --cases "$dir/cases") > "$said" 2>&1 < /dev/null
     for case in keys stored; do
         count=$(wc -l < "$dir/cases/$case.stdout")
         if grep -q "^case=$case run=ended status=0 .*output=expected" "$said"; then
@@ -79,7 +78,7 @@ program() {
     [ ! -f args ] || mapfile -t args < args
     [ ! -f status ] || want=$(cat status)
     [ -f stdin ] || : > "$dir/none"
-    "$try" --steps 0 "${data[@]}" -- "${args[@]}" < "$([ -f stdin ] && echo stdin || echo "$dir/none")" > "$said" 2> "$said.err"
+    rt try --steps 0 "${data[@]}" -- "${args[@]}" < "$([ -f stdin ] && echo stdin || echo "$dir/none")" > "$said" 2> "$said.err"
     if [ $? = "$want" ] && ended "$said.err" && cmp "$said" stdout; then
         counted "$1" 1 0 "program: "
     else
