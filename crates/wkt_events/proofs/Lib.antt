@@ -1,5 +1,6 @@
 pub mod Alike
 pub mod Answering
+pub mod AsciiRuns
 pub mod Backs
 pub mod Classes
 pub mod Closing

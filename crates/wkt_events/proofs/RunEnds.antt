@@ -20,7 +20,7 @@ all-run (x ∷ xs) all = (all 0 (omega arith), all-run xs (λ k h. all (suc k) (
 pub length-range : (text : List ℕ) (from end : ℕ) → from ≤ end → end ≤ length text → length (slice_range text from end) ≡ end - from
 length-range text from end order inside = simp (length-take, length-drop) (omega (arith, inside, order))
 
-get_or-range : (text : List ℕ) (from end k : ℕ) → k < end - from → get_or (slice_range text from end) k 0 ≡ get_or text (from + k) 0
+pub get_or-range : (text : List ℕ) (from end k : ℕ) → k < end - from → get_or (slice_range text from end) k 0 ≡ get_or text (from + k) 0
 get_or-range text from end k h = get_or-take (end - from) (drop from text) k 0 h ∙ get_or-drop from text k 0
 
 pub range-run : (text : List ℕ) (from end : ℕ) → from ≤ end → end ≤ length text → ((k : ℕ) → from ≤ k → k < end → class_of (get_or text k 0) ≡ Run) → AllRun (slice_range text from end)

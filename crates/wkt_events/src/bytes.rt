@@ -1,9 +1,10 @@
 //! Bytes at places in a text that ends at NUL or with its last byte, and the marks, EMPTY and coordinates that stand there.
 //! Where `FEED_ENDS`, the text ends at LF too, which else is white space.
-ghost use Rattle.std.specs.Prelude.{◌≡◌, ◌≢◌, ◌↔◌, ◌≤◌, ◌<◌, ◌+◌, ℕ, [], ◌∷◌, Bool, true, false, IsTrue, IfSome, MatchOption, length, get_or};
+ghost use Rattle.std.specs.Bool.{OnTrue};
+ghost use Rattle.std.specs.Prelude.{◌≡◌, ◌≢◌, ◌↔◌, ◌≤◌, ◌<◌, ◌+◌, ℕ, [], ◌∷◌, Bool, true, false, IsTrue, IsAscii, IfSome, MatchOption, length, get_or, slice_range};
 ghost use Rattle.wkt_num.specs.Bytes.{Lexeme, White, Mark, Run, class_of};
 ghost use Rattle.wkt_events.specs.Left.{line_of, class_in, left_placed, left, IsRunEnd, TakesOne, BeginsOther};
-ghost use Rattle.wkt_events.specs.Windows.{low_mask};
+ghost use Rattle.wkt_events.specs.Windows.{low_mask, high_mask};
 ghost use Rattle.wkt_read.specs.Parser.Outcome.{closing_at};
 ghost use Rattle.wkt_events.specs.Events.{Event, coordinate};
 ghost use Rattle.wkt_events.specs.Makers.{HasRoom};
@@ -99,7 +100,7 @@ pub(crate) fn take<const FEED_ENDS: bool>(mark: u8, text: &[u8], at: usize) -> O
 
 #[inline(always)]
 #[tactic(auto, unfolding(wkt_num::specs::Bytes::class_of))]
-fn is_of_run(byte: u8) -> bool
+pub(crate) fn is_of_run(byte: u8) -> bool
     ensures { IsTrue result ↔ (class_of byte ≡ Run) }
 {
     byte > b',' || !matches!(byte, 0 | b' ' | b'\n' | b'\r' | b'\t' | b'(' | b')' | b',')
@@ -131,6 +132,29 @@ fn low_bytes(text: &[u8], from: usize) -> u64
 {
     let bytes = u8x32::from_slice(&text[from..]);
     bytes.simd_le(u8x32::splat(b',')).to_bitmask()
+}
+
+/// Whether the bytes of a run are ASCII; of one that is long, or ends near the text's end, it isn't asked.
+#[inline(always)]
+pub(crate) fn is_near_ascii(text: &[u8], from: usize, end: usize) -> bool
+    requires order { from ≤ end }
+    requires inside { end ≤ length text.now }
+    ensures { OnTrue result (IsAscii (slice_range text.now from end)) }
+{
+    if text.len() - from < WINDOW || end - from > WINDOW {
+        return false;
+    }
+    high_bytes(text, from).trailing_zeros() as usize >= end - from
+}
+
+/// The bytes of the window that aren't ASCII, as bits.
+#[inline(always)]
+fn high_bytes(text: &[u8], from: usize) -> u64
+    requires { from + 32 ≤ length text.now }
+    ensures { result ≡ high_mask text.now from }
+{
+    let bytes = u8x32::from_slice(&text[from..]);
+    bytes.simd_gt(u8x32::splat(127)).to_bitmask()
 }
 
 #[inline(never)]

@@ -1,10 +1,10 @@
 //! Numbers as values.
-ghost use Rattle.std.specs.Prelude.{◌≢◌, ◌≤◌, length, get_or, Bool, IfSome, IfNone};
+ghost use Rattle.std.specs.Prelude.{◌≡◌, ◌≢◌, ◌≤◌, length, get_or, slice_range, Bool, IfSome, IfNone, IsUtf8};
 ghost use Rattle.wkt_num.specs.Bytes.{White};
 ghost use Rattle.wkt_events.specs.Left.{class_in};
 ghost use Rattle.wkt_events.specs.Numbers.{IsNumberAt, EndsNumber, NoNumber, ReadsNumberIfAny};
 
-use crate::bytes::run_end;
+use crate::bytes::{is_near_ascii, run_end};
 use crate::text::{begins_number, past_plus};
 use wkt_num::WktNum;
 
@@ -47,12 +47,29 @@ pub(crate) fn number_there<T: WktNum>(text: &[u8], at: usize) -> Option<(T, usiz
     if end == at || !begins_number(text[at]) {
         return None;
     }
-    let start = past_plus(text, at);
-    let Ok(run) = str::from_utf8(&text[start..end]) else {
+    let Some(run) = text_of(text, past_plus(text, at), end) else {
         return None;
     };
     let Some(number) = T::read_number(run) else {
         return None;
     };
     Some((number, end))
+}
+
+/// The bytes up to `end`, if they are UTF-8.
+#[inline(always)]
+fn text_of(text: &[u8], from: usize, end: usize) -> Option<&str>
+    requires order { from ≤ end }
+    requires inside { end ≤ length text.now }
+    ensures some { IfSome result (λ s. s.now ≡ slice_range text.now from end) }
+    ensures none { IfNone result (¬ (IsUtf8 (slice_range text.now from end))) }
+{
+    let bytes = &text[from..end];
+    if is_near_ascii(text, from, end) {
+        return Some(unsafe { str::from_utf8_unchecked(bytes) });
+    }
+    match str::from_utf8(bytes) {
+        Ok(run) => Some(run),
+        Err(_) => None,
+    }
 }

@@ -7,7 +7,7 @@ ghost use Rattle.wkt_events.specs.Plus.{plus_len};
 ghost use Rattle.wkt_events.specs.Numbers.{Numbered, NoNumber};
 
 use crate::builder::{At, Builder, Part};
-use crate::bytes::run_end;
+use crate::bytes::{byte_at, is_of_run};
 use crate::reading::number_there;
 use std::fmt;
 use std::marker::PhantomData;
@@ -188,7 +188,6 @@ pub(crate) fn past_plus(text: &[u8], at: usize) -> usize
 
 impl<'a, T: WktNum> Pen<'a, T> {
     /// The number that stands there, in any form.
-    #[cold]
     #[inline(never)]
     fn other_number(self, text: &[u8], at: usize) -> Option<At<Self>>
         requires at { at ≤ length text.now }
@@ -245,9 +244,12 @@ impl<'a, T: WktNum> Pen<'a, T> {
         ensures some { IfSome result (λ r. Numbered T.read T.num text.now at self.entry r.made r.at) }
         ensures none { IfNone result (NoNumber T.read text.now at) }
     {
+        // Of these types it isn't known that a text that is kept is UTF-8.
+        if !T::reads_texts() {
+            return self.other_number(text, at);
+        }
         let rest = &text[at..];
-        // Of other types it isn't known that a text that is kept is UTF-8.
-        if T::reads_texts() && rest.len() >= 32 {
+        if rest.len() >= 32 {
             if let Some((end, kept)) = T::kept_in_window(rest) {
                 return Some(At {
                     at: at + end,
@@ -268,7 +270,7 @@ impl<'a, T: WktNum> Pen<'a, T> {
         ensures some { IfSome result (λ r. Numbered T.read T.num text.now at self.entry r.made r.at) }
         ensures none { IfNone result (NoNumber T.read text.now at) }
     {
-        if run_end(text, at) == at {
+        if !is_of_run(byte_at(text, at)) {
             return None;
         }
         self.kept_number(text, at)

@@ -1,43 +1,20 @@
 -- The run without its plus is read as the number, or stands for none.
-use Rattle.std.proofs.Common.{◌≡◌, ◌+◌, ◌<◌, ◌≤◌, length, get_or, slice_range, IsTrue, Some, sym, ap, ◌∙◌, arith, rules, subst}
+use Rattle.std.proofs.Common.{sym, ap, ◌∙◌, arith, rules, subst}
 use Rattle.std.specs.Str.{IsUtf8}
-use Rattle.wkt_read.specs.Lexemes.{without_plus, starts_number}
-use Rattle.wkt_events.specs.Plus.{plus_len}
 use Rattle.wkt_events.proofs.Runs.{behind-plus}
 use Rattle.wkt_events.proofs.reading.number_there.Goals as goal
 
 pub returns-in_default-clause-none : goal.returns-in_default-clause-none
 returns-in_default-clause-none g c =
-    let text = c.args.text.now in
-    let at = c.args.at in
-    let end = c.run_end-end.result in
-    let start = c.past_plus-start.result in
-    let order : at < end = omega arith in
-    let is : start ≡ at + plus_len (get_or text at 0) = c.past_plus-start.ensures in
-    let same : slice_range text start end ≡ without_plus (slice_range text at end) = (behind-plus text at end start order c.run_end-end.ensures.inside is).2 in
-    record { end = end; ends = c.run_end-end.ensures; none = λ o b u. absurd (c.in_default.ensures.cases.0 (subst IsUtf8 (sym same) u)) }
+    let same = (behind-plus c.args.text.now c.args.at c.run_end-end.result c.past_plus.result (omega arith) c.run_end-end.ensures.inside c.past_plus.ensures).2 in
+    record { end = c.run_end-end.result; ends = c.run_end-end.ensures; none = λ o b u. absurd (c.in_default.ensures.none (subst IsUtf8 (sym same) u)) }
 
 pub returns-in_default-read_number-clause-none : goal.returns-in_default-read_number-clause-none
 returns-in_default-read_number-clause-none g c =
-    let text = c.args.text.now in
-    let at = c.args.at in
-    let end = c.run_end-end.result in
-    let read = g.T.WktNum.read in
-    let order : at < end = omega arith in
-    let is : c.past_plus-start.result ≡ at + plus_len (get_or text at 0) = c.past_plus-start.ensures in
-    let same : c.in-Ok.run'.now ≡ without_plus (slice_range text at end) = c.in-Ok.ensures.cases.0 ∙ (behind-plus text at end c.past_plus-start.result order c.run_end-end.ensures.inside is).2 in
-    record { end = end; ends = c.run_end-end.ensures; none = λ o b u. ap read (sym same) ∙ sym c.in_default-read_number.ensures }
+    let same = (behind-plus c.args.text.now c.args.at c.run_end-end.result c.past_plus.result (omega arith) c.run_end-end.ensures.inside c.past_plus.ensures).2 in
+    record { end = c.run_end-end.result; ends = c.run_end-end.ensures; none = λ o b u. ap g.T.WktNum.read (sym (c.in-Some.ensures.some ∙ same)) ∙ sym c.in_default-read_number.ensures }
 
 pub returns-clause-some : goal.returns-clause-some
 returns-clause-some g c =
-    let text = c.args.text.now in
-    let at = c.args.at in
-    let end = c.run_end-end.result in
-    let read = g.T.WktNum.read in
-    let order : at < end = omega arith in
-    let inside : end ≤ length text = c.run_end-end.ensures.inside in
-    let begins : IsTrue (starts_number (get_or text at 0)) = search rules in
-    let is : c.past_plus-start.result ≡ at + plus_len (get_or text at 0) = c.past_plus-start.ensures in
-    let same : c.in-Ok.run'.now ≡ without_plus (slice_range text at end) = c.in-Ok.ensures.cases.0 ∙ (behind-plus text at end c.past_plus-start.result order inside is).2 in
-    let reads : read (without_plus (slice_range text at end)) ≡ Some c.in-Some.number = ap read (sym same) ∙ sym c.in-Some.ensures in
-    record { order = order; ends = c.run_end-end.ensures; begins = begins; reads = reads }
+    let same = (behind-plus c.args.text.now c.args.at c.run_end-end.result c.past_plus.result (omega arith) c.run_end-end.ensures.inside c.past_plus.ensures).2 in
+    record { order = omega arith; ends = c.run_end-end.ensures; begins = search rules; reads = ap g.T.WktNum.read (sym (c.in-Some.ensures.some ∙ same)) ∙ sym c.in-Some-read_number.ensures }
