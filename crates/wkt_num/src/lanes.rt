@@ -23,7 +23,7 @@ pub fn last_digits(body: &[u8], count: usize) -> Option<u64>
 
 /// The same of at most eight bytes, of a text that has eight.
 #[inline(always)]
-fn last_8(body: &[u8], count: usize) -> Option<u64>
+pub(crate) fn last_8(body: &[u8], count: usize) -> Option<u64>
     requires { (8 ≤ length body.now) × (count ≤ 8) }
     ensures digits { IfSome result (λ _. AllDigits 10 (drop (length body.now - count) body.now)) }
     ensures value { IfSome result (λ n. n ≡ digits_value 10 (drop (length body.now - count) body.now)) }

@@ -17,7 +17,7 @@ pub overflow_mul-fraction : goal.overflow_mul-fraction
 overflow_mul-fraction c =
     let d = c.digits_from-whole in
     let f = c.in_ok-fraction in
-    let n = inside d.ensures.within c.if-at-body.false in
+    let n = inside (d.ensures.within (omega arith)) c.if-at-body.false in
     let tail = near-tail d.result.1 c.args.body.now n in
     let less = units c.args.places d.result.1 f.fraction c.ten_to-shift.result c.args.body.now n c.if-after-places.false c.if-places-gt-SHORT_PLACES.false
     (subst (AllDigits 10) tail f.ensures.digits) (f.ensures.value ∙ ap (digits_value 10) tail) c.ten_to-shift.ensures in
@@ -27,7 +27,7 @@ pub overflow_add-result : goal.overflow_add-result
 overflow_add-result c =
     let d = c.digits_from-whole in
     let f = c.in_ok-fraction in
-    let n = inside d.ensures.within c.if-at-body.false in
+    let n = inside (d.ensures.within (omega arith)) c.if-at-body.false in
     let tail = near-tail d.result.1 c.args.body.now n in
     let less = units c.args.places d.result.1 f.fraction c.ten_to-shift.result c.args.body.now n c.if-after-places.false c.if-places-gt-SHORT_PLACES.false
     (subst (AllDigits 10) tail f.ensures.digits) (f.ensures.value ∙ ap (digits_value 10) tail) c.ten_to-shift.ensures in
@@ -38,7 +38,7 @@ pub returns : goal.returns
 returns c =
     let d = c.digits_from-whole in
     let f = c.in_ok-fraction in
-    let n = inside d.ensures.within c.if-at-body.false in
+    let n = inside (d.ensures.within (omega arith)) c.if-at-body.false in
     let tail = near-tail d.result.1 c.args.body.now n in
     near-body c.args.places d.result.1 c.from.result c.from-2.result f.fraction c.ten_to-shift.result c.from-3.result c.args.body.now n c.if-body-lt-VECTOR_BYTES.false c.if-body-gt-SHORT_BYTES.false c.if-body-at-ne46.false c.if-after-places.false c.if-places-gt-SHORT_PLACES.false
     d.ensures.digits (c.from.ensures ∙ d.ensures.value) (subst (λ w. w < 10 ^ d.result.1) (sym c.from.ensures) d.ensures.small)
