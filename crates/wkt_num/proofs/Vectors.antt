@@ -8,7 +8,8 @@ use Rattle.std.proofs.lemmas.List.{take-replicate, drop-replicate, drop-append-l
 use Rattle.std.proofs.lemmas.Simd.{chunk-fits, tops_compared, zip2_splat_left, mask_l-mod}
 use Rattle.std.specs.Int.Bits.{and_zero_r}
 use borrow.Author.Tests.{ltb-false}
-use lib.Lanes.{zip2, Each1, chunk, mask_l, number_l, top}
+use lib.Lanes.{zip2, Each1, chunk, mask_l, number_l, digits_l, top}
+use Rattle.std.proofs.Math.Nat.{pow-suc}
 use mir.Val.{bits, hbits}
 use Rattle.wkt_num.specs.Lanes.{DigitLanes, lanes_after, lanes_value, last_lanes}
 
@@ -204,3 +205,31 @@ joined m n x y e f = omega (arith, e, f)
 pub no-more : (n : ℕ) (l : List ℕ) → length l ≡ 0 → lanes_after n l ≡ n
 no-more n [] e = refl
 no-more n (d ∷ l) e = absurd (omega (arith, e))
+
+-- ---- four digits in 32 bits
+
+abbrev pub four : ℕ → ℕ
+four v = v % 4294967296 * 6553601 % 4294967296 / 65536
+
+four-is : (p q r : ℕ) → p < 100 → q < 100 → four (p + 65536 * (q + 65536 * r)) ≡ p * 100 + q
+four-is p q r h k = ap (λ v. v * 6553601 % 4294967296 / 65536) {x = (p + 65536 * (q + 65536 * r)) % 4294967296} {y = p + 65536 * q} (omega (arith, h, k)) ∙ omega (arith, h, k)
+
+-- bytes of a number make it again
+number-digits : (n x : ℕ) → x < 256 ^ n → number_l 256 (digits_l 256 n x) ≡ x
+number-digits zero x h = omega (arith, h)
+number-digits (suc n) x h = ap (λ r. x % 256 + 256 * r) (number-digits n (x / 256) (omega (arith, h, pow-suc 256 n))) ∙ omega arith
+
+-- the bytes of four pairs
+abbrev pub bytes_of : ℕ → ℕ → ℕ → ℕ → ℕ
+bytes_of p q r s = number_l 256 (digits_l 256 8 (number_l 65536 (p ∷ q ∷ r ∷ s ∷ [])))
+
+pub fours-are : (p q r s : ℕ) → p < 100 → q < 100 → r < 100 → s < 100
+    → four (bytes_of p q r s) * 10000 + four (bytes_of p q r s / 4294967296) ≡ p * 1000000 + q * 10000 + r * 100 + s
+fours-are p q r s a b c d =
+    let all : bytes_of p q r s ≡ p + 65536 * (q + 65536 * (r + 65536 * (s + 65536 * 0))) = number-digits 8 _ (omega (arith, a, b, c, d)) in
+    let one : four (bytes_of p q r s) ≡ p * 100 + q = ap four all ∙ four-is p q (r + 65536 * (s + 65536 * 0)) a b in
+    let two : four (bytes_of p q r s / 4294967296) ≡ r * 100 + s =
+    ap (λ x. four (x / 4294967296)) all
+    ∙ ap four {x = (p + 65536 * (q + 65536 * (r + 65536 * (s + 65536 * 0)))) / 4294967296} {y = r + 65536 * (s + 65536 * 0)} (omega (arith, a, b, c, d))
+    ∙ four-is r s 0 c d in
+    omega (arith, one, two)

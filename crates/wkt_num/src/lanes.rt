@@ -83,8 +83,11 @@ fn number_8(digits: u8x8) -> u64
 {
     // Two digits a and b in 16 bits are a + 256 b, and 2561 times that has 10 a + b in its upper byte.
     let pairs = (u16x4::from_le_bytes(digits) * u16x4::splat(2561)) >> u16x4::splat(8);
-    let [a, b, c, d] = pairs.to_array();
-    eight(a, b, c, d)
+    // Two pairs in 32 bits are a + 65536 b, and 6553601 times that has 100 a + b in its upper half.
+    let fours = (u32x2::from_le_bytes(pairs.to_le_bytes()) * u32x2::splat(6_553_601))
+        >> u32x2::splat(16);
+    let [a, b] = fours.to_array();
+    u64::from(a) * 10_000 + u64::from(b)
 }
 
 /// The number of sixteen digits.
