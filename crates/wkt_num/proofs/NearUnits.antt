@@ -1,5 +1,5 @@
 -- Digits around a point, or without one, are read as their units.
-use Rattle.std.proofs.Common.{◌≡◌, ℕ, zero, suc, ◌+◌, ◌-◌, ◌*◌, ◌^◌, ◌<◌, ◌≤◌, Bool, true, false, cond, ◌==◌, List, [], ◌∷◌, ◌++◌, length, take, drop, get_or, slice_range, ℤ, pos, negsuc, Some, refl, sym, ap, subst, ◌∙◌, arith, append_assoc, length-append, length-drop, FitsSigned, to_z, of_z, w64}
+use Rattle.std.proofs.Common.{◌≡◌, ℕ, zero, suc, ◌+◌, ◌-◌, ◌*◌, ◌^◌, ◌<◌, ◌≤◌, Bool, true, false, cond, ◌==◌, List, [], ◌∷◌, ◌++◌, length, take, drop, get_or, slice_range, ℤ, pos, negsuc, Some, refl, sym, ap, subst, ◌∙◌, arith, append_assoc, length-append, FitsSigned, to_z, of_z, w64}
 use Rattle.std.specs.Fmt.{sign_text}
 use Rattle.std.specs.Int.{IsInRange}
 use Rattle.std.specs.Str.Parse.{IsNumeral, AllDigits, digits_value, digits_value_after, starts_with_minus, without_leading_plus}

@@ -61,7 +61,7 @@ lanes-are n count bs keep h k e =
     ∙ ap (λ l. replicate (n - count) 0 ++ map digit l) (tail-is n count bs h k)
 
 -- lanes of which none is over 9
-pub none-over : (xs : List ℕ) → mask_l (map (λ x. nat_lt 9 x) xs) ≡ 0 → DigitLanes xs
+none-over : (xs : List ℕ) → mask_l (map (λ x. nat_lt 9 x) xs) ≡ 0 → DigitLanes xs
 none-over [] e = tt
 none-over (x ∷ xs) e = go (nat_lt 9 x) refl e (none-over xs)
   where
@@ -102,7 +102,7 @@ same-value n (b ∷ bs) f h =
     let less : b < 256 = f.0.fits in
     same-value (n * 10 + digit b) bs f.1 h.1 ∙ ap (λ d. digits_value_after 10 (n * 10 + d) bs) (sym (byte-digit b less h.0).0)
 
-pub length-last : (n count : ℕ) (bs : List ℕ) → count ≤ n → n ≤ length bs → length (last_lanes n count bs) ≡ n
+length-last : (n count : ℕ) (bs : List ℕ) → count ≤ n → n ≤ length bs → length (last_lanes n count bs) ≡ n
 length-last n count bs h k =
     length-append (replicate (n - count) 0) _
     ∙ omega (arith, length-replicate (n - count) zero, length-map (drop (length bs - count) bs) digit, length-drop (length bs - count) bs, h, k)
@@ -110,6 +110,11 @@ length-last n count bs h k =
 -- the last bytes of a text are bytes
 last-fits : (i : ℕ) (bs : List ℕ) → ((k : ℕ) → Fits w8 (get_or bs k 0)) → Each1 (Fits w8) (drop i bs)
 last-fits i bs f = subst (Each1 (Fits w8)) (take_all (length bs) (drop i bs) (omega (arith, length-drop i bs))) (chunk-fits w8 i (length bs) bs f)
+
+-- of the last bytes no lane is over 9
+pub none-last : (n count : ℕ) (bs lanes : List ℕ) → lanes ≡ last_lanes n count bs → (n ≤ length bs) × (count ≤ n) → n ≤ 64
+    → mask_l (map (top (hbits w8)) (zip2 (λ a b. cond (nat_lt a b) (2 ^ bits w8 - 1) 0) (replicate n 9) lanes)) % 2 ^ 64 ≡ 0 → DigitLanes lanes
+none-last n count bs lanes e h most none = none-over lanes (sym (over-mask n lanes (ap length e ∙ length-last n count bs h.1 h.0) most) ∙ none)
 
 pub last-digits : (n count : ℕ) (bs lanes : List ℕ) → ((k : ℕ) → Fits w8 (get_or bs k 0)) → lanes ≡ last_lanes n count bs → DigitLanes lanes → AllDigits 10 (drop (length bs - count) bs)
 last-digits n count bs lanes f e h = all-digits _ (last-fits _ bs f) (after-zeros (n - count) _ (subst DigitLanes e h))
