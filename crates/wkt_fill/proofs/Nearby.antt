@@ -9,8 +9,8 @@ use Rattle.wkt_events.proofs.Runs.{kept-there}
 use Rattle.wkt_events.proofs.PenNumbers.{takes-number}
 use Rattle.wkt_fill.specs.Filling.{put, on}
 use Rattle.wkt_fill.specs.Filled.{Becomes, filler_maker, view}
-use Rattle.wkt_fill.specs.Near.{BeginsUnits}
-use Rattle.wkt_fill.proofs.Units.{held-is}
+use Rattle.wkt_num.specs.Near.{BeginsUnits}
+use Rattle.wkt_num.proofs.NearUnits.{held-is}
 use Rattle.wkt_fill.specs.declared.filler.Filler.{Filler}
 
 pub gives-near : (D : ℕ) (feed : Bool) (text : List ℕ) (at place count end : ℕ) (units : ℤ) (s t : Filler) → at ≤ length text → BeginsUnits D (take (length text - at) (drop at text)) units end

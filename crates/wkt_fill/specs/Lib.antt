@@ -3,4 +3,3 @@ pub mod Filling
 pub mod Growing
 pub mod Filled
 pub mod Fronts
-pub mod Near

@@ -7,11 +7,10 @@ ghost use Rattle.wkt_events.specs.Walking.{GivesNumberIfAny};
 ghost use Rattle.wkt_fill.specs.Filling.{is_collection, push, end_ring, end_polygon, end_whole, ended, put, headed, on};
 ghost use Rattle.wkt_fill.specs.Filled.{filler_maker, view, Becomes, Begins, Tells, with_flat};
 
-use crate::near::units_near;
 use crate::status::{FULL, NOT_FLAT, TOO_LARGE};
 use wkt_events::builder::{At, Builder, Part};
 use wkt_events::read_number_at;
-use wkt_num::Decimal;
+use wkt_num::{Decimal, units_near};
 use wkt_types::{Dimension, GeometryType};
 
 /// The places that arrays are written in.
@@ -211,10 +210,11 @@ impl<'a> Filler<'a> {
         self.numbers[self.number_count] = number;
         self.number_count += 1;
         if place == 0 {
-            match self.coordinates.checked_add(1) {
-                Some(n) => self.coordinates = n,
-                None => self.status = FULL,
+            if self.coordinates == usize::MAX {
+                self.status = FULL;
+                return;
             }
+            self.coordinates += 1;
         }
     }
 

@@ -3,12 +3,9 @@
 //! Below stands `wkt_events`, whose walk calls this builder; above, `wkt_c`.
 #![tactic(auto)]
 
-mod eight;
 mod fill;
 mod filler;
-mod near;
 mod status;
-mod tens;
 
 pub use fill::{Filled, fill_arrays};
 pub use filler::{Filler, Room};

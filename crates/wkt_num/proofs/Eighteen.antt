@@ -1,5 +1,5 @@
 -- A fraction of 18 places, put as eight digits, or as sixteen and two.
-use Rattle.std.proofs.Common.{◌≡◌, ℕ, zero, suc, ◌+◌, ◌-◌, ◌*◌, ◌/◌, ◌%◌, ◌^◌, ◌<◌, ◌≤◌, true, false, not, ◌==◌, List, [], ◌∷◌, ◌++◌, length, reverse, get_or, take, set, cond, refl, sym, ap, ◌∙◌, subst, arith, append_assoc, length-append, length-set}
+use Rattle.std.proofs.Common.{◌≡◌, ℕ, zero, suc, ◌+◌, ◌-◌, ◌*◌, ◌/◌, ◌%◌, ◌^◌, ◌<◌, ◌≤◌, true, false, not, ◌==◌, List, [], ◌∷◌, ◌++◌, length, reverse, get_or, take, set, cond, eqb, map, replicate, w8, refl, sym, ap, ◌∙◌, subst, arith, append_assoc, length-append, length-set}
 use Rattle.std.specs.List.{prefix_len}
 use Rattle.std.proofs.lemmas.List.{reverse-append, length-take-le, take-take}
 use Rattle.std.proofs.Math.Seq.{take-append_seam, take-suc, take-suc-set}
@@ -7,7 +7,10 @@ use Rattle.std.proofs.lemmas.Nat.{pow-add, mod-mul-add}
 use Rattle.std.proofs.Math.Arith.{mod-mul}
 use Rattle.std.proofs.Math.Nat.{mod-lt, mod-eq_of_lt, div-div-eq-div-mul, mul-div-mul_right, mul-mod_left, add-mul-div_left, mul_comm, le-mul_of_pos_right, div-eq_of_lt}
 use Rattle.std.proofs.lemmas.Slice.{take-put_mid}
-use Rattle.std.proofs.lemmas.Simd.{put_chunk_whole, length-put_chunk}
+use Rattle.std.proofs.lemmas.Simd.{put_chunk_whole, length-put_chunk, bitmask_splat, first_set_mask_l}
+use lib.Lanes.{mask_l, top, zip2}
+use mir.Val.{bits, hbits}
+use Rattle.wkt_num.specs.Lanes.{lowest}
 use borrow.Rule.Slice.PartMut.{put_mid, mid_of, mid_len, same_len_mid}
 use lib.Lanes.{put_chunk}
 use lib.Arith.{digits_lt}
@@ -85,6 +88,20 @@ down-take (suc n) v h = ap (λ l. get_or v n 0 ∷ l) (down-take n v (omega (ari
 
 pub down-reverse : (n : ℕ) (v : List ℕ) → length v ≡ n → down n (v ++ v) ≡ reverse v
 down-reverse n v long = down-take n (v ++ v) (omega (arith, long, length-append v v)) ∙ ap reverse (ap (λ (k : ℕ). take k (v ++ v)) (sym long) ∙ take-append_seam v v)
+
+length-down : (n : ℕ) (v : List ℕ) → length (down n v) ≡ n
+length-down zero v = refl
+length-down (suc n) v = ap suc (length-down n v)
+
+-- the zeros that stand last are counted by the lowest bit of the others
+pub zeros-lowest : (n : ℕ) (digits : List ℕ) → length digits ≡ n → n ≤ 64
+    → lowest n (mask_l (map (top (hbits w8)) (zip2 (λ a b. cond (not (eqb a b)) (2 ^ bits w8 - 1) 0) (down n (digits ++ digits)) (replicate n 48))) % 2 ^ 64) ≡ prefix_len (λ b. not (not (b == 48))) (reverse digits)
+zeros-lowest n digits long most =
+    let v : List ℕ = down n (digits ++ digits) in
+    let same : length v ≡ n = length-down n (digits ++ digits) in
+    ap (lowest n) (bitmask_splat w8 (λ a b. not (eqb a b)) v n 48 same most)
+    ∙ first_set_mask_l (λ x. not (eqb x 48)) v n same most
+    ∙ ap (prefix_len (λ b. not (not (eqb b 48)))) (down-reverse n digits long)
 
 length-zeros : (m : ℕ) → length (zeros m) ≡ m
 length-zeros zero = refl

@@ -204,6 +204,32 @@ module _ (D : ℕ) (bs : List ℕ) (end first : ℕ) (t : IsDecimalText D bs end
     pub end-ends : (to : ℕ) → end < to → to ≤ length bs → ((at : ℕ) → t.point + 1 ≤ at → at < to → is_ascii_digit (get_or bs at 0) ≡ true) → ⊥
     end-ends to low k all = not-both (is_ascii_digit (get_or bs end 0)) (all end (omega (arith, f.some)) low) (no-digit (get_or bs end 0) (t.stops (omega (arith, low, k))))
 
+  -- what is known where the digits after the sign end at a place
+  pub record Met (at : ℕ) : Type 0 where
+    pub same : at ≡ t.point
+    pub whole : IsWholePart bs first at
+    pub alone : (at < length bs → get_or bs at 0 ≡ 46 → ⊥) → (at ≡ end) × (first ≡ 1 → get_or bs first 0 ≢ 48)
+
+  pub met : (at : ℕ) → first ≤ at → at ≤ length bs → AllDigits 10 (slice_range bs first at) → (at < length bs → is_ascii_digit (get_or bs at 0) ≡ false) → Met at
+  met at low high digits stops =
+      let same : at ≡ t.point = point-is at low high digits stops in
+      record {
+        same = same;
+        whole = subst (IsWholePart bs first) (sym same) whole-is;
+        alone = λ other. let all = all-whole (subst (λ (n : ℕ). n < length bs → get_or bs n 0 ≡ 46 → ⊥) same other) in (same ∙ sym all.0, all.1);
+      }
+
+  -- and behind a point there
+  pub passed : (at : ℕ) → Met at → at < length bs → get_or bs at 0 ≡ 46 → IsFraction D bs at end
+  passed at m inside is = subst (λ (n : ℕ). IsFraction D bs n end) (sym m.same) (has-fraction (omega (arith, m.same, inside)) (subst (λ (n : ℕ). get_or bs n 0 ≡ 46) m.same is))
+
+  -- the digits of the fraction end with the text
+  pub ended : (at to : ℕ) → (m : Met at) → at < length bs → get_or bs at 0 ≡ 46 → at + 1 ≤ to → to ≤ length bs → AllDigits 10 (slice_range bs (at + 1) to)
+      → (to < length bs → is_ascii_digit (get_or bs to 0) ≡ false) → to ≡ end
+  ended at to m inside is low high digits stops =
+      end-found (omega (arith, m.same, inside)) (subst (λ (n : ℕ). get_or bs n 0 ≡ 46) m.same is) to (omega (arith, m.same, low)) high
+      (subst (λ (n : ℕ). AllDigits 10 (slice_range bs (n + 1) to)) m.same digits) stops
+
 -- ---- no text ends inside
 
 stops-back : (bs : List ℕ) (at : ℕ) → StopsRun (drop at bs) → at < length bs → class_of (get_or bs at 0) ≡ Run → ⊥

@@ -8,7 +8,8 @@ use Rattle.std.proofs.lemmas.List.{take-replicate, drop-replicate, drop-append-l
 use Rattle.std.proofs.lemmas.Simd.{chunk-fits, tops_compared, zip2_splat_left, mask_l-mod}
 use Rattle.std.specs.Int.Bits.{and_zero_r}
 use borrow.Author.Tests.{ltb-false}
-use lib.Lanes.{zip2, Each1, chunk, mask_l, number_l, top}
+use lib.Lanes.{zip2, Each1, chunk, mask_l, number_l, digits_l, top}
+use Rattle.std.proofs.Math.Nat.{pow-suc}
 use mir.Val.{bits, hbits}
 use Rattle.wkt_num.specs.Lanes.{DigitLanes, lanes_after, lanes_value, last_lanes}
 
@@ -60,7 +61,7 @@ lanes-are n count bs keep h k e =
     ∙ ap (λ l. replicate (n - count) 0 ++ map digit l) (tail-is n count bs h k)
 
 -- lanes of which none is over 9
-pub none-over : (xs : List ℕ) → mask_l (map (λ x. nat_lt 9 x) xs) ≡ 0 → DigitLanes xs
+none-over : (xs : List ℕ) → mask_l (map (λ x. nat_lt 9 x) xs) ≡ 0 → DigitLanes xs
 none-over [] e = tt
 none-over (x ∷ xs) e = go (nat_lt 9 x) refl e (none-over xs)
   where
@@ -101,7 +102,7 @@ same-value n (b ∷ bs) f h =
     let less : b < 256 = f.0.fits in
     same-value (n * 10 + digit b) bs f.1 h.1 ∙ ap (λ d. digits_value_after 10 (n * 10 + d) bs) (sym (byte-digit b less h.0).0)
 
-pub length-last : (n count : ℕ) (bs : List ℕ) → count ≤ n → n ≤ length bs → length (last_lanes n count bs) ≡ n
+length-last : (n count : ℕ) (bs : List ℕ) → count ≤ n → n ≤ length bs → length (last_lanes n count bs) ≡ n
 length-last n count bs h k =
     length-append (replicate (n - count) 0) _
     ∙ omega (arith, length-replicate (n - count) zero, length-map (drop (length bs - count) bs) digit, length-drop (length bs - count) bs, h, k)
@@ -109,6 +110,11 @@ length-last n count bs h k =
 -- the last bytes of a text are bytes
 last-fits : (i : ℕ) (bs : List ℕ) → ((k : ℕ) → Fits w8 (get_or bs k 0)) → Each1 (Fits w8) (drop i bs)
 last-fits i bs f = subst (Each1 (Fits w8)) (take_all (length bs) (drop i bs) (omega (arith, length-drop i bs))) (chunk-fits w8 i (length bs) bs f)
+
+-- of the last bytes no lane is over 9
+pub none-last : (n count : ℕ) (bs lanes : List ℕ) → lanes ≡ last_lanes n count bs → (n ≤ length bs) × (count ≤ n) → n ≤ 64
+    → mask_l (map (top (hbits w8)) (zip2 (λ a b. cond (nat_lt a b) (2 ^ bits w8 - 1) 0) (replicate n 9) lanes)) % 2 ^ 64 ≡ 0 → DigitLanes lanes
+none-last n count bs lanes e h most none = none-over lanes (sym (over-mask n lanes (ap length e ∙ length-last n count bs h.1 h.0) most) ∙ none)
 
 pub last-digits : (n count : ℕ) (bs lanes : List ℕ) → ((k : ℕ) → Fits w8 (get_or bs k 0)) → lanes ≡ last_lanes n count bs → DigitLanes lanes → AllDigits 10 (drop (length bs - count) bs)
 last-digits n count bs lanes f e h = all-digits _ (last-fits _ bs f) (after-zeros (n - count) _ (subst DigitLanes e h))
@@ -204,3 +210,31 @@ joined m n x y e f = omega (arith, e, f)
 pub no-more : (n : ℕ) (l : List ℕ) → length l ≡ 0 → lanes_after n l ≡ n
 no-more n [] e = refl
 no-more n (d ∷ l) e = absurd (omega (arith, e))
+
+-- ---- four digits in 32 bits
+
+abbrev pub four : ℕ → ℕ
+four v = v % 4294967296 * 6553601 % 4294967296 / 65536
+
+four-is : (p q r : ℕ) → p < 100 → q < 100 → four (p + 65536 * (q + 65536 * r)) ≡ p * 100 + q
+four-is p q r h k = ap (λ v. v * 6553601 % 4294967296 / 65536) {x = (p + 65536 * (q + 65536 * r)) % 4294967296} {y = p + 65536 * q} (omega (arith, h, k)) ∙ omega (arith, h, k)
+
+-- bytes of a number make it again
+number-digits : (n x : ℕ) → x < 256 ^ n → number_l 256 (digits_l 256 n x) ≡ x
+number-digits zero x h = omega (arith, h)
+number-digits (suc n) x h = ap (λ r. x % 256 + 256 * r) (number-digits n (x / 256) (omega (arith, h, pow-suc 256 n))) ∙ omega arith
+
+-- the bytes of four pairs
+abbrev pub bytes_of : ℕ → ℕ → ℕ → ℕ → ℕ
+bytes_of p q r s = number_l 256 (digits_l 256 8 (number_l 65536 (p ∷ q ∷ r ∷ s ∷ [])))
+
+pub fours-are : (p q r s : ℕ) → p < 100 → q < 100 → r < 100 → s < 100
+    → four (bytes_of p q r s) * 10000 + four (bytes_of p q r s / 4294967296) ≡ p * 1000000 + q * 10000 + r * 100 + s
+fours-are p q r s a b c d =
+    let all : bytes_of p q r s ≡ p + 65536 * (q + 65536 * (r + 65536 * (s + 65536 * 0))) = number-digits 8 _ (omega (arith, a, b, c, d)) in
+    let one : four (bytes_of p q r s) ≡ p * 100 + q = ap four all ∙ four-is p q (r + 65536 * (s + 65536 * 0)) a b in
+    let two : four (bytes_of p q r s / 4294967296) ≡ r * 100 + s =
+    ap (λ x. four (x / 4294967296)) all
+    ∙ ap four {x = (p + 65536 * (q + 65536 * (r + 65536 * (s + 65536 * 0)))) / 4294967296} {y = r + 65536 * (s + 65536 * 0)} (omega (arith, a, b, c, d))
+    ∙ four-is r s 0 c d in
+    omega (arith, one, two)

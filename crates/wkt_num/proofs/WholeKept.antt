@@ -1,5 +1,5 @@
 -- A whole number as it is printed keeps its text.
-use Rattle.std.proofs.Common.{◌≡◌, ◌≢◌, ℕ, zero, suc, ◌-◌, ◌^◌, ◌<◌, ◌≤◌, ◌==◌, List, [], ◌∷◌, ◌++◌, length, take, get_or, slice_range, pos, negsuc, refl, sym, ap, subst, ◌∙◌, arith}
+use Rattle.std.proofs.Common.{◌≡◌, ◌≢◌, ℕ, zero, suc, ◌-◌, ◌^◌, ◌<◌, ◌≤◌, ◌==◌, List, [], ◌∷◌, ◌++◌, length, take, get_or, slice_range, pos, negsuc, Option, Some, refl, sym, ap, subst, ◌∙◌, arith}
 use Rattle.std.specs.Fmt.{decimal, signed_decimal, sign_text}
 use Rattle.std.specs.Str.Parse.{IsNumeral, digits_value}
 use Rattle.std.proofs.lemmas.Int.Digits.{digits_value-lt}
@@ -45,21 +45,16 @@ module _ (k most : ℕ) (bs : List ℕ) (end : ℕ) (fits : 10 ^ most ≤ 2 ^ k)
   run : IsNumberText (take end bs)
   run = subst IsNumberText (sym text) (subst (λ l. IsNumberText (sign_text (h.first == 1) ++ l)) (append-nil ws) (text-run (h.first == 1) ws [] numeral tt))
 
+  kept-as : {T : Type 0} (read : List ℕ → Option T) (num : T → List ℕ) (x : T) → read (take end bs) ≡ Some x → num x ≡ take end bs → KeepsText read num bs end end
+  kept-as read num x reads whole = record { number = x; within = h.within; shorter = omega arith; run = run; stops = stops-at bs end h.stops; reads = reads; text = whole }
+
   pub keeps-signed : KeepsText (read_signed k) signed_decimal bs end end
   keeps-signed = go h.first h.minus refl
     where
       plain : h.first ≡ 0 → KeepsText (read_signed k) signed_decimal bs end end
       plain e =
           let all : take end bs ≡ ws = text ∙ ap (λ (n : ℕ). sign_text (n == 1) ++ ws) e in
-          record {
-            number = pos v;
-            within = h.within;
-            shorter = omega arith;
-            run = run;
-            stops = stops-at bs end h.stops;
-            reads = ap (read_signed k) all ∙ read_signed_plain k v ws numeral refl small;
-            text = printed ∙ sym all;
-          }
+          kept-as (read_signed k) signed_decimal (pos v) (ap (read_signed k) all ∙ read_signed_plain k v ws numeral refl small) (printed ∙ sym all)
 
       some : h.first ≡ 1 → 0 < v
       some e = value-first ws numeral (λ z. let p = h.printed.plain (sym head ∙ z) in omega (arith, e, p.1))
@@ -68,15 +63,8 @@ module _ (k most : ℕ) (bs : List ℕ) (end : ℕ) (fits : 10 ^ most ≤ 2 ^ k)
       negative e zero same positive = absurd (omega (arith, positive))
       negative e (suc n) same positive =
           let all : take end bs ≡ 45 ∷ ws = text ∙ ap (λ (m : ℕ). sign_text (m == 1) ++ ws) e in
-          record {
-            number = negsuc n;
-            within = h.within;
-            shorter = omega arith;
-            run = run;
-            stops = stops-at bs end h.stops;
-            reads = ap (read_signed k) all ∙ read_signed_minus k (suc n) ws numeral same (omega (arith, small, same));
-            text = ap (λ l. 45 ∷ l) (ap decimal (sym same) ∙ printed) ∙ sym all;
-          }
+          kept-as (read_signed k) signed_decimal (negsuc n) (ap (read_signed k) all ∙ read_signed_minus k (suc n) ws numeral same (omega (arith, small, same)))
+          (ap (λ l. 45 ∷ l) (ap decimal (sym same) ∙ printed) ∙ sym all)
 
       go : (f : ℕ) → f ≤ 1 → h.first ≡ f → KeepsText (read_signed k) signed_decimal bs end end
       go zero order e = plain e
@@ -87,15 +75,7 @@ module _ (k most : ℕ) (bs : List ℕ) (end : ℕ) (fits : 10 ^ most ≤ 2 ^ k)
   keeps-unsigned other =
       let all : take end bs ≡ ws = text ∙ ap (λ (n : ℕ). sign_text (n == 1) ++ ws) none in
       let digit = first_digit ws numeral in
-      record {
-        number = v;
-        within = h.within;
-        shorter = omega arith;
-        run = run;
-        stops = stops-at bs end h.stops;
-        reads = ap (read_unsigned k) all ∙ read_unsigned_some k v ws ws (without_leading_plus_none ws (λ e. omega (arith, digit, e))) numeral refl small;
-        text = printed ∙ sym all;
-      }
+      kept-as (read_unsigned k) decimal v (ap (read_unsigned k) all ∙ read_unsigned_some k v ws ws (without_leading_plus_none ws (λ e. omega (arith, digit, e))) numeral refl small) (printed ∙ sym all)
     where
       first-of : (l : List ℕ) → take 1 l ≡ 45 ∷ [] → get_or l 0 0 ≡ 45
       first-of [] e = cc

@@ -1,5 +1,6 @@
 -- Digits in the lanes of a vector. Only private contracts cite this file.
-use Rattle.std.specs.Prelude.{ℕ, ◌+◌, ◌-◌, ◌*◌, ◌%◌, ◌≤◌, List, [], ◌∷◌, ◌++◌, length, drop, map, replicate}
+use Rattle.std.specs.Prelude.{ℕ, ◌+◌, ◌-◌, ◌*◌, ◌%◌, ◌≤◌, ◌==◌, if◌then◌else◌, List, [], ◌∷◌, ◌++◌, length, drop, map, replicate}
+use lib.Count.{count_trailing_zeros}
 
 -- Each lane is a digit.
 abbrev pub DigitLanes : List ℕ → Type 0
@@ -18,3 +19,7 @@ lanes_value ds = lanes_after 0 ds
 -- The last bytes of a text less 48, as bytes wrap, after so many zeros that there are n lanes.
 abbrev pub last_lanes : ℕ → ℕ → List ℕ → List ℕ
 last_lanes n count bs = replicate (n - count) 0 ++ map (λ b. (b + 208) % 256) (drop (length bs - count) bs)
+
+-- The lowest of these bits, or how many lanes there are.
+abbrev pub lowest : ℕ → ℕ → ℕ
+lowest lanes bits = if bits == 0 then lanes else count_trailing_zeros 64 bits

@@ -23,7 +23,7 @@ pub fn last_digits(body: &[u8], count: usize) -> Option<u64>
 
 /// The same of at most eight bytes, of a text that has eight.
 #[inline(always)]
-fn last_8(body: &[u8], count: usize) -> Option<u64>
+pub(crate) fn last_8(body: &[u8], count: usize) -> Option<u64>
     requires { (8 ≤ length body.now) × (count ≤ 8) }
     ensures digits { IfSome result (λ _. AllDigits 10 (drop (length body.now - count) body.now)) }
     ensures value { IfSome result (λ n. n ≡ digits_value 10 (drop (length body.now - count) body.now)) }
@@ -83,8 +83,11 @@ fn number_8(digits: u8x8) -> u64
 {
     // Two digits a and b in 16 bits are a + 256 b, and 2561 times that has 10 a + b in its upper byte.
     let pairs = (u16x4::from_le_bytes(digits) * u16x4::splat(2561)) >> u16x4::splat(8);
-    let [a, b, c, d] = pairs.to_array();
-    eight(a, b, c, d)
+    // Two pairs in 32 bits are a + 65536 b, and 6553601 times that has 100 a + b in its upper half.
+    let fours = (u32x2::from_le_bytes(pairs.to_le_bytes()) * u32x2::splat(6_553_601))
+        >> u32x2::splat(16);
+    let [a, b] = fours.to_array();
+    u64::from(a) * 10_000 + u64::from(b)
 }
 
 /// The number of sixteen digits.

@@ -4,6 +4,7 @@
 ghost use Rattle.std.specs.Prelude.{◌≡◌, ◌≢◌, ℕ, List, length, ◌<◌, ◌≤◌, ◌+◌, ◌-◌, ◌/◌, ◌%◌, ◌^◌, ◌++◌, take, drop, not, reverse, ◌==◌, slice_index};
 ghost use Rattle.std.specs.List.{prefix_len};
 ghost use Rattle.wkt_num.specs.Sink.{Puts};
+ghost use Rattle.wkt_num.specs.Lanes.{lowest};
 ghost use Rattle.wkt_num.specs.Padded.{zeros, EndsInDigit, padded};
 ghost use Rattle.wkt_num.specs.Decimal.{magnitude_text, fraction_text, fraction_digits};
 
@@ -209,11 +210,18 @@ fn two_fours(a: u32, b: u32) -> u8x8
 fn zeros_after_eight(digits: u8x8) -> usize
     ensures { result ≡ prefix_len (λ b. not (not (b == 48))) (reverse digits) }
 {
-    let others = digits.reverse().simd_ne(u8x8::splat(b'0')).to_bitmask();
-    if others == 0 {
-        8
+    lowest(digits.reverse().simd_ne(u8x8::splat(b'0')).to_bitmask(), 8)
+}
+
+/// The lowest of these bits, or how many lanes there are.
+#[inline(always)]
+fn lowest(bits: u64, lanes: usize) -> usize
+    ensures { result ≡ lowest lanes bits }
+{
+    if bits == 0 {
+        lanes
     } else {
-        others.trailing_zeros() as usize
+        bits.trailing_zeros() as usize
     }
 }
 
@@ -256,12 +264,10 @@ fn four_fours(a: u32, b: u32, c: u32, d: u32) -> u8x16
 fn zeros_after(digits: u8x16) -> usize
     ensures { result ≡ prefix_len (λ b. not (not (b == 48))) (reverse digits) }
 {
-    let others = digits.reverse().simd_ne(u8x16::splat(b'0')).to_bitmask();
-    if others == 0 {
-        16
-    } else {
-        others.trailing_zeros() as usize
-    }
+    lowest(
+        digits.reverse().simd_ne(u8x16::splat(b'0')).to_bitmask(),
+        16,
+    )
 }
 
 /// Where what ends at `end` ends without its last zeros.

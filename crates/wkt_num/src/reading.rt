@@ -84,7 +84,7 @@ fn read_few(places: u32, body: &[u8]) -> Option<u128>
 /// The number of the digits of such a body, and how many of them follow a point. A count past all
 /// places implies nothing about the body.
 #[inline(always)]
-fn few_digits(body: &[u8]) -> (u32, usize)
+fn few_digits(body: &[u8]) -> (u64, usize)
     ensures { (D : ℕ) → D ≤ 18 → result.1 ≤ D
         → read_magnitude (2 ^ 127) D body.now ≡ Some (result.0 * 10 ^ (D - result.1)) }
 {
@@ -92,7 +92,7 @@ fn few_digits(body: &[u8]) -> (u32, usize)
     if body.len() >= VECTOR_BYTES {
         return none;
     }
-    let (whole, at) = small_digits(body, 0, 0);
+    let (whole, at) = digits_from(body, 0, body.len(), 0);
     if at == body.len() {
         return if at == 0 { none } else { (whole, 0) };
     }
@@ -100,29 +100,8 @@ fn few_digits(body: &[u8]) -> (u32, usize)
     if body[at] != b'.' || after == 0 {
         return none;
     }
-    let (all, end) = small_digits(body, at + 1, whole);
+    let (all, end) = digits_from(body, at + 1, body.len(), whole);
     if end < body.len() { none } else { (all, after) }
-}
-
-/// The number followed by the digits from `from` on, in 32 bits, and where they end.
-#[inline(always)]
-fn small_digits(body: &[u8], from: usize, number: u32) -> (u32, usize)
-    requires short { length body.now ≤ 7 }
-    requires within { from ≤ length body.now }
-    requires small { number < 10 ^ from }
-    ensures from { from ≤ result.1 }
-    ensures within { result.1 ≤ length body.now }
-    ensures digits { AllDigits 10 (slice_range body.now from result.1) }
-    ensures value { result.0 ≡ digits_value_after 10 number (slice_range body.now from result.1) }
-    ensures small { result.0 < 10 ^ result.1 }
-{
-    let mut all = number;
-    let mut at = from;
-    while at < body.len() && body[at].is_ascii_digit() {
-        all = all * 10 + u32::from(body[at] - b'0');
-        at += 1;
-    }
-    (all, at)
 }
 
 /// The units by vectors, for a body of common length around a point. `None` implies nothing about the body.
@@ -133,7 +112,7 @@ fn read_near(places: u32, body: &[u8]) -> Option<u128>
     if places > SHORT_PLACES || body.len() > SHORT_BYTES || body.len() < VECTOR_BYTES {
         return None;
     }
-    let (whole, at) = digits_from(body, 0, 0);
+    let (whole, at) = digits_from(body, 0, body.len(), 0);
     if at == body.len() || body[at] != b'.' {
         return None;
     }
@@ -155,7 +134,7 @@ fn read_short(places: u32, body: &[u8]) -> Option<u128>
     if places > SHORT_PLACES || body.len() > SHORT_BYTES {
         return None;
     }
-    let (whole, at) = digits_from(body, 0, 0);
+    let (whole, at) = digits_from(body, 0, body.len(), 0);
     if at == body.len() {
         if at == 0 {
             return None;
@@ -169,29 +148,29 @@ fn read_short(places: u32, body: &[u8]) -> Option<u128>
     if after == 0 || after > places {
         return None;
     }
-    let (all, end) = digits_from(body, at + 1, whole);
+    let (all, end) = digits_from(body, at + 1, body.len(), whole);
     if end < body.len() {
         return None;
     }
     Some(u128::from(all) * u128::from(ten_to(places - after)))
 }
 
-/// The number followed by the digits from `from` on, in 64 bits, and where they end.
+/// The number followed by the digits from `from` on and before `most`, in 64 bits, and where they end.
 #[inline(always)]
-fn digits_from(body: &[u8], from: usize, number: u64) -> (u64, usize)
-    requires short { length body.now ≤ 19 }
-    requires within { from ≤ length body.now }
+pub(crate) fn digits_from(bytes: &[u8], from: usize, most: usize, number: u64) -> (u64, usize)
+    requires few { most ≤ 19 }
+    requires within { most ≤ length bytes.now }
     requires small { number < 10 ^ from }
     ensures from { from ≤ result.1 }
-    ensures within { result.1 ≤ length body.now }
-    ensures digits { AllDigits 10 (slice_range body.now from result.1) }
-    ensures value { result.0 ≡ digits_value_after 10 number (slice_range body.now from result.1) }
+    ensures within { from ≤ most → result.1 ≤ most }
+    ensures digits { AllDigits 10 (slice_range bytes.now from result.1) }
+    ensures value { result.0 ≡ digits_value_after 10 number (slice_range bytes.now from result.1) }
     ensures small { result.0 < 10 ^ result.1 }
 {
     let mut all = number;
     let mut at = from;
-    while at < body.len() && body[at].is_ascii_digit() {
-        all = all * 10 + u64::from(body[at] - b'0');
+    while at < most && bytes[at].is_ascii_digit() {
+        all = all * 10 + u64::from(bytes[at] - b'0');
         at += 1;
     }
     (all, at)

@@ -1,11 +1,9 @@
 -- The number keeps its text, and is found.
-use Rattle.std.proofs.Common.{◌≡◌, ◌<◌, ◌≤◌, ◌+◌, ◌-◌, ℕ, length, get_or, slice_range, true, sym, subst, ◌∙◌, arith}
+use Rattle.std.proofs.Common.{◌≡◌, ◌<◌, ◌≤◌, ◌+◌, ◌-◌, ℕ, length, get_or, true, sym, subst, ◌∙◌, arith}
 use Rattle.std.specs.Char.{is_ascii_digit}
-use Rattle.std.specs.Str.Parse.{AllDigits}
 use Rattle.wkt_num.specs.Bytes.{class_of, Run}
-use Rattle.wkt_num.specs.Parts.{IsWholePart, IsFraction}
 use Rattle.wkt_num.proofs.Placed.{keeps-whole, keeps-plain}
-use Rattle.wkt_num.proofs.FoundDecimal.{point-is, point-low, point-ends, whole-is, all-whole, has-fraction, end-found, end-ends, found-same}
+use Rattle.wkt_num.proofs.FoundDecimal.{point-low, point-ends, met, passed, ended, end-ends, found-same}
 use Rattle.wkt_num.proofs.kept.kept_in_window.Goals as goal
 use Rattle.wkt_num.proofs.kept.kept_in_window.Goals.{then-not-is_whole_part-via-then-not-is_whole_part, then-not-is_whole_part-via-else-not-is_whole_part+then-is_minus_zero, then-not-is_whole_part-via-else-not-is_whole_part+else-is_minus_zero+then-is_of_run}
 
@@ -29,90 +27,64 @@ returns-in_default-clause-finds c end t less =
 
 pub returns-then-not-is_whole_part-clause-finds : goal.returns-then-not-is_whole_part-clause-finds
 returns-then-not-is_whole_part-clause-finds c end t less =
-    let D = c.args.places in
-    let bs = c.args.bytes.now in
     let a = c.after_minus-first in
     let p = c.in-Some.ensures.some in
-    let same : c.in-Some.point ≡ t.point = point-is D bs end a.result t a.ensures.minus a.ensures.sign a.ensures.none c.in-Some.point p.order (omega (arith, p.within, c.requires)) p.digits (λ _. p.other) in
-    let whole : IsWholePart bs a.result c.in-Some.point = subst (IsWholePart bs a.result) (sym same) (whole-is D bs end a.result t a.ensures.minus a.ensures.sign a.ensures.none) in
-    let all = all-whole D bs end a.result t a.ensures.minus a.ensures.sign a.ensures.none (subst (λ (n : ℕ). n < length bs → get_or bs n 0 ≡ 46 → ⊥) same (λ _. c.if-bytes-point-ne46.true)) in
+    let m = met c.args.places c.args.bytes.now end a.result t a.ensures.minus a.ensures.sign a.ensures.none c.in-Some.point p.order (omega (arith, p.within, c.requires)) p.digits (λ _. p.other) in
+    let all = m.alone (λ _. c.if-bytes-point-ne46.true) in
     elim c.then-not-is_whole_part.branch [
-      | then-not-is_whole_part-via-then-not-is_whole_part v ↦ absurd (v.if-not-is_whole_part.ensures whole)
+      | then-not-is_whole_part-via-then-not-is_whole_part v ↦ absurd (v.if-not-is_whole_part.ensures m.whole)
       | then-not-is_whole_part-via-else-not-is_whole_part+then-is_minus_zero v ↦ absurd (all.1 v.if-is_minus_zero.ensures.0 v.if-is_minus_zero.ensures.1)
-      | then-not-is_whole_part-via-else-not-is_whole_part+else-is_minus_zero+then-is_of_run v ↦ absurd (t.stops (omega (arith, less, c.requires)) (subst (λ (n : ℕ). class_of (get_or bs n 0) ≡ Run) (same ∙ sym all.0) v.if-is_of_run.ensures))
+      | then-not-is_whole_part-via-else-not-is_whole_part+else-is_minus_zero+then-is_of_run v ↦ absurd (t.stops (omega (arith, less, c.requires)) (subst (λ (n : ℕ). class_of (get_or c.args.bytes.now n 0) ≡ Run) all.0 v.if-is_of_run.ensures))
     ]
 
 pub returns-then-bytes-point-ne46-clause-finds : goal.returns-then-bytes-point-ne46-clause-finds
 returns-then-bytes-point-ne46-clause-finds c end t less =
-    let D = c.args.places in
-    let bs = c.args.bytes.now in
     let a = c.after_minus-first in
     let p = c.in-Some.ensures.some in
-    let same : c.in-Some.point ≡ t.point = point-is D bs end a.result t a.ensures.minus a.ensures.sign a.ensures.none c.in-Some.point p.order (omega (arith, p.within, c.requires)) p.digits (λ _. p.other) in
-    let all = all-whole D bs end a.result t a.ensures.minus a.ensures.sign a.ensures.none (subst (λ (n : ℕ). n < length bs → get_or bs n 0 ≡ 46 → ⊥) same (λ _. c.if-bytes-point-ne46.true)) in
-    found-same c.in-Some.point end (same ∙ sym all.0)
+    let m = met c.args.places c.args.bytes.now end a.result t a.ensures.minus a.ensures.sign a.ensures.none c.in-Some.point p.order (omega (arith, p.within, c.requires)) p.digits (λ _. p.other) in
+    found-same c.in-Some.point end (m.alone (λ _. c.if-bytes-point-ne46.true)).0
 
 pub returns-in_default-first_other-clause-finds : goal.returns-in_default-first_other-clause-finds
 returns-in_default-first_other-clause-finds c end t less =
-    let D = c.args.places in
-    let bs = c.args.bytes.now in
     let a = c.after_minus-first in
     let p = c.in-Some.ensures.some in
-    let same : c.in-Some.point ≡ t.point = point-is D bs end a.result t a.ensures.minus a.ensures.sign a.ensures.none c.in-Some.point p.order (omega (arith, p.within, c.requires)) p.digits (λ _. p.other) in
-    let inside : t.point < length bs = omega (arith, same, p.within, c.requires) in
-    let is : get_or bs t.point 0 ≡ 46 = subst (λ (n : ℕ). get_or bs n 0 ≡ 46) same c.if-bytes-point-ne46.false in
-    absurd (end-ends D bs end a.result t a.ensures.minus a.ensures.sign a.ensures.none inside is 32 less c.requires (subst (λ (n : ℕ). (at : ℕ) → n + 1 ≤ at → at < 32 → is_ascii_digit (get_or bs at 0) ≡ true) same c.in_default-first_other.ensures.none))
+    let m = met c.args.places c.args.bytes.now end a.result t a.ensures.minus a.ensures.sign a.ensures.none c.in-Some.point p.order (omega (arith, p.within, c.requires)) p.digits (λ _. p.other) in
+    let inside : t.point < length c.args.bytes.now = omega (arith, m.same, p.within, c.requires) in
+    let is : get_or c.args.bytes.now t.point 0 ≡ 46 = subst (λ (n : ℕ). get_or c.args.bytes.now n 0 ≡ 46) m.same c.if-bytes-point-ne46.false in
+    absurd (end-ends c.args.places c.args.bytes.now end a.result t a.ensures.minus a.ensures.sign a.ensures.none inside is 32 less c.requires (subst (λ (n : ℕ). (at : ℕ) → n + 1 ≤ at → at < 32 → is_ascii_digit (get_or c.args.bytes.now at 0) ≡ true) m.same c.in_default-first_other.ensures.none))
 
 pub returns-then-is_of_run-2-clause-finds : goal.returns-then-is_of_run-2-clause-finds
 returns-then-is_of_run-2-clause-finds c end t less =
-    let D = c.args.places in
-    let bs = c.args.bytes.now in
     let a = c.after_minus-first in
     let p = c.in-Some.ensures.some in
-    let same : c.in-Some.point ≡ t.point = point-is D bs end a.result t a.ensures.minus a.ensures.sign a.ensures.none c.in-Some.point p.order (omega (arith, p.within, c.requires)) p.digits (λ _. p.other) in
-    let inside : t.point < length bs = omega (arith, same, p.within, c.requires) in
-    let is : get_or bs t.point 0 ≡ 46 = subst (λ (n : ℕ). get_or bs n 0 ≡ 46) same c.if-bytes-point-ne46.false in
+    let m = met c.args.places c.args.bytes.now end a.result t a.ensures.minus a.ensures.sign a.ensures.none c.in-Some.point p.order (omega (arith, p.within, c.requires)) p.digits (λ _. p.other) in
     let e = c.in-Some-first_other.ensures.some in
-    let ends : c.in-Some-first_other.end ≡ end = end-found D bs end a.result t a.ensures.minus a.ensures.sign a.ensures.none inside is c.in-Some-first_other.end (omega (arith, same, e.order)) (omega (arith, e.within, c.requires))
-    (subst (λ (n : ℕ). AllDigits 10 (slice_range bs (n + 1) c.in-Some-first_other.end)) same e.digits) (λ _. e.other) in
-    absurd (t.stops (omega (arith, less, c.requires)) (subst (λ (n : ℕ). class_of (get_or bs n 0) ≡ Run) ends c.if-is_of_run-2.ensures))
+    let ends = ended c.args.places c.args.bytes.now end a.result t a.ensures.minus a.ensures.sign a.ensures.none c.in-Some.point c.in-Some-first_other.end m (omega (arith, p.within, c.requires)) c.if-bytes-point-ne46.false e.order (omega (arith, e.within, c.requires)) e.digits (λ _. e.other) in
+    absurd (t.stops (omega (arith, less, c.requires)) (subst (λ (n : ℕ). class_of (get_or c.args.bytes.now n 0) ≡ Run) ends c.if-is_of_run-2.ensures))
 
 pub returns-then-is_plain-clause-finds : goal.returns-then-is_plain-clause-finds
 returns-then-is_plain-clause-finds c end t less =
-    let D = c.args.places in
-    let bs = c.args.bytes.now in
     let a = c.after_minus-first in
     let p = c.in-Some.ensures.some in
-    let same : c.in-Some.point ≡ t.point = point-is D bs end a.result t a.ensures.minus a.ensures.sign a.ensures.none c.in-Some.point p.order (omega (arith, p.within, c.requires)) p.digits (λ _. p.other) in
-    let inside : t.point < length bs = omega (arith, same, p.within, c.requires) in
-    let is : get_or bs t.point 0 ≡ 46 = subst (λ (n : ℕ). get_or bs n 0 ≡ 46) same c.if-bytes-point-ne46.false in
+    let m = met c.args.places c.args.bytes.now end a.result t a.ensures.minus a.ensures.sign a.ensures.none c.in-Some.point p.order (omega (arith, p.within, c.requires)) p.digits (λ _. p.other) in
     let e = c.in-Some-first_other.ensures.some in
-    let ends : c.in-Some-first_other.end ≡ end = end-found D bs end a.result t a.ensures.minus a.ensures.sign a.ensures.none inside is c.in-Some-first_other.end (omega (arith, same, e.order)) (omega (arith, e.within, c.requires))
-    (subst (λ (n : ℕ). AllDigits 10 (slice_range bs (n + 1) c.in-Some-first_other.end)) same e.digits) (λ _. e.other) in
+    let ends = ended c.args.places c.args.bytes.now end a.result t a.ensures.minus a.ensures.sign a.ensures.none c.in-Some.point c.in-Some-first_other.end m (omega (arith, p.within, c.requires)) c.if-bytes-point-ne46.false e.order (omega (arith, e.within, c.requires)) e.digits (λ _. e.other) in
     found-same c.in-Some-first_other.end end ends
 
 pub returns-then-not-is_whole_part-2-clause-finds : goal.returns-then-not-is_whole_part-2-clause-finds
 returns-then-not-is_whole_part-2-clause-finds c end t less =
-    let D = c.args.places in
-    let bs = c.args.bytes.now in
     let a = c.after_minus-first in
     let p = c.in-Some.ensures.some in
-    let same : c.in-Some.point ≡ t.point = point-is D bs end a.result t a.ensures.minus a.ensures.sign a.ensures.none c.in-Some.point p.order (omega (arith, p.within, c.requires)) p.digits (λ _. p.other) in
-    let whole : IsWholePart bs a.result c.in-Some.point = subst (IsWholePart bs a.result) (sym same) (whole-is D bs end a.result t a.ensures.minus a.ensures.sign a.ensures.none) in
-    absurd (c.if-not-is_whole_part-2.ensures whole)
+    let m = met c.args.places c.args.bytes.now end a.result t a.ensures.minus a.ensures.sign a.ensures.none c.in-Some.point p.order (omega (arith, p.within, c.requires)) p.digits (λ _. p.other) in
+    absurd (c.if-not-is_whole_part-2.ensures m.whole)
 
 pub returns-clause-finds : goal.returns-clause-finds
 returns-clause-finds c end t less =
-    let D = c.args.places in
-    let bs = c.args.bytes.now in
     let a = c.after_minus-first in
     let p = c.in-Some.ensures.some in
-    let same : c.in-Some.point ≡ t.point = point-is D bs end a.result t a.ensures.minus a.ensures.sign a.ensures.none c.in-Some.point p.order (omega (arith, p.within, c.requires)) p.digits (λ _. p.other) in
-    let inside : t.point < length bs = omega (arith, same, p.within, c.requires) in
-    let is : get_or bs t.point 0 ≡ 46 = subst (λ (n : ℕ). get_or bs n 0 ≡ 46) same c.if-bytes-point-ne46.false in
+    let m = met c.args.places c.args.bytes.now end a.result t a.ensures.minus a.ensures.sign a.ensures.none c.in-Some.point p.order (omega (arith, p.within, c.requires)) p.digits (λ _. p.other) in
     let e = c.in-Some-first_other.ensures.some in
-    let ends : c.in-Some-first_other.end ≡ end = end-found D bs end a.result t a.ensures.minus a.ensures.sign a.ensures.none inside is c.in-Some-first_other.end (omega (arith, same, e.order)) (omega (arith, e.within, c.requires))
-    (subst (λ (n : ℕ). AllDigits 10 (slice_range bs (n + 1) c.in-Some-first_other.end)) same e.digits) (λ _. e.other) in
-    let f : IsFraction D bs t.point end = has-fraction D bs end a.result t a.ensures.minus a.ensures.sign a.ensures.none inside is in
-    c.kept_fraction.ensures.finds (omega (arith, same, ends, f.some)) (subst (λ (n : ℕ). get_or bs (n - 1) 0 ≡ 48 → ⊥) (sym ends) f.last) (omega (arith, same, ends, f.few))
+    let ends = ended c.args.places c.args.bytes.now end a.result t a.ensures.minus a.ensures.sign a.ensures.none c.in-Some.point c.in-Some-first_other.end m (omega (arith, p.within, c.requires)) c.if-bytes-point-ne46.false e.order (omega (arith, e.within, c.requires)) e.digits (λ _. e.other) in
+    let f = passed c.args.places c.args.bytes.now end a.result t a.ensures.minus a.ensures.sign a.ensures.none c.in-Some.point m (omega (arith, p.within, c.requires)) c.if-bytes-point-ne46.false in
+    c.kept_fraction.ensures.finds (omega (arith, ends, f.some)) (subst (λ (n : ℕ). get_or c.args.bytes.now (n - 1) 0 ≡ 48 → ⊥) (sym ends) f.last) (omega (arith, ends, f.few))
     ∙ found-same c.in-Some-first_other.end end ends

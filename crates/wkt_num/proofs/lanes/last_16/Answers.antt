@@ -1,14 +1,11 @@
 -- No lane is past 9 exactly if all bytes are digits, whose value the lanes have then.
-use Rattle.std.proofs.Common.{length, sym, ap, ◌∙◌, arith}
-use Rattle.wkt_num.proofs.Vectors.{none-over, over-mask, length-last, last-digits, last-value}
+use Rattle.std.proofs.Common.{◌∙◌, arith}
+use Rattle.wkt_num.proofs.Vectors.{none-last, last-digits, last-value}
 use Rattle.wkt_num.specs.Lanes.{DigitLanes}
 use Rattle.wkt_num.proofs.lanes.last_16.Goals as goal
 
 small : (c : goal.After-number_16) → DigitLanes c.lanes_16-digits.result
-small c =
-    let lanes = c.lanes_16-digits.result in
-    let long = ap length c.lanes_16-digits.ensures ∙ length-last 16 c.args.count c.args.body.now c.requires.1 c.requires.0 in
-    none-over lanes (sym (over-mask 16 lanes long (omega arith)) ∙ c.if-digits-ne0.false)
+small c = none-last 16 c.args.count c.args.body.now c.lanes_16-digits.result c.lanes_16-digits.ensures c.requires (omega arith) c.if-digits-ne0.false
 
 pub returns-clause-digits : goal.returns-clause-digits
 returns-clause-digits c = last-digits 16 c.args.count c.args.body.now c.lanes_16-digits.result c.type_inv.body c.lanes_16-digits.ensures (small c)

@@ -13,6 +13,6 @@ pub returns : goal.returns
 returns c =
     let d = c.digits_from-whole in
     let e = c.digits_from-all in
-    let inside : d.result.1 < length c.args.body.now = omega (arith, d.ensures.within, c.if-at-body.false) in
-    rw c.from-2.ensures (point-body c.args.places d.result.1 d.result.0 e.result.0 e.result.1 _ c.args.body.now inside c.if-body-gt-SHORT_BYTES.false c.if-body-at-ne46.false c.if-end-body.false e.ensures.within c.if-after-eq0.false c.if-after-places.false d.ensures.digits d.ensures.value e.ensures.digits e.ensures.value e.ensures.small
+    let inside : d.result.1 < length c.args.body.now = omega (arith, d.ensures.within (omega arith), c.if-at-body.false) in
+    rw c.from-2.ensures (point-body c.args.places d.result.1 d.result.0 e.result.0 e.result.1 _ c.args.body.now inside c.if-body-gt-SHORT_BYTES.false c.if-body-at-ne46.false c.if-end-body.false (e.ensures.within (omega (arith, inside))) c.if-after-eq0.false c.if-after-places.false d.ensures.digits d.ensures.value e.ensures.digits e.ensures.value e.ensures.small
     (c.from-3.ensures ∙ c.ten_to-2.ensures) c.if-places-gt-SHORT_PLACES.false)

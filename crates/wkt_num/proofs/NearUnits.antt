@@ -1,5 +1,5 @@
 -- Digits around a point, or without one, are read as their units.
-use Rattle.std.proofs.Common.{◌≡◌, ℕ, zero, suc, ◌+◌, ◌-◌, ◌*◌, ◌^◌, ◌<◌, ◌≤◌, Bool, true, false, cond, ◌==◌, List, [], ◌∷◌, ◌++◌, length, take, drop, get_or, slice_range, ℤ, pos, negsuc, Some, refl, sym, ap, subst, ◌∙◌, arith, append_assoc, length-drop, FitsSigned, to_z, of_z, w64}
+use Rattle.std.proofs.Common.{◌≡◌, ℕ, zero, suc, ◌+◌, ◌-◌, ◌*◌, ◌^◌, ◌<◌, ◌≤◌, Bool, true, false, cond, ◌==◌, List, [], ◌∷◌, ◌++◌, length, take, drop, get_or, slice_range, ℤ, pos, negsuc, Some, refl, sym, ap, subst, ◌∙◌, arith, append_assoc, length-append, FitsSigned, to_z, of_z, w64}
 use Rattle.std.specs.Fmt.{sign_text}
 use Rattle.std.specs.Int.{IsInRange}
 use Rattle.std.specs.Str.Parse.{IsNumeral, AllDigits, digits_value, digits_value_after, starts_with_minus, without_leading_plus}
@@ -7,18 +7,20 @@ use Rattle.std.proofs.lemmas.Str.Parse.{without_leading_plus_none}
 use Rattle.std.proofs.lemmas.List.{append-nil, take_more}
 use Rattle.std.proofs.lemmas.Nat.{pow-add}
 use Rattle.std.proofs.lemmas.Int.{to_z-of_z}
+use Rattle.std.proofs.lemmas.Int.Digits.{digits_value-lt}
+use Rattle.std.proofs.Math.Nat.{mul-le-mul_right, pow-le-pow_right}
 use borrow.Author.Tests.{ne_eqb, lt-ltb}
 use Rattle.wkt_num.specs.Whole.{keep_if, IsSigned}
 use Rattle.wkt_num.specs.Bytes.{class_of, Run, AllRun}
 use Rattle.wkt_num.specs.Number.{IsNumberText}
 use Rattle.wkt_num.specs.WholeLaws.{digits_are_run, point_run, minus_run}
 use Rattle.wkt_num.specs.Decimal.{read_magnitude, read_decimal, with_sign, and_then}
-use Rattle.wkt_num.specs.DecimalLaws.{first_of, run_append, number_first}
+use Rattle.wkt_num.specs.DecimalLaws.{first_of, run_append, number_first, digits_append, value_append}
 use Rattle.wkt_num.specs.ReadDecimal.{read-near}
-use Rattle.wkt_num.specs.Units.{after_split}
+use Rattle.wkt_num.specs.Units.{after_split, ten_pos}
 use Rattle.wkt_num.proofs.Placed.{take-range, length-range, stops-at}
 use Rattle.wkt_num.proofs.Shown.{reads-fraction, reads-whole}
-use Rattle.wkt_fill.specs.Near.{BeginsUnits, signed}
+use Rattle.wkt_num.specs.Near.{BeginsUnits, signed}
 
 -- the magnitude and the sign
 reads-signed : (D m : ℕ) (negative : Bool) (body : List ℕ) → D ≤ 36 → m < 2 ^ 127 → IsInRange 48 57 (get_or body 0 0) → read_magnitude (2 ^ 127) D body ≡ Some m
@@ -54,6 +56,14 @@ number-run : (negative : Bool) (ws rest : List ℕ) → IsNumeral 10 ws → AllR
 number-run true ws rest h run = (refl, (minus_run, run_append ws rest (digits_are_run ws h.1) run))
 number-run false ws rest h run = number_first ws rest h run
 
+-- so few digits and zeros fit 64 bits
+product-small : (n t a b : ℕ) → n < 10 ^ a → t ≡ 10 ^ b → a + b ≤ 19 → n * t < 2 ^ 64
+product-small n t a b less ten few =
+    let one : (n + 1) * t ≤ 10 ^ a * t = mul-le-mul_right {m = n + 1} {n = 10 ^ a} t (omega (arith, less)) in
+    let all : 10 ^ a * t ≡ 10 ^ (a + b) = ap (λ y. 10 ^ a * y) ten ∙ sym (pow-add 10 a b) in
+    let most : 10 ^ (a + b) ≤ 10 ^ 19 = pow-le-pow_right {n = 10} (omega arith) {i = a + b} {j = 19} few in
+    omega (arith, one, all, most, ten, ten_pos b)
+
 product : (w f P T : ℕ) → (w * P + f) * T ≡ w * (P * T) + f * T
 product w f P T = omega arith
 
@@ -85,6 +95,21 @@ module _ (D : ℕ) (bs : List ℕ) (first point : ℕ) (few : D ≤ 18) (sign : 
 
   to-point : take point bs ≡ sign_text negative ++ (ws ++ [])
   to-point = take-range bs first point (omega (arith, some)) ∙ ap (λ l. l ++ ws) sign ∙ ap (λ l. sign_text negative ++ l) (sym (append-nil ws))
+
+  long-whole : length ws ≡ point - first
+  long-whole = length-range bs first point (omega (arith, some)) within
+
+  -- the units of few digits, before they are known to fit
+  pub whole-fits : (n t : ℕ) → n ≡ digits_value_after 10 0 ws → t ≡ 10 ^ D → point - first + D ≤ 19 → n * t < 2 ^ 64
+  whole-fits n t value ten most = product-small n t (length ws) D (omega (arith, value, digits_value-lt 10 ws whole)) ten (omega (arith, long-whole, most))
+
+  pub fraction-fits : (end n t : ℕ) → point < end → end ≤ length bs → AllDigits 10 (slice_range bs (point + 1) end) → end - point - 1 ≤ D
+      → n ≡ digits_value_after 10 (digits_value_after 10 0 ws) (slice_range bs (point + 1) end) → t ≡ 10 ^ (D - (end - point - 1)) → point - first + D ≤ 19 → n * t < 2 ^ 64
+  fraction-fits end n t after inside digits few value ten most =
+      let gs : List ℕ = slice_range bs (point + 1) end in
+      product-small n t (length (ws ++ gs)) (D - (end - point - 1))
+      (omega (arith, value ∙ sym (value_append 0 ws gs), digits_value-lt 10 (ws ++ gs) (digits_append ws gs whole digits))) ten
+      (omega (arith, length-append ws gs, long-whole, length-range bs (point + 1) end (omega (arith, after)) inside, few, most))
 
   -- without a point
   pub whole-units : (n t : ℕ) (units : ℤ) → n ≡ digits_value_after 10 0 ws → t ≡ 10 ^ D → n * t < 2 ^ 63 → units ≡ signed negative (n * t) → (class_of (get_or bs point 0) ≡ Run → ⊥) → BeginsUnits D bs units point

@@ -1,7 +1,7 @@
 -- Digits that are read at once are those that are read one after the other.
 use Rattle.std.proofs.Common.{arith}
-use Rattle.wkt_fill.proofs.Eights.{at-once}
-use Rattle.wkt_fill.proofs.near.fraction_from.Goals as goal
+use Rattle.wkt_num.proofs.AtOnce.{at-once}
+use Rattle.wkt_num.proofs.near.fraction_from.Goals as goal
 
 pub overflow_mul-result : goal.overflow_mul-result
 overflow_mul-result c =
