@@ -1,12 +1,11 @@
 //! Geometries of any kind, and collections of them.
 ghost use Rattle.std.specs.Prelude.{◌≡◌, IsTrue, ◌↔◌, IfOk, OnOk, map, ◌++◌, ◌∷◌, []};
-ghost use Rattle.std.specs.Result.{IsOk};
 ghost use Rattle.std.specs.Cmp.{on_per};
 ghost use Rattle.wkt_flat.specs.Exact.{exact_by, exact_per};
 ghost use Rattle.wkt_flat.specs.Tree.{flat_tree, flat_trees, flat_members, collection, point, line, line_string, polygon, multi_point, multi_line_string, multi_polygon, rect, triangle};
 ghost use Rattle.wkt_flat.specs.Trees.{flat_eq, flats_eq, flat_exact, flats_exact};
 
-use crate::copies::push_copy_of;
+use crate::copies::{push_copy_of, push_filled};
 use crate::dropping::{Nested, drop_all};
 use crate::line::Line;
 use crate::linestring::LineString;
@@ -113,27 +112,8 @@ impl<T> GeometryCollection<T> {
     }
 }
 
-// Adds the collection of those geometries, if they are filled. It alone drops them where they aren't,
-// since that takes stack.
-#[inline(never)]
-fn push_collection<T: Copy + Drop>(
-    filled: Result<(), AllocError>,
-    geometries: Vec<Geometry<T>>,
-    copies: &mut Vec<Geometry<T>>,
-) -> Result<(), AllocError>
-    ensures filled { OnOk result (IsOk filled) }
-    ensures pushed { OnOk result
-        (map flat_tree copies.new.items
-        ≡ map flat_tree copies.old.items ++ collection (flat_members geometries.items) ∷ []) }
-{
-    filled?;
-    let collection = GeometryCollection::new_from(geometries);
-    copies.push(Geometry::GeometryCollection(collection))?;
-    Ok(())
-}
-
-// Adds a copy of a geometry. The other kinds than collections are copied in functions that aren't inlined, so that a
-// level of nesting takes little stack.
+// Adds a copy of a geometry. Parts are copied and added in functions that aren't inlined, so that a level of nesting
+// takes little stack.
 #[cycle(copy)]
 fn push_copy<T: Copy + Drop>(
     g: &Geometry<T>,
@@ -155,7 +135,7 @@ fn push_copy<T: Copy + Drop>(
         Geometry::GeometryCollection(c) => {
             let mut geometries = Vec::with_capacity(alloc, c.0.len())?;
             let filled = push_copies(&c.0, alloc, &mut geometries);
-            push_collection(filled, geometries, copies)
+            push_filled(filled, GeometryCollection::new_from(geometries), copies)
         }
     }
 }

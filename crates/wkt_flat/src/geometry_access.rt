@@ -1,4 +1,4 @@
-//! Access to geometries of any kind.
+//! Access to geometries of any kind. One that is no collection has no members: asked for one, it returns itself.
 ghost use Rattle.std.specs.Prelude.{◌≡◌};
 ghost use Rattle.wkt_access.specs.declared.dimensions.Dimensions.TheVariants.{Xy};
 ghost use Rattle.wkt_access.specs.Parts.{each};
@@ -137,7 +137,6 @@ impl<T: WktNum> GeometryTrait for Point<T> {
         GeometryType::Point(self)
     }
 
-    /// This kind has no members, so there is no index to ask for.
     fn geometry(&self, _i: usize) -> &Self
         ensures { result.now ≡ self.now }
     {
@@ -176,7 +175,6 @@ impl<T: WktNum> GeometryTrait for Line<T> {
         GeometryType::Line(self)
     }
 
-    /// This kind has no members, so there is no index to ask for.
     fn geometry(&self, _i: usize) -> &Self
         ensures { result.now ≡ self.now }
     {
@@ -215,7 +213,6 @@ impl<T: WktNum> GeometryTrait for LineString<T> {
         GeometryType::LineString(self)
     }
 
-    /// This kind has no members, so there is no index to ask for.
     fn geometry(&self, _i: usize) -> &Self
         ensures { result.now ≡ self.now }
     {
@@ -254,7 +251,6 @@ impl<T: WktNum> GeometryTrait for Polygon<T> {
         GeometryType::Polygon(self)
     }
 
-    /// This kind has no members, so there is no index to ask for.
     fn geometry(&self, _i: usize) -> &Self
         ensures { result.now ≡ self.now }
     {
@@ -293,7 +289,6 @@ impl<T: WktNum> GeometryTrait for MultiPoint<T> {
         GeometryType::MultiPoint(self)
     }
 
-    /// This kind has no members, so there is no index to ask for.
     fn geometry(&self, _i: usize) -> &Self
         ensures { result.now ≡ self.now }
     {
@@ -332,7 +327,6 @@ impl<T: WktNum> GeometryTrait for MultiLineString<T> {
         GeometryType::MultiLineString(self)
     }
 
-    /// This kind has no members, so there is no index to ask for.
     fn geometry(&self, _i: usize) -> &Self
         ensures { result.now ≡ self.now }
     {
@@ -371,7 +365,6 @@ impl<T: WktNum> GeometryTrait for MultiPolygon<T> {
         GeometryType::MultiPolygon(self)
     }
 
-    /// This kind has no members, so there is no index to ask for.
     fn geometry(&self, _i: usize) -> &Self
         ensures { result.now ≡ self.now }
     {
@@ -410,7 +403,6 @@ impl<T: WktNum> GeometryTrait for Rect<T> {
         GeometryType::Rect(self)
     }
 
-    /// This kind has no members, so there is no index to ask for.
     fn geometry(&self, _i: usize) -> &Self
         ensures { result.now ≡ self.now }
     {
@@ -449,7 +441,6 @@ impl<T: WktNum> GeometryTrait for Triangle<T> {
         GeometryType::Triangle(self)
     }
 
-    /// This kind has no members, so there is no index to ask for.
     fn geometry(&self, _i: usize) -> &Self
         ensures { result.now ≡ self.now }
     {

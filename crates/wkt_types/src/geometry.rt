@@ -1,7 +1,6 @@
 //! Geometries of any kind, and collections of them.
 ghost use Rattle.std.specs.Prelude.{◌≡◌, IsTrue, ◌↔◌, IfOk, OnOk, map, ◌++◌, ◌∷◌, []};
 ghost use Rattle.std.specs.Option.{option_map};
-ghost use Rattle.std.specs.Result.{IsOk};
 ghost use Rattle.std.specs.Cmp.{on_per};
 ghost use Rattle.std.specs.Iterator.{IsFinite};
 ghost use Rattle.std.specs.Iterator.Runs.{WholeRun};
@@ -18,6 +17,7 @@ use crate::point::Point;
 use crate::polygon::Polygon;
 use std::alloc::{AllocError, Global};
 use wkt_access::Dimension;
+use wkt_flat::copies::{push_copy_of, push_filled};
 use wkt_flat::dropping::drop_all;
 use wkt_num::WktNum;
 
@@ -141,95 +141,8 @@ impl<T> Wkt<T> {
     }
 }
 
-// Each kind is copied in a function of its own, so that a level of nesting takes little stack.
-#[inline(never)]
-fn push_point<T: Copy + Drop>(part: &Point<T>, copies: &mut Vec<Wkt<T>>) -> Result<(), AllocError>
-    ensures { OnOk result (map tree copies.new.items ≡ map tree copies.old.items ++ point part.now ∷ []) }
-{
-    copies.push(Wkt::Point(*part))?;
-    Ok(())
-}
-
-#[inline(never)]
-fn push_line_string<T: Copy + Drop>(
-    part: &LineString<T>,
-    alloc: Global,
-    copies: &mut Vec<Wkt<T>>,
-) -> Result<(), AllocError>
-    ensures { OnOk result (map tree copies.new.items ≡ map tree copies.old.items ++ line_string part.now ∷ []) }
-{
-    copies.push(Wkt::LineString(part.try_clone(alloc)?))?;
-    Ok(())
-}
-
-#[inline(never)]
-fn push_polygon<T: Copy + Drop>(
-    part: &Polygon<T>,
-    alloc: Global,
-    copies: &mut Vec<Wkt<T>>,
-) -> Result<(), AllocError>
-    ensures { OnOk result (map tree copies.new.items ≡ map tree copies.old.items ++ polygon part.now ∷ []) }
-{
-    copies.push(Wkt::Polygon(part.try_clone(alloc)?))?;
-    Ok(())
-}
-
-#[inline(never)]
-fn push_points<T: Copy + Drop>(
-    part: &MultiPoint<T>,
-    alloc: Global,
-    copies: &mut Vec<Wkt<T>>,
-) -> Result<(), AllocError>
-    ensures { OnOk result (map tree copies.new.items ≡ map tree copies.old.items ++ multi_point part.now ∷ []) }
-{
-    copies.push(Wkt::MultiPoint(part.try_clone(alloc)?))?;
-    Ok(())
-}
-
-#[inline(never)]
-fn push_line_strings<T: Copy + Drop>(
-    part: &MultiLineString<T>,
-    alloc: Global,
-    copies: &mut Vec<Wkt<T>>,
-) -> Result<(), AllocError>
-    ensures { OnOk result (map tree copies.new.items ≡ map tree copies.old.items ++ multi_line_string part.now ∷ []) }
-{
-    copies.push(Wkt::MultiLineString(part.try_clone(alloc)?))?;
-    Ok(())
-}
-
-#[inline(never)]
-fn push_polygons<T: Copy + Drop>(
-    part: &MultiPolygon<T>,
-    alloc: Global,
-    copies: &mut Vec<Wkt<T>>,
-) -> Result<(), AllocError>
-    ensures { OnOk result (map tree copies.new.items ≡ map tree copies.old.items ++ multi_polygon part.now ∷ []) }
-{
-    copies.push(Wkt::MultiPolygon(part.try_clone(alloc)?))?;
-    Ok(())
-}
-
-// The collection of those geometries, if they are filled. It alone lets them go where they aren't,
-// since that takes stack.
-#[inline(never)]
-fn push_collection<T: Copy + Drop>(
-    filled: Result<(), AllocError>,
-    geometries: Vec<Wkt<T>>,
-    dim: Dimension,
-    copies: &mut Vec<Wkt<T>>,
-) -> Result<(), AllocError>
-    ensures filled { OnOk result (IsOk filled) }
-    ensures pushed { OnOk result
-        (map tree copies.new.items ≡ map tree copies.old.items ++ collection (members geometries.items) dim ∷ []) }
-{
-    filled?;
-    let collection = GeometryCollection::new(geometries, dim);
-    copies.push(Wkt::GeometryCollection(collection))?;
-    Ok(())
-}
-
-// A copy, after others.
+// Adds a copy of a geometry. Parts are copied and added in functions that aren't inlined, so that a level of nesting
+// takes little stack.
 #[cycle(copy)]
 fn push_copy<T: Copy + Drop>(
     w: &Wkt<T>,
@@ -239,16 +152,16 @@ fn push_copy<T: Copy + Drop>(
     ensures { OnOk result (map tree copies.new.items ≡ map tree copies.old.items ++ tree w.now ∷ []) }
 {
     match w {
-        Wkt::Point(p) => push_point(p, copies),
-        Wkt::LineString(l) => push_line_string(l, alloc, copies),
-        Wkt::Polygon(y) => push_polygon(y, alloc, copies),
-        Wkt::MultiPoint(m) => push_points(m, alloc, copies),
-        Wkt::MultiLineString(m) => push_line_strings(m, alloc, copies),
-        Wkt::MultiPolygon(m) => push_polygons(m, alloc, copies),
+        Wkt::Point(p) => push_copy_of(p, alloc, copies),
+        Wkt::LineString(l) => push_copy_of(l, alloc, copies),
+        Wkt::Polygon(y) => push_copy_of(y, alloc, copies),
+        Wkt::MultiPoint(m) => push_copy_of(m, alloc, copies),
+        Wkt::MultiLineString(m) => push_copy_of(m, alloc, copies),
+        Wkt::MultiPolygon(m) => push_copy_of(m, alloc, copies),
         Wkt::GeometryCollection(c) => {
             let mut geometries = Vec::with_capacity(alloc, c.geometries.len())?;
             let filled = push_copies(&c.geometries, alloc, &mut geometries);
-            push_collection(filled, geometries, c.dim, copies)
+            push_filled(filled, GeometryCollection::new(geometries, c.dim), copies)
         }
     }
 }
@@ -267,34 +180,6 @@ fn push_copies<T: Copy + Drop>(
     Ok(())
 }
 
-fn copy_wkt<T: Copy + Drop>(w: &Wkt<T>, alloc: Global) -> Result<Wkt<T>, AllocError>
-    ensures { IfOk result (λ c. tree c ≡ tree w.now) }
-{
-    match w {
-        Wkt::Point(p) => Ok(Wkt::Point(*p)),
-        Wkt::LineString(l) => Ok(Wkt::LineString(l.try_clone(alloc)?)),
-        Wkt::Polygon(y) => Ok(Wkt::Polygon(y.try_clone(alloc)?)),
-        Wkt::MultiPoint(m) => Ok(Wkt::MultiPoint(m.try_clone(alloc)?)),
-        Wkt::MultiLineString(m) => Ok(Wkt::MultiLineString(m.try_clone(alloc)?)),
-        Wkt::MultiPolygon(m) => Ok(Wkt::MultiPolygon(m.try_clone(alloc)?)),
-        Wkt::GeometryCollection(c) => Ok(Wkt::GeometryCollection(copy_collection(c, alloc)?)),
-    }
-}
-
-fn copy_collection<T: Copy + Drop>(
-    c: &GeometryCollection<T>,
-    alloc: Global,
-) -> Result<GeometryCollection<T>, AllocError>
-    ensures { IfOk result (λ r. collection_tree r ≡ collection_tree c.now) }
-{
-    let mut geometries = Vec::with_capacity(alloc, c.geometries.len())?;
-    push_copies(&c.geometries, alloc, &mut geometries)?;
-    Ok(GeometryCollection {
-        geometries,
-        dim: c.dim,
-    })
-}
-
 impl<T: Copy + Drop> Wkt<T> {
     /// An equal geometry.
     ///
@@ -303,7 +188,15 @@ impl<T: Copy + Drop> Wkt<T> {
     pub fn try_clone(&self, alloc: Global) -> Result<Self, AllocError>
         ensures { IfOk result (λ w. tree w ≡ tree self.now) }
     {
-        copy_wkt(self, alloc)
+        match self {
+            Wkt::Point(p) => Ok(Wkt::Point(*p)),
+            Wkt::LineString(l) => Ok(Wkt::LineString(l.try_clone(alloc)?)),
+            Wkt::Polygon(y) => Ok(Wkt::Polygon(y.try_clone(alloc)?)),
+            Wkt::MultiPoint(m) => Ok(Wkt::MultiPoint(m.try_clone(alloc)?)),
+            Wkt::MultiLineString(m) => Ok(Wkt::MultiLineString(m.try_clone(alloc)?)),
+            Wkt::MultiPolygon(m) => Ok(Wkt::MultiPolygon(m.try_clone(alloc)?)),
+            Wkt::GeometryCollection(c) => Ok(Wkt::GeometryCollection(c.try_clone(alloc)?)),
+        }
     }
 }
 
@@ -315,7 +208,9 @@ impl<T: Copy + Drop> GeometryCollection<T> {
     pub fn try_clone(&self, alloc: Global) -> Result<Self, AllocError>
         ensures { IfOk result (λ c. collection_tree c ≡ collection_tree self.now) }
     {
-        copy_collection(self, alloc)
+        let mut geometries = Vec::with_capacity(alloc, self.geometries.len())?;
+        push_copies(&self.geometries, alloc, &mut geometries)?;
+        Ok(GeometryCollection::new(geometries, self.dim))
     }
 }
 

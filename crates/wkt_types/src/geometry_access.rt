@@ -1,4 +1,4 @@
-//! Access to geometries of any kind.
+//! Access to geometries of any kind. One that is no collection has no members: asked for one, it returns itself.
 ghost use Rattle.std.specs.Prelude.{◌≡◌};
 ghost use Rattle.wkt_access.specs.Parts.{members_of};
 ghost use Rattle.wkt_access.specs.Shapes.{header_of};
@@ -15,6 +15,20 @@ use crate::polygon::Polygon;
 use wkt_access::{Dimensions, GeometryCollectionTrait, GeometryTrait, GeometryType};
 use wkt_flat::{Line, Rect, Triangle};
 use wkt_num::WktNum;
+
+/// The kind of a geometry, with the geometry.
+type WktType<'a, T> = GeometryType<
+    'a,
+    Point<T>,
+    LineString<T>,
+    Polygon<T>,
+    MultiPoint<T>,
+    MultiLineString<T>,
+    MultiPolygon<T>,
+    Rect<T>,
+    Triangle<T>,
+    Line<T>,
+>;
 
 impl<T: WktNum> GeometryCollectionTrait for GeometryCollection<T> {
     type T = T;
@@ -65,20 +79,7 @@ impl<T: WktNum> GeometryTrait for Wkt<T> {
         Dimensions::from(self.dimension())
     }
 
-    fn as_type(
-        &self,
-    ) -> GeometryType<
-        '_,
-        Point<T>,
-        LineString<T>,
-        Polygon<T>,
-        MultiPoint<T>,
-        MultiLineString<T>,
-        MultiPolygon<T>,
-        Rect<T>,
-        Triangle<T>,
-        Line<T>,
-    > {
+    fn as_type(&self) -> WktType<'_, T> {
         match self {
             Wkt::Point(p) => GeometryType::Point(p),
             Wkt::LineString(l) => GeometryType::LineString(l),
@@ -125,24 +126,10 @@ impl<T: WktNum> GeometryTrait for Point<T> {
         Dimensions::from(self.dimension())
     }
 
-    fn as_type(
-        &self,
-    ) -> GeometryType<
-        '_,
-        Point<T>,
-        LineString<T>,
-        Polygon<T>,
-        MultiPoint<T>,
-        MultiLineString<T>,
-        MultiPolygon<T>,
-        Rect<T>,
-        Triangle<T>,
-        Line<T>,
-    > {
+    fn as_type(&self) -> WktType<'_, T> {
         GeometryType::Point(self)
     }
 
-    /// There are no members, so no index is one's.
     fn geometry(&self, _i: usize) -> &Self
         ensures { result.now ≡ self.now }
     {
@@ -177,24 +164,10 @@ impl<T: WktNum> GeometryTrait for LineString<T> {
         Dimensions::from(self.dimension())
     }
 
-    fn as_type(
-        &self,
-    ) -> GeometryType<
-        '_,
-        Point<T>,
-        LineString<T>,
-        Polygon<T>,
-        MultiPoint<T>,
-        MultiLineString<T>,
-        MultiPolygon<T>,
-        Rect<T>,
-        Triangle<T>,
-        Line<T>,
-    > {
+    fn as_type(&self) -> WktType<'_, T> {
         GeometryType::LineString(self)
     }
 
-    /// There are no members, so no index is one's.
     fn geometry(&self, _i: usize) -> &Self
         ensures { result.now ≡ self.now }
     {
@@ -229,24 +202,10 @@ impl<T: WktNum> GeometryTrait for Polygon<T> {
         Dimensions::from(self.dimension())
     }
 
-    fn as_type(
-        &self,
-    ) -> GeometryType<
-        '_,
-        Point<T>,
-        LineString<T>,
-        Polygon<T>,
-        MultiPoint<T>,
-        MultiLineString<T>,
-        MultiPolygon<T>,
-        Rect<T>,
-        Triangle<T>,
-        Line<T>,
-    > {
+    fn as_type(&self) -> WktType<'_, T> {
         GeometryType::Polygon(self)
     }
 
-    /// There are no members, so no index is one's.
     fn geometry(&self, _i: usize) -> &Self
         ensures { result.now ≡ self.now }
     {
@@ -281,24 +240,10 @@ impl<T: WktNum> GeometryTrait for MultiPoint<T> {
         Dimensions::from(self.dimension())
     }
 
-    fn as_type(
-        &self,
-    ) -> GeometryType<
-        '_,
-        Point<T>,
-        LineString<T>,
-        Polygon<T>,
-        MultiPoint<T>,
-        MultiLineString<T>,
-        MultiPolygon<T>,
-        Rect<T>,
-        Triangle<T>,
-        Line<T>,
-    > {
+    fn as_type(&self) -> WktType<'_, T> {
         GeometryType::MultiPoint(self)
     }
 
-    /// There are no members, so no index is one's.
     fn geometry(&self, _i: usize) -> &Self
         ensures { result.now ≡ self.now }
     {
@@ -333,24 +278,10 @@ impl<T: WktNum> GeometryTrait for MultiLineString<T> {
         Dimensions::from(self.dimension())
     }
 
-    fn as_type(
-        &self,
-    ) -> GeometryType<
-        '_,
-        Point<T>,
-        LineString<T>,
-        Polygon<T>,
-        MultiPoint<T>,
-        MultiLineString<T>,
-        MultiPolygon<T>,
-        Rect<T>,
-        Triangle<T>,
-        Line<T>,
-    > {
+    fn as_type(&self) -> WktType<'_, T> {
         GeometryType::MultiLineString(self)
     }
 
-    /// There are no members, so no index is one's.
     fn geometry(&self, _i: usize) -> &Self
         ensures { result.now ≡ self.now }
     {
@@ -385,24 +316,10 @@ impl<T: WktNum> GeometryTrait for MultiPolygon<T> {
         Dimensions::from(self.dimension())
     }
 
-    fn as_type(
-        &self,
-    ) -> GeometryType<
-        '_,
-        Point<T>,
-        LineString<T>,
-        Polygon<T>,
-        MultiPoint<T>,
-        MultiLineString<T>,
-        MultiPolygon<T>,
-        Rect<T>,
-        Triangle<T>,
-        Line<T>,
-    > {
+    fn as_type(&self) -> WktType<'_, T> {
         GeometryType::MultiPolygon(self)
     }
 
-    /// There are no members, so no index is one's.
     fn geometry(&self, _i: usize) -> &Self
         ensures { result.now ≡ self.now }
     {
