@@ -1,14 +1,10 @@
 //! Geometries of any kind, and collections of them.
-ghost use Rattle.std.specs.Prelude.{◌≡◌, IsTrue, ◌↔◌, IfOk, OnOk, map, ◌++◌, ◌∷◌, []};
+ghost use Rattle.std.specs.Prelude.{◌≡◌, IfOk, OnOk, map, ◌++◌, ◌∷◌, []};
 ghost use Rattle.std.specs.Option.{option_map};
-ghost use Rattle.std.specs.Cmp.{on_per};
 ghost use Rattle.std.specs.Iterator.{IsFinite};
 ghost use Rattle.std.specs.Iterator.Runs.{WholeRun};
-ghost use Rattle.wkt_flat.specs.Exact.{exact_by, exact_per};
 ghost use Rattle.wkt_types.specs.Tree.{tree, collection_tree, members, no_trees, collection, collected, tree_dim, point, line_string, polygon, multi_point, multi_line_string, multi_polygon};
-ghost use Rattle.wkt_types.specs.Trees.{tree_eq, trees_eq, tree_exact};
 
-use crate::dimension::and_same;
 use crate::linestring::LineString;
 use crate::multilinestring::MultiLineString;
 use crate::multipoint::MultiPoint;
@@ -19,14 +15,13 @@ use std::alloc::{AllocError, Global};
 use wkt_access::Dimension;
 use wkt_flat::copies::{push_copy_of, push_filled};
 use wkt_flat::dropping::drop_all;
-use wkt_num::WktNum;
 
 /// A collection: geometries in order, each with its own dimension, and the dimension of the header.
 #[cycle(wkt)]
 #[derive(Debug)]
 pub struct GeometryCollection<T> {
-    geometries: Vec<Wkt<T>>,
-    dim: Dimension,
+    pub(crate) geometries: Vec<Wkt<T>>,
+    pub(crate) dim: Dimension,
 }
 
 /// A geometry of any kind.
@@ -211,75 +206,6 @@ impl<T: Copy + Drop> GeometryCollection<T> {
         let mut geometries = Vec::with_capacity(alloc, self.geometries.len())?;
         push_copies(&self.geometries, alloc, &mut geometries)?;
         Ok(GeometryCollection::new(geometries, self.dim))
-    }
-}
-
-#[cycle(same)]
-fn same_wkt<T: WktNum>(a: &Wkt<T>, b: &Wkt<T>) -> bool
-    ensures { result ≡ tree_eq T.eq (tree a.now) (tree b.now) }
-{
-    match (a, b) {
-        (Wkt::Point(x), Wkt::Point(y)) => x == y,
-        (Wkt::LineString(x), Wkt::LineString(y)) => x == y,
-        (Wkt::Polygon(x), Wkt::Polygon(y)) => x == y,
-        (Wkt::MultiPoint(x), Wkt::MultiPoint(y)) => x == y,
-        (Wkt::MultiLineString(x), Wkt::MultiLineString(y)) => x == y,
-        (Wkt::MultiPolygon(x), Wkt::MultiPolygon(y)) => x == y,
-        (Wkt::GeometryCollection(x), Wkt::GeometryCollection(y)) => same_collection(x, y),
-        _ => false,
-    }
-}
-
-#[cycle(same)]
-fn same_collection<T: WktNum>(a: &GeometryCollection<T>, b: &GeometryCollection<T>) -> bool
-    ensures { result ≡ tree_eq T.eq (collection_tree a.now) (collection_tree b.now) }
-{
-    and_same(same_members(&a.geometries, &b.geometries), a.dim, b.dim)
-}
-
-#[cycle(same)]
-fn same_members<T: WktNum>(a: &[Wkt<T>], b: &[Wkt<T>]) -> bool
-    ensures { result ≡ trees_eq T.eq (members a.now) (members b.now) }
-{
-    for (i, x) in a.iter().enumerate() {
-        match b.get(i) {
-            None => return false,
-            Some(y) => {
-                if !same_wkt(x, y) {
-                    return false;
-                }
-            }
-        }
-    }
-    a.len() == b.len()
-}
-
-impl<T: WktNum> PartialEq for Wkt<T> {
-    ghost eq = { λ a b. tree_eq T.eq (tree a) (tree b) };
-
-    ghost laws = { on_per tree (exact_per (tree_exact (exact_by T.same))) };
-
-    /// True exactly if kind, dimension and parts are equal. Two unequal geometries may have one text, as
-    /// `POLYGON(EMPTY)` and `POLYGON EMPTY`: `wkt::same_geometry` compares them by what is written.
-    fn eq(&self, other: &Self) -> bool
-        ensures eq { result ≡ tree_eq T.eq (tree self.now) (tree other.now) }
-        ensures exact { IsTrue result ↔ (tree self.now ≡ tree other.now) }
-    {
-        same_wkt(self, other)
-    }
-}
-
-impl<T: WktNum> PartialEq for GeometryCollection<T> {
-    ghost eq = { λ a b. tree_eq T.eq (collection_tree a) (collection_tree b) };
-
-    ghost laws = { on_per collection_tree (exact_per (tree_exact (exact_by T.same))) };
-
-    /// True exactly if dimension and geometries are equal.
-    fn eq(&self, other: &Self) -> bool
-        ensures eq { result ≡ tree_eq T.eq (collection_tree self.now) (collection_tree other.now) }
-        ensures exact { IsTrue result ↔ (collection_tree self.now ≡ collection_tree other.now) }
-    {
-        same_collection(self, other)
     }
 }
 

@@ -13,8 +13,8 @@ use wkt_flat::copies::{Part, copies};
 /// A line string: coordinates in order, and the dimension of the header.
 #[derive(Debug, Drop)]
 pub struct LineString<T> {
-    pub(crate) coords: Vec<Coord<T>>,
-    pub(crate) dim: Dimension,
+    coords: Vec<Coord<T>>,
+    dim: Dimension,
 }
 
 impl<T> Model for LineString<T> {

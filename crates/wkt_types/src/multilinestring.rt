@@ -13,8 +13,8 @@ use wkt_flat::copies::{Part, copies};
 /// A multi line string: line strings in order, and the dimension of the header.
 #[derive(Debug, Drop)]
 pub struct MultiLineString<T> {
-    pub(crate) line_strings: Vec<LineString<T>>,
-    pub(crate) dim: Dimension,
+    line_strings: Vec<LineString<T>>,
+    dim: Dimension,
 }
 
 impl<T> Model for MultiLineString<T> {

@@ -13,8 +13,8 @@ use wkt_flat::copies::{Part, copies};
 /// A multipoint: points in order, and the dimension of the header.
 #[derive(Debug, Drop)]
 pub struct MultiPoint<T> {
-    pub(crate) points: Vec<Point<T>>,
-    pub(crate) dim: Dimension,
+    points: Vec<Point<T>>,
+    dim: Dimension,
 }
 
 impl<T> Model for MultiPoint<T> {

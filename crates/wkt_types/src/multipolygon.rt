@@ -13,8 +13,8 @@ use wkt_flat::copies::{Part, copies};
 /// A multipolygon: polygons in order, and the dimension of the header.
 #[derive(Debug, Drop)]
 pub struct MultiPolygon<T> {
-    pub(crate) polygons: Vec<Polygon<T>>,
-    pub(crate) dim: Dimension,
+    polygons: Vec<Polygon<T>>,
+    dim: Dimension,
 }
 
 impl<T> Model for MultiPolygon<T> {

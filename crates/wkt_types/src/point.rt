@@ -12,7 +12,7 @@ use wkt_flat::copies::Part;
 #[derive(Clone, Copy, Debug, Drop)]
 pub struct Point<T> {
     pub(crate) coord: Option<Coord<T>>,
-    pub(crate) dim: Dimension,
+    dim: Dimension,
 }
 
 impl<T> Model for Point<T> {

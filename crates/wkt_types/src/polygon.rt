@@ -13,8 +13,8 @@ use wkt_flat::copies::{Part, copies};
 /// A polygon: its rings in order, the first of them the exterior, and the dimension of the header.
 #[derive(Debug, Drop)]
 pub struct Polygon<T> {
-    pub(crate) rings: Vec<LineString<T>>,
-    pub(crate) dim: Dimension,
+    rings: Vec<LineString<T>>,
+    dim: Dimension,
 }
 
 impl<T> Model for Polygon<T> {

@@ -1,7 +1,7 @@
 -- As far as the loop has come, the members are equal.
 use Rattle.wkt_flat.proofs.Compared.{stopped, went_on, ended}
 use Rattle.wkt_types.proofs.TreeLemmas.{itemwise}
-use Rattle.wkt_types.proofs.geometry.+same.Goals as goal
+use Rattle.wkt_types.proofs.equal.+same.Goals as goal
 
 pub same_members-returns-then-not-same_wkt : goal.same_members-returns-then-not-same_wkt
 same_members-returns-then-not-same_wkt g t c =
