@@ -1,10 +1,13 @@
 //! Access to the parts of each type.
 ghost use Rattle.std.specs.Prelude.{map, Some};
 ghost use Rattle.wkt_access.specs.declared.dimensions.Dimensions.TheVariants.{Xy};
+ghost use Rattle.wkt_access.specs.Parts.{each};
 ghost use Rattle.wkt_flat.specs.Numbers.{flat_numbers};
-ghost use Rattle.wkt_flat.specs.Shape.{flat_point_numbers, sequence_numbers, rings_shape};
+ghost use Rattle.wkt_flat.specs.Shape.{flat_point_numbers, sequence_numbers, rings_shape, flat_shapes};
+ghost use Rattle.wkt_flat.specs.Tree.{flat_trees};
 
 use crate::coord::Coord;
+use crate::geometry::{Geometry, GeometryCollection};
 use crate::line::Line;
 use crate::linestring::LineString;
 use crate::multilinestring::MultiLineString;
@@ -15,8 +18,9 @@ use crate::polygon::Polygon;
 use crate::rect::Rect;
 use crate::triangle::Triangle;
 use wkt_access::{
-    CoordTrait, Dimensions, LineStringTrait, LineTrait, MultiLineStringTrait, MultiPointTrait,
-    MultiPolygonTrait, PointTrait, PolygonTrait, RectTrait, TriangleTrait,
+    CoordTrait, Dimensions, GeometryCollectionTrait, LineStringTrait, LineTrait,
+    MultiLineStringTrait, MultiPointTrait, MultiPolygonTrait, PointTrait, PolygonTrait, RectTrait,
+    TriangleTrait,
 };
 use wkt_num::WktNum;
 
@@ -249,5 +253,27 @@ impl<T: WktNum> TriangleTrait for Triangle<T> {
 
     fn third(&self) -> &Coord<T> {
         &self.2
+    }
+}
+
+impl<T: WktNum> GeometryCollectionTrait for GeometryCollection<T> {
+    type T = T;
+
+    type GeometryType = Geometry<T>;
+
+    ghost dimension = { λ _. Xy };
+
+    ghost geometries = { λ c. each (flat_shapes (flat_trees c)) };
+
+    fn dim(&self) -> Dimensions {
+        Dimensions::Xy
+    }
+
+    fn num_geometries(&self) -> usize {
+        self.geometries().len()
+    }
+
+    fn geometry(&self, i: usize) -> &Geometry<T> {
+        &self.geometries()[i]
     }
 }

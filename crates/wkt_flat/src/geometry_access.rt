@@ -1,11 +1,10 @@
 //! Access to geometries of any kind. One that is no collection has no members: asked for one, it returns itself.
 ghost use Rattle.std.specs.Prelude.{◌≡◌};
 ghost use Rattle.wkt_access.specs.declared.dimensions.Dimensions.TheVariants.{Xy};
-ghost use Rattle.wkt_access.specs.Parts.{each};
-ghost use Rattle.wkt_flat.specs.Shape.{flat_shape, flat_shapes};
-ghost use Rattle.wkt_flat.specs.Tree.{flat_tree, flat_trees, point, line, line_string, polygon, multi_point, multi_line_string, multi_polygon, rect, triangle};
+ghost use Rattle.wkt_flat.specs.Shape.{flat_shape};
+ghost use Rattle.wkt_flat.specs.Tree.{flat_tree, point, line, line_string, polygon, multi_point, multi_line_string, multi_polygon, rect, triangle};
 
-use crate::geometry::{Geometry, GeometryCollection};
+use crate::geometry::Geometry;
 use crate::line::Line;
 use crate::linestring::LineString;
 use crate::multilinestring::MultiLineString;
@@ -15,7 +14,7 @@ use crate::point::Point;
 use crate::polygon::Polygon;
 use crate::rect::Rect;
 use crate::triangle::Triangle;
-use wkt_access::{Dimensions, GeometryCollectionTrait, GeometryTrait, GeometryType};
+use wkt_access::{Dimensions, GeometryTrait, GeometryType};
 use wkt_num::WktNum;
 
 /// The kind of a flat geometry, with the geometry.
@@ -31,28 +30,6 @@ type FlatType<'a, T> = GeometryType<
     Triangle<T>,
     Line<T>,
 >;
-
-impl<T: WktNum> GeometryCollectionTrait for GeometryCollection<T> {
-    type T = T;
-
-    type GeometryType = Geometry<T>;
-
-    ghost dimension = { λ _. Xy };
-
-    ghost geometries = { λ c. each (flat_shapes (flat_trees c)) };
-
-    fn dim(&self) -> Dimensions {
-        Dimensions::Xy
-    }
-
-    fn num_geometries(&self) -> usize {
-        self.geometries().len()
-    }
-
-    fn geometry(&self, i: usize) -> &Geometry<T> {
-        &self.geometries()[i]
-    }
-}
 
 impl<T: WktNum> GeometryTrait for Geometry<T> {
     type T = T;

@@ -1,18 +1,16 @@
 //! Access to geometries of any kind. One that is no collection has no members: asked for one, it returns itself.
 ghost use Rattle.std.specs.Prelude.{◌≡◌};
-ghost use Rattle.wkt_access.specs.Parts.{members_of};
-ghost use Rattle.wkt_access.specs.Shapes.{header_of};
-ghost use Rattle.wkt_types.specs.Tree.{tree, collection_tree, tree_dim, point, line_string, polygon, multi_point, multi_line_string, multi_polygon};
+ghost use Rattle.wkt_types.specs.Tree.{tree, point, line_string, polygon, multi_point, multi_line_string, multi_polygon};
 ghost use Rattle.wkt_types.specs.Values.{tree_shape};
 
-use crate::geometry::{GeometryCollection, Wkt};
+use crate::geometry::Wkt;
 use crate::linestring::LineString;
 use crate::multilinestring::MultiLineString;
 use crate::multipoint::MultiPoint;
 use crate::multipolygon::MultiPolygon;
 use crate::point::Point;
 use crate::polygon::Polygon;
-use wkt_access::{Dimensions, GeometryCollectionTrait, GeometryTrait, GeometryType};
+use wkt_access::{Dimensions, GeometryTrait, GeometryType};
 use wkt_flat::{Line, Rect, Triangle};
 use wkt_num::WktNum;
 
@@ -29,28 +27,6 @@ type WktType<'a, T> = GeometryType<
     Triangle<T>,
     Line<T>,
 >;
-
-impl<T: WktNum> GeometryCollectionTrait for GeometryCollection<T> {
-    type T = T;
-
-    type GeometryType = Wkt<T>;
-
-    ghost dimension = { λ c. header_of (tree_dim (collection_tree c)) };
-
-    ghost geometries = { λ c. members_of (tree_shape (collection_tree c)) };
-
-    fn dim(&self) -> Dimensions {
-        Dimensions::from(self.dimension())
-    }
-
-    fn num_geometries(&self) -> usize {
-        self.geometries().len()
-    }
-
-    fn geometry(&self, i: usize) -> &Wkt<T> {
-        &self.geometries()[i]
-    }
-}
 
 impl<T: WktNum> GeometryTrait for Wkt<T> {
     type T = T;

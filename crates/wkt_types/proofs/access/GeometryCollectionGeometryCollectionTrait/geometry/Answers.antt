@@ -2,7 +2,7 @@
 use Rattle.std.proofs.Common.{arith}
 use Rattle.wkt_access.proofs.Collections.{count_is, member_at}
 use Rattle.wkt_types.proofs.Collections.{member_shape, collection_is}
-use Rattle.wkt_types.proofs.geometry_access.GeometryCollectionGeometryCollectionTrait.geometry.Goals as goal
+use Rattle.wkt_types.proofs.access.GeometryCollectionGeometryCollectionTrait.geometry.Goals as goal
 
 pub offset_bounds-geometries-i : goal.offset_bounds-geometries-i
 offset_bounds-geometries-i g c = omega (arith, count_is member_shape _ _ _ (collection_is c.args.self.now _ _ c.geometries.ensures), c.requires)
