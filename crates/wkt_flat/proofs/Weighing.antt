@@ -1,31 +1,19 @@
 -- How the weight of a list changes as its geometries are dropped.
-use Rattle.std.proofs.Common.{◌≡◌, ℕ, ◌<◌, ◌+◌, refl, ap, ap₂, sym, ◌∙◌, List, [], ◌∷◌, ◌++◌, length, get_or, slice_set, arith}
-use Rattle.wkt_flat.specs.Tree.{Flat, flat_tree, flat_trees, flat_members, collection, point, line, line_string, polygon, multi_point, multi_line_string, multi_polygon, rect, triangle}
-use Rattle.wkt_flat.specs.Weight.{total, flat_inside, inside, flat_weight, flats_weight, weight, weights}
+use Rattle.std.proofs.Common.{◌≡◌, ℕ, ◌<◌, ◌+◌, refl, ap, sym, ◌∙◌, List, [], ◌∷◌, ◌++◌, length, get_or, slice_set, arith}
+use Rattle.wkt_flat.specs.Tree.{flat_trees, flat_members}
+use Rattle.wkt_flat.specs.Weight.{total, flat_inside, inside, flats_weight, weight, weights}
 use Rattle.wkt_flat.specs.declared.geometry.GeometryCollection.{GeometryCollection}
 use Rattle.wkt_flat.specs.declared.geometry.Geometry.{Geometry}
 use Rattle.wkt_flat.specs.declared.geometry.Geometry.TheViews as views
 use Rattle.wkt_flat.proofs.TreeLemmas.{flat-collection}
 
-weighed : {T : Type 0} (t : Flat T) → 1 + flat_inside t ≡ flat_weight t
-weighed (point p) = refl
-weighed (line l) = refl
-weighed (line_string cs) = refl
-weighed (polygon y) = refl
-weighed (multi_point m) = refl
-weighed (multi_line_string m) = refl
-weighed (multi_polygon m) = refl
-weighed (collection ts) = refl
-weighed (rect r) = refl
-weighed (triangle t) = refl
-
 pub at_least_one : {T : Type 0} (g : Geometry T) → 0 < weight g
-at_least_one g = let e : 1 + flat_inside (flat_tree g) ≡ weight g = weighed (flat_tree g) in omega (arith, e)
+at_least_one g = omega arith
 
 -- The total of a list is what its members weigh as those of a collection.
 totalled : {T : Type 0} (gs : List (Geometry T)) → total inside gs ≡ weights gs
 totalled [] = refl
-totalled (g ∷ gs) = ap₂ (λ n m. n + m) (weighed (flat_tree g)) (totalled gs)
+totalled (g ∷ gs) = ap (λ n. 1 + inside g + n) (totalled gs)
 
 pub opened : {T : Type 0} (g : Geometry T) (c : GeometryCollection T) (gs : List (Geometry T)) →
     g ≡ views.GeometryCollection c → flat_trees c ≡ flat_members gs → inside g ≡ total inside gs

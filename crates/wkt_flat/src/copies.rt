@@ -1,5 +1,6 @@
 //! Copies of lists, which can run out of memory.
 ghost use Rattle.std.specs.Prelude.{◌≡◌, IfOk, OnOk};
+ghost use Rattle.std.specs.Result.{IsOk};
 ghost use Rattle.wkt_flat.specs.Grown.{IsOneMore};
 
 use std::alloc::{AllocError, Global};
@@ -41,5 +42,23 @@ pub fn push_copy_of<X: Part, G: From<X> + Drop>(
     ensures { OnOk result (IsOneMore (G.from_gives part.now) copies.old.items copies.new.items) }
 {
     copies.push(G::from(part.copy(alloc)?))?;
+    Ok(())
+}
+
+/// Adds a part to a list, as what the part is converted into, if the part was filled: else drops it.
+///
+/// # Errors
+/// Out of memory, here or where the part was filled.
+#[inline(never)]
+pub fn push_filled<X: Drop, G: From<X> + Drop>(
+    filled: Result<(), AllocError>,
+    part: X,
+    copies: &mut Vec<G>,
+) -> Result<(), AllocError>
+    ensures filled { OnOk result (IsOk filled) }
+    ensures pushed { OnOk result (IsOneMore (G.from_gives part) copies.old.items copies.new.items) }
+{
+    filled?;
+    copies.push(G::from(part))?;
     Ok(())
 }

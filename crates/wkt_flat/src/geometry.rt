@@ -1,12 +1,8 @@
 //! Geometries of any kind, and collections of them.
-ghost use Rattle.std.specs.Prelude.{◌≡◌, IsTrue, ◌↔◌, IfOk, OnOk, map, ◌++◌, ◌∷◌, []};
-ghost use Rattle.std.specs.Result.{IsOk};
-ghost use Rattle.std.specs.Cmp.{on_per};
-ghost use Rattle.wkt_flat.specs.Exact.{exact_by, exact_per};
+ghost use Rattle.std.specs.Prelude.{◌≡◌, IfOk, OnOk, map, ◌++◌, ◌∷◌, []};
 ghost use Rattle.wkt_flat.specs.Tree.{flat_tree, flat_trees, flat_members, collection, point, line, line_string, polygon, multi_point, multi_line_string, multi_polygon, rect, triangle};
-ghost use Rattle.wkt_flat.specs.Trees.{flat_eq, flats_eq, flat_exact, flats_exact};
 
-use crate::copies::push_copy_of;
+use crate::copies::{push_copy_of, push_filled};
 use crate::dropping::{Nested, drop_all};
 use crate::line::Line;
 use crate::linestring::LineString;
@@ -18,7 +14,6 @@ use crate::polygon::Polygon;
 use crate::rect::Rect;
 use crate::triangle::Triangle;
 use std::alloc::{AllocError, Global};
-use wkt_num::WktNum;
 
 /// A collection: geometries in order, which may be collections too. It may be empty.
 ///
@@ -113,27 +108,8 @@ impl<T> GeometryCollection<T> {
     }
 }
 
-// Adds the collection of those geometries, if they are filled. It alone drops them where they aren't,
-// since that takes stack.
-#[inline(never)]
-fn push_collection<T: Copy + Drop>(
-    filled: Result<(), AllocError>,
-    geometries: Vec<Geometry<T>>,
-    copies: &mut Vec<Geometry<T>>,
-) -> Result<(), AllocError>
-    ensures filled { OnOk result (IsOk filled) }
-    ensures pushed { OnOk result
-        (map flat_tree copies.new.items
-        ≡ map flat_tree copies.old.items ++ collection (flat_members geometries.items) ∷ []) }
-{
-    filled?;
-    let collection = GeometryCollection::new_from(geometries);
-    copies.push(Geometry::GeometryCollection(collection))?;
-    Ok(())
-}
-
-// Adds a copy of a geometry. The other kinds than collections are copied in functions that aren't inlined, so that a
-// level of nesting takes little stack.
+// Adds a copy of a geometry. Parts are copied and added in functions that aren't inlined, so that a level of nesting
+// takes little stack.
 #[cycle(copy)]
 fn push_copy<T: Copy + Drop>(
     g: &Geometry<T>,
@@ -155,7 +131,7 @@ fn push_copy<T: Copy + Drop>(
         Geometry::GeometryCollection(c) => {
             let mut geometries = Vec::with_capacity(alloc, c.0.len())?;
             let filled = push_copies(&c.0, alloc, &mut geometries);
-            push_collection(filled, geometries, copies)
+            push_filled(filled, GeometryCollection::new_from(geometries), copies)
         }
     }
 }
@@ -211,77 +187,6 @@ impl<T: Copy + Drop> GeometryCollection<T> {
         let mut geometries = Vec::with_capacity(alloc, self.0.len())?;
         push_copies(&self.0, alloc, &mut geometries)?;
         Ok(GeometryCollection(geometries))
-    }
-}
-
-#[cycle(same)]
-fn same_geometry<T: WktNum>(a: &Geometry<T>, b: &Geometry<T>) -> bool
-    ensures { result ≡ flat_eq T.eq (flat_tree a.now) (flat_tree b.now) }
-{
-    match (a, b) {
-        (Geometry::Point(x), Geometry::Point(y)) => x == y,
-        (Geometry::Line(x), Geometry::Line(y)) => x == y,
-        (Geometry::LineString(x), Geometry::LineString(y)) => x == y,
-        (Geometry::Polygon(x), Geometry::Polygon(y)) => x == y,
-        (Geometry::MultiPoint(x), Geometry::MultiPoint(y)) => x == y,
-        (Geometry::MultiLineString(x), Geometry::MultiLineString(y)) => x == y,
-        (Geometry::MultiPolygon(x), Geometry::MultiPolygon(y)) => x == y,
-        (Geometry::Rect(x), Geometry::Rect(y)) => x == y,
-        (Geometry::Triangle(x), Geometry::Triangle(y)) => x == y,
-        (Geometry::GeometryCollection(x), Geometry::GeometryCollection(y)) => same_collection(x, y),
-        _ => false,
-    }
-}
-
-#[cycle(same)]
-fn same_collection<T: WktNum>(a: &GeometryCollection<T>, b: &GeometryCollection<T>) -> bool
-    ensures { result ≡ flats_eq T.eq (flat_trees a.now) (flat_trees b.now) }
-{
-    same_members(&a.0, &b.0)
-}
-
-#[cycle(same)]
-fn same_members<T: WktNum>(a: &[Geometry<T>], b: &[Geometry<T>]) -> bool
-    ensures { result ≡ flats_eq T.eq (flat_members a.now) (flat_members b.now) }
-{
-    for (i, x) in a.iter().enumerate() {
-        match b.get(i) {
-            None => return false,
-            Some(y) => {
-                if !same_geometry(x, y) {
-                    return false;
-                }
-            }
-        }
-    }
-    a.len() == b.len()
-}
-
-impl<T: WktNum> PartialEq for Geometry<T> {
-    ghost eq = { λ a b. flat_eq T.eq (flat_tree a) (flat_tree b) };
-
-    ghost laws = { on_per flat_tree (exact_per (flat_exact (exact_by T.same))) };
-
-    /// True exactly if the kinds are equal, and what the geometries hold.
-    fn eq(&self, other: &Self) -> bool
-        ensures eq { result ≡ flat_eq T.eq (flat_tree self.now) (flat_tree other.now) }
-        ensures exact { IsTrue result ↔ (flat_tree self.now ≡ flat_tree other.now) }
-    {
-        same_geometry(self, other)
-    }
-}
-
-impl<T: WktNum> PartialEq for GeometryCollection<T> {
-    ghost eq = { λ a b. flats_eq T.eq (flat_trees a) (flat_trees b) };
-
-    ghost laws = { on_per flat_trees (exact_per (flats_exact (exact_by T.same))) };
-
-    /// True exactly if the geometries are equal, in order.
-    fn eq(&self, other: &Self) -> bool
-        ensures eq { result ≡ flats_eq T.eq (flat_trees self.now) (flat_trees other.now) }
-        ensures exact { IsTrue result ↔ (flat_trees self.now ≡ flat_trees other.now) }
-    {
-        same_collection(self, other)
     }
 }
 

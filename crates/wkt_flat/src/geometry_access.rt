@@ -1,11 +1,10 @@
-//! Access to geometries of any kind.
+//! Access to geometries of any kind. One that is no collection has no members: asked for one, it returns itself.
 ghost use Rattle.std.specs.Prelude.{◌≡◌};
 ghost use Rattle.wkt_access.specs.declared.dimensions.Dimensions.TheVariants.{Xy};
-ghost use Rattle.wkt_access.specs.Parts.{each};
-ghost use Rattle.wkt_flat.specs.Shape.{flat_shape, flat_shapes};
-ghost use Rattle.wkt_flat.specs.Tree.{flat_tree, flat_trees, point, line, line_string, polygon, multi_point, multi_line_string, multi_polygon, rect, triangle};
+ghost use Rattle.wkt_flat.specs.Shape.{flat_shape};
+ghost use Rattle.wkt_flat.specs.Tree.{flat_tree, point, line, line_string, polygon, multi_point, multi_line_string, multi_polygon, rect, triangle};
 
-use crate::geometry::{Geometry, GeometryCollection};
+use crate::geometry::Geometry;
 use crate::line::Line;
 use crate::linestring::LineString;
 use crate::multilinestring::MultiLineString;
@@ -15,7 +14,7 @@ use crate::point::Point;
 use crate::polygon::Polygon;
 use crate::rect::Rect;
 use crate::triangle::Triangle;
-use wkt_access::{Dimensions, GeometryCollectionTrait, GeometryTrait, GeometryType};
+use wkt_access::{Dimensions, GeometryTrait, GeometryType};
 use wkt_num::WktNum;
 
 /// The kind of a flat geometry, with the geometry.
@@ -31,28 +30,6 @@ type FlatType<'a, T> = GeometryType<
     Triangle<T>,
     Line<T>,
 >;
-
-impl<T: WktNum> GeometryCollectionTrait for GeometryCollection<T> {
-    type T = T;
-
-    type GeometryType = Geometry<T>;
-
-    ghost dimension = { λ _. Xy };
-
-    ghost geometries = { λ c. each (flat_shapes (flat_trees c)) };
-
-    fn dim(&self) -> Dimensions {
-        Dimensions::Xy
-    }
-
-    fn num_geometries(&self) -> usize {
-        self.geometries().len()
-    }
-
-    fn geometry(&self, i: usize) -> &Geometry<T> {
-        &self.geometries()[i]
-    }
-}
 
 impl<T: WktNum> GeometryTrait for Geometry<T> {
     type T = T;
@@ -137,7 +114,6 @@ impl<T: WktNum> GeometryTrait for Point<T> {
         GeometryType::Point(self)
     }
 
-    /// This kind has no members, so there is no index to ask for.
     fn geometry(&self, _i: usize) -> &Self
         ensures { result.now ≡ self.now }
     {
@@ -176,7 +152,6 @@ impl<T: WktNum> GeometryTrait for Line<T> {
         GeometryType::Line(self)
     }
 
-    /// This kind has no members, so there is no index to ask for.
     fn geometry(&self, _i: usize) -> &Self
         ensures { result.now ≡ self.now }
     {
@@ -215,7 +190,6 @@ impl<T: WktNum> GeometryTrait for LineString<T> {
         GeometryType::LineString(self)
     }
 
-    /// This kind has no members, so there is no index to ask for.
     fn geometry(&self, _i: usize) -> &Self
         ensures { result.now ≡ self.now }
     {
@@ -254,7 +228,6 @@ impl<T: WktNum> GeometryTrait for Polygon<T> {
         GeometryType::Polygon(self)
     }
 
-    /// This kind has no members, so there is no index to ask for.
     fn geometry(&self, _i: usize) -> &Self
         ensures { result.now ≡ self.now }
     {
@@ -293,7 +266,6 @@ impl<T: WktNum> GeometryTrait for MultiPoint<T> {
         GeometryType::MultiPoint(self)
     }
 
-    /// This kind has no members, so there is no index to ask for.
     fn geometry(&self, _i: usize) -> &Self
         ensures { result.now ≡ self.now }
     {
@@ -332,7 +304,6 @@ impl<T: WktNum> GeometryTrait for MultiLineString<T> {
         GeometryType::MultiLineString(self)
     }
 
-    /// This kind has no members, so there is no index to ask for.
     fn geometry(&self, _i: usize) -> &Self
         ensures { result.now ≡ self.now }
     {
@@ -371,7 +342,6 @@ impl<T: WktNum> GeometryTrait for MultiPolygon<T> {
         GeometryType::MultiPolygon(self)
     }
 
-    /// This kind has no members, so there is no index to ask for.
     fn geometry(&self, _i: usize) -> &Self
         ensures { result.now ≡ self.now }
     {
@@ -410,7 +380,6 @@ impl<T: WktNum> GeometryTrait for Rect<T> {
         GeometryType::Rect(self)
     }
 
-    /// This kind has no members, so there is no index to ask for.
     fn geometry(&self, _i: usize) -> &Self
         ensures { result.now ≡ self.now }
     {
@@ -449,7 +418,6 @@ impl<T: WktNum> GeometryTrait for Triangle<T> {
         GeometryType::Triangle(self)
     }
 
-    /// This kind has no members, so there is no index to ask for.
     fn geometry(&self, _i: usize) -> &Self
         ensures { result.now ≡ self.now }
     {

@@ -1,20 +1,11 @@
 -- A member of a list, seen as its numbers.
-use Rattle.std.proofs.Common.{◌≡◌, ℕ, zero, suc, ◌+◌, ◌<◌, ap, sym, ◌∙◌, List, [], ◌∷◌, length, map, get_or, Some, slice_get, arith, add-one}
+use Rattle.std.proofs.Common.{◌≡◌, ℕ, suc, ◌+◌, ◌<◌, ap, ◌∙◌, List, [], ◌∷◌, length, map, get_or, Some, slice_get, arith, add-one}
 use Rattle.std.proofs.lemmas.List.{length-map}
 use Rattle.wkt_access.specs.Shapes.{polygon_of}
+use Rattle.wkt_flat.proofs.Members.{get_map, got}
 use Rattle.wkt_types.specs.Held.{Held}
 use Rattle.wkt_types.specs.declared.coord.Coord.{Coord}
 use Rattle.wkt_types.specs.Values.{line_string_numbers, polygon_numbers}
-
-pub get_map : {X Y : Type 0} (f : X → Y) (xs : List X) (i : ℕ) (x : X) → slice_get xs i ≡ Some x → slice_get (map f xs) i ≡ Some (f x)
-get_map f [] i x h = cc
-get_map f (y ∷ ys) zero x h = let e : y ≡ x = cc in ap (λ z. Some (f z)) e
-get_map f (y ∷ ys) (suc i) x h = get_map f ys i x h
-
-pub got : {X : Type 0} (xs : List X) (i : ℕ) (x : X) → i < length xs → x ≡ get_or xs i x → slice_get xs i ≡ Some x
-got [] i x h e = absurd (omega arith)
-got (y ∷ ys) zero x h e = ap (λ z. Some z) (sym e)
-got (y ∷ ys) (suc i) x h e = got ys i x (omega arith) e
 
 -- a part that stands in a list, as it is seen
 pub part_is : {X Y : Type 0} (f : X → Y) (xs ys : List X) (i : ℕ) (x : X) → i < length (map f xs) → ys ≡ xs → x ≡ get_or ys i x → slice_get (map f xs) i ≡ Some (f x)

@@ -1,10 +1,10 @@
 -- Tests of what the types hold that are true of equal values alone.
-use Rattle.std.specs.Prelude.{◌≡◌, refl, Bool, true, false, ◌&&◌, List, Option, Some, None}
+use Rattle.std.specs.Prelude.{◌≡◌, refl, Bool, true, false, ◌&&◌, Option, Some, None}
 use Rattle.std.specs.Cmp.Lexicographic.{pointwise}
-use Rattle.std.proofs.Common.{ap, ◌∙◌}
+use Rattle.std.proofs.Common.{ap}
 use Rattle.wkt_access.specs.declared.dimensions.Dimension.{Dimension}
 use Rattle.wkt_access.specs.declared.dimensions.Dimension.TheVariants.{XY, XYZ, XYM, XYZM}
-use Rattle.wkt_flat.specs.Exact.{IsExact, both, and_true, pointwise_exact}
+use Rattle.wkt_flat.specs.Exact.{IsExact, both_exact, pointwise_exact}
 use Rattle.wkt_types.specs.Held.{Held, HeldPoint}
 
 -- Two options hold the same, or nothing both.
@@ -56,27 +56,11 @@ abbrev pub held_eq : {X : Type 0} → (X → X → Bool) → Held X → Held X �
 held_eq E a b = pointwise E a.parts b.parts && dim_eq a.dim b.dim
 
 pub held_exact : {X : Type 0} {E : X → X → Bool} → IsExact E → IsExact (held_eq E)
-held_exact {X} {E} e = record {
-  only = λ a b h.
-      let p = both _ _ h in
-      let x = (pointwise_exact e).only a.parts b.parts p.0 in
-      let d = dim_exact.only a.dim b.dim p.1 in
-      let make : List X → Dimension → Held X = λ c d. record { parts = c; dim = d } in
-      ap (λ c. make c a.dim) x ∙ ap (λ d. make b.parts d) d;
-  each = λ a. and_true ((pointwise_exact e).each a.parts) (dim_exact.each a.dim);
-}
+held_exact {X} e = both_exact {X = Held X} (λ h. h.parts) (λ h. h.dim) (λ xs d. record { parts = xs; dim = d }) (λ h. refl) (pointwise_exact e) dim_exact
 
 -- The same of points.
 abbrev pub held_point_eq : {C : Type 0} → (C → C → Bool) → HeldPoint C → HeldPoint C → Bool
 held_point_eq E a b = option_eq E a.coord b.coord && dim_eq a.dim b.dim
 
 pub held_point_exact : {C : Type 0} {E : C → C → Bool} → IsExact E → IsExact (held_point_eq E)
-held_point_exact {C} {E} e = record {
-  only = λ a b h.
-      let p = both _ _ h in
-      let x = (option_exact e).only a.coord b.coord p.0 in
-      let d = dim_exact.only a.dim b.dim p.1 in
-      let make : Option C → Dimension → HeldPoint C = λ c d. record { coord = c; dim = d } in
-      ap (λ c. make c a.dim) x ∙ ap (λ d. make b.coord d) d;
-  each = λ a. and_true ((option_exact e).each a.coord) (dim_exact.each a.dim);
-}
+held_point_exact {C} e = both_exact {X = HeldPoint C} (λ p. p.coord) (λ p. p.dim) (λ c d. record { coord = c; dim = d }) (λ p. refl) (option_exact e) dim_exact

@@ -1,10 +1,13 @@
 //! Access to the parts of each type.
-ghost use Rattle.std.specs.Prelude.{◌≡◌, map, option_map};
+ghost use Rattle.std.specs.Prelude.{map};
+ghost use Rattle.wkt_access.specs.Parts.{members_of};
 ghost use Rattle.wkt_access.specs.Shapes.{header_of, polygon_of};
 ghost use Rattle.wkt_types.specs.Coords.{numbers_of};
-ghost use Rattle.wkt_types.specs.Values.{point_numbers, line_string_numbers, polygon_numbers};
+ghost use Rattle.wkt_types.specs.Tree.{collection_tree, tree_dim};
+ghost use Rattle.wkt_types.specs.Values.{point_numbers, line_string_numbers, polygon_numbers, tree_shape};
 
 use crate::coord::Coord;
+use crate::geometry::{GeometryCollection, Wkt};
 use crate::linestring::LineString;
 use crate::multilinestring::MultiLineString;
 use crate::multipoint::MultiPoint;
@@ -12,8 +15,8 @@ use crate::multipolygon::MultiPolygon;
 use crate::point::Point;
 use crate::polygon::Polygon;
 use wkt_access::{
-    CoordTrait, Dimensions, LineStringTrait, MultiLineStringTrait, MultiPointTrait,
-    MultiPolygonTrait, PointTrait, PolygonTrait,
+    CoordTrait, Dimensions, GeometryCollectionTrait, LineStringTrait, MultiLineStringTrait,
+    MultiPointTrait, MultiPolygonTrait, PointTrait, PolygonTrait,
 };
 use wkt_num::WktNum;
 
@@ -183,5 +186,27 @@ impl<T: WktNum> MultiPolygonTrait for MultiPolygon<T> {
 
     fn polygon(&self, i: usize) -> &Polygon<T> {
         &self.polygons()[i]
+    }
+}
+
+impl<T: WktNum> GeometryCollectionTrait for GeometryCollection<T> {
+    type T = T;
+
+    type GeometryType = Wkt<T>;
+
+    ghost dimension = { λ c. header_of (tree_dim (collection_tree c)) };
+
+    ghost geometries = { λ c. members_of (tree_shape (collection_tree c)) };
+
+    fn dim(&self) -> Dimensions {
+        Dimensions::from(self.dimension())
+    }
+
+    fn num_geometries(&self) -> usize {
+        self.geometries().len()
+    }
+
+    fn geometry(&self, i: usize) -> &Wkt<T> {
+        &self.geometries()[i]
     }
 }

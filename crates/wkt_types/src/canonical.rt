@@ -31,6 +31,15 @@ pub(crate) fn put_each_under<X: UnderHeader>(parts: &mut [X], dim: Dimension)
     }
 }
 
+/// A part put under the header.
+fn under<X: UnderHeader>(dim: Dimension, part: X) -> X
+    ensures { result ≡ X.under dim part }
+{
+    let mut part = part;
+    part.put_under(dim);
+    part
+}
+
 /// The number after x and y, by which z and m are held.
 pub(crate) fn third_number<T: Copy>(coord: &Coord<T>) -> Option<T>
     ensures { result ≡ third_number coord.now }
@@ -56,30 +65,12 @@ fn canonical_geometry<T: Copy + Drop>(geometry: Wkt<T>) -> Wkt<T>
     ensures { tree result ≡ canonical (tree geometry) }
 {
     match geometry {
-        Wkt::Point(mut point) => {
-            point.put_under(point.dimension());
-            Wkt::Point(point)
-        }
-        Wkt::LineString(mut line_string) => {
-            line_string.put_under(line_string.dimension());
-            Wkt::LineString(line_string)
-        }
-        Wkt::Polygon(mut polygon) => {
-            polygon.put_under(polygon.dimension());
-            Wkt::Polygon(polygon)
-        }
-        Wkt::MultiPoint(mut points) => {
-            points.put_under(points.dimension());
-            Wkt::MultiPoint(points)
-        }
-        Wkt::MultiLineString(mut line_strings) => {
-            line_strings.put_under(line_strings.dimension());
-            Wkt::MultiLineString(line_strings)
-        }
-        Wkt::MultiPolygon(mut polygons) => {
-            polygons.put_under(polygons.dimension());
-            Wkt::MultiPolygon(polygons)
-        }
+        Wkt::Point(p) => Wkt::Point(under(p.dimension(), p)),
+        Wkt::LineString(l) => Wkt::LineString(under(l.dimension(), l)),
+        Wkt::Polygon(y) => Wkt::Polygon(under(y.dimension(), y)),
+        Wkt::MultiPoint(m) => Wkt::MultiPoint(under(m.dimension(), m)),
+        Wkt::MultiLineString(m) => Wkt::MultiLineString(under(m.dimension(), m)),
+        Wkt::MultiPolygon(m) => Wkt::MultiPolygon(under(m.dimension(), m)),
         Wkt::GeometryCollection(collection) => {
             let (members, dim) = collection.into_inner();
             let members = canonical_members(members);

@@ -1,11 +1,10 @@
 //! Coordinates.
-ghost use Rattle.std.specs.Prelude.{◌≡◌, IsTrue, ◌↔◌};
+ghost use Rattle.std.specs.Prelude.{◌≡◌};
 
 use crate::canonical::{UnderHeader, fourth_number, third_number};
 use std::alloc::{AllocError, Global};
 use wkt_access::Dimension;
 use wkt_flat::copies::Part;
-use wkt_num::WktNum;
 
 /// One coordinate: x and y, and z and m where they are there.
 #[derive(Clone, Copy, Debug, Default, Drop)]
@@ -33,23 +32,6 @@ impl<T> Coord<T> {
             (None, Some(_)) => Dimension::XYM,
             (Some(_), Some(_)) => Dimension::XYZM,
         }
-    }
-}
-
-impl<T: WktNum> PartialEq for Coord<T> {
-    ghost use Rattle.wkt_flat.specs.Exact.{exact_by, exact_per};
-    ghost use Rattle.wkt_types.specs.Equal.{wkt_coord_eq, wkt_coord_exact};
-
-    ghost eq = { wkt_coord_eq T.eq };
-
-    ghost laws = { exact_per (wkt_coord_exact (exact_by T.same)) };
-
-    /// True exactly if the numbers are equal and the same ones are there.
-    fn eq(&self, other: &Self) -> bool
-        ensures eq { result ≡ wkt_coord_eq T.eq self.now other.now }
-        ensures exact { IsTrue result ↔ (self.now ≡ other.now) }
-    {
-        self.x == other.x && self.y == other.y && self.z == other.z && self.m == other.m
     }
 }
 

@@ -1,15 +1,10 @@
 //! Geometries of any kind, and collections of them.
-ghost use Rattle.std.specs.Prelude.{◌≡◌, IsTrue, ◌↔◌, IfOk, OnOk, map, ◌++◌, ◌∷◌, []};
+ghost use Rattle.std.specs.Prelude.{◌≡◌, IfOk, OnOk, map, ◌++◌, ◌∷◌, []};
 ghost use Rattle.std.specs.Option.{option_map};
-ghost use Rattle.std.specs.Result.{IsOk};
-ghost use Rattle.std.specs.Cmp.{on_per};
 ghost use Rattle.std.specs.Iterator.{IsFinite};
 ghost use Rattle.std.specs.Iterator.Runs.{WholeRun};
-ghost use Rattle.wkt_flat.specs.Exact.{exact_by, exact_per};
 ghost use Rattle.wkt_types.specs.Tree.{tree, collection_tree, members, no_trees, collection, collected, tree_dim, point, line_string, polygon, multi_point, multi_line_string, multi_polygon};
-ghost use Rattle.wkt_types.specs.Trees.{tree_eq, trees_eq, tree_exact};
 
-use crate::dimension::and_same;
 use crate::linestring::LineString;
 use crate::multilinestring::MultiLineString;
 use crate::multipoint::MultiPoint;
@@ -18,15 +13,15 @@ use crate::point::Point;
 use crate::polygon::Polygon;
 use std::alloc::{AllocError, Global};
 use wkt_access::Dimension;
+use wkt_flat::copies::{push_copy_of, push_filled};
 use wkt_flat::dropping::drop_all;
-use wkt_num::WktNum;
 
 /// A collection: geometries in order, each with its own dimension, and the dimension of the header.
 #[cycle(wkt)]
 #[derive(Debug)]
 pub struct GeometryCollection<T> {
-    geometries: Vec<Wkt<T>>,
-    dim: Dimension,
+    pub(crate) geometries: Vec<Wkt<T>>,
+    pub(crate) dim: Dimension,
 }
 
 /// A geometry of any kind.
@@ -141,95 +136,8 @@ impl<T> Wkt<T> {
     }
 }
 
-// Each kind is copied in a function of its own, so that a level of nesting takes little stack.
-#[inline(never)]
-fn push_point<T: Copy + Drop>(part: &Point<T>, copies: &mut Vec<Wkt<T>>) -> Result<(), AllocError>
-    ensures { OnOk result (map tree copies.new.items ≡ map tree copies.old.items ++ point part.now ∷ []) }
-{
-    copies.push(Wkt::Point(*part))?;
-    Ok(())
-}
-
-#[inline(never)]
-fn push_line_string<T: Copy + Drop>(
-    part: &LineString<T>,
-    alloc: Global,
-    copies: &mut Vec<Wkt<T>>,
-) -> Result<(), AllocError>
-    ensures { OnOk result (map tree copies.new.items ≡ map tree copies.old.items ++ line_string part.now ∷ []) }
-{
-    copies.push(Wkt::LineString(part.try_clone(alloc)?))?;
-    Ok(())
-}
-
-#[inline(never)]
-fn push_polygon<T: Copy + Drop>(
-    part: &Polygon<T>,
-    alloc: Global,
-    copies: &mut Vec<Wkt<T>>,
-) -> Result<(), AllocError>
-    ensures { OnOk result (map tree copies.new.items ≡ map tree copies.old.items ++ polygon part.now ∷ []) }
-{
-    copies.push(Wkt::Polygon(part.try_clone(alloc)?))?;
-    Ok(())
-}
-
-#[inline(never)]
-fn push_points<T: Copy + Drop>(
-    part: &MultiPoint<T>,
-    alloc: Global,
-    copies: &mut Vec<Wkt<T>>,
-) -> Result<(), AllocError>
-    ensures { OnOk result (map tree copies.new.items ≡ map tree copies.old.items ++ multi_point part.now ∷ []) }
-{
-    copies.push(Wkt::MultiPoint(part.try_clone(alloc)?))?;
-    Ok(())
-}
-
-#[inline(never)]
-fn push_line_strings<T: Copy + Drop>(
-    part: &MultiLineString<T>,
-    alloc: Global,
-    copies: &mut Vec<Wkt<T>>,
-) -> Result<(), AllocError>
-    ensures { OnOk result (map tree copies.new.items ≡ map tree copies.old.items ++ multi_line_string part.now ∷ []) }
-{
-    copies.push(Wkt::MultiLineString(part.try_clone(alloc)?))?;
-    Ok(())
-}
-
-#[inline(never)]
-fn push_polygons<T: Copy + Drop>(
-    part: &MultiPolygon<T>,
-    alloc: Global,
-    copies: &mut Vec<Wkt<T>>,
-) -> Result<(), AllocError>
-    ensures { OnOk result (map tree copies.new.items ≡ map tree copies.old.items ++ multi_polygon part.now ∷ []) }
-{
-    copies.push(Wkt::MultiPolygon(part.try_clone(alloc)?))?;
-    Ok(())
-}
-
-// The collection of those geometries, if they are filled. It alone lets them go where they aren't,
-// since that takes stack.
-#[inline(never)]
-fn push_collection<T: Copy + Drop>(
-    filled: Result<(), AllocError>,
-    geometries: Vec<Wkt<T>>,
-    dim: Dimension,
-    copies: &mut Vec<Wkt<T>>,
-) -> Result<(), AllocError>
-    ensures filled { OnOk result (IsOk filled) }
-    ensures pushed { OnOk result
-        (map tree copies.new.items ≡ map tree copies.old.items ++ collection (members geometries.items) dim ∷ []) }
-{
-    filled?;
-    let collection = GeometryCollection::new(geometries, dim);
-    copies.push(Wkt::GeometryCollection(collection))?;
-    Ok(())
-}
-
-// A copy, after others.
+// Adds a copy of a geometry. Parts are copied and added in functions that aren't inlined, so that a level of nesting
+// takes little stack.
 #[cycle(copy)]
 fn push_copy<T: Copy + Drop>(
     w: &Wkt<T>,
@@ -239,16 +147,16 @@ fn push_copy<T: Copy + Drop>(
     ensures { OnOk result (map tree copies.new.items ≡ map tree copies.old.items ++ tree w.now ∷ []) }
 {
     match w {
-        Wkt::Point(p) => push_point(p, copies),
-        Wkt::LineString(l) => push_line_string(l, alloc, copies),
-        Wkt::Polygon(y) => push_polygon(y, alloc, copies),
-        Wkt::MultiPoint(m) => push_points(m, alloc, copies),
-        Wkt::MultiLineString(m) => push_line_strings(m, alloc, copies),
-        Wkt::MultiPolygon(m) => push_polygons(m, alloc, copies),
+        Wkt::Point(p) => push_copy_of(p, alloc, copies),
+        Wkt::LineString(l) => push_copy_of(l, alloc, copies),
+        Wkt::Polygon(y) => push_copy_of(y, alloc, copies),
+        Wkt::MultiPoint(m) => push_copy_of(m, alloc, copies),
+        Wkt::MultiLineString(m) => push_copy_of(m, alloc, copies),
+        Wkt::MultiPolygon(m) => push_copy_of(m, alloc, copies),
         Wkt::GeometryCollection(c) => {
             let mut geometries = Vec::with_capacity(alloc, c.geometries.len())?;
             let filled = push_copies(&c.geometries, alloc, &mut geometries);
-            push_collection(filled, geometries, c.dim, copies)
+            push_filled(filled, GeometryCollection::new(geometries, c.dim), copies)
         }
     }
 }
@@ -267,34 +175,6 @@ fn push_copies<T: Copy + Drop>(
     Ok(())
 }
 
-fn copy_wkt<T: Copy + Drop>(w: &Wkt<T>, alloc: Global) -> Result<Wkt<T>, AllocError>
-    ensures { IfOk result (λ c. tree c ≡ tree w.now) }
-{
-    match w {
-        Wkt::Point(p) => Ok(Wkt::Point(*p)),
-        Wkt::LineString(l) => Ok(Wkt::LineString(l.try_clone(alloc)?)),
-        Wkt::Polygon(y) => Ok(Wkt::Polygon(y.try_clone(alloc)?)),
-        Wkt::MultiPoint(m) => Ok(Wkt::MultiPoint(m.try_clone(alloc)?)),
-        Wkt::MultiLineString(m) => Ok(Wkt::MultiLineString(m.try_clone(alloc)?)),
-        Wkt::MultiPolygon(m) => Ok(Wkt::MultiPolygon(m.try_clone(alloc)?)),
-        Wkt::GeometryCollection(c) => Ok(Wkt::GeometryCollection(copy_collection(c, alloc)?)),
-    }
-}
-
-fn copy_collection<T: Copy + Drop>(
-    c: &GeometryCollection<T>,
-    alloc: Global,
-) -> Result<GeometryCollection<T>, AllocError>
-    ensures { IfOk result (λ r. collection_tree r ≡ collection_tree c.now) }
-{
-    let mut geometries = Vec::with_capacity(alloc, c.geometries.len())?;
-    push_copies(&c.geometries, alloc, &mut geometries)?;
-    Ok(GeometryCollection {
-        geometries,
-        dim: c.dim,
-    })
-}
-
 impl<T: Copy + Drop> Wkt<T> {
     /// An equal geometry.
     ///
@@ -303,7 +183,15 @@ impl<T: Copy + Drop> Wkt<T> {
     pub fn try_clone(&self, alloc: Global) -> Result<Self, AllocError>
         ensures { IfOk result (λ w. tree w ≡ tree self.now) }
     {
-        copy_wkt(self, alloc)
+        match self {
+            Wkt::Point(p) => Ok(Wkt::Point(*p)),
+            Wkt::LineString(l) => Ok(Wkt::LineString(l.try_clone(alloc)?)),
+            Wkt::Polygon(y) => Ok(Wkt::Polygon(y.try_clone(alloc)?)),
+            Wkt::MultiPoint(m) => Ok(Wkt::MultiPoint(m.try_clone(alloc)?)),
+            Wkt::MultiLineString(m) => Ok(Wkt::MultiLineString(m.try_clone(alloc)?)),
+            Wkt::MultiPolygon(m) => Ok(Wkt::MultiPolygon(m.try_clone(alloc)?)),
+            Wkt::GeometryCollection(c) => Ok(Wkt::GeometryCollection(c.try_clone(alloc)?)),
+        }
     }
 }
 
@@ -315,76 +203,9 @@ impl<T: Copy + Drop> GeometryCollection<T> {
     pub fn try_clone(&self, alloc: Global) -> Result<Self, AllocError>
         ensures { IfOk result (λ c. collection_tree c ≡ collection_tree self.now) }
     {
-        copy_collection(self, alloc)
-    }
-}
-
-#[cycle(same)]
-fn same_wkt<T: WktNum>(a: &Wkt<T>, b: &Wkt<T>) -> bool
-    ensures { result ≡ tree_eq T.eq (tree a.now) (tree b.now) }
-{
-    match (a, b) {
-        (Wkt::Point(x), Wkt::Point(y)) => x == y,
-        (Wkt::LineString(x), Wkt::LineString(y)) => x == y,
-        (Wkt::Polygon(x), Wkt::Polygon(y)) => x == y,
-        (Wkt::MultiPoint(x), Wkt::MultiPoint(y)) => x == y,
-        (Wkt::MultiLineString(x), Wkt::MultiLineString(y)) => x == y,
-        (Wkt::MultiPolygon(x), Wkt::MultiPolygon(y)) => x == y,
-        (Wkt::GeometryCollection(x), Wkt::GeometryCollection(y)) => same_collection(x, y),
-        _ => false,
-    }
-}
-
-#[cycle(same)]
-fn same_collection<T: WktNum>(a: &GeometryCollection<T>, b: &GeometryCollection<T>) -> bool
-    ensures { result ≡ tree_eq T.eq (collection_tree a.now) (collection_tree b.now) }
-{
-    and_same(same_members(&a.geometries, &b.geometries), a.dim, b.dim)
-}
-
-#[cycle(same)]
-fn same_members<T: WktNum>(a: &[Wkt<T>], b: &[Wkt<T>]) -> bool
-    ensures { result ≡ trees_eq T.eq (members a.now) (members b.now) }
-{
-    for (i, x) in a.iter().enumerate() {
-        match b.get(i) {
-            None => return false,
-            Some(y) => {
-                if !same_wkt(x, y) {
-                    return false;
-                }
-            }
-        }
-    }
-    a.len() == b.len()
-}
-
-impl<T: WktNum> PartialEq for Wkt<T> {
-    ghost eq = { λ a b. tree_eq T.eq (tree a) (tree b) };
-
-    ghost laws = { on_per tree (exact_per (tree_exact (exact_by T.same))) };
-
-    /// True exactly if kind, dimension and parts are equal. Two unequal geometries may have one text, as
-    /// `POLYGON(EMPTY)` and `POLYGON EMPTY`: `wkt::same_geometry` compares them by what is written.
-    fn eq(&self, other: &Self) -> bool
-        ensures eq { result ≡ tree_eq T.eq (tree self.now) (tree other.now) }
-        ensures exact { IsTrue result ↔ (tree self.now ≡ tree other.now) }
-    {
-        same_wkt(self, other)
-    }
-}
-
-impl<T: WktNum> PartialEq for GeometryCollection<T> {
-    ghost eq = { λ a b. tree_eq T.eq (collection_tree a) (collection_tree b) };
-
-    ghost laws = { on_per collection_tree (exact_per (tree_exact (exact_by T.same))) };
-
-    /// True exactly if dimension and geometries are equal.
-    fn eq(&self, other: &Self) -> bool
-        ensures eq { result ≡ tree_eq T.eq (collection_tree self.now) (collection_tree other.now) }
-        ensures exact { IsTrue result ↔ (collection_tree self.now ≡ collection_tree other.now) }
-    {
-        same_collection(self, other)
+        let mut geometries = Vec::with_capacity(alloc, self.geometries.len())?;
+        push_copies(&self.geometries, alloc, &mut geometries)?;
+        Ok(GeometryCollection::new(geometries, self.dim))
     }
 }
 

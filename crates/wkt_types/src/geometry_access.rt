@@ -1,42 +1,32 @@
-//! Access to geometries of any kind.
+//! Access to geometries of any kind. One that is no collection has no members: asked for one, it returns itself.
 ghost use Rattle.std.specs.Prelude.{◌≡◌};
-ghost use Rattle.wkt_access.specs.Parts.{members_of};
-ghost use Rattle.wkt_access.specs.Shapes.{header_of};
-ghost use Rattle.wkt_types.specs.Tree.{tree, collection_tree, tree_dim, point, line_string, polygon, multi_point, multi_line_string, multi_polygon};
+ghost use Rattle.wkt_types.specs.Tree.{tree, point, line_string, polygon, multi_point, multi_line_string, multi_polygon};
 ghost use Rattle.wkt_types.specs.Values.{tree_shape};
 
-use crate::geometry::{GeometryCollection, Wkt};
+use crate::geometry::Wkt;
 use crate::linestring::LineString;
 use crate::multilinestring::MultiLineString;
 use crate::multipoint::MultiPoint;
 use crate::multipolygon::MultiPolygon;
 use crate::point::Point;
 use crate::polygon::Polygon;
-use wkt_access::{Dimensions, GeometryCollectionTrait, GeometryTrait, GeometryType};
+use wkt_access::{Dimensions, GeometryTrait, GeometryType};
 use wkt_flat::{Line, Rect, Triangle};
 use wkt_num::WktNum;
 
-impl<T: WktNum> GeometryCollectionTrait for GeometryCollection<T> {
-    type T = T;
-
-    type GeometryType = Wkt<T>;
-
-    ghost dimension = { λ c. header_of (tree_dim (collection_tree c)) };
-
-    ghost geometries = { λ c. members_of (tree_shape (collection_tree c)) };
-
-    fn dim(&self) -> Dimensions {
-        Dimensions::from(self.dimension())
-    }
-
-    fn num_geometries(&self) -> usize {
-        self.geometries().len()
-    }
-
-    fn geometry(&self, i: usize) -> &Wkt<T> {
-        &self.geometries()[i]
-    }
-}
+/// The kind of a geometry, with the geometry.
+type WktType<'a, T> = GeometryType<
+    'a,
+    Point<T>,
+    LineString<T>,
+    Polygon<T>,
+    MultiPoint<T>,
+    MultiLineString<T>,
+    MultiPolygon<T>,
+    Rect<T>,
+    Triangle<T>,
+    Line<T>,
+>;
 
 impl<T: WktNum> GeometryTrait for Wkt<T> {
     type T = T;
@@ -65,20 +55,7 @@ impl<T: WktNum> GeometryTrait for Wkt<T> {
         Dimensions::from(self.dimension())
     }
 
-    fn as_type(
-        &self,
-    ) -> GeometryType<
-        '_,
-        Point<T>,
-        LineString<T>,
-        Polygon<T>,
-        MultiPoint<T>,
-        MultiLineString<T>,
-        MultiPolygon<T>,
-        Rect<T>,
-        Triangle<T>,
-        Line<T>,
-    > {
+    fn as_type(&self) -> WktType<'_, T> {
         match self {
             Wkt::Point(p) => GeometryType::Point(p),
             Wkt::LineString(l) => GeometryType::LineString(l),
@@ -125,24 +102,10 @@ impl<T: WktNum> GeometryTrait for Point<T> {
         Dimensions::from(self.dimension())
     }
 
-    fn as_type(
-        &self,
-    ) -> GeometryType<
-        '_,
-        Point<T>,
-        LineString<T>,
-        Polygon<T>,
-        MultiPoint<T>,
-        MultiLineString<T>,
-        MultiPolygon<T>,
-        Rect<T>,
-        Triangle<T>,
-        Line<T>,
-    > {
+    fn as_type(&self) -> WktType<'_, T> {
         GeometryType::Point(self)
     }
 
-    /// There are no members, so no index is one's.
     fn geometry(&self, _i: usize) -> &Self
         ensures { result.now ≡ self.now }
     {
@@ -177,24 +140,10 @@ impl<T: WktNum> GeometryTrait for LineString<T> {
         Dimensions::from(self.dimension())
     }
 
-    fn as_type(
-        &self,
-    ) -> GeometryType<
-        '_,
-        Point<T>,
-        LineString<T>,
-        Polygon<T>,
-        MultiPoint<T>,
-        MultiLineString<T>,
-        MultiPolygon<T>,
-        Rect<T>,
-        Triangle<T>,
-        Line<T>,
-    > {
+    fn as_type(&self) -> WktType<'_, T> {
         GeometryType::LineString(self)
     }
 
-    /// There are no members, so no index is one's.
     fn geometry(&self, _i: usize) -> &Self
         ensures { result.now ≡ self.now }
     {
@@ -229,24 +178,10 @@ impl<T: WktNum> GeometryTrait for Polygon<T> {
         Dimensions::from(self.dimension())
     }
 
-    fn as_type(
-        &self,
-    ) -> GeometryType<
-        '_,
-        Point<T>,
-        LineString<T>,
-        Polygon<T>,
-        MultiPoint<T>,
-        MultiLineString<T>,
-        MultiPolygon<T>,
-        Rect<T>,
-        Triangle<T>,
-        Line<T>,
-    > {
+    fn as_type(&self) -> WktType<'_, T> {
         GeometryType::Polygon(self)
     }
 
-    /// There are no members, so no index is one's.
     fn geometry(&self, _i: usize) -> &Self
         ensures { result.now ≡ self.now }
     {
@@ -281,24 +216,10 @@ impl<T: WktNum> GeometryTrait for MultiPoint<T> {
         Dimensions::from(self.dimension())
     }
 
-    fn as_type(
-        &self,
-    ) -> GeometryType<
-        '_,
-        Point<T>,
-        LineString<T>,
-        Polygon<T>,
-        MultiPoint<T>,
-        MultiLineString<T>,
-        MultiPolygon<T>,
-        Rect<T>,
-        Triangle<T>,
-        Line<T>,
-    > {
+    fn as_type(&self) -> WktType<'_, T> {
         GeometryType::MultiPoint(self)
     }
 
-    /// There are no members, so no index is one's.
     fn geometry(&self, _i: usize) -> &Self
         ensures { result.now ≡ self.now }
     {
@@ -333,24 +254,10 @@ impl<T: WktNum> GeometryTrait for MultiLineString<T> {
         Dimensions::from(self.dimension())
     }
 
-    fn as_type(
-        &self,
-    ) -> GeometryType<
-        '_,
-        Point<T>,
-        LineString<T>,
-        Polygon<T>,
-        MultiPoint<T>,
-        MultiLineString<T>,
-        MultiPolygon<T>,
-        Rect<T>,
-        Triangle<T>,
-        Line<T>,
-    > {
+    fn as_type(&self) -> WktType<'_, T> {
         GeometryType::MultiLineString(self)
     }
 
-    /// There are no members, so no index is one's.
     fn geometry(&self, _i: usize) -> &Self
         ensures { result.now ≡ self.now }
     {
@@ -385,24 +292,10 @@ impl<T: WktNum> GeometryTrait for MultiPolygon<T> {
         Dimensions::from(self.dimension())
     }
 
-    fn as_type(
-        &self,
-    ) -> GeometryType<
-        '_,
-        Point<T>,
-        LineString<T>,
-        Polygon<T>,
-        MultiPoint<T>,
-        MultiLineString<T>,
-        MultiPolygon<T>,
-        Rect<T>,
-        Triangle<T>,
-        Line<T>,
-    > {
+    fn as_type(&self) -> WktType<'_, T> {
         GeometryType::MultiPolygon(self)
     }
 
-    /// There are no members, so no index is one's.
     fn geometry(&self, _i: usize) -> &Self
         ensures { result.now ≡ self.now }
     {

@@ -10,6 +10,7 @@ mod coord;
 pub mod dimension;
 mod display;
 mod dropping;
+mod equal;
 mod geometry;
 mod geometry_access;
 mod geometry_type;

@@ -1,16 +1,14 @@
 //! Multipolygons.
-ghost use Rattle.std.specs.Prelude.{◌≡◌, [], IsTrue, ◌↔◌, IfOk, Some};
+ghost use Rattle.std.specs.Prelude.{◌≡◌, [], IfOk, Some};
 ghost use Rattle.std.specs.Iterator.{IsFinite};
 ghost use Rattle.std.specs.Iterator.Runs.{WholeRun};
 
 use crate::canonical::{UnderHeader, put_each_under};
-use crate::dimension::and_same;
 use crate::polygon::Polygon;
 use std::alloc::{AllocError, Global};
 use std::marker::Model;
 use wkt_access::Dimension;
 use wkt_flat::copies::{Part, copies};
-use wkt_num::WktNum;
 
 /// A multipolygon: polygons in order, and the dimension of the header.
 #[derive(Debug, Drop)]
@@ -117,26 +115,6 @@ impl<T: Copy + Drop> MultiPolygon<T> {
 impl<T: Copy + Drop> Part for MultiPolygon<T> {
     fn copy(&self, alloc: Global) -> Result<Self, AllocError> {
         self.try_clone(alloc)
-    }
-}
-
-impl<T: WktNum> PartialEq for MultiPolygon<T> {
-    ghost use Rattle.wkt_flat.specs.Exact.{exact_by, exact_per};
-    ghost use Rattle.wkt_types.specs.Exact.{held_eq, held_exact};
-    ghost use Rattle.wkt_types.specs.Equal.{polygon_eq, polygon_exact};
-
-    ghost eq = { held_eq (polygon_eq T.eq) };
-
-    ghost laws = { exact_per (held_exact (polygon_exact (exact_by T.same))) };
-
-    /// True exactly if polygons and dimension are equal.
-    #[inline(never)]
-    fn eq(&self, other: &Self) -> bool
-        ensures eq { result ≡ held_eq (polygon_eq T.eq) self.now other.now }
-        ensures exact { IsTrue result ↔ (self.now ≡ other.now) }
-    {
-        let parts = self.polygons.as_slice() == other.polygons.as_slice();
-        and_same(parts, self.dim, other.dim)
     }
 }
 

@@ -1,19 +1,17 @@
 //! Points.
-ghost use Rattle.std.specs.Prelude.{◌≡◌, IsTrue, ◌↔◌, MatchOption, Some, None};
+ghost use Rattle.std.specs.Prelude.{◌≡◌, MatchOption, Some, None};
 
 use crate::canonical::UnderHeader;
 use crate::coord::Coord;
-use crate::dimension::and_same;
 use std::alloc::{AllocError, Global};
 use std::marker::Model;
 use wkt_access::Dimension;
 use wkt_flat::copies::Part;
-use wkt_num::WktNum;
 
 /// A point: one coordinate or none, and the dimension of its header.
 #[derive(Clone, Copy, Debug, Drop)]
 pub struct Point<T> {
-    coord: Option<Coord<T>>,
+    pub(crate) coord: Option<Coord<T>>,
     dim: Dimension,
 }
 
@@ -91,25 +89,6 @@ impl<T: Default> Default for Point<T> {
     /// A point of two dimensions without a coordinate.
     fn default() -> Self {
         Point::empty(Dimension::XY)
-    }
-}
-
-impl<T: WktNum> PartialEq for Point<T> {
-    ghost use Rattle.wkt_flat.specs.Exact.{exact_by, exact_per};
-    ghost use Rattle.wkt_types.specs.Exact.{held_point_eq, held_point_exact};
-    ghost use Rattle.wkt_types.specs.Equal.{wkt_coord_eq, wkt_coord_exact};
-
-    ghost eq = { held_point_eq (wkt_coord_eq T.eq) };
-
-    ghost laws = { exact_per (held_point_exact (wkt_coord_exact (exact_by T.same))) };
-
-    /// True exactly if coordinate and dimension are equal.
-    #[inline(never)]
-    fn eq(&self, other: &Self) -> bool
-        ensures eq { result ≡ held_point_eq (wkt_coord_eq T.eq) self.now other.now }
-        ensures exact { IsTrue result ↔ (self.now ≡ other.now) }
-    {
-        and_same(self.coord == other.coord, self.dim, other.dim)
     }
 }
 

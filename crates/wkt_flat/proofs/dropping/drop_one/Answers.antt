@@ -1,5 +1,5 @@
 -- What waits and what is inside the geometry stay the same number together.
-use Rattle.std.proofs.Common.{◌≡◌, ◌<◌, ◌+◌, ap, ◌∙◌, length, arith}
+use Rattle.std.proofs.Common.{◌≡◌, ◌<◌, ap, ◌∙◌, length, arith}
 use Rattle.std.proofs.lemmas.Bool.Decides.{nat_tests}
 use Rattle.wkt_flat.specs.Weight.{total}
 use Rattle.wkt_flat.proofs.Weighing.{exchanged, first_within}

@@ -1,10 +1,10 @@
 -- Each part, and each member of a collection, is put under its header.
 use Rattle.std.proofs.Common.{◌≡◌, ◌<◌, ◌+◌, ◌*◌, rules, ap, sym, ◌∙◌, arith, length, map}
 use Rattle.std.proofs.lemmas.List.{length-map}
-use Rattle.wkt_types.specs.Canonical.{canonical, parts_under, point_under, line_under, polygon_under}
-use Rattle.wkt_types.specs.Tree.{tree, collection, line_string, polygon, multi_point, multi_line_string, multi_polygon, trees_of}
+use Rattle.wkt_types.specs.Canonical.{canonical, parts_under, line_under}
+use Rattle.wkt_types.specs.Tree.{tree, collection, multi_line_string, trees_of}
 use Rattle.wkt_types.specs.Weight.{weight, weights}
-use Rattle.wkt_types.proofs.TreeLemmas.{tree-collection, tree-line_string, tree-polygon, tree-multi_point, tree-multi_line_string, tree-multi_polygon}
+use Rattle.wkt_types.proofs.TreeLemmas.{tree-collection, tree-multi_line_string}
 use Rattle.wkt_types.proofs.Weighing.{opened}
 use Rattle.wkt_types.proofs.InPlace.{replaced_next, all_replaced, put_back, tree_at, waiting_within, members_canonical}
 use Rattle.wkt_types.proofs.canonical.+canonical.Goals as goal
@@ -57,42 +57,10 @@ canonical_members-returns g t c =
     let m : length all ≡ length c.args.members.items = length-map c.args.members.items tree in
     c.loop-i.invariant ∙ all_replaced canonical all c.loop-i.i (omega (arith, n, m, c.loop-i-test.false))
 
-pub canonical_geometry-returns-in-LineString : goal.canonical_geometry-returns-in-LineString
-canonical_geometry-returns-in-LineString g t c =
-    let x = c.in-LineString.line_string in
-    let was = ap tree c.in-LineString.is ∙ tree-line_string x in
-    tree-line_string c.put_under-in-LineString.new.self
-    ∙ (ap (λ x. line_string x) c.put_under-in-LineString.ensures
-    ∙ (ap (λ d. line_string (line_under d x)) c.dimension-in-LineString.ensures ∙ sym (ap canonical was)))
-
-pub canonical_geometry-returns-in-Polygon : goal.canonical_geometry-returns-in-Polygon
-canonical_geometry-returns-in-Polygon g t c =
-    let x = c.in-Polygon.polygon in
-    let was = ap tree c.in-Polygon.is ∙ tree-polygon x in
-    tree-polygon c.put_under-in-Polygon.new.self
-    ∙ (ap (λ x. polygon x) c.put_under-in-Polygon.ensures
-    ∙ (ap (λ d. polygon (polygon_under d x)) c.dimension-in-Polygon.ensures ∙ sym (ap canonical was)))
-
-pub canonical_geometry-returns-in-MultiPoint : goal.canonical_geometry-returns-in-MultiPoint
-canonical_geometry-returns-in-MultiPoint g t c =
-    let x = c.in-MultiPoint.points in
-    let was = ap tree c.in-MultiPoint.is ∙ tree-multi_point x in
-    tree-multi_point c.put_under-in-MultiPoint.new.self
-    ∙ (ap (λ x. multi_point x) c.put_under-in-MultiPoint.ensures
-    ∙ (ap (λ d. multi_point (parts_under point_under d x)) c.dimension-in-MultiPoint.ensures ∙ sym (ap canonical was)))
-
 pub canonical_geometry-returns-in-MultiLineString : goal.canonical_geometry-returns-in-MultiLineString
 canonical_geometry-returns-in-MultiLineString g t c =
-    let x = c.in-MultiLineString.line_strings in
+    let x = c.in-MultiLineString.m in
     let was = ap tree c.in-MultiLineString.is ∙ tree-multi_line_string x in
-    tree-multi_line_string c.put_under-in-MultiLineString.new.self
-    ∙ (ap (λ x. multi_line_string x) c.put_under-in-MultiLineString.ensures
+    tree-multi_line_string c.under-in-MultiLineString.result
+    ∙ (ap (λ x. multi_line_string x) c.under-in-MultiLineString.ensures
     ∙ (ap (λ d. multi_line_string (parts_under line_under d x)) c.dimension-in-MultiLineString.ensures ∙ sym (ap canonical was)))
-
-pub canonical_geometry-returns-in-MultiPolygon : goal.canonical_geometry-returns-in-MultiPolygon
-canonical_geometry-returns-in-MultiPolygon g t c =
-    let x = c.in-MultiPolygon.polygons in
-    let was = ap tree c.in-MultiPolygon.is ∙ tree-multi_polygon x in
-    tree-multi_polygon c.put_under-in-MultiPolygon.new.self
-    ∙ (ap (λ x. multi_polygon x) c.put_under-in-MultiPolygon.ensures
-    ∙ (ap (λ d. multi_polygon (parts_under polygon_under d x)) c.dimension-in-MultiPolygon.ensures ∙ sym (ap canonical was)))

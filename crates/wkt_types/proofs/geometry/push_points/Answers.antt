@@ -1,8 +1,0 @@
--- Points are pushed behind the copies.
-use Rattle.std.proofs.Common.{ap, ◌∙◌}
-use Rattle.wkt_types.specs.Tree.{multi_point}
-use Rattle.wkt_types.proofs.TreeLemmas.{tree-multi_point, pushed}
-use Rattle.wkt_types.proofs.geometry.push_points.Goals as goal
-
-pub returns : goal.returns
-returns g c = pushed _ _ _ _ c.in_ok-push.ensures.items (tree-multi_point c.in_ok-try_clone.field-0 ∙ ap (λ x. multi_point x) c.in_ok-try_clone.ensures)
