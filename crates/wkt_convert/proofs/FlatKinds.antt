@@ -1,7 +1,5 @@
 -- The tree of a flat geometry, kind by kind, and what is no geometry of a kind.
 use Rattle.std.proofs.Common.{◌≡◌, ap, sym, subst, ◌∙◌, List, Option, None}
-use Rattle.wkt_flat.specs.Corners.{Corners}
-use Rattle.wkt_flat.specs.Rings.{Rings}
 use Rattle.wkt_flat.specs.Tree.{Flat, Flats, flat_tree, geometry_step, flats_step}
 use Rattle.wkt_flat.specs.declared.geometry.Geometry.{Geometry, out-Geometry, roll-Geometry}
 use Rattle.wkt_flat.specs.declared.geometry.GeometryCollection.{GeometryCollection}
@@ -12,7 +10,6 @@ use Rattle.wkt_flat.specs.declared.geometry.Geometry.TheFolds as folds
 use Rattle.wkt_flat.specs.declared.coord.Coord as flat_coord
 use Rattle.wkt_flat.specs.declared.point.Point as flat_point
 use Rattle.wkt_flat.specs.declared.line.Line as flat_line
-use Rattle.wkt_flat.specs.declared.triangle.Triangle as flat_triangle
 use Rattle.wkt_convert.specs.Kinds.{point_in, line_in, line_string_in, rings_in, points_in, line_strings_in, polygons_in, corners_in, triangle_in}
 
 pub flat-point : {T : Type 0} (x : flat_point.Point T) → flat_tree (variants.Point x) ≡ Flat.point x
