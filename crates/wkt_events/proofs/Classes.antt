@@ -55,28 +55,26 @@ or-this : (t : Bool) (x y c : Class) → (if t then x else y) ≡ c → y ≢ c 
 or-this true x y c e h = refl
 or-this false x y c e h = absurd (h e)
 
+-- the byte of a mark is neither NUL nor white space
+dark-mark : (b : ℕ) (l : Lexeme) → class_of b ≡ Mark l → (if b == 40 then Mark Open else (if b == 41 then Mark Close else (if b == 44 then Mark Comma else Run))) ≡ Mark l
+unfolding class_of
+dark-mark b l e =
+    let some = not-this (b == 0) Nul _ (Mark l) e (λ q. cc) in
+    let dark = not-this (b == 32 || b == 10 || b == 13 || b == 9) White _ (Mark l) some.1 (λ q. cc) in
+    dark.1
+
 -- the byte that is a mark's
 only-open : (b : ℕ) → class_of b ≡ Mark Open → (b == 40) ≡ true
-unfolding class_of
-only-open b e =
-    let s = not-this (b == 0) Nul _ (Mark Open) e (λ q. cc) in
-    let t = not-this (b == 32 || b == 10 || b == 13 || b == 9) White _ (Mark Open) s.1 (λ q. cc) in
-    or-this (b == 40) (Mark Open) _ (Mark Open) t.1 (λ u. let v = not-this (b == 41) (Mark Close) _ (Mark Open) u (λ q. cc) in let w = not-this (b == 44) (Mark Comma) _ (Mark Open) v.1 (λ q. cc) in let r : Run ≡ Mark Open = w.1 in cc)
+only-open b e = or-this (b == 40) (Mark Open) _ (Mark Open) (dark-mark b Open e) (λ u. let v = not-this (b == 41) (Mark Close) _ (Mark Open) u (λ q. cc) in let w = not-this (b == 44) (Mark Comma) _ (Mark Open) v.1 (λ q. cc) in let r : Run ≡ Mark Open = w.1 in cc)
 
 only-close : (b : ℕ) → class_of b ≡ Mark Close → (b == 41) ≡ true
-unfolding class_of
 only-close b e =
-    let s = not-this (b == 0) Nul _ (Mark Close) e (λ q. cc) in
-    let t = not-this (b == 32 || b == 10 || b == 13 || b == 9) White _ (Mark Close) s.1 (λ q. cc) in
-    let u = not-this (b == 40) (Mark Open) _ (Mark Close) t.1 (λ q. cc) in
+    let u = not-this (b == 40) (Mark Open) _ (Mark Close) (dark-mark b Close e) (λ q. cc) in
     or-this (b == 41) (Mark Close) _ (Mark Close) u.1 (λ v. let w = not-this (b == 44) (Mark Comma) _ (Mark Close) v (λ q. cc) in let r : Run ≡ Mark Close = w.1 in cc)
 
 only-comma : (b : ℕ) → class_of b ≡ Mark Comma → (b == 44) ≡ true
-unfolding class_of
 only-comma b e =
-    let s = not-this (b == 0) Nul _ (Mark Comma) e (λ q. cc) in
-    let t = not-this (b == 32 || b == 10 || b == 13 || b == 9) White _ (Mark Comma) s.1 (λ q. cc) in
-    let u = not-this (b == 40) (Mark Open) _ (Mark Comma) t.1 (λ q. cc) in
+    let u = not-this (b == 40) (Mark Open) _ (Mark Comma) (dark-mark b Comma e) (λ q. cc) in
     let v = not-this (b == 41) (Mark Close) _ (Mark Comma) u.1 (λ q. cc) in
     or-this (b == 44) (Mark Comma) _ (Mark Comma) v.1 (λ w. let r : Run ≡ Mark Comma = w in cc)
 

@@ -231,7 +231,7 @@ module _ {N : Type 0} (read : List ℕ → Option N) where
     starts-inside k shut m h None g = refuses-inside feed text at k d end h g
 
     -- behind the parenthesis that a header opens
-    pub starts-opened : (k : GeometryType) (result : Option (At S)) → maker.makes start (Event.Header k d ∷ []) s → GivesHeader read feed text at k d true end
+    starts-opened : (k : GeometryType) (result : Option (At S)) → maker.makes start (Event.Header k d ∷ []) s → GivesHeader read feed text at k d true end
         → size d ≡ count → IsOpened maker before part.Geometry s u
         → ((d : Dimension) (s : S) → size d ≡ count → k ≢ kind.GeometryCollection → IsOpened maker before part.Geometry s u → GivesIfAny maker feed text (inside_at read k d) body end s result)
         → (k ≡ kind.GeometryCollection → result ≡ Some (record { at = end; made = u }))
@@ -245,9 +245,15 @@ module _ {N : Type 0} (read : List ℕ → Option N) where
     starts-opened kind.GeometryCollection result m h sized opened gives nothing =
         subst (StartsAt maker read feed text kind.GeometryCollection true at start) (sym (nothing refl)) (opens feed text at d maker start s u end h m opened.made)
 
-    -- by what the header says
-    pub starts-as : (k : GeometryType) (o : Bool) (result : Option (At S)) → o ≡ true → StartsAt maker read feed text k true at start result → StartsAt maker read feed text k o at start result
-    starts-as k o result is h = subst (λ b. StartsAt maker read feed text k b at start result) (sym is) h
+    -- the same by what the header says
+    pub starts-headed : (k : GeometryType) (o : Bool) (result : Option (At S)) → o ≡ true → maker.makes start (Event.Header k d ∷ []) s → GivesHeader read feed text at k d o end
+        → size d ≡ count → IsOpened maker before part.Geometry s u
+        → ((d : Dimension) (s : S) → size d ≡ count → k ≢ kind.GeometryCollection → IsOpened maker before part.Geometry s u → GivesIfAny maker feed text (inside_at read k d) body end s result)
+        → (k ≡ kind.GeometryCollection → result ≡ Some (record { at = end; made = u }))
+        → StartsAt maker read feed text k o at start result
+    starts-headed k o result is m h sized opened gives nothing =
+        subst (λ b. StartsAt maker read feed text k b at start result) (sym is)
+        (starts-opened k result m (subst (λ b. GivesHeader read feed text at k d b end) is h) sized opened gives nothing)
 
   never-opens : (k : GeometryType) → opens_kind k false ≡ false
   never-opens kind.Point = refl

@@ -1,6 +1,6 @@
 -- The headers `POINT(` and `GEOMETRYCOLLECTION(`, in their bytes.
 use Rattle.std.proofs.Common.{◌≡◌, ◌≢◌, ℕ, ◌+◌, ◌-◌, ◌<◌, ◌≤◌, List, length, get_or, take, drop, slice_range, Bool, true, Option, Some, None, refl, sym, ap, ◌∙◌, subst, arith, codes, ◌⊎◌, inl, inr}
-use Rattle.std.proofs.lemmas.List.{get_or-drop, get_or-take, length-drop}
+use Rattle.std.proofs.lemmas.List.{get_or-drop, get_or-take, length-drop, take_rest}
 use Rattle.wkt_num.specs.Bytes.{Open, Mark, White, Run, AllRun, class_of}
 use Rattle.wkt_access.specs.declared.dimensions.Dimension.TheVariants.{XY}
 use Rattle.wkt_types.specs.declared.geometry_type.GeometryType.{GeometryType}
@@ -89,10 +89,20 @@ module _ {N : Type 0} (read : List ℕ → Option N) (feed : Bool) (text : List 
     pub gives-open : GivesHeader read feed text at k XY true (at + to)
     gives-open = opened opens
 
+  -- the same by the bytes that are left, as a slice
+  abbrev rest : List ℕ
+  rest = slice_range text at (length text)
+
+  opens-named : (k : GeometryType) (name : List ℕ) (n : ℕ) → Names (Some (k, None)) (kind_word name) → AllRun name → 32 < get_or name 0 0 → 0 < n
+      → take n rest ≡ name → (to : ℕ) → OpensThere rest n to → n + 2 ≤ length rest → GivesHeader read feed text at k XY true (at + to)
+  opens-named k name n names letters first some is to opens room =
+      let same = take_rest text at in
+      gives-open k name n names letters first some (ap (take n) (sym same) ∙ is) to (subst (λ l. OpensThere l n to) same opens) (omega (arith, room, ap length same))
+
   -- `POINT(`, or with a space
-  pub point-opens : take 5 (drop at text) ≡ codes "POINT" → (to : ℕ) → OpensThere (drop at text) 5 to → 7 ≤ length (drop at text) → GivesHeader read feed text at kind.Point XY true (at + to)
-  point-opens is to opens room = gives-open kind.Point (codes "POINT") 5 point-names point-run (omega arith) (omega arith) is to opens (omega (arith, room))
+  pub point-opens : take 5 rest ≡ codes "POINT" → (to : ℕ) → OpensThere rest 5 to → 7 ≤ length rest → GivesHeader read feed text at kind.Point XY true (at + to)
+  point-opens = opens-named kind.Point (codes "POINT") 5 point-names point-run (omega arith) (omega arith)
 
   -- `GEOMETRYCOLLECTION(`, or with a space
-  pub collection-opens : take 18 (drop at text) ≡ codes "GEOMETRYCOLLECTION" → (to : ℕ) → OpensThere (drop at text) 18 to → 20 ≤ length (drop at text) → GivesHeader read feed text at kind.GeometryCollection XY true (at + to)
-  collection-opens is to opens room = gives-open kind.GeometryCollection (codes "GEOMETRYCOLLECTION") 18 collection-names collection-run (omega arith) (omega arith) is to opens (omega (arith, room))
+  pub collection-opens : take 18 rest ≡ codes "GEOMETRYCOLLECTION" → (to : ℕ) → OpensThere rest 18 to → 20 ≤ length rest → GivesHeader read feed text at kind.GeometryCollection XY true (at + to)
+  collection-opens = opens-named kind.GeometryCollection (codes "GEOMETRYCOLLECTION") 18 collection-names collection-run (omega arith) (omega arith)

@@ -22,7 +22,7 @@ module _ {N S : Type 0} (maker : Maker N S) (text : List ℕ) where
   room-spent at m room s t es le made h = made.leaves m (maker.less s (m + room) (2 * (length text - at) + 1 - 0) (omega (arith, le)) h)
 
 -- each kind has a name of some letters
-pub name-long : (k : GeometryType) → 5 ≤ name_length k
+name-long : (k : GeometryType) → 5 ≤ name_length k
 name-long kind.Point = lit≤ tt
 name-long kind.LineString = lit≤ tt
 name-long kind.Polygon = lit≤ tt
@@ -32,7 +32,24 @@ name-long kind.MultiPolygon = lit≤ tt
 name-long kind.GeometryCollection = lit≤ tt
 
 -- how much room a header leaves
-pub header-fits : {N : Type 0} (read : List ℕ → Option N) (feed : Bool) (text : List ℕ) (at : ℕ) (k : GeometryType) (d : Dimension) (o : Bool) (to : ℕ) → GivesHeader read feed text at k d o to
+header-fits : {N : Type 0} (read : List ℕ → Option N) (feed : Bool) (text : List ℕ) (at : ℕ) (k : GeometryType) (d : Dimension) (o : Bool) (to : ℕ) → GivesHeader read feed text at k d o to
     → ((o ≡ true → at + name_length k + 1 ≤ to) × (o ≡ false → at + name_length k + 6 ≤ to))
 header-fits read feed text at k d o to h =
     (λ e. subst (λ b. at + name_length k + (if b then 1 else 6) ≤ to) e h.room, λ e. subst (λ b. at + name_length k + (if b then 1 else 6) ≤ to) e h.room)
+
+-- Behind a header there is room for what stands there, and for the rest.
+module _ {N S : Type 0} (maker : Maker N S) (read : List ℕ → Option N) (feed : Bool) (text : List ℕ) (at : ℕ) (k : GeometryType) (d : Dimension) (o : Bool) (to : ℕ) (head : GivesHeader read feed text at k d o to)
+    (start s : S) (es : List (Event N)) (makes : Makes maker start es (name_length k + 3) s) (room : HasRoom maker text 0 at start) (m : ℕ) where
+  -- a parenthesis
+  pub opened-room : o ≡ true → m ≤ 2 * (length text - to) + 2 → maker.fits s m
+  opened-room is le =
+      let inside = head.goes.inside in
+      let fits = (header-fits read feed text at k d o to head).0 is in
+      room-spent maker text at m (name_length k + 3) start s es (omega (arith, fits, inside, name-long k, le)) makes room
+
+  -- EMPTY
+  pub emptied-room : o ≡ false → m ≤ 2 * (length text - to) + 7 → maker.fits s m
+  emptied-room is le =
+      let inside = head.goes.inside in
+      let fits = (header-fits read feed text at k d o to head).1 is in
+      room-spent maker text at m (name_length k + 3) start s es (omega (arith, fits, inside, name-long k, le)) makes room

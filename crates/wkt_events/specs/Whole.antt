@@ -18,13 +18,8 @@ use Rattle.wkt_events.specs.Walking.{Gives, Legible, Refuses}
 
 -- whether the parenthesis of a collection is opened
 abbrev pub opens_kind : GeometryType → Bool → Bool
-opens_kind kind.Point o = false
-opens_kind kind.LineString o = false
-opens_kind kind.Polygon o = false
-opens_kind kind.MultiPoint o = false
-opens_kind kind.MultiLineString o = false
-opens_kind kind.MultiPolygon o = false
 opens_kind kind.GeometryCollection o = o
+opens_kind _ o = false
 
 -- Lexemes stand between the places, the last of which ends at the second, or none does.
 abbrev pub Comes : Bool → List ℕ → ℕ → ℕ → Type 0

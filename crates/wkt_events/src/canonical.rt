@@ -45,7 +45,7 @@ pub fn canonical_into<T: WktNum>(
     if room < 65 || (room - 65) / 2 < text.len() {
         return Err(NoRoom);
     }
-    match write_canonical::<T>(text, buffer, 0) {
+    match write_alone::<T, false>(text.as_bytes(), buffer) {
         Ok(Some((end, len))) => Ok(Some(TextWritten { end, len })),
         Ok(None) => Ok(None),
         Err(NoRoom) => Err(NoRoom),

@@ -25,38 +25,32 @@ impl<T: WktNum> Builder<T> for Nothing {
     }
 
     #[inline(always)]
-    fn header(self, kind: GeometryType, dimension: Dimension) -> Self {
-        let _ = (kind, dimension);
+    fn header(self, _kind: GeometryType, _dimension: Dimension) -> Self {
         self
     }
 
     #[inline(always)]
-    fn open(self, part: Part) -> Self {
-        let _ = part;
+    fn open(self, _part: Part) -> Self {
         self
     }
 
     #[inline(always)]
-    fn comma(self, part: Part) -> Self {
-        let _ = part;
+    fn comma(self, _part: Part) -> Self {
         self
     }
 
     #[inline(always)]
-    fn close(self, part: Part) -> Self {
-        let _ = part;
+    fn close(self, _part: Part) -> Self {
         self
     }
 
     #[inline(always)]
-    fn empty(self, part: Part) -> Self {
-        let _ = part;
+    fn empty(self, _part: Part) -> Self {
         self
     }
 
     #[inline(always)]
-    fn hollow(self, before: usize, part: Part) -> Self {
-        let _ = (before, part);
+    fn hollow(self, _before: usize, _part: Part) -> Self {
         self
     }
 

@@ -48,6 +48,7 @@ pub(crate) trait Item<T: WktNum, B: Builder<T> + Drop> {
 
 /// Items up to the parenthesis that closes them.
 #[inline(never)]
+#[tactic(auto, unfolding(wkt_num::specs::Bytes::class_of))]
 pub(crate) fn items<T: WktNum, B: Builder<T> + Drop, X: Item<T, B>, const FEED_ENDS: bool>(
     text: &[u8],
     a: At<B>,

@@ -1,4 +1,6 @@
 //! What stands between the parentheses of a geometry.
+#![tactic(auto, unfolding(wkt_num::specs::Bytes::class_of))]
+
 ghost use Rattle.std.specs.Prelude.{◌≡◌, ◌≢◌, ℕ, ◌≤◌, [], ◌∷◌, length, Option, Some, List, IfSome};
 ghost use Rattle.wkt_access.specs.declared.dimensions.Dimension.{Dimension as Dim};
 ghost use Rattle.wkt_access.specs.Values.{size};

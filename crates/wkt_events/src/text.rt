@@ -313,20 +313,17 @@ impl<T: WktNum> Builder<T> for Pen<'_, T> {
     }
 
     #[inline(always)]
-    fn open(self, part: Part) -> Self {
-        let _ = part;
+    fn open(self, _part: Part) -> Self {
         self.put(b'(')
     }
 
     #[inline(always)]
-    fn comma(self, part: Part) -> Self {
-        let _ = part;
+    fn comma(self, _part: Part) -> Self {
         self.put(b',')
     }
 
     #[inline(always)]
-    fn close(self, part: Part) -> Self {
-        let _ = part;
+    fn close(self, _part: Part) -> Self {
         self.put(b')')
     }
 

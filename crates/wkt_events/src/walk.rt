@@ -2,11 +2,12 @@
 //! The two commonest headers are recognized here, by comparisons.
 ghost use Rattle.std.specs.Bool.{OnTrue};
 ghost use Rattle.std.specs.Int.{w32, w64, to_le_bytes};
-ghost use Rattle.std.specs.Prelude.{◌≡◌, ◌<◌, ◌≤◌, take, length, codes, IfSome, true};
+ghost use Rattle.std.specs.Prelude.{◌≡◌, ◌+◌, ◌<◌, ◌≤◌, take, length, codes, IfSome, true};
 ghost use Rattle.wkt_access.specs.Values.{Value};
 ghost use Rattle.wkt_access.specs.declared.dimensions.Dimension.TheVariants as dim_of;
 ghost use Rattle.wkt_types.specs.declared.geometry_type.GeometryType.TheVariants as kind_of;
 ghost use Rattle.wkt_read.specs.Parser.Outcome.{Outcome, geometry_at as value_at};
+ghost use Rattle.wkt_events.specs.Behind.{OpensThere};
 ghost use Rattle.wkt_events.specs.Events.{events};
 ghost use Rattle.wkt_events.specs.Heads.{GivesHeader};
 ghost use Rattle.wkt_events.specs.Makers.{HasRoom};
@@ -260,13 +261,10 @@ fn point_head<T: WktNum, const FEED_ENDS: bool>(text: &[u8], at: usize) -> Optio
     if rest.len() < 8 || !is_point(rest) {
         return None;
     }
-    if rest[5] == b'(' {
-        return Some(at + 6);
+    match opens_behind(rest, 5) {
+        Some(end) => Some(at + end),
+        None => None,
     }
-    if rest[5] == b' ' && rest[6] == b'(' {
-        return Some(at + 7);
-    }
-    None
 }
 
 /// Behind `GEOMETRYCOLLECTION(` or `GEOMETRYCOLLECTION (`, with a byte behind it. `None` doesn't imply that none stands
@@ -280,11 +278,24 @@ fn collection_head<T: WktNum, const FEED_ENDS: bool>(text: &[u8], at: usize) -> 
     if rest.len() < 21 || !is_collection(rest) {
         return None;
     }
-    if rest[18] == b'(' {
-        return Some(at + 19);
+    match opens_behind(rest, 18) {
+        Some(end) => Some(at + end),
+        None => None,
     }
-    if rest[18] == b' ' && rest[19] == b'(' {
-        return Some(at + 20);
+}
+
+/// Behind a parenthesis, or a space and a parenthesis, that stands behind the first `n` bytes.
+#[inline(always)]
+fn opens_behind(bytes: &[u8], n: usize) -> Option<usize>
+    requires { n + 2 ≤ length bytes.now }
+    ensures some { IfSome result (λ end. OpensThere bytes.now n end) }
+    ensures within { IfSome result (λ end. end ≤ length bytes.now) }
+{
+    if bytes[n] == b'(' {
+        return Some(n + 1);
+    }
+    if bytes[n] == b' ' && bytes[n + 1] == b'(' {
+        return Some(n + 2);
     }
     None
 }

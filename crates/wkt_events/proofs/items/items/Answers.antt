@@ -18,9 +18,6 @@ returns-in_err-a-clause-gives g c =
     (items-fail g.B.Builder.maker g.T.WktNum.read _ c.args.text.now g.X.Item.item_at g.X.Item.events g.X.Item.between _ _ _ _ c.items.invariant
     (refuses-feed c.args.text.now g.X.Item.item_at _ _ _ c.requires.feed c.in_err-a.ensures.gives))
 
-pub take-requires-clause-mark : goal.take-requires-clause-mark
-take-requires-clause-mark g c = (lex.Comma, comma-class)
-
 pub comma-requires : goal.comma-requires
 comma-requires g c = record { room = mark-fits g.B.Builder.maker _ c.args.text.now lex.Comma _ _ _ (c.in-Some.ensures lex.Comma comma-class) c.in_ok-a.ensures.room }
 

@@ -5,9 +5,6 @@ use Rattle.wkt_events.proofs.Giving.{open-class, match-some, match-none}
 use Rattle.wkt_events.proofs.Hollow.{rings-full, has-hollow, rings-hollow}
 use Rattle.wkt_events.proofs.shapes.rings.Goals as goal
 
-pub take-requires-clause-mark : goal.take-requires-clause-mark
-take-requires-clause-mark g c = (lex.Open, open-class)
-
 pub returns-then-some-clause-gives : goal.returns-then-some-clause-gives
 returns-then-some-clause-gives g c = λ start begun.
     let (next, took) = match-some c.take.result _ _ (c.take.ensures lex.Open open-class) (sym c.is_some-some.ensures ∙ c.if-some.true) in

@@ -9,9 +9,6 @@ use Rattle.wkt_events.proofs.Closing.{mark-room, room-less, rooms-less}
 use Rattle.wkt_events.proofs.Framed.{framed-gives, framed-none, opened-items}
 use Rattle.wkt_events.proofs.shapes.LineItem.walk.Goals as goal
 
-pub take-requires-clause-mark : goal.take-requires-clause-mark
-take-requires-clause-mark g c = (lex.Open, open-class)
-
 pub items-requires-clause-inside : goal.items-requires-clause-inside
 items-requires-clause-inside g c = let took = c.in-Some.ensures lex.Open open-class in took.inside
 

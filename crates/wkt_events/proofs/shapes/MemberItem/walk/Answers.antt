@@ -14,9 +14,6 @@ returns-then-begins_empty-clause-gives g c =
     member-empty g.T.WktNum.read g.row.N g.B.Builder.maker _ c.args.text.now _ _ _ c.requires.can
     (begins-before _ c.args.text.now _ _ c.skip_white-at.ensures.same (c.begins_empty.ensures.some _ c.if-begins_empty.true)) c.empty.ensures.gives
 
-pub take-requires-clause-mark : goal.take-requires-clause-mark
-take-requires-clause-mark g c = (lex.Open, open-class)
-
 pub coordinate-requires-clause-inside : goal.coordinate-requires-clause-inside
 coordinate-requires-clause-inside g c = let took = c.in-Some.ensures lex.Open open-class in took.inside
 

@@ -9,9 +9,6 @@ use Rattle.wkt_events.proofs.Closing.{mark-room, room-less, rooms-less}
 use Rattle.wkt_events.proofs.Framed.{framed-gives, framed-none}
 use Rattle.wkt_events.proofs.shapes.PolygonItem.walk.Goals as goal
 
-pub take-requires-clause-mark : goal.take-requires-clause-mark
-take-requires-clause-mark g c = (lex.Open, open-class)
-
 pub rings-requires-clause-inside : goal.rings-requires-clause-inside
 rings-requires-clause-inside g c = let took = c.in-Some.ensures lex.Open open-class in took.inside
 
