@@ -11,6 +11,8 @@ pub(crate) struct ArraysRoom {
     numbers: Vec<i64>,
     rings: Vec<usize>,
     polygons: Vec<usize>,
+    /// The longest text for whose arrays there is room.
+    longest: usize,
 }
 
 /// How many places a list grows by at least.
@@ -43,17 +45,32 @@ impl ArraysRoom {
             numbers: Vec::new(alloc),
             rings: Vec::new(alloc),
             polygons: Vec::new(alloc),
+            longest: 0,
         }
     }
 
     /// Makes room for the arrays of so many bytes. A number takes two of them at least, with what follows it; a ring takes
     /// four, and a polygon six.
+    #[inline(always)]
     pub(crate) fn make(&mut self, bytes: usize) -> Result<(), u32>
+        ensures { MatchResult result (λ _. ⊤) (λ s. s ≡ MEMORY) }
+    {
+        if bytes <= self.longest {
+            return Ok(());
+        }
+        self.grow(bytes)
+    }
+
+    #[cold]
+    #[inline(never)]
+    fn grow(&mut self, bytes: usize) -> Result<(), u32>
         ensures { MatchResult result (λ _. ⊤) (λ s. s ≡ MEMORY) }
     {
         lengthen(&mut self.numbers, bytes / 2 + 2, &[0; MORE])?;
         lengthen(&mut self.rings, bytes / 4 + 2, &[0; MORE])?;
-        lengthen(&mut self.polygons, bytes / 6 + 2, &[0; MORE])
+        lengthen(&mut self.polygons, bytes / 6 + 2, &[0; MORE])?;
+        self.longest = bytes;
+        Ok(())
     }
 
     /// The places, lent to a text.

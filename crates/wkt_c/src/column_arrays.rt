@@ -24,22 +24,34 @@ pub(crate) struct ArrayRows {
     pub(crate) statuses: Vec<u32>,
 }
 
+/// A list with room for so many.
+fn list_for(alloc: Global, count: usize) -> Result<Vec<u32>, u32>
+    ensures { MatchResult result (λ list. list.items ≡ []) (λ s. s ≡ MEMORY) }
+{
+    match Vec::with_capacity(alloc, count) {
+        Ok(list) => Ok(list),
+        Err(_) => Err(MEMORY),
+    }
+}
+
 impl ArrayRows {
-    /// The arrays of no row.
-    fn new(alloc: Global, likely: usize) -> Result<ArrayRows, u32>
+    /// The arrays of no row, with room for those of so many rows of a point.
+    fn new(alloc: Global, rows: usize) -> Result<ArrayRows, u32>
         ensures { MatchResult result HoldsNoArrays (λ s. s ≡ MEMORY) }
     {
+        let twice = rows.saturating_mul(2);
         Ok(ArrayRows {
-            numbers: Joined::new(alloc, likely)?,
-            rings: Joined::new(alloc, likely)?,
-            polygons: Joined::new(alloc, likely)?,
-            kinds: Vec::new(alloc),
-            dimensions: Vec::new(alloc),
-            statuses: Vec::new(alloc),
+            numbers: Joined::new(alloc, rows, twice)?,
+            rings: Joined::new(alloc, rows, twice)?,
+            polygons: Joined::new(alloc, rows, twice)?,
+            kinds: list_for(alloc, rows)?,
+            dimensions: list_for(alloc, rows)?,
+            statuses: list_for(alloc, rows)?,
         })
     }
 
     /// Adds a row of those arrays, with its status.
+    #[inline(always)]
     fn add(&mut self, row: GivenArrays<'_>, status: u32) -> Result<(), u32>
         ensures { MatchResult result
             (λ _. AddsArrays (row_of row.entry.kind row.entry.dimension row.entry.numbers.now row.entry.rings.now row.entry.polygons.now) status self.old self.new)
@@ -54,6 +66,8 @@ impl ArrayRows {
     }
 
     /// Adds a row without arrays, which has this status.
+    #[cold]
+    #[inline(never)]
     fn add_none(&mut self, status: u32) -> Result<(), u32>
         ensures { MatchResult result (λ _. AddsArrays (row_of 0 0 [] [] []) status self.old self.new) (λ s. s ≡ MEMORY) }
     {

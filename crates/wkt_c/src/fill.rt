@@ -28,7 +28,7 @@ pub(crate) fn copy_whole<T: Copy>(list: &[T], out: &mut [T])
     requires { length list.now ≡ length out.old }
     ensures { out.new ≡ list.now }
 {
-    out.copy_from_slice(list);
+    copy_to_front(list, out);
 }
 
 /// Hands out an answer, if there is room for it.

@@ -44,14 +44,16 @@ fn append<T: Copy>(items: &mut Vec<T>, list: &[T]) -> Result<(), u32>
 }
 
 impl<T: Copy> Joined<T> {
-    /// No list: the first offset is 0.
-    pub(crate) fn new(alloc: Global, likely: usize) -> Result<Joined<T>, u32>
+    /// No list: the first offset is 0. There is room for so many lists, and for so many items of theirs.
+    pub(crate) fn new(alloc: Global, lists: usize, items: usize) -> Result<Joined<T>, u32>
         ensures { MatchResult result HoldsNoList (λ s. s ≡ MEMORY) }
     {
-        let Ok(items) = Vec::with_capacity(alloc, likely) else {
+        let Ok(items) = Vec::with_capacity(alloc, items) else {
             return Err(MEMORY);
         };
-        let mut ends = Vec::new(alloc);
+        let Ok(mut ends) = Vec::with_capacity(alloc, lists.saturating_add(1)) else {
+            return Err(MEMORY);
+        };
         if ends.push(0).is_err() {
             return Err(MEMORY);
         }
@@ -59,6 +61,7 @@ impl<T: Copy> Joined<T> {
     }
 
     /// Adds a list.
+    #[inline(always)]
     pub(crate) fn add(&mut self, list: &[T]) -> Result<(), u32>
         ensures { MatchResult result (λ _. AddsList list.now self.old self.new) (λ s. s ≡ MEMORY) }
     {

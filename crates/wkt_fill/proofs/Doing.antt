@@ -1,5 +1,5 @@
 -- What the events of the parts of a value do to the arrays.
-use Rattle.std.proofs.Common.{◌≡◌, ℕ, suc, ℤ, List, [], ◌∷◌, ◌++◌, take, refl, sym, ap, subst, ◌∙◌, Option}
+use Rattle.std.proofs.Common.{◌≡◌, ℕ, suc, ℤ, List, [], ◌∷◌, ◌++◌, take, refl, ap, subst, ◌∙◌}
 use Rattle.std.specs.Prelude.{option_to_list}
 use Rattle.wkt_types.specs.declared.geometry_type.GeometryType.{GeometryType}
 use Rattle.wkt_events.specs.declared.builder.Part.{Part}
@@ -7,7 +7,7 @@ use Rattle.wkt_events.specs.declared.builder.Part.TheVariants as part
 use Rattle.wkt_events.specs.Events.{Event, further, inner, listed, numbers, coordinate, line, member, polygon}
 use Rattle.wkt_events.specs.Makers.{Hollows}
 use Rattle.wkt_fill.specs.Filling.{Flat, Headed, each, ended, put, put_all, put_coordinate, put_line, put_member, put_polygon, on, step, steps}
-use Rattle.wkt_fill.specs.Filled.{Becomes, Fills, filler_maker, view}
+use Rattle.wkt_fill.specs.Filled.{Becomes, filler_maker, view}
 use Rattle.wkt_fill.specs.Growing.{steps-append}
 use Rattle.wkt_fill.specs.declared.filler.Filler.{Filler}
 

@@ -1,5 +1,5 @@
 -- Arrays that hold polygons, rings of the next one, and coordinates of the next ring.
-use Rattle.std.proofs.Common.{◌≡◌, ◌+◌, ◌++◌, ◌≤◌, ℕ, zero, suc, ℤ, List, [], ◌∷◌, length, take, refl, sym, ap, ◌∙◌, subst, append_assoc, arith, Option, Some, None, Bool, true, false, if◌then◌else◌}
+use Rattle.std.proofs.Common.{◌≡◌, ◌+◌, ◌++◌, ◌≤◌, ℕ, suc, ℤ, List, [], ◌∷◌, length, refl, sym, ap, ◌∙◌, subst, append_assoc, arith, Option, Some, None, false, if◌then◌else◌}
 use Rattle.std.specs.Prelude.{option_to_list, map}
 use Rattle.std.specs.List.{sum_by, AllByRecursion}
 use Rattle.std.proofs.lemmas.List.{append-nil, take_all, length-append}

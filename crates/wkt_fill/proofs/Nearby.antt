@@ -1,5 +1,5 @@
 -- A number that is read from its first bytes is the lexeme that comes next.
-use Rattle.std.proofs.Common.{◌≡◌, ℕ, ℤ, ◌+◌, ◌-◌, ◌≤◌, List, [], length, take, drop, slice_range, Bool, refl, sym, ap, subst, ◌∙◌, to_z, of_z, w64}
+use Rattle.std.proofs.Common.{ℕ, ℤ, ◌+◌, ◌-◌, ◌≤◌, List, [], length, take, drop, slice_range, Bool, refl, sym, subst, ◌∙◌, to_z, of_z, w64}
 use Rattle.std.proofs.lemmas.List.{take_rest}
 use Rattle.wkt_num.specs.Decimal.{read_decimal}
 use Rattle.wkt_read.specs.Lexemes.{without_plus}

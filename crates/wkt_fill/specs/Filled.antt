@@ -1,7 +1,6 @@
 -- What a filler has filled.
-use Rattle.std.specs.Prelude.{◌≡◌, ◌≢◌, ℕ, ℤ, ◌+◌, ◌⊎◌, List, [], ◌∷◌, ◌++◌, take, true, false}
+use Rattle.std.specs.Prelude.{◌≡◌, ◌≢◌, ℕ, ℤ, ◌+◌, ◌⊎◌, List, [], ◌++◌, take, true, false}
 use Rattle.std.proofs.Common.{inl, inr, refl, sym, ◌∙◌, ap, subst, arith, zero, suc}
-use Rattle.std.specs.List.{Contains}
 use Rattle.wkt_events.specs.Events.{Event}
 use Rattle.wkt_events.specs.Makers.{Maker}
 use Rattle.wkt_fill.specs.Arrays.{HasLarge}

@@ -1,5 +1,5 @@
 -- Flat arrays, as the events of a geometry fill them.
-use Rattle.std.specs.Prelude.{◌≡◌, ◌≢◌, ℕ, zero, suc, ℤ, ◌+◌, ◌⊎◌, List, [], ◌∷◌, ◌++◌, take, option_to_list, Option, Bool, true, false, if◌then◌else◌}
+use Rattle.std.specs.Prelude.{ℕ, zero, suc, ℤ, ◌+◌, List, [], ◌∷◌, ◌++◌, take, option_to_list, Option, Bool, true, false, if◌then◌else◌}
 use Rattle.wkt_access.specs.declared.dimensions.Dimension.{Dimension}
 use Rattle.wkt_access.specs.declared.dimensions.Dimension.TheVariants as dim
 use Rattle.wkt_types.specs.declared.geometry_type.GeometryType.{GeometryType}

@@ -1,6 +1,6 @@
 -- What is filled stays, and events after others.
-use Rattle.std.specs.Prelude.{◌≡◌, ℕ, suc, zero, ℤ, List, [], ◌∷◌, ◌++◌, take, option_to_list, Option, Bool, true, false, if◌then◌else◌}
-use Rattle.std.proofs.Common.{refl, sym, ap, subst, ◌∙◌}
+use Rattle.std.specs.Prelude.{◌≡◌, ℕ, suc, ℤ, List, [], ◌∷◌, ◌++◌, take, Bool, true, false, if◌then◌else◌}
+use Rattle.std.proofs.Common.{refl, sym, subst}
 use Rattle.std.specs.List.{Contains}
 use Rattle.std.proofs.lemmas.List.Elements.{Contains-append_left}
 use Rattle.wkt_types.specs.declared.geometry_type.GeometryType.{GeometryType}
@@ -9,7 +9,7 @@ use Rattle.wkt_events.specs.declared.builder.Part.{Part}
 use Rattle.wkt_events.specs.declared.builder.Part.TheVariants as part
 use Rattle.wkt_events.specs.Events.{Event}
 use Rattle.wkt_fill.specs.Arrays.{HasLarge}
-use Rattle.wkt_fill.specs.Filling.{Flat, Headed, end_ring, end_polygon, push, end_whole, end_part, is_collection, put, ended, each, put_all, put_coordinate, put_line, put_polygon, headed, step, steps}
+use Rattle.wkt_fill.specs.Filling.{Flat, Headed, push, end_whole, end_part, is_collection, put, ended, each, put_all, put_coordinate, put_line, put_polygon, step, steps}
 
 pub steps-append : (es fs : List (Event ℤ)) (w : Headed) → steps (es ++ fs) w ≡ steps fs (steps es w)
 steps-append [] fs w = refl
