@@ -1,5 +1,5 @@
 -- What stands between the parentheses of a geometry, by its kind and dimension.
-use Rattle.std.proofs.Common.{◌≡◌, ℕ, suc, List, [], ◌∷◌, ◌++◌, sym, refl, ap, ◌∙◌, subst, Option, Some, None, Ok, Bool, true, false, cond}
+use Rattle.std.proofs.Common.{◌≡◌, ℕ, suc, List, [], ◌∷◌, ◌++◌, sym, refl, ap, subst, Option, Some, None, Ok, Bool, true, false, cond}
 use Rattle.std.specs.Prelude.{option_to_list}
 use Rattle.wkt_num.specs.Bytes as lex
 use Rattle.wkt_num.specs.Bytes.{Lexeme}

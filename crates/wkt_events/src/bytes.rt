@@ -123,6 +123,15 @@ pub(crate) fn run_end(text: &[u8], from: usize) -> usize
     run_end_far(text, from)
 }
 
+/// Whether no part of a run stands here.
+#[inline(always)]
+pub(crate) fn no_run(text: &[u8], at: usize) -> bool
+    requires { at ≤ length text.now }
+    ensures { result ≡ true → IsRunEnd text.now at at }
+{
+    at == text.len() || !is_of_run(text[at])
+}
+
 /// The bytes of the window that are no more than a comma, as bits: what ends a run is among them.
 #[inline(always)]
 fn low_bytes(text: &[u8], from: usize) -> u64

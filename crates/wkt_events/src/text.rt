@@ -7,7 +7,7 @@ ghost use Rattle.wkt_events.specs.Plus.{plus_len};
 ghost use Rattle.wkt_events.specs.Numbers.{Numbered, NoNumber};
 
 use crate::builder::{At, Builder, Part};
-use crate::bytes::run_end;
+use crate::bytes::no_run;
 use crate::reading::number_there;
 use std::fmt;
 use std::marker::PhantomData;
@@ -268,7 +268,7 @@ impl<'a, T: WktNum> Pen<'a, T> {
         ensures some { IfSome result (λ r. Numbered T.read T.num text.now at self.entry r.made r.at) }
         ensures none { IfNone result (NoNumber T.read text.now at) }
     {
-        if run_end(text, at) == at {
+        if no_run(text, at) {
             return None;
         }
         self.kept_number(text, at)
