@@ -15,7 +15,7 @@ use crate::status::{DONE, NOT_TEXT, NOT_WHOLE, SMALL};
 use std::alloc::Global;
 use std::simd::prelude::*;
 use wkt_events::laws::texts_are_short;
-use wkt_events::{NoRoom, write_canonical};
+use wkt_events::write_canonical;
 use wkt_num::Decimal;
 use wkt_read::laws::{front_is_writable, one_text};
 
@@ -32,15 +32,9 @@ fn write<const D: u32>(text: &str, room: &mut [u8]) -> Option<(usize, usize)>
     ensures writes { WritesIfAny (read_at D) (print_at D) text.now room.old room.new result }
     ensures whole { length room.new ≡ length room.old }
 {
-    match write_canonical::<Decimal<D>>(text, room, 0) {
-        Ok(Some((end, n))) => Some((end, n)),
-        Ok(None) => None,
-        Err(NoRoom) => {
-            // No effect at run time. The proof reads that decimals have no such texts.
-            texts_are_short();
-            unreachable!()
-        }
-    }
+    // No effect at run time. The proof reads that decimals have no texts for which there is no room.
+    texts_are_short();
+    write_canonical::<Decimal<D>>(text, room, 0).unwrap_or(None)
 }
 
 /// The same, with decimals of so many places.
@@ -69,8 +63,7 @@ fn write_at(text: &str, places: u32, room: &mut [u8]) -> Option<(usize, usize)>
         15 => write::<15>(text, room),
         16 => write::<16>(text, room),
         17 => write::<17>(text, room),
-        18 => write::<18>(text, room),
-        _ => unreachable!(),
+        _ => write::<18>(text, room),
     }
 }
 

@@ -1,5 +1,5 @@
 -- Parentheses that have to close, one after the other.
-use Rattle.std.proofs.Common.{◌≡◌, ◌+◌, ◌-◌, ◌<◌, ℕ, zero, suc, List, [], ◌∷◌, refl, sym, ap, ◌∙◌, arith, Option, Some, None, true, false, if◌then◌else◌}
+use Rattle.std.proofs.Common.{◌≡◌, ◌+◌, ◌<◌, ℕ, zero, suc, List, [], ◌∷◌, refl, sym, ap, ◌∙◌, arith, Option, Some, None, true, false, if◌then◌else◌}
 use Rattle.wkt_read.specs.Placed.{lexemes_of}
 use Rattle.wkt_read.specs.Stream.{coming}
 use Rattle.wkt_read.specs.declared.tokenizer.tokens.Tokens.{Tokens}
@@ -12,14 +12,11 @@ use Rattle.wkt_read.specs.declared.messages.Message.TheVariants as message
 use Rattle.wkt_explain.specs.declared.expected.Expected.{Expected}
 use Rattle.wkt_explain.specs.Table.{at_place, stays, closing, closings, told}
 
-module _ {N : Type 0} (read : List ℕ → Option N) where
-  -- some, and then others
-  pub closings_add : (a b : ℕ) (m : Message) (ls : List Lexeme) → closings read (a + b) m ls ≡ closings read b (closings read a m ls).0 (closings read a m ls).1
-  closings_add zero b m ls = let e : 0 + b ≡ b = omega arith in ap (λ n. closings read n m ls) e
-  closings_add (suc a) b m ls =
-      let e : suc a + b ≡ suc (a + b) = omega arith in
-      ap (λ n. closings read n m ls) e ∙ closings_add a b (closing read m ls).0 (closing read m ls).1
+-- the message of equal answers
+pub message_of : {y z : Message × List Lexeme} → y ≡ z → y.0 ≡ z.0
+message_of e = ap (λ (y : Message × List Lexeme). y.0) e
 
+module _ {N : Type 0} (read : List ℕ → Option N) where
   -- nothing is left
   ends : (n : ℕ) (m : Message) → closings read (suc n) m [] ≡ (message.Close, [])
   ends zero m = refl
@@ -33,7 +30,10 @@ module _ {N : Type 0} (read : List ℕ → Option N) where
   pub closings_one : (n : ℕ) (m k : Message) (x : Lexeme) (r : List Lexeme) → 0 < n → closing read m (x ∷ r) ≡ (k, r) → (j : ℕ) → j + 1 ≡ n → closings read n m (x ∷ r) ≡ closings read j k r
   closings_one n m k x r lt e j is = let more : n ≡ suc j = omega (arith, is) in ap (λ i. closings read i m (x ∷ r)) more ∙ ap (λ (y : Message × List Lexeme). closings read j y.0 y.1) e
 
-  module _ (whole : Message × List Lexeme) (left : ℕ) (m : Message) (s t : Tokens N) (same : whole ≡ closings read left m (lexemes_of (coming s))) (some : 0 < left) where
+  module _ (whole : Message × List Lexeme) (left : ℕ) (m : Message) (s t : Tokens N) (same : whole ≡ closings read left m (lexemes_of (coming s))) (less : ℕ) (one : less + 1 ≡ left) where
+    some : 0 < left
+    some = omega (arith, one)
+
     -- where no lexeme is left
     pub stops : Sees read s None t → whole ≡ (message.Close, lexemes_of (coming t))
     stops sees =
@@ -41,15 +41,10 @@ module _ {N : Type 0} (read : List ℕ → Option N) where
 
     -- where a parenthesis had to close
     pub goes_on : (seen : Seen) → Sees read s (Some seen) t → (k : Message)
-        → ((l : Lexeme) (r : List Lexeme) → Shows read seen l → closing read m (l ∷ r) ≡ (k, r)) → whole ≡ closings read (left - 1) k (lexemes_of (coming t))
+        → ((l : Lexeme) (r : List Lexeme) → Shows read seen l → closing read m (l ∷ r) ≡ (k, r)) → whole ≡ closings read less k (lexemes_of (coming t))
     goes_on seen sees k closes =
         let (x, e, ends, shows) = sees_some read s t seen sees in
-        let one = closes x.lexeme (lexemes_of (coming t)) shows in
-        same ∙ ap (λ ls. closings read left m (lexemes_of ls)) e ∙ closings_one left m k x.lexeme (lexemes_of (coming t)) some one (left - 1) (omega (arith, some))
-
-  pub closings_both : (a b : ℕ) (m k j : Message) (ls r q : List Lexeme) → closings read a m ls ≡ (k, r) → closings read b k r ≡ (j, q) → j ≡ (closings read (a + b) m ls).0
-  closings_both a b m k j ls r q e f =
-      ap (λ (y : Message × List Lexeme). y.0) (sym (closings_add a b m ls ∙ ap (λ (y : Message × List Lexeme). closings read b y.0 y.1) e ∙ f))
+        same ∙ ap (λ ls. closings read left m (lexemes_of ls)) e ∙ closings_one left m k x.lexeme (lexemes_of (coming t)) some (closes x.lexeme (lexemes_of (coming t)) shows) less one
 
   -- the table, by whether the lexeme is taken
   module _ (e : Expected) (n : ℕ) (l : Lexeme) (r : List Lexeme) (m : Message) (place : m ≡ at_place read e (l ∷ r)) where
@@ -63,14 +58,14 @@ module _ {N : Type 0} (read : List ℕ → Option N) where
   pub closed_first : (n j : ℕ) (l : Lexeme) (r : List Lexeme) (m after k : Message) → closing read m (l ∷ r) ≡ (after, r) → j + 1 ≡ n → k ≡ (closings read j after r).0 → k ≡ (closings read n m (l ∷ r)).0
   closed_first n j l r m after k closes count is =
       let some : 0 < n = omega (arith, count) in
-      is ∙ ap (λ (y : Message × List Lexeme). y.0) (sym (closings_one n m after l r some closes j count))
+      is ∙ message_of (sym (closings_one n m after l r some closes j count))
 
   pub none_closes : (n : ℕ) (ls : List Lexeme) (m : Message) → 0 ≡ n → m ≡ (closings read n m ls).0
   none_closes n ls m none = ap (λ n. (closings read n m ls).0) none
 
   -- the text ends
   pub told_end : (e : Expected) (n : ℕ) → 0 < n → message.Close ≡ told read e n []
-  told_end e n some = ap (λ (y : Message × List Lexeme). y.0) (sym (closings_end n (at_place read e []) some))
+  told_end e n some = message_of (sym (closings_end n (at_place read e []) some))
 
   pub told_alone : (e : Expected) (n : ℕ) → 0 ≡ n → at_place read e [] ≡ told read e n []
   told_alone e n none = ap (λ n. told read e n []) none

@@ -218,6 +218,14 @@ module _ {N : Type 0} (read : List ℕ → Option N) where
         let (v, f, split, g) = read_whole read (length ls) ls (lexemes_of left) (omega arith) ok in
         front_at read text b.given left (subst (AreEnds text) b.split (placed-ends text)) v f (lexemes_append b.given left ∙ split) g
 
+    not_done : (left : List Placed) (end : ℕ) (w : Walk) → IsBefore left end w → HasNoFront read text → (o : Bool) → is_over w ≡ o → o ≡ false
+    not_done left end w b none true is = let (v, to, front) = at_over left end w b is in absurd (none v to front)
+    not_done left end w b none false is = refl
+
+    -- where the text has no geometry at its front, none was walked over
+    pub not_over : (left : List Placed) (end : ℕ) (w : Walk) → IsBefore left end w → HasNoFront read text → is_over w ≡ false
+    not_over left end w b none = not_done left end w b none (is_over w) refl
+
 -- the same text and place
 pub past_same : (bytes text : List ℕ) (from end to : ℕ) → bytes ≡ text → from ≡ end → IsPastWhite bytes from to → IsPastWhite text end to
 past_same bytes text from end to e e2 p = subst (λ t. IsPastWhite t end to) e (subst (λ n. IsPastWhite bytes n to) e2 p)

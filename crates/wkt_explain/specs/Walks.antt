@@ -1,5 +1,5 @@
 -- How a walk goes over the lexemes of a geometry. Only private contracts cite this file.
-use Rattle.std.specs.Prelude.{◌≡◌, ◌+◌, ℕ, suc, zero, List, Option, Some, None, Bool, true, false, cond, ◌==◌, if◌then◌else◌}
+use Rattle.std.specs.Prelude.{◌≡◌, ◌+◌, ℕ, suc, zero, List, Option, Some, None, Bool, true, false, ◌==◌, if◌then◌else◌}
 use Rattle.wkt_num.specs.Bytes as lex
 use Rattle.wkt_num.specs.Bytes.{Lexeme}
 use Rattle.wkt_access.specs.declared.dimensions.Dimension.{Dimension}
@@ -108,7 +108,7 @@ after_kind depth seen.Unread = None
 -- `(`, or EMPTY
 abbrev pub after_opening : Part → Dimension → ℕ → Seen → Option Walk
 after_opening p d depth seen.Open = Some (inside p d depth)
-after_opening p d depth (seen.Word w) = cond (is_empty_word w.now) (Some (outside p d depth)) None
+after_opening p d depth (seen.Word w) = if is_empty_word w.now then Some (outside p d depth) else None
 after_opening p d depth seen.Close = None
 after_opening p d depth seen.Comma = None
 after_opening p d depth seen.Number = None
@@ -145,7 +145,7 @@ after_number p d more depth seen.Unread = None
 -- a member of a multipoint
 abbrev pub after_member : Dimension → ℕ → Seen → Option Walk
 after_member d depth seen.Open = Some (at depth (place.Number part.Member d (numbers_after d)))
-after_member d depth (seen.Word w) = cond (is_empty_word w.now) (Some (at depth (place.Item part.Members d))) None
+after_member d depth (seen.Word w) = if is_empty_word w.now then Some (at depth (place.Item part.Members d)) else None
 after_member d depth seen.Number = Some (numbers_left part.Members d (numbers_after d) depth)
 after_member d depth seen.Close = None
 after_member d depth seen.Comma = None

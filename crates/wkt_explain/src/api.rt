@@ -15,8 +15,8 @@ use crate::seen::see;
 use crate::table::{message_at_end, message_there};
 use std::alloc::{AllocError, Global};
 use wkt_num::WktNum;
-use wkt_read::Tokens;
 use wkt_read::words::is_white;
+use wkt_read::{Message, Tokens};
 
 // The first place from here on where no white space stands.
 fn past_white(text: &[u8], from: usize) -> usize
@@ -31,6 +31,25 @@ fn past_white(text: &[u8], from: usize) -> usize
         at += 1;
     }
     at
+}
+
+/// With which message a text is refused that has no geometry at its front. It takes no memory, and no stack for
+/// nesting, and less time than `refusal`.
+pub fn message<T: WktNum>(text: &str) -> Message
+    requires { HasNoFront T.read text.now }
+    ensures { IsRefusedWith T.read text.now result }
+{
+    let mut tokens = Tokens::<T>::from_str(text);
+    let mut walk = Walk::start();
+    'lexemes: loop {
+        let Some(seen) = see(&mut tokens) else {
+            return message_at_end::<T>(walk, walk.expected());
+        };
+        let Some(next) = walk.next(seen) else {
+            return message_there(walk, walk.expected(), seen, tokens);
+        };
+        walk = next;
+    }
 }
 
 /// Where a text is refused, with which message, and what could stand there; `None` where it has a geometry at its

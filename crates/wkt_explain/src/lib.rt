@@ -13,6 +13,6 @@ mod shape;
 mod table;
 mod walk;
 
-pub use api::{explain, refusal};
+pub use api::{explain, message, refusal};
 pub use expected::Expected;
 pub use explanation::{Explanation, Refusal};

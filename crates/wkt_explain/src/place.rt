@@ -104,9 +104,20 @@ fn outside(part: Part, dim: Dimension, depth: usize) -> Walk
     at(depth, place)
 }
 
-/// The kind that the word names, and the dimension that is joined to it. It is a call, so that a walk stays in registers.
-#[inline(never)]
+/// The kind that the word names, and the dimension that is joined to it. Most geometries are points.
+#[inline(always)]
 fn kind_named(word: &str) -> Option<(GeometryType, Option<Dimension>)>
+    ensures { Names result (kind_word word.now) }
+{
+    if word == "POINT" {
+        return Some((GeometryType::Point, None));
+    }
+    kind_apart(word)
+}
+
+/// The same of any word. It is a call, so that a walk stays in registers.
+#[inline(never)]
+fn kind_apart(word: &str) -> Option<(GeometryType, Option<Dimension>)>
     ensures { Names result (kind_word word.now) }
 {
     kind_of(word)

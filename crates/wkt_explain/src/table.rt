@@ -1,5 +1,5 @@
 //! The message of a text that is refused, by the table of `docs/GRAMMAR.md`.
-ghost use Rattle.std.specs.Prelude.{◌≡◌, ◌+◌, ◌∷◌, ℕ, List, [], Some};
+ghost use Rattle.std.specs.Prelude.{◌≡◌, ◌+◌, ◌∷◌, ℕ, List, [], MatchOption};
 ghost use Rattle.wkt_num.specs.Bytes.{Lexeme};
 ghost use Rattle.wkt_read.specs.Placed.{lexemes_of};
 ghost use Rattle.wkt_read.specs.Stream.{coming};
@@ -101,22 +101,6 @@ fn closing<T: WktNum>(message: Message, seen: Seen<'_>) -> Message
     }
 }
 
-// The message after so many parentheses had to close.
-fn closings<T: WktNum>(message: Message, count: usize, tokens: &mut Tokens<'_, T>) -> Message
-    ensures { closings T.read count message (lexemes_of (coming tokens.old)) ≡ (result, lexemes_of (coming tokens.new)) }
-{
-    let mut told = message;
-    let mut left = count;
-    'places: while left > 0 {
-        let Some(seen) = see(tokens) else {
-            return Message::Close;
-        };
-        told = closing::<T>(told, seen);
-        left -= 1;
-    }
-    told
-}
-
 // How many parentheses are open at the place, but those of collections.
 fn own(place: Place) -> usize
     ensures { result ≡ own place }
@@ -139,45 +123,78 @@ fn around(part: Part) -> usize
     }
 }
 
-// The message after so many parentheses of the parts of a geometry, and then so many of collections, had to close.
-fn closed<T: WktNum>(
-    message: Message,
+/// How many parentheses are open at a place: those of its geometry, and those of collections.
+#[derive(Clone, Copy)]
+struct Parens {
     parts: usize,
     collections: usize,
-    tokens: &mut Tokens<'_, T>,
-) -> Message
-    ensures { result ≡ (closings T.read (parts + collections) message (lexemes_of (coming tokens.old))).0 }
-{
-    let message = closings(message, parts, tokens);
-    closings(message, collections, tokens)
 }
 
-// The same where the lexeme that was seen stands where the first of them has to close.
-fn stayed<T: WktNum>(
+// Those that are open after one has closed; `None` where none is open.
+#[inline(always)]
+fn one_less(parens: Parens) -> Option<Parens>
+    ensures { MatchOption result (parens.parts + parens.collections ≡ 0)
+        (λ o. o.parts + o.collections + 1 ≡ parens.parts + parens.collections) }
+{
+    if parens.parts > 0 {
+        return Some(Parens {
+            parts: parens.parts - 1,
+            collections: parens.collections,
+        });
+    }
+    if parens.collections > 0 {
+        return Some(Parens {
+            parts: 0,
+            collections: parens.collections - 1,
+        });
+    }
+    None
+}
+
+// The message after all of them had to close.
+#[inline(always)]
+fn closed<T: WktNum>(message: Message, parens: Parens, tokens: Tokens<'_, T>) -> Message
+    ensures { result ≡ (closings T.read (parens.parts + parens.collections) message (lexemes_of (coming tokens.entry))).0 }
+{
+    let mut told = message;
+    let mut left = parens;
+    let mut rest = tokens;
+    'places: loop {
+        let Some(less) = one_less(left) else {
+            return told;
+        };
+        let Some(seen) = see(&mut rest) else {
+            return Message::Close;
+        };
+        told = closing::<T>(told, seen);
+        left = less;
+    }
+}
+
+// The message behind the lexeme that is refused, and what is open there: where that isn't taken, the first parenthesis has
+// to close in its place.
+#[inline(always)]
+fn behind<T: WktNum>(
     message: Message,
-    parts: usize,
-    collections: usize,
+    expected: Expected,
+    parens: Parens,
     seen: Seen<'_>,
-    tokens: &mut Tokens<'_, T>,
-) -> Message
-    ensures { (l : Lexeme) → Shows T.read seen.entry l → result ≡ (closings T.read (parts + collections) message (l ∷ lexemes_of (coming tokens.old))).0 }
+) -> (Message, Parens)
+    ensures { (l : Lexeme) (r : List Lexeme) → Shows T.read seen.entry l → message ≡ at_place T.read expected (l ∷ r)
+        → told T.read expected (parens.parts + parens.collections) (l ∷ r)
+        ≡ (closings T.read (result.1.parts + result.1.collections) result.0 r).0 }
 {
-    if parts > 0 {
-        let first = closing::<T>(message, seen);
-        let last = closed(first, parts - 1, collections, tokens);
-        return last;
+    if !stays::<T>(expected, seen) {
+        return (message, parens);
     }
-    if collections > 0 {
-        let one = closing::<T>(message, seen);
-        let other = closed(one, 0, collections - 1, tokens);
-        return other;
+    match one_less(parens) {
+        Some(less) => (closing::<T>(message, seen), less),
+        None => (message, parens),
     }
-    message
 }
 
-/// The message of a text that is refused at the place for the lexeme that was seen. The tokens behind it come by value, so
-/// that a walk over those before it has them in registers.
-#[inline(never)]
+/// The message of a text that is refused at the place for the lexeme that was seen, and the tokens behind it.
+#[inline(always)]
 pub(crate) fn message_there<T: WktNum>(
     walk: Walk,
     expected: Expected,
@@ -186,13 +203,12 @@ pub(crate) fn message_there<T: WktNum>(
 ) -> Message
     ensures { (l : Lexeme) → Shows T.read seen.entry l → result ≡ told T.read expected (own walk.place + walk.depth) (l ∷ lexemes_of (coming tokens.entry)) }
 {
-    let message = at_place::<T>(expected, seen);
-    let parts = own(walk.place);
-    let mut rest = tokens;
-    if stays::<T>(expected, seen) {
-        return stayed(message, parts, walk.depth, seen, &mut rest);
-    }
-    closed(message, parts, walk.depth, &mut rest)
+    let parens = Parens {
+        parts: own(walk.place),
+        collections: walk.depth,
+    };
+    let (message, parens) = behind::<T>(at_place::<T>(expected, seen), expected, parens, seen);
+    closed(message, parens, tokens)
 }
 
 /// The message of a text that ends too early, at the place.
