@@ -10,10 +10,7 @@ ghost use Rattle.wkt_flat.specs.Trees.{flat_eq, flats_eq, flat_exact, flats_exac
 use crate::coord::Coord;
 use crate::geometry::{Geometry, GeometryCollection};
 use crate::line::Line;
-use crate::linestring::LineString;
-use crate::multilinestring::MultiLineString;
-use crate::multipoint::MultiPoint;
-use crate::multipolygon::MultiPolygon;
+use crate::lists::{LineString, MultiLineString, MultiPoint, MultiPolygon};
 use crate::point::Point;
 use crate::polygon::Polygon;
 use crate::rect::Rect;

@@ -5,10 +5,7 @@ ghost use Rattle.wkt_flat.specs.Tree.{flat_tree, flat_trees, flat_members, colle
 use crate::copies::{push_copy_of, push_filled};
 use crate::dropping::{Nested, drop_all};
 use crate::line::Line;
-use crate::linestring::LineString;
-use crate::multilinestring::MultiLineString;
-use crate::multipoint::MultiPoint;
-use crate::multipolygon::MultiPolygon;
+use crate::lists::{LineString, MultiLineString, MultiPoint, MultiPolygon};
 use crate::point::Point;
 use crate::polygon::Polygon;
 use crate::rect::Rect;

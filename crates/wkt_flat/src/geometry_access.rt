@@ -6,10 +6,7 @@ ghost use Rattle.wkt_flat.specs.Tree.{flat_tree, point, line, line_string, polyg
 
 use crate::geometry::Geometry;
 use crate::line::Line;
-use crate::linestring::LineString;
-use crate::multilinestring::MultiLineString;
-use crate::multipoint::MultiPoint;
-use crate::multipolygon::MultiPolygon;
+use crate::lists::{LineString, MultiLineString, MultiPoint, MultiPolygon};
 use crate::point::Point;
 use crate::polygon::Polygon;
 use crate::rect::Rect;

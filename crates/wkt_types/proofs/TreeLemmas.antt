@@ -1,15 +1,10 @@
 -- The tree of a `Wkt`, kind by kind.
-use Rattle.std.proofs.Common.{◌≡◌, ℕ, ◌<◌, ◌≤◌, ◌+◌, refl, ap, sym, ◌∙◌, List, [], ◌∷◌, drop, length, get_or, Bool, false, ◌&&◌, Some, slice_get, nat_eq, add-one, arith, eq-eqb, ◌-◌, length-drop, map, ◌++◌, Result, Ok, Err}
-use Rattle.std.specs.Prelude.{OnOk}
-use Rattle.std.specs.Result.{IsOk}
+use Rattle.std.proofs.Common.{◌≡◌, refl, ap, sym, ◌∙◌, List, [], ◌∷◌, Bool, Some, slice_get, map}
 use Rattle.wkt_access.specs.declared.dimensions.Dimension.{Dimension}
-use Rattle.std.proofs.lemmas.Bool.Decides.{nat_tests}
-use Rattle.std.proofs.Math.Seq.{drop-cons}
-use Rattle.std.proofs.lemmas.List.{drop_all, map-append}
 use Rattle.wkt_flat.proofs.Compared.{IsItemwise}
 use Rattle.wkt_types.specs.Trees.{tree_eq, trees_eq}
-use Rattle.wkt_types.specs.Tree.{trees_of, collected, tree_dim, point, line_string, polygon, multi_point, multi_line_string, multi_polygon, collection, Tree, tree, members, collection_tree, no_trees, wkt_step, collection_step}
-use Rattle.wkt_types.specs.Held.{Held, HeldPoint}
+use Rattle.wkt_types.specs.Tree.{collected, tree_dim, multi_line_string, collection, Tree, tree, members, collection_tree, wkt_step, collection_step}
+use Rattle.wkt_types.specs.Held.{Held}
 use Rattle.wkt_types.specs.declared.coord.Coord.{Coord}
 use Rattle.wkt_types.specs.declared.geometry.GeometryCollection.{GeometryCollection}
 use Rattle.wkt_types.specs.declared.geometry.Wkt.{Wkt}
