@@ -22,3 +22,30 @@ first-of (x ∷ xs) first some is =
 pub none-left : {S : Type 0} (xs : List S) → length xs < 1 → xs ≡ []
 none-left [] h = refl
 none-left (x ∷ xs) h = absurd (omega arith)
+
+-- how the measure falls: `weight` is of one member, and `weights` the sum over a list
+module _ {S : Type 0} (weight : S → ℕ) (weights : List S → ℕ) (sum : (x : S) (xs : List S) → weights (x ∷ xs) ≡ weight x + weights xs) where
+  first-weighs : (rest : List S) (next : S) → 1 ≤ length rest → next ≡ get_or rest 0 next → weights rest ≡ weight next + weights (take (length rest - 1) (drop 1 rest))
+  first-weighs rest next some is = ap weights (first-of rest next some is) ∙ sum next _
+
+  -- the next member is done
+  pub falls-by-one : (n : ℕ) (rest : List S) (next : S) → 1 ≤ length rest → next ≡ get_or rest 0 next → 1 ≤ weight next →
+      n + 2 * weights (take (length rest - 1) (drop 1 rest)) < n + 2 * weights rest
+  falls-by-one n rest next some is one = let e = first-weighs rest next some is in omega (arith, e, one)
+
+  -- the next member is a collection, which is opened
+  pub falls-opened : {R : Type 0} (xs xs' : List (Open S R)) (x : Open S R) (rest inner : List S) (next : S) → 1 ≤ length rest → next ≡ get_or rest 0 next →
+      weight next ≡ 1 + weights inner → xs' ≡ xs ++ x ∷ [] → x.rest.now ≡ take (length rest - 1) (drop 1 rest) →
+      pending weights xs' + 2 * weights inner < pending weights xs + 2 * weights rest
+  falls-opened xs xs' x rest inner next some is heavy pushed left =
+      let e = first-weighs rest next some is in
+      let p = ap (pending weights) pushed ∙ pending-last weights xs x in
+      let q = ap weights left in
+      omega (arith, e, heavy, p, q)
+
+-- nothing is left of the innermost collection, which is closed
+pub falls-closed : {S R : Type 0} (weights : List S → ℕ) (xs xs' : List (Open S R)) (x : Open S R) (rest : List S) → xs' ≡ xs ++ x ∷ [] →
+    pending weights xs + 2 * weights x.rest.now < pending weights xs' + 2 * weights rest
+falls-closed weights xs xs' x rest popped =
+    let p = ap (pending weights) popped ∙ pending-last weights xs x in
+    omega (arith, p)

@@ -1,10 +1,19 @@
 -- A shape without error is refused for memory alone, or never.
-use Rattle.std.proofs.Common.{◌≡◌, Result, Ok, Err, Some, None, OnOk, sym, ◌∙◌}
+use Rattle.std.proofs.Common.{◌≡◌, ℕ, List, subst, Result, Ok, Err, Some, None, OnOk, sym, ◌∙◌}
 use Rattle.std.specs.Prelude.{IfErr}
 use Rattle.wkt_access.specs.declared.error.Error.{Error}
 use Rattle.wkt_access.specs.declared.error.Error.TheVariants.{FmtError, RectUnsupportedDimension, UnknownDimension, TooFewNumbers, Memory}
 use Rattle.wkt_access.specs.Shapes.{Shape}
 use Rattle.wkt_access.specs.Faults.{fault}
+use Rattle.wkt_access.specs.Lawful.{IsLawful}
+use Rattle.wkt_access.specs.Texts.{shape_text}
+use Rattle.wkt_access.specs.WellFormed.{IsWellFormed}
+use Rattle.wkt_bytes.specs.Sinks.{SinkOfBytes, IsOut, IsPartOut}
+use Rattle.wkt_flat.specs.Shape.{flat_shape}
+use Rattle.wkt_flat.specs.Tree.{Flat}
+use Rattle.wkt_types.specs.Values.{tree_shape}
+use Rattle.wkt_convert.specs.Back.{back, wkt_text}
+use Rattle.wkt_convert.proofs.Backs.{clear, same, same_text}
 use Rattle.wkt_convert.specs.Sent.{OnIo, IfShape, IsRefusal, IsMemory}
 use Rattle.wkt_convert.specs.declared.send.ToWktError.{ToWktError}
 use Rattle.wkt_convert.specs.declared.send.ToWktError.TheVariants as send
@@ -52,3 +61,21 @@ pub io_any : {A P : Type 0} (r : Result A ToWktError) → P → OnIo r P
 io_any (Ok x) p = tt
 io_any (Err (send.Shape e)) p = tt
 io_any (Err (send.Io e)) p = p
+
+-- what was said of the text that a flat value is written as is said of its `Wkt`
+module _ {A E T : Type 0} (r : Result A E) (t : Flat T) where
+  pub sound_of : OnOk r (fault (tree_shape (back t)) ≡ None)
+  sound_of = ok_any r (clear t)
+
+  pub lawful_of : (is_value : T → Type 0) → OnOk r (IsLawful is_value (flat_shape t)) → OnOk r (IsLawful is_value (tree_shape (back t)))
+  lawful_of is_value h = subst (λ s. OnOk r (IsWellFormed is_value s)) (same t) h
+
+  pub out_of : {W : Type 0} (sink : SinkOfBytes W) (u v : W) (num : T → List ℕ) → OnOk r (IsOut sink u v (shape_text num (flat_shape t))) → OnOk r (IsOut sink u v (wkt_text num t))
+  out_of sink u v num h = subst (λ (bs : List ℕ). OnOk r (IsOut sink u v bs)) (same_text num t) h
+
+module _ {A T : Type 0} (r : Result A ToWktError) (t : Flat T) where
+  pub io_sound_of : OnIo r (fault (tree_shape (back t)) ≡ None)
+  io_sound_of = io_any r (clear t)
+
+  pub part_of : {W : Type 0} (sink : SinkOfBytes W) (u v : W) (num : T → List ℕ) → OnIo r (IsPartOut sink u v (shape_text num (flat_shape t))) → OnIo r (IsPartOut sink u v (wkt_text num t))
+  part_of sink u v num h = subst (λ (bs : List ℕ). OnIo r (IsPartOut sink u v bs)) (same_text num t) h

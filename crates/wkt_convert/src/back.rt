@@ -1,19 +1,17 @@
 //! The `Wkt` of flat values.
 ghost use Rattle.std.specs.Prelude.{◌≡◌, ◌++◌, ◌∷◌, [], IfOk, map};
 ghost use Rattle.wkt_types.specs.Tree as trees;
-ghost use Rattle.wkt_flat.specs.Tree.{Flat, flat_tree, flat_members};
+ghost use Rattle.wkt_flat.specs.Tree.{flat_tree, flat_members};
 ghost use Rattle.wkt_convert.specs.Pieces.{IsPieceBack};
 ghost use Rattle.wkt_convert.specs.Back.{flat_xy, point_back, line_string_back, polygon_back, back, all_back};
 
+use crate::flat_values::FlatValue;
 use crate::parts::{Open, Piece, Turn, turn_after, turn_all};
 use std::alloc::{AllocError, Global};
 use wkt_flat as flat;
 use wkt_flat::Geometry;
 use wkt_num::WktNum;
-use wkt_types::{
-    Coord, Dimension, GeometryCollection, LineString, MultiLineString, MultiPoint, MultiPolygon,
-    Point, Polygon, Wkt,
-};
+use wkt_types::{Coord, Dimension, GeometryCollection, LineString, Point, Polygon, Wkt};
 
 /// A coordinate without z and m.
 fn coord<T: Copy>(c: flat::Coord<T>) -> Coord<T>
@@ -87,28 +85,6 @@ pub(crate) fn two<T: Copy + Drop>(
     Ok(LineString::new(all, Dimension::XY))
 }
 
-/// The line strings of each coordinate sequence.
-fn multi_line_string<T: Copy + Drop>(
-    alloc: Global,
-    ls: &[flat::LineString<T>],
-) -> Result<Wkt<T>, AllocError>
-    ensures { IfOk result (λ w. trees.tree w ≡ back (Flat.multi_line_string ls.now)) }
-{
-    let lines = turn_all(alloc, ls)?;
-    Ok(Wkt::MultiLineString(MultiLineString::new(lines, Dimension::XY)))
-}
-
-/// The polygons of each polygon.
-fn multi_polygon<T: Copy + Drop>(
-    alloc: Global,
-    ys: &[flat::Polygon<T>],
-) -> Result<Wkt<T>, AllocError>
-    ensures { IfOk result (λ w. trees.tree w ≡ back (Flat.multi_polygon ys.now)) }
-{
-    let polygons = turn_all(alloc, ys)?;
-    Ok(Wkt::MultiPolygon(MultiPolygon::new(polygons, Dimension::XY)))
-}
-
 /// The `Wkt` of a geometry. A collection is opened, and no more.
 // As a part of its callers it moves nothing: a point then costs a third of the instructions.
 #[inline(always)]
@@ -119,27 +95,16 @@ fn piece_of<'a, T: WktNum>(
     ensures { IfOk result (IsPieceBack (flat_tree g.now)) }
 {
     match g {
-        Geometry::Point(p) => Ok(Piece::Whole(Wkt::Point(point(*p)))),
-        Geometry::Line(l) => Ok(Piece::Whole(Wkt::LineString(two(alloc, l)?))),
-        Geometry::LineString(l) => Ok(Piece::Whole(Wkt::LineString(l.turn(alloc)?))),
-        Geometry::Polygon(y) => Ok(Piece::Whole(Wkt::Polygon(y.turn(alloc)?))),
-        Geometry::MultiPoint(m) => {
-            let points = MultiPoint::new(turn_all(alloc, &m.0)?, Dimension::XY);
-            Ok(Piece::Whole(Wkt::MultiPoint(points)))
-        }
-        Geometry::MultiLineString(m) => {
-            Ok(Piece::Whole(multi_line_string(alloc, m.0.as_slice())?))
-        }
-        Geometry::MultiPolygon(m) => Ok(Piece::Whole(multi_polygon(alloc, m.0.as_slice())?)),
+        Geometry::Point(p) => Ok(Piece::Whole(p.make_wkt(alloc)?)),
+        Geometry::Line(l) => Ok(Piece::Whole(l.make_wkt(alloc)?)),
+        Geometry::LineString(l) => Ok(Piece::Whole(l.make_wkt(alloc)?)),
+        Geometry::Polygon(y) => Ok(Piece::Whole(y.make_wkt(alloc)?)),
+        Geometry::MultiPoint(m) => Ok(Piece::Whole(m.make_wkt(alloc)?)),
+        Geometry::MultiLineString(m) => Ok(Piece::Whole(m.make_wkt(alloc)?)),
+        Geometry::MultiPolygon(m) => Ok(Piece::Whole(m.make_wkt(alloc)?)),
         Geometry::GeometryCollection(c) => Ok(Piece::Members(c.geometries())),
-        Geometry::Rect(r) => {
-            let rect = r.to_polygon(alloc)?;
-            Ok(Piece::Whole(Wkt::Polygon(rect.turn(alloc)?)))
-        }
-        Geometry::Triangle(t) => {
-            let triangle = t.to_polygon(alloc)?;
-            Ok(Piece::Whole(Wkt::Polygon(triangle.turn(alloc)?)))
-        }
+        Geometry::Rect(r) => Ok(Piece::Whole(r.make_wkt(alloc)?)),
+        Geometry::Triangle(t) => Ok(Piece::Whole(t.make_wkt(alloc)?)),
     }
 }
 

@@ -48,6 +48,7 @@ impl<T: WktNum> FlatValue for flat::Point<T> {
         write_point(f, self)
     }
 
+    #[inline(always)]
     fn make_wkt(&self, _alloc: Global) -> Result<Wkt<T>, AllocError> {
         Ok(Wkt::Point(point(*self)))
     }
@@ -63,6 +64,7 @@ impl<T: WktNum> FlatValue for flat::Line<T> {
         write_line(f, self)
     }
 
+    #[inline(always)]
     fn make_wkt(&self, alloc: Global) -> Result<Wkt<T>, AllocError> {
         Ok(Wkt::LineString(two(alloc, self)?))
     }
@@ -78,6 +80,7 @@ impl<T: WktNum> FlatValue for flat::LineString<T> {
         write_linestring(f, self)
     }
 
+    #[inline(always)]
     fn make_wkt(&self, alloc: Global) -> Result<Wkt<T>, AllocError> {
         Ok(Wkt::LineString(self.turn(alloc)?))
     }
@@ -93,6 +96,7 @@ impl<T: WktNum> FlatValue for flat::Polygon<T> {
         write_polygon(f, self)
     }
 
+    #[inline(always)]
     fn make_wkt(&self, alloc: Global) -> Result<Wkt<T>, AllocError> {
         Ok(Wkt::Polygon(self.turn(alloc)?))
     }
@@ -108,6 +112,7 @@ impl<T: WktNum> FlatValue for flat::MultiPoint<T> {
         write_multi_point(f, self)
     }
 
+    #[inline(always)]
     fn make_wkt(&self, alloc: Global) -> Result<Wkt<T>, AllocError> {
         let all = turn_all(alloc, &self.0)?;
         Ok(Wkt::MultiPoint(MultiPoint::new(all, Dimension::XY)))
@@ -124,6 +129,7 @@ impl<T: WktNum> FlatValue for flat::MultiLineString<T> {
         write_multi_linestring(f, self)
     }
 
+    #[inline(always)]
     fn make_wkt(&self, alloc: Global) -> Result<Wkt<T>, AllocError> {
         let all = turn_all(alloc, &self.0)?;
         Ok(Wkt::MultiLineString(MultiLineString::new(all, Dimension::XY)))
@@ -140,6 +146,7 @@ impl<T: WktNum> FlatValue for flat::MultiPolygon<T> {
         write_multi_polygon(f, self)
     }
 
+    #[inline(always)]
     fn make_wkt(&self, alloc: Global) -> Result<Wkt<T>, AllocError> {
         let all = turn_all(alloc, &self.0)?;
         Ok(Wkt::MultiPolygon(MultiPolygon::new(all, Dimension::XY)))
@@ -172,6 +179,7 @@ impl<T: WktNum> FlatValue for flat::Rect<T> {
         write_rect(f, self)
     }
 
+    #[inline(always)]
     fn make_wkt(&self, alloc: Global) -> Result<Wkt<T>, AllocError> {
         Ok(Wkt::Polygon(self.to_polygon(alloc)?.turn(alloc)?))
     }
@@ -187,6 +195,7 @@ impl<T: WktNum> FlatValue for flat::Triangle<T> {
         write_triangle(f, self)
     }
 
+    #[inline(always)]
     fn make_wkt(&self, alloc: Global) -> Result<Wkt<T>, AllocError> {
         Ok(Wkt::Polygon(self.to_polygon(alloc)?.turn(alloc)?))
     }

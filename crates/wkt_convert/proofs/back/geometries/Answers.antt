@@ -1,5 +1,5 @@
 -- What is done and what still waits make the value of the whole at each step, and the loop ends.
-use Rattle.std.proofs.Common.{◌≡◌, ◌+◌, ◌-◌, ◌*◌, ap, sym, ◌∙◌, length, take, drop, map, arith}
+use Rattle.std.proofs.Common.{◌≡◌, refl, ap, sym, ◌∙◌, length, map, arith}
 use Rattle.wkt_types.specs.Tree as trees
 use Rattle.wkt_types.specs.Tree.{tree, trees_of}
 use Rattle.wkt_types.specs.declared.geometry.Wkt.TheVariants as variants
@@ -7,11 +7,11 @@ use Rattle.wkt_types.proofs.TreeLemmas.{tree-collection}
 use Rattle.wkt_flat.specs.Weight.{flat_weight, weight, weights}
 use Rattle.wkt_flat.proofs.Weighing.{at_least_one}
 use Rattle.wkt_flat.specs.Tree.{flat_tree}
-use Rattle.wkt_convert.proofs.FlatKinds.{flat-point}
-use Rattle.wkt_convert.proofs.Members.{tree-point}
+use Rattle.wkt_flat.proofs.TreeLemmas.{flat-point}
+use Rattle.wkt_types.proofs.TreeLemmas.{tree-point}
 use Rattle.wkt_convert.specs.Back.{back}
 use Rattle.wkt_convert.proofs.Members.{all_back_members}
-use Rattle.wkt_convert.proofs.Opened.{pending, pending-last, first-of}
+use Rattle.wkt_convert.proofs.Opened.{first-of, falls-by-one, falls-opened, falls-closed}
 use Rattle.wkt_convert.proofs.OpenedBack.{going, finish, goes-on, opens, closes, ends}
 use Rattle.wkt_convert.proofs.back.geometries.Goals as goal
 
@@ -31,9 +31,7 @@ returns-in_default g c =
 
 pub loop-rest-smaller-then-rest-lt1 : goal.loop-rest-smaller-then-rest-lt1
 loop-rest-smaller-then-rest-lt1 g c =
-    let popped : pending weights c.loop-rest.opened.items ≡ pending weights c.pop.new.self.items + (1 + 2 * weights c.in-Some.outer.rest.now) =
-    ap (λ xs. pending weights xs) c.in-Some.ensures.items ∙ pending-last weights c.pop.new.self.items c.in-Some.outer in
-    omega (arith, popped)
+    falls-closed weights c.pop.new.self.items c.loop-rest.opened.items c.in-Some.outer c.loop-rest.rest.now c.in-Some.ensures.items
 
 pub loop-rest-preserved-then-rest-lt1 : goal.loop-rest-preserved-then-rest-lt1
 loop-rest-preserved-then-rest-lt1 g c =
@@ -44,10 +42,7 @@ loop-rest-preserved-then-rest-lt1 g c =
 
 pub loop-rest-smaller-in-Point : goal.loop-rest-smaller-in-Point
 loop-rest-smaller-in-Point g c =
-    let rest = c.loop-rest.rest.now in
-    let next = c.next-item.result in
-    let parts : weights rest ≡ weight next + weights (take (length rest - 1) (drop 1 rest)) = ap (λ gs. weights gs) (first-of rest next c.in-len1-up.len_at_least c.next-item.is) in
-    omega (arith, parts, at_least_one next)
+    falls-by-one weight weights (λ x xs. refl) _ c.loop-rest.rest.now c.next-item.result c.in-len1-up.len_at_least c.next-item.is (at_least_one c.next-item.result)
 
 pub loop-rest-preserved-in-Point : goal.loop-rest-preserved-in-Point
 loop-rest-preserved-in-Point g c =
@@ -63,10 +58,7 @@ loop-rest-preserved-in-Point g c =
 
 pub loop-rest-smaller-in-Whole : goal.loop-rest-smaller-in-Whole
 loop-rest-smaller-in-Whole g c =
-    let rest = c.loop-rest.rest.now in
-    let next = c.next-item.result in
-    let parts : weights rest ≡ weight next + weights (take (length rest - 1) (drop 1 rest)) = ap (λ gs. weights gs) (first-of rest next c.in-len1-up.len_at_least c.next-item.is) in
-    omega (arith, parts, at_least_one next)
+    falls-by-one weight weights (λ x xs. refl) _ c.loop-rest.rest.now c.next-item.result c.in-len1-up.len_at_least c.next-item.is (at_least_one c.next-item.result)
 
 pub loop-rest-preserved-in-Whole : goal.loop-rest-preserved-in-Whole
 loop-rest-preserved-in-Whole g c =
@@ -79,14 +71,8 @@ loop-rest-preserved-in-Whole g c =
 
 pub loop-rest-smaller : goal.loop-rest-smaller
 loop-rest-smaller g c =
-    let rest = c.loop-rest.rest.now in
-    let next = c.next-item.result in
-    let held = rw c.in-Members.is at c.in_ok-w-in_default-next.ensures in
-    let parts : weights rest ≡ weight next + weights (take (length rest - 1) (drop 1 rest)) = ap (λ gs. weights gs) (first-of rest next c.in-len1-up.len_at_least c.next-item.is) in
-    let heavy : weight next ≡ 1 + weights c.in-Members.inner.now = ap flat_weight held in
-    let pushed : pending weights c.push-in-Members.new.self.items ≡ pending weights c.loop-rest.opened.items + (1 + 2 * weights (take (length rest - 1) (drop 1 rest))) =
-    ap (λ xs. pending weights xs) c.in_ok-push-in-Members.ensures.items ∙ pending-last weights c.loop-rest.opened.items _ in
-    omega (arith, parts, heavy, pushed)
+    falls-opened weight weights (λ x xs. refl) c.loop-rest.opened.items c.push-in-Members.new.self.items _ c.loop-rest.rest.now c.in-Members.inner.now c.next-item.result
+    c.in-len1-up.len_at_least c.next-item.is (ap flat_weight (rw c.in-Members.is at c.in_ok-w-in_default-next.ensures)) c.in_ok-push-in-Members.ensures.items refl
 
 pub loop-rest-preserved : goal.loop-rest-preserved
 loop-rest-preserved g c =

@@ -1,5 +1,5 @@
 -- What is done and what still waits make the outcome of the whole at each step, and the loop ends.
-use Rattle.std.proofs.Common.{◌≡◌, ◌+◌, ◌-◌, ◌*◌, ap, sym, ◌∙◌, length, take, drop, map, arith}
+use Rattle.std.proofs.Common.{◌≡◌, refl, ap, sym, ◌∙◌, length, map, arith}
 use Rattle.std.proofs.lemmas.Result.{err_from_is_err_and}
 use Rattle.wkt_types.specs.Tree.{tree}
 use Rattle.wkt_types.specs.Weight.{tree_weight, weight, weights}
@@ -10,9 +10,10 @@ use Rattle.wkt_flat.specs.Tree.{Flat, flats_of, flat_tree, flat_trees}
 use Rattle.wkt_flat.proofs.TreeLemmas.{flat-collection}
 use Rattle.wkt_convert.specs.Flatten.{flat}
 use Rattle.wkt_convert.specs.Outcomes.{outcome_map, outcomes}
-use Rattle.wkt_convert.proofs.Members.{flatten_members, tree-point}
+use Rattle.wkt_types.proofs.TreeLemmas.{tree-point}
+use Rattle.wkt_convert.proofs.Members.{flatten_members}
 use Rattle.wkt_convert.proofs.Outcomes.{passes_on}
-use Rattle.wkt_convert.proofs.Opened.{pending, pending-last, first-of}
+use Rattle.wkt_convert.proofs.Opened.{first-of, falls-by-one, falls-opened, falls-closed}
 use Rattle.wkt_convert.proofs.OpenedFlat.{going, going-start, finish, goes-on, opens, closes, ends, refuses}
 use Rattle.wkt_convert.proofs.flatten.collection.Goals as goal
 
@@ -34,9 +35,7 @@ returns-in_default g c =
 
 pub loop-rest-smaller-then-rest-lt1 : goal.loop-rest-smaller-then-rest-lt1
 loop-rest-smaller-then-rest-lt1 g c =
-    let popped : pending weights c.loop-rest.opened.items ≡ pending weights c.pop.new.self.items + (1 + 2 * weights c.in-Some.outer.rest.now) =
-    ap (λ xs. pending weights xs) c.in-Some.ensures.items ∙ pending-last weights c.pop.new.self.items c.in-Some.outer in
-    omega (arith, popped)
+    falls-closed weights c.pop.new.self.items c.loop-rest.opened.items c.in-Some.outer c.loop-rest.rest.now c.in-Some.ensures.items
 
 pub loop-rest-preserved-then-rest-lt1 : goal.loop-rest-preserved-then-rest-lt1
 loop-rest-preserved-then-rest-lt1 g c =
@@ -61,10 +60,7 @@ returns-in_err-g-in_default-next g c =
 
 pub loop-rest-smaller-in-Whole : goal.loop-rest-smaller-in-Whole
 loop-rest-smaller-in-Whole g c =
-    let rest = c.loop-rest.rest.now in
-    let next = c.next-item.result in
-    let parts : weights rest ≡ weight next + weights (take (length rest - 1) (drop 1 rest)) = ap (λ ws. weights ws) (first-of rest next c.in-len1-up.len_at_least c.next-item.is) in
-    omega (arith, parts, at_least_one next)
+    falls-by-one weight weights (λ x xs. refl) _ c.loop-rest.rest.now c.next-item.result c.in-len1-up.len_at_least c.next-item.is (at_least_one c.next-item.result)
 
 pub loop-rest-preserved-in-Whole : goal.loop-rest-preserved-in-Whole
 loop-rest-preserved-in-Whole g c =
@@ -78,14 +74,8 @@ loop-rest-preserved-in-Whole g c =
 
 pub loop-rest-smaller : goal.loop-rest-smaller
 loop-rest-smaller g c =
-    let rest = c.loop-rest.rest.now in
-    let next = c.next-item.result in
-    let held = rw c.in-Members.is at c.in_ok-g-in_default-next.ensures in
-    let parts : weights rest ≡ weight next + weights (take (length rest - 1) (drop 1 rest)) = ap (λ ws. weights ws) (first-of rest next c.in-len1-up.len_at_least c.next-item.is) in
-    let heavy : weight next ≡ 1 + weights c.in-Members.inner.now = ap tree_weight held.1 in
-    let pushed : pending weights c.push-in-Members.new.all.items ≡ pending weights c.loop-rest.opened.items + (1 + 2 * weights (take (length rest - 1) (drop 1 rest))) =
-    ap (λ xs. pending weights xs) c.in_ok-push-in-Members.ensures ∙ pending-last weights c.loop-rest.opened.items _ in
-    omega (arith, parts, heavy, pushed)
+    falls-opened weight weights (λ x xs. refl) c.loop-rest.opened.items c.push-in-Members.new.all.items _ c.loop-rest.rest.now c.in-Members.inner.now c.next-item.result
+    c.in-len1-up.len_at_least c.next-item.is (ap tree_weight (rw c.in-Members.is at c.in_ok-g-in_default-next.ensures).1) c.in_ok-push-in-Members.ensures refl
 
 pub loop-rest-preserved : goal.loop-rest-preserved
 loop-rest-preserved g c =
@@ -99,10 +89,7 @@ loop-rest-preserved g c =
 
 pub loop-rest-smaller-in-Point : goal.loop-rest-smaller-in-Point
 loop-rest-smaller-in-Point g c =
-    let rest = c.loop-rest.rest.now in
-    let next = c.next-item.result in
-    let parts : weights rest ≡ weight next + weights (take (length rest - 1) (drop 1 rest)) = ap (λ ws. weights ws) (first-of rest next c.in-len1-up.len_at_least c.next-item.is) in
-    omega (arith, parts, at_least_one next)
+    falls-by-one weight weights (λ x xs. refl) _ c.loop-rest.rest.now c.next-item.result c.in-len1-up.len_at_least c.next-item.is (at_least_one c.next-item.result)
 
 pub loop-rest-preserved-in-Point : goal.loop-rest-preserved-in-Point
 loop-rest-preserved-in-Point g c =
