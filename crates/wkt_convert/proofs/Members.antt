@@ -1,6 +1,6 @@
 -- The members of a collection, one after the other.
 use Rattle.std.proofs.Common.{◌≡◌, refl, ap, ◌∙◌, List, [], ◌∷◌, map, Bool}
-use Rattle.wkt_types.specs.Tree.{Tree, Trees, tree, trees_of, members}
+use Rattle.wkt_types.specs.Tree.{Trees, tree, trees_of, members}
 use Rattle.wkt_types.specs.declared.geometry.Wkt.{Wkt}
 use Rattle.wkt_flat.specs.Tree.{Flat, Flats, flat_tree, flat_members, flats_of}
 use Rattle.wkt_flat.specs.declared.coord.Coord as flat_coord
