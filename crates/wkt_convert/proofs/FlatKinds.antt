@@ -1,5 +1,5 @@
--- The tree of a flat geometry, kind by kind, and what is no geometry of a kind.
-use Rattle.std.proofs.Common.{◌≡◌, ap, sym, subst, ◌∙◌, List, Option, None}
+-- What is no geometry of a kind.
+use Rattle.std.proofs.Common.{◌≡◌, ap, subst, Option, None}
 use Rattle.wkt_flat.specs.Tree.{Flat, Flats, flat_tree, geometry_step, flats_step}
 use Rattle.wkt_flat.specs.declared.geometry.Geometry.{Geometry, out-Geometry, roll-Geometry}
 use Rattle.wkt_flat.specs.declared.geometry.GeometryCollection.{GeometryCollection}
@@ -7,30 +7,7 @@ use Rattle.wkt_flat.specs.declared.geometry.Geometry.TheOpen.{Geometry-F}
 use Rattle.wkt_flat.specs.declared.geometry.Geometry.TheVariants as variants
 use Rattle.wkt_flat.specs.declared.geometry.Geometry.TheViews as views
 use Rattle.wkt_flat.specs.declared.geometry.Geometry.TheFolds as folds
-use Rattle.wkt_flat.specs.declared.coord.Coord as flat_coord
-use Rattle.wkt_flat.specs.declared.point.Point as flat_point
-use Rattle.wkt_flat.specs.declared.line.Line as flat_line
 use Rattle.wkt_convert.specs.Kinds.{point_in, line_in, line_string_in, rings_in, points_in, line_strings_in, polygons_in, corners_in, triangle_in}
-
-pub flat-point : {T : Type 0} (x : flat_point.Point T) → flat_tree (variants.Point x) ≡ Flat.point x
-flat-point {T} x =
-    ap flat_tree (sym (variants.rolls-Point x))
-    ∙ folds.fold-roll-Geometry T (Flat T) (Flats T) geometry_step flats_step (Geometry-F.Point x)
-
-pub flat-line : {T : Type 0} (x : flat_line.Line T) → flat_tree (variants.Line x) ≡ Flat.line x
-flat-line {T} x =
-    ap flat_tree (sym (variants.rolls-Line x))
-    ∙ folds.fold-roll-Geometry T (Flat T) (Flats T) geometry_step flats_step (Geometry-F.Line x)
-
-pub flat-line_string : {T : Type 0} (x : List (flat_coord.Coord T)) → flat_tree (variants.LineString x) ≡ Flat.line_string x
-flat-line_string {T} x =
-    ap flat_tree (sym (variants.rolls-LineString x))
-    ∙ folds.fold-roll-Geometry T (Flat T) (Flats T) geometry_step flats_step (Geometry-F.LineString x)
-
-pub flat-multi_point : {T : Type 0} (x : List (flat_point.Point T)) → flat_tree (variants.MultiPoint x) ≡ Flat.multi_point x
-flat-multi_point {T} x =
-    ap flat_tree (sym (variants.rolls-MultiPoint x))
-    ∙ folds.fold-roll-Geometry T (Flat T) (Flats T) geometry_step flats_step (Geometry-F.MultiPoint x)
 
 -- one level of a geometry
 abbrev pub Level : Type 0 → Type 0

@@ -1,12 +1,7 @@
--- The members of a collection, one after the other; and multipoints.
-use Rattle.std.proofs.Common.{◌≡◌, refl, ap, sym, ◌∙◌, List, [], ◌∷◌, map, Bool}
-use Rattle.wkt_types.specs.Held.{Held, HeldPoint}
-use Rattle.wkt_types.specs.Tree.{Tree, Trees, tree, trees_of, members, wkt_step, collection_step}
-use Rattle.wkt_types.specs.declared.coord.Coord.{Coord}
+-- The members of a collection, one after the other.
+use Rattle.std.proofs.Common.{◌≡◌, refl, ap, ◌∙◌, List, [], ◌∷◌, map, Bool}
+use Rattle.wkt_types.specs.Tree.{Trees, tree, trees_of, members}
 use Rattle.wkt_types.specs.declared.geometry.Wkt.{Wkt}
-use Rattle.wkt_types.specs.declared.geometry.Wkt.TheVariants as variants
-use Rattle.wkt_types.specs.declared.geometry.Wkt.TheFolds as folds
-use Rattle.wkt_types.specs.declared.geometry.Wkt.TheOpen as opened
 use Rattle.wkt_flat.specs.Tree.{Flat, Flats, flat_tree, flat_members, flats_of}
 use Rattle.wkt_flat.specs.declared.coord.Coord as flat_coord
 use Rattle.wkt_flat.specs.declared.geometry.Geometry.{Geometry}
@@ -30,18 +25,3 @@ flatten_members E (w ∷ ws) =
 pub all_back_members : {T : Type 0} (gs : List (Geometry T)) → all_back (flat_members gs) ≡ trees_of (map (λ g. back (flat_tree g)) gs)
 all_back_members [] = refl
 all_back_members (g ∷ gs) = ap (λ ts. Trees.more_trees (back (flat_tree g)) ts) (all_back_members gs)
-
-pub tree-point : {T : Type 0} (p : HeldPoint (Coord T)) → tree (variants.Point p) ≡ Tree.point p
-tree-point {T} p =
-    ap tree (sym (variants.rolls-Point p))
-    ∙ folds.fold-roll-Wkt T (Tree T) (Tree T) wkt_step collection_step (opened.Wkt-F.Point p)
-
-pub tree-multi_point : {T : Type 0} (m : Held (HeldPoint (Coord T))) → tree (variants.MultiPoint m) ≡ Tree.multi_point m
-tree-multi_point {T} m =
-    ap tree (sym (variants.rolls-MultiPoint m))
-    ∙ folds.fold-roll-Wkt T (Tree T) (Tree T) wkt_step collection_step (opened.Wkt-F.MultiPoint m)
-
-pub tree-line_string : {T : Type 0} (l : Held (Coord T)) → tree (variants.LineString l) ≡ Tree.line_string l
-tree-line_string {T} l =
-    ap tree (sym (variants.rolls-LineString l))
-    ∙ folds.fold-roll-Wkt T (Tree T) (Tree T) wkt_step collection_step (opened.Wkt-F.LineString l)

@@ -29,9 +29,9 @@ module _ {S : Type 0} (weight : S → ℕ) (weights : List S → ℕ) (sum : (x 
   first-weighs rest next some is = ap weights (first-of rest next some is) ∙ sum next _
 
   -- the next member is done
-  pub falls-by-one : (n : ℕ) (rest : List S) (next : S) → 1 ≤ length rest → next ≡ get_or rest 0 next → 1 ≤ weight next →
-      n + 2 * weights (take (length rest - 1) (drop 1 rest)) < n + 2 * weights rest
-  falls-by-one n rest next some is one = let e = first-weighs rest next some is in omega (arith, e, one)
+  pub falls-by-one : ((x : S) → 0 < weight x) → (rest : List S) → 1 ≤ length rest → weights (take (length rest - 1) (drop 1 rest)) < weights rest
+  falls-by-one one [] some = absurd (omega arith)
+  falls-by-one one (x ∷ xs) some = let e = first-weighs (x ∷ xs) x some refl in omega (arith, e, one x)
 
   -- the next member is a collection, which is opened
   pub falls-opened : {R : Type 0} (xs xs' : List (Open S R)) (x : Open S R) (rest inner : List S) (next : S) → 1 ≤ length rest → next ≡ get_or rest 0 next →

@@ -1,5 +1,5 @@
 -- Flat collections that are open while the `Wkt` of their members are made: what comes of them.
-use Rattle.std.proofs.Common.{◌≡◌, ◌<◌, refl, ap, sym, ◌∙◌, List, [], ◌∷◌, ◌++◌, length, map, append_assoc, arith}
+use Rattle.std.proofs.Common.{◌≡◌, ◌<◌, refl, ap, sym, ◌∙◌, List, [], ◌∷◌, ◌++◌, length, map, append_assoc, arith, ◌-◌, ◌≤◌, take, drop}
 use Rattle.std.proofs.lemmas.List.{append-nil, map-append}
 use Rattle.wkt_access.specs.declared.dimensions.Dimension.TheVariants.{XY}
 use Rattle.wkt_types.specs.Tree.{Tree, tree, trees_of, members}
@@ -9,7 +9,9 @@ use Rattle.wkt_flat.specs.declared.geometry.Geometry.{Geometry}
 use Rattle.wkt_convert.specs.Back.{back}
 use Rattle.wkt_convert.specs.declared.parts.Open.{Open}
 use Rattle.wkt_convert.proofs.Members.{all_back_members}
-use Rattle.wkt_convert.proofs.Opened.{none-left}
+use Rattle.wkt_convert.proofs.Opened.{none-left, falls-by-one}
+use Rattle.wkt_flat.specs.Weight.{weight, weights}
+use Rattle.wkt_flat.proofs.Weighing.{at_least_one}
 
 -- what comes of a collection whose first members became `done`, and of which `rest` is left
 abbrev pub going : {T : Type 0} → List (Tree T) → List (Geometry T) → List (Tree T)
@@ -71,3 +73,7 @@ pub ends : {T : Type 0} (xs : List (Open (Geometry T) (Wkt T))) (done : List (Wk
     finish xs (going (map tree done) rest) ≡ map tree done
 ends [] done rest closed none = all-done done rest none
 ends (x ∷ xs) done rest closed none = absurd (omega arith)
+
+-- what is left weighs less when its first member is done
+pub left-falls : {T : Type 0} (rest : List (Geometry T)) → 1 ≤ length rest → weights (take (length rest - 1) (drop 1 rest)) < weights rest
+left-falls = falls-by-one weight weights (λ x xs. refl) at_least_one

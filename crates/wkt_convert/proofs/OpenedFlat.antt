@@ -1,5 +1,5 @@
 -- Collections that are open while their members are flattened: what comes of them.
-use Rattle.std.proofs.Common.{◌≡◌, ◌<◌, refl, ap, sym, ◌∙◌, List, [], ◌∷◌, ◌++◌, length, map, Bool, append_assoc, arith}
+use Rattle.std.proofs.Common.{◌≡◌, ◌<◌, refl, ap, sym, ◌∙◌, List, [], ◌∷◌, ◌++◌, length, map, Bool, append_assoc, arith, ◌-◌, ◌≤◌, take, drop}
 use Rattle.std.proofs.lemmas.List.{append-nil, map-append}
 use Rattle.wkt_access.specs.declared.dimensions.Dimension.{Dimension}
 use Rattle.wkt_types.specs.Outcome.{Outcome, Fault, value, refused}
@@ -12,7 +12,9 @@ use Rattle.wkt_convert.specs.declared.parts.Open.{Open}
 use Rattle.wkt_convert.specs.Flatten.{flat}
 use Rattle.wkt_convert.specs.Outcomes.{outcome_map, outcome_both, outcomes}
 use Rattle.wkt_convert.proofs.Members.{flatten_members}
-use Rattle.wkt_convert.proofs.Opened.{none-left}
+use Rattle.wkt_convert.proofs.Opened.{none-left, falls-by-one}
+use Rattle.wkt_types.specs.Weight.{weight, weights}
+use Rattle.wkt_types.proofs.Weighing.{at_least_one}
 
 module _ {T : Type 0} (E : flat_coord.Coord T → flat_coord.Coord T → Bool) where
   -- what comes of a collection whose first members became `done`, and of which `rest` is left
@@ -114,3 +116,7 @@ module _ {T : Type 0} (E : flat_coord.Coord T → flat_coord.Coord T → Bool) w
   pub refuses : (xs : List (Open (Wkt T) (Geometry T))) (done : List (Flat T)) (w : Wkt T) (rest others : List (Wkt T)) (k : Fault) →
       rest ≡ w ∷ others → flat E (tree w) ≡ refused k → finish xs (going done rest) ≡ refused k
   refuses xs done w rest others k split fails = ap (finish xs) (ap (going done) split ∙ going-refused done w others k fails) ∙ finish-refused xs k
+
+-- what is left weighs less when its first member is done
+pub left-falls : {T : Type 0} (rest : List (Wkt T)) → 1 ≤ length rest → weights (take (length rest - 1) (drop 1 rest)) < weights rest
+left-falls = falls-by-one weight weights (λ x xs. refl) at_least_one

@@ -1,6 +1,6 @@
 -- A shape without error is refused for memory alone, or never.
-use Rattle.std.proofs.Common.{◌≡◌, ℕ, List, subst, Result, Ok, Err, Some, None, OnOk, sym, ◌∙◌}
-use Rattle.std.specs.Prelude.{IfErr}
+use Rattle.std.proofs.Common.{◌≡◌, ℕ, List, subst, Result, Ok, Err, Some, None, String, string_bytes, OnOk, sym, ◌∙◌}
+use Rattle.std.specs.Prelude.{IfOk, IfErr}
 use Rattle.wkt_access.specs.declared.error.Error.{Error}
 use Rattle.wkt_access.specs.declared.error.Error.TheVariants.{FmtError, RectUnsupportedDimension, UnknownDimension, TooFewNumbers, Memory}
 use Rattle.wkt_access.specs.Shapes.{Shape}
@@ -11,6 +11,7 @@ use Rattle.wkt_access.specs.WellFormed.{IsWellFormed}
 use Rattle.wkt_bytes.specs.Sinks.{SinkOfBytes, IsOut, IsPartOut}
 use Rattle.wkt_flat.specs.Shape.{flat_shape}
 use Rattle.wkt_flat.specs.Tree.{Flat}
+use Rattle.wkt_flat.proofs.Writable.{writable}
 use Rattle.wkt_types.specs.Values.{tree_shape}
 use Rattle.wkt_convert.specs.Back.{back, wkt_text}
 use Rattle.wkt_convert.proofs.Backs.{clear, same, same_text}
@@ -18,12 +19,12 @@ use Rattle.wkt_convert.specs.Sent.{OnIo, IfShape, IsRefusal, IsMemory}
 use Rattle.wkt_convert.specs.declared.send.ToWktError.{ToWktError}
 use Rattle.wkt_convert.specs.declared.send.ToWktError.TheVariants as send
 
-pub never : {A N : Type 0} (s : Shape N) → fault s ≡ None → (r : Result A ToWktError) → IfShape r (λ e. fault s ≡ Some e) → IfShape r (λ _. ⊥)
+never : {A N : Type 0} (s : Shape N) → fault s ≡ None → (r : Result A ToWktError) → IfShape r (λ e. fault s ≡ Some e) → IfShape r (λ _. ⊥)
 never s n (Ok x) h = tt
 never s n (Err (send.Shape e)) h = let p : None ≡ Some e = sym n ∙ h in cc
 never s n (Err (send.Io e)) h = tt
 
-pub whatever : {A : Type 0} (P : Error → Type 0) (r : Result A ToWktError) → IfShape r (λ _. ⊥) → IfShape r P
+whatever : {A : Type 0} (P : Error → Type 0) (r : Result A ToWktError) → IfShape r (λ _. ⊥) → IfShape r P
 whatever P (Ok x) h = tt
 whatever P (Err (send.Shape e)) h = absurd h
 whatever P (Err (send.Io e)) h = tt
@@ -45,19 +46,19 @@ memory_refuses s UnknownDimension h = absurd h
 memory_refuses s TooFewNumbers h = absurd h
 memory_refuses s (Memory e) h = tt
 
-pub string_memory : {A N : Type 0} (s : Shape N) → fault s ≡ None → (r : Result A Error) → IfErr r (IsRefusal s) → IfErr r IsMemory
+string_memory : {A N : Type 0} (s : Shape N) → fault s ≡ None → (r : Result A Error) → IfErr r (IsRefusal s) → IfErr r IsMemory
 string_memory s n (Ok x) h = tt
 string_memory s n (Err e) h = only_memory s n e h
 
-pub string_refused : {A N : Type 0} (s : Shape N) (r : Result A Error) → IfErr r IsMemory → IfErr r (IsRefusal s)
+string_refused : {A N : Type 0} (s : Shape N) (r : Result A Error) → IfErr r IsMemory → IfErr r (IsRefusal s)
 string_refused s (Ok x) h = tt
 string_refused s (Err e) h = memory_refuses s e h
 
-pub ok_any : {A E P : Type 0} (r : Result A E) → P → OnOk r P
+ok_any : {A E P : Type 0} (r : Result A E) → P → OnOk r P
 ok_any (Ok x) p = p
 ok_any (Err e) p = tt
 
-pub io_any : {A P : Type 0} (r : Result A ToWktError) → P → OnIo r P
+io_any : {A P : Type 0} (r : Result A ToWktError) → P → OnIo r P
 io_any (Ok x) p = tt
 io_any (Err (send.Shape e)) p = tt
 io_any (Err (send.Io e)) p = p
@@ -79,3 +80,19 @@ module _ {A T : Type 0} (r : Result A ToWktError) (t : Flat T) where
 
   pub part_of : {W : Type 0} (sink : SinkOfBytes W) (u v : W) (num : T → List ℕ) → OnIo r (IsPartOut sink u v (shape_text num (flat_shape t))) → OnIo r (IsPartOut sink u v (wkt_text num t))
   part_of sink u v num h = subst (λ (bs : List ℕ). OnIo r (IsPartOut sink u v bs)) (same_text num t) h
+
+  pub never_of : IfShape r (λ e. fault (flat_shape t) ≡ Some e) → IfShape r (λ _. ⊥)
+  never_of = never (flat_shape t) (writable t) r
+
+  pub cause_of : IfShape r (λ e. fault (flat_shape t) ≡ Some e) → IfShape r (IsRefusal (tree_shape (back t)))
+  cause_of h = whatever _ r (never_of h)
+
+module _ {T : Type 0} (t : Flat T) where
+  pub text_of : {A : Type 0} (r : Result (String A) Error) (num : T → List ℕ) → IfOk r (λ s. string_bytes s ≡ shape_text num (flat_shape t)) → IfOk r (λ s. string_bytes s ≡ wkt_text num t)
+  text_of r num h = subst (λ (bs : List ℕ). IfOk r (λ s. string_bytes s ≡ bs)) (same_text num t) h
+
+  pub memory_of : {A : Type 0} (r : Result A Error) → IfErr r (IsRefusal (flat_shape t)) → IfErr r IsMemory
+  memory_of r h = string_memory (flat_shape t) (writable t) r h
+
+  pub refused_of : {A : Type 0} (r : Result A Error) → IfErr r (IsRefusal (flat_shape t)) → IfErr r (IsRefusal (tree_shape (back t)))
+  refused_of r h = string_refused (tree_shape (back t)) r (memory_of r h)

@@ -115,7 +115,7 @@ impl<T: WktNum, G: FlatValue<T = T>> ToWkt<T> for G {
     ///
     /// # Errors
     /// `Memory` when out of memory for the string, and no other.
-    #[tactic(auto, using(crate::proofs::Sends::sound_of, crate::proofs::Sends::lawful_of))]
+    #[tactic(auto, using(crate::proofs::Sends::text_of, crate::proofs::Sends::sound_of, crate::proofs::Sends::lawful_of))]
     fn wkt_string(&self, alloc: Global) -> Result<String, Error>
         ensures text { IfOk result (λ s. string_bytes s ≡ wkt_text T.num (G.value self.now)) }
         ensures sound { OnOk result (fault (tree_shape (back (G.value self.now))) ≡ None) }
@@ -131,7 +131,7 @@ impl<T: WktNum, G: FlatValue<T = T>> ToWkt<T> for G {
     /// # Errors
     /// `Io` where the writer failed, or took nothing (`WriteZero`): then a beginning of the text is
     /// out. `Shape` never comes.
-    #[tactic(auto, using(crate::proofs::Sends::sound_of, crate::proofs::Sends::lawful_of, crate::proofs::Sends::out_of, crate::proofs::Sends::io_sound_of, crate::proofs::Sends::part_of))]
+    #[tactic(auto, using(crate::proofs::Sends::sound_of, crate::proofs::Sends::lawful_of, crate::proofs::Sends::out_of, crate::proofs::Sends::io_sound_of, crate::proofs::Sends::part_of, crate::proofs::Sends::cause_of))]
     fn write_wkt<W: ByteSink>(&self, _alloc: Global, writer: &mut W) -> Result<(), ToWktError>
         ensures ok { OnOk result (IsOut W.sink writer.old writer.new (wkt_text T.num (G.value self.now))) }
         ensures ok_count { OnOk result (W.sink.failures writer.new ≡ W.sink.failures writer.old) }

@@ -5,14 +5,13 @@ use Rattle.wkt_types.specs.Tree.{tree, trees_of}
 use Rattle.wkt_types.specs.declared.geometry.Wkt.TheVariants as variants
 use Rattle.wkt_types.proofs.TreeLemmas.{tree-collection}
 use Rattle.wkt_flat.specs.Weight.{flat_weight, weight, weights}
-use Rattle.wkt_flat.proofs.Weighing.{at_least_one}
 use Rattle.wkt_flat.specs.Tree.{flat_tree}
-use Rattle.wkt_convert.proofs.FlatKinds.{flat-point}
-use Rattle.wkt_convert.proofs.Members.{tree-point}
+use Rattle.wkt_flat.proofs.TreeLemmas.{flat-point}
+use Rattle.wkt_types.proofs.TreeLemmas.{tree-point}
 use Rattle.wkt_convert.specs.Back.{back}
 use Rattle.wkt_convert.proofs.Members.{all_back_members}
-use Rattle.wkt_convert.proofs.Opened.{first-of, falls-by-one, falls-opened, falls-closed}
-use Rattle.wkt_convert.proofs.OpenedBack.{going, finish, goes-on, opens, closes, ends}
+use Rattle.wkt_convert.proofs.Opened.{first-of, falls-opened, falls-closed}
+use Rattle.wkt_convert.proofs.OpenedBack.{going, finish, goes-on, opens, closes, ends, left-falls}
 use Rattle.wkt_convert.proofs.back.geometries.Goals as goal
 
 pub loop-rest-init : goal.loop-rest-init
@@ -41,8 +40,7 @@ loop-rest-preserved-then-rest-lt1 g c =
     ∙ at.invariant
 
 pub loop-rest-smaller-in-Point : goal.loop-rest-smaller-in-Point
-loop-rest-smaller-in-Point g c =
-    falls-by-one weight weights (λ x xs. refl) _ c.loop-rest.rest.now c.next-item.result c.in-len1-up.len_at_least c.next-item.is (at_least_one c.next-item.result)
+loop-rest-smaller-in-Point g c = omega (arith, left-falls c.loop-rest.rest.now c.in-len1-up.len_at_least)
 
 pub loop-rest-preserved-in-Point : goal.loop-rest-preserved-in-Point
 loop-rest-preserved-in-Point g c =
@@ -57,17 +55,14 @@ loop-rest-preserved-in-Point g c =
     ∙ at.invariant
 
 pub loop-rest-smaller-in-Whole : goal.loop-rest-smaller-in-Whole
-loop-rest-smaller-in-Whole g c =
-    falls-by-one weight weights (λ x xs. refl) _ c.loop-rest.rest.now c.next-item.result c.in-len1-up.len_at_least c.next-item.is (at_least_one c.next-item.result)
+loop-rest-smaller-in-Whole g c = omega (arith, left-falls c.loop-rest.rest.now c.in-len1-up.len_at_least)
 
 pub loop-rest-preserved-in-Whole : goal.loop-rest-preserved-in-Whole
 loop-rest-preserved-in-Whole g c =
-    let at = c.loop-rest in
-    let next = c.next-item.result in
     let one = rw c.in-Whole.is at c.in_ok-w-in_default-next.ensures in
-    goes-on at.opened.items at.done.items c.push-in-Whole.new.self.items c.in-Whole.w next at.rest.now _
-    (first-of at.rest.now next c.in-len1-up.len_at_least c.next-item.is) one c.in_ok-push-in-Whole.ensures.items
-    ∙ at.invariant
+    goes-on c.loop-rest.opened.items c.loop-rest.done.items c.push-in-Whole.new.self.items c.in-Whole.w c.next-item.result c.loop-rest.rest.now _
+    (first-of c.loop-rest.rest.now c.next-item.result c.in-len1-up.len_at_least c.next-item.is) one c.in_ok-push-in-Whole.ensures.items
+    ∙ c.loop-rest.invariant
 
 pub loop-rest-smaller : goal.loop-rest-smaller
 loop-rest-smaller g c =

@@ -4,16 +4,16 @@ use Rattle.std.proofs.lemmas.Result.{err_from_is_err_and}
 use Rattle.wkt_types.specs.Tree.{tree}
 use Rattle.wkt_types.specs.Weight.{tree_weight, weight, weights}
 use Rattle.wkt_types.specs.Outcome.{value}
-use Rattle.wkt_types.proofs.Weighing.{at_least_one}
 use Rattle.wkt_flat.specs.Equal.{coord_eq}
 use Rattle.wkt_flat.specs.Tree.{Flat, flats_of, flat_tree, flat_trees}
 use Rattle.wkt_flat.proofs.TreeLemmas.{flat-collection}
 use Rattle.wkt_convert.specs.Flatten.{flat}
 use Rattle.wkt_convert.specs.Outcomes.{outcome_map, outcomes}
-use Rattle.wkt_convert.proofs.Members.{flatten_members, tree-point}
+use Rattle.wkt_types.proofs.TreeLemmas.{tree-point}
+use Rattle.wkt_convert.proofs.Members.{flatten_members}
 use Rattle.wkt_convert.proofs.Outcomes.{passes_on}
-use Rattle.wkt_convert.proofs.Opened.{first-of, falls-by-one, falls-opened, falls-closed}
-use Rattle.wkt_convert.proofs.OpenedFlat.{going, going-start, finish, goes-on, opens, closes, ends, refuses}
+use Rattle.wkt_convert.proofs.Opened.{first-of, falls-opened, falls-closed}
+use Rattle.wkt_convert.proofs.OpenedFlat.{going, going-start, finish, goes-on, opens, closes, ends, refuses, left-falls}
 use Rattle.wkt_convert.proofs.flatten.collection.Goals as goal
 
 pub loop-rest-init : goal.loop-rest-init
@@ -58,18 +58,15 @@ returns-in_err-g-in_default-next g c =
     (sym at.invariant ∙ refuses E at.opened.items (map flat_tree at.done.items) next at.rest.now _ k (first-of at.rest.now next c.in-len1-up.len_at_least c.next-item.is) r)) _ c.in_err-g-in_default-next.ensures)
 
 pub loop-rest-smaller-in-Whole : goal.loop-rest-smaller-in-Whole
-loop-rest-smaller-in-Whole g c =
-    falls-by-one weight weights (λ x xs. refl) _ c.loop-rest.rest.now c.next-item.result c.in-len1-up.len_at_least c.next-item.is (at_least_one c.next-item.result)
+loop-rest-smaller-in-Whole g c = omega (arith, left-falls c.loop-rest.rest.now c.in-len1-up.len_at_least)
 
 pub loop-rest-preserved-in-Whole : goal.loop-rest-preserved-in-Whole
 loop-rest-preserved-in-Whole g c =
     let E = coord_eq g.T.PartialEq.eq in
-    let at = c.loop-rest in
-    let next = c.next-item.result in
     let one = rw c.in-Whole.is at c.in_ok-g-in_default-next.ensures in
-    goes-on E at.opened.items at.done.items c.push-in-Whole.new.all.items c.in-Whole.g next at.rest.now _
-    (first-of at.rest.now next c.in-len1-up.len_at_least c.next-item.is) one c.in_ok-push-in-Whole.ensures
-    ∙ at.invariant
+    goes-on E c.loop-rest.opened.items c.loop-rest.done.items c.push-in-Whole.new.all.items c.in-Whole.g c.next-item.result c.loop-rest.rest.now _
+    (first-of c.loop-rest.rest.now c.next-item.result c.in-len1-up.len_at_least c.next-item.is) one c.in_ok-push-in-Whole.ensures
+    ∙ c.loop-rest.invariant
 
 pub loop-rest-smaller : goal.loop-rest-smaller
 loop-rest-smaller g c =
@@ -87,8 +84,7 @@ loop-rest-preserved g c =
     ∙ at.invariant
 
 pub loop-rest-smaller-in-Point : goal.loop-rest-smaller-in-Point
-loop-rest-smaller-in-Point g c =
-    falls-by-one weight weights (λ x xs. refl) _ c.loop-rest.rest.now c.next-item.result c.in-len1-up.len_at_least c.next-item.is (at_least_one c.next-item.result)
+loop-rest-smaller-in-Point g c = omega (arith, left-falls c.loop-rest.rest.now c.in-len1-up.len_at_least)
 
 pub loop-rest-preserved-in-Point : goal.loop-rest-preserved-in-Point
 loop-rest-preserved-in-Point g c =

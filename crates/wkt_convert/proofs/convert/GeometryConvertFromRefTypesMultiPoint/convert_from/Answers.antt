@@ -4,7 +4,7 @@ use Rattle.wkt_types.specs.Outcome.{value}
 use Rattle.wkt_flat.specs.Tree.{Flat}
 use Rattle.wkt_convert.specs.Flatten.{points}
 use Rattle.wkt_convert.specs.Outcomes.{outcome_map}
-use Rattle.wkt_convert.proofs.FlatKinds.{flat-multi_point}
+use Rattle.wkt_flat.proofs.TreeLemmas.{flat-multi_point}
 use Rattle.wkt_convert.proofs.convert.GeometryConvertFromRefTypesMultiPoint.convert_from.Goals as goal
 
 pub returns : goal.returns
