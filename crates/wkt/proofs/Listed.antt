@@ -18,20 +18,16 @@ module _ {N : Type 0} (cmp : N → N → Ordering) (o : IsTotalOrder cmp) (parti
   pub in_order : (a b : N) → IsAtMost cmp (lesser partial a b) (greater partial a b)
   in_order a b = rw (agrees a b) (turned a b (cmp a b) refl)
 
+-- lists are one where what is made of them is, and each step of the making keeps its parts apart
+module _ {A B : Type 0} (of : List A → B) (apart : (x : A) (xs : List A) → of [] ≡ of (x ∷ xs) → ⊥) (parts : (x y : A) (xs ys : List A) → of (x ∷ xs) ≡ of (y ∷ ys) → (x ≡ y) × (of xs ≡ of ys)) where
+  one : (xs ys : List A) → of xs ≡ of ys → xs ≡ ys
+  one [] [] e = refl
+  one [] (y ∷ ys) e = absurd (apart y ys e)
+  one (x ∷ xs) [] e = absurd (apart x xs (sym e))
+  one (x ∷ xs) (y ∷ ys) e = let p = parts x y xs ys e in ap₂ (λ z zs. z ∷ zs) p.0 (one xs ys p.1)
+
 pub trees_one : {T : Type 0} (xs ys : List (Tree T)) → trees_of xs ≡ trees_of ys → xs ≡ ys
-trees_one [] [] e = refl
-trees_one [] (y ∷ ys) e = cc
-trees_one (x ∷ xs) [] e = cc
-trees_one (x ∷ xs) (y ∷ ys) e =
-    let first : x ≡ y = cc in
-    let rest : trees_of xs ≡ trees_of ys = cc in
-    ap₂ (λ z zs. z ∷ zs) first (trees_one xs ys rest)
+trees_one = one trees_of (λ x xs e. cc) (λ x y xs ys e. (cc, cc))
 
 pub flats_one : {T : Type 0} (xs ys : List (Flat T)) → flats_of xs ≡ flats_of ys → xs ≡ ys
-flats_one [] [] e = refl
-flats_one [] (y ∷ ys) e = cc
-flats_one (x ∷ xs) [] e = cc
-flats_one (x ∷ xs) (y ∷ ys) e =
-    let first : x ≡ y = cc in
-    let rest : flats_of xs ≡ flats_of ys = cc in
-    ap₂ (λ z zs. z ∷ zs) first (flats_one xs ys rest)
+flats_one = one flats_of (λ x xs e. cc) (λ x y xs ys e. (cc, cc))

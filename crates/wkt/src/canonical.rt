@@ -40,17 +40,14 @@ fn widen(bytes: &mut Vec<u8>) -> Result<(), AllocError>
     }
 }
 
-/// The message of a text that has no geometry at its front.
+/// The message of a text that has no geometry at its front: such a text is always refused.
 #[cold]
 #[inline(never)]
 fn message_of<T: WktNum>(text: &str) -> Message
     requires { HasNoFront T.read text.now }
     ensures { IsRefusedWith T.read text.now result }
 {
-    match refusal::<T>(text) {
-        Some(why) => why.message,
-        None => unreachable!(),
-    }
+    refusal::<T>(text).unwrap().message
 }
 
 /// The canonical text of the geometry at the front of the text. Texts of one geometry have the same, and texts of two

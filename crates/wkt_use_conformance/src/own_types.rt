@@ -10,9 +10,7 @@ use wkt::to_wkt::{
     write_linestring, write_multi_linestring, write_multi_point, write_multi_polygon, write_point,
     write_polygon, write_rect, write_triangle,
 };
-use wkt_uses::my_areas::{Area, Areas, Corners};
-use wkt_uses::my_lines::{Segment, Track, Tracks};
-use wkt_uses::my_map::{Figure, Map};
+use wkt_uses::my_map::{Area, Areas, Corners, Figure, Map, Segment, Track, Tracks};
 use wkt_uses::my_paper::Paper;
 use wkt_uses::my_points::{Dot, Dots, Spot};
 

@@ -1,4 +1,5 @@
 pub mod Served
+pub mod Fronts
 pub mod Tidy
 pub mod Compared
 pub mod Ordered

@@ -1,10 +1,10 @@
--- What the types of `my_points`, `my_lines`, `my_areas` and `my_map` stand for.
+-- What the types of `my_points` and `my_map` stand for.
 use Rattle.std.specs.Prelude.{ℤ, List, map, Option, option_map}
 use Rattle.wkt.specs.Shapes.{Shape, PolygonShape}
 use Rattle.wkt.specs.Parts.{collection_of}
 use Rattle.wkt_uses.specs.declared.my_points.Dot.{Dot}
-use Rattle.wkt_uses.specs.declared.my_lines.Track.{Track}
-use Rattle.wkt_uses.specs.declared.my_areas.Area.{Area}
+use Rattle.wkt_uses.specs.declared.my_map.Track.{Track}
+use Rattle.wkt_uses.specs.declared.my_map.Area.{Area}
 use Rattle.wkt_uses.specs.declared.my_map.Figure.{Figure}
 use Rattle.wkt_uses.specs.declared.my_map.Figure.TheOpen.{Figure-F, Point, Line, Polygon, Points, Lines, Polygons, Rect, Triangle, Segment, Group}
 use Rattle.wkt_uses.specs.declared.my_map.Figure.TheFolds.{fold-Figure}

@@ -10,11 +10,12 @@ ghost use Rattle.wkt_lines.specs.Streaming.{IsTakenReplied};
 ghost use Rattle.wkt_uses.specs.Served.{IsServed, IsOfNoText, IsTidied, IsTurnedDown, refusal};
 
 use crate::read_and_write::tidy;
+use crate::refusal::explained;
 use serde_json::{Value, json};
 use std::alloc::{AllocError, Global};
 use std::marker::PhantomData;
 use wkt::to_wkt::{ByteSink, ByteSource, TextSink};
-use wkt::{ReadError, WktNum, explain};
+use wkt::{ReadError, WktNum};
 use wkt_lines::{AnswerError, Reply, RunError, stream_with};
 
 /// The answers of the service: to a JSON string the JSON string of its geometry's text, `{"refused":7}` where the text
@@ -108,11 +109,8 @@ fn turned_down<T: WktNum>(alloc: Global, text: &str) -> Result<String, AllocErro
     requires { HasNoFront T.read text.now }
     ensures { IfOk result (λ s. IsTurnedDown T.read T.num text.now (string_bytes s)) }
 {
-    match explain::<T>(alloc, text) {
-        Ok(Some(why)) => refused_at(alloc, why.start),
-        Ok(None) => unreachable!(),
-        Err(error) => Err(error),
-    }
+    let why = explained::<T>(alloc, text)?;
+    refused_at(alloc, why.start)
 }
 
 // The object that says where a text was refused.

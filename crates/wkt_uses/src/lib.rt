@@ -17,8 +17,6 @@ pub mod from_json;
 pub mod json_service;
 pub mod key;
 pub mod key_counts;
-pub mod my_areas;
-pub mod my_lines;
 pub mod my_map;
 pub mod my_number;
 pub mod my_paper;

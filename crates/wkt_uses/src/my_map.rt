@@ -1,11 +1,59 @@
-//! A custom representation: a geometry of any kind that may hold geometries, and a collection.
+//! A custom representation, whole: line strings, polygons and lists of them, lines, rectangles and triangles, a geometry
+//! of any kind that may hold geometries, and a collection. `my_points` has its coordinates and points.
 ghost use Rattle.std.specs.Prelude.{map};
-ghost use Rattle.wkt_uses.specs.Mine.{figure_shape};
+ghost use Rattle.wkt_uses.specs.Mine.{line_of, polygon_of, figure_shape};
 
-use crate::my_areas::{Area, Areas, Corners};
-use crate::my_lines::{Segment, Track, Tracks};
-use crate::my_points::{Dot, Dots};
-use wkt::geo_traits::{Dimensions, GeometryCollectionTrait, GeometryTrait, GeometryType};
+use crate::my_points::{Dot, Dots, Spot};
+use wkt::geo_traits::{
+    Dimensions, GeometryCollectionTrait, GeometryTrait, GeometryType, LineStringTrait, LineTrait,
+    MultiLineStringTrait, MultiPolygonTrait, PolygonTrait, RectTrait, TriangleTrait,
+};
+
+/// A line string, or a ring.
+#[derive(Drop)]
+pub struct Track {
+    pub header: Dimensions,
+    pub spots: Vec<Spot>,
+}
+
+/// A list of line strings.
+#[derive(Drop)]
+pub struct Tracks {
+    pub header: Dimensions,
+    pub members: Vec<Track>,
+}
+
+/// A line between two coordinates.
+#[derive(Drop)]
+pub struct Segment {
+    pub header: Dimensions,
+    pub from: Spot,
+    pub to: Spot,
+}
+
+/// A polygon.
+#[derive(Drop)]
+pub struct Area {
+    pub header: Dimensions,
+    pub exterior: Option<Track>,
+    pub interiors: Vec<Track>,
+}
+
+/// A list of polygons.
+#[derive(Drop)]
+pub struct Areas {
+    pub header: Dimensions,
+    pub members: Vec<Area>,
+}
+
+/// A rectangle by the first two corners, and a triangle by all three.
+#[derive(Drop)]
+pub struct Corners {
+    pub header: Dimensions,
+    pub one: Spot,
+    pub two: Spot,
+    pub three: Spot,
+}
 
 /// A geometry of any kind. A group holds figures.
 #[derive(Drop)]
@@ -27,6 +75,176 @@ pub enum Figure {
 pub struct Map {
     pub header: Dimensions,
     pub figures: Vec<Figure>,
+}
+
+impl LineStringTrait for Track {
+    type T = i32;
+
+    type CoordType = Spot;
+
+    ghost dimension = { λ l. l.header };
+
+    ghost coordinates = { line_of };
+
+    fn dim(&self) -> Dimensions {
+        self.header
+    }
+
+    fn num_coords(&self) -> usize {
+        self.spots.len()
+    }
+
+    fn coord(&self, i: usize) -> &Spot {
+        &self.spots[i]
+    }
+}
+
+impl MultiLineStringTrait for Tracks {
+    type T = i32;
+
+    type InnerLineStringType = Track;
+
+    ghost dimension = { λ m. m.header };
+
+    ghost line_strings = { λ m. map line_of m.members.items };
+
+    fn dim(&self) -> Dimensions {
+        self.header
+    }
+
+    fn num_line_strings(&self) -> usize {
+        self.members.len()
+    }
+
+    fn line_string(&self, i: usize) -> &Track {
+        &self.members[i]
+    }
+}
+
+impl LineTrait for Segment {
+    type T = i32;
+
+    type CoordType = Spot;
+
+    ghost dimension = { λ b. b.header };
+
+    ghost from = { λ b. b.from.numbers.items };
+
+    ghost to = { λ b. b.to.numbers.items };
+
+    fn dim(&self) -> Dimensions {
+        self.header
+    }
+
+    fn start(&self) -> &Spot {
+        &self.from
+    }
+
+    fn end(&self) -> &Spot {
+        &self.to
+    }
+}
+
+impl PolygonTrait for Area {
+    type T = i32;
+
+    type RingType = Track;
+
+    ghost dimension = { λ p. p.header };
+
+    ghost polygon = { polygon_of };
+
+    fn dim(&self) -> Dimensions {
+        self.header
+    }
+
+    fn exterior(&self) -> Option<&Track> {
+        self.exterior.as_ref()
+    }
+
+    fn num_interiors(&self) -> usize {
+        self.interiors.len()
+    }
+
+    fn interior(&self, i: usize) -> &Track {
+        &self.interiors[i]
+    }
+}
+
+impl MultiPolygonTrait for Areas {
+    type T = i32;
+
+    type InnerPolygonType = Area;
+
+    ghost dimension = { λ m. m.header };
+
+    ghost polygons = { λ m. map polygon_of m.members.items };
+
+    fn dim(&self) -> Dimensions {
+        self.header
+    }
+
+    fn num_polygons(&self) -> usize {
+        self.members.len()
+    }
+
+    fn polygon(&self, i: usize) -> &Area {
+        &self.members[i]
+    }
+}
+
+impl RectTrait for Corners {
+    type T = i32;
+
+    type CoordType = Spot;
+
+    ghost dimension = { λ r. r.header };
+
+    ghost min_corner = { λ r. r.one.numbers.items };
+
+    ghost max_corner = { λ r. r.two.numbers.items };
+
+    fn dim(&self) -> Dimensions {
+        self.header
+    }
+
+    fn min(&self) -> &Spot {
+        &self.one
+    }
+
+    fn max(&self) -> &Spot {
+        &self.two
+    }
+}
+
+impl TriangleTrait for Corners {
+    type T = i32;
+
+    type CoordType = Spot;
+
+    ghost dimension = { λ t. t.header };
+
+    ghost first_corner = { λ t. t.one.numbers.items };
+
+    ghost second_corner = { λ t. t.two.numbers.items };
+
+    ghost third_corner = { λ t. t.three.numbers.items };
+
+    fn dim(&self) -> Dimensions {
+        self.header
+    }
+
+    fn first(&self) -> &Spot {
+        &self.one
+    }
+
+    fn second(&self) -> &Spot {
+        &self.two
+    }
+
+    fn third(&self) -> &Spot {
+        &self.three
+    }
 }
 
 impl GeometryTrait for Figure {

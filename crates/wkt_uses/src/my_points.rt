@@ -1,6 +1,6 @@
 //! A custom representation over whole numbers, by the access traits: coordinates and points.
-//! `my_lines`, `my_areas` and `my_map` have the other kinds.
-ghost use Rattle.std.specs.Prelude.{◌≤◌, map, option_map, vec_len};
+//! `my_map` has the other kinds.
+ghost use Rattle.std.specs.Prelude.{◌≤◌, map, vec_len};
 
 use wkt::geo_traits::{CoordTrait, Dimensions, MultiPointTrait, PointTrait};
 

@@ -1,10 +1,12 @@
 //! A service that answers a text with its one text, or with where it is refused and what could stand there.
 ghost use Rattle.std.specs.Prelude.{IfOk};
+ghost use Rattle.wkt.specs.Explained.{IsRefusedAt};
+ghost use Rattle.wkt.specs.Front.{HasNoFront};
 ghost use Rattle.wkt_uses.specs.Refusal.{IsAnswer};
 
 use crate::read_and_write::tidy;
 use std::alloc::{AllocError, Global};
-use wkt::{Expected, ReadError, WktNum, explain};
+use wkt::{Expected, Explanation, ReadError, WktNum, explain};
 
 /// The answer to a text.
 #[derive(Debug, Drop)]
@@ -22,14 +24,24 @@ pub enum Answer {
 pub fn answer_to<T: WktNum>(alloc: Global, text: &str) -> Result<Answer, AllocError>
     ensures { IfOk result (IsAnswer T.read T.num text.now) }
 {
-    match explain::<T>(alloc, text) {
-        Err(error) => Err(error),
-        Ok(Some(why)) => Ok(Answer::Refused(why.start, why.end, why.expected)),
-        Ok(None) => match tidy::<T>(alloc, text) {
-            Ok(tidy) => Ok(Answer::Text(tidy)),
-            Err(ReadError::Memory(error)) => Err(error),
-            // A text that isn't refused has a geometry.
-            Err(ReadError::Text(_)) => unreachable!(),
-        },
+    match tidy::<T>(alloc, text) {
+        Ok(tidy) => Ok(Answer::Text(tidy)),
+        Err(ReadError::Text(_)) => {
+            let why = explained::<T>(alloc, text)?;
+            Ok(Answer::Refused(why.start, why.end, why.expected))
+        }
+        Err(ReadError::Memory(error)) => Err(error),
     }
+}
+
+/// Why a text without a geometry at its front is refused. There is always a reason.
+pub(crate) fn explained<'a, T: WktNum>(
+    alloc: Global,
+    text: &'a str,
+) -> Result<Explanation<'a>, AllocError>
+    requires { HasNoFront T.read text.now }
+    ensures { IfOk result (λ why. IsRefusedAt T.read text.now why.start why.end why.expected) }
+{
+    let why = explain::<T>(alloc, text)?;
+    Ok(why.unwrap())
 }

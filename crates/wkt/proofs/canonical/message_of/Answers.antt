@@ -1,5 +1,6 @@
--- What isn't refused has a front.
+-- What has no front is refused.
+use Rattle.wkt.proofs.Blamed.{some_of}
 use Rattle.wkt.proofs.canonical.message_of.Goals as goal
 
-pub unreachable-requires : goal.unreachable-requires
-unreachable-requires g c = c.requires c.in-None.ensures.front.0 c.in-None.ensures.front.1 c.in-None.ensures.front.2
+pub unwrap-requires : goal.unwrap-requires
+unwrap-requires g c = some_of c.refusal.result c.refusal.ensures.front (λ f. c.requires f.0 f.1 f.2)

@@ -1,10 +1,10 @@
 -- The members so far are written alike, and depth shrinks on the way into a collection.
-use Rattle.std.proofs.Common.{rules, refl, ap, ◌≡◌, ◌∙◌, sym, arith, suc, ◌+◌, ◌*◌, ◌<◌, length}
+use Rattle.std.proofs.Common.{rules, ap, ◌≡◌, ◌∙◌, sym, arith, suc, ◌+◌, ◌*◌, ◌<◌}
 use Rattle.wkt_types.specs.Tree.{tree, members}
 use Rattle.wkt_types.proofs.TreeLemmas.{tree-collection}
 use Rattle.wkt.proofs.Depth.{depth, deepest, below_deepest}
 use Rattle.wkt.specs.Alike.{tree_alike}
-use Rattle.wkt.proofs.Alikes.{part_step, parts_end, members_alike}
+use Rattle.wkt.proofs.Alikes.{parts_differ, parts_agree, parts_end, members_alike}
 use Rattle.wkt.proofs.same.+alike.Goals as goal
 
 pub is_written_alike-are_written_alike-requires : goal.is_written_alike-are_written_alike-requires
@@ -25,18 +25,15 @@ are_written_alike-loop-i-init g t c = record { within = omega arith; kept = memb
 
 pub are_written_alike-returns-then-not-is_written_alike : goal.are_written_alike-returns-then-not-is_written_alike
 are_written_alike-returns-then-not-is_written_alike g t c =
-    let i = c.in-Some.ensures.lookup in
-    let step = part_step (λ a b. tree_alike g.T.PartialEq.eq (tree a) (tree b)) c.args.a.now c.args.b.now c.loop-i.i c.index-a-i.result c.in-Some.y.now c.loop-i-test.true c.index-a-i.is i.3.0 i.1 in
-    sym (c.loop-i.invariant.kept ∙ (step ∙ rw (sym c.is_written_alike.ensures ∙ c.if-not-is_written_alike.true) refl))
+    let found = c.in-Some.ensures.lookup in
+    sym (c.loop-i.invariant.kept ∙ parts_differ (λ a b. tree_alike g.T.PartialEq.eq (tree a) (tree b)) c.args.a.now c.args.b.now c.loop-i.i c.index-a-i.result c.in-Some.y.now c.loop-i-test.true c.index-a-i.is found.3.0 found.1 (sym c.is_written_alike.ensures ∙ c.if-not-is_written_alike.true))
 
 pub are_written_alike-loop-i-preserved : goal.are_written_alike-loop-i-preserved
 are_written_alike-loop-i-preserved g t c =
-    let i = c.in-Some.ensures.lookup in
-    let step = part_step (λ a b. tree_alike g.T.PartialEq.eq (tree a) (tree b)) c.args.a.now c.args.b.now c.loop-i.i c.index-a-i.result c.in-Some.y.now c.loop-i-test.true c.index-a-i.is i.3.0 i.1 in
-    let lt : c.loop-i.i < length c.args.b.now = i.3.0 in
+    let found = c.in-Some.ensures.lookup in
     record {
-      within = omega arith;
-      kept = c.loop-i.invariant.kept ∙ (step ∙ rw (sym c.is_written_alike.ensures ∙ c.if-not-is_written_alike.false) refl);
+      within = omega (arith, found.3.0);
+      kept = c.loop-i.invariant.kept ∙ parts_agree (λ a b. tree_alike g.T.PartialEq.eq (tree a) (tree b)) c.args.a.now c.args.b.now c.loop-i.i c.index-a-i.result c.in-Some.y.now c.loop-i-test.true c.index-a-i.is found.3.0 found.1 (sym c.is_written_alike.ensures ∙ c.if-not-is_written_alike.false);
     }
 
 pub are_written_alike-returns : goal.are_written_alike-returns

@@ -59,11 +59,10 @@ loop-rest-smaller-in-Whole g c = omega (arith, left-falls c.loop-rest.rest.now c
 
 pub loop-rest-preserved-in-Whole : goal.loop-rest-preserved-in-Whole
 loop-rest-preserved-in-Whole g c =
-    let at = c.loop-rest in
     let one = rw c.in-Whole.is at c.in_ok-w-in_default-next.ensures in
-    goes-on at.opened.items at.done.items c.push-in-Whole.new.self.items c.in-Whole.w c.next-item.result at.rest.now _
-    (first-of at.rest.now c.next-item.result c.in-len1-up.len_at_least c.next-item.is) one c.in_ok-push-in-Whole.ensures.items
-    ∙ at.invariant
+    goes-on c.loop-rest.opened.items c.loop-rest.done.items c.push-in-Whole.new.self.items c.in-Whole.w c.next-item.result c.loop-rest.rest.now _
+    (first-of c.loop-rest.rest.now c.next-item.result c.in-len1-up.len_at_least c.next-item.is) one c.in_ok-push-in-Whole.ensures.items
+    ∙ c.loop-rest.invariant
 
 pub loop-rest-smaller : goal.loop-rest-smaller
 loop-rest-smaller g c =

@@ -63,11 +63,10 @@ loop-rest-smaller-in-Whole g c = omega (arith, left-falls c.loop-rest.rest.now c
 pub loop-rest-preserved-in-Whole : goal.loop-rest-preserved-in-Whole
 loop-rest-preserved-in-Whole g c =
     let E = coord_eq g.T.PartialEq.eq in
-    let at = c.loop-rest in
     let one = rw c.in-Whole.is at c.in_ok-g-in_default-next.ensures in
-    goes-on E at.opened.items at.done.items c.push-in-Whole.new.all.items c.in-Whole.g c.next-item.result at.rest.now _
-    (first-of at.rest.now c.next-item.result c.in-len1-up.len_at_least c.next-item.is) one c.in_ok-push-in-Whole.ensures
-    ∙ at.invariant
+    goes-on E c.loop-rest.opened.items c.loop-rest.done.items c.push-in-Whole.new.all.items c.in-Whole.g c.next-item.result c.loop-rest.rest.now _
+    (first-of c.loop-rest.rest.now c.next-item.result c.in-len1-up.len_at_least c.next-item.is) one c.in_ok-push-in-Whole.ensures
+    ∙ c.loop-rest.invariant
 
 pub loop-rest-smaller : goal.loop-rest-smaller
 loop-rest-smaller g c =

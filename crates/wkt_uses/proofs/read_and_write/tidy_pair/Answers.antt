@@ -15,12 +15,7 @@ returns-clause-pair g c =
     let law = c.read_values_are_writable.ensures _ value end _ front is in
     let law' = c.read_values_are_writable.ensures _ value' end' _ front' is' in
     record {
-      first = value;
-      second = value';
-      end = end;
-      front = front;
-      other_end = end';
-      other_front = front';
+      fronts = record { first = value; second = value'; end = end; front = front; other_end = end'; other_front = front' };
       is =
           pair_shown g.T.WktNum.num _ _ _ _ c.in_ok-pair.ensures law.1 law'.1 c.in_ok-to_string.ensures.ok
           ∙ ap (λ s. shape_text g.T.WktNum.num (pair s (tree_shape (tree c.in_ok-other.other)))) law.0

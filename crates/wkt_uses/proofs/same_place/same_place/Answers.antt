@@ -10,11 +10,6 @@ returns-clause-same g c =
     let first = c.front_is_writable.ensures _ a.value end a.front in
     let second = c.front_is_writable.ensures _ b.value end' b.front in
     record {
-      first = a.value;
-      second = b.value;
-      end = end;
-      front = a.front;
-      other_end = end';
-      other_front = b.front;
+      fronts = record { first = a.value; second = b.value; end = end; front = a.front; other_end = end'; other_front = b.front };
       answer = same_text c.in_ok-first.first c.in_ok-second.second _ _ _ c.eq.ensures a.is b.is (c.one_text.ensures (shape_of a.value) (shape_of b.value) first.1 second.1 first.2 second.2);
     }
