@@ -3,7 +3,6 @@ mod Marked
 mod Steps
 mod Counts
 mod Closings
-mod Ascii
 mod Refusals
 mod Whites
 mod Named

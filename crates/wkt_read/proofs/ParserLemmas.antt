@@ -15,3 +15,4 @@ pub mod Answering
 pub mod OneMessage
 pub mod Valued
 pub mod Refusals
+pub mod Ascii

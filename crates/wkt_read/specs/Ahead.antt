@@ -7,7 +7,7 @@ use Rattle.wkt_read.specs.Placed.{Placed, lexemes_of, end_after}
 use Rattle.wkt_read.specs.Items.{IsItem}
 use Rattle.wkt_read.specs.Tokenizer.Cursors.{taken_in}
 use Rattle.wkt_read.specs.Tokenizer.Unread.{found}
-use Rattle.wkt_read.specs.Stream.{coming}
+use Rattle.wkt_read.specs.Stream.{Standing, StepsFrom, coming}
 use Rattle.wkt_read.specs.declared.tokenizer.tokens.Lexeme as code
 use Rattle.wkt_read.specs.declared.tokenizer.tokens.Token.{Token}
 use Rattle.wkt_read.specs.declared.tokenizer.peekable.PeekableTokens.{PeekableTokens}
@@ -38,12 +38,13 @@ end_of p = p.end
 unfoldable pub rest : {T : Type 0} → PeekableTokens T → List Lexeme
 rest p = lexemes_of (left p)
 
--- One step of a stream: the first of the lexemes, after which at most one byte was taken; or none, where none is left.
+-- Where this stream stands.
+abbrev pub standing_ahead : {T : Type 0} → PeekableTokens T → Standing
+standing_ahead p = record { left = left p; end = end_of p; taken = taken_of p }
+
+-- One step of this stream.
 abbrev pub Moves : {T : Type 0} → PeekableTokens T → Option Lexeme → PeekableTokens T → Type 0
-Moves s None t = (left s ≡ []) × (left t ≡ []) × (end_of t ≡ end_of s) × (taken_of s ≤ taken_of t)
-Moves s (Some l) t =
-    (left s ≡ record { lexeme = l; end = end_of t } ∷ left t)
-    × (end_of t ≤ taken_of t) × (taken_of t ≤ end_of t + 1) × (taken_of s ≤ taken_of t)
+Moves s l t = StepsFrom (standing_ahead s) l (standing_ahead t)
 
 -- One call of `next`: one step, and the item says which lexeme it took.
 abbrev pub GivesAhead : {T : Type 0} → (List ℕ → Option T) → PeekableTokens T → Option (Result (Token T) (Bor (List ℕ))) → PeekableTokens T → Type 0

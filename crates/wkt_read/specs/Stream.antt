@@ -22,13 +22,25 @@ bytes_taken s = taken_in s.bytes
 unfoldable pub end_of_last : {T : Type 0} → Tokens T → ℕ
 end_of_last s = s.end
 
+-- Where a stream stands: the lexemes that are left, where the last one that it gave ends, and how many bytes were taken.
+pub record Standing : Type 0 where
+  pub left : List Placed
+  pub end : ℕ
+  pub taken : ℕ
+
 -- One step of a stream: the first of the lexemes, after which at most one byte was taken; or none, where none is left.
+abbrev pub StepsFrom : Standing → Option Lexeme → Standing → Type 0
+StepsFrom s None t = (s.left ≡ []) × (t.left ≡ []) × (t.end ≡ s.end) × (s.taken ≤ t.taken)
+StepsFrom s (Some l) t =
+    (s.left ≡ record { lexeme = l; end = t.end } ∷ t.left) × (t.end ≤ t.taken) × (t.taken ≤ t.end + 1) × (s.taken ≤ t.taken)
+
+-- Where this stream stands.
+abbrev pub standing : {T : Type 0} → Tokens T → Standing
+standing s = record { left = coming s; end = end_of_last s; taken = bytes_taken s }
+
+-- One step of this stream.
 abbrev pub Steps : {T : Type 0} → Tokens T → Option Lexeme → Tokens T → Type 0
-Steps s None t =
-    (coming s ≡ []) × (coming t ≡ []) × (end_of_last t ≡ end_of_last s) × (bytes_taken s ≤ bytes_taken t)
-Steps s (Some l) t =
-    (coming s ≡ record { lexeme = l; end = end_of_last t } ∷ coming t)
-    × (end_of_last t ≤ bytes_taken t) × (bytes_taken t ≤ end_of_last t + 1) × (bytes_taken s ≤ bytes_taken t)
+Steps s l t = StepsFrom (standing s) l (standing t)
 
 -- One call of `next`: one step, and the item says which lexeme it took.
 abbrev pub Gives : {T : Type 0} → (List ℕ → Option T) → Tokens T → Option (Result (Token T) (Bor (List ℕ))) → Tokens T → Type 0

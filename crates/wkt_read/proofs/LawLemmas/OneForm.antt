@@ -69,14 +69,10 @@ pub many_one : {A : Type 0} (P : List Lexeme → A → Type 0) → OneForm P →
 many_one P one a b x y [] ws m m' eq = elim m [ ]
 many_one P one a b x y (v ∷ vs) [] m m' eq = elim m' [ ]
 many_one P one a b x y (v ∷ vs) (w ∷ ws) (a1, a2, e, p, m) (b1, b2, e', p', m') eq =
-    let q : (a1 ++ a2) ++ Close ∷ x ≡ (b1 ++ b2) ++ Close ∷ y = rw e at (rw e' at eq) in
-    let s : Same a1 b1 (a2 ++ Close ∷ x) (b2 ++ Close ∷ y) v w = one a1 b1 _ _ v w p p' (sym (append_assoc a1 a2 (Close ∷ x)) ∙ q ∙ append_assoc b1 b2 (Close ∷ y)) in
-    let t : Same a2 b2 x y vs ws = more_one P one a2 b2 x y vs ws m m' s.rest in
-    let l1 = s.lexemes in
-    let l2 = t.lexemes in
-    let v1 = s.value in
-    let v2 = t.value in
-    record { lexemes = cc; rest = t.rest; value = cc }
+    let after = λ (l : List Lexeme). Comma ∷ l in
+    let s : Same (Comma ∷ a) (Comma ∷ b) x y (v ∷ vs) (w ∷ ws) = more_one P one (Comma ∷ a) (Comma ∷ b) x y (v ∷ vs) (w ∷ ws) (a1, a2, ap after e, p, m) (b1, b2, ap after e', p', m') (ap after eq) in
+    let l = s.lexemes in
+    record { lexemes = cc; rest = s.rest; value = s.value }
 
 pub empty_one : (a b x y : List Lexeme) → IsEmptyWord a → IsEmptyWord b → a ++ x ≡ b ++ y → (a ≡ b) × (x ≡ y)
 empty_one a b x y (r, e, u) (r', e', u') eq =

@@ -73,13 +73,8 @@ pub dead_many : {A : Type 0} (P : List Lexeme → A → Type 0) → OneForm P �
 dead_many P one ls s [] a n f more rest ys m e = elim n [ ]
 dead_many P one ls s (x ∷ xs) a n f more rest [] m e = elim m [ ]
 dead_many P one ls s (x ∷ xs) a (p, q, ea, px, n) f more rest (y ∷ ys) (p', q', ef, py, m) e =
-    let k : ((p ++ q) ++ ls) ++ more ≡ (p' ++ q') ++ Close ∷ rest = rw ea at (rw ef at e) in
-    let k3 : p ++ ((q ++ ls) ++ more) ≡ p' ++ (q' ++ Close ∷ rest) = sym (regroup p q ls more) ∙ k ∙ append_assoc p' q' (Close ∷ rest) in
-    let s' = one p p' _ _ x y px py k3 in
-    dead_more P one ls s xs ys q q' more rest n m s'.rest
-  where
-    regroup : (p q ls more : List Lexeme) → ((p ++ q) ++ ls) ++ more ≡ p ++ ((q ++ ls) ++ more)
-    regroup p q ls more = simp append_assoc
+    let after = λ (l : List Lexeme). Comma ∷ l in
+    dead_more P one ls s (x ∷ xs) (y ∷ ys) (Comma ∷ a) (Comma ∷ f) more rest (p, q, ap after ea, px, n) (p', q', ap after ef, py, m) (ap after e)
 
 -- in parentheses
 pub dead_listed : {A : Type 0} (P : List Lexeme → A → Type 0) (ls : List Lexeme) → DeadClosed (Many P) ls → DeadFor (Listed P) (Open ∷ ls)

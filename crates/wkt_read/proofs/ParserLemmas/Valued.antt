@@ -24,6 +24,7 @@ use Rattle.wkt_read.specs.declared.error.ReadError.TheVariants.{Text, Memory}
 use Rattle.wkt_read.specs.declared.messages.Message.{Message}
 use Rattle.wkt_read.specs.declared.messages.Message.TheVariants as message
 use Rattle.wkt_read.specs.declared.tokenizer.peekable.PeekableTokens.{PeekableTokens}
+use Rattle.wkt_read.proofs.MessageTexts.{one-text}
 use Rattle.wkt_read.proofs.ParserLemmas.Readings.{sound}
 use Rattle.wkt_read.proofs.ParserLemmas.Early.{error_early}
 use Rattle.wkt_read.proofs.ParserLemmas.Free.{none_begins, no_members}
@@ -32,19 +33,7 @@ use Rattle.wkt_read.proofs.ParserLemmas.Answering.{some-taken, to-front}
 
 -- no other message is that of a bad number
 is-bad : (m : Message) → message_text m ≡ bad_number → m ≡ message.BadNumber
-is-bad message.BadNumber e = refl
-is-bad message.Format e = absurd (omega (arith, ap length e))
-is-bad message.NonAscii e = absurd (omega (arith, ap length e))
-is-bad message.Kind e = absurd (omega (arith, ap length e))
-is-bad message.Word e = absurd (omega (arith, ap length e))
-is-bad message.End e = absurd (omega (arith, ap length e))
-is-bad message.Open e = absurd (omega (arith, ap length e))
-is-bad message.Close e = absurd (omega (arith, ap length e))
-is-bad message.X e = absurd (omega (arith, ap length e))
-is-bad message.Y e = absurd (omega (arith, ap length e))
-is-bad message.Z e = absurd (omega (arith, ap length e))
-is-bad message.M e = absurd (omega (arith, ap length e))
-is-bad message.Member e = absurd (omega (arith, ap length e))
+is-bad m = one-text m message.BadNumber
 
 module _ {T : Type 0} (read : List ℕ → Option T) (s t : PeekableTokens T) where
   -- what `value` promises
