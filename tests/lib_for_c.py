@@ -38,6 +38,16 @@ def below(name, uses):
     return found
 
 
+def library_words(kit, crate, uses, made):
+    """The words by which a check of the crate finds its libraries: those that were made, by their folders, and the toolchain's."""
+    words = ["--extern", f"std={kit}/rlibs/std.rlib", "-L", f"dependency={kit}/rlibs"]
+    for name in uses[crate]:
+        words += ["--extern", f"{name}={made.get(name, f'{kit}/rlibs')}/{name}.rlib"]
+    for folder in made.values():
+        words += ["-L", f"dependency={folder}"]
+    return words + ["--antt-project", f"{kit}/rattle/logic/antt-project.json", "--logic-built", f"{kit}/logic_built"]
+
+
 def await_libraries(libraries, ended):
     """Returns whether each library was made since this was called, as soon as all were, or when the file `ended` is there."""
     since = time.time()
@@ -66,14 +76,7 @@ def main():
     # A stamp beside a library says that a check of rt's own left it: rt lib takes those.
     if not all(os.path.isdir(f"{it}/{name}.rlib") and not os.path.exists(f"{it}/stamp") for name, it in made.items()):
         return 2
-    words = ["--crate-name", CRATE, "src/lib.rt", "--crate-type", "staticlib"]
-    words += ["--extern", f"std={kit}/rlibs/std.rlib", "-L", f"dependency={kit}/rlibs"]
-    for name in uses[CRATE]:
-        # A library that isn't this repository's is the toolchain's.
-        words += ["--extern", f"{name}={made.get(name, f'{kit}/rlibs')}/{name}.rlib"]
-    for it in made.values():
-        words += ["-L", f"dependency={it}"]
-    words += ["--antt-project", f"{kit}/rattle/logic/antt-project.json", "--logic-built", f"{kit}/logic_built"]
+    words = ["--crate-name", CRATE, "src/lib.rt", "--crate-type", "staticlib", *library_words(kit, CRATE, uses, made)]
     words += ["--jobs", str(min(2 if ended else 4, len(os.sched_getaffinity(0)))), "--toolchain", f"{kit}/toolchain", "--backend", "llvm"]
     how = {"cwd": f"{TOP}/crates/{CRATE}", "stdout": subprocess.DEVNULL}
     return subprocess.run([f"{kit}/bin/rattle", "build", *words, "-o", to], **how).returncode

@@ -89,7 +89,7 @@ program() {
 
 # The longest first.
 work=("rows wkt_conformance")
-for crate in $(grep -l '^#\[test\]' crates/*/src/*.rt | cut -d / -f 2 | uniq); do
+for crate in $(grep -lr '^#\[test\]' crates/*/src | cut -d / -f 2 | sort -u); do
     [ "$crate" = wkt_long_conformance ] || work+=("tests $crate")
 done
 for main in crates/*/src/main.rt; do
@@ -119,7 +119,7 @@ for crate in "${begun[@]}"; do
     read -r p f < "$dir/$crate.count" || { echo "$crate: came to no count"; p=0 f=1; }
     passed=$((passed + p)) failed=$((failed + f))
 done
-[ $# != 0 ] || echo "not run here: wkt_long_conformance ($(cat crates/wkt_long_conformance/src/*.rt | grep -c '^#\[test\]') tests, which the gate runs)"
+[ $# != 0 ] || echo "not run here: wkt_long_conformance ($(grep -rh '^#\[test\]' crates/wkt_long_conformance/src | wc -l) tests, which the gate runs)"
 [ "${#begun[@]}" != 0 ] || failed=1
 echo "$SECONDS s"
 echo "$passed passed, $failed failed"

@@ -15,7 +15,7 @@ import subprocess
 import sys
 import tempfile
 
-from lib_for_c import TOP, below, uses_of
+from lib_for_c import TOP, below, library_words, uses_of
 
 FUNCTION = re.compile(r"\s*(?:pub(?:\([a-z]+\))?\s+)?(?:const\s+)?(?:unsafe\s+)?(?:extern \"C\" )?fn\s+(\w+)")
 IMPL = re.compile(r"impl(?:<[^{]*?>)?\s+(?:(?:\w+::)*(\w+)(?:<.*?>)?\s+for\s+)?&?(?:'\w+ )?(?:mut )?(\w+)")
@@ -78,12 +78,7 @@ def words_for(crate, uses, is_static):
             sys.exit(f"{crate}: no library of {name}: run rt ci")
     is_program = os.path.exists(f"{TOP}/crates/{crate}/src/main.rt")
     words = [f"{kit}/bin/rattle", "check", "--crate-name", crate, f"src/{'main' if is_program else 'lib'}.rt"]
-    words += ["--extern", f"std={kit}/rlibs/std.rlib", "-L", f"dependency={kit}/rlibs"]
-    for name in uses[crate]:
-        words += ["--extern", f"{name}={made.get(name, f'{kit}/rlibs')}/{name}.rlib"]
-    for folder in made.values():
-        words += ["-L", f"dependency={folder}"]
-    words += ["--antt-project", f"{kit}/rattle/logic/antt-project.json", "--logic-built", f"{kit}/logic_built"]
+    words += library_words(kit, crate, uses, made)
     return words + ["--links", f"{crate}=", "--jobs", "1"] + ["--crate-type", "staticlib"] * is_static
 
 
