@@ -13,6 +13,8 @@ trap 'rm -rf "$dir"' EXIT
 cat > "$dir/right" <<'RIGHT'
 # A fast way of reading digits: its None says nothing of them, and they are then read in the plain way.
 wkt_num last_digits: \{ None \}
+# A fast way of finding text: its false says nothing, and the run is then looked at byte by byte.
+wkt_events is_near_ascii: \{ false \}
 # Which of two texts stands first makes no difference.
 wkt_uses same_place: \{ .*\(alloc, other, one\) \}
 # The sink that it makes may have no room, and memory may run out: both are answers that its contract allows at any time.
