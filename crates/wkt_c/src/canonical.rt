@@ -69,8 +69,7 @@ fn write_at(text: &str, places: u32, room: &mut [u8]) -> Option<(usize, usize)>
         15 => write::<15>(text, room),
         16 => write::<16>(text, room),
         17 => write::<17>(text, room),
-        18 => write::<18>(text, room),
-        _ => unreachable!(),
+        _ => write::<18>(text, room),
     }
 }
 

@@ -101,7 +101,6 @@ pub(crate) fn some_at(
         15 => answer_some::<15>(alloc, input, last, out),
         16 => answer_some::<16>(alloc, input, last, out),
         17 => answer_some::<17>(alloc, input, last, out),
-        18 => answer_some::<18>(alloc, input, last, out),
-        _ => unreachable!(),
+        _ => answer_some::<18>(alloc, input, last, out),
     }
 }
