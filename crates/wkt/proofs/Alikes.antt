@@ -22,12 +22,12 @@ module _ {X : Type 0} (E : X → X → Bool) (as' bs : List X) (i : ℕ) where
 
   -- the next parts decide
   pub parts_differ : (x y : X) → i < length as' → x ≡ get_or as' i x → i < length bs → y ≡ get_or bs i y → E x y ≡ false → left ≡ false
-  parts_differ x y h e lt f no = part_step x y h e lt f ∙ ap (λ b. b && pointwise E (drop (i + 1) as') (drop (i + 1) bs)) no
+  parts_differ x y h e lt f differs = part_step x y h e lt f ∙ ap (λ b. b && pointwise E (drop (i + 1) as') (drop (i + 1) bs)) differs
 
   -- or they are passed over
   pub parts_agree : (x y : X) → i < length as' → x ≡ get_or as' i x → i < length bs → y ≡ get_or bs i y → E x y ≡ true →
       left ≡ pointwise E (drop (i + 1) as') (drop (i + 1) bs)
-  parts_agree x y h e lt f yes = part_step x y h e lt f ∙ ap (λ b. b && pointwise E (drop (i + 1) as') (drop (i + 1) bs)) yes
+  parts_agree x y h e lt f agrees = part_step x y h e lt f ∙ ap (λ b. b && pointwise E (drop (i + 1) as') (drop (i + 1) bs)) agrees
 
   pub parts_short : (x : X) → i < length as' → length bs ≤ i → left ≡ false
   parts_short x h k = rw (drop-cons as' i x h, drop_all i bs k) refl
