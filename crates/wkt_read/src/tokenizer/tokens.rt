@@ -56,8 +56,8 @@ pub(crate) fn lexeme_of<'a>(run: &'a str) -> Lexeme<'a>
 fn number_in<'a>(run: &'a str) -> Option<&'a str>
     ensures { IsNumberIn result run.now }
 {
-    match run.as_bytes() {
-        [first, ..] if starts_number(*first) => Some(if *first == b'+' { &run[1..] } else { run }),
+    match run.as_bytes().first() {
+        Some(first) if starts_number(*first) => Some(if *first == b'+' { &run[1..] } else { run }),
         _ => None,
     }
 }
