@@ -15,6 +15,9 @@ cat > "$dir/right" <<'RIGHT'
 wkt_num last_digits: \{ None \}
 # A fast way of finding text: its false says nothing, and the run is then looked at byte by byte.
 wkt_events is_near_ascii: \{ false \}
+# Fast ways of finding `POINT (` and `GEOMETRYCOLLECTION (`: None and false say nothing, and the header is then read in the general way.
+wkt_events (point_head|collection_head|opens_behind): \{ None \}
+wkt_events is_(point|collection): \{ false \}
 # Which of two texts stands first makes no difference.
 wkt_uses same_place: \{ .*\(alloc, other, one\) \}
 # The sink that it makes may have no room, and memory may run out: both are answers that its contract allows at any time.
