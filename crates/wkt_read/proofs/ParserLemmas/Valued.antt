@@ -1,5 +1,5 @@
 -- What `read` answers, by what the parser's `value` promises.
-use Rattle.std.proofs.Common.{◌≡◌, ℕ, ◌<◌, List, length, refl, sym, ap, ◌∙◌, arith, Option, Result, Ok, Err, false}
+use Rattle.std.proofs.Common.{◌≡◌, ℕ, ◌<◌, List, length, refl, sym, ◌∙◌, arith, Option, Result, Ok, Err, false}
 use Rattle.std.specs.Prelude.{OnOk, IfOk}
 use Rattle.std.specs.Result.{IsOk}
 use Rattle.wkt_access.specs.Values.{Value}

@@ -1,14 +1,8 @@
 -- What a reader answers, by what there is to read. Only private contracts cite this file.
-use Rattle.std.specs.Prelude.{◌≡◌, ◌≤◌, ℕ, List, length, Result, Ok, Err}
-use Rattle.wkt_num.specs.Bytes.{Lexeme}
 use Rattle.wkt_access.specs.Values.{Value}
 use Rattle.wkt_types.specs.Tree.{tree}
 use Rattle.wkt_types.specs.Values.{value_of, IsUniform}
 use Rattle.wkt_types.specs.declared.geometry.Wkt.{Wkt}
-use Rattle.wkt_read.specs.declared.error.ReadError.{ReadError}
-use Rattle.wkt_read.specs.declared.error.ReadError.TheVariants.{Text, Memory}
-use Rattle.wkt_read.specs.declared.tokenizer.peekable.PeekableTokens.{PeekableTokens}
-use Rattle.wkt_read.specs.Ahead.{rest}
 
 -- the value of a geometry
 abbrev pub wkt_value : {T : Type 0} → Wkt T → Value T

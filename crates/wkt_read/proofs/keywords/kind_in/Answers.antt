@@ -1,5 +1,5 @@
 -- A run is a kind word alone, one with a dimension joined, or none of the table.
-use Rattle.std.proofs.Common.{◌∙◌, true, false, Some, None, sym, ap, subst}
+use Rattle.std.proofs.Common.{◌∙◌, true, false, sym, ap, subst}
 use Rattle.std.specs.Str.{str_to_ascii_uppercase}
 use Rattle.wkt_read.specs.Grammar.{kind_word, dim_word}
 use Rattle.wkt_read.specs.Keywords.{Names}

@@ -1,7 +1,6 @@
 -- No message before this number has the text.
-use Rattle.std.proofs.Common.{◌∙◌, sym, ap, arith}
-use Rattle.wkt_read.specs.Messages.{message_text}
-use Rattle.wkt_read.proofs.MessageTexts.{none-first, none-next, none-at-all, one-text}
+use Rattle.std.proofs.Common.{arith}
+use Rattle.wkt_read.proofs.MessageTexts.{none-first}
 use Rattle.wkt_read.proofs.messages.Message.from_text.Goals as goal
 
 pub number-init : goal.number-init
