@@ -1,9 +1,11 @@
 -- Answers of any kind to the lines of an input: `is line answer` says that the line may have this answer.
-use Rattle.std.specs.Prelude.{◌≡◌, ℕ, List, [], ◌∷◌, ◌++◌, Option}
+use Rattle.std.specs.Prelude.{◌≡◌, ℕ, List, [], ◌∷◌, ◌++◌, Option, Result, OnOk}
 use Rattle.std.specs.Io.KnownBytes.{Appends}
 use Rattle.wkt_num.specs.Sink.{Sink, Adds, Breaks}
 use Rattle.wkt_bytes.specs.Sinks.{SinkOfBytes}
 use Rattle.wkt_lines.specs.Lines.{input_lines}
+use Rattle.wkt_lines.specs.Answer.{OnSink, OnAnswerMemory}
+use Rattle.wkt_lines.specs.declared.answer.AnswerError.{AnswerError}
 
 module _ (is : List ℕ → List ℕ → Type 0) where
   -- Each line's answer, followed by a line feed.
@@ -108,3 +110,15 @@ module _ (is : List ℕ → List ℕ → Type 0) where
       pub answer : List ℕ
       pub is_answer : is line answer
       pub broke : Breaks sink old (out ++ (answer ++ 10 ∷ [])) new
+
+    -- The answer to a line was added, and a line feed, or an error says what was.
+    pub record RepliesLine {A : Type 0} (old : S) (line : List ℕ) (result : Result A AnswerError) (new : S) : Type 0 where
+      pub ok : OnOk result (AddsReplyLine old new line)
+      pub sink : OnSink result (BreaksReplyLine old new line)
+      pub memory : OnAnswerMemory result (new ≡ old)
+
+    -- The answers to all lines of the input were added, or an error says which.
+    pub record RepliesAll {A : Type 0} (old : S) (input : List ℕ) (result : Result A AnswerError) (new : S) : Type 0 where
+      pub ok : OnOk result (AddsReplies old new input)
+      pub sink : OnSink result (BreaksReplies old new input)
+      pub memory : OnAnswerMemory result (AddsFirstReplies old new input)
