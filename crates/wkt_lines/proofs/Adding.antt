@@ -55,17 +55,14 @@ module _ {S : Type 0} (sink : Sink S) where
 
       -- the next line broke off
       breaks_next : (line : List ℕ) → line ≡ before_feed rest → BreaksReplyLine is sink t u line → BreaksReplies is sink s u input
-      breaks_next line e (answer, is_one, broke) = record {
-        first = to.first;
-        line = line;
-        others = input_lines (after_feed rest);
-        lines = next_line to.first rest input line to.lines some e;
-        out = to.out;
-        answers = to.answers;
-        answer = answer;
-        is_answer = is_one;
-        broke = breaks_after s t u to.out (answer ++ 10 ∷ []) to.added broke;
-      }
+      breaks_next line e (answer, is_one, broke) =
+          let split = next_line to.first rest input line to.lines some e in
+          record {
+            before = record { first = to.first; line = line; others = input_lines (after_feed rest); split = split; out = to.out; answers = to.answers };
+            answer = answer;
+            is_answer = is_one;
+            broke = breaks_after s t u to.out (answer ++ 10 ∷ []) to.added broke;
+          }
 
       -- the next line was not answered
       pub adds_to_last : (A B : Type 0) (line : List ℕ) → line ≡ before_feed rest → (e : AnswerError) → RepliesLine is sink t line (failed A e) u → RepliesAll is sink s input (failed B e) u

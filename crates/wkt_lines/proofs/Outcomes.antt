@@ -6,7 +6,7 @@ use Rattle.std.proofs.KnownBytes.{Appends-nil, Appends-trans, Keeps-refl, Consum
 use Rattle.wkt_bytes.specs.Sinks.{SinkOfBytes}
 use Rattle.wkt_lines.specs.Lines.{input_lines}
 use Rattle.wkt_lines.specs.Laws.{IsWhole}
-use Rattle.wkt_lines.specs.Replies.{AllReplied, FirstReplied, BeforeReplied, PartReplied}
+use Rattle.wkt_lines.specs.Replies.{AreReplies, AllReplied, FirstReplied, RepliesBefore, BeforeReplied, PartReplied}
 use Rattle.std.specs.declared.io.Error.{Error}
 use Rattle.std.specs.declared.alloc.AllocError.{AllocError}
 use Rattle.wkt_num.specs.Sink.{next_count}
@@ -71,37 +71,30 @@ module _ (is : List ℕ → List ℕ → Type 0) where
   }
 
   -- of the lines before one, no line is too many
-  pub before_first : (a b : Option (List ℕ)) (input : List ℕ) → BeforeReplied is a b input → FirstReplied is a b input
-  before_first a b input h = record { first = h.first; others = h.line ∷ h.others; lines = h.lines; out = h.out; answers = h.answers; went = h.went }
+  before_first : (a b : Option (List ℕ)) (input : List ℕ) → BeforeReplied is a b input → FirstReplied is a b input
+  before_first a b input (h, w) = record { first = h.first; others = h.line ∷ h.others; lines = h.split; out = h.out; answers = h.answers; went = w }
+
+  -- answers to the lines before one, after those to the lines before them
+  abbrev later_before : (done here input out : List ℕ) → AreReplies is (input_lines done) out → RepliesBefore is (input_lines here) → Fits done here input → RepliesBefore is (input_lines input)
+  later_before done here input out h f (others, e) = record {
+    first = input_lines done ++ f.first;
+    line = f.line;
+    others = f.others ++ others;
+    split = append_assoc (input_lines done) f.first (f.line ∷ (f.others ++ others))
+        ∙ (ap (λ (ls : List (List ℕ)). input_lines done ++ ls) (sym (append_assoc f.first (f.line ∷ f.others) others) ∙ ap (λ (ls : List (List ℕ)). ls ++ others) f.split) ∙ e);
+    out = out ++ f.out;
+    answers = replies_append is (input_lines done) f.first out f.out h f.answers;
+  }
 
   before_more : (a b c : Option (List ℕ)) (done here input : List ℕ) → AllReplied is a b done → BeforeReplied is b c here → Fits done here input → BeforeReplied is a c input
-  before_more a b c done here input h f (others, e) = record {
-    first = input_lines done ++ f.first;
-    line = f.line;
-    others = f.others ++ others;
-    lines = append_assoc (input_lines done) f.first (f.line ∷ (f.others ++ others))
-        ∙ (ap (λ (ls : List (List ℕ)). input_lines done ++ ls) (sym (append_assoc f.first (f.line ∷ f.others) others) ∙ ap (λ (ls : List (List ℕ)). ls ++ others) f.lines) ∙ e);
-    out = h.0 ++ f.out;
-    answers = replies_append is (input_lines done) f.first h.0 f.out h.1 f.answers;
-    went = Appends-trans a b c h.0 f.out h.2 f.went;
-  }
+  before_more a b c done here input (out, h, went) (f, w) fits = (later_before done here input out h f fits, Appends-trans a b c out f.out went w)
 
   part_more : (a b c : Option (List ℕ)) (done here input : List ℕ) → AllReplied is a b done → PartReplied is b c here → Fits done here input → PartReplied is a c input
-  part_more a b c done here input h f (others, e) = record {
-    first = input_lines done ++ f.first;
-    line = f.line;
-    others = f.others ++ others;
-    lines = append_assoc (input_lines done) f.first (f.line ∷ (f.others ++ others))
-        ∙ (ap (λ (ls : List (List ℕ)). input_lines done ++ ls) (sym (append_assoc f.first (f.line ∷ f.others) others) ∙ ap (λ (ls : List (List ℕ)). ls ++ others) f.lines) ∙ e);
-    out = h.0 ++ f.out;
-    answers = replies_append is (input_lines done) f.first h.0 f.out h.1 f.answers;
-    answer = f.answer;
-    is_answer = f.is_answer;
-    part = f.part;
-    lost = f.lost;
-    whole = f.whole;
-    went = subst (λ (xs : List ℕ). Appends a c xs) (sym (append_assoc h.0 f.out f.part)) (Appends-trans a b c h.0 (f.out ++ f.part) h.2 f.went);
-  }
+  part_more a b c done here input (out, h, went) (more, f, w) fits = (
+    out ++ more,
+    record { before = later_before done here input out h f.before fits; answer = f.answer; is_answer = f.is_answer; part = f.part; lost = f.lost; whole = f.whole; ends = ap (λ (xs : List ℕ). out ++ xs) f.ends ∙ sym (append_assoc out f.before.out f.part) },
+    Appends-trans a b c out more went w,
+  )
 
   module _ {W : Type 0} (sink : SinkOfBytes W) where
     -- The source gave `done` and then `front`, and the answers to `done` went out.

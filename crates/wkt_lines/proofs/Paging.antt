@@ -89,15 +89,10 @@ module _ (is : List ℕ → List ℕ → Type 0) {D : Type 0} (sink : SinkOfByte
     paged_before : (next : D) → at < length input → Drained sink text [] now next → BeforeReplied is (sink.bytes start) (sink.bytes next) input
     paged_before next inside d =
         let k = paged_drained [] next d in
-        record {
-          first = k.first;
-          line = before_feed (drop at input);
-          others = input_lines (after_feed (drop at input));
-          lines = next_line k.first (drop at input) input (before_feed (drop at input)) k.lines (some-left at input inside) refl;
-          out = k.out;
-          answers = k.answers;
-          went = subst (λ (l : List ℕ). Appends (sink.bytes start) (sink.bytes next) l) (sym (k.split ∙ append-nil k.put)) k.went;
-        }
+        let split = next_line k.first (drop at input) input (before_feed (drop at input)) k.lines (some-left at input inside) refl in (
+          record { first = k.first; line = before_feed (drop at input); others = input_lines (after_feed (drop at input)); split = split; out = k.out; answers = k.answers },
+          subst (λ (l : List ℕ). Appends (sink.bytes start) (sink.bytes next) l) (sym (k.split ∙ append-nil k.put)) k.went,
+        )
 
     -- all of the page is out, and so are all answers
     paged_all : (next : D) → length input ≤ at → Drained sink text [] now next → AllReplied is (sink.bytes start) (sink.bytes next) input

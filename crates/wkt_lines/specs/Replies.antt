@@ -27,30 +27,32 @@ module _ (is : List ℕ → List ℕ → Type 0) where
     pub answers : AreReplies first out
     pub went : Appends old new out
 
-  -- The whole answers to the lines before one went out, and nothing else: there was no memory for this one.
-  pub record BeforeReplied (old new : Option (List ℕ)) (input : List ℕ) : Type 0 where
+  -- The answers to the lines before one of these.
+  pub record RepliesBefore (lines : List (List ℕ)) : Type 0 where
     pub first : List (List ℕ)
     pub line : List ℕ
     pub others : List (List ℕ)
-    pub lines : first ++ (line ∷ others) ≡ input_lines input
+    pub split : first ++ (line ∷ others) ≡ lines
     pub out : List ℕ
     pub answers : AreReplies first out
-    pub went : Appends old new out
 
-  -- The whole answers to some first lines went out, and then a beginning of the next line's.
-  pub record PartReplied (old new : Option (List ℕ)) (input : List ℕ) : Type 0 where
-    pub first : List (List ℕ)
-    pub line : List ℕ
-    pub others : List (List ℕ)
-    pub lines : first ++ (line ∷ others) ≡ input_lines input
-    pub out : List ℕ
-    pub answers : AreReplies first out
+  -- The whole answers to some first lines, and then a beginning of the next line's.
+  pub record ArePartReplies (lines : List (List ℕ)) (out : List ℕ) : Type 0 where
+    pub before : RepliesBefore lines
     pub answer : List ℕ
-    pub is_answer : is line answer
+    pub is_answer : is before.line answer
     pub part : List ℕ
     pub lost : List ℕ
     pub whole : answer ++ 10 ∷ [] ≡ part ++ lost
-    pub went : Appends old new (out ++ part)
+    pub ends : out ≡ before.out ++ part
+
+  -- The whole answers to the lines before one went out, and nothing else: there was no memory for this one.
+  abbrev pub BeforeReplied : Option (List ℕ) → Option (List ℕ) → List ℕ → Type 0
+  BeforeReplied old new input = (before : RepliesBefore (input_lines input)) × Appends old new before.out
+
+  -- The whole answers to some first lines went out, and then a beginning of the next line's.
+  abbrev pub PartReplied : Option (List ℕ) → Option (List ℕ) → List ℕ → Type 0
+  PartReplied old new input = (out : List ℕ) × ArePartReplies (input_lines input) out × Appends old new out
 
   module _ {D : Type 0} (sink : SinkOfBytes D) where
     -- The answers to all lines went out, by the sink that reveals its bytes.
@@ -101,15 +103,10 @@ module _ (is : List ℕ → List ℕ → Type 0) where
 
     -- The sink failed when a beginning of the answers to some first lines and to the next was added.
     pub record BreaksReplies (old new : S) (input : List ℕ) : Type 0 where
-      pub first : List (List ℕ)
-      pub line : List ℕ
-      pub others : List (List ℕ)
-      pub lines : first ++ (line ∷ others) ≡ input_lines input
-      pub out : List ℕ
-      pub answers : AreReplies first out
+      pub before : RepliesBefore (input_lines input)
       pub answer : List ℕ
-      pub is_answer : is line answer
-      pub broke : Breaks sink old (out ++ (answer ++ 10 ∷ [])) new
+      pub is_answer : is before.line answer
+      pub broke : Breaks sink old (before.out ++ (answer ++ 10 ∷ [])) new
 
     -- The answer to a line was added, and a line feed, or an error says what was.
     pub record RepliesLine {A : Type 0} (old : S) (line : List ℕ) (result : Result A AnswerError) (new : S) : Type 0 where

@@ -5,7 +5,7 @@ use Rattle.wkt_bytes.specs.Sinks.{SinkOfBytes}
 use Rattle.wkt_lines.specs.Laws.{IsWhole}
 use Rattle.wkt_num.specs.Sink.{next_count}
 use Rattle.wkt_lines.specs.Replies.{AllReplied, IsAllReplied, IsFirstReplied, IsBeforeReplied, IsPartReplied}
-use Rattle.wkt_lines.specs.Output.{IsAnswer, OnRunRead, OnRunWrite, OnRunMemory, UnlessRunRead, UnlessRunWrite}
+use Rattle.wkt_lines.specs.Output.{OnRunRead, OnRunWrite, OnRunMemory, UnlessRunRead, UnlessRunWrite}
 use Rattle.wkt_lines.specs.declared.lines.RunError.{RunError}
 use Rattle.wkt_lines.specs.Feeds.{HasNoFeed}
 
@@ -68,8 +68,3 @@ module _ (is : List ℕ → List ℕ → Type 0) where
     abbrev pub Streams : {A : Type 0} → R → D → Result A RunError → R → D → Type 0
     Streams reader writer result reader' writer' =
         RunLeaves (IsTakenReplied sink (left reader) (left reader') writer writer') (LinesTaken (left reader) (left reader')) reader writer result reader' writer'
-
--- The same of the program's answers. Numbers are read by `read` and printed by `num`.
-module _ {N : Type 0} (read : List ℕ → Option N) (num : N → List ℕ) where
-  abbrev pub IsTakenOut : {D : Type 0} → SinkOfBytes D → Option (List ℕ) → Option (List ℕ) → D → D → Type 0
-  IsTakenOut = IsTakenReplied (IsAnswer read num)
