@@ -108,14 +108,15 @@ module _ (is : List ℕ → List ℕ → Type 0) where
       pub is_answer : is before.line answer
       pub broke : Breaks sink old (before.out ++ (answer ++ 10 ∷ [])) new
 
+  module _ {S : Type 0} (to : Sink S) where
     -- The answer to a line was added, and a line feed, or an error says what was.
     pub record RepliesLine {A : Type 0} (old : S) (line : List ℕ) (result : Result A AnswerError) (new : S) : Type 0 where
-      pub ok : OnOk result (AddsReplyLine old new line)
-      pub sink : OnSink result (BreaksReplyLine old new line)
+      pub ok : OnOk result (AddsReplyLine to old new line)
+      pub sink : OnSink result (BreaksReplyLine to old new line)
       pub memory : OnAnswerMemory result (new ≡ old)
 
     -- The answers to all lines of the input were added, or an error says which.
     pub record RepliesAll {A : Type 0} (old : S) (input : List ℕ) (result : Result A AnswerError) (new : S) : Type 0 where
-      pub ok : OnOk result (AddsReplies old new input)
-      pub sink : OnSink result (BreaksReplies old new input)
-      pub memory : OnAnswerMemory result (AddsFirstReplies old new input)
+      pub ok : OnOk result (AddsReplies to old new input)
+      pub sink : OnSink result (BreaksReplies to old new input)
+      pub memory : OnAnswerMemory result (AddsFirstReplies to old new input)
