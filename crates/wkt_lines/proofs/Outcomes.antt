@@ -117,12 +117,12 @@ module _ (is : List ℕ → List ℕ → Type 0) where
       tied = sink.keeps_none start;
     }
 
-    -- all of the input is at hand
-    pub at_hand : (input : List ℕ) (start : W) → Base (Some input) (Some []) start start input
-    at_hand input start = record {
+    -- all that was taken is at hand
+    abbrev pub at_hand : (left0 left1 : Option (List ℕ)) (input : List ℕ) (start : W) → Consumes left0 left1 input → Base left0 left1 start start input
+    at_hand left0 left1 input start gave = record {
       done = [];
       ends = inl refl;
-      taken = sym (append-nil input);
+      taken = gave;
       out = ([], refl, Appends-nil (sink.bytes start));
       count = refl;
       tied = sink.keeps_none start;
@@ -251,9 +251,9 @@ module _ (is : List ℕ → List ℕ → Type 0) where
     block_answered next here more e w same r last h = lines_answered _ (LinesTaken (left reader) (left source)) next here more e w same (taken_here sink (left reader) (left source) start now front base here more e w) r last h
 
     -- there was no memory to read on
-    pub no_room : HasNoFeed front → failures source ≡ failures reader → (e : AllocError) → Streams is left failures sink reader start (Err (run.Memory e)) source now
+    pub no_room : HasNoFeed front → failures source ≡ failures reader → (e : AllocError) → Streams is left failures sink {A = Unit {0}} reader start (Err (run.Memory e)) source now
     no_room none same e = record { ok = tt; ok_taken = tt; end = tt; read = tt; read_first = tt; read_count = tt; source_count = same; write = tt; write_taken = tt; write_count = tt; sink_count = base.count; memory = so_far sink (left reader) (left source) start now front base; memory_taken = inl (no_more sink (left reader) (left source) start now front base none) }
 
     -- the source failed
-    pub no_block : HasNoFeed front → failures source ≡ failures reader → (later : R) → Keeps (left source) (left later) → failures later ≡ next_count (failures source) → (e : Error) → Streams is left failures sink reader start (Err (run.Read e)) later now
+    pub no_block : HasNoFeed front → failures source ≡ failures reader → (later : R) → Keeps (left source) (left later) → failures later ≡ next_count (failures source) → (e : Error) → Streams is left failures sink {A = Unit {0}} reader start (Err (run.Read e)) later now
     no_block none same later keeps failed e = record { ok = tt; ok_taken = tt; end = tt; read = broke_off sink (left reader) (left source) start now front base (left later) keeps none; read_first = so_far sink (left reader) (left source) start now front base; read_count = failed ∙ ap next_count same; source_count = tt; write = tt; write_taken = tt; write_count = tt; sink_count = base.count; memory = tt; memory_taken = tt }

@@ -7,7 +7,7 @@ use Rattle.wkt_lines.proofs.Outcomes.{at_hand, answered, part_answered}
 use Rattle.wkt_lines.proofs.lines.answer_input.Goals as goal
 
 pub parts-init : goal.parts-init
-parts-init g c = record { base = at_hand (g.A.Answers.answers c.args.answers.now) g.W.ByteSink.sink c.args.input.now c.args.writer.now; empty = c.of_lines-page.ensures }
+parts-init g c = record { base = at_hand (g.A.Answers.answers c.args.answers.now) g.W.ByteSink.sink (Some c.args.input.now) (Some []) c.args.input.now c.args.writer.now (sym (append-nil c.args.input.now)); empty = c.of_lines-page.ensures }
 
 pub parts-preserved : goal.parts-preserved
 parts-preserved g c =

@@ -5,7 +5,7 @@ use Rattle.std.specs.Io.KnownBytes.{Consumes}
 use Rattle.wkt_lines.specs.Streaming.{AllTaken}
 use Rattle.wkt_lines.specs.Output.{IsAnswer}
 use Rattle.wkt_lines.proofs.Answering.{any_ok}
-use Rattle.wkt_lines.proofs.Outcomes.{begins, filled, lines_answered, nothing_out}
+use Rattle.wkt_lines.proofs.Outcomes.{at_hand, lines_answered}
 use Rattle.wkt_lines.proofs.lines.run_over.Goals as goal
 
 pub returns-in-Ok : goal.returns-in-Ok
@@ -15,7 +15,7 @@ returns-in-Ok g c =
     let left = g.R.ByteSource.left c.read_all.new.reader in
     let input = c.deref.result.now in
     let gave : Consumes had left input = subst (λ (xs : List ℕ). Consumes had left xs) (sym c.deref.ensures.value) c.in-Ok.ensures.bytes in
-    let base = filled is g.W.ByteSink.sink had had c.args.writer.now c.args.writer.now [] (begins is g.W.ByteSink.sink had c.args.writer.now [] refl) left input input gave refl in
+    let base = at_hand is g.W.ByteSink.sink had left input c.args.writer.now gave in
     lines_answered is g.R.ByteSource.left g.R.ByteSource.failures g.W.ByteSink.sink c.args.reader.now c.read_all.new.reader c.args.writer.now c.args.writer.now input base
     _ (AllTaken had left) c.answer_input.new.writer input [] (sym (append-nil input)) (inr (refl, c.in-Ok.ensures.end)) c.in-Ok.ensures.count (λ P p. (input, gave, c.in-Ok.ensures.end, p))
     c.answer_input.result (any_ok c.answer_input.result (refl, c.in-Ok.ensures.end)) c.answer_input.ensures

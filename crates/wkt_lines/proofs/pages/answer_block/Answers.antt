@@ -35,3 +35,8 @@ returns-in-Err-add_first-clause-answers g c =
 
 pub returns-clause-answers : goal.returns-clause-answers
 returns-clause-answers g c = ends_past (g.A.Answers.answers c.args.answers.now) g.W.ByteSink.sink c.args.input.now c.lines.at (page_text c.lines.page) c.args.writer.now c.lines.writer c.put_out.new.writer c.lines.invariant.paged (omega arith) c.put_out.result c.put_out.ensures.memory c.put_out.ensures.puts
+
+pub returns-in-Err-add_first-clause-keeps : goal.returns-in-Err-add_first-clause-keeps
+returns-in-Err-add_first-clause-keeps g c =
+    let keeps = g.W.ByteSink.sink.keeps_more in
+    keeps _ _ _ (keeps _ _ _ c.lines.invariant.tied c.make_ready.ensures.keeps) c.give_up.ensures.keeps
