@@ -1,10 +1,9 @@
 -- A beginning of the answers to lines.
-use Rattle.std.proofs.Common.{◌≡◌, ◌≢◌, ℕ, ◌<◌, List, [], ◌∷◌, ◌++◌, ◌⊎◌, inl, inr, refl, sym, ap, ◌∙◌, subst, drop, get_or, length, length-append, ◌+◌, append_assoc, Option, arith}
+use Rattle.std.proofs.Common.{◌≡◌, ◌≢◌, ℕ, ◌<◌, List, [], ◌∷◌, ◌++◌, ◌⊎◌, inl, inr, refl, sym, ap, ◌∙◌, drop, get_or, length, append_assoc, Option, arith}
 use Rattle.std.proofs.lemmas.List.{append-nil}
 use Rattle.std.specs.Io.KnownBytes.{Appends}
 use Rattle.wkt_lines.specs.Lines.{input_lines}
 use Rattle.wkt_lines.specs.Replies.{AreReplies, RepliesBefore, ArePartReplies, PartReplied}
-use Rattle.wkt_lines.proofs.Answering.{one_reply}
 
 -- one list cut in two ways
 split : (xs r p q : List ℕ) → xs ++ r ≡ p ++ q → ((m : List ℕ) × (xs ≡ p ++ m) × (q ≡ m ++ r)) ⊎ ((m : List ℕ) × (p ≡ xs ++ m) × (r ≡ m ++ q))

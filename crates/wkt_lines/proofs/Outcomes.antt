@@ -1,7 +1,7 @@
 -- What a run leaves, block by block.
 use Rattle.std.proofs.Common.{◌≡◌, ℕ, List, [], ◌∷◌, ◌++◌, ◌⊎◌, inl, inr, refl, sym, ap, ◌∙◌, subst, append_assoc, Option, None, Some, IfSome, OnOk, Result, Ok, Err}
 use Rattle.std.proofs.lemmas.List.{append-nil}
-use Rattle.std.specs.Io.KnownBytes.{Appends, Consumes, Keeps, IsAtEnd}
+use Rattle.std.specs.Io.KnownBytes.{Consumes, Keeps, IsAtEnd}
 use Rattle.std.proofs.KnownBytes.{Appends-nil, Appends-trans, Keeps-refl, Consumes-nil, Consumes-trans, Consumes-kept, Consumes-whole}
 use Rattle.wkt_bytes.specs.Sinks.{SinkOfBytes}
 use Rattle.wkt_lines.specs.Lines.{input_lines}
@@ -53,11 +53,6 @@ ends_on xs ys more left w (inr k) = inr k
 module _ (is : List ℕ → List ℕ → Type 0) where
   first_none : (a : Option (List ℕ)) (input : List ℕ) → FirstReplied is a a input
   first_none a input = record { first = []; others = input_lines input; lines = refl; out = []; answers = refl; went = Appends-nil a }
-
-  -- nothing went out
-  pub nothing_out : (left a : Option (List ℕ)) → IfSome left (FirstReplied is a a)
-  nothing_out None a = tt
-  nothing_out (Some input) a = first_none a input
 
   first_more : (a b c : Option (List ℕ)) (done here input : List ℕ) → AllReplied is a b done → FirstReplied is b c here → Fits done here input → FirstReplied is a c input
   first_more a b c done here input h f (others, e) = record {

@@ -1,5 +1,5 @@
 -- Lines that are answered by a page.
-use Rattle.std.proofs.Common.{◌≡◌, ◌≢◌, ℕ, ◌+◌, ◌-◌, ◌<◌, ◌≤◌, List, [], ◌∷◌, ◌++◌, length, length-append, length-drop, length-take, take, drop, refl, sym, ap, ◌∙◌, subst, append_assoc, take-append-drop, arith, Option, Result, Ok, Err, OnOk}
+use Rattle.std.proofs.Common.{◌≡◌, ◌≢◌, ℕ, ◌+◌, ◌-◌, ◌<◌, ◌≤◌, List, [], ◌∷◌, ◌++◌, length, length-append, length-drop, length-take, take, drop, refl, sym, ap, ◌∙◌, subst, append_assoc, take-append-drop, arith, Result, Ok, Err, OnOk}
 use Rattle.std.proofs.lemmas.List.{append-nil, drop_all, drop-drop, take_all}
 use Rattle.std.proofs.KnownBytes.{Appends-nil, Appends-trans}
 use Rattle.std.specs.Io.KnownBytes.{Appends}

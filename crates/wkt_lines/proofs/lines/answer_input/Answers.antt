@@ -1,5 +1,5 @@
 -- The answers to the lines so far are out or on the page, and an error says which.
-use Rattle.std.proofs.Common.{◌-◌, List, [], Some, Err, refl, sym, inl, inr, take, drop, length, take-append-drop}
+use Rattle.std.proofs.Common.{[], Some, Err, refl, sym, inl, inr, take, drop, take-append-drop}
 use Rattle.std.proofs.lemmas.List.{append-nil}
 use Rattle.wkt_lines.proofs.Feeding.{parted}
 use Rattle.wkt_lines.proofs.Answering.{any_ok}

@@ -1,5 +1,5 @@
 -- The whole input is one block, or nothing was written.
-use Rattle.std.proofs.Common.{List, ℕ, [], refl, sym, subst, inl, inr}
+use Rattle.std.proofs.Common.{List, ℕ, [], refl, sym, subst, inr}
 use Rattle.std.proofs.lemmas.List.{append-nil}
 use Rattle.std.specs.Io.KnownBytes.{Consumes}
 use Rattle.wkt_lines.specs.Streaming.{AllTaken}

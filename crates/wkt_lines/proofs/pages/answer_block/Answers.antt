@@ -1,5 +1,5 @@
 -- The answers to the lines so far are out or on the page, and an error says which.
-use Rattle.std.proofs.Common.{◌≡◌, ◌+◌, ◌≤◌, [], length, length-drop, arith, Err, subst}
+use Rattle.std.proofs.Common.{[], arith, Err, subst}
 use Rattle.wkt_lines.specs.Pages.{page_text, PutsOut}
 use Rattle.wkt_lines.proofs.Paging.{paged_none, paged_drained, paged_next, near, ends_inside, ends_past}
 use Rattle.wkt_lines.proofs.pages.answer_block.Goals as goal

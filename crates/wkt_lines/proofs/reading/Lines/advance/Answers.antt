@@ -1,7 +1,7 @@
 -- A line is what stands before the next line feed, or at the end.
 use Rattle.std.proofs.Common.{sym, subst}
 use Rattle.std.specs.Io.KnownBytes.{prepend_known}
-use Rattle.wkt_lines.specs.Reading.{source_of, line_of, unread, to_come, GivesLine}
+use Rattle.wkt_lines.specs.Reading.{source_of, line_of, unread, GivesLine}
 use Rattle.wkt_lines.proofs.Lining.{gives, kept_gives}
 use Rattle.wkt_lines.proofs.reading.Lines.advance.Goals as goal
 

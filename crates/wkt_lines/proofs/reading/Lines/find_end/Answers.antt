@@ -1,5 +1,5 @@
 -- No line feed was seen in what came so far.
-use Rattle.std.proofs.Common.{◌≡◌, ◌+◌, ◌≤◌, ℕ, List, length, take, drop, arith, ap, sym, ◌∙◌, subst, length-append}
+use Rattle.std.proofs.Common.{◌≡◌, ◌+◌, ◌≤◌, ℕ, List, length, arith, ap, sym, ◌∙◌, subst, length-append}
 use Rattle.std.proofs.KnownBytes.{Keeps-trans}
 use Rattle.wkt_lines.specs.First.{EndsLine}
 use Rattle.wkt_lines.specs.Reading.{unread}
