@@ -101,17 +101,6 @@ module _ (is : List ℕ → List ℕ → Type 0) where
       pub count : sink.failures now ≡ sink.failures start
       pub tied : sink.keeps start now
 
-    -- a run begins with nothing
-    pub begins : (left : Option (List ℕ)) (start : W) (front : List ℕ) → front ≡ [] → Base left left start start front
-    begins left start front e = record {
-      done = [];
-      ends = inl refl;
-      taken = subst (λ (xs : List ℕ). Consumes left left xs) (sym e) (Consumes-nil left);
-      out = ([], refl, Appends-nil (sink.bytes start));
-      count = refl;
-      tied = sink.keeps_none start;
-    }
-
     -- all that was taken is at hand
     abbrev pub at_hand : (left0 left1 : Option (List ℕ)) (input : List ℕ) (start : W) → Consumes left0 left1 input → Base left0 left1 start start input
     at_hand left0 left1 input start gave = record {
@@ -122,6 +111,10 @@ module _ (is : List ℕ → List ℕ → Type 0) where
       count = refl;
       tied = sink.keeps_none start;
     }
+
+    -- a run begins with nothing
+    pub begins : (left : Option (List ℕ)) (start : W) (front : List ℕ) → front ≡ [] → Base left left start start front
+    begins left start front e = at_hand left left front start (subst (λ (xs : List ℕ). Consumes left left xs) (sym e) (Consumes-nil left))
 
     module _ (left0 left1 : Option (List ℕ)) (start now : W) (front : List ℕ) (base : Base left0 left1 start now front) where
       -- more came
