@@ -86,34 +86,15 @@ impl<'a> Run<'a> {
         let source = Counted::new(input);
         let read = match self.options.ends {
             Ends::Line => self.read_lines(rt, name, Lines::new(self.alloc, source)),
-            Ends::Nul => self.read_nul_lines(
-                rt,
-                name,
-                Lines::new(self.alloc, NulLines::new(source)),
-            ),
+            Ends::Nul => self.read_lines(rt, name, Lines::new(self.alloc, NulLines::new(source))),
             Ends::File => self.read_whole(rt, name, source),
         };
         self.progress.wipe(rt);
         read
     }
 
+    // Where texts end at a NUL, `NulLines` has swapped it with the line feed, which is undone for each text.
     fn read_lines<R: ByteSource + Drop>(
-        &mut self,
-        rt: &HostRuntime,
-        name: &str,
-        lines: Lines<R>,
-    ) -> Result<(), RunError> {
-        let mut lines = lines;
-        for _ in 0..u64::MAX {
-            if self.is_over() || !lines.advance()? {
-                break;
-            }
-            self.take(rt, name, lines.line())?;
-        }
-        Ok(())
-    }
-
-    fn read_nul_lines<R: ByteSource + Drop>(
         &mut self,
         rt: &HostRuntime,
         name: &str,
@@ -125,10 +106,14 @@ impl<'a> Run<'a> {
             if self.is_over() || !lines.advance()? {
                 break;
             }
-            text.clear();
-            text.extend_from_slice(lines.line())?;
-            swap_ends(text.as_mut_slice());
-            self.take(rt, name, text.as_slice())?;
+            if self.options.ends == Ends::Nul {
+                text.clear();
+                text.extend_from_slice(lines.line())?;
+                swap_ends(text.as_mut_slice());
+                self.take(rt, name, text.as_slice())?;
+            } else {
+                self.take(rt, name, lines.line())?;
+            }
         }
         Ok(())
     }

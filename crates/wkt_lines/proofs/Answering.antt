@@ -1,21 +1,21 @@
 -- One line more, answered.
-use Rattle.std.proofs.Common.{◌≡◌, ◌≢◌, ℕ, List, [], ◌∷◌, ◌++◌, sym, ◌∙◌, ap, subst, take, length, refl, append_assoc, Option, Result, Ok, Err, OnOk, OnErr}
-use Rattle.std.specs.Io.KnownBytes.{Appends}
+use Rattle.std.proofs.Common.{◌≡◌, ◌≢◌, ℕ, List, [], ◌∷◌, ◌++◌, sym, ◌∙◌, ap, subst, take, length, refl, append_assoc, Option, Result, Ok, Err, OnOk}
 use Rattle.std.proofs.lemmas.List.{append-nil}
-use Rattle.wkt_bytes.specs.Sinks.{BeginningOut}
 use Rattle.wkt_lines.specs.Lines.{input_lines}
-use Rattle.wkt_lines.specs.Output.{IsAnswer, AreAnswers, PartOut, OnRunWrite}
+use Rattle.wkt_lines.specs.Output.{IsAnswer}
 use Rattle.wkt_lines.specs.Replies.{AreReplies}
-use Rattle.wkt_lines.specs.declared.lines.RunError.{RunError}
-use Rattle.wkt_lines.specs.declared.lines.RunError.TheVariants as run
-use Rattle.std.proofs.KnownBytes.{Appends-trans}
 use Rattle.std.proofs.Math.Seq.{take-append_seam}
 use Rattle.wkt_num.specs.Sink.{Sink, Adds, Breaks, GrewBy}
 use Rattle.wkt_lines.specs.declared.answer.AnswerError.{AnswerError}
 use Rattle.wkt_lines.specs.declared.answer.AnswerError.TheVariants as answered
-use Rattle.wkt_lines.specs.Answer.{AnswersLine, OnSink, OnAnswerMemory}
+use Rattle.wkt_lines.specs.Answer.{AnswersLine, OnSink}
 use Rattle.wkt_lines.specs.Splitting.{before_feed, after_feed}
 use Rattle.wkt_lines.proofs.Splits.{lines_step}
+
+-- what holds in any case
+pub any_ok : {A E P : Type 0} (r : Result A E) → P → OnOk r P
+any_ok (Ok x) h = h
+any_ok (Err e) h = tt
 
 lines_on : (xs : List ℕ) → (xs ≢ []) → input_lines xs ≡ before_feed xs ∷ input_lines (after_feed xs)
 lines_on [] h = absurd (h refl)
@@ -48,42 +48,6 @@ reply_to_first is rest line old new e answer one added = (answer, subst (λ (l :
 pub grew_cut : (old bs new : List ℕ) (n : ℕ) → n ≡ length old → GrewBy old bs new → take n new ≡ old
 grew_cut old bs new n e h = ap (λ (xs : List ℕ). take n xs) h.grown ∙ (ap (λ (m : ℕ). take m (old ++ h.part)) e ∙ take-append_seam old h.part)
 
--- the same of the program's answers
-pub one_answer : {N : Type 0} {read : List ℕ → Option N} {num : N → List ℕ} (first : List (List ℕ)) (out line answer : List ℕ) → AreAnswers read num first out → IsAnswer read num line answer → AreAnswers read num (first ++ (line ∷ [])) (out ++ (answer ++ 10 ∷ []))
-one_answer {read = read} {num = num} first out line answer h a = one_reply (IsAnswer read num) first out line answer h a
-
-pub ok_map : {T E : Type 0} {P Q : Type 0} (r : Result T E) → (P → Q) → OnOk r P → OnOk r Q
-ok_map (Ok x) f p = f p
-ok_map (Err e) f p = tt
-
-pub err_map : {T E : Type 0} {P Q : Type 0} (r : Result T E) → (P → Q) → OnErr r P → OnErr r Q
-err_map (Ok x) f p = tt
-err_map (Err e) f p = f p
-
-pub write_map : {A P Q : Type 0} (r : Result A RunError) → (P → Q) → OnRunWrite r P → OnRunWrite r Q
-write_map (Ok x) f h = tt
-write_map (Err (run.Read e)) f h = tt
-write_map (Err (run.Write e)) f h = f h
-write_map (Err (run.Memory e)) f h = tt
-
--- a beginning of the next answer, after those of the first lines
-pub begun : {N : Type 0} {read : List ℕ → Option N} {num : N → List ℕ} (first : List (List ℕ)) (out rest bs line : List ℕ) (a b c : Option (List ℕ)) → first ++ input_lines rest ≡ input_lines bs → rest ≢ [] → line ≡ before_feed rest →
-    AreAnswers read num first out → Appends a b out → (answer : List ℕ) × IsAnswer read num line answer × BeginningOut b c (answer ++ 10 ∷ []) → PartOut read num a c bs
-begun first out rest bs line a b c h n e k w (answer, is, beg) = record {
-  first = first;
-  line = line;
-  others = input_lines (after_feed rest);
-  lines = next_line first rest bs line h n e;
-  out = out;
-  answers = k;
-  answer = answer;
-  is_answer = is;
-  part = beg.out;
-  lost = beg.lost;
-  whole = beg.whole;
-  went = Appends-trans a b c out beg.out w beg.went;
-}
-
 -- what was written is an answer
 module _ {S A : Type 0} (sink : Sink S) where
   pub answer_ok : {N : Type 0} (read : List ℕ → Option N) (num : N → List ℕ) (s t : S) (line answer : List ℕ) (r : Result A AnswerError) → IsAnswer read num line answer → AnswersLine sink s answer t r → OnOk r ((a : List ℕ) × IsAnswer read num line a × Adds sink s a t)
@@ -94,8 +58,3 @@ module _ {S A : Type 0} (sink : Sink S) where
   answer_sink read num s t line answer (Ok x) is h = tt
   answer_sink read num s t line answer (Err (answered.Sink e)) is h = (answer, is, h)
   answer_sink read num s t line answer (Err (answered.Memory e)) is h = tt
-
-  pub answer_memory : (s t : S) (answer : List ℕ) (r : Result A AnswerError) → AnswersLine sink s answer t r → OnAnswerMemory r (t ≡ s)
-  answer_memory s t answer (Ok x) h = tt
-  answer_memory s t answer (Err (answered.Sink e)) h = tt
-  answer_memory s t answer (Err (answered.Memory e)) h = h

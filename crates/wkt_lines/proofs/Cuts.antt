@@ -1,10 +1,9 @@
 -- A beginning of the answers to lines.
-use Rattle.std.proofs.Common.{◌≡◌, ◌≢◌, ℕ, ◌<◌, List, [], ◌∷◌, ◌++◌, ◌⊎◌, inl, inr, refl, sym, ap, ◌∙◌, subst, drop, get_or, length, length-append, ◌+◌, append_assoc, Option, arith}
+use Rattle.std.proofs.Common.{◌≡◌, ◌≢◌, ℕ, ◌<◌, List, [], ◌∷◌, ◌++◌, ◌⊎◌, inl, inr, refl, sym, ap, ◌∙◌, drop, get_or, length, append_assoc, Option, arith}
 use Rattle.std.proofs.lemmas.List.{append-nil}
 use Rattle.std.specs.Io.KnownBytes.{Appends}
 use Rattle.wkt_lines.specs.Lines.{input_lines}
-use Rattle.wkt_lines.specs.Replies.{AreReplies, PartReplied}
-use Rattle.wkt_lines.proofs.Answering.{one_reply}
+use Rattle.wkt_lines.specs.Replies.{AreReplies, RepliesBefore, ArePartReplies, PartReplied}
 
 -- one list cut in two ways
 split : (xs r p q : List ℕ) → xs ++ r ≡ p ++ q → ((m : List ℕ) × (xs ≡ p ++ m) × (q ≡ m ++ r)) ⊎ ((m : List ℕ) × (p ≡ xs ++ m) × (r ≡ m ++ q))
@@ -23,54 +22,24 @@ no_front [] q e = refl
 no_front (x ∷ xs) q e = absurd (cc)
 
 module _ (is : List ℕ → List ℕ → Type 0) where
-  -- Some first answers, and a beginning of the next.
-  pub record Cut (ls : List (List ℕ)) (p : List ℕ) : Type 0 where
-    pub first : List (List ℕ)
-    pub line : List ℕ
-    pub others : List (List ℕ)
-    pub lines : first ++ (line ∷ others) ≡ ls
-    pub out : List ℕ
-    pub answers : AreReplies is first out
-    pub answer : List ℕ
-    pub is_answer : is line answer
-    pub part : List ℕ
-    pub lost : List ℕ
-    pub whole : answer ++ 10 ∷ [] ≡ part ++ lost
-    pub went : p ≡ out ++ part
+  here : (l : List ℕ) (ls : List (List ℕ)) (answer p m : List ℕ) → is l answer → answer ++ 10 ∷ [] ≡ p ++ m → ArePartReplies is (l ∷ ls) p
+  here l ls answer p m one e =
+      record { before = record { first = []; line = l; others = ls; split = refl; out = []; answers = refl }; answer = answer; is_answer = one; part = p; lost = m; whole = e; ends = refl }
 
-  here : (l : List ℕ) (ls : List (List ℕ)) (answer p m : List ℕ) → is l answer → answer ++ 10 ∷ [] ≡ p ++ m → Cut (l ∷ ls) p
-  here l ls answer p m one e = record {
-    first = [];
-    line = l;
-    others = ls;
-    lines = refl;
-    out = [];
-    answers = refl;
-    answer = answer;
-    is_answer = one;
-    part = p;
-    lost = m;
-    whole = e;
-    went = refl;
-  }
+  later : (l : List ℕ) (ls : List (List ℕ)) (answer m p : List ℕ) → is l answer → p ≡ (answer ++ 10 ∷ []) ++ m → ArePartReplies is ls m → ArePartReplies is (l ∷ ls) p
+  later l ls answer m p one e c =
+      let b = c.before in
+      record {
+        before = record { first = l ∷ b.first; line = b.line; others = b.others; split = ap (λ (xs : List (List ℕ)). l ∷ xs) b.split; out = (answer ++ 10 ∷ []) ++ b.out; answers = (answer, b.out, refl, one, b.answers) };
+        answer = c.answer;
+        is_answer = c.is_answer;
+        part = c.part;
+        lost = c.lost;
+        whole = c.whole;
+        ends = e ∙ (ap (λ (xs : List ℕ). (answer ++ 10 ∷ []) ++ xs) c.ends ∙ sym (append_assoc (answer ++ 10 ∷ []) b.out c.part));
+      }
 
-  later : (l : List ℕ) (ls : List (List ℕ)) (answer m p : List ℕ) → is l answer → p ≡ (answer ++ 10 ∷ []) ++ m → Cut ls m → Cut (l ∷ ls) p
-  later l ls answer m p one e c = record {
-    first = l ∷ c.first;
-    line = c.line;
-    others = c.others;
-    lines = ap (λ (xs : List (List ℕ)). l ∷ xs) c.lines;
-    out = (answer ++ 10 ∷ []) ++ c.out;
-    answers = (answer, c.out, refl, one, c.answers);
-    answer = c.answer;
-    is_answer = c.is_answer;
-    part = c.part;
-    lost = c.lost;
-    whole = c.whole;
-    went = e ∙ (ap (λ (xs : List ℕ). (answer ++ 10 ∷ []) ++ xs) c.went ∙ sym (append_assoc (answer ++ 10 ∷ []) c.out c.part));
-  }
-
-  cut : (l : List ℕ) (ls : List (List ℕ)) (z p q : List ℕ) → AreReplies is (l ∷ ls) z → z ≡ p ++ q → Cut (l ∷ ls) p
+  cut : (l : List ℕ) (ls : List (List ℕ)) (z p q : List ℕ) → AreReplies is (l ∷ ls) z → z ≡ p ++ q → ArePartReplies is (l ∷ ls) p
   cut l [] z p q (answer, rest, e, one, none) f = elim (split (answer ++ 10 ∷ []) rest p q (sym e ∙ f)) [
     | inl s ↦ here l [] answer p s.0 one s.1
     | inr s ↦
@@ -83,7 +52,7 @@ module _ (is : List ℕ → List ℕ → Type 0) where
     | inr s ↦ later l (k ∷ ls) answer s.0 p one s.1 (cut k ls rest s.0 q more s.2)
   ]
 
-  cut_some : (ls : List (List ℕ)) (z p q : List ℕ) → ls ≢ [] → AreReplies is ls z → z ≡ p ++ q → Cut ls p
+  cut_some : (ls : List (List ℕ)) (z p q : List ℕ) → ls ≢ [] → AreReplies is ls z → z ≡ p ++ q → ArePartReplies is ls p
   cut_some [] z p q n h e = absurd (n refl)
   cut_some (l ∷ ls) z p q n h e = cut l ls z p q h e
 
@@ -91,20 +60,10 @@ module _ (is : List ℕ → List ℕ → Type 0) where
   pub part_out : (ls others : List (List ℕ)) (z p q input : List ℕ) (old new : Option (List ℕ)) → ls ≢ [] → AreReplies is ls z → z ≡ p ++ q → ls ++ others ≡ input_lines input → Appends old new p → PartReplied is old new input
   part_out ls others z p q input old new n h e l w =
       let c = cut_some ls z p q n h e in
-      record {
-        first = c.first;
-        line = c.line;
-        others = c.others ++ others;
-        lines = sym (append_assoc c.first (c.line ∷ c.others) others) ∙ (ap (λ (xs : List (List ℕ)). xs ++ others) c.lines ∙ l);
-        out = c.out;
-        answers = c.answers;
-        answer = c.answer;
-        is_answer = c.is_answer;
-        part = c.part;
-        lost = c.lost;
-        whole = c.whole;
-        went = subst (λ (xs : List ℕ). Appends old new xs) c.went w;
-      }
+      let b = c.before in
+      let all = sym (append_assoc b.first (b.line ∷ b.others) others) ∙ (ap (λ (xs : List (List ℕ)). xs ++ others) b.split ∙ l) in
+      let before : RepliesBefore is (input_lines input) = record { first = b.first; line = b.line; others = b.others ++ others; split = all; out = b.out; answers = b.answers } in
+      (p, record { before = before; answer = c.answer; is_answer = c.is_answer; part = c.part; lost = c.lost; whole = c.whole; ends = c.ends }, w)
 
   pub no_answers : (ls : List (List ℕ)) (z : List ℕ) → AreReplies is ls z → 0 < length z → ls ≢ []
   no_answers [] z h n e = let k : length z ≡ 0 = ap length h in omega (arith, n, k)

@@ -1,9 +1,13 @@
 -- The answer to the first line, from a part of what is left.
-use Rattle.std.proofs.Common.{◌≡◌, ℕ, zero, suc, ◌+◌, ◌-◌, ◌<◌, ◌≤◌, List, [], ◌∷◌, ◌++◌, length, take, drop, refl, sym, ap, ◌∙◌, subst, arith, Option, Some, None, Bool, true, false, IsUtf8, codes, inl, inr, append_assoc, Result, Ok, Err}
-use Rattle.std.specs.Prelude.{IfSome, IfOk, ◌⊎◌, ◌==◌, if◌then◌else◌}
+use Rattle.std.proofs.Common.{◌≡◌, ℕ, zero, suc, ◌+◌, ◌-◌, ◌<◌, ◌≤◌, List, [], ◌∷◌, ◌++◌, length, take, drop, refl, sym, ap, ◌∙◌, subst, arith, Option, Bool, true, false, IsUtf8, append_assoc, length-append, Result, Ok, Err, OnOk}
+use Rattle.std.specs.Prelude.{IfOk, ◌==◌, if◌then◌else◌}
 use Rattle.std.proofs.lemmas.Str.{IsUtf8-append}
 use Rattle.std.proofs.Math.Seq.{take-append_seam}
-use Rattle.std.proofs.lemmas.List.{take-append-drop}
+use Rattle.std.proofs.lemmas.List.{append-nil, take-append-drop}
+use Rattle.std.specs.Io.KnownBytes.{Appends}
+use Rattle.std.proofs.KnownBytes.{Appends-trans}
+use Rattle.wkt_num.specs.Sink.{next_count}
+use Rattle.wkt_bytes.specs.Sinks.{SinkOfBytes, PutsAll}
 use lib.Utf8.{encode}
 use Rattle.wkt_events.specs.Left.{before_feed}
 use Rattle.wkt_events.specs.Feeds.{after_feed}
@@ -62,10 +66,28 @@ ok-map (Err e) P Q f h = tt
 begins : (a b c : List ℕ) → a ++ b ≡ c → a ≡ take (length a) c
 begins a b c e = subst (λ l. a ≡ take (length a) l) e (sym (take-append_seam a b))
 
-pub part-out : (out piece more whole : List ℕ) (k : ℕ) → out ++ (piece ++ more) ≡ whole → out ++ take k piece ≡ take (length (out ++ take k piece)) whole
+part-out : (out piece more whole : List ℕ) (k : ℕ) → out ++ (piece ++ more) ≡ whole → out ++ take k piece ≡ take (length (out ++ take k piece)) whole
 part-out out piece more whole k e =
     begins (out ++ take k piece) (drop k piece ++ more) whole
     (append_assoc out (take k piece) (drop k piece ++ more) ∙ ap (λ l. out ++ l) (sym (append_assoc (take k piece) (drop k piece) more) ∙ ap (λ l. l ++ more) (take-append-drop k piece)) ∙ e)
+
+-- a piece was put out after others, the last one or one that failed
+pub puts_on : {D A E : Type 0} (sink : SinkOfBytes D) (out piece more bytes : List ℕ) (start now next : D) → out ++ (piece ++ more) ≡ bytes → Appends (sink.bytes start) (sink.bytes now) out → sink.failures now ≡ sink.failures start → sink.keeps start now
+    → (r : Result A E) → OnOk r (more ≡ []) → PutsAll sink piece now next r → PutsAll sink bytes start next r
+puts_on sink out piece more bytes start now next e went count tied (Ok x) last p =
+    let whole : out ++ piece ≡ bytes = ap (λ l. out ++ l) (sym (ap (λ l. piece ++ l) last ∙ append-nil piece)) ∙ e in
+    record { ok = subst (Appends (sink.bytes start) (sink.bytes next)) whole (Appends-trans _ _ _ out piece went p.ok); kept = p.kept ∙ count; err = tt; some = tt; failed = tt; keeps = sink.keeps_more start now next tied p.keeps }
+puts_on sink out piece more bytes start now next e went count tied (Err x) last p =
+    let (k, part) = p.err in
+    let some = p.some in
+    record {
+      ok = tt;
+      kept = tt;
+      err = (length (out ++ take k piece), subst (Appends (sink.bytes start) (sink.bytes next)) (part-out out piece more bytes k e) (Appends-trans _ _ _ out (take k piece) went part));
+      some = omega (arith, some, ap length e, length-append out (piece ++ more), length-append piece more);
+      failed = p.failed ∙ ap next_count count;
+      keeps = sink.keeps_more start now next tied p.keeps;
+    }
 
 -- what was written stands in front
 pub text-back : {N : Type 0} (read : List ℕ → Option N) (num : N → List ℕ) (text out rest : List ℕ) (n len : ℕ) → length out ≡ n → WritesText read num text out len → WritesText read num text (take n (out ++ rest)) len

@@ -1,40 +1,21 @@
 -- What a run leaves, block by block.
 use Rattle.std.proofs.Common.{◌≡◌, ℕ, List, [], ◌∷◌, ◌++◌, ◌⊎◌, inl, inr, refl, sym, ap, ◌∙◌, subst, append_assoc, Option, None, Some, IfSome, OnOk, Result, Ok, Err}
 use Rattle.std.proofs.lemmas.List.{append-nil}
-use Rattle.std.specs.Io.KnownBytes.{Appends, Consumes, Keeps, IsAtEnd}
+use Rattle.std.specs.Io.KnownBytes.{Consumes, Keeps, IsAtEnd}
 use Rattle.std.proofs.KnownBytes.{Appends-nil, Appends-trans, Keeps-refl, Consumes-nil, Consumes-trans, Consumes-kept, Consumes-whole}
 use Rattle.wkt_bytes.specs.Sinks.{SinkOfBytes}
 use Rattle.wkt_lines.specs.Lines.{input_lines}
 use Rattle.wkt_lines.specs.Laws.{IsWhole}
-use Rattle.wkt_lines.specs.Replies.{AllReplied, FirstReplied, BeforeReplied, PartReplied}
-use Rattle.wkt_lines.specs.Output.{OnRunRead, OnRunWrite, OnRunMemory, UnlessRunWrite}
+use Rattle.wkt_lines.specs.Replies.{AreReplies, AllReplied, FirstReplied, RepliesBefore, BeforeReplied, PartReplied}
+use Rattle.std.specs.declared.io.Error.{Error}
+use Rattle.std.specs.declared.alloc.AllocError.{AllocError}
+use Rattle.wkt_num.specs.Sink.{next_count}
+use Rattle.wkt_lines.specs.Pages.{AnswersAll}
 use Rattle.wkt_lines.specs.declared.lines.RunError.{RunError}
 use Rattle.wkt_lines.specs.declared.lines.RunError.TheVariants as run
 use Rattle.wkt_lines.proofs.Parts.{lines_of_parts, replies_append, all_replies_append}
 use Rattle.wkt_lines.specs.Feeds.{HasNoFeed}
-use Rattle.wkt_lines.specs.Streaming.{TakenReplied, AllTaken, LinesTaken}
-
-pub ok_map : {A P Q : Type 0} (r : Result A RunError) → (P → Q) → OnOk r P → OnOk r Q
-ok_map (Ok x) f h = f h
-ok_map (Err e) f h = tt
-
-pub read_none : {A : Type 0} (P : Type 0) (r : Result A RunError) → OnRunRead r ⊥ → OnRunRead r P
-read_none P (Ok x) h = tt
-read_none P (Err (run.Read e)) h = absurd h
-read_none P (Err (run.Write e)) h = tt
-read_none P (Err (run.Memory e)) h = tt
-
-pub memory_map : {A P Q : Type 0} (r : Result A RunError) → (P → Q) → OnRunMemory r P → OnRunMemory r Q
-memory_map (Ok x) f h = tt
-memory_map (Err (run.Read e)) f h = tt
-memory_map (Err (run.Write e)) f h = tt
-memory_map (Err (run.Memory e)) f h = f h
-
-pub unless_write_map : {A P Q : Type 0} (r : Result A RunError) → (P → Q) → UnlessRunWrite r P → UnlessRunWrite r Q
-unless_write_map (Ok x) f h = f h
-unless_write_map (Err (run.Read e)) f h = f h
-unless_write_map (Err (run.Write e)) f h = tt
-unless_write_map (Err (run.Memory e)) f h = f h
+use Rattle.wkt_lines.specs.Streaming.{TakenReplied, AllTaken, LinesTaken, RunLeaves, Streams}
 
 if_map : (a : Option (List ℕ)) (P Q : List ℕ → Type 0) → IfSome a P → ((x : List ℕ) → P x → Q x) → IfSome a Q
 if_map None P Q h f = tt
@@ -73,11 +54,6 @@ module _ (is : List ℕ → List ℕ → Type 0) where
   first_none : (a : Option (List ℕ)) (input : List ℕ) → FirstReplied is a a input
   first_none a input = record { first = []; others = input_lines input; lines = refl; out = []; answers = refl; went = Appends-nil a }
 
-  -- nothing went out
-  pub nothing_out : (left a : Option (List ℕ)) → IfSome left (FirstReplied is a a)
-  nothing_out None a = tt
-  nothing_out (Some input) a = first_none a input
-
   first_more : (a b c : Option (List ℕ)) (done here input : List ℕ) → AllReplied is a b done → FirstReplied is b c here → Fits done here input → FirstReplied is a c input
   first_more a b c done here input h f (others, e) = record {
     first = input_lines done ++ f.first;
@@ -90,37 +66,30 @@ module _ (is : List ℕ → List ℕ → Type 0) where
   }
 
   -- of the lines before one, no line is too many
-  pub before_first : (a b : Option (List ℕ)) (input : List ℕ) → BeforeReplied is a b input → FirstReplied is a b input
-  before_first a b input h = record { first = h.first; others = h.line ∷ h.others; lines = h.lines; out = h.out; answers = h.answers; went = h.went }
+  before_first : (a b : Option (List ℕ)) (input : List ℕ) → BeforeReplied is a b input → FirstReplied is a b input
+  before_first a b input (h, w) = record { first = h.first; others = h.line ∷ h.others; lines = h.split; out = h.out; answers = h.answers; went = w }
+
+  -- answers to the lines before one, after those to the lines before them
+  abbrev later_before : (done here input out : List ℕ) → AreReplies is (input_lines done) out → RepliesBefore is (input_lines here) → Fits done here input → RepliesBefore is (input_lines input)
+  later_before done here input out h f (others, e) = record {
+    first = input_lines done ++ f.first;
+    line = f.line;
+    others = f.others ++ others;
+    split = append_assoc (input_lines done) f.first (f.line ∷ (f.others ++ others))
+        ∙ (ap (λ (ls : List (List ℕ)). input_lines done ++ ls) (sym (append_assoc f.first (f.line ∷ f.others) others) ∙ ap (λ (ls : List (List ℕ)). ls ++ others) f.split) ∙ e);
+    out = out ++ f.out;
+    answers = replies_append is (input_lines done) f.first out f.out h f.answers;
+  }
 
   before_more : (a b c : Option (List ℕ)) (done here input : List ℕ) → AllReplied is a b done → BeforeReplied is b c here → Fits done here input → BeforeReplied is a c input
-  before_more a b c done here input h f (others, e) = record {
-    first = input_lines done ++ f.first;
-    line = f.line;
-    others = f.others ++ others;
-    lines = append_assoc (input_lines done) f.first (f.line ∷ (f.others ++ others))
-        ∙ (ap (λ (ls : List (List ℕ)). input_lines done ++ ls) (sym (append_assoc f.first (f.line ∷ f.others) others) ∙ ap (λ (ls : List (List ℕ)). ls ++ others) f.lines) ∙ e);
-    out = h.0 ++ f.out;
-    answers = replies_append is (input_lines done) f.first h.0 f.out h.1 f.answers;
-    went = Appends-trans a b c h.0 f.out h.2 f.went;
-  }
+  before_more a b c done here input (out, h, went) (f, w) fits = (later_before done here input out h f fits, Appends-trans a b c out f.out went w)
 
   part_more : (a b c : Option (List ℕ)) (done here input : List ℕ) → AllReplied is a b done → PartReplied is b c here → Fits done here input → PartReplied is a c input
-  part_more a b c done here input h f (others, e) = record {
-    first = input_lines done ++ f.first;
-    line = f.line;
-    others = f.others ++ others;
-    lines = append_assoc (input_lines done) f.first (f.line ∷ (f.others ++ others))
-        ∙ (ap (λ (ls : List (List ℕ)). input_lines done ++ ls) (sym (append_assoc f.first (f.line ∷ f.others) others) ∙ ap (λ (ls : List (List ℕ)). ls ++ others) f.lines) ∙ e);
-    out = h.0 ++ f.out;
-    answers = replies_append is (input_lines done) f.first h.0 f.out h.1 f.answers;
-    answer = f.answer;
-    is_answer = f.is_answer;
-    part = f.part;
-    lost = f.lost;
-    whole = f.whole;
-    went = subst (λ (xs : List ℕ). Appends a c xs) (sym (append_assoc h.0 f.out f.part)) (Appends-trans a b c h.0 (f.out ++ f.part) h.2 f.went);
-  }
+  part_more a b c done here input (out, h, went) (more, f, w) fits = (
+    out ++ more,
+    record { before = later_before done here input out h f.before fits; answer = f.answer; is_answer = f.is_answer; part = f.part; lost = f.lost; whole = f.whole; ends = ap (λ (xs : List ℕ). out ++ xs) f.ends ∙ sym (append_assoc out f.before.out f.part) },
+    Appends-trans a b c out more went w,
+  )
 
   module _ {W : Type 0} (sink : SinkOfBytes W) where
     -- The source gave `done` and then `front`, and the answers to `done` went out.
@@ -132,27 +101,20 @@ module _ (is : List ℕ → List ℕ → Type 0) where
       pub count : sink.failures now ≡ sink.failures start
       pub tied : sink.keeps start now
 
-    -- a run begins with nothing
-    pub begins : (left : Option (List ℕ)) (start : W) (front : List ℕ) → front ≡ [] → Base left left start start front
-    begins left start front e = record {
+    -- all that was taken is at hand
+    abbrev pub at_hand : (left0 left1 : Option (List ℕ)) (input : List ℕ) (start : W) → Consumes left0 left1 input → Base left0 left1 start start input
+    at_hand left0 left1 input start gave = record {
       done = [];
       ends = inl refl;
-      taken = subst (λ (xs : List ℕ). Consumes left left xs) (sym e) (Consumes-nil left);
+      taken = gave;
       out = ([], refl, Appends-nil (sink.bytes start));
       count = refl;
       tied = sink.keeps_none start;
     }
 
-    -- all of the input is at hand
-    pub at_hand : (input : List ℕ) (start : W) → Base (Some input) (Some []) start start input
-    at_hand input start = record {
-      done = [];
-      ends = inl refl;
-      taken = sym (append-nil input);
-      out = ([], refl, Appends-nil (sink.bytes start));
-      count = refl;
-      tied = sink.keeps_none start;
-    }
+    -- a run begins with nothing
+    pub begins : (left : Option (List ℕ)) (start : W) (front : List ℕ) → front ≡ [] → Base left left start start front
+    begins left start front e = at_hand left left front start (subst (λ (xs : List ℕ). Consumes left left xs) (sym e) (Consumes-nil left))
 
     module _ (left0 left1 : Option (List ℕ)) (start now : W) (front : List ℕ) (base : Base left0 left1 start now front) where
       -- more came
@@ -227,18 +189,6 @@ module _ (is : List ℕ → List ℕ → Type 0) where
         holds = h;
       }
 
-      -- the sink failed at a line of those that were taken
-      pub part_taken : (next : W) (here more : List ℕ) → front ≡ here ++ more → IsWhole here ⊎ ((more ≡ []) × IsAtEnd left1)
-          → PartReplied is (sink.bytes now) (sink.bytes next) here → LinesTaken left0 left1 (PartReplied is (sink.bytes start) (sink.bytes next))
-      part_taken next here more e w f = taken_here here more e w (PartReplied is (sink.bytes start) (sink.bytes next))
-          (part_more (sink.bytes start) (sink.bytes now) (sink.bytes next) base.done here (base.done ++ here) base.out f (fits_last base.done here base.ends))
-
-      -- there was no memory for a line of those that were taken
-      pub before_taken : (next : W) (here more : List ℕ) → front ≡ here ++ more → IsWhole here ⊎ ((more ≡ []) × IsAtEnd left1)
-          → BeforeReplied is (sink.bytes now) (sink.bytes next) here → LinesTaken left0 left1 (BeforeReplied is (sink.bytes start) (sink.bytes next))
-      before_taken next here more e w f = taken_here here more e w (BeforeReplied is (sink.bytes start) (sink.bytes next))
-          (before_more (sink.bytes start) (sink.bytes now) (sink.bytes next) base.done here (base.done ++ here) base.out f (fits_last base.done here base.ends))
-
       -- there was no memory for one of the lines that come after those that were answered
       pub before : (next : W) (here : List ℕ) → IfSome left0 (Fits base.done here) → BeforeReplied is (sink.bytes now) (sink.bytes next) here → IfSome left0 (BeforeReplied is (sink.bytes start) (sink.bytes next))
       before next here fits f = if_map left0 (Fits base.done here) (BeforeReplied is (sink.bytes start) (sink.bytes next)) fits
@@ -251,3 +201,47 @@ module _ (is : List ℕ → List ℕ → Type 0) where
       -- there was no memory to read on
       pub no_more : HasNoFeed front → TakenReplied is left0 left1 (sink.bytes start) (sink.bytes now)
       no_more n = broke_off left1 (Keeps-refl left1) n
+
+      -- whole lines of what was taken come after those that were answered, and so does all of it at the source's end
+      fits : (here more : List ℕ) → front ≡ here ++ more → IsWhole here ⊎ ((more ≡ []) × IsAtEnd left1) → IfSome left0 (Fits base.done here)
+      fits here more e (inl w) = fits_here here more e w
+      fits here more e (inr (none, end)) = subst (λ (xs : List ℕ). IfSome left0 (Fits base.done xs)) (e ∙ ap (λ (xs : List ℕ). here ++ xs) none ∙ append-nil here) (fits_end end)
+
+    -- a part of an input that is at hand was answered
+    pub part_answered : (input : List ℕ) (start now next : W) (front : List ℕ) → Base (Some input) (Some []) start now front → (here more : List ℕ) → front ≡ here ++ more → IsWhole here ⊎ ((more ≡ []) × IsAtEnd (Some []))
+        → (r : Result (Unit {0}) RunError) → OnOk r (here ≡ front) → AnswersAll sink is now here r next → AnswersAll sink is start input r next
+    part_answered input start now next front base here more e w (Ok x) same h = record { ok = all (Some input) (Some []) start now front base next refl (subst (AllReplied is (sink.bytes now) (sink.bytes next)) same h.ok); count = h.count ∙ base.count; write = tt; write_count = tt; memory = tt; read = tt }
+    part_answered input start now next front base here more e w (Err (run.Read x)) same h = absurd h.read
+    part_answered input start now next front base here more e w (Err (run.Write x)) same h = record { ok = tt; count = tt; write = part (Some input) (Some []) start now front base next here (fits (Some input) (Some []) start now front base here more e w) h.write; write_count = h.write_count ∙ ap next_count base.count; memory = tt; read = tt }
+    part_answered input start now next front base here more e w (Err (run.Memory x)) same h = record { ok = tt; count = h.count ∙ base.count; write = tt; write_count = tt; memory = before (Some input) (Some []) start now front base next here (fits (Some input) (Some []) start now front base here more e w) h.memory; read = tt }
+
+  module _ {R W : Type 0} (left : R → Option (List ℕ)) (failures : R → ℕ) (sink : SinkOfBytes W) (reader source : R) (start now : W) (front : List ℕ) (base : Base sink (left reader) (left source) start now front) where
+    -- Lines of what was taken were answered; `take` says that these are what `Taken` holds of.
+    pub lines_answered : (Unread : Type 0) (Taken : (List ℕ → Type 0) → Type 0) (next : W) (here more : List ℕ) → front ≡ here ++ more → IsWhole here ⊎ ((more ≡ []) × IsAtEnd (left source)) → failures source ≡ failures reader
+        → ((P : List ℕ → Type 0) → P (base.done ++ here) → Taken P) → (r : Result (Unit {0}) RunError) → OnOk r ((here ≡ front) × IsAtEnd (left source)) → AnswersAll sink is now here r next
+        → RunLeaves is left failures sink Unread Taken reader start r source next
+    lines_answered Unread Taken next here more e w same take (Ok x) (last, end) h =
+        let answers : AllReplied is (sink.bytes now) (sink.bytes next) front = subst (AllReplied is (sink.bytes now) (sink.bytes next)) last h.ok in
+        record { ok = all sink (left reader) (left source) start now front base next end answers; ok_taken = all_taken sink (left reader) (left source) start now front base next end answers; end = end; read = tt; read_first = tt; read_count = tt; source_count = same; write = tt; write_taken = tt; write_count = tt; sink_count = h.count ∙ base.count; memory = tt; memory_taken = tt }
+    lines_answered Unread Taken next here more e w same take (Err (run.Read x)) last h = absurd h.read
+    lines_answered Unread Taken next here more e w same take (Err (run.Write x)) last h =
+        let f = fits sink (left reader) (left source) start now front base here more e w in
+        let taken = part_more (sink.bytes start) (sink.bytes now) (sink.bytes next) base.done here (base.done ++ here) base.out h.write (fits_last base.done here base.ends) in
+        record { ok = tt; ok_taken = tt; end = tt; read = tt; read_first = tt; read_count = tt; source_count = same; write = part sink (left reader) (left source) start now front base next here f h.write; write_taken = take (PartReplied is (sink.bytes start) (sink.bytes next)) taken; write_count = h.write_count ∙ ap next_count base.count; sink_count = tt; memory = tt; memory_taken = tt }
+    lines_answered Unread Taken next here more e w same take (Err (run.Memory x)) last h =
+        let f = fits sink (left reader) (left source) start now front base here more e w in
+        let taken = before_more (sink.bytes start) (sink.bytes now) (sink.bytes next) base.done here (base.done ++ here) base.out h.memory (fits_last base.done here base.ends) in
+        record { ok = tt; ok_taken = tt; end = tt; read = tt; read_first = tt; read_count = tt; source_count = same; write = tt; write_taken = tt; write_count = tt; sink_count = h.count ∙ base.count; memory = befores sink (left reader) (left source) start now front base next here f h.memory; memory_taken = inr (take (BeforeReplied is (sink.bytes start) (sink.bytes next)) taken) }
+
+    -- the lines of a block were answered
+    pub block_answered : (next : W) (here more : List ℕ) → front ≡ here ++ more → IsWhole here ⊎ ((more ≡ []) × IsAtEnd (left source)) → failures source ≡ failures reader
+        → (r : Result (Unit {0}) RunError) → OnOk r ((here ≡ front) × IsAtEnd (left source)) → AnswersAll sink is now here r next → Streams is left failures sink reader start r source next
+    block_answered next here more e w same r last h = lines_answered _ (LinesTaken (left reader) (left source)) next here more e w same (taken_here sink (left reader) (left source) start now front base here more e w) r last h
+
+    -- there was no memory to read on
+    pub no_room : HasNoFeed front → failures source ≡ failures reader → (e : AllocError) → Streams is left failures sink {A = Unit {0}} reader start (Err (run.Memory e)) source now
+    no_room none same e = record { ok = tt; ok_taken = tt; end = tt; read = tt; read_first = tt; read_count = tt; source_count = same; write = tt; write_taken = tt; write_count = tt; sink_count = base.count; memory = so_far sink (left reader) (left source) start now front base; memory_taken = inl (no_more sink (left reader) (left source) start now front base none) }
+
+    -- the source failed
+    pub no_block : HasNoFeed front → failures source ≡ failures reader → (later : R) → Keeps (left source) (left later) → failures later ≡ next_count (failures source) → (e : Error) → Streams is left failures sink {A = Unit {0}} reader start (Err (run.Read e)) later now
+    no_block none same later keeps failed e = record { ok = tt; ok_taken = tt; end = tt; read = broke_off sink (left reader) (left source) start now front base (left later) keeps none; read_first = so_far sink (left reader) (left source) start now front base; read_count = failed ∙ ap next_count same; source_count = tt; write = tt; write_taken = tt; write_count = tt; sink_count = base.count; memory = tt; memory_taken = tt }

@@ -1,5 +1,5 @@
 -- Lines that are answered by a page.
-use Rattle.std.proofs.Common.{◌≡◌, ◌≢◌, ℕ, ◌+◌, ◌-◌, ◌<◌, ◌≤◌, List, [], ◌∷◌, ◌++◌, length, length-append, length-drop, length-take, take, drop, refl, sym, ap, ◌∙◌, subst, append_assoc, take-append-drop, arith, Option, Result, Ok, Err, OnOk}
+use Rattle.std.proofs.Common.{◌≡◌, ◌≢◌, ℕ, ◌+◌, ◌-◌, ◌<◌, ◌≤◌, List, [], ◌∷◌, ◌++◌, length, length-append, length-drop, length-take, take, drop, refl, sym, ap, ◌∙◌, subst, append_assoc, take-append-drop, arith, Result, Ok, Err, OnOk}
 use Rattle.std.proofs.lemmas.List.{append-nil, drop_all, drop-drop, take_all}
 use Rattle.std.proofs.KnownBytes.{Appends-nil, Appends-trans}
 use Rattle.std.specs.Io.KnownBytes.{Appends}
@@ -9,8 +9,9 @@ use Rattle.wkt_events.specs.Left.{before_feed}
 use Rattle.wkt_events.specs.Feeds.{after_feed}
 use Rattle.wkt_lines.specs.Lines.{input_lines}
 use Rattle.wkt_lines.specs.Replies.{AreReplies, AllReplied, BeforeReplied, PartReplied}
-use Rattle.wkt_lines.specs.Pages.{Drained, Stopped, PutsOut}
-use Rattle.wkt_lines.specs.Output.{OnRunRead, OnRunWrite, OnRunMemory, UnlessRunWrite}
+use Rattle.wkt_lines.specs.Pages.{Drained, Stopped, PutsOut, AnswersAll}
+use Rattle.std.specs.declared.io.Error.{Error}
+use Rattle.wkt_lines.specs.Output.{OnRunMemory}
 use Rattle.wkt_lines.specs.declared.lines.RunError.{RunError}
 use Rattle.wkt_lines.specs.declared.lines.RunError.TheVariants as run
 use Rattle.wkt_lines.proofs.Answering.{one_more, next_line, one_reply}
@@ -36,10 +37,6 @@ module _ (is : List ℕ → List ℕ → Type 0) {D : Type 0} (sink : SinkOfByte
 
   pub paged_none : (input text : List ℕ) (start : D) → text ≡ [] → Paged input 0 text start start
   paged_none input text start none = record { first = []; out = []; lines = refl; answers = refl; put = []; split = sym none; went = Appends-nil (sink.bytes start); count = refl }
-
-  -- the same page and the same sink
-  pub paged_by : (input : List ℕ) (at : ℕ) (text same : List ℕ) (start now next : D) → same ≡ text → next ≡ now → Paged input at text start now → Paged input at same start next
-  paged_by input at text same start now next e f h = subst (λ t. Paged input at t start next) (sym e) (subst (Paged input at text start) (sym f) h)
 
   module _ (input : List ℕ) (at : ℕ) (text : List ℕ) (start now : D) (h : Paged input at text start now) where
     -- some of the page went out
@@ -77,8 +74,7 @@ module _ (is : List ℕ → List ℕ → Type 0) {D : Type 0} (sink : SinkOfByte
         paged_more taken more inside (subst (λ (l : List ℕ). drop taken l ≡ after_feed l) same left)
         (subst (λ (l : List ℕ). (answer : List ℕ) × is (before_feed l) answer × (more ≡ text ++ (answer ++ 10 ∷ []))) same added)
 
-    -- the sink failed
-    pub paged_stopped : (next : D) → Stopped sink text now next → PartReplied is (sink.bytes start) (sink.bytes next) input
+    paged_stopped : (next : D) → Stopped sink text now next → PartReplied is (sink.bytes start) (sink.bytes next) input
     paged_stopped next s =
         let long : length h.out ≡ length h.put + length text = ap length h.split ∙ length-append h.put text in
         let some = s.some in
@@ -89,25 +85,17 @@ module _ (is : List ℕ → List ℕ → Type 0) {D : Type 0} (sink : SinkOfByte
         h.lines
         (Appends-trans (sink.bytes start) (sink.bytes now) (sink.bytes next) h.put (take s.k text) h.went s.went)
 
-    pub paged_stopped_count : (next : D) → Stopped sink text now next → sink.failures next ≡ next_count (sink.failures start)
-    paged_stopped_count next s = s.count ∙ ap next_count h.count
-
     -- all of the page is out, and the next line isn't answered
-    pub paged_before : (next : D) → at < length input → Drained sink text [] now next → BeforeReplied is (sink.bytes start) (sink.bytes next) input
+    paged_before : (next : D) → at < length input → Drained sink text [] now next → BeforeReplied is (sink.bytes start) (sink.bytes next) input
     paged_before next inside d =
         let k = paged_drained [] next d in
-        record {
-          first = k.first;
-          line = before_feed (drop at input);
-          others = input_lines (after_feed (drop at input));
-          lines = next_line k.first (drop at input) input (before_feed (drop at input)) k.lines (some-left at input inside) refl;
-          out = k.out;
-          answers = k.answers;
-          went = subst (λ (l : List ℕ). Appends (sink.bytes start) (sink.bytes next) l) (sym (k.split ∙ append-nil k.put)) k.went;
-        }
+        let split = next_line k.first (drop at input) input (before_feed (drop at input)) k.lines (some-left at input inside) refl in (
+          record { first = k.first; line = before_feed (drop at input); others = input_lines (after_feed (drop at input)); split = split; out = k.out; answers = k.answers },
+          subst (λ (l : List ℕ). Appends (sink.bytes start) (sink.bytes next) l) (sym (k.split ∙ append-nil k.put)) k.went,
+        )
 
     -- all of the page is out, and so are all answers
-    pub paged_all : (next : D) → length input ≤ at → Drained sink text [] now next → AllReplied is (sink.bytes start) (sink.bytes next) input
+    paged_all : (next : D) → length input ≤ at → Drained sink text [] now next → AllReplied is (sink.bytes start) (sink.bytes next) input
     paged_all next past d =
         let k = paged_drained [] next d in
         let none : input_lines (drop at input) ≡ [] = ap input_lines (drop_all at input past) in
@@ -115,40 +103,23 @@ module _ (is : List ℕ → List ℕ → Type 0) {D : Type 0} (sink : SinkOfByte
         (k.out, subst (λ (l : List (List ℕ)). AreReplies is l k.out) same k.answers, subst (λ (l : List ℕ). Appends (sink.bytes start) (sink.bytes next) l) (sym (k.split ∙ append-nil k.put)) k.went)
 
   module _ (input : List ℕ) (at : ℕ) (text left : List ℕ) (start now next : D) (h : Paged input at text start now) where
-    pub on_write : (r : Result (Unit {0}) RunError) → PutsOut sink r text left now next → OnRunWrite r (PartReplied is (sink.bytes start) (sink.bytes next) input)
-    on_write (Ok x) p = tt
-    on_write (Err (run.Read e)) p = tt
-    on_write (Err (run.Write e)) p = paged_stopped input at text start now h next p
-    on_write (Err (run.Memory e)) p = tt
+    -- the sink failed
+    stops : (e : Error) → Stopped sink text now next → AnswersAll sink is start input (Err (run.Write e)) next
+    stops e p = record { ok = tt; count = tt; write = paged_stopped input at text start now h next p; write_count = p.count ∙ ap next_count h.count; memory = tt; read = tt }
 
-    pub on_write_count : (r : Result (Unit {0}) RunError) → PutsOut sink r text left now next → OnRunWrite r (sink.failures next ≡ next_count (sink.failures start))
-    on_write_count (Ok x) p = tt
-    on_write_count (Err (run.Read e)) p = tt
-    on_write_count (Err (run.Write e)) p = paged_stopped_count input at text start now h next p
-    on_write_count (Err (run.Memory e)) p = tt
+    -- a line is left to be answered
+    pub ends_inside : at < length input → (r : Result (Unit {0}) RunError) → OnOk r ⊥ → PutsOut sink r text left now next → AnswersAll sink is start input r next
+    ends_inside inside (Ok x) never p = absurd never
+    ends_inside inside (Err (run.Read e)) never p = absurd p
+    ends_inside inside (Err (run.Write e)) never p = stops e p
+    ends_inside inside (Err (run.Memory e)) never p = record { ok = tt; count = p.count ∙ h.count; write = tt; write_count = tt; memory = paged_before input at text start now h next inside p; read = tt }
 
-    pub on_memory : at < length input → (r : Result (Unit {0}) RunError) → PutsOut sink r text left now next → OnRunMemory r (BeforeReplied is (sink.bytes start) (sink.bytes next) input)
-    on_memory inside (Ok x) p = tt
-    on_memory inside (Err (run.Read e)) p = tt
-    on_memory inside (Err (run.Write e)) p = tt
-    on_memory inside (Err (run.Memory e)) p = paged_before input at text start now h next inside p
-
-    pub on_count : (r : Result (Unit {0}) RunError) → PutsOut sink r text left now next → UnlessRunWrite r (sink.failures next ≡ sink.failures start)
-    on_count (Ok x) p = p.count ∙ h.count
-    on_count (Err (run.Read e)) p = absurd p
-    on_count (Err (run.Write e)) p = tt
-    on_count (Err (run.Memory e)) p = p.count ∙ h.count
-
-    pub on_read : (r : Result (Unit {0}) RunError) → PutsOut sink r text left now next → OnRunRead r ⊥
-    on_read (Ok x) p = tt
-    on_read (Err (run.Read e)) p = p
-    on_read (Err (run.Write e)) p = tt
-    on_read (Err (run.Memory e)) p = tt
-
-  module _ (input : List ℕ) (at : ℕ) (text : List ℕ) (start now next : D) (h : Paged input at text start now) (past : length input ≤ at) where
-    pub on_ok : (r : Result (Unit {0}) RunError) → PutsOut sink r text [] now next → OnOk r (AllReplied is (sink.bytes start) (sink.bytes next) input)
-    on_ok (Ok x) p = paged_all input at text start now h next past p
-    on_ok (Err e) p = tt
+  -- all lines are answered
+  pub ends_past : (input : List ℕ) (at : ℕ) (text : List ℕ) (start now next : D) → Paged input at text start now → length input ≤ at → (r : Result (Unit {0}) RunError) → OnRunMemory r ⊥ → PutsOut sink r text [] now next → AnswersAll sink is start input r next
+  ends_past input at text start now next h past (Ok x) never p = record { ok = paged_all input at text start now h next past p; count = p.count ∙ h.count; write = tt; write_count = tt; memory = tt; read = tt }
+  ends_past input at text start now next h past (Err (run.Read e)) never p = absurd p
+  ends_past input at text start now next h past (Err (run.Write e)) never p = stops input at text [] start now next h e p
+  ends_past input at text start now next h past (Err (run.Memory e)) never p = absurd never
 
 pub near : (input : List ℕ) (at taken : ℕ) → at < length input → taken ≤ length (take (length input - at) (drop at input)) + 1 → at + taken ≤ length input + 1
 near input at taken inside far = omega (arith, inside, far, length-take (length input - at) (drop at input), length-drop at input)

@@ -5,7 +5,6 @@ pub mod Replies
 pub mod Output
 pub mod Laws
 pub mod Answer
-pub mod Added
 pub mod First
 pub mod Blocks
 pub mod Feeds

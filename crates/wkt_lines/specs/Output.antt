@@ -1,9 +1,8 @@
 -- The output of a program that answers line by line. Numbers are read by `read` and printed by `num`.
-use Rattle.std.specs.Prelude.{◌≡◌, ℕ, List, [], ◌∷◌, ◌++◌, ◌⊎◌, Option, codes, IsUtf8, Result, Ok, Err}
+use Rattle.std.specs.Prelude.{ℕ, List, Option, Result, Ok, Err}
 use Rattle.wkt_num.specs.Sink.{Sink}
-use Rattle.wkt_bytes.specs.Sinks.{SinkOfBytes}
 use Rattle.wkt_lines.specs.Lines.{input_lines}
-use Rattle.wkt_lines.specs.Replies.{AreReplies, AllReplied, FirstReplied, BeforeReplied, PartReplied, AddsReply, BreaksReply}
+use Rattle.wkt_lines.specs.Replies.{AreReplies, AddsReply, BreaksReply}
 use Rattle.wkt_lines.specs.declared.lines.RunError.{RunError}
 use Rattle.wkt_lines.specs.declared.lines.RunError.TheVariants as run
 pub use Rattle.wkt_events.specs.Answers.{IsText, IsRefusedLine, IsAnswer}
@@ -16,39 +15,6 @@ module _ {N : Type 0} (read : List ℕ → Option N) (num : N → List ℕ) wher
   -- The answers to all lines of the input.
   abbrev pub IsOutput : List ℕ → List ℕ → Type 0
   IsOutput input out = AreAnswers (input_lines input) out
-
-  -- The output went out whole.
-  abbrev pub AllOut : Option (List ℕ) → Option (List ℕ) → List ℕ → Type 0
-  AllOut = AllReplied (IsAnswer read num)
-
-  -- The whole answers to some first lines went out, and nothing else.
-  abbrev pub FirstOut : Option (List ℕ) → Option (List ℕ) → List ℕ → Type 0
-  FirstOut = FirstReplied (IsAnswer read num)
-
-  -- The whole answers to the lines before one went out, and nothing else: there was no memory for this one.
-  abbrev pub BeforeOut : Option (List ℕ) → Option (List ℕ) → List ℕ → Type 0
-  BeforeOut = BeforeReplied (IsAnswer read num)
-
-  -- The whole answers to some first lines went out, and then a beginning of the next line's.
-  abbrev pub PartOut : Option (List ℕ) → Option (List ℕ) → List ℕ → Type 0
-  PartOut = PartReplied (IsAnswer read num)
-
-  module _ {D : Type 0} (sink : SinkOfBytes D) where
-    -- The output for an input went out whole, by the sink that reveals its bytes.
-    abbrev pub IsAllOut : D → D → List ℕ → Type 0
-    IsAllOut old new = AllOut (sink.bytes old) (sink.bytes new)
-
-    -- The same of the whole answers to some first lines.
-    abbrev pub IsFirstOut : D → D → List ℕ → Type 0
-    IsFirstOut old new = FirstOut (sink.bytes old) (sink.bytes new)
-
-    -- The same of the whole answers to the lines before one.
-    abbrev pub IsBeforeOut : D → D → List ℕ → Type 0
-    IsBeforeOut old new = BeforeOut (sink.bytes old) (sink.bytes new)
-
-    -- The same of some first answers, and a beginning of the next.
-    abbrev pub IsSomeOut : D → D → List ℕ → Type 0
-    IsSomeOut old new = PartOut (sink.bytes old) (sink.bytes new)
 
   module _ {S : Type 0} (sink : Sink S) where
     -- The answer to a line was added to a sink of text.

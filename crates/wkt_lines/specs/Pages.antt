@@ -1,11 +1,13 @@
 -- A page. Only private contracts cite these words.
-use Rattle.std.specs.Prelude.{◌≡◌, ℕ, ◌+◌, ◌*◌, ◌<◌, ◌≤◌, List, [], ◌∷◌, ◌++◌, Option, length, take, drop, vec_len, Result, Ok, Err}
+use Rattle.std.specs.Prelude.{◌≡◌, ℕ, ◌+◌, ◌*◌, ◌<◌, ◌≤◌, List, [], ◌∷◌, ◌++◌, Option, length, take, drop, vec_len, Result, Ok, Err, OnOk}
 use Rattle.std.specs.Io.KnownBytes.{Appends}
 use Rattle.wkt_num.specs.Sink.{next_count}
 use Rattle.wkt_bytes.specs.Sinks.{SinkOfBytes}
 use Rattle.wkt_events.specs.Left.{before_feed}
 use Rattle.wkt_events.specs.Answers.{IsAnswer}
 use Rattle.wkt_events.specs.Feeds.{after_feed}
+use Rattle.wkt_lines.specs.Output.{OnRunRead, OnRunWrite, OnRunMemory, UnlessRunWrite}
+use Rattle.wkt_lines.specs.Replies.{IsAllReplied, IsBeforeReplied, IsPartReplied}
 use Rattle.wkt_lines.specs.declared.page.Page.{Page}
 use Rattle.wkt_lines.specs.declared.on_page.ByReply.{ByReply}
 use Rattle.wkt_lines.specs.declared.lines.RunError.{RunError}
@@ -69,3 +71,12 @@ module _ {D : Type 0} (sink : SinkOfBytes D) where
   PutsOut (Err (run.Read e)) text left old new = ⊥
   PutsOut (Err (run.Write e)) text left old new = Stopped text old new
   PutsOut (Err (run.Memory e)) text left old new = Drained text [] old new
+
+  -- The answers to all lines of an input went out, or an error says which did.
+  pub record AnswersAll (is : List ℕ → List ℕ → Type 0) (old : D) (input : List ℕ) (result : Result (Unit {0}) RunError) (new : D) : Type 0 where
+    pub ok : OnOk result (IsAllReplied is sink old new input)
+    pub count : UnlessRunWrite result (sink.failures new ≡ sink.failures old)
+    pub write : OnRunWrite result (IsPartReplied is sink old new input)
+    pub write_count : OnRunWrite result (sink.failures new ≡ next_count (sink.failures old))
+    pub memory : OnRunMemory result (IsBeforeReplied is sink old new input)
+    pub read : OnRunRead result ⊥

@@ -1,9 +1,11 @@
 -- Answers of any kind to the lines of an input: `is line answer` says that the line may have this answer.
-use Rattle.std.specs.Prelude.{◌≡◌, ℕ, List, [], ◌∷◌, ◌++◌, Option}
+use Rattle.std.specs.Prelude.{◌≡◌, ℕ, List, [], ◌∷◌, ◌++◌, Option, Result, OnOk}
 use Rattle.std.specs.Io.KnownBytes.{Appends}
 use Rattle.wkt_num.specs.Sink.{Sink, Adds, Breaks}
 use Rattle.wkt_bytes.specs.Sinks.{SinkOfBytes}
 use Rattle.wkt_lines.specs.Lines.{input_lines}
+use Rattle.wkt_lines.specs.Answer.{OnSink, OnAnswerMemory}
+use Rattle.wkt_lines.specs.declared.answer.AnswerError.{AnswerError}
 
 module _ (is : List ℕ → List ℕ → Type 0) where
   -- Each line's answer, followed by a line feed.
@@ -25,30 +27,32 @@ module _ (is : List ℕ → List ℕ → Type 0) where
     pub answers : AreReplies first out
     pub went : Appends old new out
 
-  -- The whole answers to the lines before one went out, and nothing else: there was no memory for this one.
-  pub record BeforeReplied (old new : Option (List ℕ)) (input : List ℕ) : Type 0 where
+  -- The answers to the lines before one of these.
+  pub record RepliesBefore (lines : List (List ℕ)) : Type 0 where
     pub first : List (List ℕ)
     pub line : List ℕ
     pub others : List (List ℕ)
-    pub lines : first ++ (line ∷ others) ≡ input_lines input
+    pub split : first ++ (line ∷ others) ≡ lines
     pub out : List ℕ
     pub answers : AreReplies first out
-    pub went : Appends old new out
 
-  -- The whole answers to some first lines went out, and then a beginning of the next line's.
-  pub record PartReplied (old new : Option (List ℕ)) (input : List ℕ) : Type 0 where
-    pub first : List (List ℕ)
-    pub line : List ℕ
-    pub others : List (List ℕ)
-    pub lines : first ++ (line ∷ others) ≡ input_lines input
-    pub out : List ℕ
-    pub answers : AreReplies first out
+  -- The whole answers to some first lines, and then a beginning of the next line's.
+  pub record ArePartReplies (lines : List (List ℕ)) (out : List ℕ) : Type 0 where
+    pub before : RepliesBefore lines
     pub answer : List ℕ
-    pub is_answer : is line answer
+    pub is_answer : is before.line answer
     pub part : List ℕ
     pub lost : List ℕ
     pub whole : answer ++ 10 ∷ [] ≡ part ++ lost
-    pub went : Appends old new (out ++ part)
+    pub ends : out ≡ before.out ++ part
+
+  -- The whole answers to the lines before one went out, and nothing else: there was no memory for this one.
+  abbrev pub BeforeReplied : Option (List ℕ) → Option (List ℕ) → List ℕ → Type 0
+  BeforeReplied old new input = (before : RepliesBefore (input_lines input)) × Appends old new before.out
+
+  -- The whole answers to some first lines went out, and then a beginning of the next line's.
+  abbrev pub PartReplied : Option (List ℕ) → Option (List ℕ) → List ℕ → Type 0
+  PartReplied old new input = (out : List ℕ) × ArePartReplies (input_lines input) out × Appends old new out
 
   module _ {D : Type 0} (sink : SinkOfBytes D) where
     -- The answers to all lines went out, by the sink that reveals its bytes.
@@ -99,12 +103,20 @@ module _ (is : List ℕ → List ℕ → Type 0) where
 
     -- The sink failed when a beginning of the answers to some first lines and to the next was added.
     pub record BreaksReplies (old new : S) (input : List ℕ) : Type 0 where
-      pub first : List (List ℕ)
-      pub line : List ℕ
-      pub others : List (List ℕ)
-      pub lines : first ++ (line ∷ others) ≡ input_lines input
-      pub out : List ℕ
-      pub answers : AreReplies first out
+      pub before : RepliesBefore (input_lines input)
       pub answer : List ℕ
-      pub is_answer : is line answer
-      pub broke : Breaks sink old (out ++ (answer ++ 10 ∷ [])) new
+      pub is_answer : is before.line answer
+      pub broke : Breaks sink old (before.out ++ (answer ++ 10 ∷ [])) new
+
+  module _ {S : Type 0} (to : Sink S) where
+    -- The answer to a line was added, and a line feed, or an error says what was.
+    pub record RepliesLine {A : Type 0} (old : S) (line : List ℕ) (result : Result A AnswerError) (new : S) : Type 0 where
+      pub ok : OnOk result (AddsReplyLine to old new line)
+      pub sink : OnSink result (BreaksReplyLine to old new line)
+      pub memory : OnAnswerMemory result (new ≡ old)
+
+    -- The answers to all lines of the input were added, or an error says which.
+    pub record RepliesAll {A : Type 0} (old : S) (input : List ℕ) (result : Result A AnswerError) (new : S) : Type 0 where
+      pub ok : OnOk result (AddsReplies to old new input)
+      pub sink : OnSink result (BreaksReplies to old new input)
+      pub memory : OnAnswerMemory result (AddsFirstReplies to old new input)

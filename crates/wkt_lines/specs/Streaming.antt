@@ -1,10 +1,12 @@
 -- What is out of what was taken from a source, also from one that doesn't reveal its bytes.
-use Rattle.std.specs.Prelude.{◌≡◌, ℕ, List, [], ◌++◌, ◌⊎◌, Option}
+use Rattle.std.specs.Prelude.{◌≡◌, ℕ, List, [], ◌++◌, ◌⊎◌, Option, IfSome, Result, OnOk}
 use Rattle.std.specs.Io.KnownBytes.{Consumes, IsAtEnd}
 use Rattle.wkt_bytes.specs.Sinks.{SinkOfBytes}
 use Rattle.wkt_lines.specs.Laws.{IsWhole}
-use Rattle.wkt_lines.specs.Replies.{AllReplied}
-use Rattle.wkt_lines.specs.Output.{IsAnswer}
+use Rattle.wkt_num.specs.Sink.{next_count}
+use Rattle.wkt_lines.specs.Replies.{AllReplied, IsAllReplied, IsFirstReplied, IsBeforeReplied, IsPartReplied}
+use Rattle.wkt_lines.specs.Output.{OnRunRead, OnRunWrite, OnRunMemory, UnlessRunRead, UnlessRunWrite}
+use Rattle.wkt_lines.specs.declared.lines.RunError.{RunError}
 use Rattle.wkt_lines.specs.Feeds.{HasNoFeed}
 
 -- The source gave all bytes that it had, and this holds of them.
@@ -38,7 +40,31 @@ module _ (is : List ℕ → List ℕ → Type 0) where
   abbrev pub IsTakenReplied : {D : Type 0} → SinkOfBytes D → Option (List ℕ) → Option (List ℕ) → D → D → Type 0
   IsTakenReplied sink left rest old new = TakenReplied left rest (sink.bytes old) (sink.bytes new)
 
--- The same of the program's answers. Numbers are read by `read` and printed by `num`.
-module _ {N : Type 0} (read : List ℕ → Option N) (num : N → List ℕ) where
-  abbrev pub IsTakenOut : {D : Type 0} → SinkOfBytes D → Option (List ℕ) → Option (List ℕ) → D → D → Type 0
-  IsTakenOut = IsTakenReplied (IsAnswer read num)
+  -- A run over a source whose bytes are `left`, and whose failed calls are counted by `failures`.
+  module _ {R D : Type 0} (left : R → Option (List ℕ)) (failures : R → ℕ) (sink : SinkOfBytes D) where
+    -- The answers to all lines are out, or an error says which are: `Unread` where no more could be read, and `Taken` says of
+    -- what was read where the run broke off at a line of it.
+    pub record RunLeaves {A : Type 0} (Unread : Type 0) (Taken : (List ℕ → Type 0) → Type 0) (reader : R) (writer : D) (result : Result A RunError) (reader' : R) (writer' : D) : Type 0 where
+      pub ok : OnOk result (IfSome (left reader) (IsAllReplied is sink writer writer'))
+      pub ok_taken : OnOk result (AllTaken (left reader) (left reader') (IsAllReplied is sink writer writer'))
+      pub end : OnOk result (IsAtEnd (left reader'))
+      pub read : OnRunRead result Unread
+      pub read_first : OnRunRead result (IfSome (left reader) (IsFirstReplied is sink writer writer'))
+      pub read_count : OnRunRead result (failures reader' ≡ next_count (failures reader))
+      pub source_count : UnlessRunRead result (failures reader' ≡ failures reader)
+      pub write : OnRunWrite result (IfSome (left reader) (IsPartReplied is sink writer writer'))
+      pub write_taken : OnRunWrite result (Taken (IsPartReplied is sink writer writer'))
+      pub write_count : OnRunWrite result (sink.failures writer' ≡ next_count (sink.failures writer))
+      pub sink_count : UnlessRunWrite result (sink.failures writer' ≡ sink.failures writer)
+      pub memory : OnRunMemory result (IfSome (left reader) (IsFirstReplied is sink writer writer'))
+      pub memory_taken : OnRunMemory result (Unread ⊎ Taken (IsBeforeReplied is sink writer writer'))
+
+    -- All of the source is read first: nothing is written before its end.
+    abbrev pub Runs : {A : Type 0} → R → D → Result A RunError → R → D → Type 0
+    Runs reader writer result reader' writer' =
+        RunLeaves (writer' ≡ writer) (AllTaken (left reader) (left reader')) reader writer result reader' writer'
+
+    -- The source is read block by block: the answers to the whole lines so far are out before it is asked again.
+    abbrev pub Streams : {A : Type 0} → R → D → Result A RunError → R → D → Type 0
+    Streams reader writer result reader' writer' =
+        RunLeaves (IsTakenReplied sink (left reader) (left reader') writer writer') (LinesTaken (left reader) (left reader')) reader writer result reader' writer'

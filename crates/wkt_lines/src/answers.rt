@@ -1,7 +1,6 @@
 //! The answers to all lines of an input, as text.
-ghost use Rattle.std.specs.Prelude.{OnOk};
-ghost use Rattle.wkt_lines.specs.Answer.{OnSink, OnAnswerMemory};
-ghost use Rattle.wkt_lines.specs.Added.{AddsOutput, AddsFirst, BreaksOutput};
+ghost use Rattle.wkt_lines.specs.Output.{IsAnswer};
+ghost use Rattle.wkt_lines.specs.Replies.{RepliesAll};
 
 use crate::answer::AnswerError;
 use crate::first::{Room, write_first};
@@ -18,9 +17,7 @@ pub fn write_answers<T: WktNum, W: TextSink>(
     input: &[u8],
     f: &mut W,
 ) -> Result<(), AnswerError>
-    ensures ok { OnOk result (AddsOutput T.read T.num W.sink f.old f.new input.now) }
-    ensures sink { OnSink result (BreaksOutput T.read T.num W.sink f.old f.new input.now) }
-    ensures memory { OnAnswerMemory result (AddsFirst T.read T.num W.sink f.old f.new input.now) }
+    ensures { RepliesAll (IsAnswer T.read T.num) W.sink f.old input.now result f.new }
 {
     let mut room = Room::new(alloc);
     let mut rest = input;

@@ -1,8 +1,9 @@
 //! The answer to the first line of what is left of an input.
 ghost use Rattle.std.specs.Prelude.{◌≡◌, ◌+◌, ◌*◌, ◌≤◌, ◌<◌, OnOk, IfOk, length, take, vec_len, IsUtf8};
 ghost use Rattle.wkt_events.specs.Left.{before_feed};
-ghost use Rattle.wkt_lines.specs.Added.{AddsLine, BreaksLine};
-ghost use Rattle.wkt_lines.specs.Answer.{AnswersLine, OnSink, OnAnswerMemory};
+ghost use Rattle.wkt_lines.specs.Output.{IsAnswer};
+ghost use Rattle.wkt_lines.specs.Replies.{RepliesLine};
+ghost use Rattle.wkt_lines.specs.Answer.{AnswersLine};
 ghost use Rattle.wkt_lines.specs.First.{EndsLine};
 
 use crate::answer::AnswerError;
@@ -165,9 +166,7 @@ pub(crate) fn write_first<T: WktNum, W: TextSink>(
     f: &mut W,
 ) -> Result<usize, AnswerError>
     ensures end { IfOk result (λ end. EndsLine rest.now end) }
-    ensures ok { OnOk result (AddsLine T.read T.num W.sink f.old f.new (before_feed rest.now)) }
-    ensures sink { OnSink result (BreaksLine T.read T.num W.sink f.old f.new (before_feed rest.now)) }
-    ensures memory { OnAnswerMemory result (f.new ≡ f.old) }
+    ensures added { RepliesLine (IsAnswer T.read T.num) W.sink f.old (before_feed rest.now) result f.new }
 {
     match room.first::<T>(rest) {
         Ok(answer) => match room.put(answer.len, f) {

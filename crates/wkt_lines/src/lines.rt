@@ -1,11 +1,9 @@
 //! Answers each line of a whole input.
-ghost use Rattle.std.specs.Prelude.{◌≡◌, ◌≤◌, ◌+◌, ◌⊎◌, IfSome, OnOk, length, drop};
-ghost use Rattle.std.specs.Io.KnownBytes.{IsAtEnd};
-ghost use Rattle.wkt_num.specs.Sink.{next_count};
+ghost use Rattle.std.specs.Prelude.{◌≡◌, ◌≤◌, ◌+◌, length, drop};
 ghost use Rattle.wkt_lines.specs.Numbers.{read_line, print_line};
-ghost use Rattle.wkt_lines.specs.Output.{IsAllOut, IsFirstOut, IsBeforeOut, IsSomeOut, OnRunRead, OnRunWrite, OnRunMemory, UnlessRunRead, UnlessRunWrite};
-ghost use Rattle.wkt_lines.specs.Replies.{IsAllReplied, IsBeforeReplied, IsPartReplied};
-ghost use Rattle.wkt_lines.specs.Streaming.{AllTaken};
+ghost use Rattle.wkt_lines.specs.Output.{IsAnswer};
+ghost use Rattle.wkt_lines.specs.Pages.{AnswersAll};
+ghost use Rattle.wkt_lines.specs.Streaming.{Runs};
 
 use crate::block::whole_lines;
 use crate::on_page::{Answers, ByWalk};
@@ -45,24 +43,8 @@ pub fn run<R: ByteSource, W: ByteSink>(
     reader: &mut R,
     writer: &mut W,
 ) -> Result<(), RunError>
-    ensures ok { OnOk result
-        (IfSome (R.left reader.old) (IsAllOut read_line print_line W.sink writer.old writer.new)) }
-    ensures ok_taken { OnOk result (AllTaken (R.left reader.old) (R.left reader.new)
-        (IsAllOut read_line print_line W.sink writer.old writer.new)) }
-    ensures end { OnOk result (IsAtEnd (R.left reader.new)) }
-    ensures read { OnRunRead result (writer.new ≡ writer.old) }
-    ensures read_count { OnRunRead result (R.failures reader.new ≡ next_count (R.failures reader.old)) }
-    ensures source_count { UnlessRunRead result (R.failures reader.new ≡ R.failures reader.old) }
-    ensures write { OnRunWrite result
-        (IfSome (R.left reader.old) (IsSomeOut read_line print_line W.sink writer.old writer.new)) }
-    ensures write_taken { OnRunWrite result (AllTaken (R.left reader.old) (R.left reader.new)
-        (IsSomeOut read_line print_line W.sink writer.old writer.new)) }
-    ensures write_count { OnRunWrite result (W.sink.failures writer.new ≡ next_count (W.sink.failures writer.old)) }
-    ensures sink_count { UnlessRunWrite result (W.sink.failures writer.new ≡ W.sink.failures writer.old) }
-    ensures memory { OnRunMemory result
-        (IfSome (R.left reader.old) (IsFirstOut read_line print_line W.sink writer.old writer.new)) }
-    ensures memory_taken { OnRunMemory result ((writer.new ≡ writer.old)
-        ⊎ AllTaken (R.left reader.old) (R.left reader.new) (IsBeforeOut read_line print_line W.sink writer.old writer.new)) }
+    ensures { Runs (IsAnswer read_line print_line) R.left R.failures W.sink
+        reader.old writer.old result reader.new writer.new }
 {
     run_over::<Decimal<18>, R, W>(alloc, reader, writer)
 }
@@ -80,23 +62,8 @@ pub fn run_over<T: WktNum, R: ByteSource, W: ByteSink>(
     reader: &mut R,
     writer: &mut W,
 ) -> Result<(), RunError>
-    ensures ok { OnOk result (IfSome (R.left reader.old) (IsAllOut T.read T.num W.sink writer.old writer.new)) }
-    ensures ok_taken { OnOk result (AllTaken (R.left reader.old) (R.left reader.new)
-        (IsAllOut T.read T.num W.sink writer.old writer.new)) }
-    ensures end { OnOk result (IsAtEnd (R.left reader.new)) }
-    ensures read { OnRunRead result (writer.new ≡ writer.old) }
-    ensures read_count { OnRunRead result (R.failures reader.new ≡ next_count (R.failures reader.old)) }
-    ensures source_count { UnlessRunRead result (R.failures reader.new ≡ R.failures reader.old) }
-    ensures write { OnRunWrite result
-        (IfSome (R.left reader.old) (IsSomeOut T.read T.num W.sink writer.old writer.new)) }
-    ensures write_taken { OnRunWrite result (AllTaken (R.left reader.old) (R.left reader.new)
-        (IsSomeOut T.read T.num W.sink writer.old writer.new)) }
-    ensures write_count { OnRunWrite result (W.sink.failures writer.new ≡ next_count (W.sink.failures writer.old)) }
-    ensures sink_count { UnlessRunWrite result (W.sink.failures writer.new ≡ W.sink.failures writer.old) }
-    ensures memory { OnRunMemory result
-        (IfSome (R.left reader.old) (IsFirstOut T.read T.num W.sink writer.old writer.new)) }
-    ensures memory_taken { OnRunMemory result ((writer.new ≡ writer.old)
-        ⊎ AllTaken (R.left reader.old) (R.left reader.new) (IsBeforeOut T.read T.num W.sink writer.old writer.new)) }
+    ensures { Runs (IsAnswer T.read T.num) R.left R.failures W.sink
+        reader.old writer.old result reader.new writer.new }
 {
     match read_all(alloc, reader) {
         Ok(bytes) => answer_input(alloc, &ByWalk::<T>::new(), &bytes, writer),
@@ -112,12 +79,7 @@ fn answer_input<A: Answers, W: ByteSink>(
     input: &[u8],
     writer: &mut W,
 ) -> Result<(), RunError>
-    ensures ok { OnOk result (IsAllReplied (A.answers answers.now) W.sink writer.old writer.new input.now) }
-    ensures count { UnlessRunWrite result (W.sink.failures writer.new ≡ W.sink.failures writer.old) }
-    ensures write { OnRunWrite result (IsPartReplied (A.answers answers.now) W.sink writer.old writer.new input.now) }
-    ensures write_count { OnRunWrite result (W.sink.failures writer.new ≡ next_count (W.sink.failures writer.old)) }
-    ensures memory { OnRunMemory result (IsBeforeReplied (A.answers answers.now) W.sink writer.old writer.new input.now) }
-    ensures read { OnRunRead result ⊥ }
+    ensures { AnswersAll W.sink (A.answers answers.now) writer.old input.now result writer.new }
 {
     let mut page = Page::of_lines(alloc);
     let mut rest = input;

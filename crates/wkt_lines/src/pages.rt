@@ -1,10 +1,8 @@
 //! The answers to the lines of a block.
-ghost use Rattle.std.specs.Prelude.{◌≡◌, ◌<◌, [], ℕ, OnOk, OnErr, length, take};
-ghost use Rattle.std.specs.Io.KnownBytes.{Appends};
-ghost use Rattle.wkt_num.specs.Sink.{next_count};
-ghost use Rattle.wkt_lines.specs.Replies.{IsAllReplied, IsBeforeReplied, IsPartReplied};
-ghost use Rattle.wkt_lines.specs.Output.{OnRunRead, OnRunWrite, OnRunMemory, UnlessRunWrite};
-ghost use Rattle.wkt_lines.specs.Pages.{page_text, HasRoomFor, PutsOut};
+ghost use Rattle.std.specs.Prelude.{◌≡◌, ◌<◌, [], OnOk};
+ghost use Rattle.wkt_bytes.specs.Sinks.{PutsAll};
+ghost use Rattle.wkt_lines.specs.Output.{OnRunMemory};
+ghost use Rattle.wkt_lines.specs.Pages.{page_text, HasRoomFor, PutsOut, AnswersAll};
 
 use crate::lines::RunError;
 use crate::on_page::Answers;
@@ -21,23 +19,16 @@ pub(crate) fn answer_block<A: Answers, W: ByteSink>(
     writer: &mut W,
 ) -> Result<(), RunError>
     requires { page_text page.old ≡ [] }
-    ensures ok { OnOk result (IsAllReplied (A.answers answers.now) W.sink writer.old writer.new input.now) }
+    ensures answers { AnswersAll W.sink (A.answers answers.now) writer.old input.now result writer.new }
     ensures empty { OnOk result (page_text page.new ≡ []) }
-    ensures count { UnlessRunWrite result (W.sink.failures writer.new ≡ W.sink.failures writer.old) }
-    ensures write { OnRunWrite result (IsPartReplied (A.answers answers.now) W.sink writer.old writer.new input.now) }
-    ensures write_count { OnRunWrite result (W.sink.failures writer.new ≡ next_count (W.sink.failures writer.old)) }
-    ensures memory { OnRunMemory result (IsBeforeReplied (A.answers answers.now) W.sink writer.old writer.new input.now) }
-    ensures read { OnRunRead result ⊥ }
     ensures keeps { W.sink.keeps writer.old writer.new }
 {
     let mut at = 0;
     'lines: while at < input.len() {
         let rest = &input[at..];
-        if !page.is_ready(rest.len()) {
-            match turn(rest.len(), page, writer) {
-                Ok(()) => {}
-                Err(e) => return Err(e),
-            }
+        match make_ready(rest.len(), page, writer) {
+            Ok(()) => {}
+            Err(e) => return Err(e),
         }
         match answers.add_first(rest, page) {
             Ok(taken) => at += taken,
@@ -61,13 +52,16 @@ fn give_up<W: ByteSink>(error: AllocError, page: &mut Page, writer: &mut W) -> R
     }
 }
 
-/// Makes the page ready for the answer to a text of so many bytes; it has to be put out.
+/// Makes the page ready for the answer to a text of so many bytes, and puts it out where it has to be.
 #[inline(always)]
-fn turn<W: ByteSink>(n: usize, page: &mut Page, writer: &mut W) -> Result<(), RunError>
+fn make_ready<W: ByteSink>(n: usize, page: &mut Page, writer: &mut W) -> Result<(), RunError>
     ensures puts { PutsOut W.sink result (page_text page.old) (page_text page.new) writer.old writer.new }
     ensures room { OnOk result (HasRoomFor page.new n) }
     ensures keeps { W.sink.keeps writer.old writer.new }
 {
+    if page.is_ready(n) {
+        return Ok(());
+    }
     let put = put_pieces(writer, page.written(), page.piece());
     page.cut(0);
     match put {
@@ -99,13 +93,7 @@ fn put_out<W: ByteSink>(page: &mut Page, writer: &mut W) -> Result<(), RunError>
 #[inline(always)]
 fn put_pieces<W: ByteSink>(writer: &mut W, bytes: &[u8], piece: usize) -> Result<(), io::Error>
     requires { 0 < piece }
-    ensures ok { OnOk result (Appends (W.sink.bytes writer.old) (W.sink.bytes writer.new) bytes.now) }
-    ensures kept { OnOk result (W.sink.failures writer.new ≡ W.sink.failures writer.old) }
-    ensures err { OnErr result
-        ((k : ℕ) × Appends (W.sink.bytes writer.old) (W.sink.bytes writer.new) (take k bytes.now)) }
-    ensures some { OnErr result (0 < length bytes.now) }
-    ensures failed { OnErr result (W.sink.failures writer.new ≡ next_count (W.sink.failures writer.old)) }
-    ensures keeps { W.sink.keeps writer.old writer.new }
+    ensures { PutsAll W.sink bytes.now writer.old writer.new result }
 {
     let mut rest = bytes;
     'pieces: while rest.len() > piece {

@@ -3,7 +3,7 @@ ghost use Rattle.std.specs.Prelude.{◌≡◌, ◌≢◌, ℕ, ◌+◌, ◌≤�
 ghost use Rattle.std.specs.Io.KnownBytes.{Keeps, IsAtEnd};
 ghost use Rattle.wkt_num.specs.Sink.{next_count};
 ghost use Rattle.wkt_bytes.specs.ReadAll.{OnRead, UnlessRead};
-ghost use Rattle.wkt_lines.specs.Splitting.{before_feed, after_feed};
+ghost use Rattle.wkt_lines.specs.First.{EndsLine};
 ghost use Rattle.wkt_lines.specs.Blocks.{unanswered};
 
 use crate::block::Block;
@@ -112,9 +112,7 @@ impl<R: ByteSource> Lines<R> {
     fn find_end(&mut self) -> Result<usize, ReadAllError>
         requires none { line_of self.old ≡ [] }
         ensures line { line_of self.new ≡ [] }
-        ensures within { IfOk result (λ n. n ≤ length (unread self.new)) }
-        ensures before { IfOk result (λ n. take n (unread self.new) ≡ before_feed (unread self.new)) }
-        ensures after { IfOk result (λ n. drop (n + 1) (unread self.new) ≡ after_feed (unread self.new)) }
+        ensures ends { IfOk result (EndsLine (unread self.new)) }
         ensures last { IfOk result (λ n. n ≡ length (unread self.new) → IsAtEnd (R.left (source_of self.new))) }
         ensures kept { Keeps (to_come R.left self.old) (to_come R.left self.new) }
         ensures count { UnlessRead result (R.failures (source_of self.new) ≡ R.failures (source_of self.old)) }

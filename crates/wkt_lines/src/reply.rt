@@ -2,7 +2,7 @@
 ghost use Rattle.std.specs.Prelude.{◌≡◌, ℕ, List, OnOk};
 ghost use Rattle.wkt_lines.specs.Answer.{OnSink, OnAnswerMemory};
 ghost use Rattle.wkt_lines.specs.Output.{IsAnswer};
-ghost use Rattle.wkt_lines.specs.Replies.{AddsReply, BreaksReply, AddsReplyLine, BreaksReplyLine, AddsReplies, AddsFirstReplies, BreaksReplies};
+ghost use Rattle.wkt_lines.specs.Replies.{AddsReply, BreaksReply, RepliesLine, RepliesAll};
 
 use crate::answer::{AnswerError, write_answer};
 use crate::lines::after_line;
@@ -52,10 +52,7 @@ pub fn write_replies<A: Reply, W: TextSink>(
     input: &[u8],
     sink: &mut W,
 ) -> Result<(), AnswerError>
-    ensures ok { OnOk result (AddsReplies (A.answers reply.now) W.sink sink.old sink.new input.now) }
-    ensures sink { OnSink result (BreaksReplies (A.answers reply.now) W.sink sink.old sink.new input.now) }
-    ensures memory { OnAnswerMemory result
-        (AddsFirstReplies (A.answers reply.now) W.sink sink.old sink.new input.now) }
+    ensures { RepliesAll (A.answers reply.now) W.sink sink.old input.now result sink.new }
 {
     let mut rest = input;
     'lines: while !rest.is_empty() {
@@ -75,9 +72,7 @@ pub(crate) fn reply_to_line<A: Reply, W: TextSink>(
     line: &[u8],
     sink: &mut W,
 ) -> Result<(), AnswerError>
-    ensures ok { OnOk result (AddsReplyLine (A.answers reply.now) W.sink sink.old sink.new line.now) }
-    ensures sink { OnSink result (BreaksReplyLine (A.answers reply.now) W.sink sink.old sink.new line.now) }
-    ensures memory { OnAnswerMemory result (sink.new ≡ sink.old) }
+    ensures { RepliesLine (A.answers reply.now) W.sink sink.old line.now result sink.new }
 {
     match reply.reply(alloc, line, sink) {
         Ok(()) => match sink.write_str("\n") {

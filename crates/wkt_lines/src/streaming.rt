@@ -1,11 +1,7 @@
 //! Answers each line of an input that is read block by block.
-ghost use Rattle.std.specs.Prelude.{◌≡◌, ◌⊎◌, IfSome, OnOk};
-ghost use Rattle.std.specs.Io.KnownBytes.{IsAtEnd};
-ghost use Rattle.wkt_num.specs.Sink.{next_count};
 ghost use Rattle.wkt_lines.specs.Numbers.{read_line, print_line};
-ghost use Rattle.wkt_lines.specs.Output.{IsAllOut, IsFirstOut, IsBeforeOut, IsSomeOut, OnRunRead, OnRunWrite, OnRunMemory, UnlessRunRead, UnlessRunWrite};
-ghost use Rattle.wkt_lines.specs.Replies.{IsAllReplied, IsFirstReplied, IsBeforeReplied, IsPartReplied};
-ghost use Rattle.wkt_lines.specs.Streaming.{AllTaken, LinesTaken, IsTakenOut, IsTakenReplied};
+ghost use Rattle.wkt_lines.specs.Output.{IsAnswer};
+ghost use Rattle.wkt_lines.specs.Streaming.{Streams};
 
 use crate::block::Block;
 use crate::lines::RunError;
@@ -32,29 +28,8 @@ pub fn stream<R: ByteSource, W: ByteSink>(
     reader: &mut R,
     writer: &mut W,
 ) -> Result<(), RunError>
-    ensures ok { OnOk result
-        (IfSome (R.left reader.old) (IsAllOut read_line print_line W.sink writer.old writer.new)) }
-    ensures ok_taken { OnOk result (AllTaken (R.left reader.old) (R.left reader.new)
-        (IsAllOut read_line print_line W.sink writer.old writer.new)) }
-    ensures end { OnOk result (IsAtEnd (R.left reader.new)) }
-    ensures read { OnRunRead result
-        (IsTakenOut read_line print_line W.sink (R.left reader.old) (R.left reader.new) writer.old writer.new) }
-    ensures read_first { OnRunRead result
-        (IfSome (R.left reader.old) (IsFirstOut read_line print_line W.sink writer.old writer.new)) }
-    ensures read_count { OnRunRead result (R.failures reader.new ≡ next_count (R.failures reader.old)) }
-    ensures source_count { UnlessRunRead result (R.failures reader.new ≡ R.failures reader.old) }
-    ensures write { OnRunWrite result
-        (IfSome (R.left reader.old) (IsSomeOut read_line print_line W.sink writer.old writer.new)) }
-    ensures write_taken { OnRunWrite result (LinesTaken (R.left reader.old) (R.left reader.new)
-        (IsSomeOut read_line print_line W.sink writer.old writer.new)) }
-    ensures write_count { OnRunWrite result (W.sink.failures writer.new ≡ next_count (W.sink.failures writer.old)) }
-    ensures sink_count { UnlessRunWrite result (W.sink.failures writer.new ≡ W.sink.failures writer.old) }
-    ensures memory { OnRunMemory result
-        (IfSome (R.left reader.old) (IsFirstOut read_line print_line W.sink writer.old writer.new)) }
-    ensures memory_taken { OnRunMemory result
-        (IsTakenOut read_line print_line W.sink (R.left reader.old) (R.left reader.new) writer.old writer.new
-        ⊎ LinesTaken (R.left reader.old) (R.left reader.new)
-        (IsBeforeOut read_line print_line W.sink writer.old writer.new)) }
+    ensures { Streams (IsAnswer read_line print_line) R.left R.failures W.sink
+        reader.old writer.old result reader.new writer.new }
 {
     stream_over::<Decimal<18>, R, W>(alloc, reader, writer)
 }
@@ -68,27 +43,8 @@ pub fn stream_over<T: WktNum, R: ByteSource, W: ByteSink>(
     reader: &mut R,
     writer: &mut W,
 ) -> Result<(), RunError>
-    ensures ok { OnOk result (IfSome (R.left reader.old) (IsAllOut T.read T.num W.sink writer.old writer.new)) }
-    ensures ok_taken { OnOk result (AllTaken (R.left reader.old) (R.left reader.new)
-        (IsAllOut T.read T.num W.sink writer.old writer.new)) }
-    ensures end { OnOk result (IsAtEnd (R.left reader.new)) }
-    ensures read { OnRunRead result
-        (IsTakenOut T.read T.num W.sink (R.left reader.old) (R.left reader.new) writer.old writer.new) }
-    ensures read_first { OnRunRead result
-        (IfSome (R.left reader.old) (IsFirstOut T.read T.num W.sink writer.old writer.new)) }
-    ensures read_count { OnRunRead result (R.failures reader.new ≡ next_count (R.failures reader.old)) }
-    ensures source_count { UnlessRunRead result (R.failures reader.new ≡ R.failures reader.old) }
-    ensures write { OnRunWrite result
-        (IfSome (R.left reader.old) (IsSomeOut T.read T.num W.sink writer.old writer.new)) }
-    ensures write_taken { OnRunWrite result (LinesTaken (R.left reader.old) (R.left reader.new)
-        (IsSomeOut T.read T.num W.sink writer.old writer.new)) }
-    ensures write_count { OnRunWrite result (W.sink.failures writer.new ≡ next_count (W.sink.failures writer.old)) }
-    ensures sink_count { UnlessRunWrite result (W.sink.failures writer.new ≡ W.sink.failures writer.old) }
-    ensures memory { OnRunMemory result
-        (IfSome (R.left reader.old) (IsFirstOut T.read T.num W.sink writer.old writer.new)) }
-    ensures memory_taken { OnRunMemory result
-        (IsTakenOut T.read T.num W.sink (R.left reader.old) (R.left reader.new) writer.old writer.new
-        ⊎ LinesTaken (R.left reader.old) (R.left reader.new) (IsBeforeOut T.read T.num W.sink writer.old writer.new)) }
+    ensures { Streams (IsAnswer T.read T.num) R.left R.failures W.sink
+        reader.old writer.old result reader.new writer.new }
 {
     stream_blocks(alloc, &ByWalk::<T>::new(), reader, writer)
 }
@@ -103,29 +59,8 @@ pub fn stream_with<A: Reply, R: ByteSource, W: ByteSink>(
     reader: &mut R,
     writer: &mut W,
 ) -> Result<(), RunError>
-    ensures ok { OnOk result
-        (IfSome (R.left reader.old) (IsAllReplied (A.answers reply.now) W.sink writer.old writer.new)) }
-    ensures ok_taken { OnOk result (AllTaken (R.left reader.old) (R.left reader.new)
-        (IsAllReplied (A.answers reply.now) W.sink writer.old writer.new)) }
-    ensures end { OnOk result (IsAtEnd (R.left reader.new)) }
-    ensures read { OnRunRead result
-        (IsTakenReplied (A.answers reply.now) W.sink (R.left reader.old) (R.left reader.new) writer.old writer.new) }
-    ensures read_first { OnRunRead result
-        (IfSome (R.left reader.old) (IsFirstReplied (A.answers reply.now) W.sink writer.old writer.new)) }
-    ensures read_count { OnRunRead result (R.failures reader.new ≡ next_count (R.failures reader.old)) }
-    ensures source_count { UnlessRunRead result (R.failures reader.new ≡ R.failures reader.old) }
-    ensures write { OnRunWrite result
-        (IfSome (R.left reader.old) (IsPartReplied (A.answers reply.now) W.sink writer.old writer.new)) }
-    ensures write_taken { OnRunWrite result (LinesTaken (R.left reader.old) (R.left reader.new)
-        (IsPartReplied (A.answers reply.now) W.sink writer.old writer.new)) }
-    ensures write_count { OnRunWrite result (W.sink.failures writer.new ≡ next_count (W.sink.failures writer.old)) }
-    ensures sink_count { UnlessRunWrite result (W.sink.failures writer.new ≡ W.sink.failures writer.old) }
-    ensures memory { OnRunMemory result
-        (IfSome (R.left reader.old) (IsFirstReplied (A.answers reply.now) W.sink writer.old writer.new)) }
-    ensures memory_taken { OnRunMemory result
-        (IsTakenReplied (A.answers reply.now) W.sink (R.left reader.old) (R.left reader.new) writer.old writer.new
-        ⊎ LinesTaken (R.left reader.old) (R.left reader.new)
-        (IsBeforeReplied (A.answers reply.now) W.sink writer.old writer.new)) }
+    ensures { Streams (A.answers reply.now) R.left R.failures W.sink
+        reader.old writer.old result reader.new writer.new }
 {
     stream_blocks(alloc, &ByReply { alloc, reply }, reader, writer)
 }
@@ -137,29 +72,8 @@ fn stream_blocks<A: Answers, R: ByteSource, W: ByteSink>(
     reader: &mut R,
     writer: &mut W,
 ) -> Result<(), RunError>
-    ensures ok { OnOk result
-        (IfSome (R.left reader.old) (IsAllReplied (A.answers answers.now) W.sink writer.old writer.new)) }
-    ensures ok_taken { OnOk result (AllTaken (R.left reader.old) (R.left reader.new)
-        (IsAllReplied (A.answers answers.now) W.sink writer.old writer.new)) }
-    ensures end { OnOk result (IsAtEnd (R.left reader.new)) }
-    ensures read { OnRunRead result
-        (IsTakenReplied (A.answers answers.now) W.sink (R.left reader.old) (R.left reader.new) writer.old writer.new) }
-    ensures read_first { OnRunRead result
-        (IfSome (R.left reader.old) (IsFirstReplied (A.answers answers.now) W.sink writer.old writer.new)) }
-    ensures read_count { OnRunRead result (R.failures reader.new ≡ next_count (R.failures reader.old)) }
-    ensures source_count { UnlessRunRead result (R.failures reader.new ≡ R.failures reader.old) }
-    ensures write { OnRunWrite result
-        (IfSome (R.left reader.old) (IsPartReplied (A.answers answers.now) W.sink writer.old writer.new)) }
-    ensures write_taken { OnRunWrite result (LinesTaken (R.left reader.old) (R.left reader.new)
-        (IsPartReplied (A.answers answers.now) W.sink writer.old writer.new)) }
-    ensures write_count { OnRunWrite result (W.sink.failures writer.new ≡ next_count (W.sink.failures writer.old)) }
-    ensures sink_count { UnlessRunWrite result (W.sink.failures writer.new ≡ W.sink.failures writer.old) }
-    ensures memory { OnRunMemory result
-        (IfSome (R.left reader.old) (IsFirstReplied (A.answers answers.now) W.sink writer.old writer.new)) }
-    ensures memory_taken { OnRunMemory result
-        (IsTakenReplied (A.answers answers.now) W.sink (R.left reader.old) (R.left reader.new) writer.old writer.new
-        ⊎ LinesTaken (R.left reader.old) (R.left reader.new)
-        (IsBeforeReplied (A.answers answers.now) W.sink writer.old writer.new)) }
+    ensures { Streams (A.answers answers.now) R.left R.failures W.sink
+        reader.old writer.old result reader.new writer.new }
 {
     let mut block = Block::new(alloc);
     let mut page = Page::of_blocks(alloc);

@@ -1,4 +1,4 @@
-use Rattle.std.proofs.Common.{◌≡◌, [], true}
+use Rattle.std.proofs.Common.{◌≡◌, []}
 use Rattle.wkt_lines.specs.Pages.{page_text}
 use Rattle.wkt_lines.specs.Blocks.{unanswered}
 use Rattle.wkt_lines.specs.Feeds.{HasNoFeed}

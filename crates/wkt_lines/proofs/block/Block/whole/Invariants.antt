@@ -1,5 +1,5 @@
 -- No line feed stands behind this place.
-use Rattle.std.proofs.Common.{◌≡◌, ◌≢◌, ℕ, ◌≤◌, ◌<◌, length, get_or}
+use Rattle.std.proofs.Common.{◌≢◌, ℕ, ◌≤◌, ◌<◌, length, get_or}
 use Rattle.wkt_lines.proofs.block.Block.whole.Given as goal
 
 abbrev pub invariant-loop-at : goal.invariant-loop-at

@@ -1,5 +1,5 @@
 -- The room grows until the answer fits.
-use Rattle.std.proofs.Common.{ℕ, ◌≤◌, ◌+◌, ◌*◌, ◌-◌, ◌^◌, length}
+use Rattle.std.proofs.Common.{◌≤◌, ◌+◌, ◌*◌, ◌-◌, ◌^◌, length}
 use Rattle.std.specs.Prelude.{vec_len}
 use Rattle.wkt_lines.proofs.first.Room.answer.Given as goal
 

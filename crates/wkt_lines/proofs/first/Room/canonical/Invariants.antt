@@ -1,4 +1,4 @@
-use Rattle.std.proofs.Common.{ℕ, ◌≤◌, ◌+◌, ◌*◌, ◌-◌, ◌^◌, length}
+use Rattle.std.proofs.Common.{◌≤◌, ◌+◌, ◌*◌, ◌-◌, ◌^◌, length}
 use Rattle.std.specs.Prelude.{vec_len}
 use Rattle.wkt_lines.proofs.first.Room.canonical.Given as goal
 

@@ -1,6 +1,5 @@
 -- A reply to the first line is on the page, or the page is as it was.
-use Rattle.std.proofs.Common.{◌≡◌, ◌+◌, ◌++◌, ◌∷◌, [], List, ℕ, subst, sym, ap, ◌∙◌, take, length, arith}
-use Rattle.std.proofs.Math.Seq.{take-append_seam}
+use Rattle.std.proofs.Common.{◌++◌, ◌∷◌, [], ◌∙◌, take, arith}
 use Rattle.wkt_lines.specs.Pages.{page_text, reply_of}
 use Rattle.wkt_lines.proofs.Answering.{reply_to_first, grew_cut}
 use Rattle.wkt_lines.proofs.on_page.ByReplyAnswers.add_first.Goals as goal

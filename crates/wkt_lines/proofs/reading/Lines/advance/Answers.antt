@@ -1,7 +1,7 @@
 -- A line is what stands before the next line feed, or at the end.
 use Rattle.std.proofs.Common.{sym, subst}
 use Rattle.std.specs.Io.KnownBytes.{prepend_known}
-use Rattle.wkt_lines.specs.Reading.{source_of, line_of, unread, to_come, GivesLine}
+use Rattle.wkt_lines.specs.Reading.{source_of, line_of, unread, GivesLine}
 use Rattle.wkt_lines.proofs.Lining.{gives, kept_gives}
 use Rattle.wkt_lines.proofs.reading.Lines.advance.Goals as goal
 
@@ -13,6 +13,6 @@ returns-in-Ok-clause-line g c = λ some.
     let xs = unread c.find_end.new.self in
     let next = unread c.step.new.self in
     let line = line_of c.step.new.self in
-    let given = gives xs line next c.in-Ok.end f.within f.before f.after (s.some some) s.line s.unread (left (source_of c.find_end.new.self)) f.last in
+    let given = gives xs line next c.in-Ok.end f.ends.within f.ends.before f.ends.after (s.some some) s.line s.unread (left (source_of c.find_end.new.self)) f.last in
     kept_gives _ _ _ line c.find_end.ensures.kept
     (subst (λ r. GivesLine (prepend_known xs (left (source_of c.find_end.new.self))) (prepend_known next (left r)) line) (sym s.source) given)

@@ -1,37 +1,26 @@
 -- No line feed was seen in what came so far.
-use Rattle.std.proofs.Common.{◌≡◌, ◌+◌, ◌≤◌, ℕ, List, length, take, drop, arith, ap, sym, ◌∙◌, subst, length-append}
+use Rattle.std.proofs.Common.{◌≡◌, ◌+◌, ◌≤◌, ℕ, List, length, arith, ap, sym, ◌∙◌, subst, length-append}
 use Rattle.std.proofs.KnownBytes.{Keeps-trans}
-use Rattle.wkt_lines.specs.Splitting.{before_feed, after_feed}
+use Rattle.wkt_lines.specs.First.{EndsLine}
 use Rattle.wkt_lines.specs.Reading.{unread}
 use Rattle.wkt_lines.proofs.Feeding.{seen_none}
 use Rattle.wkt_lines.proofs.Lining.{seen_line, none_to_end, came_keeps, none_came}
 use Rattle.wkt_lines.proofs.reading.Lines.find_end.Goals as goal
 
-pub returns-then-end-rest-clause-before : goal.returns-then-end-rest-clause-before
-returns-then-end-rest-clause-before g c =
+pub returns-then-end-rest-clause-ends : goal.returns-then-end-rest-clause-ends
+returns-then-end-rest-clause-ends g c =
     let i = c.turns.invariant in
-    (seen_line c.turns.seen c.line_end.result (unread c.turns.self) c.rest-rest.result.now c.rest-rest.ensures i.within i.none c.line_end.ensures.before c.line_end.ensures.after).0
+    let (before, after) = seen_line c.turns.seen c.line_end.result (unread c.turns.self) c.rest-rest.result.now c.rest-rest.ensures i.within i.none c.line_end.ensures.before c.line_end.ensures.after in
+    record { before = before; after = after; within = omega (arith, ap length c.rest-rest.ensures, c.if-end-rest.true) }
 
-pub returns-then-end-rest-clause-after : goal.returns-then-end-rest-clause-after
-returns-then-end-rest-clause-after g c =
-    let i = c.turns.invariant in
-    (seen_line c.turns.seen c.line_end.result (unread c.turns.self) c.rest-rest.result.now c.rest-rest.ensures i.within i.none c.line_end.ensures.before c.line_end.ensures.after).1
-
-pub returns-in-Ok-eq0-clause-before : goal.returns-in-Ok-eq0-clause-before
-returns-in-Ok-eq0-clause-before g c =
+pub returns-in-Ok-eq0-clause-ends : goal.returns-in-Ok-eq0-clause-ends
+returns-in-Ok-eq0-clause-ends g c =
     let i = c.turns.invariant in
     let m = c.in-Ok-eq0.ensures.ok in
     let same = none_came _ _ m.fresh m.stands (m.many ∙ c.in-Ok-eq0.field-0-test) in
-    subst (λ (xs : List ℕ). take (c.turns.seen + c.line_end.result) xs ≡ before_feed xs) (sym same)
-    (seen_line c.turns.seen c.line_end.result (unread c.turns.self) c.rest-rest.result.now c.rest-rest.ensures i.within i.none c.line_end.ensures.before c.line_end.ensures.after).0
-
-pub returns-in-Ok-eq0-clause-after : goal.returns-in-Ok-eq0-clause-after
-returns-in-Ok-eq0-clause-after g c =
-    let i = c.turns.invariant in
-    let m = c.in-Ok-eq0.ensures.ok in
-    let same = none_came _ _ m.fresh m.stands (m.many ∙ c.in-Ok-eq0.field-0-test) in
-    subst (λ (xs : List ℕ). drop (c.turns.seen + c.line_end.result + 1) xs ≡ after_feed xs) (sym same)
-    (seen_line c.turns.seen c.line_end.result (unread c.turns.self) c.rest-rest.result.now c.rest-rest.ensures i.within i.none c.line_end.ensures.before c.line_end.ensures.after).1
+    let (before, after) = seen_line c.turns.seen c.line_end.result (unread c.turns.self) c.rest-rest.result.now c.rest-rest.ensures i.within i.none c.line_end.ensures.before c.line_end.ensures.after in
+    let within : c.turns.seen + c.line_end.result ≤ length (unread c.turns.self) = omega (arith, ap length c.rest-rest.ensures, i.within, c.line_end.ensures.within) in
+    subst (λ (xs : List ℕ). EndsLine xs (c.turns.seen + c.line_end.result)) (sym same) (record { before = before; after = after; within = within })
 
 pub turns-preserved : goal.turns-preserved
 turns-preserved g c =
