@@ -7,3 +7,4 @@ pub mod OpenedBack
 pub mod Backs
 pub mod Plain
 pub mod Sends
+pub mod KindTrees

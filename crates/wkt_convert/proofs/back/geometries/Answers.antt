@@ -7,7 +7,7 @@ use Rattle.wkt_types.proofs.TreeLemmas.{tree-collection}
 use Rattle.wkt_flat.specs.Weight.{flat_weight, weight, weights}
 use Rattle.wkt_flat.specs.Tree.{flat_tree}
 use Rattle.wkt_flat.proofs.TreeLemmas.{flat-point}
-use Rattle.wkt_types.proofs.TreeLemmas.{tree-point}
+use Rattle.wkt_convert.proofs.KindTrees.{tree-point}
 use Rattle.wkt_convert.specs.Back.{back}
 use Rattle.wkt_convert.proofs.Members.{all_back_members}
 use Rattle.wkt_convert.proofs.Opened.{first-of, falls-opened, falls-closed}

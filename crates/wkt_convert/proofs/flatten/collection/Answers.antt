@@ -9,7 +9,7 @@ use Rattle.wkt_flat.specs.Tree.{Flat, flats_of, flat_tree, flat_trees}
 use Rattle.wkt_flat.proofs.TreeLemmas.{flat-collection}
 use Rattle.wkt_convert.specs.Flatten.{flat}
 use Rattle.wkt_convert.specs.Outcomes.{outcome_map, outcomes}
-use Rattle.wkt_types.proofs.TreeLemmas.{tree-point}
+use Rattle.wkt_convert.proofs.KindTrees.{tree-point}
 use Rattle.wkt_convert.proofs.Members.{flatten_members}
 use Rattle.wkt_convert.proofs.Outcomes.{passes_on}
 use Rattle.wkt_convert.proofs.Opened.{first-of, falls-opened, falls-closed}

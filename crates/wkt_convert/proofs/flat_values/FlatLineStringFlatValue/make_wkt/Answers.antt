@@ -1,7 +1,7 @@
 -- The tree is that of the line string that was made.
 use Rattle.std.proofs.Common.{ap, ◌∙◌}
 use Rattle.wkt_types.specs.Tree as trees
-use Rattle.wkt_types.proofs.TreeLemmas.{tree-line_string}
+use Rattle.wkt_convert.proofs.KindTrees.{tree-line_string}
 use Rattle.wkt_convert.proofs.flat_values.FlatLineStringFlatValue.make_wkt.Goals as goal
 
 pub returns : goal.returns
