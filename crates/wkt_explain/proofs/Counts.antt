@@ -32,39 +32,16 @@ deep p d depth = length (around p d depth)
 module _ {N : Type 0} (read : List ℕ → Option N) where
   in_counts : (p : Part) (d : Dimension) (depth : ℕ) → parens (inside p d depth) ≡ deep p d depth + 1
   in_counts part.Point d depth = omega arith
-  in_counts part.Line d depth = omega arith
-  in_counts part.Rings d depth = omega arith
-  in_counts part.Ring d depth = omega arith
-  in_counts part.Members d depth = omega arith
-  in_counts part.Member d depth = omega arith
-  in_counts part.Polygons d depth = omega arith
-  in_counts part.PolygonRings d depth = omega arith
-  in_counts part.PolygonRing d depth = omega arith
-  in_counts part.Geometries d depth = omega arith
+  in_counts p d depth = omega arith
 
   out_counts : (p : Part) (d : Dimension) (depth : ℕ) → parens (outside p d depth) ≡ deep p d depth
   out_counts part.Point d depth = refl
-  out_counts part.Line d depth = refl
-  out_counts part.Rings d depth = refl
-  out_counts part.Ring d depth = refl
-  out_counts part.Members d depth = refl
-  out_counts part.Member d depth = refl
-  out_counts part.Polygons d depth = refl
-  out_counts part.PolygonRings d depth = refl
-  out_counts part.PolygonRing d depth = refl
-  out_counts part.Geometries d depth = refl
+  out_counts p d depth = refl
 
   again_counts : (p : Part) (d : Dimension) (depth : ℕ) → Counts (suc (deep p d depth)) Comma (again p d depth)
   again_counts part.Point d depth = tt
-  again_counts part.Line d depth = let h = in_counts part.Line d depth in omega (arith, h)
-  again_counts part.Rings d depth = let h = in_counts part.Rings d depth in omega (arith, h)
-  again_counts part.Ring d depth = let h = in_counts part.Ring d depth in omega (arith, h)
-  again_counts part.Members d depth = let h = in_counts part.Members d depth in omega (arith, h)
   again_counts part.Member d depth = tt
-  again_counts part.Polygons d depth = let h = in_counts part.Polygons d depth in omega (arith, h)
-  again_counts part.PolygonRings d depth = let h = in_counts part.PolygonRings d depth in omega (arith, h)
-  again_counts part.PolygonRing d depth = let h = in_counts part.PolygonRing d depth in omega (arith, h)
-  again_counts part.Geometries d depth = let h = in_counts part.Geometries d depth in omega (arith, h)
+  again_counts p d depth = let h = in_counts p d depth in omega (arith, h)
 
   empty_counts : (k : ℕ) (w : List ℕ) (b : Bool) (v : Walk) → parens v ≡ k → Counts k (Word w) (cond b (Some v) None)
   empty_counts k w true v e = omega (arith, e)
@@ -134,24 +111,13 @@ collections_deep (suc depth) = omega (arith, collections_deep depth)
 
 around_deep : (p : Part) (d : Dimension) (depth : ℕ) → deep p d depth ≡ walks.around p + depth
 around_deep part.Point d depth = let h = collections_deep depth in omega (arith, h)
-around_deep part.Line d depth = let h = collections_deep depth in omega (arith, h)
-around_deep part.Rings d depth = let h = collections_deep depth in omega (arith, h)
-around_deep part.Ring d depth = let h = collections_deep depth in omega (arith, h)
-around_deep part.Members d depth = let h = collections_deep depth in omega (arith, h)
-around_deep part.Member d depth = let h = collections_deep depth in omega (arith, h)
-around_deep part.Polygons d depth = let h = collections_deep depth in omega (arith, h)
-around_deep part.PolygonRings d depth = let h = collections_deep depth in omega (arith, h)
-around_deep part.PolygonRing d depth = let h = collections_deep depth in omega (arith, h)
-around_deep part.Geometries d depth = let h = collections_deep depth in omega (arith, h)
+around_deep p d depth = let h = collections_deep depth in omega (arith, h)
 
 parens_at : (p : Place) (depth : ℕ) → own p + depth ≡ length (frames p depth)
-parens_at place.Kind depth = let h = collections_deep depth in omega (arith, h)
-parens_at (place.Dimension k) depth = let h = collections_deep depth in omega (arith, h)
 parens_at (place.Opening p d) depth = let h = around_deep p d depth in omega (arith, h)
-parens_at (place.Member d) depth = let h = collections_deep depth in omega (arith, h)
 parens_at (place.Number p d more) depth = let h = around_deep p d depth in omega (arith, h)
 parens_at (place.Item p d) depth = let h = around_deep p d depth in omega (arith, h)
-parens_at place.Geometry depth = let h = collections_deep depth in omega (arith, h)
+parens_at p depth = let h = collections_deep depth in omega (arith, h)
 
 -- those of the place and those of the collections
 pub own_parens : (w : Walk) → own w.place + w.depth ≡ parens w

@@ -53,21 +53,13 @@ module _ {N : Type 0} (read : List ℕ → Option N) where
 
   mark_close : {A : Type 0} (a : A) (ls : List Lexeme) → mark (andthen (tell (closing_at read) ls) (λ c. Ok (a, c.1))) ≡ close_m read ls
   unfolding closing_at
-  mark_close a [] = refl
-  mark_close a (Close ∷ r) = refl
-  mark_close a (Open ∷ r) = refl
-  mark_close a (Comma ∷ r) = refl
-  mark_close a (Word w ∷ r) = refl
   mark_close a (Num w ∷ r) = ap (λ m. Err (Num w ∷ r, (m, r))) (unless_unclosed (read w))
+  mark_close a ls = refl
 
   mark_after : (m : Message) (ls : List Lexeme) → after_error m (closing_at read ls) ≡ closing read m ls
   unfolding closing_at
-  mark_after m [] = refl
-  mark_after m (Close ∷ r) = refl
-  mark_after m (Open ∷ r) = refl
-  mark_after m (Comma ∷ r) = refl
-  mark_after m (Word w ∷ r) = refl
   mark_after m (Num w ∷ r) = ap (λ m. (m, r)) (unless_unclosed (read w))
+  mark_after m ls = refl
 
   mark_closed : {A : Type 0} (t : Telling A) (m : Mark) → mark t ≡ m → mark (closed_f read t) ≡ shut read m
   unfolding closed_f
@@ -81,28 +73,17 @@ module _ {N : Type 0} (read : List ℕ → Option N) where
 
     mark_framed : (ls : List Lexeme) → mark (framed_f read empty body ls) ≡ opened_m read b ls
     unfolding framed_f opening_at
-    mark_framed [] = refl
     mark_framed (Open ∷ r) = h r
     mark_framed (Word w ∷ r) = mark_word (is_empty_word w) w r
-    mark_framed (Close ∷ r) = refl
-    mark_framed (Comma ∷ r) = refl
     mark_framed (Num w ∷ r) = ap (λ m. Err (Num w ∷ r, (m, r))) (unless_number (read w) expected.Opening message.Open refl refl)
+    mark_framed ls = refl
 
   module _ {A : Type 0} (item : List Lexeme → Telling A) (it : List Lexeme → Mark) (same : (ls : List Lexeme) → mark (item ls) ≡ it ls) where
     mark_tail : (n : ℕ) (ls : List Lexeme) → mark (tail_f item n ls) ≡ tail_m it n ls
     unfolding tail_f
-    mark_tail zero [] = refl
-    mark_tail (suc n) [] = refl
     mark_tail zero (Comma ∷ r) = refl
     mark_tail (suc n) (Comma ∷ r) = mark_then (item r) _ (it r) (tail_m it n) (same r) (λ p. mark_front (p.0 ∷ []) (tail_f item n p.1) ∙ mark_tail n p.1)
-    mark_tail zero (Open ∷ r) = refl
-    mark_tail (suc n) (Open ∷ r) = refl
-    mark_tail zero (Close ∷ r) = refl
-    mark_tail (suc n) (Close ∷ r) = refl
-    mark_tail zero (Word w ∷ r) = refl
-    mark_tail (suc n) (Word w ∷ r) = refl
-    mark_tail zero (Num w ∷ r) = refl
-    mark_tail (suc n) (Num w ∷ r) = refl
+    mark_tail n ls = refl
 
     mark_many : (n : ℕ) (ls : List Lexeme) → mark (many_f item n ls) ≡ then_m (it ls) (tail_m it n)
     mark_many n ls = mark_then (item ls) _ (it ls) (tail_m it n) (same ls) (λ p. mark_front (p.0 ∷ []) (tail_f item n p.1) ∙ mark_tail n p.1)

@@ -41,12 +41,8 @@ module _ {N : Type 0} (read : List ℕ → Option N) where
   fault e ls = (ls, (at_place read e ls, left_at read e ls))
 
   abbrev pub close_m : List Lexeme → Mark
-  close_m [] = Err ([], closing read message.Close [])
   close_m (Close ∷ r) = Ok r
-  close_m (Open ∷ r) = Err (Open ∷ r, closing read message.Close (Open ∷ r))
-  close_m (Comma ∷ r) = Err (Comma ∷ r, closing read message.Close (Comma ∷ r))
-  close_m (Word w ∷ r) = Err (Word w ∷ r, closing read message.Close (Word w ∷ r))
-  close_m (Num w ∷ r) = Err (Num w ∷ r, closing read message.Close (Num w ∷ r))
+  close_m ls = Err (ls, closing read message.Close ls)
 
   -- the closing place, after a body that was read or not
   abbrev pub shut : Mark → Mark
@@ -55,12 +51,9 @@ module _ {N : Type 0} (read : List ℕ → Option N) where
 
   -- EMPTY, or what stands after a parenthesis
   abbrev pub opened_m : (List Lexeme → Mark) → List Lexeme → Mark
-  opened_m body [] = Err (fault expected.Opening [])
   opened_m body (Open ∷ r) = body r
   opened_m body (Word w ∷ r) = cond (is_empty_word w) (Ok r) (Err (fault expected.Opening (Word w ∷ r)))
-  opened_m body (Close ∷ r) = Err (fault expected.Opening (Close ∷ r))
-  opened_m body (Comma ∷ r) = Err (fault expected.Opening (Comma ∷ r))
-  opened_m body (Num w ∷ r) = Err (fault expected.Opening (Num w ∷ r))
+  opened_m body ls = Err (fault expected.Opening ls)
 
   -- EMPTY, or items in parentheses
   abbrev pub items_m : (List Lexeme → Mark) → ℕ → List Lexeme → Mark
@@ -71,12 +64,8 @@ module _ {N : Type 0} (read : List ℕ → Option N) where
   number_in_m None e run r = Err (fault e (Num run ∷ r))
 
   abbrev pub number_m : Expected → List Lexeme → Mark
-  number_m e [] = Err (fault e [])
   number_m e (Num run ∷ r) = number_in_m (read run) e run r
-  number_m e (Open ∷ r) = Err (fault e (Open ∷ r))
-  number_m e (Close ∷ r) = Err (fault e (Close ∷ r))
-  number_m e (Comma ∷ r) = Err (fault e (Comma ∷ r))
-  number_m e (Word w ∷ r) = Err (fault e (Word w ∷ r))
+  number_m e ls = Err (fault e ls)
 
   abbrev pub numbers_m : Dimension → ℕ → List Lexeme → Mark
   numbers_m d zero ls = Ok ls
@@ -93,40 +82,27 @@ module _ {N : Type 0} (read : List ℕ → Option N) where
   list_m (suc inner) d n = items_m (list_m inner d n) n
 
   abbrev pub member_m : Dimension → List Lexeme → Mark
-  member_m d [] = Err (fault expected.Point [])
   member_m d (Open ∷ r) = one_m d r
   member_m d (Word w ∷ r) = cond (is_empty_word w) (Ok r) (Err (fault expected.Point (Word w ∷ r)))
   member_m d (Num run ∷ r) = then_m (number_in_m (read run) expected.Point run r) (numbers_m d (numbers_after d))
-  member_m d (Close ∷ r) = Err (fault expected.Point (Close ∷ r))
-  member_m d (Comma ∷ r) = Err (fault expected.Point (Comma ∷ r))
+  member_m d ls = Err (fault expected.Point ls)
 
   -- by how a geometry is read that is nested one less
   module _ (value : List Lexeme → Mark) where
     -- an item of a part
     abbrev pub item_m : Part → Dimension → ℕ → List Lexeme → Mark
-    item_m part.Point d n = coord_m d
-    item_m part.Line d n = coord_m d
     item_m part.Rings d n = list_m 1 d n
-    item_m part.Ring d n = coord_m d
     item_m part.Members d n = member_m d
-    item_m part.Member d n = coord_m d
     item_m part.Polygons d n = list_m 2 d n
     item_m part.PolygonRings d n = list_m 1 d n
-    item_m part.PolygonRing d n = coord_m d
     item_m part.Geometries d n = value
+    item_m p d n = coord_m d
 
     -- the items after one
     abbrev pub more_m : Part → Dimension → ℕ → ℕ → List Lexeme → Mark
     more_m part.Point d n m = λ ls. Ok ls
-    more_m part.Line d n m = tail_m (coord_m d) m
-    more_m part.Rings d n m = tail_m (list_m 1 d n) m
-    more_m part.Ring d n m = tail_m (coord_m d) m
-    more_m part.Members d n m = tail_m (member_m d) m
     more_m part.Member d n m = λ ls. Ok ls
-    more_m part.Polygons d n m = tail_m (list_m 2 d n) m
-    more_m part.PolygonRings d n m = tail_m (list_m 1 d n) m
-    more_m part.PolygonRing d n m = tail_m (coord_m d) m
-    more_m part.Geometries d n m = tail_m value m
+    more_m p d n m = tail_m (item_m p d n) m
 
     -- what stands after an item of a part, to its closing place
     abbrev pub after_m : Part → Dimension → ℕ → ℕ → Mark → Mark
@@ -141,12 +117,9 @@ module _ {N : Type 0} (read : List ℕ → Option N) where
 
     -- after a kind word alone
     abbrev pub dimension_m : GeometryType → ℕ → List Lexeme → Mark
-    dimension_m k n [] = Err (fault expected.Dimension [])
     dimension_m k n (Word w ∷ r) = worded_m (dim_word w) k n w r
     dimension_m k n (Open ∷ r) = part_m (part_of k) XY n (Open ∷ r)
-    dimension_m k n (Close ∷ r) = Err (fault expected.Dimension (Close ∷ r))
-    dimension_m k n (Comma ∷ r) = Err (fault expected.Dimension (Comma ∷ r))
-    dimension_m k n (Num w ∷ r) = Err (fault expected.Dimension (Num w ∷ r))
+    dimension_m k n ls = Err (fault expected.Dimension ls)
 
     abbrev pub joined_m : GeometryType → Option Dimension → ℕ → List Lexeme → Mark
     joined_m k (Some d) n r = part_m (part_of k) d n r
@@ -157,12 +130,8 @@ module _ {N : Type 0} (read : List ℕ → Option N) where
     kind_m (Some k) e n w r = joined_m k.kind k.joined n r
 
     abbrev pub geometry_m : Expected → ℕ → List Lexeme → Mark
-    geometry_m e n [] = Err (fault e [])
     geometry_m e n (Word w ∷ r) = kind_m (kind_word w) e n w r
-    geometry_m e n (Open ∷ r) = Err (fault e (Open ∷ r))
-    geometry_m e n (Close ∷ r) = Err (fault e (Close ∷ r))
-    geometry_m e n (Comma ∷ r) = Err (fault e (Comma ∷ r))
-    geometry_m e n (Num w ∷ r) = Err (fault e (Num w ∷ r))
+    geometry_m e n ls = Err (fault e ls)
 
   -- a geometry, where a kind or a member is expected
   abbrev pub value_m : ℕ → Expected → List Lexeme → Mark

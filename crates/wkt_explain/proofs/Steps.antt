@@ -22,7 +22,7 @@ use Rattle.wkt_explain.specs.Walks.{Shows, part_of, numbers_after, number_expect
 use Rattle.wkt_explain.specs.Table.{at_place, closing, closings}
 use Rattle.wkt_read.specs.declared.messages.Message.{Message}
 use Rattle.wkt_read.specs.declared.messages.Message.TheVariants as message
-use Rattle.wkt_explain.proofs.Marks.{Mark, Fault, fault, then_m, shut, tail_m, number_in_m, numbers_m, coord_m, list_m, member_m, item_m, after_m, part_m, worded_m, dimension_m, joined_m, kind_m, geometry_m, value_m}
+use Rattle.wkt_explain.proofs.Marks.{Mark, Fault, fault, then_m, shut, tail_m, number_in_m, numbers_m, coord_m, member_m, item_m, after_m, part_m, worded_m, dimension_m, joined_m, kind_m, geometry_m, value_m}
 
 -- a part that is open, with its dimension
 abbrev pub Frame : Type 0
@@ -34,35 +34,23 @@ collections (suc depth) = (part.Geometries, XY) ∷ collections depth
 
 -- the parts around one, the innermost first
 abbrev pub around : Part → Dimension → ℕ → List Frame
-around part.Point d depth = collections depth
-around part.Line d depth = collections depth
-around part.Rings d depth = collections depth
 around part.Ring d depth = (part.Rings, d) ∷ collections depth
-around part.Members d depth = collections depth
 around part.Member d depth = (part.Members, d) ∷ collections depth
-around part.Polygons d depth = collections depth
 around part.PolygonRings d depth = (part.Polygons, d) ∷ collections depth
 around part.PolygonRing d depth = (part.PolygonRings, d) ∷ (part.Polygons, d) ∷ collections depth
-around part.Geometries d depth = collections depth
+around p d depth = collections depth
 
 abbrev pub frames : Place → ℕ → List Frame
-frames place.Kind depth = collections depth
-frames (place.Dimension k) depth = collections depth
 frames (place.Opening p d) depth = around p d depth
 frames (place.Member d) depth = (part.Members, d) ∷ collections depth
 frames (place.Number p d more) depth = (p, d) ∷ around p d depth
 frames (place.Item p d) depth = (p, d) ∷ around p d depth
-frames place.Geometry depth = collections depth
+frames p depth = collections depth
 
 -- after the header of a kind nothing is open but collections
 pub around_kind : (k : GeometryType) (d : Dimension) (depth : ℕ) → around (part_of k) d depth ≡ collections depth
 around_kind kind.Point d depth = refl
-around_kind kind.LineString d depth = refl
-around_kind kind.Polygon d depth = refl
-around_kind kind.MultiPoint d depth = refl
-around_kind kind.MultiLineString d depth = refl
-around_kind kind.MultiPolygon d depth = refl
-around_kind kind.GeometryCollection d depth = refl
+around_kind k d depth = refl
 
 module _ {N : Type 0} (read : List ℕ → Option N) where
   -- how a member of a collection is read
@@ -117,31 +105,18 @@ module _ {N : Type 0} (read : List ℕ → Option N) where
   into : (p : Part) (d : Dimension) (depth n m : ℕ) (err : Fault) (r : List Lexeme) (whole : Mark) → length r ≤ n → length r ≤ m
       → Under (around p d depth) (length r) whole (after_m read (V n) p d n m (item_m read (V n) p d n r)) → Goes (Some (inside p d depth)) err r whole
   into part.Point d depth n m err r whole a b h = (n, a, (n, m, a, b, h))
-  into part.Line d depth n m err r whole a b h = (n, a, (n, m, a, b, h))
-  into part.Rings d depth n m err r whole a b h = (n, a, (n, m, a, b, h))
-  into part.Ring d depth n m err r whole a b h = (n, a, (n, m, a, b, h))
-  into part.Members d depth n m err r whole a b h = (n, a, (n, m, a, b, h))
-  into part.Member d depth n m err r whole a b h = (n, a, (n, m, a, b, h))
-  into part.Polygons d depth n m err r whole a b h = (n, a, (n, m, a, b, h))
-  into part.PolygonRings d depth n m err r whole a b h = (n, a, (n, m, a, b, h))
-  into part.PolygonRing d depth n m err r whole a b h = (n, a, (n, m, a, b, h))
-  into part.Geometries d depth n m err r whole a b h = (n, a, (n, m, a, b, h))
+  into p d depth n m err r whole a b h = (n, a, (n, m, a, b, h))
 
   -- out of a part
   here : (p : Place) (depth : ℕ) (r : List Lexeme) (whole : Mark) → Under (frames p depth) (length r) whole (spot_at p depth (length r) r) → Stands p depth r whole
   here p depth r whole h = (length r, omega arith, h)
 
   out : (p : Part) (d : Dimension) (depth : ℕ) (err : Fault) (r : List Lexeme) (whole : Mark) → Under (around p d depth) (length r) whole (Ok r) → Goes (Some (outside p d depth)) err r whole
-  out part.Point d depth err r whole h = here place.Geometry depth r whole h
-  out part.Line d depth err r whole h = here place.Geometry depth r whole h
-  out part.Rings d depth err r whole h = here place.Geometry depth r whole h
   out part.Ring d depth err r whole h = here (place.Item part.Rings d) depth r whole h
-  out part.Members d depth err r whole h = here place.Geometry depth r whole h
   out part.Member d depth err r whole h = here (place.Item part.Members d) depth r whole h
-  out part.Polygons d depth err r whole h = here place.Geometry depth r whole h
   out part.PolygonRings d depth err r whole h = here (place.Item part.Polygons d) depth r whole h
   out part.PolygonRing d depth err r whole h = here (place.Item part.PolygonRings d) depth r whole h
-  out part.Geometries d depth err r whole h = here place.Geometry depth r whole h
+  out p d depth err r whole h = here place.Geometry depth r whole h
 
   -- by the lexeme that was seen
   pub shown : (P : Seen → Lexeme → Type 0) → P seen.Open Open → P seen.Close Close → P seen.Comma Comma → ((w : Bor (List ℕ)) → P (seen.Word w) (Word w.now))
@@ -153,6 +128,13 @@ module _ {N : Type 0} (read : List ℕ → Option N) where
   shown P o c m w n u (seen.Word v) x e = subst (P (seen.Word v)) (sym e) (w v)
   shown P o c m w n u seen.Number x (run, y, e, is) = subst (P seen.Number) (sym e) (n run y is)
   shown P o c m w n u seen.Unread x (run, e, is) = subst (P seen.Unread) (sym e) (u run is)
+
+  -- what stands after an item, by whether its part has more than one
+  after_item_m : (value : List Lexeme → Mark) (d : Dimension) (n m : ℕ) (ls : List Lexeme) (now : Mark) → shut read (Ok ls) ≡ now
+      → ((item : List Lexeme → Mark) → shut read (tail_m item m ls) ≡ now) → (p : Part) → after_m read value p d n m (Ok ls) ≡ now
+  after_item_m value d n m ls now one many part.Point = one
+  after_item_m value d n m ls now one many part.Member = one
+  after_item_m value d n m ls now one many p = many (item_m read value p d n)
 
   -- before these lexemes, of which the first is seen
   module _ (depth : ℕ) (r : List Lexeme) (whole : Mark) where
@@ -285,75 +267,29 @@ module _ {N : Type 0} (read : List ℕ → Option N) where
     rest_comma fs item zero le h = absurd (omega (arith, le))
     rest_comma fs item (suc m) le h = (m, omega (arith, le), on fs _ h)
 
-    module _ (value : List Lexeme → Mark) (d : Dimension) (n m : ℕ) where
-      after_close : (p : Part) → after_m read value p d n m (Ok (Close ∷ r)) ≡ Ok r
-      after_close part.Point = refl
-      after_close part.Line = rest_close (coord_m read d) m
-      after_close part.Rings = rest_close (list_m read 1 d n) m
-      after_close part.Ring = rest_close (coord_m read d) m
-      after_close part.Members = rest_close (member_m read d) m
-      after_close part.Member = refl
-      after_close part.Polygons = rest_close (list_m read 2 d n) m
-      after_close part.PolygonRings = rest_close (list_m read 1 d n) m
-      after_close part.PolygonRing = rest_close (coord_m read d) m
-      after_close part.Geometries = rest_close value m
+    after_close : (value : List Lexeme → Mark) (d : Dimension) (n m : ℕ) (p : Part) → after_m read value p d n m (Ok (Close ∷ r)) ≡ Ok r
+    after_close value d n m p = after_item_m value d n m (Close ∷ r) (Ok r) refl (λ item. rest_close item m) p
 
-      after_open : (p : Part) → after_m read value p d n m (Ok (Open ∷ r)) ≡ Err (unclosed_at (Open ∷ r))
-      after_open part.Point = refl
-      after_open part.Line = rest_open (coord_m read d) m
-      after_open part.Rings = rest_open (list_m read 1 d n) m
-      after_open part.Ring = rest_open (coord_m read d) m
-      after_open part.Members = rest_open (member_m read d) m
-      after_open part.Member = refl
-      after_open part.Polygons = rest_open (list_m read 2 d n) m
-      after_open part.PolygonRings = rest_open (list_m read 1 d n) m
-      after_open part.PolygonRing = rest_open (coord_m read d) m
-      after_open part.Geometries = rest_open value m
-
-      after_word : (p : Part) (w : List ℕ) → after_m read value p d n m (Ok (Word w ∷ r)) ≡ Err (unclosed_at (Word w ∷ r))
-      after_word part.Point w = refl
-      after_word part.Line w = rest_word (coord_m read d) m w
-      after_word part.Rings w = rest_word (list_m read 1 d n) m w
-      after_word part.Ring w = rest_word (coord_m read d) m w
-      after_word part.Members w = rest_word (member_m read d) m w
-      after_word part.Member w = refl
-      after_word part.Polygons w = rest_word (list_m read 2 d n) m w
-      after_word part.PolygonRings w = rest_word (list_m read 1 d n) m w
-      after_word part.PolygonRing w = rest_word (coord_m read d) m w
-      after_word part.Geometries w = rest_word value m w
-
-      after_num : (p : Part) (w : List ℕ) → after_m read value p d n m (Ok (Num w ∷ r)) ≡ Err (unclosed_at (Num w ∷ r))
-      after_num part.Point w = refl
-      after_num part.Line w = rest_num (coord_m read d) m w
-      after_num part.Rings w = rest_num (list_m read 1 d n) m w
-      after_num part.Ring w = rest_num (coord_m read d) m w
-      after_num part.Members w = rest_num (member_m read d) m w
-      after_num part.Member w = refl
-      after_num part.Polygons w = rest_num (list_m read 2 d n) m w
-      after_num part.PolygonRings w = rest_num (list_m read 1 d n) m w
-      after_num part.PolygonRing w = rest_num (coord_m read d) m w
-      after_num part.Geometries w = rest_num value m w
+    -- any other lexeme but a comma is too much
+    after_other : (fs : List Frame) (p : Part) (d : Dimension) (n m : ℕ) (x : Lexeme) → shut read (Ok (x ∷ r)) ≡ Err (unclosed_at (x ∷ r))
+        → ((item : List Lexeme → Mark) → shut read (tail_m item m (x ∷ r)) ≡ Err (unclosed_at (x ∷ r))) → From fs (after_m read (V n) p d n m (Ok (x ∷ r))) → whole ≡ Err (closed_by fs (unclosed_at (x ∷ r)))
+    after_other fs p d n m x one many h = too_much fs _ whole _ (subst (λ s. From fs s) (after_item_m (V n) d n m (x ∷ r) (Err (unclosed_at (x ∷ r))) one many p) h)
 
     step_comma : (p : Part) (d : Dimension) (n m : ℕ) → suc (length r) ≤ n → suc (length r) ≤ m → From (around p d depth) (after_m read (V n) p d n m (Ok (Comma ∷ r))) → Goes (again p d depth) (closed_by (around p d depth) (unclosed_at (Comma ∷ r))) r whole
     step_comma part.Point d n m a b h = too_much (around part.Point d depth) _ whole (unclosed_at (Comma ∷ r)) h
-    step_comma part.Line d n m a b h = let (j, le, g) = rest_comma (around part.Line d depth) (coord_m read d) m b h in into part.Line d depth n j (closed_by (around part.Line d depth) (unclosed_at (Comma ∷ r))) r whole (omega (arith, a)) le g
-    step_comma part.Rings d n m a b h = let (j, le, g) = rest_comma (around part.Rings d depth) (list_m read 1 d n) m b h in into part.Rings d depth n j (closed_by (around part.Rings d depth) (unclosed_at (Comma ∷ r))) r whole (omega (arith, a)) le g
-    step_comma part.Ring d n m a b h = let (j, le, g) = rest_comma (around part.Ring d depth) (coord_m read d) m b h in into part.Ring d depth n j (closed_by (around part.Ring d depth) (unclosed_at (Comma ∷ r))) r whole (omega (arith, a)) le g
-    step_comma part.Members d n m a b h = let (j, le, g) = rest_comma (around part.Members d depth) (member_m read d) m b h in into part.Members d depth n j (closed_by (around part.Members d depth) (unclosed_at (Comma ∷ r))) r whole (omega (arith, a)) le g
     step_comma part.Member d n m a b h = too_much (around part.Member d depth) _ whole (unclosed_at (Comma ∷ r)) h
-    step_comma part.Polygons d n m a b h = let (j, le, g) = rest_comma (around part.Polygons d depth) (list_m read 2 d n) m b h in into part.Polygons d depth n j (closed_by (around part.Polygons d depth) (unclosed_at (Comma ∷ r))) r whole (omega (arith, a)) le g
-    step_comma part.PolygonRings d n m a b h = let (j, le, g) = rest_comma (around part.PolygonRings d depth) (list_m read 1 d n) m b h in into part.PolygonRings d depth n j (closed_by (around part.PolygonRings d depth) (unclosed_at (Comma ∷ r))) r whole (omega (arith, a)) le g
-    step_comma part.PolygonRing d n m a b h = let (j, le, g) = rest_comma (around part.PolygonRing d depth) (coord_m read d) m b h in into part.PolygonRing d depth n j (closed_by (around part.PolygonRing d depth) (unclosed_at (Comma ∷ r))) r whole (omega (arith, a)) le g
-    step_comma part.Geometries d n m a b h = let (j, le, g) = rest_comma (around part.Geometries d depth) (V n) m b h in into part.Geometries d depth n j (closed_by (around part.Geometries d depth) (unclosed_at (Comma ∷ r))) r whole (omega (arith, a)) le g
+    step_comma p d n m a b h =
+        let (j, le, g) = rest_comma (around p d depth) (item_m read (V n) p d n) m b h in
+        into p d depth n j (closed_by (around p d depth) (unclosed_at (Comma ∷ r))) r whole (omega (arith, a)) le g
 
     step_item : (p : Part) (d : Dimension) → (s : Seen) (x : Lexeme) → Shows read s x → From ((p, d) ∷ around p d depth) (Ok (x ∷ r)) → Goes (after_item p d depth s) (closed_by (around p d depth) (unclosed_at (x ∷ r))) r whole
     step_item p d = shown (λ s x. From ((p, d) ∷ around p d depth) (Ok (x ∷ r)) → Goes (after_item p d depth s) (closed_by (around p d depth) (unclosed_at (x ∷ r))) r whole)
-        (λ (n, m, a, b, h). too_much (around p d depth) _ whole _ (subst (λ s. From (around p d depth) s) (after_open (V n) d n m p) h))
+        (λ (n, m, a, b, h). after_other (around p d depth) p d n m Open refl (λ item. rest_open item m) h)
         (λ (n, m, a, b, h). out p d depth (closed_by (around p d depth) (unclosed_at (Close ∷ r))) r whole (on (around p d depth) (Ok r) (subst (λ s. From (around p d depth) s) (after_close (V n) d n m p) h)))
         (λ (n, m, a, b, h). step_comma p d n m a b h)
-        (λ w (n, m, a, b, h). too_much (around p d depth) _ whole _ (subst (λ s. From (around p d depth) s) (after_word (V n) d n m p w.now) h))
-        (λ run y is (n, m, a, b, h). too_much (around p d depth) _ whole _ (subst (λ s. From (around p d depth) s) (after_num (V n) d n m p run) h))
-        (λ run is (n, m, a, b, h). too_much (around p d depth) _ whole _ (subst (λ s. From (around p d depth) s) (after_num (V n) d n m p run) h))
+        (λ w (n, m, a, b, h). after_other (around p d depth) p d n m (Word w.now) refl (λ item. rest_word item m w.now) h)
+        (λ run y is (n, m, a, b, h). after_other (around p d depth) p d n m (Num run) refl (λ item. rest_num item m run) h)
+        (λ run is (n, m, a, b, h). after_other (around p d depth) p d n m (Num run) refl (λ item. rest_num item m run) h)
 
   -- after a geometry in a collection
   step_geometry : (depth : ℕ) (r : List Lexeme) (whole : Mark) → (s : Seen) (x : Lexeme) → Shows read s x → Under (collections (suc depth)) (suc (length r)) whole (Ok (x ∷ r)) → Goes (after_geometry (suc depth) s) (closed_by (collections depth) (unclosed_at (x ∷ r))) r whole
@@ -368,29 +304,16 @@ module _ {N : Type 0} (read : List ℕ → Option N) where
   -- after an item the error is that of the closing place
   more_or_closing : (p : Part) → (item_expected p ≡ expected.More) ⊎ (item_expected p ≡ expected.Closing)
   more_or_closing part.Point = inr refl
-  more_or_closing part.Line = inl refl
-  more_or_closing part.Rings = inl refl
-  more_or_closing part.Ring = inl refl
-  more_or_closing part.Members = inl refl
   more_or_closing part.Member = inr refl
-  more_or_closing part.Polygons = inl refl
-  more_or_closing part.PolygonRings = inl refl
-  more_or_closing part.PolygonRing = inl refl
-  more_or_closing part.Geometries = inl refl
+  more_or_closing p = inl refl
 
   unclosed_more : (x : Lexeme) (r : List Lexeme) → closing read message.Close (x ∷ r) ≡ closing read (at_place read expected.More (x ∷ r)) (x ∷ r)
   unclosed_more Open r = refl
-  unclosed_more Close r = refl
-  unclosed_more Comma r = refl
-  unclosed_more (Word w) r = refl
-  unclosed_more (Num w) r = refl
+  unclosed_more x r = refl
 
   unclosed_closing : (x : Lexeme) (r : List Lexeme) → closing read message.Close (x ∷ r) ≡ closing read (at_place read expected.Closing (x ∷ r)) (x ∷ r)
   unclosed_closing Open r = refl
-  unclosed_closing Close r = refl
-  unclosed_closing Comma r = refl
-  unclosed_closing (Word w) r = refl
-  unclosed_closing (Num w) r = refl
+  unclosed_closing x r = refl
 
   -- an error after an item of a part
   abbrev item_fault : List Frame → Frame → Expected → Lexeme → List Lexeme → Type 0
@@ -428,16 +351,7 @@ module _ {N : Type 0} (read : List ℕ → Option N) where
   rest_end item (suc m) = refl
 
   after_end : (value : List Lexeme → Mark) (d : Dimension) (n m : ℕ) (p : Part) → after_m read value p d n m (Ok []) ≡ Err (unclosed_at [])
-  after_end value d n m part.Point = refl
-  after_end value d n m part.Line = rest_end (coord_m read d) m
-  after_end value d n m part.Rings = rest_end (list_m read 1 d n) m
-  after_end value d n m part.Ring = rest_end (coord_m read d) m
-  after_end value d n m part.Members = rest_end (member_m read d) m
-  after_end value d n m part.Member = refl
-  after_end value d n m part.Polygons = rest_end (list_m read 2 d n) m
-  after_end value d n m part.PolygonRings = rest_end (list_m read 1 d n) m
-  after_end value d n m part.PolygonRing = rest_end (coord_m read d) m
-  after_end value d n m part.Geometries = rest_end value m
+  after_end value d n m p = after_item_m value d n m [] (Err (unclosed_at [])) refl (λ item. rest_end item m) p
 
   value_end : (n : ℕ) (e : Expected) → value_m read n e [] ≡ Err (fault read e [])
   value_end zero e = refl
@@ -456,13 +370,7 @@ module _ {N : Type 0} (read : List ℕ → Option N) where
   -- the walk is over
   pub over : (p : Place) (depth : ℕ) → over_at p depth ≡ true → (ls : List Lexeme) (whole : Mark) → Stands p depth ls whole → whole ≡ Ok ls
   over place.Geometry zero o ls whole (n, le, h) = h
-  over place.Geometry (suc depth) o ls whole h = cc
-  over place.Kind depth o ls whole h = cc
-  over (place.Dimension k) depth o ls whole h = cc
-  over (place.Opening p d) depth o ls whole h = cc
-  over (place.Member d) depth o ls whole h = cc
-  over (place.Number p d more) depth o ls whole h = cc
-  over (place.Item p d) depth o ls whole h = cc
+  over p depth o ls whole h = cc
 
   pub begins : (ls : List Lexeme) → Stands start.place start.depth ls (value_m read (length ls) expected.Kind ls)
   begins ls = (length ls, omega arith, refl)

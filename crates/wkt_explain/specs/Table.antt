@@ -26,47 +26,22 @@ at_end expected.M = message.M
 at_end expected.More = message.Close
 at_end expected.Closing = message.Close
 
--- Where a mark stands, or a number of the type: after a kind word alone it is that of the parenthesis.
+-- Where a mark stands, or a number of the type: the same, but after a kind word alone it is that of the parenthesis.
 abbrev pub at_other : Expected → Message
-at_other expected.Kind = message.Format
-at_other expected.Member = message.Member
 at_other expected.Dimension = message.Open
-at_other expected.Opening = message.Open
-at_other expected.Point = message.X
-at_other expected.X = message.X
-at_other expected.Y = message.Y
-at_other expected.Z = message.Z
-at_other expected.M = message.M
-at_other expected.More = message.Close
-at_other expected.Closing = message.Close
+at_other e = at_end e
 
--- Where a word stands: at the text's start one that isn't ASCII has its own.
+-- Where a word stands: where a kind or a dimension may stand it has its own, and at the text's start also one that isn't ASCII.
 abbrev pub at_word : Expected → List ℕ → Message
 at_word expected.Kind w = if is_ascii_word w then message.Kind else message.NonAscii
 at_word expected.Member w = message.Kind
 at_word expected.Dimension w = message.Word
-at_word expected.Opening w = message.Open
-at_word expected.Point w = message.X
-at_word expected.X w = message.X
-at_word expected.Y w = message.Y
-at_word expected.Z w = message.Z
-at_word expected.M w = message.M
-at_word expected.More w = message.Close
-at_word expected.Closing w = message.Close
+at_word e w = at_other e
 
 -- Where a number stands that its type refuses.
 abbrev pub at_bad : Expected → Message
-at_bad expected.Kind = message.BadNumber
-at_bad expected.Member = message.BadNumber
 at_bad expected.Dimension = message.End
-at_bad expected.Opening = message.BadNumber
-at_bad expected.Point = message.BadNumber
-at_bad expected.X = message.BadNumber
-at_bad expected.Y = message.BadNumber
-at_bad expected.Z = message.BadNumber
-at_bad expected.M = message.BadNumber
-at_bad expected.More = message.BadNumber
-at_bad expected.Closing = message.BadNumber
+at_bad e = message.BadNumber
 
 module _ {N : Type 0} (read : List ℕ → Option N) where
   abbrev pub at_number : Option N → Expected → Message
@@ -76,11 +51,9 @@ module _ {N : Type 0} (read : List ℕ → Option N) where
   -- The message of the place alone, by the first of the lexemes that stand there.
   abbrev pub at_place : Expected → List Lexeme → Message
   at_place e [] = at_end e
-  at_place e (lex.Open ∷ r) = at_other e
-  at_place e (lex.Close ∷ r) = at_other e
-  at_place e (lex.Comma ∷ r) = at_other e
   at_place e (lex.Word w ∷ r) = at_word e w
   at_place e (lex.Num w ∷ r) = at_number (read w) e
+  at_place e (x ∷ r) = at_other e
 
   abbrev pub is_unread : Option N → Bool
   is_unread (Some x) = false
@@ -88,25 +61,16 @@ module _ {N : Type 0} (read : List ℕ → Option N) where
 
   -- After a kind word alone a word, or a number that its type refuses, isn't taken.
   abbrev pub stays_alone : Lexeme → Bool
-  stays_alone lex.Open = false
-  stays_alone lex.Close = false
-  stays_alone lex.Comma = false
   stays_alone (lex.Word w) = true
   stays_alone (lex.Num w) = is_unread (read w)
+  stays_alone x = false
 
   -- The lexeme isn't taken where it is refused: nor is it after an item, where a parenthesis has to close.
   abbrev pub stays : Expected → Lexeme → Bool
-  stays expected.Kind x = false
-  stays expected.Member x = false
   stays expected.Dimension x = stays_alone x
-  stays expected.Opening x = false
-  stays expected.Point x = false
-  stays expected.X x = false
-  stays expected.Y x = false
-  stays expected.Z x = false
-  stays expected.M x = false
   stays expected.More x = true
   stays expected.Closing x = true
+  stays e x = false
 
   -- The lexemes that are left for the places where the open parentheses close.
   abbrev pub left_at : Expected → List Lexeme → List Lexeme
@@ -121,10 +85,8 @@ module _ {N : Type 0} (read : List ℕ → Option N) where
   abbrev pub closing : Message → List Lexeme → Message × List Lexeme
   closing m [] = (message.Close, [])
   closing m (lex.Close ∷ r) = (m, r)
-  closing m (lex.Open ∷ r) = (message.Close, r)
-  closing m (lex.Comma ∷ r) = (message.Close, r)
-  closing m (lex.Word w ∷ r) = (message.Close, r)
   closing m (lex.Num w ∷ r) = (unclosed (read w), r)
+  closing m (x ∷ r) = (message.Close, r)
 
   -- So many have to close, one after the other.
   abbrev pub closings : ℕ → Message → List Lexeme → Message × List Lexeme

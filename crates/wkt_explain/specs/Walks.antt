@@ -62,29 +62,20 @@ at depth place = record { place = place; depth = depth }
 
 -- where the first item of a part begins, after its parenthesis
 abbrev pub inside : Part → Dimension → ℕ → Walk
-inside part.Point d depth = at depth (place.Number part.Point d (numbers_after d))
-inside part.Line d depth = at depth (place.Number part.Line d (numbers_after d))
 inside part.Rings d depth = at depth (place.Opening part.Ring d)
-inside part.Ring d depth = at depth (place.Number part.Ring d (numbers_after d))
 inside part.Members d depth = at depth (place.Member d)
-inside part.Member d depth = at depth (place.Number part.Member d (numbers_after d))
 inside part.Polygons d depth = at depth (place.Opening part.PolygonRings d)
 inside part.PolygonRings d depth = at depth (place.Opening part.PolygonRing d)
-inside part.PolygonRing d depth = at depth (place.Number part.PolygonRing d (numbers_after d))
 inside part.Geometries d depth = at (suc depth) place.Kind
+inside p d depth = at depth (place.Number p d (numbers_after d))
 
 -- after a whole part
 abbrev pub outside : Part → Dimension → ℕ → Walk
-outside part.Point d depth = at depth place.Geometry
-outside part.Line d depth = at depth place.Geometry
-outside part.Rings d depth = at depth place.Geometry
 outside part.Ring d depth = at depth (place.Item part.Rings d)
-outside part.Members d depth = at depth place.Geometry
 outside part.Member d depth = at depth (place.Item part.Members d)
-outside part.Polygons d depth = at depth place.Geometry
 outside part.PolygonRings d depth = at depth (place.Item part.Polygons d)
 outside part.PolygonRing d depth = at depth (place.Item part.PolygonRings d)
-outside part.Geometries d depth = at depth place.Geometry
+outside p d depth = at depth place.Geometry
 
 -- after a kind word of this kind, with the dimension that is joined to it
 abbrev pub after_joined : GeometryType → Option Dimension → ℕ → Walk
@@ -99,20 +90,13 @@ after_kind_word (Some e) depth = Some (after_joined e.kind e.joined depth)
 -- where a geometry begins, only a kind word may stand
 abbrev pub after_kind : ℕ → Seen → Option Walk
 after_kind depth (seen.Word w) = after_kind_word (kind_word w.now) depth
-after_kind depth seen.Open = None
-after_kind depth seen.Close = None
-after_kind depth seen.Comma = None
-after_kind depth seen.Number = None
-after_kind depth seen.Unread = None
+after_kind depth s = None
 
 -- `(`, or EMPTY
 abbrev pub after_opening : Part → Dimension → ℕ → Seen → Option Walk
 after_opening p d depth seen.Open = Some (inside p d depth)
 after_opening p d depth (seen.Word w) = if is_empty_word w.now then Some (outside p d depth) else None
-after_opening p d depth seen.Close = None
-after_opening p d depth seen.Comma = None
-after_opening p d depth seen.Number = None
-after_opening p d depth seen.Unread = None
+after_opening p d depth s = None
 
 -- a dimension word where there is one, or else what opens
 abbrev pub after_dimension_word : Option Dimension → GeometryType → ℕ → Seen → Option Walk
@@ -123,10 +107,7 @@ after_dimension_word None k depth s = after_opening (part_of k) XY depth s
 abbrev pub after_dimension : GeometryType → ℕ → Seen → Option Walk
 after_dimension k depth (seen.Word w) = after_dimension_word (dim_word w.now) k depth (seen.Word w)
 after_dimension k depth seen.Open = after_opening (part_of k) XY depth seen.Open
-after_dimension k depth seen.Close = None
-after_dimension k depth seen.Comma = None
-after_dimension k depth seen.Number = None
-after_dimension k depth seen.Unread = None
+after_dimension k depth s = None
 
 -- after a number, by how many there are after it
 abbrev pub numbers_left : Part → Dimension → ℕ → ℕ → Walk
@@ -136,52 +117,33 @@ numbers_left p d (suc more) depth = at depth (place.Number p d more)
 -- a number
 abbrev pub after_number : Part → Dimension → ℕ → ℕ → Seen → Option Walk
 after_number p d more depth seen.Number = Some (numbers_left p d more depth)
-after_number p d more depth seen.Open = None
-after_number p d more depth seen.Close = None
-after_number p d more depth seen.Comma = None
-after_number p d more depth (seen.Word w) = None
-after_number p d more depth seen.Unread = None
+after_number p d more depth s = None
 
 -- a member of a multipoint
 abbrev pub after_member : Dimension → ℕ → Seen → Option Walk
 after_member d depth seen.Open = Some (at depth (place.Number part.Member d (numbers_after d)))
 after_member d depth (seen.Word w) = if is_empty_word w.now then Some (at depth (place.Item part.Members d)) else None
 after_member d depth seen.Number = Some (numbers_left part.Members d (numbers_after d) depth)
-after_member d depth seen.Close = None
-after_member d depth seen.Comma = None
-after_member d depth seen.Unread = None
+after_member d depth s = None
 
 -- where the next item of a part begins, after a comma, if it has more than one
 abbrev pub again : Part → Dimension → ℕ → Option Walk
 again part.Point d depth = None
-again part.Line d depth = Some (inside part.Line d depth)
-again part.Rings d depth = Some (inside part.Rings d depth)
-again part.Ring d depth = Some (inside part.Ring d depth)
-again part.Members d depth = Some (inside part.Members d depth)
 again part.Member d depth = None
-again part.Polygons d depth = Some (inside part.Polygons d depth)
-again part.PolygonRings d depth = Some (inside part.PolygonRings d depth)
-again part.PolygonRing d depth = Some (inside part.PolygonRing d depth)
-again part.Geometries d depth = Some (inside part.Geometries d depth)
+again p d depth = Some (inside p d depth)
 
 -- `)`, or a comma
 abbrev pub after_item : Part → Dimension → ℕ → Seen → Option Walk
 after_item p d depth seen.Close = Some (outside p d depth)
 after_item p d depth seen.Comma = again p d depth
-after_item p d depth seen.Open = None
-after_item p d depth (seen.Word w) = None
-after_item p d depth seen.Number = None
-after_item p d depth seen.Unread = None
+after_item p d depth s = None
 
 -- `)` or a comma where the geometry is in a collection
 abbrev pub after_geometry : ℕ → Seen → Option Walk
 after_geometry zero s = None
 after_geometry (suc depth) seen.Close = Some (at depth place.Geometry)
 after_geometry (suc depth) seen.Comma = Some (at (suc depth) place.Kind)
-after_geometry (suc depth) seen.Open = None
-after_geometry (suc depth) (seen.Word w) = None
-after_geometry (suc depth) seen.Number = None
-after_geometry (suc depth) seen.Unread = None
+after_geometry (suc depth) s = None
 
 -- where a walk begins
 abbrev pub start : Walk
@@ -204,13 +166,7 @@ next w s = next_from w.place w.depth s
 -- whether a geometry stands before that is in no collection, by the place
 abbrev pub over_at : Place → ℕ → Bool
 over_at place.Geometry zero = true
-over_at place.Geometry (suc depth) = false
-over_at place.Kind depth = false
-over_at (place.Dimension k) depth = false
-over_at (place.Opening p d) depth = false
-over_at (place.Member d) depth = false
-over_at (place.Number p d more) depth = false
-over_at (place.Item p d) depth = false
+over_at p depth = false
 
 -- a geometry was walked over that is in no collection
 abbrev pub is_over : Walk → Bool
@@ -234,15 +190,8 @@ number_expected d more =
 -- after an item of a part
 abbrev pub item_expected : Part → Expected
 item_expected part.Point = expected.Closing
-item_expected part.Line = expected.More
-item_expected part.Rings = expected.More
-item_expected part.Ring = expected.More
-item_expected part.Members = expected.More
 item_expected part.Member = expected.Closing
-item_expected part.Polygons = expected.More
-item_expected part.PolygonRings = expected.More
-item_expected part.PolygonRing = expected.More
-item_expected part.Geometries = expected.More
+item_expected p = expected.More
 
 -- what could stand at a place
 abbrev pub expected_at : Place → ℕ → Expected
@@ -257,23 +206,16 @@ expected_at place.Geometry depth = expected.More
 
 -- how many parentheses are open around a part, but those of collections
 abbrev pub around : Part → ℕ
-around part.Point = 0
-around part.Line = 0
-around part.Rings = 0
 around part.Ring = 1
-around part.Members = 0
 around part.Member = 1
-around part.Polygons = 0
 around part.PolygonRings = 1
 around part.PolygonRing = 2
-around part.Geometries = 0
+around p = 0
 
 -- and at a place
 abbrev pub own : Place → ℕ
-own place.Kind = 0
-own (place.Dimension k) = 0
 own (place.Opening p d) = around p
 own (place.Member d) = 1
 own (place.Number p d more) = around p + 1
 own (place.Item p d) = around p + 1
-own place.Geometry = 0
+own p = 0

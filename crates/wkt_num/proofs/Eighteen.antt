@@ -107,6 +107,15 @@ length-zeros : (m : ℕ) → length (zeros m) ≡ m
 length-zeros zero = refl
 length-zeros (suc m) = ap suc (length-zeros m)
 
+-- n bytes are copied to place 41
+abbrev pub copied : ℕ → List ℕ → List ℕ → List ℕ
+copied n old lanes = put_mid 41 n old (put_chunk 0 (mid_of 41 n old) lanes)
+
+pub copied-there : (n : ℕ) (old lanes : List ℕ) → n ≤ 16 → length old ≡ 80 → length lanes ≡ n → take (41 + n) (copied n old lanes) ≡ take 41 old ++ lanes
+copied-there n old lanes few long lasts =
+    ap (λ l. take (41 + n) (put_mid 41 n old l)) (put_chunk_whole (mid_of 41 n old) lanes (ap (λ (k : ℕ). length (mid_of 41 k old)) {x = n} {y = 41 + n - 41} (omega arith) ∙ mid_len 41 (41 + n) old (omega (arith, few, long)) ∙ omega (arith, lasts)))
+    ∙ take-put_mid 41 n old lanes (41 + n) (omega (arith, lasts)) (omega (arith, few, long))
+
 module _ (D F T : ℕ) (few : D ≤ 18) (less : F < 10 ^ D) (some : F ≡ 0 → ⊥) (ten : T ≡ 10 ^ (18 - D)) where
   same : F * T ≡ F * 10 ^ (18 - D)
   same = ap (λ n. F * n) ten
@@ -139,12 +148,18 @@ module _ (D F T : ℕ) (few : D ≤ 18) (less : F < 10 ^ D) (some : F ≡ 0 → 
     place : 41 + n - r ≡ length (take 41 old ++ fraction_digits n G)
     place = omega (arith, r-is, length-take-le 41 old (omega (arith, long)), length-append (take 41 old) (fraction_digits n G), ap length (pads n G).1, length-append (fraction_digits n G) (zeros (pads n G).0), length-zeros (pads n G).0, length-padded n G)
 
-    pub cut : take (41 + n - r) out ≡ take 41 old ++ fraction_digits D F
+    cut : take (41 + n - r) out ≡ take 41 old ++ fraction_digits D F
     cut =
         sym (take-take (41 + n - r) (41 + n) out (omega arith)) ∙ ap (take (41 + n - r)) text
         ∙ ap (λ (k : ℕ). take k ((take 41 old ++ fraction_digits n G) ++ zeros (pads n G).0)) place
         ∙ take-append_seam (take 41 old ++ fraction_digits n G) (zeros (pads n G).0)
         ∙ ap (λ l. take 41 old ++ l) kept-is
+
+  -- the same of lanes that are put behind the point
+  pub put : (n e G r : ℕ) (old lanes : List ℕ) → n ≤ 16 → 18 ≡ n + e → G < 10 ^ n → G * 10 ^ e ≡ F * T → length old ≡ 80 → lanes ≡ padded n G
+      → r ≡ prefix_len (λ b. not (not (b == 48))) (reverse lanes) → take (41 + n - r) (copied n old lanes) ≡ take 41 old ++ fraction_digits D F
+  put n e G r old lanes within full less-front front long digits count =
+      cut n e G r (copied n old lanes) old lanes full less-front front long (copied-there n old lanes within long (ap length digits ∙ length-padded n G)) digits count
 
   -- sixteen digits are put, and two more
   module _ (out old lanes : List ℕ) (long : length old ≡ 80) (within : 59 ≤ length out) (there : take 57 out ≡ take 41 old ++ lanes) (digits : lanes ≡ padded 16 (F * T / 100)) where
@@ -174,15 +189,6 @@ module _ (D F T : ℕ) (few : D ≤ 18) (less : F < 10 ^ D) (some : F ≡ 0 → 
     pub whole-long : 41 < length whole
     whole-long = let e = last-digit 18 (F * T) small some-all in
         omega (arith, length-append (take 41 old) (fraction_digits 18 (F * T)), before, ap length e.2, length-append e.0 ((48 + e.1) ∷ []))
-
--- n bytes are copied to place 41
-abbrev pub copied : ℕ → List ℕ → List ℕ → List ℕ
-copied n old lanes = put_mid 41 n old (put_chunk 0 (mid_of 41 n old) lanes)
-
-pub copied-there : (n : ℕ) (old lanes : List ℕ) → n ≤ 16 → length old ≡ 80 → length lanes ≡ n → take (41 + n) (copied n old lanes) ≡ take 41 old ++ lanes
-copied-there n old lanes few long lasts =
-    ap (λ l. take (41 + n) (put_mid 41 n old l)) (put_chunk_whole (mid_of 41 n old) lanes (ap (λ (k : ℕ). length (mid_of 41 k old)) {x = n} {y = 41 + n - 41} (omega arith) ∙ mid_len 41 (41 + n) old (omega (arith, few, long)) ∙ omega (arith, lasts)))
-    ∙ take-put_mid 41 n old lanes (41 + n) (omega (arith, lasts)) (omega (arith, few, long))
 
 pub copied-long : (n : ℕ) (old lanes : List ℕ) → length old ≡ 80 → length (copied n old lanes) ≡ 80
 copied-long n old lanes long = same_len_mid 41 n old (put_chunk 0 (mid_of 41 n old) lanes) (length-put_chunk 0 (mid_of 41 n old) lanes) ∙ long

@@ -47,8 +47,8 @@ some-fraction D f end out old some l point e =
     ∙ ap (λ l. l ++ ds) (drop-take 40 1 old ∙ ap (take 1) (drop-cons old 40 0 (omega (arith, l))) ∙ ap (λ b. b ∷ []) point)
     ∙ sym (ap (λ b. if b then [] else 46 ∷ ds) (ne_eqb f 0 some))
 
-pub fraction-less : (D u f : ℕ) → f ≡ u % 10 ^ D → f < 10 ^ D
-fraction-less D u f e = omega (arith, e, mod-lt u (ten_pos D))
+pub fraction_less : (D u f : ℕ) → f ≡ u % 10 ^ D → f < 10 ^ D
+fraction_less D u f e = omega (arith, e, mod-lt u (ten_pos D))
 
 -- both parts
 pub units-piece : (D u : ℕ) (negative : Bool) (out before : List ℕ) (start end : ℕ) {w f : ℕ} → w ≡ u / 10 ^ D → f ≡ u % 10 ^ D → drop start out ≡ sign_text negative ++ decimal w ++ drop 40 before → length out ≡ 80 → length before ≡ 80

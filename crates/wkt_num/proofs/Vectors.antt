@@ -112,16 +112,17 @@ last-fits : (i : ℕ) (bs : List ℕ) → ((k : ℕ) → Fits w8 (get_or bs k 0)
 last-fits i bs f = subst (Each1 (Fits w8)) (take_all (length bs) (drop i bs) (omega (arith, length-drop i bs))) (chunk-fits w8 i (length bs) bs f)
 
 -- of the last bytes no lane is over 9
-pub none-last : (n count : ℕ) (bs lanes : List ℕ) → lanes ≡ last_lanes n count bs → (n ≤ length bs) × (count ≤ n) → n ≤ 64
-    → mask_l (map (top (hbits w8)) (zip2 (λ a b. cond (nat_lt a b) (2 ^ bits w8 - 1) 0) (replicate n 9) lanes)) % 2 ^ 64 ≡ 0 → DigitLanes lanes
-none-last n count bs lanes e h most none = none-over lanes (sym (over-mask n lanes (ap length e ∙ length-last n count bs h.1 h.0) most) ∙ none)
+-- the lanes of the last bytes, none of which is past 9
+module _ (n count : ℕ) (bs lanes : List ℕ) (fits : (k : ℕ) → Fits w8 (get_or bs k 0)) (e : lanes ≡ last_lanes n count bs) (h : (n ≤ length bs) × (count ≤ n)) (most : n ≤ 64)
+    (none : mask_l (map (top (hbits w8)) (zip2 (λ a b. cond (nat_lt a b) (2 ^ bits w8 - 1) 0) (replicate n 9) lanes)) % 2 ^ 64 ≡ 0) where
+  none-last : DigitLanes lanes
+  none-last = none-over lanes (sym (over-mask n lanes (ap length e ∙ length-last n count bs h.1 h.0) most) ∙ none)
 
-pub last-digits : (n count : ℕ) (bs lanes : List ℕ) → ((k : ℕ) → Fits w8 (get_or bs k 0)) → lanes ≡ last_lanes n count bs → DigitLanes lanes → AllDigits 10 (drop (length bs - count) bs)
-last-digits n count bs lanes f e h = all-digits _ (last-fits _ bs f) (after-zeros (n - count) _ (subst DigitLanes e h))
+  pub last-digits : AllDigits 10 (drop (length bs - count) bs)
+  last-digits = all-digits _ (last-fits _ bs fits) (after-zeros (n - count) _ (subst DigitLanes e none-last))
 
-pub last-value : (n count : ℕ) (bs lanes : List ℕ) → ((k : ℕ) → Fits w8 (get_or bs k 0)) → lanes ≡ last_lanes n count bs → DigitLanes lanes → lanes_value lanes ≡ digits_value 10 (drop (length bs - count) bs)
-last-value n count bs lanes f e h =
-    ap lanes_value e ∙ value-after-zeros (n - count) _ ∙ same-value 0 _ (last-fits _ bs f) (after-zeros (n - count) _ (subst DigitLanes e h))
+  pub last-value : lanes_value lanes ≡ digits_value 10 (drop (length bs - count) bs)
+  last-value = ap lanes_value e ∙ value-after-zeros (n - count) _ ∙ same-value 0 _ (last-fits _ bs fits) (after-zeros (n - count) _ (subst DigitLanes e none-last))
 
 -- ---- two digits in 16 bits
 

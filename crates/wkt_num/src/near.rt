@@ -1,7 +1,6 @@
 //! Numbers of few digits, straight to units of 64 bits.
-ghost use Rattle.std.specs.Prelude.{◌≡◌, ◌+◌, ◌-◌, ◌*◌, ◌^◌, ◌≤◌, ◌<◌, IfSome, length, slice_range};
-ghost use Rattle.std.specs.Str.Parse.{AllDigits, digits_value_after};
-ghost use Rattle.wkt_num.specs.Near.{BeginsUnits, signed};
+ghost use Rattle.std.specs.Prelude.{◌≡◌, ◌+◌, ◌-◌, ◌*◌, ◌^◌, ◌≤◌, ◌<◌, IfSome, length};
+ghost use Rattle.wkt_num.specs.Near.{BeginsUnits, ReadsDigits, signed};
 
 use crate::kept::{after_minus, is_of_run};
 use crate::lanes::last_8;
@@ -68,11 +67,7 @@ fn fraction_from(bytes: &[u8], from: usize, most: usize, number: u64) -> (u64, u
     requires few { most ≤ 18 }
     requires within { most ≤ length bytes.now }
     requires small { number < 10 ^ from }
-    ensures from { from ≤ result.1 }
-    ensures within { from ≤ most → result.1 ≤ most }
-    ensures digits { AllDigits 10 (slice_range bytes.now from result.1) }
-    ensures value { result.0 ≡ digits_value_after 10 number (slice_range bytes.now from result.1) }
-    ensures small { result.0 < 10 ^ result.1 }
+    ensures { ReadsDigits bytes.now from most number result.0 result.1 }
 {
     let count = digits_near(bytes, from, most);
     if count == 0 || from + count < 8 {

@@ -44,6 +44,7 @@ fn write_small<W: TextSink>(places: u32, negative: bool, units: u128, f: &mut W)
 
 /// Puts the text around the point, which stands at place 40, and answers where it starts and ends.
 #[inline(always)]
+#[tactic(auto, using(crate::proofs::Printed::fraction_less))]
 fn put_small(places: u32, negative: bool, units: u128, out: &mut [u8; 80]) -> (usize, usize)
     requires few { places ≤ 18 }
     requires small { units / 2 ^ places < 2 ^ 64 }
@@ -88,6 +89,7 @@ fn write_large<W: TextSink>(places: u32, negative: bool, units: u128, f: &mut W)
 
 /// Puts the text around the point, which stands at place 40, and answers where it starts and ends.
 #[inline(always)]
+#[tactic(auto, using(crate::proofs::Printed::fraction_less))]
 fn put_units(places: u32, negative: bool, units: u128, out: &mut [u8; 80]) -> (usize, usize)
     requires few { places ≤ 36 }
     requires point { slice_index out.old 40 ≡ 46 }

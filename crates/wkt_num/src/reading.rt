@@ -1,8 +1,9 @@
 //! Decimal fractions from text.
-ghost use Rattle.std.specs.Prelude.{◌≡◌, ◌≢◌, ℕ, true, false, ◌+◌, ◌-◌, ◌*◌, ◌^◌, ◌≤◌, ◌<◌, Some, IfSome, length, slice_range, nat_le};
-ghost use Rattle.std.specs.Str.Parse.{AllDigits, digits_value_after, starts_with_minus, without_leading_sign};
+ghost use Rattle.std.specs.Prelude.{◌≡◌, ◌≢◌, ℕ, true, false, ◌+◌, ◌-◌, ◌*◌, ◌^◌, ◌≤◌, ◌<◌, Some, IfSome, length, nat_le};
+ghost use Rattle.std.specs.Str.Parse.{starts_with_minus, without_leading_sign};
 ghost use Rattle.wkt_num.specs.Whole.{keep_if};
 ghost use Rattle.wkt_num.specs.Decimal.{read_magnitude, with_sign, and_then};
+ghost use Rattle.wkt_num.specs.Near.{ReadsDigits};
 
 use crate::lanes::last_digits;
 use crate::powers::{SHORT_PLACES, ten_to};
@@ -161,11 +162,7 @@ pub(crate) fn digits_from(bytes: &[u8], from: usize, most: usize, number: u64) -
     requires few { most ≤ 19 }
     requires within { most ≤ length bytes.now }
     requires small { number < 10 ^ from }
-    ensures from { from ≤ result.1 }
-    ensures within { from ≤ most → result.1 ≤ most }
-    ensures digits { AllDigits 10 (slice_range bytes.now from result.1) }
-    ensures value { result.0 ≡ digits_value_after 10 number (slice_range bytes.now from result.1) }
-    ensures small { result.0 < 10 ^ result.1 }
+    ensures { ReadsDigits bytes.now from most number result.0 result.1 }
 {
     let mut all = number;
     let mut at = from;

@@ -4,7 +4,6 @@ use Rattle.wkt_num.specs.Bytes.{class_of, Run}
 use Rattle.wkt_num.proofs.Placed.{keeps-whole}
 use Rattle.wkt_num.proofs.FoundDecimal.{met, passed, ended, found-same}
 use Rattle.wkt_num.proofs.kept.kept_anywhere.Goals as goal
-use Rattle.wkt_num.proofs.kept.kept_anywhere.Goals.{then-point-bytes-via-then-point-bytes, then-point-bytes-via-else-point-bytes+then-bytes-point-ne46}
 use Rattle.wkt_num.proofs.kept.kept_anywhere.Goals.{then-not-is_whole_part-via-then-not-is_whole_part, then-not-is_whole_part-via-else-not-is_whole_part+then-is_minus_zero, then-not-is_whole_part-via-else-not-is_whole_part+else-is_minus_zero+then-not-stops}
 use Rattle.wkt_num.proofs.kept.kept_anywhere.Goals.{then-not-is_whole_part-2-via-then-not-is_whole_part-2, then-not-is_whole_part-2-via-else-not-is_whole_part-2+then-not-stops-2}
 
@@ -17,10 +16,7 @@ returns-then-not-is_whole_part-clause-finds c end t =
     let a = c.after_minus-first in
     let p = c.digits_end-point in
     let m = met c.args.places c.args.bytes.now end a.result t a.ensures.minus a.ensures.sign a.ensures.none p.result p.ensures.from p.ensures.within p.ensures.digits p.ensures.stops in
-    let all = m.alone (elim c.then-point-bytes.branch [
-      | then-point-bytes-via-then-point-bytes v ↦ λ h e. omega (arith, h, v.if-point-bytes.true)
-      | then-point-bytes-via-else-point-bytes+then-bytes-point-ne46 v ↦ λ h e. v.if-bytes-point-ne46.true e
-    ]) in
+    let all = m.alone (λ h e. grind (arith, h, e, c.then-point-bytes.branch)) in
     elim c.then-not-is_whole_part.branch [
       | then-not-is_whole_part-via-then-not-is_whole_part v ↦ absurd (v.if-not-is_whole_part.ensures m.whole)
       | then-not-is_whole_part-via-else-not-is_whole_part+then-is_minus_zero v ↦ absurd (all.1 v.if-is_minus_zero.ensures.0 v.if-is_minus_zero.ensures.1)
@@ -33,11 +29,7 @@ pub returns-then-point-bytes-clause-finds : goal.returns-then-point-bytes-clause
 returns-then-point-bytes-clause-finds c end t =
     let a = c.after_minus-first in
     let p = c.digits_end-point in
-    let m = met c.args.places c.args.bytes.now end a.result t a.ensures.minus a.ensures.sign a.ensures.none p.result p.ensures.from p.ensures.within p.ensures.digits p.ensures.stops in
-    let all = m.alone (elim c.then-point-bytes.branch [
-      | then-point-bytes-via-then-point-bytes v ↦ λ h e. omega (arith, h, v.if-point-bytes.true)
-      | then-point-bytes-via-else-point-bytes+then-bytes-point-ne46 v ↦ λ h e. v.if-bytes-point-ne46.true e
-    ]) in
+    let all = (met c.args.places c.args.bytes.now end a.result t a.ensures.minus a.ensures.sign a.ensures.none p.result p.ensures.from p.ensures.within p.ensures.digits p.ensures.stops).alone (λ h e. grind (arith, h, e, c.then-point-bytes.branch)) in
     found-same p.result end all.0
 
 pub returns-then-not-is_whole_part-2-clause-finds : goal.returns-then-not-is_whole_part-2-clause-finds

@@ -1,7 +1,7 @@
 -- The fraction, padded to eighteen places, stands behind the point, and its last zeros are cut.
 use Rattle.std.proofs.Common.{◌∙◌, ◌++◌, ◌*◌, ◌/◌, ◌≤◌, ◌≡◌, length, take, refl, ap, arith}
 use Rattle.wkt_num.proofs.Padded.{length-padded}
-use Rattle.wkt_num.proofs.Eighteen.{small, scaled, cut, all, whole-ends, whole-long, copied, copied-there, copied-long}
+use Rattle.wkt_num.proofs.Eighteen.{small, scaled, put, all, whole-ends, whole-long, copied, copied-there, copied-long}
 use Rattle.wkt_num.proofs.printing.put_short.Goals as goal
 
 pub overflow_mul-all : goal.overflow_mul-all
@@ -18,23 +18,13 @@ overflow_mul-high c = record { fits = omega (arith, small c.args.places c.args.f
 
 pub returns-then-high-all-clause-value : goal.returns-then-high-all-clause-value
 returns-then-high-all-clause-value c =
-    let old = c.args.out.now in
-    let lanes = c.eight-digits.result in
-    let high = c.args.fraction * c.ten_to.result / 10000000000 in
-    let eight : length lanes ≡ 8 = ap length c.eight-digits.ensures ∙ length-padded 8 high in
     let less = small c.args.places c.args.fraction _ c.requires.few c.requires.less c.requires.some c.ten_to.ensures in
-    cut c.args.places c.args.fraction c.ten_to.result c.requires.few c.requires.less c.requires.some c.ten_to.ensures 8 10 high c.zeros_after_eight.result (copied 8 old lanes) old lanes
-    refl (omega (arith, less)) c.if-high-all.true c.told-out (copied-there 8 old lanes (omega arith) c.told-out eight) c.eight-digits.ensures c.zeros_after_eight.ensures
+    put c.args.places c.args.fraction _ c.requires.few c.requires.less c.requires.some c.ten_to.ensures 8 10 _ _ c.args.out.now _ (omega arith) refl (omega (arith, less)) c.if-high-all.true c.told-out c.eight-digits.ensures c.zeros_after_eight.ensures
 
 pub returns-then-last-eq0-clause-value : goal.returns-then-last-eq0-clause-value
 returns-then-last-eq0-clause-value c =
-    let old = c.args.out.now in
-    let lanes = c.sixteen-digits.result in
-    let front = c.args.fraction * c.ten_to.result / 100 in
-    let sixteen : length lanes ≡ 16 = ap length c.sixteen-digits.ensures ∙ length-padded 16 front in
     let less = small c.args.places c.args.fraction _ c.requires.few c.requires.less c.requires.some c.ten_to.ensures in
-    cut c.args.places c.args.fraction c.ten_to.result c.requires.few c.requires.less c.requires.some c.ten_to.ensures 16 2 front c.zeros_after.result (copied 16 old lanes) old lanes
-    refl (omega (arith, less)) (omega (arith, c.if-last-eq0.true)) c.told-out (copied-there 16 old lanes (omega arith) c.told-out sixteen) c.sixteen-digits.ensures c.zeros_after.ensures
+    put c.args.places c.args.fraction _ c.requires.few c.requires.less c.requires.some c.ten_to.ensures 16 2 (c.args.fraction * c.ten_to.result / 100) _ c.args.out.now _ (omega arith) refl (omega (arith, less)) (omega (arith, c.if-last-eq0.true)) c.told-out c.sixteen-digits.ensures c.zeros_after.ensures
 
 pub returns-clause-value : goal.returns-clause-value
 returns-clause-value c =

@@ -1,9 +1,6 @@
 -- The whole part and the fraction are the text of the units.
-use Rattle.wkt_num.proofs.Printed.{fraction-less, units-piece}
+use Rattle.wkt_num.proofs.Printed.{units-piece}
 use Rattle.wkt_num.proofs.printing.put_small.Goals as goal
-
-pub put_small_fraction-end-requires-clause-less : goal.put_small_fraction-end-requires-clause-less
-put_small_fraction-end-requires-clause-less c = fraction-less c.args.places c.args.units _ c.split_short-whole.ensures.fraction
 
 pub returns-clause-value : goal.returns-clause-value
 returns-clause-value c =
