@@ -15,28 +15,22 @@ returns-in_err-d-clause-err g c =
     not-there _ (λ none w. none (dim_of w.0) w.2.dimension_is) h
 
 pub returns-in_err-point-in-0-clause-err : goal.returns-in_err-point-in-0-clause-err
-returns-in_err-point-in-0-clause-err g c =
-    let given = c.args.given in passed-on _ (some-point g.row.D given.kind given.dimension given.numbers.now given.rings.now given.polygons.now c.in_ok-d.d c.in_ok-d.ensures.ok c.in-0.is) (search rules)
+returns-in_err-point-in-0-clause-err g c = passed-on _ (some-point g.row.D _ _ _ _ _ _ c.in_ok-d.ensures.ok c.in-0.is) (search rules)
 
 pub returns-in_err-line-in-1-clause-err : goal.returns-in_err-line-in-1-clause-err
-returns-in_err-line-in-1-clause-err g c =
-    let given = c.args.given in passed-on _ (some-line g.row.D given.kind given.dimension given.numbers.now given.rings.now given.polygons.now c.in_ok-d.d c.in_ok-d.ensures.ok c.in-1.is) (search rules)
+returns-in_err-line-in-1-clause-err g c = passed-on _ (some-line g.row.D _ _ _ _ _ _ c.in_ok-d.ensures.ok c.in-1.is) (search rules)
 
 pub returns-in_err-lines-in-2-clause-err : goal.returns-in_err-lines-in-2-clause-err
-returns-in_err-lines-in-2-clause-err g c =
-    let given = c.args.given in passed-on _ (some-polygon g.row.D given.kind given.dimension given.numbers.now given.rings.now given.polygons.now c.in_ok-d.d c.in_ok-d.ensures.ok c.in-2.is) (search rules)
+returns-in_err-lines-in-2-clause-err g c = passed-on _ (some-polygon g.row.D _ _ _ _ _ _ c.in_ok-d.ensures.ok c.in-2.is) (search rules)
 
 pub returns-in_err-points-in-3-clause-err : goal.returns-in_err-points-in-3-clause-err
-returns-in_err-points-in-3-clause-err g c =
-    let given = c.args.given in passed-on _ (some-multi_point g.row.D given.kind given.dimension given.numbers.now given.rings.now given.polygons.now c.in_ok-d.d c.in_ok-d.ensures.ok c.in-3.is) (search rules)
+returns-in_err-points-in-3-clause-err g c = passed-on _ (some-multi_point g.row.D _ _ _ _ _ _ c.in_ok-d.ensures.ok c.in-3.is) (search rules)
 
 pub returns-in_err-lines-in-4-clause-err : goal.returns-in_err-lines-in-4-clause-err
-returns-in_err-lines-in-4-clause-err g c =
-    let given = c.args.given in passed-on _ (some-multi_line_string g.row.D given.kind given.dimension given.numbers.now given.rings.now given.polygons.now c.in_ok-d.d c.in_ok-d.ensures.ok c.in-4.is) (search rules)
+returns-in_err-lines-in-4-clause-err g c = passed-on _ (some-multi_line_string g.row.D _ _ _ _ _ _ c.in_ok-d.ensures.ok c.in-4.is) (search rules)
 
 pub returns-in_err-polygons-in-5-clause-err : goal.returns-in_err-polygons-in-5-clause-err
-returns-in_err-polygons-in-5-clause-err g c =
-    let given = c.args.given in passed-on _ (some-polygons g.row.D given.kind given.dimension given.numbers.now given.rings.now given.polygons.now c.in_ok-d.d c.in_ok-d.ensures.ok) (search rules)
+returns-in_err-polygons-in-5-clause-err g c = passed-on _ (some-polygons g.row.D _ _ _ _ _ _ c.in_ok-d.ensures.ok) (search rules)
 
 pub returns-in_ok-point-in-0-clause-ok : goal.returns-in_ok-point-in-0-clause-ok
 returns-in_ok-point-in-0-clause-ok g c = λ v fits are. let given = c.args.given in built-point g.row.D given.kind given.dimension given.numbers.now given.rings.now given.polygons.now c.in_ok-d.d c.in_ok-d.ensures.ok v fits are c.in_ok-d.d refl c.in-0.is c.in_ok-point-in-0.field-0 c.in_ok-point-in-0.ensures.dim c.in_ok-point-in-0.ensures.ok
