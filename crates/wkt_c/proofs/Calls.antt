@@ -36,7 +36,7 @@ module _ (asked : ℕ) (text : List ℕ) (status : ℕ) where
   handed-call answer out out' needed needed' end end' is short ends stands lacks more kept told three = record {
     written = λ e. (answer, is, ends (λ n. omega (arith, e, n)), stands e);
     small = λ e. (answer, is, ends (λ n. omega (arith, e, n)), lacks e);
-    more = λ e. let h = more e in record { asked = h.0; utf8 = is.utf8; value = is.value; front = is.front; more = h.1 };
+    more = λ e. let h = more e in record { asked = h.0; utf8 = is.0; value = is.1.value; front = is.1.front; more = h.1 };
     others = λ some n m. absurd (elim three [ inl z ↦ omega (arith, z, some) | inr k ↦ elim k [ inl a ↦ n a | inr b ↦ m b ] ]);
     kept = kept;
     bound = λ e. elim e [ inl z ↦ omega (arith, (stands z).size, short) | inr k ↦ omega (arith, (lacks k).size, short) ];

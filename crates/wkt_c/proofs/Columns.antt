@@ -169,4 +169,4 @@ module _ {N : Type 0} (whole : Bool) (read : List ℕ → Option N) (num : N →
   pub longer-row : (answer : List ℕ) (end : ℕ) → null ≡ false → IsCanonical read num text answer end → whole ≡ true → (AllWhite (drop end text) → ⊥) → AddsRow [] 30 a b →
       AddsTextAnswer whole read num null text a b
   longer-row answer end n is asked more adds =
-      refused-row 30 n (inr (refl, (end, record { asked = asked; utf8 = is.utf8; value = is.value; front = is.front; more = more }))) adds
+      refused-row 30 n (inr (refl, (end, record { asked = asked; utf8 = is.0; value = is.1.value; front = is.1.front; more = more }))) adds

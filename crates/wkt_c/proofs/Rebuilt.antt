@@ -164,46 +164,41 @@ module _ (places kind-is dimension : ℕ) (numbers : List ℤ) (rings polygons :
 
   -- what is built of the parts that are there is the value
   module _ (dim : Dimension) (same : dim ≡ d) where
+    made : {X : Type 0} (make : Dimension → X → Value ℤ) (w : Value ℤ) (at : Dimension) (x y : X) → w ≡ make at x → at ≡ dim → x ≡ y → v ≡ make (dim_of v) y → w ≡ v
+    made make w at x y is h e last = is ∙ ap (λ z. make z x) (h ∙ same ∙ sym same-dim) ∙ ap (make (dim_of v)) e ∙ sym last
+
     pub built-point : kind-is ≡ 0 → (p : HeldPoint (Coord ℤ)) → p.dim ≡ dim → ((r : List (List ℤ)) → IsRing d numbers rings 0 r → member_numbers p ≡ r) → value_of (tree (variants.Point p)) ≡ v
     built-point e p h f =
         let i = inverted kind.Point e in
-        ap value_of (tree-point p) ∙ ap (λ x. Value.point x (point_numbers p)) (h ∙ same ∙ sym same-dim)
-        ∙ ap (Value.point (dim_of v)) (one-option (point_numbers p) i.0 (f (option_to_list i.0) (first-ring _ i.2))) ∙ sym i.1
+        made Value.point _ p.dim (point_numbers p) i.0 (ap value_of (tree-point p)) h (one-option (point_numbers p) i.0 (f (option_to_list i.0) (first-ring _ i.2))) i.1
 
     pub built-line : kind-is ≡ 1 → (l : Held (Coord ℤ)) → l.dim ≡ dim → ((r : List (List ℤ)) → IsRing d numbers rings 0 r → line_string_numbers l ≡ r) → value_of (tree (variants.LineString l)) ≡ v
     built-line e l h f =
-        let i = inverted kind.LineString e in
-        ap value_of (tree-line_string l) ∙ ap (λ x. Value.line_string x (line_string_numbers l)) (h ∙ same ∙ sym same-dim)
-        ∙ ap (Value.line_string (dim_of v)) (f i.0 (first-ring i.0 i.2)) ∙ sym i.1
+        let i = inverted kind.LineString e in made Value.line_string _ l.dim (line_string_numbers l) i.0 (ap value_of (tree-line_string l)) h (f i.0 (first-ring i.0 i.2)) i.1
 
     pub built-polygon : kind-is ≡ 2 → (y : Held (Held (Coord ℤ))) → y.dim ≡ dim → (xs : List (Held (Coord ℤ))) → y.parts ≡ xs →
         ((rs : List (List (List ℤ))) → IsPolygon d numbers rings polygons 0 rs → map line_string_numbers xs ≡ rs) → value_of (tree (variants.Polygon y)) ≡ v
     built-polygon e y h xs k f =
         let i = inverted kind.Polygon e in
-        ap value_of (tree-polygon y) ∙ ap (λ x. Value.polygon x (map line_string_numbers y.parts)) (h ∙ same ∙ sym same-dim)
-        ∙ ap (Value.polygon (dim_of v)) (ap (λ ls. map line_string_numbers ls) k ∙ f i.0 (first-polygon i.0 i.2)) ∙ sym i.1
+        made Value.polygon _ y.dim (map line_string_numbers y.parts) i.0 (ap value_of (tree-polygon y)) h (ap (λ ls. map line_string_numbers ls) k ∙ f i.0 (first-polygon i.0 i.2)) i.1
 
     pub built-multi_point : kind-is ≡ 3 → (m : Held (HeldPoint (Coord ℤ))) → m.dim ≡ dim → (xs : List (HeldPoint (Coord ℤ))) → m.parts ≡ xs →
         ((rs : List (List (List ℤ))) → IsPolygon d numbers rings polygons 0 rs → map member_numbers xs ≡ rs) → value_of (tree (variants.MultiPoint m)) ≡ v
     built-multi_point e m h xs k f =
         let i = inverted kind.MultiPoint e in
-        ap value_of (tree-multi_point m) ∙ ap (λ x. Value.multi_point x (map point_numbers m.parts)) (h ∙ same ∙ sym same-dim)
-        ∙ ap (Value.multi_point (dim_of v))
-        (ap (λ ps. map point_numbers ps) k ∙ one-options (map point_numbers xs) i.0 (map-map option_to_list point_numbers xs ∙ f (map option_to_list i.0) (first-polygon _ i.2)))
-        ∙ sym i.1
+        let options : map point_numbers xs ≡ i.0 = one-options (map point_numbers xs) i.0 (map-map option_to_list point_numbers xs ∙ f (map option_to_list i.0) (first-polygon _ i.2)) in
+        made Value.multi_point _ m.dim (map point_numbers m.parts) i.0 (ap value_of (tree-multi_point m)) h (ap (λ ps. map point_numbers ps) k ∙ options) i.1
 
     pub built-multi_line_string : kind-is ≡ 4 → (m : Held (Held (Coord ℤ))) → m.dim ≡ dim → (xs : List (Held (Coord ℤ))) → m.parts ≡ xs →
         ((rs : List (List (List ℤ))) → IsPolygon d numbers rings polygons 0 rs → map line_string_numbers xs ≡ rs) → value_of (tree (variants.MultiLineString m)) ≡ v
     built-multi_line_string e m h xs k f =
         let i = inverted kind.MultiLineString e in
-        ap value_of (tree-multi_line_string m) ∙ ap (λ x. Value.multi_line_string x (map line_string_numbers m.parts)) (h ∙ same ∙ sym same-dim)
-        ∙ ap (Value.multi_line_string (dim_of v)) (ap (λ ls. map line_string_numbers ls) k ∙ f i.0 (first-polygon i.0 i.2)) ∙ sym i.1
+        made Value.multi_line_string _ m.dim (map line_string_numbers m.parts) i.0 (ap value_of (tree-multi_line_string m)) h (ap (λ ls. map line_string_numbers ls) k ∙ f i.0 (first-polygon i.0 i.2)) i.1
 
     pub built-multi_polygon : kind-is ≡ 5 → (m : Held (Held (Held (Coord ℤ)))) → m.dim ≡ dim → (xs : List (Held (Held (Coord ℤ)))) → m.parts ≡ xs →
         ((ps : List (List (List (List ℤ)))) → ArePolygons d numbers rings polygons ps → map polygon_numbers xs ≡ ps) → value_of (tree (variants.MultiPolygon m)) ≡ v
     built-multi_polygon e m h xs k f =
-        ap value_of (tree-multi_polygon m) ∙ ap (λ x. Value.multi_polygon x (map polygon_numbers m.parts)) (h ∙ same ∙ sym same-dim)
-        ∙ ap (Value.multi_polygon (dim_of v)) (ap (λ ps. map polygon_numbers ps) k ∙ f are.parts all-polygons) ∙ sym (inverted kind.MultiPolygon e)
+        made Value.multi_polygon _ m.dim (map polygon_numbers m.parts) are.parts (ap value_of (tree-multi_polygon m)) h (ap (λ ps. map polygon_numbers ps) k ∙ f are.parts all-polygons) (inverted kind.MultiPolygon e)
 
 short : (c : Option (List ℤ)) → length (option_to_list c) ≤ 1
 short None = omega arith

@@ -1,5 +1,5 @@
 -- What the calls for canonical texts answer. Only private contracts cite these words.
-use Rattle.std.specs.Prelude.{◌≡◌, ◌≢◌, ◌≤◌, ◌+◌, ◌*◌, ◌++◌, ◌⊎◌, ℕ, List, ◌∷◌, length, Option, Some, None}
+use Rattle.std.specs.Prelude.{◌≡◌, ◌≢◌, ◌≤◌, ◌+◌, ◌*◌, ◌++◌, ◌⊎◌, ℕ, List, ◌∷◌, length, take, Option, Some, None, Result, MatchResult}
 use Rattle.wkt_read.specs.Front.{HasNoFront}
 use Rattle.wkt_events.specs.Canonical.{HasWritten}
 use Rattle.wkt_c.specs.Answer.{read_at, print_at, places_in, asks_whole, EndsAsAsked, IsCanonical, HasMore, Compares, Refuses, IsHandedOut, HasNoRoom}
@@ -14,6 +14,11 @@ module _ {N : Type 0} (read : List ℕ → Option N) (num : N → List ℕ) wher
   abbrev pub WritesIfAny : List ℕ → List ℕ → List ℕ → Option (ℕ × ℕ) → Type 0
   WritesIfAny text old new (Some p) = HasWritten read num text 0 old new p.0 p.1 × (p.1 + 64 ≤ length old)
   WritesIfAny text old new None = HasNoFront read text
+
+-- The canonical text stands at the front of a room, as long as is returned, and where the front ends is returned too; or the text is refused.
+abbrev pub WritesCanonical : ℕ → List ℕ → List ℕ → Result (ℕ × ℕ) ℕ → Type 0
+WritesCanonical asked text room result =
+    MatchResult result (λ r. IsCanonical (read_at (places_in asked)) (print_at (places_in asked)) text (take r.1 room) r.0) (Refuses (read_at (places_in asked)) text)
 
 -- By its status, what a call says of a text, and what it has written then.
 pub record AnswersCanonical (asked : ℕ) (text : List ℕ) (status : ℕ) (out out' : List ℕ) (needed needed' end end' : ℕ) : Type 0 where

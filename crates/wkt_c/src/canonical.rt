@@ -3,12 +3,13 @@ ghost use Rattle.std.specs.Prelude.{◌≡◌, ◌≢◌, ◌+◌, ◌*◌, ◌�
 ghost use Rattle.std.specs.Str.{IsAscii};
 ghost use Rattle.wkt_num.specs.Bytes.{AllWhite};
 ghost use Rattle.wkt_num.specs.Decimal.{IsUnits};
-ghost use Rattle.wkt_c.specs.Calls.{AnswersCanonical, AreCompared, IsWalkedFor, WritesIfAny};
+ghost use Rattle.wkt_c.specs.Calls.{AnswersCanonical, AreCompared, IsWalkedFor, WritesCanonical, WritesIfAny};
 ghost use Rattle.wkt_read.specs.Laws.{FrontIsWritable, OneText};
-ghost use Rattle.wkt_c.specs.Answer.{read_at, print_at, places_in, asks_whole, EndsAsAsked, IsCanonical, Compares, Refuses, RefusesOne, IsHandedOut, HasNoRoom};
+ghost use Rattle.wkt_c.specs.Answer.{read_at, print_at, places_in, asks_whole, EndsAsAsked, IsCanonical, Compares, RefusesOne, IsHandedOut, HasNoRoom};
 
 use crate::asked::{ends_as_asked, places_of};
 use crate::fill::hand_out;
+use crate::places::at_places;
 use crate::refusal::refusal_at;
 use crate::room::{make_room, no_room};
 use crate::status::{DONE, NOT_TEXT, NOT_WHOLE, SMALL};
@@ -44,27 +45,7 @@ fn write_at(text: &str, places: u32, room: &mut [u8]) -> Option<(usize, usize)>
     ensures writes { WritesIfAny (read_at places) (print_at places) text.now room.old room.new result }
     ensures whole { length room.new ≡ length room.old }
 {
-    match places {
-        0 => write::<0>(text, room),
-        1 => write::<1>(text, room),
-        2 => write::<2>(text, room),
-        3 => write::<3>(text, room),
-        4 => write::<4>(text, room),
-        5 => write::<5>(text, room),
-        6 => write::<6>(text, room),
-        7 => write::<7>(text, room),
-        8 => write::<8>(text, room),
-        9 => write::<9>(text, room),
-        10 => write::<10>(text, room),
-        11 => write::<11>(text, room),
-        12 => write::<12>(text, room),
-        13 => write::<13>(text, room),
-        14 => write::<14>(text, room),
-        15 => write::<15>(text, room),
-        16 => write::<16>(text, room),
-        17 => write::<17>(text, room),
-        _ => write::<18>(text, room),
-    }
+    at_places!(places, write(text, room), unreachable!())
 }
 
 /// Writes the canonical text of what a text begins with to the front of the room, and returns where that ends, and how
@@ -74,9 +55,7 @@ fn write_in(text: &str, walked: &str, asked: u32, room: &mut [u8]) -> Result<(us
     requires room { 2 * length walked.now + 65 ≤ length room.old }
     requires utf8 { IsUtf8 text.now }
     requires walked { IsWalkedFor text.now walked.now }
-    ensures canonical { MatchResult result
-        (λ r. IsCanonical (read_at (places_in asked)) (print_at (places_in asked)) text.now (take r.1 room.new) r.0)
-        (Refuses (read_at (places_in asked)) text.now) }
+    ensures canonical { WritesCanonical asked text.now room.new result }
     ensures within { IfOk result (λ r. r.1 + 64 ≤ length room.new) }
     ensures whole { length room.new ≡ length room.old }
 {
@@ -92,9 +71,7 @@ fn write_within(text: &str, asked: u32, room: &mut [u8]) -> Result<(usize, usize
     requires places { places_in asked ≤ 18 }
     requires room { 2 * length text.now + 65 ≤ length room.old }
     requires utf8 { IsUtf8 text.now }
-    ensures canonical { MatchResult result
-        (λ r. IsCanonical (read_at (places_in asked)) (print_at (places_in asked)) text.now (take r.1 room.new) r.0)
-        (Refuses (read_at (places_in asked)) text.now) }
+    ensures canonical { WritesCanonical asked text.now room.new result }
     ensures within { IfOk result (λ r. r.1 ≤ length room.new) }
     ensures bound { IfOk result (λ r. r.1 ≤ 2 * length text.now + 1) }
     ensures whole { length room.new ≡ length room.old }
@@ -106,9 +83,7 @@ fn write_within(text: &str, asked: u32, room: &mut [u8]) -> Result<(usize, usize
 pub(crate) fn write_long(text: &str, asked: u32, room: &mut Vec<u8>) -> Result<(usize, usize), u32>
     requires places { places_in asked ≤ 18 }
     requires utf8 { IsUtf8 text.now }
-    ensures canonical { MatchResult result
-        (λ r. IsCanonical (read_at (places_in asked)) (print_at (places_in asked)) text.now (take r.1 room.new.items) r.0)
-        (Refuses (read_at (places_in asked)) text.now) }
+    ensures canonical { WritesCanonical asked text.now room.new.items result }
     ensures within { IfOk result (λ r. r.1 ≤ vec_len room.new) }
     ensures bound { IfOk result (λ r. r.1 ≤ 2 * length text.now + 1) }
 {
@@ -147,9 +122,7 @@ fn write_short(
     requires near { length text.now + 32 ≤ length near.old }
     requires zeros { (i : ℕ) → slice_index near.old i ≡ 0 }
     requires room { 2 * length text.now + 129 ≤ length room.old }
-    ensures canonical { MatchResult result
-        (λ r. IsCanonical (read_at (places_in asked)) (print_at (places_in asked)) text.now (take r.1 room.new) r.0)
-        (Refuses (read_at (places_in asked)) text.now) }
+    ensures canonical { WritesCanonical asked text.now room.new result }
     ensures within { IfOk result (λ r. r.1 ≤ length room.new) }
     ensures bound { IfOk result (λ r. r.1 ≤ 2 * length text.now + 65) }
     ensures whole { length room.new ≡ length room.old }
@@ -285,27 +258,7 @@ fn laws_at(places: u32)
     ensures writable { FrontIsWritable (IsUnits places) (read_at places) }
     ensures text { OneText (IsUnits places) (print_at places) (read_at places) }
 {
-    match places {
-        0 => laws::<0>(),
-        1 => laws::<1>(),
-        2 => laws::<2>(),
-        3 => laws::<3>(),
-        4 => laws::<4>(),
-        5 => laws::<5>(),
-        6 => laws::<6>(),
-        7 => laws::<7>(),
-        8 => laws::<8>(),
-        9 => laws::<9>(),
-        10 => laws::<10>(),
-        11 => laws::<11>(),
-        12 => laws::<12>(),
-        13 => laws::<13>(),
-        14 => laws::<14>(),
-        15 => laws::<15>(),
-        16 => laws::<16>(),
-        17 => laws::<17>(),
-        _ => laws::<18>(),
-    }
+    at_places!(places, laws(), unreachable!())
 }
 
 /// Whether these two canonical texts are one.

@@ -4,6 +4,7 @@ ghost use Rattle.wkt_c.specs.Answer.{read_at, print_at};
 ghost use Rattle.wkt_c.specs.Chunks.{AnswersSome, AnswersNone, ends_here};
 
 use crate::lines::{Answered, answer_lines, answers};
+use crate::places::at_places;
 use crate::status::SMALL;
 use crate::whole::first_line;
 use std::alloc::Global;
@@ -82,25 +83,5 @@ pub(crate) fn some_at(
     ensures { MatchResult result (λ a. AnswersSome (read_at places) (print_at places) last input.now a.taken a.written out.new)
         (AnswersNone (read_at places) (print_at places) last input.now out.old) }
 {
-    match places {
-        0 => answer_some::<0>(alloc, input, last, out),
-        1 => answer_some::<1>(alloc, input, last, out),
-        2 => answer_some::<2>(alloc, input, last, out),
-        3 => answer_some::<3>(alloc, input, last, out),
-        4 => answer_some::<4>(alloc, input, last, out),
-        5 => answer_some::<5>(alloc, input, last, out),
-        6 => answer_some::<6>(alloc, input, last, out),
-        7 => answer_some::<7>(alloc, input, last, out),
-        8 => answer_some::<8>(alloc, input, last, out),
-        9 => answer_some::<9>(alloc, input, last, out),
-        10 => answer_some::<10>(alloc, input, last, out),
-        11 => answer_some::<11>(alloc, input, last, out),
-        12 => answer_some::<12>(alloc, input, last, out),
-        13 => answer_some::<13>(alloc, input, last, out),
-        14 => answer_some::<14>(alloc, input, last, out),
-        15 => answer_some::<15>(alloc, input, last, out),
-        16 => answer_some::<16>(alloc, input, last, out),
-        17 => answer_some::<17>(alloc, input, last, out),
-        _ => answer_some::<18>(alloc, input, last, out),
-    }
+    at_places!(places, answer_some(alloc, input, last, out), unreachable!())
 }

@@ -7,6 +7,7 @@ ghost use Rattle.wkt_c.specs.ArrayRows.{row_of};
 ghost use Rattle.wkt_c.specs.TextRows.{given_arrays, AddsArraysText, HoldsTexts};
 
 use crate::column::{Rows, are_offsets, has_bits, is_null};
+use crate::places::at_places;
 use crate::rebuild::{GivenArrays, text_of};
 use crate::status::{DONE, MEMORY, NO_PLACES, NULL_ROW};
 use std::alloc::Global;
@@ -110,26 +111,5 @@ pub(crate) fn texts_at(alloc: Global, given: GivenRows<'_>, places: u32) -> Resu
         (HoldsTexts places (given_arrays given.entry) given.entry.valid.now (length given.entry.kinds.now))
         (λ s. HasNoPlaces places s ⊎ (s ≡ MEMORY)) }
 {
-    match places {
-        0 => all_texts::<0>(alloc, given),
-        1 => all_texts::<1>(alloc, given),
-        2 => all_texts::<2>(alloc, given),
-        3 => all_texts::<3>(alloc, given),
-        4 => all_texts::<4>(alloc, given),
-        5 => all_texts::<5>(alloc, given),
-        6 => all_texts::<6>(alloc, given),
-        7 => all_texts::<7>(alloc, given),
-        8 => all_texts::<8>(alloc, given),
-        9 => all_texts::<9>(alloc, given),
-        10 => all_texts::<10>(alloc, given),
-        11 => all_texts::<11>(alloc, given),
-        12 => all_texts::<12>(alloc, given),
-        13 => all_texts::<13>(alloc, given),
-        14 => all_texts::<14>(alloc, given),
-        15 => all_texts::<15>(alloc, given),
-        16 => all_texts::<16>(alloc, given),
-        17 => all_texts::<17>(alloc, given),
-        18 => all_texts::<18>(alloc, given),
-        _ => Err(NO_PLACES),
-    }
+    at_places!(places, all_texts(alloc, given), Err(NO_PLACES))
 }

@@ -3,6 +3,7 @@ ghost use Rattle.std.specs.Prelude.{◌≡◌, ◌≤◌, MatchResult, IsUtf8};
 ghost use Rattle.wkt_c.specs.Answer.{read_at};
 ghost use Rattle.wkt_c.specs.Explained.{IsExplained, IsUnexplained, expected_number};
 
+use crate::places::at_places;
 use crate::status::{ACCEPTED, NOT_TEXT};
 use wkt_explain::{Expected, refusal};
 use wkt_num::{Decimal, WktNum};
@@ -35,11 +36,11 @@ fn number_of(expected: Expected) -> u32
 }
 
 /// Where the text is refused, or the status of a text that isn't refused or no text.
-fn explained<T: WktNum>(text: &[u8]) -> Result<Place, u32>
-    ensures { MatchResult result (λ p. IsExplained T.read text.now p.message p.start p.stop p.expected) (IsUnexplained T.read text.now) }
+fn explained<const D: u32>(text: &[u8]) -> Result<Place, u32>
+    ensures { MatchResult result (λ p. IsExplained (read_at D) text.now p.message p.start p.stop p.expected) (IsUnexplained (read_at D) text.now) }
 {
     match str::from_utf8(text) {
-        Ok(text) => explained_text::<T>(text),
+        Ok(text) => explained_text::<Decimal<D>>(text),
         Err(_) => Err(NOT_TEXT),
     }
 }
@@ -64,25 +65,5 @@ pub(crate) fn explained_at(text: &[u8], places: u32) -> Result<Place, u32>
     requires { places ≤ 18 }
     ensures { MatchResult result (λ p. IsExplained (read_at places) text.now p.message p.start p.stop p.expected) (IsUnexplained (read_at places) text.now) }
 {
-    match places {
-        0 => explained::<Decimal<0>>(text),
-        1 => explained::<Decimal<1>>(text),
-        2 => explained::<Decimal<2>>(text),
-        3 => explained::<Decimal<3>>(text),
-        4 => explained::<Decimal<4>>(text),
-        5 => explained::<Decimal<5>>(text),
-        6 => explained::<Decimal<6>>(text),
-        7 => explained::<Decimal<7>>(text),
-        8 => explained::<Decimal<8>>(text),
-        9 => explained::<Decimal<9>>(text),
-        10 => explained::<Decimal<10>>(text),
-        11 => explained::<Decimal<11>>(text),
-        12 => explained::<Decimal<12>>(text),
-        13 => explained::<Decimal<13>>(text),
-        14 => explained::<Decimal<14>>(text),
-        15 => explained::<Decimal<15>>(text),
-        16 => explained::<Decimal<16>>(text),
-        17 => explained::<Decimal<17>>(text),
-        _ => explained::<Decimal<18>>(text),
-    }
+    at_places!(places, explained(text), unreachable!())
 }

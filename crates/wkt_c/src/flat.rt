@@ -7,6 +7,7 @@ ghost use Rattle.wkt_c.specs.Arrays.{IsNotFlat};
 
 use crate::asked::places_of;
 use crate::infer::{number_of_dimension, number_of_kind};
+use crate::places::at_places;
 use crate::refusal::refusal;
 use crate::status::NOT_TEXT;
 use wkt_fill::{Filler, Room, fill_arrays};
@@ -72,7 +73,7 @@ fn refused<const D: u32>(text: &[u8]) -> u32
     ensures { Refuses (read_at D) text.now result }
 {
     match str::from_utf8(text) {
-        Ok(text) => refusal::<Decimal<D>>(text),
+        Ok(text) => refusal::<D>(text),
         Err(_) => NOT_TEXT,
     }
 }
@@ -82,28 +83,7 @@ fn flat_at<'a>(text: &[u8], places: u32, room: Room<'a>) -> Result<Flat<'a>, u32
     requires { places ≤ 18 }
     ensures { MatchResult result (IsFlat places text.now) (IsNotFlat places text.now) }
 {
-    match places {
-        0 => make_flat::<0>(text, room),
-        1 => make_flat::<1>(text, room),
-        2 => make_flat::<2>(text, room),
-        3 => make_flat::<3>(text, room),
-        4 => make_flat::<4>(text, room),
-        5 => make_flat::<5>(text, room),
-        6 => make_flat::<6>(text, room),
-        7 => make_flat::<7>(text, room),
-        8 => make_flat::<8>(text, room),
-        9 => make_flat::<9>(text, room),
-        10 => make_flat::<10>(text, room),
-        11 => make_flat::<11>(text, room),
-        12 => make_flat::<12>(text, room),
-        13 => make_flat::<13>(text, room),
-        14 => make_flat::<14>(text, room),
-        15 => make_flat::<15>(text, room),
-        16 => make_flat::<16>(text, room),
-        17 => make_flat::<17>(text, room),
-        18 => make_flat::<18>(text, room),
-        _ => unreachable!(),
-    }
+    at_places!(places, make_flat(text, room), unreachable!())
 }
 
 /// The same, with decimals of as many places as are asked for.

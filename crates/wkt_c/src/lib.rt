@@ -24,6 +24,7 @@ mod gathered;
 mod infer;
 mod joined;
 mod lines;
+mod places;
 mod rebuild;
 mod refusal;
 mod room;

@@ -6,6 +6,7 @@ ghost use Rattle.wkt_lines.specs.Output.{IsOutput};
 ghost use Rattle.wkt_c.specs.Answer.{read_at, print_at, HasNoPlaces};
 ghost use Rattle.wkt_c.specs.Chunks.{AreWholeLines};
 
+use crate::places::at_places;
 use crate::room::{has_room, widen};
 use crate::status::{MEMORY, NO_PLACES};
 use crate::whole::whole_within;
@@ -139,26 +140,5 @@ pub(crate) fn answers_at(alloc: Global, input: &[u8], places: u32) -> Result<Vec
     ensures { MatchResult result (λ v. IsOutput (read_at places) (print_at places) input.now v.items)
         (λ s. HasNoPlaces places s ⊎ (s ≡ MEMORY)) }
 {
-    match places {
-        0 => answers::<0>(alloc, input),
-        1 => answers::<1>(alloc, input),
-        2 => answers::<2>(alloc, input),
-        3 => answers::<3>(alloc, input),
-        4 => answers::<4>(alloc, input),
-        5 => answers::<5>(alloc, input),
-        6 => answers::<6>(alloc, input),
-        7 => answers::<7>(alloc, input),
-        8 => answers::<8>(alloc, input),
-        9 => answers::<9>(alloc, input),
-        10 => answers::<10>(alloc, input),
-        11 => answers::<11>(alloc, input),
-        12 => answers::<12>(alloc, input),
-        13 => answers::<13>(alloc, input),
-        14 => answers::<14>(alloc, input),
-        15 => answers::<15>(alloc, input),
-        16 => answers::<16>(alloc, input),
-        17 => answers::<17>(alloc, input),
-        18 => answers::<18>(alloc, input),
-        _ => Err(NO_PLACES),
-    }
+    at_places!(places, answers(alloc, input), Err(NO_PLACES))
 }

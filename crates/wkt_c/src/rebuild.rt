@@ -17,6 +17,7 @@ ghost use Rattle.wkt_c.specs.Answer.{IsRefused, IsWritten, IsUnwritten, dimensio
 use crate::arrays::{Arrays, kind_of};
 use crate::gathered::Gathered;
 use crate::infer::{number_of_dimension, number_of_kind};
+use crate::places::at_places;
 use crate::status::{MEMORY, NO_PLACES, NOT_ARRAYS};
 use std::alloc::Global;
 use wkt_access::Error as WriteError;
@@ -378,26 +379,5 @@ pub(crate) fn text_at(alloc: Global, given: GivenArrays<'_>, places: u32) -> Res
     ensures { MatchResult result (λ v. IsTextOf places given.entry.kind given.entry.dimension given.entry.numbers.now given.entry.rings.now given.entry.polygons.now v.items)
         (IsNoTextAt places given.entry.kind given.entry.dimension given.entry.numbers.now given.entry.rings.now given.entry.polygons.now) }
 {
-    match places {
-        0 => text_of::<0>(alloc, given),
-        1 => text_of::<1>(alloc, given),
-        2 => text_of::<2>(alloc, given),
-        3 => text_of::<3>(alloc, given),
-        4 => text_of::<4>(alloc, given),
-        5 => text_of::<5>(alloc, given),
-        6 => text_of::<6>(alloc, given),
-        7 => text_of::<7>(alloc, given),
-        8 => text_of::<8>(alloc, given),
-        9 => text_of::<9>(alloc, given),
-        10 => text_of::<10>(alloc, given),
-        11 => text_of::<11>(alloc, given),
-        12 => text_of::<12>(alloc, given),
-        13 => text_of::<13>(alloc, given),
-        14 => text_of::<14>(alloc, given),
-        15 => text_of::<15>(alloc, given),
-        16 => text_of::<16>(alloc, given),
-        17 => text_of::<17>(alloc, given),
-        18 => text_of::<18>(alloc, given),
-        _ => Err(NO_PLACES),
-    }
+    at_places!(places, text_of(alloc, given), Err(NO_PLACES))
 }

@@ -9,16 +9,16 @@ use Rattle.wkt_c.proofs.canonical.judge.Goals as goal
 
 pub returns : goal.returns
 returns c =
-    let a = c.requires.first in
-    let b = c.requires.second in
+    let (utf8, a) = c.requires.first in
+    let (other_utf8, b) = c.requires.second in
     let writable = subst (λ p. FrontIsWritable (IsUnits p) (read_at p)) c.places_of.ensures c.laws_at.ensures.writable in
     let one_text = subst (λ p. OneText (IsUnits p) (print_at p) (read_at p)) c.places_of.ensures c.laws_at.ensures.text in
     let first = writable _ a.value _ a.front in
     let second = writable _ b.value _ b.front in
     let texts = same_lists _ _ _ _ c.is_one.ensures a.is b.is in
     record {
-      utf8 = a.utf8;
-      other_utf8 = b.utf8;
+      utf8 = utf8;
+      other_utf8 = other_utf8;
       first = a.value;
       second = b.value;
       front = a.front;

@@ -1,5 +1,5 @@
 -- For each count of places, the law of decimals of that many.
-use Rattle.std.proofs.Common.{◌≡◌, ℕ, subst, sym, arith}
+use Rattle.std.proofs.Common.{ℕ, subst, sym}
 use Rattle.wkt_num.specs.Decimal.{IsUnits}
 use Rattle.wkt_read.specs.Laws.{FrontIsWritable}
 use Rattle.wkt_c.specs.Answer.{read_at}
@@ -62,6 +62,5 @@ returns-in-16-clause-writable c = subst Writable (sym c.in-16.is) c.laws-in-16.e
 pub returns-in-17-clause-writable : goal.returns-in-17-clause-writable
 returns-in-17-clause-writable c = subst Writable (sym c.in-17.is) c.laws-in-17.ensures.writable
 
-pub returns-in_default-clause-writable : goal.returns-in_default-clause-writable
-returns-in_default-clause-writable c =
-    let last : c.args.places ≡ 18 = omega (arith, c.requires, c.in_default) in subst Writable (sym last) c.laws-in_default.ensures.writable
+pub returns-in-18-clause-writable : goal.returns-in-18-clause-writable
+returns-in-18-clause-writable c = subst Writable (sym c.in-18.is) c.laws-in-18.ensures.writable

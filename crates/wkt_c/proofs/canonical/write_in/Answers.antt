@@ -11,10 +11,11 @@ pub returns-in-Some-clause-canonical : goal.returns-in-Some-clause-canonical
 returns-in-Some-clause-canonical c =
     let h = c.in-Some.ensures.writes.0 in
     let places = c.places_of-places.result in
-    subst (λ p. IsCanonical (read_at p) (print_at p) c.args.text.now (take c.in-Some.n c.write_at.new.room) c.in-Some.end) c.places_of-places.ensures
-    (record {
-      utf8 = c.requires.utf8;
-      value = h.value;
-      front = front-walked (read_at places) c.args.text.now c.args.walked.now c.requires.walked h.value c.in-Some.end h.front;
-      is = h.written;
-    })
+    subst (λ p. IsCanonical (read_at p) (print_at p) c.args.text.now (take c.in-Some.n c.write_at.new.room) c.in-Some.end) c.places_of-places.ensures (
+      c.requires.utf8,
+      record {
+        value = h.value;
+        front = front-walked (read_at places) c.args.text.now c.args.walked.now c.requires.walked h.value c.in-Some.end h.front;
+        is = h.written;
+      },
+    )

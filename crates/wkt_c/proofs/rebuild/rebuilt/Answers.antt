@@ -1,10 +1,8 @@
 -- Each kind is made of its arrays, or these are of none.
-use Rattle.std.proofs.Common.{rules, ◌≡◌, ◌≤◌, ℤ, List, IfErr, length, refl}
-use Rattle.std.specs.List.{All}
+use Rattle.std.proofs.Common.{rules, ◌≡◌, IfErr, refl}
 use Rattle.wkt_access.specs.declared.dimensions.Dimension.{Dimension}
 use Rattle.wkt_read.specs.Kinds.{dim_of}
-use Rattle.wkt_c.specs.Answer.{IsRefused, dimension_number}
-use Rattle.wkt_c.specs.Rebuilding.{IsRing, ArePolygons, IsPolygon}
+use Rattle.wkt_c.specs.Answer.{dimension_number}
 use Rattle.wkt_num.specs.Decimal.{IsUnits}
 use Rattle.wkt_c.proofs.Fitting.{point-formed, line-formed, polygon-formed, multi_point-formed, multi_line_string-formed, multi_polygon-formed}
 use Rattle.wkt_c.proofs.Refused.{not-there, passed-on}
@@ -17,40 +15,22 @@ returns-in_err-d-clause-err g c =
     not-there _ (λ none w. none (dim_of w.0) w.2.dimension_is) h
 
 pub returns-in_err-point-in-0-clause-err : goal.returns-in_err-point-in-0-clause-err
-returns-in_err-point-in-0-clause-err g c =
-    let given = c.args.given in
-    let h : IfErr c.from_residual-in_err-point-in-0.result (IsRefused ((r : List (List ℤ)) × IsRing c.in_ok-d.d given.numbers.now given.rings.now 0 r × (length r ≤ 1))) = search rules in
-    passed-on _ (some-point g.row.D given.kind given.dimension given.numbers.now given.rings.now given.polygons.now c.in_ok-d.d c.in_ok-d.ensures.ok c.in-0.is) h
+returns-in_err-point-in-0-clause-err g c = passed-on _ (some-point g.row.D _ _ _ _ _ _ c.in_ok-d.ensures.ok c.in-0.is) (search rules)
 
 pub returns-in_err-line-in-1-clause-err : goal.returns-in_err-line-in-1-clause-err
-returns-in_err-line-in-1-clause-err g c =
-    let given = c.args.given in
-    let h : IfErr c.from_residual-in_err-line-in-1.result (IsRefused ((r : List (List ℤ)) × IsRing c.in_ok-d.d given.numbers.now given.rings.now 0 r)) = search rules in
-    passed-on _ (some-line g.row.D given.kind given.dimension given.numbers.now given.rings.now given.polygons.now c.in_ok-d.d c.in_ok-d.ensures.ok c.in-1.is) h
+returns-in_err-line-in-1-clause-err g c = passed-on _ (some-line g.row.D _ _ _ _ _ _ c.in_ok-d.ensures.ok c.in-1.is) (search rules)
 
 pub returns-in_err-lines-in-2-clause-err : goal.returns-in_err-lines-in-2-clause-err
-returns-in_err-lines-in-2-clause-err g c =
-    let given = c.args.given in
-    let h : IfErr c.from_residual-in_err-lines-in-2.result (IsRefused ((rs : List (List (List ℤ))) × IsPolygon c.in_ok-d.d given.numbers.now given.rings.now given.polygons.now 0 rs)) = search rules in
-    passed-on _ (some-polygon g.row.D given.kind given.dimension given.numbers.now given.rings.now given.polygons.now c.in_ok-d.d c.in_ok-d.ensures.ok c.in-2.is) h
+returns-in_err-lines-in-2-clause-err g c = passed-on _ (some-polygon g.row.D _ _ _ _ _ _ c.in_ok-d.ensures.ok c.in-2.is) (search rules)
 
 pub returns-in_err-points-in-3-clause-err : goal.returns-in_err-points-in-3-clause-err
-returns-in_err-points-in-3-clause-err g c =
-    let given = c.args.given in
-    let h : IfErr c.from_residual-in_err-points-in-3.result (IsRefused ((rs : List (List (List ℤ))) × IsPolygon c.in_ok-d.d given.numbers.now given.rings.now given.polygons.now 0 rs × All (λ r. length r ≤ 1) rs)) = search rules in
-    passed-on _ (some-multi_point g.row.D given.kind given.dimension given.numbers.now given.rings.now given.polygons.now c.in_ok-d.d c.in_ok-d.ensures.ok c.in-3.is) h
+returns-in_err-points-in-3-clause-err g c = passed-on _ (some-multi_point g.row.D _ _ _ _ _ _ c.in_ok-d.ensures.ok c.in-3.is) (search rules)
 
 pub returns-in_err-lines-in-4-clause-err : goal.returns-in_err-lines-in-4-clause-err
-returns-in_err-lines-in-4-clause-err g c =
-    let given = c.args.given in
-    let h : IfErr c.from_residual-in_err-lines-in-4.result (IsRefused ((rs : List (List (List ℤ))) × IsPolygon c.in_ok-d.d given.numbers.now given.rings.now given.polygons.now 0 rs)) = search rules in
-    passed-on _ (some-multi_line_string g.row.D given.kind given.dimension given.numbers.now given.rings.now given.polygons.now c.in_ok-d.d c.in_ok-d.ensures.ok c.in-4.is) h
+returns-in_err-lines-in-4-clause-err g c = passed-on _ (some-multi_line_string g.row.D _ _ _ _ _ _ c.in_ok-d.ensures.ok c.in-4.is) (search rules)
 
 pub returns-in_err-polygons-in-5-clause-err : goal.returns-in_err-polygons-in-5-clause-err
-returns-in_err-polygons-in-5-clause-err g c =
-    let given = c.args.given in
-    let h : IfErr c.from_residual-in_err-polygons-in-5.result (IsRefused ((ps : List (List (List (List ℤ)))) × ArePolygons c.in_ok-d.d given.numbers.now given.rings.now given.polygons.now ps)) = search rules in
-    passed-on _ (some-polygons g.row.D given.kind given.dimension given.numbers.now given.rings.now given.polygons.now c.in_ok-d.d c.in_ok-d.ensures.ok) h
+returns-in_err-polygons-in-5-clause-err g c = passed-on _ (some-polygons g.row.D _ _ _ _ _ _ c.in_ok-d.ensures.ok) (search rules)
 
 pub returns-in_ok-point-in-0-clause-ok : goal.returns-in_ok-point-in-0-clause-ok
 returns-in_ok-point-in-0-clause-ok g c = λ v fits are. let given = c.args.given in built-point g.row.D given.kind given.dimension given.numbers.now given.rings.now given.polygons.now c.in_ok-d.d c.in_ok-d.ensures.ok v fits are c.in_ok-d.d refl c.in-0.is c.in_ok-point-in-0.field-0 c.in_ok-point-in-0.ensures.dim c.in_ok-point-in-0.ensures.ok

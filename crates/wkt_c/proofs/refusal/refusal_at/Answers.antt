@@ -1,5 +1,5 @@
 -- For each count of places, the refusal of decimals of that many.
-use Rattle.std.proofs.Common.{◌≡◌, subst, arith}
+use Rattle.std.proofs.Common.{subst}
 use Rattle.wkt_read.specs.Front.{HasNoFront}
 use Rattle.wkt_c.specs.Answer.{read_at}
 use Rattle.wkt_c.proofs.refusal.refusal_at.Goals as goal
@@ -58,6 +58,5 @@ refusal-requires-in-16 c = subst (λ p. HasNoFront (read_at p) c.args.text.now) 
 pub refusal-requires-in-17 : goal.refusal-requires-in-17
 refusal-requires-in-17 c = subst (λ p. HasNoFront (read_at p) c.args.text.now) c.in-17.is c.requires.none
 
-pub refusal-requires-in_default : goal.refusal-requires-in_default
-refusal-requires-in_default c =
-    let last : c.args.places ≡ 18 = omega (arith, c.requires.places, c.in_default) in subst (λ p. HasNoFront (read_at p) c.args.text.now) last c.requires.none
+pub refusal-requires-in-18 : goal.refusal-requires-in-18
+refusal-requires-in-18 c = subst (λ p. HasNoFront (read_at p) c.args.text.now) c.in-18.is c.requires.none
