@@ -1,5 +1,5 @@
 -- The arrays of a column, row after row.
-use Rattle.std.proofs.Common.{◌≡◌, ◌≢◌, ◌+◌, ◌<◌, inl, inr, ℕ, ℤ, List, [], Bool, true, false, length, drop, refl, sym, ap, ◌∙◌, subst, arith, below_more}
+use Rattle.std.proofs.Common.{◌≡◌, ◌+◌, ◌<◌, inl, inr, ℕ, ℤ, List, [], Bool, true, false, length, drop, refl, sym, ap, ◌∙◌, subst, arith, below_more}
 use Rattle.std.specs.List.{slice_index}
 use Rattle.wkt_c.specs.Column.{row, is_null}
 use Rattle.wkt_num.specs.Bytes.{AllWhite}

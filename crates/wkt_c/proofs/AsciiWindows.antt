@@ -1,5 +1,5 @@
 -- A window of bytes of which none is above 127.
-use Rattle.std.proofs.Common.{◌≡◌, ◌+◌, ◌<◌, ◌≤◌, ◌*◌, ◌-◌, ◌%◌, ◌^◌, ◌⊎◌, inl, inr, ℕ, List, length, get_or, replicate, cond, map, ap, sym, ◌∙◌, arith, below_more, w8, nat_lt}
+use Rattle.std.proofs.Common.{◌≡◌, ◌+◌, ◌<◌, ◌≤◌, ◌-◌, ◌%◌, ◌^◌, inl, inr, ℕ, List, length, get_or, replicate, cond, map, ap, sym, ◌∙◌, arith, w8, nat_lt}
 use Rattle.std.proofs.lemmas.List.{length-map}
 use Rattle.std.proofs.lemmas.Simd.{length-chunk, tops_compared, zip2_splat_left, mask_l-mod, none_from_empty_mask}
 use borrow.Author.Tests.{ltb-false}

@@ -1,5 +1,5 @@
 -- What a call for a canonical text answers, of what was written and handed out.
-use Rattle.std.proofs.Common.{◌≡◌, ◌≢◌, ◌≤◌, ◌+◌, ◌*◌, ◌⊎◌, inl, inr, ℕ, List, Option, refl, sym, ◌∙◌, arith, drop, length, true}
+use Rattle.std.proofs.Common.{◌≡◌, ◌≢◌, ◌≤◌, ◌+◌, ◌*◌, ◌⊎◌, inl, inr, ℕ, List, Option, refl, arith, drop, length, true}
 use Rattle.wkt_num.specs.Bytes.{AllWhite}
 use Rattle.wkt_c.specs.Answer.{read_at, print_at, places_in, asks_whole, EndsAsAsked, IsCanonical, Refuses, IsHandedOut, HasNoRoom}
 use Rattle.wkt_c.specs.Calls.{AnswersCanonical}

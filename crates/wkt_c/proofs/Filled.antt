@@ -1,17 +1,12 @@
 -- The arrays of what was filled, or why there are none.
-use Rattle.std.proofs.Common.{◌≡◌, ◌≢◌, inl, inr, refl, sym, ap, ◌∙◌, subst, arith, ℕ, ℤ, List, Option}
+use Rattle.std.proofs.Common.{◌≡◌, ◌≢◌, inl, inr, refl, ap, ◌∙◌, arith, ℕ, List, Option}
 use Rattle.std.specs.Prelude.{IsUtf8}
-use Rattle.wkt_num.specs.Decimal.{read_decimal}
-use Rattle.wkt_access.specs.Values.{Value}
-use Rattle.wkt_read.specs.Front.{Front}
-use Rattle.wkt_read.specs.Kinds.{kind_of, dim_of}
-use Rattle.wkt_fill.specs.Arrays.{IsUnheld}
 use Rattle.wkt_fill.specs.Filled.{view}
 use Rattle.wkt_fill.specs.Fronts.{FillsFront, HoldsAll}
 use Rattle.wkt_fill.specs.declared.filler.Filler.{Filler}
 use Rattle.wkt_c.specs.Answer.{Refuses, kind_number, dimension_number, read_at}
 use Rattle.wkt_c.proofs.Handing.{out_of_memory}
-use Rattle.wkt_c.specs.Arrays.{AreOf, IsNotFlat, IsNoArrays}
+use Rattle.wkt_c.specs.Arrays.{AreOf, IsNotFlat}
 
 module _ (places : ℕ) (text : List ℕ) (f : Filler) (end : ℕ) (h : FillsFront places text f end) where
   -- the arrays of the front

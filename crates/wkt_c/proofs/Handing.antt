@@ -16,7 +16,7 @@ use Rattle.wkt_types.specs.Values.{value_of, tree_shape}
 use Rattle.wkt_read.specs.Kinds.{kind_of, dim_of}
 use Rattle.wkt_read.specs.Front.{Front}
 use Rattle.wkt_read.specs.Laws.{ReadsBack}
-use Rattle.wkt_c.specs.Answer.{Refuses, IsWritten, kind_number, dimension_number, read_at}
+use Rattle.wkt_c.specs.Answer.{Refuses, IsWritten, kind_number, dimension_number}
 use Rattle.wkt_c.specs.Arrays.{parts_of, joined, numbers_in, offsets, AreArrays, IsTextOf, HasLarge}
 use Rattle.wkt_c.specs.Growing.{HoldsAll, IsUnheld, AreSame}
 use Rattle.wkt_c.specs.declared.arrays.Arrays.{Arrays}

@@ -1,8 +1,8 @@
 -- Arrays that grow by rings and by polygons.
-use Rattle.std.proofs.Common.{◌≡◌, ◌+◌, ◌++◌, ◌<◌, ◌≤◌, ℕ, ℤ, List, [], ◌∷◌, length, map, take, get_or, sym, ap, ◌∙◌, subst, append_assoc, Result, Ok, Err, OnOk}
+use Rattle.std.proofs.Common.{◌≡◌, ◌+◌, ◌++◌, ◌<◌, ℕ, ℤ, List, [], ◌∷◌, length, map, take, get_or, sym, ap, ◌∙◌, subst, append_assoc, Result, Ok, Err, OnOk}
 use Rattle.std.specs.Prelude.{Some}
 use Rattle.std.specs.List.{sum_by}
-use Rattle.std.proofs.lemmas.List.{map_more, take_all}
+use Rattle.std.proofs.lemmas.List.{map_more}
 use Rattle.wkt_access.specs.Values.{Value}
 use Rattle.wkt_c.specs.Arrays.{parts_of, joined, numbers_in, offsets}
 use Rattle.wkt_c.specs.Growing.{Holds, Begins, AddsRings, Closes, AddsPolygons, HoldsAll}
@@ -47,13 +47,6 @@ pub polygons-more : {X : Type 0} (f : X → List (List (List ℤ))) (xs : List X
 polygons-more f xs i x a b c d lt is h k e ps holds =
     let all = e (ps ++ map f (take i xs)) (f x) (k (ps ++ map f (take i xs)) [] (h ps holds)) in
     subst (λ rs. Holds d rs []) (append_assoc ps (map f (take i xs)) (f x ∷ []) ∙ ap (λ rs. ps ++ rs) (ap (λ y. map f (take i xs) ++ f y ∷ []) is ∙ sym (map_more f xs i x lt))) all
-
--- all of them
-pub all-rings : {X : Type 0} (f : X → List (List ℤ)) (xs : List X) (i : ℕ) (a b : Arrays) → length xs ≤ i → AddsRings a (map f (take i xs)) b → AddsRings a (map f xs) b
-all-rings f xs i a b le h = subst (λ ys. AddsRings a (map f ys) b) (take_all i xs le) h
-
-pub all-polygons : {X : Type 0} (f : X → List (List (List ℤ))) (xs : List X) (i : ℕ) (a b : Arrays) → length xs ≤ i → AddsPolygons a (map f (take i xs)) b → AddsPolygons a (map f xs) b
-all-polygons f xs i a b le h = subst (λ ys. AddsPolygons a (map f ys) b) (take_all i xs le) h
 
 pub ok-map : {T E : Type 0} {P Q : Type 0} (r : Result T E) → (P → Q) → OnOk r P → OnOk r Q
 ok-map (Ok x) f p = f p

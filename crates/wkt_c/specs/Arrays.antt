@@ -1,6 +1,6 @@
 -- A value as flat arrays.
-use Rattle.std.specs.Prelude.{◌≡◌, ◌+◌, ◌⊎◌, ℕ, ℤ, List, [], ◌∷◌, map, flat_map, length, Option, Some, None, option_to_list, IsUtf8, Bool}
-use Rattle.std.specs.List.{All, Contains}
+use Rattle.std.specs.Prelude.{◌≡◌, ◌⊎◌, ℕ, ℤ, List, length, Some, None, option_to_list, IsUtf8, Bool}
+use Rattle.std.specs.List.{All}
 use Rattle.wkt_num.specs.Whole.{IsSigned}
 use Rattle.wkt_num.specs.Decimal.{IsUnits}
 use Rattle.wkt_access.specs.Values.{Value}

@@ -1,5 +1,5 @@
 -- Arrays as they grow. Only private contracts cite these words.
-use Rattle.std.specs.Prelude.{◌≡◌, ◌++◌, ◌⊎◌, ℕ, ℤ, List, [], ◌∷◌, length, Some, None}
+use Rattle.std.specs.Prelude.{◌≡◌, ◌++◌, ◌⊎◌, ℕ, ℤ, List, [], ◌∷◌, length, Some}
 use Rattle.std.specs.List.{sum_by}
 use Rattle.wkt_access.specs.Values.{Value}
 use Rattle.wkt_c.specs.Arrays.{parts_of, joined, offsets, numbers_in, HasLarge}

@@ -1,6 +1,5 @@
 -- The windows so far are ASCII.
 use Rattle.std.proofs.Common.{arith}
-use Rattle.std.proofs.lemmas.Str.Ascii.{IsAscii-from_reads}
 use Rattle.wkt_c.proofs.AsciiWindows.{window-below}
 use Rattle.wkt_c.proofs.canonical.is_ascii.Goals as goal
 

@@ -1,6 +1,5 @@
 -- The text with zeros behind it is UTF-8, and walked as the text.
 use Rattle.std.proofs.Common.{◌≡◌, ◌+◌, ◌++◌, ◌∙◌, length, take, drop, sym, ap, subst, IsUtf8, rules}
-use Rattle.std.specs.Str.{IsAscii}
 use Rattle.wkt_c.specs.Calls.{IsWalkedFor}
 use Rattle.wkt_c.proofs.Padded.{front-utf8, is-walked, walked-utf8}
 use Rattle.wkt_c.proofs.canonical.write_short.Goals as goal

@@ -1,5 +1,5 @@
 -- The answers to the lines so far are there.
-use Rattle.std.proofs.Common.{◌≡◌, ◌+◌, ◌-◌, ◌<◌, ◌≤◌, ◌++◌, ◌∙◌, length, take, drop, ap, sym, subst, arith, length-drop, take_all}
+use Rattle.std.proofs.Common.{◌≡◌, ◌-◌, ◌<◌, ◌≤◌, ◌∙◌, length, take, drop, ap, sym, subst, arith, length-drop, take_all}
 use Rattle.wkt_lines.specs.Output.{IsOutput}
 use Rattle.wkt_c.specs.Answer.{read_at, print_at}
 use Rattle.wkt_c.specs.Chunks.{AreWholeLines}

@@ -1,9 +1,7 @@
 -- The line strings so far have the coordinates of their rings.
-use Rattle.std.proofs.Common.{rules, ◌≡◌, ◌<◌, ◌+◌, ◌∙◌, ◌++◌, ◌∷◌, [], ℤ, List, IfErr, map, length, ap, arith}
+use Rattle.std.proofs.Common.{rules, ◌≡◌, ◌∙◌, ◌++◌, ◌∷◌, [], map, ap, arith}
 use Rattle.std.proofs.lemmas.List.{map_push}
 use Rattle.wkt_types.specs.Values.{line_string_numbers}
-use Rattle.wkt_c.specs.Answer.{IsRefused}
-use Rattle.wkt_c.specs.Rebuilding.{IsRing}
 use Rattle.wkt_c.proofs.Offsets.{rings-step, rings-whole}
 use Rattle.wkt_c.proofs.Refused.{not-there, passed-on, no-rings, a-ring}
 use Rattle.wkt_num.specs.Decimal.{IsUnits}
@@ -13,14 +11,12 @@ use Rattle.wkt_c.proofs.rebuild.lines.Goals as goal
 
 pub returns-in_err-from-clause-err : goal.returns-in_err-from-clause-err
 returns-in_err-from-clause-err g c =
-    let h : IfErr c.from_residual.result (λ s. (s ≡ 26) × (length c.args.given.polygons.now < c.args.polygon + 2)) = search rules in
-    not-there _ (no-rings _ _ _ _ _) h
+    not-there _ (no-rings _ _ _ _ _) (search rules)
 
 pub returns-in_err-l-clause-err : goal.returns-in_err-l-clause-err
 returns-in_err-l-clause-err g c =
     let given = c.args.given in
-    let h : IfErr c.from_residual-in_err-l.result (IsRefused ((r : List (List ℤ)) × IsRing c.args.dimension given.numbers.now given.rings.now c.loop-i.i r)) = search rules in
-    passed-on _ (a-ring _ _ _ given.polygons.now c.args.polygon c.in_ok-from.from c.in_ok-from.to c.in_ok-from.ensures.ok.0 c.in_ok-from.ensures.ok.1 c.loop-i.i (omega arith)) h
+    passed-on _ (a-ring _ _ _ given.polygons.now c.args.polygon c.in_ok-from.from c.in_ok-from.to c.in_ok-from.ensures.ok.0 c.in_ok-from.ensures.ok.1 c.loop-i.i (omega arith)) (search rules)
 
 pub loop-i-preserved : goal.loop-i-preserved
 loop-i-preserved g c = record {
@@ -36,6 +32,3 @@ loop-i-preserved g c = record {
 pub returns-clause-ok : goal.returns-clause-ok
 returns-clause-ok g c = λ rs h.
     rings-whole _ _ _ _ _ rs h c.in_ok-from.from c.in_ok-from.to c.in_ok-from.ensures.ok.0 c.in_ok-from.ensures.ok.1 c.loop-i.i (omega arith) _ (c.loop-i.invariant.are rs h)
-
-pub returns-clause-fits : goal.returns-clause-fits
-returns-clause-fits g c = c.loop-i.invariant.fits

@@ -1,9 +1,7 @@
 -- The points so far have the coordinates of their rings.
-use Rattle.std.proofs.Common.{rules, ◌≡◌, ◌<◌, ◌≤◌, ◌+◌, ◌∙◌, ◌++◌, ◌∷◌, [], ℤ, List, IfErr, map, length, ap, arith}
+use Rattle.std.proofs.Common.{rules, ◌≡◌, ◌∙◌, ◌++◌, ◌∷◌, [], map, ap, arith}
 use Rattle.std.proofs.lemmas.List.{map_push}
-use Rattle.wkt_c.specs.Answer.{IsRefused}
 use Rattle.wkt_c.specs.Arrays.{member_numbers}
-use Rattle.wkt_c.specs.Rebuilding.{IsRing}
 use Rattle.wkt_c.proofs.Offsets.{rings-step, rings-whole}
 use Rattle.wkt_c.proofs.Refused.{not-there, passed-on, no-small-rings, a-small-ring}
 use Rattle.wkt_num.specs.Decimal.{IsUnits}
@@ -14,14 +12,12 @@ use Rattle.wkt_c.proofs.rebuild.points.Goals as goal
 
 pub returns-in_err-from-clause-err : goal.returns-in_err-from-clause-err
 returns-in_err-from-clause-err g c =
-    let h : IfErr c.from_residual.result (λ s. (s ≡ 26) × (length c.args.given.polygons.now < 0 + 2)) = search rules in
-    not-there _ (no-small-rings _ _ _ _ 0) h
+    not-there _ (no-small-rings _ _ _ _ 0) (search rules)
 
 pub returns-in_err-p-clause-err : goal.returns-in_err-p-clause-err
 returns-in_err-p-clause-err g c =
     let given = c.args.given in
-    let h : IfErr c.from_residual-in_err-p.result (IsRefused ((r : List (List ℤ)) × IsRing c.args.dimension given.numbers.now given.rings.now c.loop-i.i r × (length r ≤ 1))) = search rules in
-    passed-on _ (a-small-ring _ _ _ given.polygons.now 0 c.in_ok-from.from c.in_ok-from.to c.in_ok-from.ensures.ok.0 c.in_ok-from.ensures.ok.1 c.loop-i.i (omega arith) (omega arith)) h
+    passed-on _ (a-small-ring _ _ _ given.polygons.now 0 c.in_ok-from.from c.in_ok-from.to c.in_ok-from.ensures.ok.0 c.in_ok-from.ensures.ok.1 c.loop-i.i (omega arith) (omega arith)) (search rules)
 
 pub loop-i-preserved : goal.loop-i-preserved
 loop-i-preserved g c = record {
@@ -37,6 +33,3 @@ loop-i-preserved g c = record {
 pub returns-clause-ok : goal.returns-clause-ok
 returns-clause-ok g c = λ rs h.
     rings-whole _ _ _ _ _ rs h c.in_ok-from.from c.in_ok-from.to c.in_ok-from.ensures.ok.0 c.in_ok-from.ensures.ok.1 c.loop-i.i (omega arith) _ (c.loop-i.invariant.are rs h)
-
-pub returns-clause-fits : goal.returns-clause-fits
-returns-clause-fits g c = c.loop-i.invariant.fits

@@ -30,6 +30,3 @@ loop-i-preserved g c = record {
 
 pub returns-clause-ok : goal.returns-clause-ok
 returns-clause-ok g c = λ ps h. polygons-whole _ _ _ _ c.loop-i.i ps _ h (omega arith) (c.loop-i.invariant.are ps h)
-
-pub returns-clause-fits : goal.returns-clause-fits
-returns-clause-fits g c = c.loop-i.invariant.fits

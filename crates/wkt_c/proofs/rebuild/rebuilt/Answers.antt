@@ -33,22 +33,22 @@ pub returns-in_err-polygons-in-5-clause-err : goal.returns-in_err-polygons-in-5-
 returns-in_err-polygons-in-5-clause-err g c = passed-on _ (some-polygons g.row.D _ _ _ _ _ _ c.in_ok-d.ensures.ok) (search rules)
 
 pub returns-in_ok-point-in-0-clause-ok : goal.returns-in_ok-point-in-0-clause-ok
-returns-in_ok-point-in-0-clause-ok g c = λ v fits are. let given = c.args.given in built-point g.row.D given.kind given.dimension given.numbers.now given.rings.now given.polygons.now c.in_ok-d.d c.in_ok-d.ensures.ok v fits are c.in_ok-d.d refl c.in-0.is c.in_ok-point-in-0.field-0 c.in_ok-point-in-0.ensures.dim c.in_ok-point-in-0.ensures.ok
+returns-in_ok-point-in-0-clause-ok g c = λ v fits are. built-point g.row.D _ _ _ _ _ _ c.in_ok-d.ensures.ok v fits are _ refl c.in-0.is c.in_ok-point-in-0.field-0 c.in_ok-point-in-0.ensures.dim c.in_ok-point-in-0.ensures.ok
 
 pub returns-in_ok-line-in-1-clause-ok : goal.returns-in_ok-line-in-1-clause-ok
-returns-in_ok-line-in-1-clause-ok g c = λ v fits are. let given = c.args.given in built-line g.row.D given.kind given.dimension given.numbers.now given.rings.now given.polygons.now c.in_ok-d.d c.in_ok-d.ensures.ok v fits are c.in_ok-d.d refl c.in-1.is c.in_ok-line-in-1.field-0 c.in_ok-line-in-1.ensures.dim c.in_ok-line-in-1.ensures.ok
+returns-in_ok-line-in-1-clause-ok g c = λ v fits are. built-line g.row.D _ _ _ _ _ _ c.in_ok-d.ensures.ok v fits are _ refl c.in-1.is c.in_ok-line-in-1.field-0 c.in_ok-line-in-1.ensures.dim c.in_ok-line-in-1.ensures.ok
 
 pub returns-in_ok-lines-in-2-clause-ok : goal.returns-in_ok-lines-in-2-clause-ok
-returns-in_ok-lines-in-2-clause-ok g c = λ v fits are. let given = c.args.given in built-polygon g.row.D given.kind given.dimension given.numbers.now given.rings.now given.polygons.now c.in_ok-d.d c.in_ok-d.ensures.ok v fits are c.in_ok-d.d refl c.in-2.is c.new.result c.new.ensures.dim _ c.new.ensures.rings c.in_ok-lines-in-2.ensures.ok
+returns-in_ok-lines-in-2-clause-ok g c = λ v fits are. built-polygon g.row.D _ _ _ _ _ _ c.in_ok-d.ensures.ok v fits are _ refl c.in-2.is c.new.result c.new.ensures.dim _ c.new.ensures.rings c.in_ok-lines-in-2.ensures.ok
 
 pub returns-in_ok-points-in-3-clause-ok : goal.returns-in_ok-points-in-3-clause-ok
-returns-in_ok-points-in-3-clause-ok g c = λ v fits are. let given = c.args.given in built-multi_point g.row.D given.kind given.dimension given.numbers.now given.rings.now given.polygons.now c.in_ok-d.d c.in_ok-d.ensures.ok v fits are c.in_ok-d.d refl c.in-3.is c.new-in-3.result c.new-in-3.ensures.dim _ c.new-in-3.ensures.points c.in_ok-points-in-3.ensures.ok
+returns-in_ok-points-in-3-clause-ok g c = λ v fits are. built-multi_point g.row.D _ _ _ _ _ _ c.in_ok-d.ensures.ok v fits are _ refl c.in-3.is c.new-in-3.result c.new-in-3.ensures.dim _ c.new-in-3.ensures.points c.in_ok-points-in-3.ensures.ok
 
 pub returns-in_ok-lines-in-4-clause-ok : goal.returns-in_ok-lines-in-4-clause-ok
-returns-in_ok-lines-in-4-clause-ok g c = λ v fits are. let given = c.args.given in built-multi_line_string g.row.D given.kind given.dimension given.numbers.now given.rings.now given.polygons.now c.in_ok-d.d c.in_ok-d.ensures.ok v fits are c.in_ok-d.d refl c.in-4.is c.new-in-4.result c.new-in-4.ensures.dim _ c.new-in-4.ensures.line_strings c.in_ok-lines-in-4.ensures.ok
+returns-in_ok-lines-in-4-clause-ok g c = λ v fits are. built-multi_line_string g.row.D _ _ _ _ _ _ c.in_ok-d.ensures.ok v fits are _ refl c.in-4.is c.new-in-4.result c.new-in-4.ensures.dim _ c.new-in-4.ensures.line_strings c.in_ok-lines-in-4.ensures.ok
 
 pub returns-in_ok-polygons-in-5-clause-ok : goal.returns-in_ok-polygons-in-5-clause-ok
-returns-in_ok-polygons-in-5-clause-ok g c = λ v fits are. let given = c.args.given in built-multi_polygon g.row.D given.kind given.dimension given.numbers.now given.rings.now given.polygons.now c.in_ok-d.d c.in_ok-d.ensures.ok v fits are c.in_ok-d.d refl c.in-5.is c.new-in-5.result c.new-in-5.ensures.dim _ c.new-in-5.ensures.polygons c.in_ok-polygons-in-5.ensures.ok
+returns-in_ok-polygons-in-5-clause-ok g c = λ v fits are. built-multi_polygon g.row.D _ _ _ _ _ _ c.in_ok-d.ensures.ok v fits are _ refl c.in-5.is c.new-in-5.result c.new-in-5.ensures.dim _ c.new-in-5.ensures.polygons c.in_ok-polygons-in-5.ensures.ok
 
 pub returns-in_ok-point-in-0-clause-fits : goal.returns-in_ok-point-in-0-clause-fits
 returns-in_ok-point-in-0-clause-fits g c = point-formed (IsUnits g.row.D) c.in_ok-d.d c.in_ok-point-in-0.field-0 c.in_ok-point-in-0.ensures.dim c.in_ok-point-in-0.ensures.fits

@@ -12,8 +12,7 @@ use Rattle.wkt_c.proofs.rebuild.ring.Goals as goal
 
 pub returns-in_err-from-clause-err : goal.returns-in_err-from-clause-err
 returns-in_err-from-clause-err g c =
-    let h : IfErr c.from_residual.result (λ s. (s ≡ 26) × (length c.args.given.rings.now < c.args.index + 2)) = search rules in
-    not-there _ (no-bounds _ _ _ _) h
+    not-there _ (no-bounds _ _ _ _) (search rules)
 
 pub returns-in_err-c-clause-err : goal.returns-in_err-c-clause-err
 returns-in_err-c-clause-err g c =
@@ -35,6 +34,3 @@ loop-i-preserved g c = record {
 pub returns-clause-ok : goal.returns-clause-ok
 returns-clause-ok g c = λ r h.
     ring-whole _ _ _ _ r h c.in_ok-from.from c.in_ok-from.to c.in_ok-from.ensures.ok.0 c.in_ok-from.ensures.ok.1 c.loop-i.i (omega arith) _ (c.loop-i.invariant.are r h)
-
-pub returns-clause-fits : goal.returns-clause-fits
-returns-clause-fits g c = c.loop-i.invariant.fits

@@ -2,15 +2,12 @@
 use Rattle.std.proofs.Common.{rules, arith}
 use Rattle.wkt_c.specs.Arrays.{joined, member_numbers}
 use Rattle.wkt_c.proofs.Large.{full-in, err-map, in-mapped}
-use Rattle.wkt_c.proofs.Steps.{rings-more, all-rings}
+use Rattle.wkt_c.proofs.Steps.{rings-more}
 use Rattle.wkt_c.proofs.arrays.Arrays.points.Goals as goal
 
 pub loop-p-preserved : goal.loop-p-preserved
 loop-p-preserved g c =
     rings-more member_numbers c.args.points.now c.loop-p.p-index c.p-item.result _ _ _ (omega arith) c.p-item.is c.loop-p.invariant c.in_ok-point.ensures.ok
-
-pub returns-clause-ok : goal.returns-clause-ok
-returns-clause-ok g c = all-rings member_numbers c.args.points.now c.loop-p.p-index _ _ (omega arith) c.loop-p.invariant
 
 pub returns-in_err-point-clause-err : goal.returns-in_err-point-clause-err
 returns-in_err-point-clause-err g c =

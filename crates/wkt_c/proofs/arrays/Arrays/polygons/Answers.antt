@@ -3,15 +3,12 @@ use Rattle.std.proofs.Common.{rules, map, arith}
 use Rattle.wkt_types.specs.Values.{line_string_numbers, polygon_numbers}
 use Rattle.wkt_c.specs.Arrays.{numbers_in}
 use Rattle.wkt_c.proofs.Large.{full-in, err-map, in-polygons}
-use Rattle.wkt_c.proofs.Steps.{polygons-more, all-polygons}
+use Rattle.wkt_c.proofs.Steps.{polygons-more}
 use Rattle.wkt_c.proofs.arrays.Arrays.polygons.Goals as goal
 
 pub loop-y-preserved : goal.loop-y-preserved
 loop-y-preserved g c =
     polygons-more polygon_numbers c.args.polygons.now c.loop-y.y-index c.y-item.result _ _ _ _ (omega arith) c.y-item.is c.loop-y.invariant (rw c.rings.ensures at c.in_ok-lines.ensures.ok) c.in_ok-close.ensures.ok
-
-pub returns-clause-ok : goal.returns-clause-ok
-returns-clause-ok g c = all-polygons polygon_numbers c.args.polygons.now c.loop-y.y-index _ _ (omega arith) c.loop-y.invariant
 
 pub returns-in_err-lines-clause-err : goal.returns-in_err-lines-clause-err
 returns-in_err-lines-clause-err g c =
