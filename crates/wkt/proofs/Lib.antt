@@ -11,4 +11,4 @@ pub use Rattle.wkt_access.proofs.Collections
 pub use Rattle.wkt_access.proofs.Lists
 pub use Rattle.wkt_write.proofs.Members
 pub use Rattle.wkt_types.proofs.Displays
-mod Blamed
+pub mod Blamed
