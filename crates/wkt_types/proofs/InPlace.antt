@@ -1,6 +1,6 @@
 -- Lists whose items are replaced one by one, each by its image.
-use Rattle.std.proofs.Common.{◌≡◌, ℕ, zero, suc, ◌+◌, ◌<◌, ◌≤◌, refl, ap, sym, ◌∙◌, List, [], ◌∷◌, ◌++◌, length, get_or, slice_set, take, drop, map, add-one, arith}
-use Rattle.std.proofs.lemmas.List.{length-map, map-set}
+use Rattle.std.proofs.Common.{◌≡◌, ℕ, zero, suc, ◌+◌, ◌<◌, ◌≤◌, refl, ap, sym, ◌∙◌, List, [], ◌∷◌, ◌++◌, length, length-append, get_or, slice_set, take, drop, drop_of_length-le, map, append-nil, add-one, arith}
+use Rattle.std.proofs.lemmas.List.{length-map, map-set, take-append-drop, take_all}
 use Rattle.wkt_types.specs.Tree.{Tree, tree, trees_of, more_trees}
 use Rattle.wkt_types.specs.Canonical.{canonical, canonicals}
 use Rattle.wkt_types.specs.Weight.{tree_weight, trees_weight, weight, weights}
@@ -33,17 +33,12 @@ module _ {X : Type 0} (f : X → X) where
   still_there xs ys i x h e g = at_next xs i x h (g ∙ ap (λ l. get_or l i x) e)
 
   pub length_same : (xs : List X) (i : ℕ) → length (replaced i xs) ≡ length xs
-  length_same [] zero = refl
-  length_same [] (suc i) = refl
-  length_same (x ∷ xs) zero = refl
-  length_same (x ∷ xs) (suc i) = ap (λ n. suc n) (length_same xs i)
+  length_same xs i = omega (arith, length-append (map f (take i xs)) (drop i xs), length-map (take i xs) f, ap length (take-append-drop i xs), length-append (take i xs) (drop i xs))
 
   -- all are
   pub all_replaced : (xs : List X) (i : ℕ) → length xs ≤ i → replaced i xs ≡ map f xs
-  all_replaced [] zero h = refl
-  all_replaced [] (suc i) h = refl
-  all_replaced (x ∷ xs) zero h = absurd (omega arith)
-  all_replaced (x ∷ xs) (suc i) h = ap (λ zs. f x ∷ zs) (all_replaced xs i (omega arith))
+  all_replaced xs i h =
+      ap (λ ys. map f ys ++ drop i xs) (take_all i xs h) ∙ (ap (λ ys. map f xs ++ ys) (drop_of_length-le xs {i = i} h) ∙ append-nil (map f xs))
 
 set_twice : {X : Type 0} (xs : List X) (i : ℕ) (a b : X) → slice_set (slice_set xs i a) i b ≡ slice_set xs i b
 set_twice [] i a b = refl
