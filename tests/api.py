@@ -17,6 +17,8 @@ NAMED = {
     "WriteError": "wkt::error::Error",
     "ConvertError": "wkt::geo_types_from_wkt::Error",
 }
+# Words of std with which a clause may begin, which say nothing of what it states.
+OF_STD = {"IfOk", "IfSome", "IfNone", "MatchOption", "MatchResult", "OnOk", "Self"}
 ITEM = re.compile(r"\s*(pub(\(\w+\))? )?(unsafe )?((fn|struct|enum|trait|const|type|impl|mod|static)\b|ghost \w+[:= ]|macro_rules!)")
 
 
@@ -61,13 +63,14 @@ class Item:
         return re.sub(r"\s*[{;]$", "", text).removeprefix("pub ")
 
     def clauses(self):
-        """The names of its clauses; a lone one has none."""
+        """The names of its clauses; a lone one has none, and is shown by its definition."""
         found = []
         for line in self.head:
-            clause = re.match(r"\s*(requires|ensures)\b\s*(\w*)\s*\{", line)
+            clause = re.match(r"\s*(requires|ensures)\b\s*(\w*)\s*\{\s*([A-Z]\w+)?", line)
             if clause:
                 word = "requires " if clause.group(1) == "requires" else ""
-                found.append(word + (f"`{clause.group(2)}`" if clause.group(2) else "one"))
+                by = f"by `{clause.group(3)}`" if clause.group(3) and clause.group(3) not in OF_STD else "one"
+                found.append(word + (f"`{clause.group(2)}`" if clause.group(2) else by))
         return ", ".join(found)
 
 
@@ -199,7 +202,8 @@ def main():
     crates = {}
     print("# Public items\n")
     print("Made by `tests/api.py` from the sources; the gate compares. Each item under the path that a caller names it by, with")
-    print("the first sentence of its docs and its clauses by name (*one*: a clause without a name).")
+    print("the first sentence of its docs and its clauses by name (*one*: a clause without a name; *by*: one that this definition")
+    print("states).")
     for door in DOORS:
         base = os.path.join(ROOT, "crates", door, "src")
         sections = {}
