@@ -243,7 +243,7 @@ mutual
   canons_are no_trees = refl
   canons_are (more_trees t ts) = ap₂ Values.more_values (canon_is t) (canons_are ts)
 
-pub told_alike : {T : Type 0} {E : T → T → Bool} → IsExact E → (s t : Tree T) (b : Bool) → b ≡ tree_alike E s t →
+pub reported_alike : {T : Type 0} {E : T → T → Bool} → IsExact E → (s t : Tree T) (b : Bool) → b ≡ tree_alike E s t →
     IsTrue b ↔ (canon (tree_shape s) ≡ canon (tree_shape t))
-told_alike e s t b h =
+reported_alike e s t b h =
     (λ y. canon_is s ∙ (tree_only e s t (sym h ∙ y) ∙ sym (canon_is t)), λ p. h ∙ tree_each e s t (sym (canon_is s) ∙ (p ∙ canon_is t)))

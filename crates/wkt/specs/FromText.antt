@@ -67,8 +67,8 @@ UnlessReader (Err (Reader e)) P = Unit {0}
 UnlessReader _ P = P
 
 -- Why the bytes of a source are no text.
-abbrev pub IsUntold : List ℕ → ConvertError → Type 0
-IsUntold bytes (Reader e) = Unit {0}
-IsUntold bytes Utf8 = IsUtf8 bytes → ⊥
-IsUntold bytes (Memory e) = Unit {0}
-IsUntold bytes _ = ⊥
+abbrev pub AreNoText : List ℕ → ConvertError → Type 0
+AreNoText bytes (Reader e) = Unit {0}
+AreNoText bytes Utf8 = IsUtf8 bytes → ⊥
+AreNoText bytes (Memory e) = Unit {0}
+AreNoText bytes _ = ⊥

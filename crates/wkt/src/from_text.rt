@@ -5,7 +5,7 @@ ghost use Rattle.std.specs.String.{string_bytes};
 ghost use Rattle.wkt_num.specs.Sink.{next_count};
 ghost use Rattle.wkt_types.specs.Tree.{tree};
 ghost use Rattle.wkt_read.specs.Answered.{IsFront};
-ghost use Rattle.wkt.specs.FromText.{TextAnswers, BytesAnswer, OnAllRead, OnReader, UnlessReader, IsUnread, IsUntold};
+ghost use Rattle.wkt.specs.FromText.{TextAnswers, BytesAnswer, OnAllRead, OnReader, UnlessReader, IsUnread, AreNoText};
 
 use std::alloc::Global;
 use wkt_bytes::{ByteSource, ReadAllError, read_all};
@@ -76,7 +76,7 @@ fn read_text<T: WktNum>(alloc: Global, text: &str) -> Result<Wkt<T>, ConvertErro
 
 /// The text that the source holds.
 fn text_from<R: ByteSource>(alloc: Global, reader: &mut R) -> Result<String, ConvertError>
-    ensures text { IfSome (R.left reader.old) (λ bs. MatchResult result (λ s. string_bytes s ≡ bs) (IsUntold bs)) }
+    ensures text { IfSome (R.left reader.old) (λ bs. MatchResult result (λ s. string_bytes s ≡ bs) (AreNoText bs)) }
     ensures end { OnAllRead result (IsAtEnd (R.left reader.new)) }
     ensures failed { OnReader result (R.failures reader.new ≡ next_count (R.failures reader.old)) }
     ensures count { UnlessReader result (R.failures reader.new ≡ R.failures reader.old) }

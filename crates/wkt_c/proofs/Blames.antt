@@ -25,11 +25,11 @@ bad-number message.BadNumber e = refl
 
 pub refused-with : {N : Type 0} (read : List ℕ → Option N) (text : List ℕ) (m : Message) (status : ℕ) → HasNoFront read text → IsRefusedWith read text m →
     status ≡ message_number m → 1 ≤ status → status ≤ 13 → Refuses read text status
-refused-with read text m status none told is least most =
-    let (lexemes, left, split, e) = told in
+refused-with read text m status none reported is least most =
+    let (lexemes, left, split, e) = reported in
     record {
       no_front = λ _ _. none;
-      message = λ _ _. (m, is, told);
+      message = λ _ _. (m, is, reported);
       bad = λ k. (lexemes, split, bad_here read (length lexemes) false lexemes left m e (bad-number m (sym is ∙ k)));
       not_utf8 = λ k _. omega (arith, k, most);
       others = inl (omega (arith, most));

@@ -33,13 +33,13 @@ module _ (asked : ℕ) (text : List ℕ) (status : ℕ) where
       length answer ≤ 2 * length text + 65 → (status ≢ 30 → EndsAsAsked (asks_whole asked) text end') → (status ≡ 0 → IsHandedOut answer needed' out out') → (status ≡ 21 → HasNoRoom answer needed' out) →
       (status ≡ 30 → (asks_whole asked ≡ true) × (AllWhite (drop end' text) → ⊥)) → (1 ≤ status → out' ≡ out) → (status ≡ 30 → needed' ≡ needed) →
       (status ≡ 0) ⊎ ((status ≡ 21) ⊎ (status ≡ 30)) → AnswersCanonical asked text status out out' needed needed' end end'
-  handed-call answer out out' needed needed' end end' is short ends stands lacks more kept told three = record {
+  handed-call answer out out' needed needed' end end' is short ends stands lacks more kept reported three = record {
     written = λ e. (answer, is, ends (λ n. omega (arith, e, n)), stands e);
     small = λ e. (answer, is, ends (λ n. omega (arith, e, n)), lacks e);
     more = λ e. let h = more e in record { asked = h.0; utf8 = is.0; value = is.1.value; front = is.1.front; more = h.1 };
     others = λ some n m. absurd (elim three [ inl z ↦ omega (arith, z, some) | inr k ↦ elim k [ inl a ↦ n a | inr b ↦ m b ] ]);
     kept = kept;
     bound = λ e. elim e [ inl z ↦ omega (arith, (stands z).size, short) | inr k ↦ omega (arith, (lacks k).size, short) ];
-    needed_kept = λ some n. elim three [ inl z ↦ absurd (omega (arith, z, some)) | inr k ↦ elim k [ inl a ↦ absurd (n a) | inr b ↦ told b ] ];
+    needed_kept = λ some n. elim three [ inl z ↦ absurd (omega (arith, z, some)) | inr k ↦ elim k [ inl a ↦ absurd (n a) | inr b ↦ reported b ] ];
     end_kept = λ some n m. absurd (elim three [ inl z ↦ omega (arith, z, some) | inr k ↦ elim k [ inl a ↦ n a | inr b ↦ m b ] ]);
   }

@@ -5,7 +5,7 @@ use Rattle.wkt_c.specs.Arrays.{AreOf}
 use Rattle.wkt_c.specs.declared.sizes.WktSizes.{WktSizes}
 
 -- The arrays of the text's front, and the sizes that are returned.
-pub record AreTold (places : ℕ) (text : List ℕ) (s : WktSizes) : Type 0 where
+pub record AreReported (places : ℕ) (text : List ℕ) (s : WktSizes) : Type 0 where
   pub ns : List ℤ
   pub rs : List ℕ
   pub ps : List ℕ
@@ -16,12 +16,12 @@ pub record AreTold (places : ℕ) (text : List ℕ) (s : WktSizes) : Type 0 wher
 
 -- They stand at the fronts of the buffers.
 pub record AreHandedOut (places : ℕ) (text : List ℕ) (s : WktSizes) (numbers numbers' : List ℤ) (rings rings' polygons polygons' : List ℕ) : Type 0 where
-  pub told : AreTold places text s
-  pub numbers_in : numbers' ≡ with_front told.ns numbers
-  pub rings_in : rings' ≡ with_front told.rs rings
-  pub polygons_in : polygons' ≡ with_front told.ps polygons
+  pub reported : AreReported places text s
+  pub numbers_in : numbers' ≡ with_front reported.ns numbers
+  pub rings_in : rings' ≡ with_front reported.rs rings
+  pub polygons_in : polygons' ≡ with_front reported.ps polygons
 
 -- A buffer has no room for its array.
 pub record HaveNoRoom (places : ℕ) (text : List ℕ) (s : WktSizes) (numbers : List ℤ) (rings polygons : List ℕ) : Type 0 where
-  pub told : AreTold places text s
-  pub small : (length numbers < length told.ns) ⊎ ((length rings < length told.rs) ⊎ (length polygons < length told.ps))
+  pub reported : AreReported places text s
+  pub small : (length numbers < length reported.ns) ⊎ ((length rings < length reported.rs) ⊎ (length polygons < length reported.ps))

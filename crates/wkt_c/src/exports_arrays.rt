@@ -93,8 +93,8 @@ pub extern "C" fn wkt_column_arrays(
     ensures filled { result ≡ DONE → AreFilled places texts.now offsets.now valid.now statuses.new sizes.new numbers.old
         rings.old polygons.old (as_column kinds.new dimensions.new numbers.new number_offsets.new rings.new
         ring_offsets.new polygons.new polygon_offsets.new) }
-    ensures small { result ≡ SMALL → (arrays : ColumnArrays) × (told : List ℕ) × AreColumnArrays places texts.now
-        offsets.now valid.now arrays told × LackRoom arrays sizes.new (as_column kinds.old dimensions.old numbers.old
+    ensures small { result ≡ SMALL → (arrays : ColumnArrays) × (reported : List ℕ) × AreColumnArrays places texts.now
+        offsets.now valid.now arrays reported × LackRoom arrays sizes.new (as_column kinds.old dimensions.old numbers.old
         number_offsets.old rings.old ring_offsets.old polygons.old polygon_offsets.old) }
     ensures column { (result ≡ DONE) ⊎ (result ≡ SMALL) → IsTextColumn texts.now offsets.now valid.now (as_column kinds.old
         dimensions.old numbers.old number_offsets.old rings.old ring_offsets.old polygons.old polygon_offsets.old)
@@ -173,9 +173,9 @@ pub extern "C" fn wkt_column_from_arrays(
     ensures written { result ≡ DONE → (answers : List ℕ) × AreColumnTexts places (as_column kinds.now dimensions.now
         numbers.now number_offsets.now rings.now ring_offsets.now polygons.now polygon_offsets.now) valid.now answers
         out_offsets.new statuses.new × IsHandedOut answers needed.new out.old out.new }
-    ensures small { result ≡ SMALL → (answers : List ℕ) × (ends : List ℕ) × (told : List ℕ) × AreColumnTexts places
+    ensures small { result ≡ SMALL → (answers : List ℕ) × (ends : List ℕ) × (reported : List ℕ) × AreColumnTexts places
         (as_column kinds.now dimensions.now numbers.now number_offsets.now rings.now ring_offsets.now polygons.now
-        polygon_offsets.now) valid.now answers ends told × HasNoRoom answers needed.new out.old }
+        polygon_offsets.now) valid.now answers ends reported × HasNoRoom answers needed.new out.old }
     ensures column { (result ≡ DONE) ⊎ (result ≡ SMALL) → IsArrayColumn (as_column kinds.now dimensions.now numbers.now
         number_offsets.now rings.now ring_offsets.now polygons.now polygon_offsets.now) valid.now out_offsets.old
         statuses.old }

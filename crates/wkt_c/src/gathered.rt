@@ -76,9 +76,9 @@ impl Gathered {
 impl TextSink for Gathered {
     ghost use Rattle.wkt_c.specs.Gathered.{gathered, failed_calls};
 
-    ghost sink = { telling gathered failed_calls };
+    ghost sink = { revealing gathered failed_calls };
 
-    ghost use Rattle.wkt_num.specs.Sink.{telling};
+    ghost use Rattle.wkt_num.specs.Sink.{revealing};
 
     fn write_str(&mut self, piece: &str) -> fmt::Result {
         if self.keep(piece.as_bytes()) {

@@ -22,8 +22,8 @@ unfolding class_in
 class-feed n b h z = ap (λ t. class_in (not t) b) (ne_eqb n 0 h) ∙ ap (λ t. if t then Nul else class_of b) (eq-eqb b 10 z)
 
 -- a test for white space where another class is the same
-pub tells-white : (t : Bool) (c k : Class) → c ≡ k → IsTrue t ↔ (k ≡ White) → IsTrue t ↔ (c ≡ White)
-tells-white t c k e h = ((λ is. e ∙ h.0 is), (λ is. h.1 (sym e ∙ is)))
+pub reports-white : (t : Bool) (c k : Class) → c ≡ k → IsTrue t ↔ (k ≡ White) → IsTrue t ↔ (c ≡ White)
+reports-white t c k e h = ((λ is. e ∙ h.0 is), (λ is. h.1 (sym e ∙ is)))
 
 pub white-none : (c : Class) → c ≡ Nul → IsTrue false ↔ (c ≡ White)
 white-none c e = ((λ h. cc), (λ is. let q : Nul ≡ White = sym e ∙ is in cc))

@@ -8,7 +8,7 @@ use Rattle.wkt_num.specs.Bytes.{Lexeme, Word, Class, Nul, White, Mark, Run}
 use Rattle.wkt_read.specs.Lexemes.{lexeme_of}
 use Rattle.wkt_read.specs.Parser.Outcome.{is_empty_word}
 use Rattle.wkt_read.proofs.LawLemmas.Headers.{word_run}
-use Rattle.wkt_read.proofs.ParserLemmas.Told.{empty_is}
+use Rattle.wkt_read.proofs.ParserLemmas.Reported.{empty_is}
 use Rattle.wkt_events.specs.Left.{class_in, left}
 use Rattle.wkt_events.specs.Heads.{BeginsWord, LacksEmpty}
 use Rattle.wkt_events.proofs.Lefts.{left-begins}

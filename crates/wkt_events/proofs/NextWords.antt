@@ -12,7 +12,7 @@ use Rattle.wkt_read.specs.Grammar.{KindWord, kind_word, dim_word}
 use Rattle.wkt_read.specs.Parser.Outcome.{Outcome, ◌>>=◌, opening_at, worded, numbered, dimension_at, no_kind, kinded, header_at, is_empty_word}
 use Rattle.wkt_read.specs.declared.messages.Message.TheVariants as message
 use Rattle.wkt_read.proofs.LawLemmas.Headers.{word_run}
-use Rattle.wkt_read.proofs.ParserLemmas.Told.{empty_is}
+use Rattle.wkt_read.proofs.ParserLemmas.Reported.{empty_is}
 use Rattle.wkt_read.proofs.ParserLemmas.Readings.{empty_no_dim}
 use Rattle.wkt_events.specs.Left.{class_in, left, left_placed, IsRunEnd, TakesOne, IsMark, BeginsOther}
 use Rattle.wkt_events.specs.Heads.{Headed, headed_at, LacksEmpty}

@@ -12,7 +12,7 @@ use Rattle.wkt_access.specs.declared.dimensions.Dimension.TheVariants.{XYZ, XYM,
 use Rattle.wkt_read.specs.Lexemes.{lexeme_of, starts_number, without_plus}
 use Rattle.wkt_read.specs.Grammar.{KindWord, kind_words, entry_in, kind_word, dim_word}
 use Rattle.wkt_read.specs.Parser.Outcome.{is_empty_word}
-use Rattle.wkt_read.proofs.ParserLemmas.Told.{empty_is}
+use Rattle.wkt_read.proofs.ParserLemmas.Reported.{empty_is}
 use Rattle.wkt_events.specs.Makers.{name_length}
 
 -- a word in capitals begins with a letter

@@ -10,7 +10,7 @@ use Rattle.wkt_num.specs.Bytes.{Lexeme}
 use Rattle.wkt_read.specs.declared.messages.Message.{Message}
 use Rattle.wkt_read.specs.declared.messages.Message.TheVariants as message
 use Rattle.wkt_explain.specs.declared.expected.Expected.{Expected}
-use Rattle.wkt_explain.specs.Table.{at_place, stays, closing, closings, told}
+use Rattle.wkt_explain.specs.Table.{at_place, stays, closing, closings, reported}
 
 -- the message of equal answers
 pub message_of : {y z : Message × List Lexeme} → y ≡ z → y.0 ≡ z.0
@@ -48,11 +48,11 @@ module _ {N : Type 0} (read : List ℕ → Option N) where
 
   -- the table, by whether the lexeme is taken
   module _ (e : Expected) (n : ℕ) (l : Lexeme) (r : List Lexeme) (m : Message) (place : m ≡ at_place read e (l ∷ r)) where
-    pub told_taken : (k : Message) → false ≡ stays read e l → k ≡ (closings read n m r).0 → k ≡ told read e n (l ∷ r)
-    told_taken k taken is = is ∙ ap (λ m. (closings read n m r).0) place ∙ ap (λ b. (closings read n (at_place read e (l ∷ r)) (if b then l ∷ r else r)).0) taken
+    pub reported_taken : (k : Message) → false ≡ stays read e l → k ≡ (closings read n m r).0 → k ≡ reported read e n (l ∷ r)
+    reported_taken k taken is = is ∙ ap (λ m. (closings read n m r).0) place ∙ ap (λ b. (closings read n (at_place read e (l ∷ r)) (if b then l ∷ r else r)).0) taken
 
-    pub told_stayed : (k : Message) → true ≡ stays read e l → k ≡ (closings read n m (l ∷ r)).0 → k ≡ told read e n (l ∷ r)
-    told_stayed k stayed is = is ∙ ap (λ m. (closings read n m (l ∷ r)).0) place ∙ ap (λ b. (closings read n (at_place read e (l ∷ r)) (if b then l ∷ r else r)).0) stayed
+    pub reported_stayed : (k : Message) → true ≡ stays read e l → k ≡ (closings read n m (l ∷ r)).0 → k ≡ reported read e n (l ∷ r)
+    reported_stayed k stayed is = is ∙ ap (λ m. (closings read n m (l ∷ r)).0) place ∙ ap (λ b. (closings read n (at_place read e (l ∷ r)) (if b then l ∷ r else r)).0) stayed
 
   -- the first of the parentheses has to close where this lexeme stands
   pub closed_first : (n j : ℕ) (l : Lexeme) (r : List Lexeme) (m after k : Message) → closing read m (l ∷ r) ≡ (after, r) → j + 1 ≡ n → k ≡ (closings read j after r).0 → k ≡ (closings read n m (l ∷ r)).0
@@ -64,8 +64,8 @@ module _ {N : Type 0} (read : List ℕ → Option N) where
   none_closes n ls m none = ap (λ n. (closings read n m ls).0) none
 
   -- the text ends
-  pub told_end : (e : Expected) (n : ℕ) → 0 < n → message.Close ≡ told read e n []
-  told_end e n some = message_of (sym (closings_end n (at_place read e []) some))
+  pub reported_end : (e : Expected) (n : ℕ) → 0 < n → message.Close ≡ reported read e n []
+  reported_end e n some = message_of (sym (closings_end n (at_place read e []) some))
 
-  pub told_alone : (e : Expected) (n : ℕ) → 0 ≡ n → at_place read e [] ≡ told read e n []
-  told_alone e n none = ap (λ n. told read e n []) none
+  pub reported_alone : (e : Expected) (n : ℕ) → 0 ≡ n → at_place read e [] ≡ reported read e n []
+  reported_alone e n none = ap (λ n. reported read e n []) none

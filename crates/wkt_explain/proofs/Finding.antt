@@ -11,7 +11,7 @@ use Rattle.wkt_read.specs.Front.{HasNoFront}
 use Rattle.wkt_read.specs.Lexemes.{IsSplit}
 use Rattle.wkt_read.specs.Placed.{Placed, lexemes_of, end_after, AreEnds, placed}
 use Rattle.wkt_read.proofs.LawLemmas.Few.{placed-few}
-use Rattle.wkt_read.proofs.ParserLemmas.Told.{opens_append, closes_append}
+use Rattle.wkt_read.proofs.ParserLemmas.Reported.{opens_append, closes_append}
 use Rattle.wkt_read.proofs.TokenizerLemmas.Placings.{placed-split, placed-ends}
 use Rattle.wkt_explain.specs.declared.expected.Expected.{Expected}
 use Rattle.wkt_explain.specs.declared.expected.Expected.TheVariants as expected
@@ -20,7 +20,7 @@ use Rattle.wkt_explain.specs.declared.place.Walk.{Walk}
 use Rattle.wkt_explain.specs.declared.seen.Seen.{Seen}
 use Rattle.wkt_explain.specs.Explained.{HasFront, IsExpectedAfter, IsRefusedAt}
 use Rattle.wkt_explain.specs.Walks.{Shows, start, next, is_over, expected_at}
-use Rattle.wkt_explain.specs.Table.{told, before_place, IsToldAt}
+use Rattle.wkt_explain.specs.Table.{reported, before_place, IsReportedAt}
 use Rattle.wkt_explain.specs.White.{IsPastWhite}
 use Rattle.wkt_explain.proofs.Named.{Agrees, agrees, sees}
 use Rattle.wkt_explain.proofs.Marks.{Mark, Fault, value_m}
@@ -106,7 +106,7 @@ module _ {N : Type 0} (read : List ℕ → Option N) where
         let here : value_at read (length all) false all ≡ Err bad.1 = subst (λ l. value_at read (length l) false l ≡ Err bad.1) (sym e) answer in
         (all, bad.1.1, placed-split text, here ∙ ap (λ m. Err (m, bad.1.1)) (sym is))
 
-    table_at : (from to : ℕ) (e : Expected) (k : Message) (before there : List Lexeme) (h : (r : IsRefusedAt read text from to e) × (before_place read r ≡ before)) → all ≡ before ++ there → (n : ℕ) → n + closes before ≡ opens before → k ≡ told read e n there → IsToldAt read text from to e k
+    table_at : (from to : ℕ) (e : Expected) (k : Message) (before there : List Lexeme) (h : (r : IsRefusedAt read text from to e) × (before_place read r ≡ before)) → all ≡ before ++ there → (n : ℕ) → n + closes before ≡ opens before → k ≡ reported read e n there → IsReportedAt read text from to e k
     table_at from to e k before there h split n counted is = record {
       refused = h.0;
       there = there;
@@ -171,13 +171,13 @@ module _ {N : Type 0} (read : List ℕ → Option N) where
       whole_text = ap lexemes_of split_at ∙ lexemes_append b.given (x ∷ later)
 
       -- with which message the readers refuse it
-      pub message_at_fault : None ≡ next w s → (m : Expected) → m ≡ expected_at w.place w.depth → (k : Message) → k ≡ told read m (parens w) bad → IsRefusedWith read text k
+      pub message_at_fault : None ≡ next w s → (m : Expected) → m ≡ expected_at w.place w.depth → (k : Message) → k ≡ reported read m (parens w) bad → IsRefusedWith read text k
       message_at_fault is m em k ek =
-          refused_message (before ++ bad) (stop_at read w.place w.depth bad) whole_text (stopped is) k (ek ∙ ap (λ e. told read e (parens w) bad) em)
+          refused_message (before ++ bad) (stop_at read w.place w.depth bad) whole_text (stopped is) k (ek ∙ ap (λ e. reported read e (parens w) bad) em)
 
       -- by the table
-      pub told_at_fault : (to : ℕ) → None ≡ next w s → IsPastWhite text end to → (m : Expected) → m ≡ expected_at w.place w.depth → (k : Message) → k ≡ told read m (parens w) bad → IsToldAt read text to x.end m k
-      told_at_fault to is past m em k ek = table_at to x.end m k before bad (refused_there to is past m em) whole_text (parens w) b.counted ek
+      pub reported_at_fault : (to : ℕ) → None ≡ next w s → IsPastWhite text end to → (m : Expected) → m ≡ expected_at w.place w.depth → (k : Message) → k ≡ reported read m (parens w) bad → IsReportedAt read text to x.end m k
+      reported_at_fault to is past m em k ek = table_at to x.end m k before bad (refused_there to is past m em) whole_text (parens w) b.counted ek
 
     -- no lexeme is left
     module _ (left : List Placed) (end : ℕ) (w : Walk) (b : IsBefore left end w) (e : left ≡ []) (goes : is_over w ≡ false) where
@@ -203,12 +203,12 @@ module _ {N : Type 0} (read : List ℕ → Option N) where
       whole_end : all ≡ lexemes_of b.given ++ []
       whole_end = ap lexemes_of split_end ∙ sym (append-nil (lexemes_of b.given))
 
-      pub message_at_end : (m : Expected) → m ≡ expected_at w.place w.depth → (k : Message) → k ≡ told read m (parens w) [] → IsRefusedWith read text k
+      pub message_at_end : (m : Expected) → m ≡ expected_at w.place w.depth → (k : Message) → k ≡ reported read m (parens w) [] → IsRefusedWith read text k
       message_at_end m em k ek =
-          refused_message (lexemes_of b.given ++ []) (stop_at read w.place w.depth []) whole_end stopped_end k (ek ∙ ap (λ e. told read e (parens w) []) em)
+          refused_message (lexemes_of b.given ++ []) (stop_at read w.place w.depth []) whole_end stopped_end k (ek ∙ ap (λ e. reported read e (parens w) []) em)
 
-      pub told_at_end : (to : ℕ) → IsPastWhite text end to → (m : Expected) → m ≡ expected_at w.place w.depth → (k : Message) → k ≡ told read m (parens w) [] → IsToldAt read text to to m k
-      told_at_end to past m em k ek = table_at to to m k (lexemes_of b.given) [] (refused_end to past m em) whole_end (parens w) b.counted ek
+      pub reported_at_end : (to : ℕ) → IsPastWhite text end to → (m : Expected) → m ≡ expected_at w.place w.depth → (k : Message) → k ≡ reported read m (parens w) [] → IsReportedAt read text to to m k
+      reported_at_end to past m em k ek = table_at to to m k (lexemes_of b.given) [] (refused_end to past m em) whole_end (parens w) b.counted ek
 
     -- a geometry was walked over
     pub at_over : (left : List Placed) (end : ℕ) (w : Walk) → IsBefore left end w → is_over w ≡ true → HasFront read text

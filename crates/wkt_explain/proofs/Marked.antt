@@ -10,14 +10,14 @@ use Rattle.wkt_read.specs.Grammar.{KindWord, kind_word, dim_word}
 use Rattle.wkt_read.specs.Parser.Outcome.{is_empty_word, members_read, unless_bad, opening_at, closing_at, number_in, number_at, worded, numbered, dimension_at, no_kind}
 use Rattle.wkt_read.specs.declared.messages.Message.{Message}
 use Rattle.wkt_read.specs.declared.messages.Message.TheVariants as message
-use Rattle.wkt_read.proofs.ParserLemmas.Tells.{Telling, told, tell, andthen, fronted, mapped, after_error, closed_f, framed_f, tail_f, many_f, numbers_f, coord_f, joined_or_f, kinded_f, header_f, inside_f, member_f, line_string_f, line_strings_f, polygons_f, points_f, body_f, value_f}
+use Rattle.wkt_read.proofs.ParserLemmas.Reporting.{Reporting, reported, report, andthen, fronted, mapped, after_error, closed_f, framed_f, tail_f, many_f, numbers_f, coord_f, joined_or_f, kinded_f, header_f, inside_f, member_f, line_string_f, line_strings_f, polygons_f, points_f, body_f, value_f}
 use Rattle.wkt_explain.specs.declared.expected.Expected.{Expected}
 use Rattle.wkt_explain.specs.declared.expected.Expected.TheVariants as expected
 use Rattle.wkt_explain.specs.Walks.{part_of, numbers_after, number_expected}
 use Rattle.wkt_explain.specs.Table.{at_end, at_other, at_word, at_bad, at_number, is_unread, stays, closing, unclosed}
 use Rattle.wkt_explain.proofs.Marks.{Fault, Mark, then_m, tail_m, fault, close_m, shut, opened_m, items_m, number_in_m, number_m, numbers_m, coord_m, list_m, member_m, part_m, worded_m, dimension_m, joined_m, kind_m, geometry_m, value_m}
 
-abbrev pub mark : {A : Type 0} → Telling A → Mark
+abbrev pub mark : {A : Type 0} → Reporting A → Mark
 mark (Ok p) = Ok p.1
 mark (Err r) = Err r
 
@@ -26,15 +26,15 @@ abbrev pub place_of : Bool → Expected
 place_of true = expected.Member
 place_of false = expected.Kind
 
-mark_then : {A B : Type 0} (t : Telling A) (f : A × List Lexeme → Telling B) (m : Mark) (g : List Lexeme → Mark) → mark t ≡ m → ((p : A × List Lexeme) → mark (f p) ≡ g p.1) → mark (andthen t f) ≡ then_m m g
+mark_then : {A B : Type 0} (t : Reporting A) (f : A × List Lexeme → Reporting B) (m : Mark) (g : List Lexeme → Mark) → mark t ≡ m → ((p : A × List Lexeme) → mark (f p) ≡ g p.1) → mark (andthen t f) ≡ then_m m g
 mark_then (Ok p) f m g e h = h p ∙ ap (λ s. then_m s g) e
 mark_then (Err r) f m g e h = ap (λ s. then_m s g) e
 
-mark_front : {A : Type 0} (front : List A) (t : Telling (List A)) → mark (fronted front t) ≡ mark t
+mark_front : {A : Type 0} (front : List A) (t : Reporting (List A)) → mark (fronted front t) ≡ mark t
 mark_front front (Ok p) = refl
 mark_front front (Err r) = refl
 
-mark_map : {A B : Type 0} (m : A → B) (t : Telling A) → mark (mapped m t) ≡ mark t
+mark_map : {A B : Type 0} (m : A → B) (t : Reporting A) → mark (mapped m t) ≡ mark t
 mark_map m (Ok p) = refl
 mark_map m (Err r) = refl
 
@@ -51,7 +51,7 @@ module _ {N : Type 0} (read : List ℕ → Option N) where
   unless_number (Some x) e m other bad = sym other
   unless_number None e m other bad = sym bad
 
-  mark_close : {A : Type 0} (a : A) (ls : List Lexeme) → mark (andthen (tell (closing_at read) ls) (λ c. Ok (a, c.1))) ≡ close_m read ls
+  mark_close : {A : Type 0} (a : A) (ls : List Lexeme) → mark (andthen (report (closing_at read) ls) (λ c. Ok (a, c.1))) ≡ close_m read ls
   unfolding closing_at
   mark_close a (Num w ∷ r) = ap (λ m. Err (Num w ∷ r, (m, r))) (unless_unclosed (read w))
   mark_close a ls = refl
@@ -61,13 +61,13 @@ module _ {N : Type 0} (read : List ℕ → Option N) where
   mark_after m (Num w ∷ r) = ap (λ m. (m, r)) (unless_unclosed (read w))
   mark_after m ls = refl
 
-  mark_closed : {A : Type 0} (t : Telling A) (m : Mark) → mark t ≡ m → mark (closed_f read t) ≡ shut read m
+  mark_closed : {A : Type 0} (t : Reporting A) (m : Mark) → mark t ≡ m → mark (closed_f read t) ≡ shut read m
   unfolding closed_f
   mark_closed (Ok p) m e = mark_close p.0 p.1 ∙ ap (shut read) e
   mark_closed (Err r) m e = ap (λ x. Err (r.0, x)) (mark_after r.1.0 r.1.1) ∙ ap (shut read) e
 
-  module _ {A : Type 0} (empty : A) (body : List Lexeme → Telling A) (b : List Lexeme → Mark) (h : (r : List Lexeme) → mark (closed_f read (body r)) ≡ b r) where
-    mark_word : (c : Bool) (w : List ℕ) (r : List Lexeme) → mark (andthen (told (Word w ∷ r) (cond c (Ok (false, r)) (Err (message.Open, r)))) (λ o. cond o.0 (closed_f read (body o.1)) (Ok (empty, o.1)))) ≡ cond c (Ok r) (Err (fault read expected.Opening (Word w ∷ r)))
+  module _ {A : Type 0} (empty : A) (body : List Lexeme → Reporting A) (b : List Lexeme → Mark) (h : (r : List Lexeme) → mark (closed_f read (body r)) ≡ b r) where
+    mark_word : (c : Bool) (w : List ℕ) (r : List Lexeme) → mark (andthen (reported (Word w ∷ r) (cond c (Ok (false, r)) (Err (message.Open, r)))) (λ o. cond o.0 (closed_f read (body o.1)) (Ok (empty, o.1)))) ≡ cond c (Ok r) (Err (fault read expected.Opening (Word w ∷ r)))
     mark_word true w r = refl
     mark_word false w r = refl
 
@@ -78,7 +78,7 @@ module _ {N : Type 0} (read : List ℕ → Option N) where
     mark_framed (Num w ∷ r) = ap (λ m. Err (Num w ∷ r, (m, r))) (unless_number (read w) expected.Opening message.Open refl refl)
     mark_framed ls = refl
 
-  module _ {A : Type 0} (item : List Lexeme → Telling A) (it : List Lexeme → Mark) (same : (ls : List Lexeme) → mark (item ls) ≡ it ls) where
+  module _ {A : Type 0} (item : List Lexeme → Reporting A) (it : List Lexeme → Mark) (same : (ls : List Lexeme) → mark (item ls) ≡ it ls) where
     mark_tail : (n : ℕ) (ls : List Lexeme) → mark (tail_f item n ls) ≡ tail_m it n ls
     unfolding tail_f
     mark_tail zero (Comma ∷ r) = refl
@@ -96,11 +96,11 @@ module _ {N : Type 0} (read : List ℕ → Option N) where
     mark_taken : (x : Lexeme) (r : List Lexeme) (k l : Message) → k ≡ l → ◌≡◌ {A = Mark} (Err (x ∷ r, (l, r))) (Err (x ∷ r, (k, if stays read e x then x ∷ r else r)))
     mark_taken x r k l is = ap (λ l. Err (x ∷ r, (l, r))) (sym is) ∙ ap (λ b. Err (x ∷ r, (k, if b then x ∷ r else r))) (sym (taken x))
 
-    mark_in : (o : Option N) (run : List ℕ) (r : List Lexeme) → read run ≡ o → mark (told (Num run ∷ r) (number_in read o r)) ≡ number_in_m read o e run r
+    mark_in : (o : Option N) (run : List ℕ) (r : List Lexeme) → read run ≡ o → mark (reported (Num run ∷ r) (number_in read o r)) ≡ number_in_m read o e run r
     mark_in (Some x) run r is = refl
     mark_in None run r is = mark_taken (Num run) r (at_number read (read run) e) message.BadNumber (ap (λ o. at_number read o e) is ∙ bad)
 
-    mark_number : (ls : List Lexeme) → mark (tell (number_at read m) ls) ≡ number_m read e ls
+    mark_number : (ls : List Lexeme) → mark (report (number_at read m) ls) ≡ number_m read e ls
     unfolding number_at
     mark_number [] = ap (λ k. Err ([], (k, []))) (sym end)
     mark_number (Num run ∷ r) = mark_in (read run) run r refl
@@ -109,24 +109,24 @@ module _ {N : Type 0} (read : List ℕ → Option N) where
     mark_number (Comma ∷ r) = mark_taken Comma r (at_other e) m other
     mark_number (Word w ∷ r) = mark_taken (Word w) r (at_word e w) m (word w)
 
-  mark_X : (ls : List Lexeme) → mark (tell (number_at read message.X) ls) ≡ number_m read expected.X ls
+  mark_X : (ls : List Lexeme) → mark (report (number_at read message.X) ls) ≡ number_m read expected.X ls
   mark_X = mark_number expected.X message.X refl refl (λ w. refl) refl (λ x. refl)
 
-  mark_Y : (ls : List Lexeme) → mark (tell (number_at read message.Y) ls) ≡ number_m read expected.Y ls
+  mark_Y : (ls : List Lexeme) → mark (report (number_at read message.Y) ls) ≡ number_m read expected.Y ls
   mark_Y = mark_number expected.Y message.Y refl refl (λ w. refl) refl (λ x. refl)
 
-  mark_Z : (ls : List Lexeme) → mark (tell (number_at read message.Z) ls) ≡ number_m read expected.Z ls
+  mark_Z : (ls : List Lexeme) → mark (report (number_at read message.Z) ls) ≡ number_m read expected.Z ls
   mark_Z = mark_number expected.Z message.Z refl refl (λ w. refl) refl (λ x. refl)
 
-  mark_M : (ls : List Lexeme) → mark (tell (number_at read message.M) ls) ≡ number_m read expected.M ls
+  mark_M : (ls : List Lexeme) → mark (report (number_at read message.M) ls) ≡ number_m read expected.M ls
   mark_M = mark_number expected.M message.M refl refl (λ w. refl) refl (λ x. refl)
 
   mark_coord : (d : Dimension) (ls : List Lexeme) → mark (coord_f read d ls) ≡ coord_m read d ls
   unfolding numbers_f
-  mark_coord XY ls = mark_then (tell (number_at read message.X) ls) _ (number_m read expected.X ls) (numbers_m read XY 1) (mark_X ls) (λ x. mark_then (tell (number_at read message.Y) x.1) _ (number_m read expected.Y x.1) (numbers_m read XY 0) (mark_Y x.1) (λ y. refl))
-  mark_coord XYZ ls = mark_then (tell (number_at read message.X) ls) _ (number_m read expected.X ls) (numbers_m read XYZ 2) (mark_X ls) (λ x. mark_then (tell (number_at read message.Y) x.1) _ (number_m read expected.Y x.1) (numbers_m read XYZ 1) (mark_Y x.1) (λ y. mark_then (tell (number_at read message.Z) y.1) _ (number_m read expected.Z y.1) (numbers_m read XYZ 0) (mark_Z y.1) (λ z. refl)))
-  mark_coord XYM ls = mark_then (tell (number_at read message.X) ls) _ (number_m read expected.X ls) (numbers_m read XYM 2) (mark_X ls) (λ x. mark_then (tell (number_at read message.Y) x.1) _ (number_m read expected.Y x.1) (numbers_m read XYM 1) (mark_Y x.1) (λ y. mark_then (tell (number_at read message.M) y.1) _ (number_m read expected.M y.1) (numbers_m read XYM 0) (mark_M y.1) (λ z. refl)))
-  mark_coord XYZM ls = mark_then (tell (number_at read message.X) ls) _ (number_m read expected.X ls) (numbers_m read XYZM 3) (mark_X ls) (λ x. mark_then (tell (number_at read message.Y) x.1) _ (number_m read expected.Y x.1) (numbers_m read XYZM 2) (mark_Y x.1) (λ y. mark_then (tell (number_at read message.Z) y.1) _ (number_m read expected.Z y.1) (numbers_m read XYZM 1) (mark_Z y.1) (λ z. mark_then (tell (number_at read message.M) z.1) _ (number_m read expected.M z.1) (numbers_m read XYZM 0) (mark_M z.1) (λ m. refl))))
+  mark_coord XY ls = mark_then (report (number_at read message.X) ls) _ (number_m read expected.X ls) (numbers_m read XY 1) (mark_X ls) (λ x. mark_then (report (number_at read message.Y) x.1) _ (number_m read expected.Y x.1) (numbers_m read XY 0) (mark_Y x.1) (λ y. refl))
+  mark_coord XYZ ls = mark_then (report (number_at read message.X) ls) _ (number_m read expected.X ls) (numbers_m read XYZ 2) (mark_X ls) (λ x. mark_then (report (number_at read message.Y) x.1) _ (number_m read expected.Y x.1) (numbers_m read XYZ 1) (mark_Y x.1) (λ y. mark_then (report (number_at read message.Z) y.1) _ (number_m read expected.Z y.1) (numbers_m read XYZ 0) (mark_Z y.1) (λ z. refl)))
+  mark_coord XYM ls = mark_then (report (number_at read message.X) ls) _ (number_m read expected.X ls) (numbers_m read XYM 2) (mark_X ls) (λ x. mark_then (report (number_at read message.Y) x.1) _ (number_m read expected.Y x.1) (numbers_m read XYM 1) (mark_Y x.1) (λ y. mark_then (report (number_at read message.M) y.1) _ (number_m read expected.M y.1) (numbers_m read XYM 0) (mark_M y.1) (λ z. refl)))
+  mark_coord XYZM ls = mark_then (report (number_at read message.X) ls) _ (number_m read expected.X ls) (numbers_m read XYZM 3) (mark_X ls) (λ x. mark_then (report (number_at read message.Y) x.1) _ (number_m read expected.Y x.1) (numbers_m read XYZM 2) (mark_Y x.1) (λ y. mark_then (report (number_at read message.Z) y.1) _ (number_m read expected.Z y.1) (numbers_m read XYZM 1) (mark_Z y.1) (λ z. mark_then (report (number_at read message.M) z.1) _ (number_m read expected.M z.1) (numbers_m read XYZM 0) (mark_M z.1) (λ m. refl))))
 
   mark_inside : (d : Dimension) (ls : List Lexeme) → mark (inside_f read d ls) ≡ coord_m read d ls
   mark_inside d ls = mark_map (λ c. Some c) (coord_f read d ls) ∙ mark_coord d ls
@@ -170,7 +170,7 @@ module _ {N : Type 0} (read : List ℕ → Option N) where
   mark_point : (d : Dimension) (ls : List Lexeme) → mark (framed_f read None (inside_f read d) ls) ≡ opened_m read (λ r. shut read (then_m (coord_m read d r) (λ l. Ok l))) ls
   mark_point d = mark_framed None (inside_f read d) (λ r. shut read (then_m (coord_m read d r) (λ l. Ok l))) (λ r. mark_closed (inside_f read d r) (then_m (coord_m read d r) (λ l. Ok l)) (mark_inside d r ∙ then_ok (coord_m read d r)))
 
-  module _ (value : List Lexeme → Telling (Value N)) (it : List Lexeme → Mark) (same : (ls : List Lexeme) → mark (value ls) ≡ it ls) where
+  module _ (value : List Lexeme → Reporting (Value N)) (it : List Lexeme → Mark) (same : (ls : List Lexeme) → mark (value ls) ≡ it ls) where
     mark_body : (n : ℕ) (k : GeometryType) (d : Dimension) (ls : List Lexeme) → mark (body_f read value n k d ls) ≡ part_m read it (part_of k) d n ls
     mark_body n kind.Point d ls = mark_map (λ c. Value.point d c) (framed_f read None (inside_f read d) ls) ∙ mark_point d ls
     mark_body n kind.LineString d ls = mark_map (λ c. Value.line_string d c) (line_string_f read d n ls) ∙ mark_line d n ls
@@ -180,14 +180,14 @@ module _ {N : Type 0} (read : List ℕ → Option N) where
     mark_body n kind.MultiPolygon d ls = mark_map (λ c. Value.multi_polygon d c) (polygons_f read d n ls) ∙ mark_polygons d n ls
     mark_body n kind.GeometryCollection d ls = mark_map (λ vs. Value.collection d (members_read vs)) (framed_f read [] (many_f value n) ls) ∙ mark_items value it same n ls
 
-    abbrev body : ℕ → (GeometryType × Dimension) × List Lexeme → Telling (Value N)
+    abbrev body : ℕ → (GeometryType × Dimension) × List Lexeme → Reporting (Value N)
     body n h = body_f read value n h.0.0 h.0.1 h.1
 
     both_empty : (b : Bool) (r : List Lexeme) (x y : Fault) → b ≡ true → ◌≡◌ {A = Mark} (cond b (Ok r) (Err x)) (cond b (Ok r) (Err y))
     both_empty true r x y e = refl
     both_empty false r x y e = cc
 
-    mark_worded : (n : ℕ) (k : GeometryType) (o : Option Dimension) (b : Bool) (w : List ℕ) (r : List Lexeme) → is_empty_word w ≡ b → mark (andthen (andthen (told (Word w ∷ r) (worded read o b w r)) (λ d. Ok ((k, d.0), d.1))) (body n)) ≡ worded_m read it o k n w r
+    mark_worded : (n : ℕ) (k : GeometryType) (o : Option Dimension) (b : Bool) (w : List ℕ) (r : List Lexeme) → is_empty_word w ≡ b → mark (andthen (andthen (reported (Word w ∷ r) (worded read o b w r)) (λ d. Ok ((k, d.0), d.1))) (body n)) ≡ worded_m read it o k n w r
     mark_worded n k (Some d) b w r e = mark_body n k d r
     mark_worded n k None true w r e = mark_body n k XY (Word w ∷ r) ∙ both_empty (is_empty_word w) r (fault read expected.Opening (Word w ∷ r)) (fault read expected.Dimension (Word w ∷ r)) e
     mark_worded n k None false w r e = ap (λ c. cond c (Ok r) (Err (fault read expected.Dimension (Word w ∷ r)))) (sym e)
@@ -196,7 +196,7 @@ module _ {N : Type 0} (read : List ℕ → Option N) where
     alone (Some y) x run r e = refl
     alone None x run r e = cc
 
-    mark_numbered : (n : ℕ) (k : GeometryType) (o : Option N) (run : List ℕ) (r : List Lexeme) → read run ≡ o → mark (andthen (andthen (told (Num run ∷ r) (numbered read o run r)) (λ d. Ok ((k, d.0), d.1))) (body n)) ≡ Err (fault read expected.Dimension (Num run ∷ r))
+    mark_numbered : (n : ℕ) (k : GeometryType) (o : Option N) (run : List ℕ) (r : List Lexeme) → read run ≡ o → mark (andthen (andthen (reported (Num run ∷ r) (numbered read o run r)) (λ d. Ok ((k, d.0), d.1))) (body n)) ≡ Err (fault read expected.Dimension (Num run ∷ r))
     mark_numbered n k (Some x) run r is = mark_body n k XY (Num run ∷ r) ∙ alone (read run) x run r is
     mark_numbered n k None run r is = ap (λ o. Err (Num run ∷ r, (at_number read o expected.Dimension, if is_unread read o then Num run ∷ r else r))) (sym is)
 

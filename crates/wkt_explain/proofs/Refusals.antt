@@ -15,8 +15,8 @@ use Rattle.wkt_read.proofs.LawLemmas.Splits.{span, spells_first, first_append, f
 use Rattle.wkt_read.proofs.LawLemmas.Fronts.{taken_begin}
 use Rattle.wkt_read.proofs.LawLemmas.FrontEnds.{front-of-lexemes}
 use Rattle.wkt_read.proofs.LawLemmas.Stable.{prefix}
-use Rattle.wkt_read.proofs.ParserLemmas.Tells.{Telling, plain, value_f}
-use Rattle.wkt_read.proofs.ParserLemmas.Told.{Told}
+use Rattle.wkt_read.proofs.ParserLemmas.Reporting.{Reporting, plain, value_f}
+use Rattle.wkt_read.proofs.ParserLemmas.Reported.{Reported}
 use Rattle.wkt_read.proofs.ParserLemmas.Readings.{value_part, sound}
 use Rattle.wkt_read.proofs.ParserLemmas.Early.{dead, just}
 use Rattle.wkt_read.proofs.ParserLemmas.Free.{none_begins}
@@ -33,39 +33,39 @@ module _ {N : Type 0} (read : List ℕ → Option N) where
 
   -- an error, with the place where it stops
   module _ (n : ℕ) (ls : List Lexeme) (bad : Fault) (le : length ls ≤ n) where
-    told_at : (t : Telling (Value N)) → mark t ≡ Err bad → t ≡ Err bad
-    told_at (Ok p) e = cc
-    told_at (Err r) e = let same : r ≡ bad = cc in ap (λ r. Err r) same
+    reported_at : (t : Reporting (Value N)) → mark t ≡ Err bad → t ≡ Err bad
+    reported_at (Ok p) e = cc
+    reported_at (Err r) e = let same : r ≡ bad = cc in ap (λ r. Err r) same
 
     refused : value_m read n expected.Kind ls ≡ Err bad → (value_f read n false ls ≡ Err bad) × (value_at read n false ls ≡ Err bad.1) × ((pre : List Lexeme) × (ls ≡ pre ++ bad.0) × Begun pre)
     refused e =
         let part = value_part read n false in
-        let told : value_f read n false ls ≡ Err bad = told_at (value_f read n false ls) (mark_value read n false ls ∙ e) in
-        let (pre, given, split, e2, b, few) = subst (Told (StandFor read) Begun ls) told (part.told ls le) in
-        (told, sym (part.same ls) ∙ ap plain told, (pre, split, b))
+        let reported : value_f read n false ls ≡ Err bad = reported_at (value_f read n false ls) (mark_value read n false ls ∙ e) in
+        let (pre, given, split, e2, b, few) = subst (Reported (StandFor read) Begun ls) reported (part.reported ls le) in
+        (reported, sym (part.same ls) ∙ ap plain reported, (pre, split, b))
 
     pub none : value_m read n expected.Kind ls ≡ Err bad → NoneBegins read ls
-    none e = let (told, reads, b) = refused e in none_begins read n false ls bad.1 le reads
+    none e = let (reported, reads, b) = refused e in none_begins read n false ls bad.1 le reads
 
     -- the message of a refusal, as the readers have it
     pub refused_with : value_m read n expected.Kind ls ≡ Err bad → value_at read n false ls ≡ Err bad.1
-    refused_with e = let (told, reads, b) = refused e in reads
+    refused_with e = let (reported, reads, b) = refused e in reads
 
   -- the lexeme that is too much
   pub too_much : (n : ℕ) (ls pre after : List Lexeme) (x : Lexeme) (e : Message × List Lexeme) → length ls ≤ n → ls ≡ pre ++ (x ∷ after) → value_m read n expected.Kind ls ≡ Err (x ∷ after, e) → IsJustDead read (pre ++ (x ∷ []))
   too_much n ls pre after x e le split is =
-      let (told, reads, (pre2, e2, b)) = refused n ls (x ∷ after, e) le is in
+      let (reported, reads, (pre2, e2, b)) = refused n ls (x ∷ after, e) le is in
       let same : pre2 ≡ pre = append_cancel_right pre2 pre (x ∷ after) (sym e2 ∙ split) in
-      just read pre x (subst Begun same b) (dead read n false pre after ls e x split told reads le)
+      just read pre x (subst Begun same b) (dead read n false pre after ls e x split reported reads le)
 
   -- the lexemes end too early
   pub too_short : (n : ℕ) (ls : List Lexeme) (e : Message × List Lexeme) → length ls ≤ n → value_m read n expected.Kind ls ≡ Err ([], e) → Begun ls
   too_short n ls e le is =
-      let (told, reads, (pre, e2, b)) = refused n ls ([], e) le is in
+      let (reported, reads, (pre, e2, b)) = refused n ls ([], e) le is in
       subst Begun (sym (e2 ∙ append-nil pre)) b
 
   -- a geometry is read
-  read_at : (n : ℕ) (ls r : List Lexeme) → length ls ≤ n → (t : Telling (Value N)) → plain t ≡ value_at read n false ls → mark t ≡ Ok r → (v : Value N) × (f : List Lexeme) × (ls ≡ f ++ r) × StandFor read f v
+  read_at : (n : ℕ) (ls r : List Lexeme) → length ls ≤ n → (t : Reporting (Value N)) → plain t ≡ value_at read n false ls → mark t ≡ Ok r → (v : Value N) × (f : List Lexeme) × (ls ≡ f ++ r) × StandFor read f v
   read_at n ls r le (Ok p) reads e =
       let same : p.1 ≡ r = cc in
       let (f, split, g) = sound read n false ls p le (sym reads) in

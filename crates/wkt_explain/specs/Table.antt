@@ -94,8 +94,8 @@ module _ {N : Type 0} (read : List ℕ → Option N) where
   closings (suc n) m ls = closings n (closing m ls).0 (closing m ls).1
 
   -- The message of a text, by what is expected where it is refused, how many parentheses are open there, and the lexemes that stand there.
-  abbrev pub told : Expected → ℕ → List Lexeme → Message
-  told e parens ls = (closings parens (at_place e ls) (left_at e ls)).0
+  abbrev pub reported : Expected → ℕ → List Lexeme → Message
+  reported e parens ls = (closings parens (at_place e ls) (left_at e ls)).0
 
   -- The lexemes before the place where a text is refused.
   abbrev pub before_place : {text : List ℕ} {start end : ℕ} {e : Expected} → IsRefusedAt read text start end e → List Lexeme
@@ -103,10 +103,10 @@ module _ {N : Type 0} (read : List ℕ → Option N) where
   before_place (inr t) = t.lexemes
 
   -- The text is refused at this place, and the table has this message for it.
-  pub record IsToldAt (text : List ℕ) (start end : ℕ) (e : Expected) (m : Message) : Type 0 where
+  pub record IsReportedAt (text : List ℕ) (start end : ℕ) (e : Expected) (m : Message) : Type 0 where
     pub refused : IsRefusedAt read text start end e
     pub there : List Lexeme
     pub parens : ℕ
     pub split : IsSplit text (before_place refused ++ there)
     pub counted : parens + closes (before_place refused) ≡ opens (before_place refused)
-    pub is : m ≡ told e parens there
+    pub is : m ≡ reported e parens there

@@ -6,7 +6,7 @@ ghost use Rattle.wkt_read.specs.Front.{HasNoFront};
 ghost use Rattle.wkt_read.specs.Items.{bad_number};
 ghost use Rattle.wkt_read.specs.Refusal.{IsRefusedWith, IsTextRefused};
 ghost use Rattle.wkt_explain.specs.Explained.{HasFront, IsRefusedAt, IsPart};
-ghost use Rattle.wkt_explain.specs.Table.{IsToldAt};
+ghost use Rattle.wkt_explain.specs.Table.{IsReportedAt};
 ghost use Rattle.wkt_explain.specs.White.{IsPastWhite};
 
 use crate::explanation::{Explanation, Refusal};
@@ -71,7 +71,7 @@ pub fn refusal<T: WktNum>(text: &str) -> Option<Refusal>
     ensures place { IfSome result (λ r. IsRefusedAt T.read text.now r.start r.end r.expected) }
     ensures part { IfSome result (λ r. IsPart text.now r.start r.end) }
     ensures message { IfSome result (λ r. IsRefusedWith T.read text.now r.message) }
-    ensures table { IfSome result (λ r. IsToldAt T.read text.now r.start r.end r.expected r.message) }
+    ensures table { IfSome result (λ r. IsReportedAt T.read text.now r.start r.end r.expected r.message) }
 {
     let mut tokens = Tokens::<T>::from_str(text);
     let mut walk = Walk::start();

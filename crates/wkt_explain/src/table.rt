@@ -4,7 +4,7 @@ ghost use Rattle.wkt_num.specs.Bytes.{Lexeme};
 ghost use Rattle.wkt_read.specs.Placed.{lexemes_of};
 ghost use Rattle.wkt_read.specs.Stream.{coming};
 ghost use Rattle.wkt_explain.specs.Walks.{Shows, around, own};
-ghost use Rattle.wkt_explain.specs.Table.{at_end, at_other, at_word, at_bad, at_place, stays, closing, closings, told};
+ghost use Rattle.wkt_explain.specs.Table.{at_end, at_other, at_word, at_bad, at_place, stays, closing, closings, reported};
 
 use crate::expected::Expected;
 use crate::place::{Place, Walk};
@@ -156,17 +156,17 @@ fn one_less(parens: Parens) -> Option<Parens>
 fn closed<T: WktNum>(message: Message, parens: Parens, tokens: Tokens<'_, T>) -> Message
     ensures { result ≡ (closings T.read (parens.parts + parens.collections) message (lexemes_of (coming tokens.entry))).0 }
 {
-    let mut told = message;
+    let mut reported = message;
     let mut left = parens;
     let mut rest = tokens;
     'places: loop {
         let Some(less) = one_less(left) else {
-            return told;
+            return reported;
         };
         let Some(seen) = see(&mut rest) else {
             return Message::Close;
         };
-        told = closing::<T>(told, seen);
+        reported = closing::<T>(reported, seen);
         left = less;
     }
 }
@@ -181,7 +181,7 @@ fn behind<T: WktNum>(
     seen: Seen<'_>,
 ) -> (Message, Parens)
     ensures { (l : Lexeme) (r : List Lexeme) → Shows T.read seen.entry l → message ≡ at_place T.read expected (l ∷ r)
-        → told T.read expected (parens.parts + parens.collections) (l ∷ r)
+        → reported T.read expected (parens.parts + parens.collections) (l ∷ r)
         ≡ (closings T.read (result.1.parts + result.1.collections) result.0 r).0 }
 {
     if !stays::<T>(expected, seen) {
@@ -201,7 +201,7 @@ pub(crate) fn message_there<T: WktNum>(
     seen: Seen<'_>,
     tokens: Tokens<'_, T>,
 ) -> Message
-    ensures { (l : Lexeme) → Shows T.read seen.entry l → result ≡ told T.read expected (own walk.place + walk.depth) (l ∷ lexemes_of (coming tokens.entry)) }
+    ensures { (l : Lexeme) → Shows T.read seen.entry l → result ≡ reported T.read expected (own walk.place + walk.depth) (l ∷ lexemes_of (coming tokens.entry)) }
 {
     let parens = Parens {
         parts: own(walk.place),
@@ -213,7 +213,7 @@ pub(crate) fn message_there<T: WktNum>(
 
 /// The message of a text that ends too early, at the place.
 pub(crate) fn message_at_end<T: WktNum>(walk: Walk, expected: Expected) -> Message
-    ensures { result ≡ told T.read expected (own walk.place + walk.depth) [] }
+    ensures { result ≡ reported T.read expected (own walk.place + walk.depth) [] }
 {
     let parts = own(walk.place);
     if parts > 0 {

@@ -22,7 +22,7 @@ use Rattle.wkt_events.proofs.Fronts.{front-of, none-of}
 use Rattle.wkt_events.proofs.Utf8Front.{text-with-front, text-behind-front}
 use Rattle.wkt_fill.specs.Arrays.{parts_of, joined, numbers_in, offsets, HasLarge, IsUnheld}
 use Rattle.wkt_fill.specs.Filling.{Flat, Headed, nothing, is_collection, end_part, push, each, ended, put, put_all, put_coordinate, put_line, put_member, put_polygon, step, steps, arrays_of}
-use Rattle.wkt_fill.specs.Filled.{Fills, filler_maker, view, Begins, Tells}
+use Rattle.wkt_fill.specs.Filled.{Fills, filler_maker, view, Begins, RefusesCollection}
 use Rattle.wkt_fill.specs.Fronts.{HoldsAll, FillsFront}
 use Rattle.wkt_fill.specs.declared.filler.Filler.{Filler}
 use Rattle.wkt_fill.proofs.Doing.{listed-does, coordinate-does, line-does, member-does, polygon-does}
@@ -151,7 +151,7 @@ is-zero : (n : ℕ) → (n ≡ 0) ⊎ (n ≢ 0)
 is-zero zero = inl refl
 is-zero (suc n) = inr (λ e. absurd (omega (arith, e)))
 
-module _ (v : Value ℤ) (s0 s t : Filler) (begins : Begins s0) (fills : Fills s0 (events v) s) (tells : Tells s t) (out : IsHeld v (arrays_of (events v)) ⊎ IsCollected v (arrays_of (events v))) where
+module _ (v : Value ℤ) (s0 s t : Filler) (begins : Begins s0) (fills : Fills s0 (events v) s) (reports : RefusesCollection s t) (out : IsHeld v (arrays_of (events v)) ⊎ IsCollected v (arrays_of (events v))) where
   made-is : s.status ≡ 0 → view s ≡ arrays_of (events v)
   made-is z = elim (is-zero s0.status) [
     | inl z0 ↦ fills.does z0 z ∙ ap (steps (events v)) (begins.fresh z0)
@@ -166,8 +166,8 @@ module _ (v : Value ℤ) (s0 s t : Filler) (begins : Begins s0) (fills : Fills s
 
   pub holds-all : t.status ≡ 0 → HoldsAll t v
   holds-all z =
-      let (sz, one) = tells.held z in
-      let is : view t ≡ arrays_of (events v) = tells.same ∙ made-is sz in
+      let (sz, one) = reports.held z in
+      let is : view t ≡ arrays_of (events v) = reports.same ∙ made-is sz in
       elim out [
         | inl h ↦ record {
           parts = h.parts;
@@ -203,7 +203,7 @@ module _ (v : Value ℤ) (s0 s t : Filler) (begins : Begins s0) (fills : Fills s
   ]
 
   pub is-unheld : t.status ≢ 0 → IsUnheld v t.status
-  is-unheld n = elim (tells.unheld n) [
+  is-unheld n = elim (reports.unheld n) [
     | inl f ↦ failed f.0 f.1
     | inr k ↦ elim out [
       | inl h ↦ absurd (clash (is_collection (arrays_of (events v)).kind) (is_collection s.kind) h.one k.2 (sym (ap (λ (w : Headed). is_collection w.kind) (made-is k.1))))
@@ -219,8 +219,8 @@ module _ (places : ℕ) (text : List ℕ) where
   run-text : (run : List ℕ) (x : ℤ) → read run ≡ Some x → IsUtf8 run
   run-text run x e = subst (λ (o : Option ℤ). IfSome o (λ u. IsUtf8 run)) e (decimal_utf8 places run)
 
-  pub filled : (s0 s t : Filler) (to : ℕ) → Begins s0 → Gives filler_maker false text (value_at read) events 0 s0 to s → Tells s t → FillsFront places text t to
-  filled s0 s t to begins g tells =
+  pub filled : (s0 s t : Filler) (to : ℕ) → Begins s0 → Gives filler_maker false text (value_at read) events 0 s0 to s → RefusesCollection s t → FillsFront places text t to
+  filled s0 s t to begins g reports =
       let front : Front read text g.value to = front-of read false text filler_maker s0 s to g in
       let fits = geometry_fits (IsUnits places) read (decimal_reads_values places) g.value front.lexemes front.reads in
       let out = outcome (IsUnits places) g.value fits in
@@ -230,8 +230,8 @@ module _ (places : ℕ) (text : List ℕ) where
         within = omega (arith, front.ends);
         utf8 = (text-behind-front read run-text text g.value to front, text-with-front read run-text text g.value to front);
         fits = fits;
-        holds = holds-all g.value s0 s t begins g.makes tells out;
-        unheld = is-unheld g.value s0 s t begins g.makes tells out;
+        holds = holds-all g.value s0 s t begins g.makes reports out;
+        unheld = is-unheld g.value s0 s t begins g.makes reports out;
       }
 
   pub unfilled : Refuses false text (value_at read) 0 → IsUtf8 text → HasNoFront read text

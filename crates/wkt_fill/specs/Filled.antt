@@ -67,7 +67,7 @@ pub record Begins (f : Filler) : Type 0 where
   pub or_full : f.status ≢ 0 → f.status ≡ 22
 
 -- The arrays stay; the status is that of a collection, if nothing was wrong before.
-pub record Tells (s t : Filler) : Type 0 where
+pub record RefusesCollection (s t : Filler) : Type 0 where
   pub same : view t ≡ view s
   pub held : t.status ≡ 0 → (s.status ≡ 0) × (is_collection s.kind ≡ false)
   pub unheld : t.status ≢ 0 → ((t.status ≡ s.status) × (s.status ≢ 0)) ⊎ ((t.status ≡ 24) × (s.status ≡ 0) × (is_collection s.kind ≡ true))

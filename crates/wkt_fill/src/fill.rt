@@ -26,7 +26,7 @@ pub fn fill_arrays<'a, const D: u32>(text: &[u8], room: Room<'a>) -> Option<Fill
         Some(after) => {
             let At { at: end, made } = after;
             let mut arrays = made;
-            arrays.tell();
+            arrays.refuse_collection();
             Some(Filled { arrays, end })
         }
         None => None,

@@ -5,7 +5,7 @@ ghost use Rattle.wkt_num.specs.Decimal.{read_decimal};
 ghost use Rattle.wkt_events.specs.Left.{class_in};
 ghost use Rattle.wkt_events.specs.Walking.{GivesNumberIfAny};
 ghost use Rattle.wkt_fill.specs.Filling.{is_collection, push, end_ring, end_polygon, end_whole, ended, put, headed, on};
-ghost use Rattle.wkt_fill.specs.Filled.{filler_maker, view, Becomes, Begins, Tells, with_flat};
+ghost use Rattle.wkt_fill.specs.Filled.{filler_maker, view, Becomes, Begins, RefusesCollection, with_flat};
 
 use crate::status::{FULL, NOT_FLAT, TOO_LARGE};
 use wkt_events::builder::{At, Builder, Part};
@@ -260,8 +260,8 @@ impl<'a> Filler<'a> {
     }
 
     /// A collection has no arrays.
-    pub(crate) fn tell(&mut self)
-        ensures { Tells self.old self.new }
+    pub(crate) fn refuse_collection(&mut self)
+        ensures { RefusesCollection self.old self.new }
     {
         if self.status == 0 && holds_nothing(self.kind) {
             self.status = NOT_FLAT;

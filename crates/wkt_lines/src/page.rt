@@ -196,9 +196,9 @@ impl Page {
 /// Text that is written to a page. It fails where there is no memory for it.
 impl TextSink for Page {
     ghost use Rattle.wkt_lines.specs.Pages.{page_text, page_failures};
-    ghost use Rattle.wkt_num.specs.Sink.{telling};
+    ghost use Rattle.wkt_num.specs.Sink.{revealing};
 
-    ghost sink = { telling page_text page_failures };
+    ghost sink = { revealing page_text page_failures };
 
     fn write_str(&mut self, piece: &str) -> fmt::Result {
         if self.keep(piece.as_bytes()) {

@@ -29,19 +29,19 @@ abbrev is_clear : ℕ → Bool
 is_clear b = get_or stops b 0 == 0
 
 -- the table is right for each byte below n
-abbrev all_tell : ℕ → Bool
-all_tell zero = true
-all_tell (suc n) = same (is_clear n) (is_run (class_of n)) && all_tell n
+abbrev all_report : ℕ → Bool
+all_report zero = true
+all_report (suc n) = same (is_clear n) (is_run (class_of n)) && all_report n
 
-all-tell : all_tell 256 ≡ true
+all-report : all_report 256 ≡ true
 unfolding class_of
-all-tell = refl
+all-report = refl
 
-tells : (n b : ℕ) → b < n → all_tell n ≡ true → is_clear b ≡ is_run (class_of b)
-tells zero b h e = absurd (omega (arith, h))
-tells (suc n) b h e = let p = both_true (same (is_clear n) (is_run (class_of n))) (all_tell n) e in elim (cases_eq b n) [
+reports : (n b : ℕ) → b < n → all_report n ≡ true → is_clear b ≡ is_run (class_of b)
+reports zero b h e = absurd (omega (arith, h))
+reports (suc n) b h e = let p = both_true (same (is_clear n) (is_run (class_of n))) (all_report n) e in elim (cases_eq b n) [
   | inl i ↦ ap is_clear i ∙ same-is (is_clear n) (is_run (class_of n)) p.0 ∙ ap (λ (k : ℕ). is_run (class_of k)) (sym i)
-  | inr i ↦ tells n b (omega (arith, h, i)) p.1
+  | inr i ↦ reports n b (omega (arith, h, i)) p.1
 ]
 
 run-is : (c : Class) → is_run c ≡ true → c ≡ Run
@@ -50,8 +50,8 @@ run-is White e = cc
 run-is (Mark l) e = cc
 run-is Run e = refl
 
-pub table-tells : (b : ℕ) → b < 256 → MatchBool (is_clear b) (class_of b ≡ Run) (class_of b ≡ Run → ⊥)
-table-tells b h = go (is_clear b) (tells 256 b h all-tell)
+pub table-reports : (b : ℕ) → b < 256 → MatchBool (is_clear b) (class_of b ≡ Run) (class_of b ≡ Run → ⊥)
+table-reports b h = go (is_clear b) (reports 256 b h all-report)
   where
     go : (t : Bool) → t ≡ is_run (class_of b) → MatchBool t (class_of b ≡ Run) (class_of b ≡ Run → ⊥)
     go true e = run-is (class_of b) (sym e)

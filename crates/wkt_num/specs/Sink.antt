@@ -64,8 +64,8 @@ module _ {S : Type 0} (text : S → List ℕ) where
   }
 
   -- A sink that reveals its text.
-  abbrev pub telling : (S → ℕ) → Sink S
-  telling failures = record {
+  abbrev pub revealing : (S → ℕ) → Sink S
+  revealing failures = record {
     gives = λ s bs t. text t ≡ text s ++ bs;
     leaves = λ s bs t. GrewBy (text s) bs (text t);
     failures = failures;

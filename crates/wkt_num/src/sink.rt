@@ -7,7 +7,7 @@ use std::fmt;
 ///
 /// [`CountedText`](crate::CountedText) makes one of any `fmt::Write`.
 pub trait TextSink {
-    /// What calls give it, what a call that fails leaves, and how many have failed: `telling` for a
+    /// What calls give it, what a call that fails leaves, and how many have failed: `revealing` for a
     /// sink that reveals its text.
     ghost sink: { Sink Self };
 

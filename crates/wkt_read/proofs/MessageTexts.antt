@@ -114,9 +114,9 @@ one-number j k e = sym (numbered-number j) ∙ ap numbered e ∙ numbered-number
 
 module _ {N : Type 0} (read : List ℕ → Option N) (text said : List ℕ) (n : ℕ) (is : (m : Message) → said ≡ message_text m → n ≡ message_number m) where
   -- the number of the message with which a text is refused
-  pub number-told : IsTextRefused read text said → (m : Message) × (n ≡ message_number m) × IsRefusedWith read text m
-  number-told (m, says, refused) = (m, is m says, refused)
+  pub number-reported : IsTextRefused read text said → (m : Message) × (n ≡ message_number m) × IsRefusedWith read text m
+  number-reported (m, says, refused) = (m, is m says, refused)
 
   -- 13 is the number of one message alone
-  pub bad-told : IsTextRefused read text said → n ≡ 13 → said ≡ bad_number
-  bad-told (m, says, refused) e = says ∙ ap message_text (one-number m message.BadNumber (sym (is m says) ∙ e))
+  pub bad-reported : IsTextRefused read text said → n ≡ 13 → said ≡ bad_number
+  bad-reported (m, says, refused) e = says ∙ ap message_text (one-number m message.BadNumber (sym (is m says) ∙ e))

@@ -6,8 +6,8 @@ pub mod Readings
 pub mod Many
 pub mod Frames
 pub mod Wkts
-pub mod Tells
-pub mod Told
+pub mod Returns
+pub mod Reported
 pub mod Reaches
 pub mod Early
 pub mod Free

@@ -27,8 +27,8 @@ module _ {T : Type 0} (c : GeometryCollection T) (ws : List (Wkt T)) (d : Dimens
   geometry_is w k = ap (λ v. member_shape v) k ∙ (ap tree_shape (tree-collection c) ∙ collection_is)
 
 -- its header and its members determine a collection
-pub told_whole : {T : Type 0} (c : GeometryCollection T) → collection_of (header_of (tree_dim (collection_tree c))) (members_of (tree_shape (collection_tree c))) ≡ tree_shape (collection_tree c)
-told_whole c =
+pub reported_whole : {T : Type 0} (c : GeometryCollection T) → collection_of (header_of (tree_dim (collection_tree c))) (members_of (tree_shape (collection_tree c))) ≡ tree_shape (collection_tree c)
+reported_whole c =
     let h = tree-members c in
     ap (λ t. collection_of (header_of (tree_dim t)) (members_of (tree_shape (collection_tree c)))) h
     ∙ whole member_shape _ _ _ (collection_is c c.geometries.items c.dim h)

@@ -29,9 +29,9 @@ impl Paper {
 }
 
 impl TextSink for Paper {
-    ghost use Rattle.wkt.specs.Sink.{telling};
+    ghost use Rattle.wkt.specs.Sink.{revealing};
 
-    ghost sink = { telling (λ p. p.bytes.items) (λ p. p.failures) };
+    ghost sink = { revealing (λ p. p.bytes.items) (λ p. p.failures) };
 
     fn write_str(&mut self, piece: &str) -> fmt::Result {
         if self.left == 0 {

@@ -9,8 +9,8 @@ use Rattle.wkt_read.specs.Early.{opens, closes, IsJustDead, StopsEarly}
 use Rattle.wkt_read.specs.Parser.Outcome.{Outcome, value_at}
 use Rattle.wkt_read.specs.declared.messages.Message.{Message}
 use Rattle.wkt_read.proofs.LawLemmas.Begun.{CutIn, Later, Earlier, cut_in}
-use Rattle.wkt_read.proofs.ParserLemmas.Tells.{Telling, plain, value_f}
-use Rattle.wkt_read.proofs.ParserLemmas.Told.{Told}
+use Rattle.wkt_read.proofs.ParserLemmas.Reporting.{Reporting, plain, value_f}
+use Rattle.wkt_read.proofs.ParserLemmas.Reported.{Reported}
 use Rattle.wkt_read.proofs.ParserLemmas.Reaches.{reach}
 use Rattle.wkt_read.proofs.ParserLemmas.Readings.{value_part, complete}
 
@@ -35,7 +35,7 @@ module _ {N : Type 0} (read : List ℕ → Option N) where
   IsEarly old new = (Begun old × (new ≡ [])) ⊎ IsEarlyError old new
 
   pub dead : (n : ℕ) (inside : Bool) (pre after ls : List Lexeme) (e : Message × List Lexeme) (x : Lexeme) → ls ≡ pre ++ (x ∷ after) → value_f read n inside ls ≡ Err (x ∷ after, e) → value_at read n inside ls ≡ Err e → length ls ≤ n → IsDead read (pre ++ (x ∷ []))
-  dead n inside pre after ls e x split told reads le = record {
+  dead n inside pre after ls e x split reported reads le = record {
     none_begins = λ f later v e2 g.
         let e3 : ls ≡ f ++ (later ++ after) = split ∙ sym (append_assoc pre (x ∷ []) after) ∙ ap (λ l. l ++ after) e2 ∙ append_assoc f later after in
         let ok : value_at read n inside ls ≡ Ok (v, later ++ after) = ap (value_at read n inside) e3 ∙ complete read n inside v f (later ++ after) g (omega (arith, le, ap length e3)) in
@@ -44,7 +44,7 @@ module _ {N : Type 0} (read : List ℕ → Option N) where
         let e3 : ls ≡ (pre ++ (x ∷ [])) ++ after = split ∙ sym (append_assoc pre (x ∷ []) after) in
         let part = value_part read n inside in
         let far : reach (value_f read n inside ((pre ++ (x ∷ [])) ++ after)) ≤ length after = part.reaches (pre ++ (x ∷ [])) after h (omega (arith, le, ap length e3)) in
-        let near : reach (value_f read n inside ((pre ++ (x ∷ [])) ++ after)) ≡ suc (length after) = ap (λ l. reach (value_f read n inside l)) (sym e3) ∙ ap reach told in
+        let near : reach (value_f read n inside ((pre ++ (x ∷ [])) ++ after)) ≡ suc (length after) = ap (λ l. reach (value_f read n inside l)) (sym e3) ∙ ap reach reported in
         omega (arith, far, near);
   }
 
@@ -52,19 +52,19 @@ module _ {N : Type 0} (read : List ℕ → Option N) where
   empty_end [] left e = sym e
   empty_end (x ∷ given) left e = absurd (omega (arith, ap length e))
 
-  stops : (n : ℕ) (inside : Bool) (ls at : List Lexeme) (e : Message × List Lexeme) → value_f read n inside ls ≡ Err (at, e) → value_at read n inside ls ≡ Err e → length ls ≤ n → Told (StandFor read) Begun ls (Err (at, e)) → IsEarly ls e.1
-  stops n inside ls [] e told reads le (pre, given, split, e2, b, few) = inl (subst Begun (sym (split ∙ append-nil pre)) b, empty_end given e.1 e2)
-  stops n inside ls (x ∷ after) e told reads le (pre, given, split, e2, b, few) =
-      inr (record { before = pre; fault = x; after = after; taken = given; split = split; begun = b; dead = dead n inside pre after ls e x split told reads le; left = e2; few = few })
+  stops : (n : ℕ) (inside : Bool) (ls at : List Lexeme) (e : Message × List Lexeme) → value_f read n inside ls ≡ Err (at, e) → value_at read n inside ls ≡ Err e → length ls ≤ n → Reported (StandFor read) Begun ls (Err (at, e)) → IsEarly ls e.1
+  stops n inside ls [] e reported reads le (pre, given, split, e2, b, few) = inl (subst Begun (sym (split ∙ append-nil pre)) b, empty_end given e.1 e2)
+  stops n inside ls (x ∷ after) e reported reads le (pre, given, split, e2, b, few) =
+      inr (record { before = pre; fault = x; after = after; taken = given; split = split; begun = b; dead = dead n inside pre after ls e x split reported reads le; left = e2; few = few })
 
-  from_told : (n : ℕ) (inside : Bool) (ls : List Lexeme) (e : Message × List Lexeme) (t : Telling (Value N)) → value_f read n inside ls ≡ t → value_at read n inside ls ≡ Err e → length ls ≤ n → plain t ≡ Err e → Told (StandFor read) Begun ls t → IsEarly ls e.1
-  from_told n inside ls e (Ok p) told reads le is h = cc
-  from_told n inside ls e (Err r) told reads le is h =
+  from_reported : (n : ℕ) (inside : Bool) (ls : List Lexeme) (e : Message × List Lexeme) (t : Reporting (Value N)) → value_f read n inside ls ≡ t → value_at read n inside ls ≡ Err e → length ls ≤ n → plain t ≡ Err e → Reported (StandFor read) Begun ls t → IsEarly ls e.1
+  from_reported n inside ls e (Ok p) reported reads le is h = cc
+  from_reported n inside ls e (Err r) reported reads le is h =
       let same : r.1 ≡ e = cc in
-      subst (λ e. IsEarly ls e.1) same (stops n inside ls r.0 r.1 told (reads ∙ ap (λ l. Err l) (sym same)) le h)
+      subst (λ e. IsEarly ls e.1) same (stops n inside ls r.0 r.1 reported (reads ∙ ap (λ l. Err l) (sym same)) le h)
 
   pub early : (n : ℕ) (inside : Bool) (ls : List Lexeme) (e : Message × List Lexeme) → length ls ≤ n → value_at read n inside ls ≡ Err e → IsEarly ls e.1
-  early n inside ls e le reads = let part = value_part read n inside in from_told n inside ls e (value_f read n inside ls) refl reads le (part.same ls ∙ reads) (part.told ls le)
+  early n inside ls e le reads = let part = value_part read n inside in from_reported n inside ls e (value_f read n inside ls) refl reads le (part.same ls ∙ reads) (part.reported ls le)
 
   -- a beginning of what is begun is begun
   pub beginnings : (a b : List Lexeme) → Begun (a ++ b) → Begun a

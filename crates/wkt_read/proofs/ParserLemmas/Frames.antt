@@ -14,7 +14,7 @@ use Rattle.wkt_read.specs.declared.messages.Message.{Message}
 use Rattle.wkt_read.specs.Messages.{Says}
 use Rattle.wkt_read.specs.Parser.Outcome.{Outcome, ◌>>=◌, with_front, many_at, tail_at, value_at}
 use Rattle.wkt_read.specs.Parser.Errors.{OnMemory}
-use Rattle.wkt_read.specs.Parser.Promises.{TellsIn, ClosesAt, ReadsPart, each, All}
+use Rattle.wkt_read.specs.Parser.Promises.{ReturnsUnlessMemory, ClosesAt, ReadsPart, each, All}
 use Rattle.wkt_read.specs.Parser.Reads.{wkt_value, UniformWkt}
 use Rattle.wkt_read.proofs.ParserLemmas.Many.{err-ok, with_front-front, many-stop}
 use Rattle.wkt_read.specs.Parser.Walks.{BeginsWithoutComma, GoesOn}
@@ -91,12 +91,12 @@ module _ {T : Type 0} (read : List ℕ → Option T) where
   starts-says (Err (Memory t)) m whole left h e = absurd h
 
   -- an error of a callee that is passed on as it is
-  pub starts-pass : {B Y : Type 0} (other : Y → B) (Was : Y → Type 0) (e : ReadError) (r : Result (Start T) ReadError) (item : Outcome B) (whole : Outcome (Value T)) (left : List Lexeme) → IsErrAnd r (λ y. y ≡ e) → TellsIn other Was item (Err e) left → ((x : Message × List Lexeme) → item ≡ Err x → whole ≡ Err x) → Starts read r whole left
-  starts-pass other Was e (Ok x) item whole left h tells f = absurd h
+  pub starts-pass : {B Y : Type 0} (other : Y → B) (Was : Y → Type 0) (e : ReadError) (r : Result (Start T) ReadError) (item : Outcome B) (whole : Outcome (Value T)) (left : List Lexeme) → IsErrAnd r (λ y. y ≡ e) → ReturnsUnlessMemory other Was item (Err e) left → ((x : Message × List Lexeme) → item ≡ Err x → whole ≡ Err x) → Starts read r whole left
+  starts-pass other Was e (Ok x) item whole left h reports f = absurd h
   starts-pass other Was (Text m) (Err (Text k)) item whole left h (j, says, is) f = let same : k ≡ m = cc in (j, ap (λ (b : Bor (List ℕ)). b.now) same ∙ says, f (j, left) is)
-  starts-pass other Was (Text m) (Err (Memory k)) item whole left h tells f = tt
-  starts-pass other Was (Memory m) (Err (Memory k)) item whole left h tells f = tt
-  starts-pass other Was (Memory m) (Err (Text k)) item whole left h tells f = cc
+  starts-pass other Was (Text m) (Err (Memory k)) item whole left h reports f = tt
+  starts-pass other Was (Memory m) (Err (Memory k)) item whole left h reports f = tt
+  starts-pass other Was (Memory m) (Err (Text k)) item whole left h reports f = cc
 
   -- a whole geometry carries its dimension in all parts
   pub starts-uniform : (r : Result (Start T) ReadError) (whole : Outcome (Value T)) (left : List Lexeme) → Starts read r whole left → IfWhole r UniformWkt
@@ -217,13 +217,13 @@ module _ {T : Type 0} (read : List ℕ → Option T) where
       )
 
   -- an error inside a collection: its closing place
-  refusal-in : {A X : Type 0} (view : X → A) (Is : X → Type 0) (e : ReadError) (now : Outcome (Value T)) (left : List Lexeme) (then : Value T × List Lexeme → Outcome A) → Starts read (Err e) now left → TellsIn view Is (now >>= then) (Err e) left
+  refusal-in : {A X : Type 0} (view : X → A) (Is : X → Type 0) (e : ReadError) (now : Outcome (Value T)) (left : List Lexeme) (then : Value T × List Lexeme → Outcome A) → Starts read (Err e) now left → ReturnsUnlessMemory view Is (now >>= then) (Err e) left
   refusal-in view Is (Text m) now left then (j, says, is) = (j, says, ap (λ t. t >>= then) is)
   refusal-in view Is (Memory m) now left then h = tt
 
   pub error-next : {X : Type 0} (view : X → List (Value T)) (Is : X → Type 0) (os all : List (Frame T)) (o : Frame T) (e : ReadError) (s s2 : Result (Start T) ReadError) (left left2 : List Lexeme) (whole : Outcome (Value T))
       → Inside all s left whole → s ≡ Err e → all ≡ os ++ o ∷ [] → length left2 ≤ length left
-      → ((body : Outcome (List (Value T))) → TellsIn view Is body (Err e) left → Starts read s2 (shut_at read o.dim body) left2) → Inside os s2 left2 whole
+      → ((body : Outcome (List (Value T))) → ReturnsUnlessMemory view Is body (Err e) left → Starts read s2 (shut_at read o.dim body) left2) → Inside os s2 left2 whole
   error-next view Is os all o e s s2 left left2 whole (now, starts, nested) is last le exact =
       let (n, m, a, b, h) = nested-pop os o (length left) whole now (subst (λ l. Nested read l (length left) whole now) last nested) in (
         put_in read n m o now,
@@ -235,15 +235,15 @@ module _ {T : Type 0} (read : List ℕ → Option T) where
   outside : (os : List (Frame T)) (k : ℕ) (whole now : Outcome (Value T)) → os ≡ [] → Nested read os k whole now → whole ≡ now
   outside os k whole now none h = subst (λ l. Nested read l k whole now) none h
 
-  pub done : (os : List (Frame T)) (w : Wkt T) (s : Result (Start T) ReadError) (f : Start T) (left : List Lexeme) (whole : Outcome (Value T)) → Inside os s left whole → s ≡ Ok f → f ≡ Whole w → os ≡ [] → TellsIn wkt_value UniformWkt whole (Ok w) left
+  pub done : (os : List (Frame T)) (w : Wkt T) (s : Result (Start T) ReadError) (f : Start T) (left : List Lexeme) (whole : Outcome (Value T)) → Inside os s left whole → s ≡ Ok f → f ≡ Whole w → os ≡ [] → ReturnsUnlessMemory wkt_value UniformWkt whole (Ok w) left
   done os w s f left whole (now, starts, nested) is fis none =
       let (e, uniform) : Starts read (Ok (Whole w)) now left = subst (λ r. Starts read r now left) (is ∙ ap (λ f. Ok f) fis) starts in
       (outside os (length left) whole now none nested ∙ e, uniform)
 
-  as-read : (e : ReadError) (whole now : Outcome (Value T)) (left : List Lexeme) → whole ≡ now → Starts read (Err e) now left → TellsIn {X = Wkt T} wkt_value UniformWkt whole (Err e) left
+  as-read : (e : ReadError) (whole now : Outcome (Value T)) (left : List Lexeme) → whole ≡ now → Starts read (Err e) now left → ReturnsUnlessMemory {X = Wkt T} wkt_value UniformWkt whole (Err e) left
   as-read (Text m) whole now left same (j, says, is) = (j, says, same ∙ is)
   as-read (Memory m) whole now left same h = tt
 
-  pub error-now : (os : List (Frame T)) (e : ReadError) (s : Result (Start T) ReadError) (left : List Lexeme) (whole : Outcome (Value T)) → Inside os s left whole → s ≡ Err e → os ≡ [] → TellsIn {X = Wkt T} wkt_value UniformWkt whole (Err e) left
+  pub error-now : (os : List (Frame T)) (e : ReadError) (s : Result (Start T) ReadError) (left : List Lexeme) (whole : Outcome (Value T)) → Inside os s left whole → s ≡ Err e → os ≡ [] → ReturnsUnlessMemory {X = Wkt T} wkt_value UniformWkt whole (Err e) left
   error-now os e s left whole (now, starts, nested) is none =
       as-read e whole now left (outside os (length left) whole now none nested) (subst (λ r. Starts read r now left) is starts)

@@ -14,8 +14,8 @@ use Rattle.wkt_read.specs.Parser.Outcome.{Outcome, opening_at, header_at, value_
 use Rattle.wkt_read.specs.declared.messages.Message.{Message}
 use Rattle.wkt_read.specs.declared.messages.Message.TheVariants as message
 use Rattle.wkt_read.proofs.LawLemmas.OneForm.{BeginsBody, BodyOf, geometry_body, body_begins}
-use Rattle.wkt_read.proofs.ParserLemmas.Tells.{plain, plain_header}
-use Rattle.wkt_read.proofs.ParserLemmas.Told.{is_empty}
+use Rattle.wkt_read.proofs.ParserLemmas.Reporting.{plain, plain_header}
+use Rattle.wkt_read.proofs.ParserLemmas.Reported.{is_empty}
 use Rattle.wkt_read.proofs.ParserLemmas.Readings.{begins_more, header_exact, complete}
 
 empty_shut : {N : Type 0} (read : List ℕ → Option N) (b left : List Lexeme) → IsEmptyWord b → IsOpened read (b ++ left) → ⊥

@@ -14,7 +14,7 @@ use Rattle.wkt_read.specs.declared.error.ReadError.{ReadError}
 use Rattle.wkt_read.specs.declared.error.ReadError.TheVariants.{Text, Memory}
 use Rattle.wkt_read.specs.Ahead.{rest}
 use Rattle.wkt_read.specs.Parser.Errors.{OnMemory}
-use Rattle.wkt_read.specs.Parser.Promises.{TellsIn, Stands, ClosesAt, ReadsPart, Pushes}
+use Rattle.wkt_read.specs.Parser.Promises.{ReturnsUnlessMemory, Stands, ClosesAt, ReadsPart, Pushes}
 
 -- one item more
 pub all-push : {A : Type 0} (P : A → Type 0) (xs : List A) (x : A) → AllByRecursion P xs → P x → AllByRecursion P (xs ++ x ∷ [])
@@ -90,53 +90,53 @@ module _ {N : Type 0} (read : List ℕ → Option N) where
 
   module _ {A X : Type 0} (view : X → A) (Is : X → Type 0) where
     -- a closing place after a body
-    pub closed-in : (b res : Result X ReadError) (t : Outcome A) (old new : List Lexeme) → TellsIn view Is t b old → ClosesAt read b res old new → TellsIn view Is (closed read t) res new
+    pub closed-in : (b res : Result X ReadError) (t : Outcome A) (old new : List Lexeme) → ReturnsUnlessMemory view Is t b old → ClosesAt read b res old new → ReturnsUnlessMemory view Is (closed read t) res new
     unfolding closed
-    closed-in (Ok x) (Ok y) t old new tells closes = (ap (closed read) tells.0 ∙ ap (λ u. u >>= (λ c. Ok (view x, c.1))) closes.0 ∙ ap (λ z. Ok (view z, new)) (sym closes.1), subst Is (sym closes.1) tells.1)
-    closed-in (Ok x) (Err (Text n)) t old new tells (m, says, e) = (m, says, ap (closed read) tells.0 ∙ ap (λ u. u >>= (λ c. Ok (view x, c.1))) e)
-    closed-in (Ok x) (Err (Memory e)) t old new tells closes = absurd closes
-    closed-in (Err (Text m)) (Ok y) t old new tells closes = absurd closes
+    closed-in (Ok x) (Ok y) t old new reports closes = (ap (closed read) reports.0 ∙ ap (λ u. u >>= (λ c. Ok (view x, c.1))) closes.0 ∙ ap (λ z. Ok (view z, new)) (sym closes.1), subst Is (sym closes.1) reports.1)
+    closed-in (Ok x) (Err (Text n)) t old new reports (m, says, e) = (m, says, ap (closed read) reports.0 ∙ ap (λ u. u >>= (λ c. Ok (view x, c.1))) e)
+    closed-in (Ok x) (Err (Memory e)) t old new reports closes = absurd closes
+    closed-in (Err (Text m)) (Ok y) t old new reports closes = absurd closes
     closed-in (Err (Text m)) (Err (Text n)) t old new (k, says, e) (inl closes) = (k, closes.1 ∙ says, ap (closed read) e ∙ ap (λ u. u >>= (λ c. Err (k, c.1))) closes.0)
     closed-in (Err (Text m)) (Err (Text n)) t old new (k, says, e) (inr (j, said, f)) = (j, said, ap (closed read) e ∙ ap (λ u. u >>= (λ c. Err (k, c.1))) f)
-    closed-in (Err (Text m)) (Err (Memory e)) t old new tells closes = absurd closes
-    closed-in (Err (Memory e)) (Ok y) t old new tells closes = absurd closes
-    closed-in (Err (Memory e)) (Err (Text n)) t old new tells closes = absurd closes
-    closed-in (Err (Memory e)) (Err (Memory f)) t old new tells closes = tt
+    closed-in (Err (Text m)) (Err (Memory e)) t old new reports closes = absurd closes
+    closed-in (Err (Memory e)) (Ok y) t old new reports closes = absurd closes
+    closed-in (Err (Memory e)) (Err (Text n)) t old new reports closes = absurd closes
+    closed-in (Err (Memory e)) (Err (Memory f)) t old new reports closes = tt
 
-  pub framed-closed : {A X : Type 0} (view : X → A) (Is : X → Type 0) (empty : A) (body : List Lexeme → Outcome A) (lexemes r old new : List Lexeme) (paren : Bool) (b res : Result X ReadError) → paren ≡ true → opening_at read lexemes ≡ Ok (paren, r) → TellsIn view Is (body r) b old → ClosesAt read b res old new → TellsIn view Is (framed read empty body lexemes) res new
-  framed-closed view Is empty body lexemes r old new paren b res is e tells closes =
-      subst (λ t. TellsIn view Is t res new) (sym (framed-paren empty body lexemes r paren is e)) (closed-in view Is b res (body r) old new tells closes)
+  pub framed-closed : {A X : Type 0} (view : X → A) (Is : X → Type 0) (empty : A) (body : List Lexeme → Outcome A) (lexemes r old new : List Lexeme) (paren : Bool) (b res : Result X ReadError) → paren ≡ true → opening_at read lexemes ≡ Ok (paren, r) → ReturnsUnlessMemory view Is (body r) b old → ClosesAt read b res old new → ReturnsUnlessMemory view Is (framed read empty body lexemes) res new
+  framed-closed view Is empty body lexemes r old new paren b res is e reports closes =
+      subst (λ t. ReturnsUnlessMemory view Is t res new) (sym (framed-paren empty body lexemes r paren is e)) (closed-in view Is b res (body r) old new reports closes)
 
 module _ {A X : Type 0} (view : X → A) (Is : X → Type 0) where
   -- a message that is passed on
-  pub says-err : (r : Result X ReadError) (m : Message) (outcome : Outcome A) (left : List Lexeme) → IsErrAnd r (λ y. Says y m) → outcome ≡ Err (m, left) → TellsIn view Is outcome r left
+  pub says-err : (r : Result X ReadError) (m : Message) (outcome : Outcome A) (left : List Lexeme) → IsErrAnd r (λ y. Says y m) → outcome ≡ Err (m, left) → ReturnsUnlessMemory view Is outcome r left
   says-err (Ok x) m outcome left h e = absurd h
   says-err (Err (Text t)) m outcome left h e = (m, h, e)
   says-err (Err (Memory t)) m outcome left h e = absurd h
 
   -- an error of a callee that is passed on as it is
-  pub tells-pass : {B Y : Type 0} (other : Y → B) (Was : Y → Type 0) (e : ReadError) (r : Result X ReadError) (item : Outcome B) (whole : Outcome A) (left : List Lexeme) → IsErrAnd r (λ y. y ≡ e) → TellsIn other Was item (Err e) left → ((x : Message × List Lexeme) → item ≡ Err x → whole ≡ Err x) → TellsIn view Is whole r left
-  tells-pass other Was e (Ok x) item whole left h tells f = absurd h
-  tells-pass other Was (Text m) (Err (Text k)) item whole left h (j, says, is) f = let same : k ≡ m = cc in (j, ap (λ (b : Bor (List ℕ)). b.now) same ∙ says, f (j, left) is)
-  tells-pass other Was (Text m) (Err (Memory k)) item whole left h tells f = tt
-  tells-pass other Was (Memory m) (Err (Memory k)) item whole left h tells f = tt
-  tells-pass other Was (Memory m) (Err (Text k)) item whole left h tells f = cc
+  pub reports-pass : {B Y : Type 0} (other : Y → B) (Was : Y → Type 0) (e : ReadError) (r : Result X ReadError) (item : Outcome B) (whole : Outcome A) (left : List Lexeme) → IsErrAnd r (λ y. y ≡ e) → ReturnsUnlessMemory other Was item (Err e) left → ((x : Message × List Lexeme) → item ≡ Err x → whole ≡ Err x) → ReturnsUnlessMemory view Is whole r left
+  reports-pass other Was e (Ok x) item whole left h reports f = absurd h
+  reports-pass other Was (Text m) (Err (Text k)) item whole left h (j, says, is) f = let same : k ≡ m = cc in (j, ap (λ (b : Bor (List ℕ)). b.now) same ∙ says, f (j, left) is)
+  reports-pass other Was (Text m) (Err (Memory k)) item whole left h reports f = tt
+  reports-pass other Was (Memory m) (Err (Memory k)) item whole left h reports f = tt
+  reports-pass other Was (Memory m) (Err (Text k)) item whole left h reports f = cc
 
   -- an error of the reader that pushes an item
-  pub stands-pass : {B Y : Type 0} (other : Y → B) (Was : Y → Type 0) (before after : List Y) (e : ReadError) (r : Result X ReadError) (item : Outcome B) (whole : Outcome A) (left : List Lexeme) → IsErrAnd r (λ y. y ≡ e) → Stands {Y = Unit {0}} other Was item before (Err e) left after → ((x : Message × List Lexeme) → item ≡ Err x → whole ≡ Err x) → TellsIn view Is whole r left
-  stands-pass other Was before after e (Ok x) item whole left h tells f = absurd h
+  pub stands-pass : {B Y : Type 0} (other : Y → B) (Was : Y → Type 0) (before after : List Y) (e : ReadError) (r : Result X ReadError) (item : Outcome B) (whole : Outcome A) (left : List Lexeme) → IsErrAnd r (λ y. y ≡ e) → Stands {Y = Unit {0}} other Was item before (Err e) left after → ((x : Message × List Lexeme) → item ≡ Err x → whole ≡ Err x) → ReturnsUnlessMemory view Is whole r left
+  stands-pass other Was before after e (Ok x) item whole left h reports f = absurd h
   stands-pass other Was before after (Text m) (Err (Text k)) item whole left h (j, says, is) f = let same : k ≡ m = cc in (j, ap (λ (b : Bor (List ℕ)). b.now) same ∙ says, f (j, left) is)
-  stands-pass other Was before after (Text m) (Err (Memory k)) item whole left h tells f = tt
-  stands-pass other Was before after (Memory m) (Err (Memory k)) item whole left h tells f = tt
-  stands-pass other Was before after (Memory m) (Err (Text k)) item whole left h tells f = cc
+  stands-pass other Was before after (Text m) (Err (Memory k)) item whole left h reports f = tt
+  stands-pass other Was before after (Memory m) (Err (Memory k)) item whole left h reports f = tt
+  stands-pass other Was before after (Memory m) (Err (Text k)) item whole left h reports f = cc
 
   -- an error of the reader of an item, which is then not pushed
-  pub stands-err : {Y Z : Type 0} (other : Y → A) (Was : Y → Type 0) (before after : List X) (e : ReadError) (r : Result Z ReadError) (outcome : Outcome A) (left : List Lexeme) → IsErrAnd r (λ y. y ≡ e) → TellsIn other Was outcome (Err e) left → Stands view Is outcome before r left after
-  stands-err other Was before after e (Ok x) outcome left h tells = absurd h
+  pub stands-err : {Y Z : Type 0} (other : Y → A) (Was : Y → Type 0) (before after : List X) (e : ReadError) (r : Result Z ReadError) (outcome : Outcome A) (left : List Lexeme) → IsErrAnd r (λ y. y ≡ e) → ReturnsUnlessMemory other Was outcome (Err e) left → Stands view Is outcome before r left after
+  stands-err other Was before after e (Ok x) outcome left h reports = absurd h
   stands-err other Was before after (Text m) (Err (Text k)) outcome left h (j, says, is) = let same : k ≡ m = cc in (j, ap (λ (b : Bor (List ℕ)). b.now) same ∙ says, is)
-  stands-err other Was before after (Text m) (Err (Memory k)) outcome left h tells = tt
-  stands-err other Was before after (Memory m) (Err (Memory k)) outcome left h tells = tt
-  stands-err other Was before after (Memory m) (Err (Text k)) outcome left h tells = cc
+  stands-err other Was before after (Text m) (Err (Memory k)) outcome left h reports = tt
+  stands-err other Was before after (Memory m) (Err (Memory k)) outcome left h reports = tt
+  stands-err other Was before after (Memory m) (Err (Text k)) outcome left h reports = cc
 
   -- a message of the reader of an item, which is then not pushed
   pub stands-says : {Z : Type 0} (before after : List X) (m : Message) (r : Result Z ReadError) (outcome : Outcome A) (left : List Lexeme) → IsErrAnd r (λ y. Says y m) → outcome ≡ Err (m, left) → Stands view Is outcome before r left after
@@ -161,7 +161,7 @@ module _ {T A X : Type 0} (view : X → A) (Is : X → Type 0) (needs : Type 0) 
     -- an error of a part that is passed on as it is
     pub part-pass : (e : ReadError) (r : Result X ReadError) → IsErrAnd r (λ y. y ≡ e) → ReadsPart other Was needs item s (Err e) t → ((fuel : ℕ) (x : Message × List Lexeme) → item fuel (rest s) ≡ Err x → reading fuel (rest s) ≡ Err x) → ReadsPart view Is needs reading s r t
     part-pass e (Ok x) h p f = absurd h
-    part-pass (Text m) (Err (Text k)) h p f = record { exact = λ fuel le. tells-pass view Is other Was (Text m) (Err (Text k)) (item fuel (rest s)) (reading fuel (rest s)) (rest t) h (p.exact fuel le) (f fuel); memory = tt; near = tt; goes_on = p.goes_on }
+    part-pass (Text m) (Err (Text k)) h p f = record { exact = λ fuel le. reports-pass view Is other Was (Text m) (Err (Text k)) (item fuel (rest s)) (reading fuel (rest s)) (rest t) h (p.exact fuel le) (f fuel); memory = tt; near = tt; goes_on = p.goes_on }
     part-pass (Text m) (Err (Memory k)) h p f = cc
     part-pass (Memory m) (Err (Text k)) h p f = cc
     part-pass (Memory m) (Err (Memory k)) h p f = record { exact = λ fuel le. tt; memory = p.memory; near = tt; goes_on = p.goes_on }

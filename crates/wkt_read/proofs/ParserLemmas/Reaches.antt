@@ -6,27 +6,27 @@ use Rattle.wkt_read.specs.Grammar.{IsEmptyWord, More, Many}
 use Rattle.wkt_read.specs.Begun.{BegunEmpty, BegunNext, BegunMany, BegunWithin}
 use Rattle.wkt_read.specs.Parser.Outcome.{opening_at, closing_at}
 use Rattle.wkt_read.specs.declared.messages.Message.TheVariants as message
-use Rattle.wkt_read.proofs.ParserLemmas.Tells.{Telling, told, andthen, fronted, mapped, closed_f, framed_f, tail_f, many_f}
-use Rattle.wkt_read.proofs.ParserLemmas.Told.{Told, is_empty}
+use Rattle.wkt_read.proofs.ParserLemmas.Reporting.{Reporting, reported, andthen, fronted, mapped, closed_f, framed_f, tail_f, many_f}
+use Rattle.wkt_read.proofs.ParserLemmas.Reported.{Reported, is_empty}
 
 -- how many lexemes there are from the place where a reading stops
-abbrev pub reach : {A : Type 0} → Telling A → ℕ
+abbrev pub reach : {A : Type 0} → Reporting A → ℕ
 reach (Ok p) = length p.1
 reach (Err r) = length r.0
 
-pub told_reach : {A : Type 0} (W : List Lexeme → A → Type 0) (B : List Lexeme → Type 0) (ls : List Lexeme) (t : Telling A) → Told W B ls t → reach t ≤ length ls
-told_reach W B ls (Ok p) (f, e, x, y) = omega (arith, ap length e, length-append f p.1)
-told_reach W B ls (Err r) (pre, given, e, x, y, z) = omega (arith, ap length e, length-append pre r.0)
+pub reported_reach : {A : Type 0} (W : List Lexeme → A → Type 0) (B : List Lexeme → Type 0) (ls : List Lexeme) (t : Reporting A) → Reported W B ls t → reach t ≤ length ls
+reported_reach W B ls (Ok p) (f, e, x, y) = omega (arith, ap length e, length-append f p.1)
+reported_reach W B ls (Err r) (pre, given, e, x, y, z) = omega (arith, ap length e, length-append pre r.0)
 
-pub reach_then : {A B : Type 0} (n : ℕ) (t : Telling A) (f : A × List Lexeme → Telling B) → reach t ≤ n → ((p : A × List Lexeme) → length p.1 ≤ n → reach (f p) ≤ length p.1) → reach (andthen t f) ≤ n
+pub reach_then : {A B : Type 0} (n : ℕ) (t : Reporting A) (f : A × List Lexeme → Reporting B) → reach t ≤ n → ((p : A × List Lexeme) → length p.1 ≤ n → reach (f p) ≤ length p.1) → reach (andthen t f) ≤ n
 reach_then n (Ok p) f le go = let h = go p le in omega (arith, le, h)
 reach_then n (Err r) f le go = le
 
-pub reach_mapped : {A B : Type 0} (m : A → B) (t : Telling A) (n : ℕ) → reach t ≤ n → reach (mapped m t) ≤ n
+pub reach_mapped : {A B : Type 0} (m : A → B) (t : Reporting A) (n : ℕ) → reach t ≤ n → reach (mapped m t) ≤ n
 reach_mapped m (Ok p) n le = le
 reach_mapped m (Err r) n le = le
 
-reach_fronted : {A : Type 0} (front : List A) (t : Telling (List A)) (n : ℕ) → reach t ≤ n → reach (fronted front t) ≤ n
+reach_fronted : {A : Type 0} (front : List A) (t : Reporting (List A)) (n : ℕ) → reach t ≤ n → reach (fronted front t) ≤ n
 reach_fronted front (Ok p) n le = le
 reach_fronted front (Err r) n le = le
 
@@ -40,13 +40,13 @@ module _ {N : Type 0} (read : List ℕ → Option N) where
   reach_closing a (Word w ∷ ls) = omega arith
   reach_closing a (Num w ∷ ls) = omega arith
 
-  pub reach_closed : {A : Type 0} (t : Telling A) (n : ℕ) → reach t ≤ n → reach (closed_f read t) ≤ n
+  pub reach_closed : {A : Type 0} (t : Reporting A) (n : ℕ) → reach t ≤ n → reach (closed_f read t) ≤ n
   unfolding closed_f
   reach_closed (Ok p) n le = let h = reach_closing p.0 p.1 in omega (arith, le, h)
   reach_closed (Err r) n le = le
 
 -- items with commas
-module _ {A : Type 0} (item : List Lexeme → Telling A) (W : List Lexeme → A → Type 0) (most : ℕ)
+module _ {A : Type 0} (item : List Lexeme → Reporting A) (W : List Lexeme → A → Type 0) (most : ℕ)
     (exact : (a : A) (f r : List Lexeme) → W f a → length (f ++ r) ≤ most → item (f ++ r) ≡ Ok (a, r)) where
   more_exact : (xs : List A) (n : ℕ) (q r : List Lexeme) → More W q xs → length (q ++ (Close ∷ r)) ≤ n → length (q ++ (Close ∷ r)) ≤ most → tail_f item n (q ++ (Close ∷ r)) ≡ Ok (xs, Close ∷ r)
   unfolding tail_f
@@ -107,10 +107,10 @@ module _ {A : Type 0} (item : List Lexeme → Telling A) (W : List Lexeme → A 
         (reach_fronted (x ∷ []) (tail_f item n (q ++ (g ++ c))) (length c) (more_reach xs n q g c m next (omega (arith, less, enough)) (omega (arith, less, short)))))
 
 -- EMPTY or a part in parentheses
-module _ {A N : Type 0} (read : List ℕ → Option N) (empty : A) (body : List Lexeme → Telling A) where
+module _ {A N : Type 0} (read : List ℕ → Option N) (empty : A) (body : List Lexeme → Reporting A) where
   pub framed_empty : (b c : List Lexeme) → IsEmptyWord b → framed_f read empty body (b ++ c) ≡ Ok (empty, c)
   unfolding framed_f opening_at
-  framed_empty b c (w, e, is) = ap (λ l. framed_f read empty body (l ++ c)) e ∙ ap (λ t. andthen (told (Word w ∷ c) (cond t (Ok (false, c)) (Err (message.Open, c)))) (λ o. cond o.0 (closed_f read (body o.1)) (Ok (empty, o.1)))) (is_empty w is)
+  framed_empty b c (w, e, is) = ap (λ l. framed_f read empty body (l ++ c)) e ∙ ap (λ t. andthen (reported (Word w ∷ c) (cond t (Ok (false, c)) (Err (message.Open, c)))) (λ o. cond o.0 (closed_f read (body o.1)) (Ok (empty, o.1)))) (is_empty w is)
 
   pub framed_parens : (a : A) (b k c : List Lexeme) → b ≡ Open ∷ (k ++ (Close ∷ [])) → body (k ++ (Close ∷ c)) ≡ Ok (a, Close ∷ c) → framed_f read empty body (b ++ c) ≡ Ok (a, c)
   unfolding framed_f opening_at closed_f closing_at

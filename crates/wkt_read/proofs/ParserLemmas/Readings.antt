@@ -15,9 +15,9 @@ use Rattle.wkt_read.specs.Parser.Outcome.{is_empty_word, members_read, no_word, 
 use Rattle.wkt_read.specs.declared.messages.Message.{Message}
 use Rattle.wkt_read.proofs.LawLemmas.OneForm.{BeginsBody, BodyOf, geometry_body, body_begins}
 use Rattle.wkt_read.proofs.LawLemmas.Begun.{CutIn, Later, Earlier, cut_in, cuts_geometry, cuts_header, body_nothing, begun_listed_at}
-use Rattle.wkt_read.proofs.ParserLemmas.Tells.{plain, told, tell, andthen, mapped, framed_f, many_f, inside_f, line_string_f, line_strings_f, polygons_f, member_f, points_f, joined_or_f, kinded_f, header_f, body_f, value_f, plain_then, plain_header, ok_told}
-use Rattle.wkt_read.proofs.ParserLemmas.Told.{Told, told_then, told_after, is_empty}
-use Rattle.wkt_read.proofs.ParserLemmas.Reaches.{reach, told_reach, reach_then, reach_mapped}
+use Rattle.wkt_read.proofs.ParserLemmas.Reporting.{plain, reported, report, andthen, mapped, framed_f, many_f, inside_f, line_string_f, line_strings_f, polygons_f, member_f, points_f, joined_or_f, kinded_f, header_f, body_f, value_f, plain_then, plain_header, ok_reported}
+use Rattle.wkt_read.proofs.ParserLemmas.Reported.{Reported, reported_then, reported_after, is_empty}
+use Rattle.wkt_read.proofs.ParserLemmas.Reaches.{reach, reported_reach, reach_then, reach_mapped}
 use Rattle.wkt_read.proofs.ParserLemmas.Parts.{Part, Anything, map_part, listed_part, perhaps_part}
 use Rattle.wkt_read.proofs.ParserLemmas.Coords.{Nothing, coord_part, line_string_part, line_strings_part, member_part}
 
@@ -55,23 +55,23 @@ module _ {N : Type 0} (read : List ℕ → Option N) where
   abbrev pub DimensionPart : List Lexeme → Dimension → Type 0
   DimensionPart f d = DimPart None d f
 
-  told_worded : (o : Option Dimension) (b : Bool) (w : List ℕ) (rest : List Lexeme) → dim_word w ≡ o → Told DimensionPart (Nothing read) (Word w ∷ rest) (told (Word w ∷ rest) (worded read o b w rest))
-  told_worded (Some d) b w rest is = (Word w ∷ [], refl, inr (w, refl, is), refl)
-  told_worded None true w rest is = ([], refl, inl (refl, refl), refl)
-  told_worded None false w rest is = ([], [], refl, refl, refl, omega arith)
+  reported_worded : (o : Option Dimension) (b : Bool) (w : List ℕ) (rest : List Lexeme) → dim_word w ≡ o → Reported DimensionPart (Nothing read) (Word w ∷ rest) (reported (Word w ∷ rest) (worded read o b w rest))
+  reported_worded (Some d) b w rest is = (Word w ∷ [], refl, inr (w, refl, is), refl)
+  reported_worded None true w rest is = ([], refl, inl (refl, refl), refl)
+  reported_worded None false w rest is = ([], [], refl, refl, refl, omega arith)
 
-  told_numbered : (o : Option N) (run : List ℕ) (rest : List Lexeme) → Told DimensionPart (Nothing read) (Num run ∷ rest) (told (Num run ∷ rest) (numbered read o run rest))
-  told_numbered (Some x) run rest = ([], refl, inl (refl, refl), refl)
-  told_numbered None run rest = ([], [], refl, refl, refl, omega arith)
+  reported_numbered : (o : Option N) (run : List ℕ) (rest : List Lexeme) → Reported DimensionPart (Nothing read) (Num run ∷ rest) (reported (Num run ∷ rest) (numbered read o run rest))
+  reported_numbered (Some x) run rest = ([], refl, inl (refl, refl), refl)
+  reported_numbered None run rest = ([], [], refl, refl, refl, omega arith)
 
-  told_dimension : (ls : List Lexeme) → Told DimensionPart (Nothing read) ls (tell (dimension_at read) ls)
+  reported_dimension : (ls : List Lexeme) → Reported DimensionPart (Nothing read) ls (report (dimension_at read) ls)
   unfolding dimension_at
-  told_dimension [] = ([], [], refl, refl, refl, omega arith)
-  told_dimension (Word w ∷ rest) = told_worded (dim_word w) (is_empty_word w) w rest refl
-  told_dimension (Num run ∷ rest) = told_numbered (read run) run rest
-  told_dimension (Open ∷ rest) = ([], refl, inl (refl, refl), refl)
-  told_dimension (Close ∷ rest) = ([], refl, inl (refl, refl), refl)
-  told_dimension (Comma ∷ rest) = ([], refl, inl (refl, refl), refl)
+  reported_dimension [] = ([], [], refl, refl, refl, omega arith)
+  reported_dimension (Word w ∷ rest) = reported_worded (dim_word w) (is_empty_word w) w rest refl
+  reported_dimension (Num run ∷ rest) = reported_numbered (read run) run rest
+  reported_dimension (Open ∷ rest) = ([], refl, inl (refl, refl), refl)
+  reported_dimension (Close ∷ rest) = ([], refl, inl (refl, refl), refl)
+  reported_dimension (Comma ∷ rest) = ([], refl, inl (refl, refl), refl)
 
   abbrev pub HeaderPart : List Lexeme → GeometryType × Dimension → Type 0
   HeaderPart f k = Header k.0 k.1 f
@@ -83,26 +83,26 @@ module _ {N : Type 0} (read : List ℕ → Option N) where
   word_header : (e : KindWord) (j : Option Dimension) (d : Dimension) (w : List ℕ) (h : List Lexeme) → kind_word w ≡ Some e → e.joined ≡ j → DimPart j d h → Header e.kind d (Word w ∷ h)
   word_header e j d w h is ej dp = (w, e, h, refl, is, refl, subst (λ j. DimPart j d h) (sym ej) dp)
 
-  told_joined : (e : KindWord) (j : Option Dimension) (w : List ℕ) (rest : List Lexeme) → kind_word w ≡ Some e → e.joined ≡ j → Told HeaderPart BegunHeader (Word w ∷ rest) (joined_or_f read e.kind j rest)
-  told_joined e (Some d) w rest is ej = (Word w ∷ [], refl, word_header e (Some d) d w [] is ej (refl, refl), refl)
-  told_joined e None w rest is ej =
-      told_after DimensionPart HeaderPart (Nothing read) BegunHeader (λ d. (e.kind, d)) (Word w ∷ []) (Word w ∷ rest) rest (tell (dimension_at read) rest) refl refl
+  reported_joined : (e : KindWord) (j : Option Dimension) (w : List ℕ) (rest : List Lexeme) → kind_word w ≡ Some e → e.joined ≡ j → Reported HeaderPart BegunHeader (Word w ∷ rest) (joined_or_f read e.kind j rest)
+  reported_joined e (Some d) w rest is ej = (Word w ∷ [], refl, word_header e (Some d) d w [] is ej (refl, refl), refl)
+  reported_joined e None w rest is ej =
+      reported_after DimensionPart HeaderPart (Nothing read) BegunHeader (λ d. (e.kind, d)) (Word w ∷ []) (Word w ∷ rest) rest (report (dimension_at read) rest) refl refl
       (λ h d dp. word_header e None d w h is ej dp)
       (λ h eh. inr (e.kind, XY, word_header e None XY w h is ej (inl (refl, eh))))
-      (told_dimension rest)
+      (reported_dimension rest)
 
-  told_kinded : (other : Message) (o : Option KindWord) (w : List ℕ) (rest : List Lexeme) → kind_word w ≡ o → Told HeaderPart BegunHeader (Word w ∷ rest) (kinded_f read other o (Word w ∷ rest) rest)
-  told_kinded other None w rest is = ([], Word w ∷ [], refl, refl, inl refl, omega arith)
-  told_kinded other (Some e) w rest is = told_joined e e.joined w rest is refl
+  reported_kinded : (other : Message) (o : Option KindWord) (w : List ℕ) (rest : List Lexeme) → kind_word w ≡ o → Reported HeaderPart BegunHeader (Word w ∷ rest) (kinded_f read other o (Word w ∷ rest) rest)
+  reported_kinded other None w rest is = ([], Word w ∷ [], refl, refl, inl refl, omega arith)
+  reported_kinded other (Some e) w rest is = reported_joined e e.joined w rest is refl
 
-  told_header : (inside : Bool) (ls : List Lexeme) → Told HeaderPart BegunHeader ls (header_f read inside ls)
+  reported_header : (inside : Bool) (ls : List Lexeme) → Reported HeaderPart BegunHeader ls (header_f read inside ls)
   unfolding header_f
-  told_header inside [] = ([], [], refl, refl, inl refl, omega arith)
-  told_header inside (Word w ∷ rest) = told_kinded (no_kind inside w) (kind_word w) w rest refl
-  told_header inside (Open ∷ rest) = ([], Open ∷ [], refl, refl, inl refl, omega arith)
-  told_header inside (Close ∷ rest) = ([], Close ∷ [], refl, refl, inl refl, omega arith)
-  told_header inside (Comma ∷ rest) = ([], Comma ∷ [], refl, refl, inl refl, omega arith)
-  told_header inside (Num run ∷ rest) = ([], Num run ∷ [], refl, refl, inl refl, omega arith)
+  reported_header inside [] = ([], [], refl, refl, inl refl, omega arith)
+  reported_header inside (Word w ∷ rest) = reported_kinded (no_kind inside w) (kind_word w) w rest refl
+  reported_header inside (Open ∷ rest) = ([], Open ∷ [], refl, refl, inl refl, omega arith)
+  reported_header inside (Close ∷ rest) = ([], Close ∷ [], refl, refl, inl refl, omega arith)
+  reported_header inside (Comma ∷ rest) = ([], Comma ∷ [], refl, refl, inl refl, omega arith)
+  reported_header inside (Num run ∷ rest) = ([], Num run ∷ [], refl, refl, inl refl, omega arith)
 
   -- a header and what may stand after it
   dimension_follows : (s : List Lexeme) → BeginsBody s → dimension_at read s ≡ Ok (XY, s)
@@ -115,9 +115,9 @@ module _ {N : Type 0} (read : List ℕ → Option N) where
   unfolding dimension_at
   joined_exact k (Some i) d h s (ed, eh) follows = ap (λ l. Ok ((k, i), l ++ s)) eh ∙ ap (λ d. Ok ((k, d), s)) (sym ed)
   joined_exact k None d h s (inl (ed, eh)) follows =
-      ap (λ l. joined_or_f read k None (l ++ s)) eh ∙ ap (λ t. mapped (λ d. (k, d)) (told s t)) (dimension_follows s follows) ∙ ap (λ d. Ok ((k, d), s)) (sym ed)
+      ap (λ l. joined_or_f read k None (l ++ s)) eh ∙ ap (λ t. mapped (λ d. (k, d)) (reported s t)) (dimension_follows s follows) ∙ ap (λ d. Ok ((k, d), s)) (sym ed)
   joined_exact k None d h s (inr (z, eh, is)) follows =
-      ap (λ l. joined_or_f read k None (l ++ s)) eh ∙ ap (λ o. mapped (λ d. (k, d)) (told (Word z ∷ s) (worded read o (is_empty_word z) z s))) is
+      ap (λ l. joined_or_f read k None (l ++ s)) eh ∙ ap (λ o. mapped (λ d. (k, d)) (reported (Word z ∷ s) (worded read o (is_empty_word z) z s))) is
 
   pub header_exact : (inside : Bool) (k : GeometryType) (d : Dimension) (h s : List Lexeme) → Header k d h → BeginsBody s → header_f read inside (h ++ s) ≡ Ok ((k, d), s)
   unfolding header_f
@@ -128,9 +128,9 @@ module _ {N : Type 0} (read : List ℕ → Option N) where
   unfolding dimension_at
   joined_reach k (Some i) d h c (ed, eh) = omega (arith, ap (λ l. length (l ++ c)) eh)
   joined_reach k None d h c (inl (ed, eh)) =
-      subst (λ l. reach (joined_or_f read k None (l ++ c)) ≤ length c) (sym eh) (reach_mapped (λ d. (k, d)) (tell (dimension_at read) c) (length c) (told_reach DimensionPart (Nothing read) c (tell (dimension_at read) c) (told_dimension c)))
+      subst (λ l. reach (joined_or_f read k None (l ++ c)) ≤ length c) (sym eh) (reach_mapped (λ d. (k, d)) (report (dimension_at read) c) (length c) (reported_reach DimensionPart (Nothing read) c (report (dimension_at read) c) (reported_dimension c)))
   joined_reach k None d h c (inr (z, eh, is)) =
-      let at : joined_or_f read k None (h ++ c) ≡ Ok ((k, d), c) = ap (λ l. joined_or_f read k None (l ++ c)) eh ∙ ap (λ o. mapped (λ d. (k, d)) (told (Word z ∷ c) (worded read o (is_empty_word z) z c))) is in
+      let at : joined_or_f read k None (h ++ c) ≡ Ok ((k, d), c) = ap (λ l. joined_or_f read k None (l ++ c)) eh ∙ ap (λ o. mapped (λ d. (k, d)) (reported (Word z ∷ c) (worded read o (is_empty_word z) z c))) is in
       omega (arith, ap reach at)
 
   header_reach : (inside : Bool) (k : GeometryType) (d : Dimension) (h c : List Lexeme) → Header k d h → reach (header_f read inside (h ++ c)) ≤ length c
@@ -283,10 +283,10 @@ module _ {N : Type 0} (read : List ℕ → Option N) where
   body_follows kind.GeometryCollection d b h = listed_follows _ _ b h
 
   module _ (n : ℕ) (value : Part (StandFor read) Begun Anything (value_at read n true) (value_f read n true) n) where
-    with_header_told : (inside : Bool) (ls : List Lexeme) → length ls ≤ suc n → Told (StandFor read) Begun ls (andthen (header_f read inside ls) (λ h. body_f read (value_f read n true) n h.0.0 h.0.1 h.1))
-    with_header_told inside ls le =
-        told_then HeaderPart BegunHeader (λ k. BodyPart k.0 k.1) (λ k. BegunBody read Begun k.0 k.1) (StandFor read) Begun ls (header_f read inside ls) _ (told_header inside ls)
-        (λ p g e header. (body_part n value p.0.0 p.0.1).told p.1 (let long = header_long p.0.0 p.0.1 g header in omega (arith, le, ap length e, length-append g p.1)))
+    with_header_reported : (inside : Bool) (ls : List Lexeme) → length ls ≤ suc n → Reported (StandFor read) Begun ls (andthen (header_f read inside ls) (λ h. body_f read (value_f read n true) n h.0.0 h.0.1 h.1))
+    with_header_reported inside ls le =
+        reported_then HeaderPart BegunHeader (λ k. BodyPart k.0 k.1) (λ k. BegunBody read Begun k.0 k.1) (StandFor read) Begun ls (header_f read inside ls) _ (reported_header inside ls)
+        (λ p g e header. (body_part n value p.0.0 p.0.1).reported p.1 (let long = header_long p.0.0 p.0.1 g header in omega (arith, le, ap length e, length-append g p.1)))
         header_begun
         (λ k g v h header body. after_header k.0 k.1 g h v header body)
         (λ k g h header body. close_begun (g ++ h) (inr (k.0, k.1, g, h, refl, header, body)))
@@ -301,12 +301,12 @@ module _ {N : Type 0} (read : List ℕ → Option N) where
         ∙ (body_part n value (kind_of v) (dim_of v)).exact v b r (body, refl, refl) tt (omega (arith, le, ap length e2, length-append h (b ++ r)))
 
     nothing_reach : (k : GeometryType) (d : Dimension) (ls : List Lexeme) → length ls ≤ n → reach (body_f read (value_f read n true) n k d ls) ≤ length ls
-    nothing_reach k d ls le = told_reach (BodyPart k d) (BegunBody read Begun k d) ls (body_f read (value_f read n true) n k d ls) ((body_part n value k d).told ls le)
+    nothing_reach k d ls le = reported_reach (BodyPart k d) (BegunBody read Begun k d) ls (body_f read (value_f read n true) n k d ls) ((body_part n value k d).reported ls le)
 
     with_header_reach : (inside : Bool) (b c : List Lexeme) → BegunWithHeader b → length (b ++ c) ≤ suc n → reach (andthen (header_f read inside (b ++ c)) (λ h. body_f read (value_f read n true) n h.0.0 h.0.1 h.1)) ≤ length c
     with_header_reach inside b c (inl e) le =
         subst (λ l. reach (andthen (header_f read inside (l ++ c)) (λ h. body_f read (value_f read n true) n h.0.0 h.0.1 h.1)) ≤ length c) (sym e)
-        (told_reach (StandFor read) Begun c (andthen (header_f read inside c) (λ h. body_f read (value_f read n true) n h.0.0 h.0.1 h.1)) (with_header_told inside c (omega (arith, le, length-append b c))))
+        (reported_reach (StandFor read) Begun c (andthen (header_f read inside c) (λ h. body_f read (value_f read n true) n h.0.0 h.0.1 h.1)) (with_header_reported inside c (omega (arith, le, length-append b c))))
     with_header_reach inside b c (inr (k, d, h, s, e, header, body)) le =
         let long = header_long k d h header in
         let e2 : b ++ c ≡ h ++ (s ++ c) = ap (λ l. l ++ c) e ∙ append_assoc h s c in
@@ -342,14 +342,14 @@ module _ {N : Type 0} (read : List ℕ → Option N) where
   unfolding value_at value_f
   value_part zero inside = record {
     same = λ ls. refl;
-    told = λ ls le. none ls le;
+    reported = λ ls le. none ls le;
     exact = λ v f r g k le. let long = geometry_long v f g in absurd (omega (arith, le, length-append f r));
     reaches = λ b c h le. omega arith;
     cuts = cuts_geometry read;
     begun = λ a b le h. (1, inl (nil a b le));
   }
     where
-      none : (ls : List Lexeme) → length ls ≤ 0 → Told (StandFor read) Begun ls (Err ([], (no_word inside, ls)))
+      none : (ls : List Lexeme) → length ls ≤ 0 → Reported (StandFor read) Begun ls (Err ([], (no_word inside, ls)))
       none [] le = ([], [], refl, refl, (1, inl refl), omega arith)
       none (x ∷ ls) le = absurd (omega arith)
 
@@ -360,7 +360,7 @@ module _ {N : Type 0} (read : List ℕ → Option N) where
       let value = value_part n true in
       record {
         same = λ ls. plain_then (header_f read inside ls) _ _ _ (plain_header read inside ls) (λ h. (body_part n value h.0.0 h.0.1).same h.1);
-        told = with_header_told n value inside;
+        reported = with_header_reported n value inside;
         exact = λ v f r g k le. with_header_exact n value inside v f r g le;
         reaches = λ b c h le. with_header_reach n value inside b c (open_begun b h) le;
         cuts = cuts_geometry read;
@@ -371,8 +371,8 @@ module _ {N : Type 0} (read : List ℕ → Option N) where
   pub sound : (n : ℕ) (inside : Bool) (ls : List Lexeme) (p : Value N × List Lexeme) → length ls ≤ n → value_at read n inside ls ≡ Ok p → (f : List Lexeme) × (ls ≡ f ++ p.1) × StandFor read f p.0
   sound n inside ls p le e =
       let part = value_part n inside in
-      let t : value_f read n inside ls ≡ Ok p = ok_told (value_f read n inside ls) p (part.same ls ∙ e) in
-      let (f, e2, g, bal) = subst (Told (StandFor read) Begun ls) t (part.told ls le) in
+      let t : value_f read n inside ls ≡ Ok p = ok_reported (value_f read n inside ls) p (part.same ls ∙ e) in
+      let (f, e2, g, bal) = subst (Reported (StandFor read) Begun ls) t (part.reported ls le) in
       (f, e2, g)
 
   -- what is in the grammar is read, whatever follows

@@ -15,7 +15,7 @@ use Rattle.wkt_types.specs.Values.{values_of, AreUniform}
 use Rattle.wkt_read.specs.declared.error.ReadError.{ReadError}
 use Rattle.wkt_read.specs.declared.messages.Message.{Message}
 use Rattle.wkt_read.specs.declared.messages.Message.TheVariants as message
-use Rattle.wkt_read.specs.Parser.Promises.{TellsIn, Anything, Reads, ReadsPart}
+use Rattle.wkt_read.specs.Parser.Promises.{ReturnsUnlessMemory, Anything, Reads, ReadsPart}
 use Rattle.wkt_read.specs.Parser.Reads.{wkt_value, UniformWkt}
 use Rattle.wkt_read.specs.declared.parser.geometries.Start.{Start}
 use Rattle.wkt_types.specs.declared.geometry_type.GeometryType.TheVariants as kind
@@ -121,10 +121,10 @@ module _ {T : Type 0} (read : List ℕ → Option T) where
       let (n, le, same) = value-is read fuel inside ls r k l d e is enough in
       subst (λ t. Starts read res t left) (sym same) (f n le)
 
-  pub value-in : (fuel : ℕ) (inside : Bool) (ls r left : List Lexeme) (k l : GeometryType) (d : Dimension) (res : Result (Wkt T) ReadError) → header_at read inside ls ≡ Ok ((k, d), r) → k ≡ l → length ls ≤ fuel → ((n : ℕ) → length r ≤ n → TellsIn wkt_value UniformWkt (follows_at read l d n r) res left) → TellsIn wkt_value UniformWkt (value_at read fuel inside ls) res left
+  pub value-in : (fuel : ℕ) (inside : Bool) (ls r left : List Lexeme) (k l : GeometryType) (d : Dimension) (res : Result (Wkt T) ReadError) → header_at read inside ls ≡ Ok ((k, d), r) → k ≡ l → length ls ≤ fuel → ((n : ℕ) → length r ≤ n → ReturnsUnlessMemory wkt_value UniformWkt (follows_at read l d n r) res left) → ReturnsUnlessMemory wkt_value UniformWkt (value_at read fuel inside ls) res left
   value-in fuel inside ls r left k l d res e is enough f =
       let (n, le, same) = value-is read fuel inside ls r k l d e is enough in
-      subst (λ t. TellsIn wkt_value UniformWkt t res left) (sym same) (f n le)
+      subst (λ t. ReturnsUnlessMemory wkt_value UniformWkt t res left) (sym same) (f n le)
 
 pub shorter : {T : Type 0} (read : List ℕ → Option T) (inside : Bool) (s t u : PeekableTokens T) (k : GeometryType) (d : Dimension) → Reads (λ x. x) Anything (header_at read inside) s (Ok (k, d)) t → GoesOn t u → length (rest u) < length (rest s)
 shorter read inside s t u k d h go = omega (arith, header-takes read inside (rest s) (rest t) (k, d) h.exact.0, go.fewer)

@@ -11,7 +11,7 @@ use Rattle.wkt_read.specs.declared.parser.geometries.Frame.{Frame}
 use Rattle.wkt_read.specs.declared.parser.geometries.Start.{Start}
 use Rattle.wkt_read.specs.declared.parser.geometries.Start.TheVariants.{Whole, Opened}
 use Rattle.wkt_read.specs.Parser.Outcome.{members_read, Outcome, ◌>>=◌, with_front, closed, many_at, tail_at, value_at}
-use Rattle.wkt_read.specs.Parser.Promises.{TellsIn, Refuses, each, All}
+use Rattle.wkt_read.specs.Parser.Promises.{ReturnsUnlessMemory, Refuses, each, All}
 use Rattle.wkt_read.specs.Parser.Reads.{wkt_value, UniformWkt}
 use Rattle.wkt_read.specs.Parser.Walks.{GoesOn}
 use Rattle.wkt_read.specs.Ahead.{rest, IsNear}
@@ -68,7 +68,7 @@ pub record ReadsStart {T : Type 0} (read : List ℕ → Option T) (needs : Type 
 
 -- A reader of the closing place of a collection, after its members.
 pub record Shuts {T : Type 0} (read : List ℕ → Option T) (d : Dimension) (body : Result (Vec (Wkt T) Global) ReadError) (old : PeekableTokens T) (result : Result (Start T) ReadError) (new : PeekableTokens T) : Type 0 where
-  pub exact : (whole : Outcome (List (Value T))) → TellsIn (each wkt_value) (All UniformWkt) whole body (rest old) → Starts read result (shut_at read d whole) (rest new)
+  pub exact : (whole : Outcome (List (Value T))) → ReturnsUnlessMemory (each wkt_value) (All UniformWkt) whole body (rest old) → Starts read result (shut_at read d whole) (rest new)
   pub lighter : weight result ≤ most_after body
   pub near : OnWhole result (IsNear new)
   pub goes_on : GoesOn old new

@@ -19,18 +19,18 @@ abbrev pub Anything : {X : Type 0} → X → Type 0
 Anything x = Unit {0}
 
 -- The answer is this outcome: the value, as the result shows it, or the message; and these lexemes are left.
-abbrev pub Tells : {A X : Type 0} → (X → A) → (X → Type 0) → Outcome A → Result X Message → List Lexeme → Type 0
-Tells view Is outcome (Ok x) left = (outcome ≡ Ok (view x, left)) × Is x
-Tells view Is outcome (Err m) left = outcome ≡ Err (m, left)
+abbrev pub Returns : {A X : Type 0} → (X → A) → (X → Type 0) → Outcome A → Result X Message → List Lexeme → Type 0
+Returns view Is outcome (Ok x) left = (outcome ≡ Ok (view x, left)) × Is x
+Returns view Is outcome (Err m) left = outcome ≡ Err (m, left)
 
 -- A reader answers what this reading makes of the lexemes that are left, and the stream goes on to where the reading ends.
 pub record Reads {T A X : Type 0} (view : X → A) (Is : X → Type 0) (reading : List Lexeme → Outcome A) (old : PeekableTokens T) (result : Result X Message) (new : PeekableTokens T) : Type 0 where
-  pub exact : Tells view Is (reading (rest old)) result (rest new)
+  pub exact : Returns view Is (reading (rest old)) result (rest new)
   pub goes_on : GoesOn old new
 
 -- The same of a reader that takes no byte past the last lexeme but one.
 pub record ReadsNear {T A X : Type 0} (view : X → A) (Is : X → Type 0) (reading : List Lexeme → Outcome A) (old : PeekableTokens T) (result : Result X Message) (new : PeekableTokens T) : Type 0 where
-  pub exact : Tells view Is (reading (rest old)) result (rest new)
+  pub exact : Returns view Is (reading (rest old)) result (rest new)
   pub near : OnOk result (IsNear new)
   pub goes_on : GoesOn old new
 
@@ -39,10 +39,10 @@ abbrev pub Refuses : {A : Type 0} → Bor (List ℕ) → Outcome A → List Lexe
 Refuses text outcome left = (m : Message) × (text.now ≡ message_text m) × (outcome ≡ Err (m, left))
 
 -- The answer is this outcome, unless memory runs out.
-abbrev pub TellsIn : {A X : Type 0} → (X → A) → (X → Type 0) → Outcome A → Result X ReadError → List Lexeme → Type 0
-TellsIn view Is outcome (Ok x) left = (outcome ≡ Ok (view x, left)) × Is x
-TellsIn view Is outcome (Err (Text text)) left = Refuses text outcome left
-TellsIn view Is outcome (Err (Memory e)) left = Unit {0}
+abbrev pub ReturnsUnlessMemory : {A X : Type 0} → (X → A) → (X → Type 0) → Outcome A → Result X ReadError → List Lexeme → Type 0
+ReturnsUnlessMemory view Is outcome (Ok x) left = (outcome ≡ Ok (view x, left)) × Is x
+ReturnsUnlessMemory view Is outcome (Err (Text text)) left = Refuses text outcome left
+ReturnsUnlessMemory view Is outcome (Err (Memory e)) left = Unit {0}
 
 module _ {N : Type 0} (read : List ℕ → Option N) where
   -- The closing place was taken after a body: its error comes before the body's.
@@ -65,12 +65,12 @@ pub record Closes {T X N : Type 0} (read : List ℕ → Option N) (body : Result
 
 -- A reader of a list or a geometry does the same, whatever fuel is enough, unless memory runs out.
 pub record ReadsAll {T A X : Type 0} (view : X → A) (Is : X → Type 0) (reading : ℕ → List Lexeme → Outcome A) (old : PeekableTokens T) (result : Result X ReadError) (new : PeekableTokens T) : Type 0 where
-  pub exact : (fuel : ℕ) → length (rest old) ≤ fuel → TellsIn view Is (reading fuel (rest old)) result (rest new)
+  pub exact : (fuel : ℕ) → length (rest old) ≤ fuel → ReturnsUnlessMemory view Is (reading fuel (rest old)) result (rest new)
   pub goes_on : GoesOn old new
 
 -- The same of a reader that takes no byte past the last lexeme but one, and that wants memory only where this holds.
 pub record ReadsPart {T A X : Type 0} (view : X → A) (Is : X → Type 0) (needs : Type 0) (reading : ℕ → List Lexeme → Outcome A) (old : PeekableTokens T) (result : Result X ReadError) (new : PeekableTokens T) : Type 0 where
-  pub exact : (fuel : ℕ) → length (rest old) ≤ fuel → TellsIn view Is (reading fuel (rest old)) result (rest new)
+  pub exact : (fuel : ℕ) → length (rest old) ≤ fuel → ReturnsUnlessMemory view Is (reading fuel (rest old)) result (rest new)
   pub memory : OnMemory result needs
   pub near : OnOk result (IsNear new)
   pub goes_on : GoesOn old new

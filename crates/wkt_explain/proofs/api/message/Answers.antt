@@ -2,7 +2,7 @@
 use Rattle.std.proofs.Common.{[], ◌∷◌, sym, ap, ◌∙◌, subst}
 use Rattle.wkt_read.specs.Placed.{lexemes_of}
 use Rattle.wkt_read.specs.Stream.{coming}
-use Rattle.wkt_explain.specs.Table.{told}
+use Rattle.wkt_explain.specs.Table.{reported}
 use Rattle.wkt_explain.proofs.Counts.{own_parens}
 use Rattle.wkt_explain.proofs.Finding.{IsBefore, at_start, at_next, message_at_fault, message_at_end, not_over}
 use Rattle.wkt_explain.proofs.Streams.{sees_some, sees_none}
@@ -15,14 +15,14 @@ pub returns-in_default : goal.returns-in_default
 returns-in_default g c =
     let goes = not_over g.T.WktNum.read c.args.text.now _ _ _ c.lexemes.invariant c.requires in
     message_at_end g.T.WktNum.read c.args.text.now _ _ _ c.lexemes.invariant (sees_none g.T.WktNum.read _ _ c.in_default.ensures) goes c.expected.result c.expected.ensures c.message_at_end.result
-    (c.message_at_end.ensures ∙ ap (λ n. told g.T.WktNum.read c.expected.result n []) (own_parens c.lexemes.walk))
+    (c.message_at_end.ensures ∙ ap (λ n. reported g.T.WktNum.read c.expected.result n []) (own_parens c.lexemes.walk))
 
 pub returns-in_default-next : goal.returns-in_default-next
 returns-in_default-next g c =
     let goes = not_over g.T.WktNum.read c.args.text.now _ _ _ c.lexemes.invariant c.requires in
     let (x, e, ends, shows) = sees_some g.T.WktNum.read _ _ c.in-Some.seen c.in-Some.ensures in
     message_at_fault g.T.WktNum.read c.args.text.now _ (coming c.see.new.tokens) x _ _ c.lexemes.invariant e _ shows goes c.in_default-next.ensures.place c.expected-in_default-next.result c.expected-in_default-next.ensures c.message_there.result
-    (c.message_there.ensures x.lexeme shows ∙ ap (λ n. told g.T.WktNum.read c.expected-in_default-next.result n (x.lexeme ∷ lexemes_of (coming c.see.new.tokens))) (own_parens c.lexemes.walk))
+    (c.message_there.ensures x.lexeme shows ∙ ap (λ n. reported g.T.WktNum.read c.expected-in_default-next.result n (x.lexeme ∷ lexemes_of (coming c.see.new.tokens))) (own_parens c.lexemes.walk))
 
 pub lexemes-preserved : goal.lexemes-preserved
 lexemes-preserved g c =

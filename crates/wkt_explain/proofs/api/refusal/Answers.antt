@@ -2,10 +2,10 @@ use Rattle.std.proofs.Common.{[], ◌∷◌, sym, ap, ◌∙◌, subst}
 use Rattle.wkt_read.specs.Placed.{lexemes_of}
 use Rattle.wkt_read.specs.Stream.{coming}
 use Rattle.wkt_explain.specs.Explained.{IsRefusedAt}
-use Rattle.wkt_explain.specs.Table.{told, IsToldAt}
+use Rattle.wkt_explain.specs.Table.{reported, IsReportedAt}
 use Rattle.wkt_explain.proofs.Counts.{own_parens}
 use Rattle.wkt_explain.proofs.Borders.{part}
-use Rattle.wkt_explain.proofs.Finding.{IsBefore, at_start, at_next, none_at_fault, at_fault, message_at_fault, told_at_fault, none_at_end, at_end, message_at_end, told_at_end, at_over, past_same}
+use Rattle.wkt_explain.proofs.Finding.{IsBefore, at_start, at_next, none_at_fault, at_fault, message_at_fault, reported_at_fault, none_at_end, at_end, message_at_end, reported_at_end, at_over, past_same}
 use Rattle.wkt_explain.proofs.Streams.{sees_some, sees_none}
 use Rattle.wkt_explain.proofs.api.refusal.Goals as goal
 
@@ -50,24 +50,24 @@ returns-clause-front g c = at_over g.T.WktNum.read c.args.text.now _ _ _ c.lexem
 pub returns-in_default-clause-message : goal.returns-in_default-clause-message
 returns-in_default-clause-message g c =
     message_at_end g.T.WktNum.read c.args.text.now _ _ _ c.lexemes.invariant (sees_none g.T.WktNum.read _ _ c.in_default.ensures) (sym c.is_over.ensures ∙ c.lexemes-test.true) c.expected-expected.result c.expected-expected.ensures c.message_at_end.result
-    (c.message_at_end.ensures ∙ ap (λ n. told g.T.WktNum.read c.expected-expected.result n []) (own_parens c.lexemes.walk))
+    (c.message_at_end.ensures ∙ ap (λ n. reported g.T.WktNum.read c.expected-expected.result n []) (own_parens c.lexemes.walk))
 
 pub returns-in_default-clause-table : goal.returns-in_default-clause-table
 returns-in_default-clause-table g c =
     let past = past_same c.as_bytes.result.now c.args.text.now c.end-before.result _ _ c.as_bytes.ensures.value c.end-before.ensures c.past_white-end.ensures in
-    told_at_end g.T.WktNum.read c.args.text.now _ _ _ c.lexemes.invariant (sees_none g.T.WktNum.read _ _ c.in_default.ensures) (sym c.is_over.ensures ∙ c.lexemes-test.true) _ past c.expected-expected.result c.expected-expected.ensures c.message_at_end.result
-    (c.message_at_end.ensures ∙ ap (λ n. told g.T.WktNum.read c.expected-expected.result n []) (own_parens c.lexemes.walk))
+    reported_at_end g.T.WktNum.read c.args.text.now _ _ _ c.lexemes.invariant (sees_none g.T.WktNum.read _ _ c.in_default.ensures) (sym c.is_over.ensures ∙ c.lexemes-test.true) _ past c.expected-expected.result c.expected-expected.ensures c.message_at_end.result
+    (c.message_at_end.ensures ∙ ap (λ n. reported g.T.WktNum.read c.expected-expected.result n []) (own_parens c.lexemes.walk))
 
 pub returns-in_default-next-clause-message : goal.returns-in_default-next-clause-message
 returns-in_default-next-clause-message g c =
     let (x, e, ends, shows) = sees_some g.T.WktNum.read _ _ c.in-Some.seen c.in-Some.ensures in
     message_at_fault g.T.WktNum.read c.args.text.now _ (coming c.see.new.tokens) x _ _ c.lexemes.invariant e _ shows (sym c.is_over.ensures ∙ c.lexemes-test.true) c.in_default-next.ensures.place c.expected-expected-in_default-next.result c.expected-expected-in_default-next.ensures c.message_there.result
-    (c.message_there.ensures x.lexeme shows ∙ ap (λ n. told g.T.WktNum.read c.expected-expected-in_default-next.result n (x.lexeme ∷ lexemes_of (coming c.see.new.tokens))) (own_parens c.lexemes.walk))
+    (c.message_there.ensures x.lexeme shows ∙ ap (λ n. reported g.T.WktNum.read c.expected-expected-in_default-next.result n (x.lexeme ∷ lexemes_of (coming c.see.new.tokens))) (own_parens c.lexemes.walk))
 
 pub returns-in_default-next-clause-table : goal.returns-in_default-next-clause-table
 returns-in_default-next-clause-table g c =
     let past = past_same c.as_bytes-in_default-next.result.now c.args.text.now c.end-before.result _ _ c.as_bytes-in_default-next.ensures.value c.end-before.ensures c.past_white.ensures in
     let (x, e, ends, shows) = sees_some g.T.WktNum.read _ _ c.in-Some.seen c.in-Some.ensures in
-    subst (λ n. IsToldAt g.T.WktNum.read c.args.text.now c.past_white.result n c.expected-expected-in_default-next.result c.message_there.result) (sym (c.end-end.ensures ∙ ends))
-    (told_at_fault g.T.WktNum.read c.args.text.now _ (coming c.see.new.tokens) x _ _ c.lexemes.invariant e _ shows (sym c.is_over.ensures ∙ c.lexemes-test.true) _ c.in_default-next.ensures.place past c.expected-expected-in_default-next.result c.expected-expected-in_default-next.ensures c.message_there.result
-    (c.message_there.ensures x.lexeme shows ∙ ap (λ n. told g.T.WktNum.read c.expected-expected-in_default-next.result n (x.lexeme ∷ lexemes_of (coming c.see.new.tokens))) (own_parens c.lexemes.walk)))
+    subst (λ n. IsReportedAt g.T.WktNum.read c.args.text.now c.past_white.result n c.expected-expected-in_default-next.result c.message_there.result) (sym (c.end-end.ensures ∙ ends))
+    (reported_at_fault g.T.WktNum.read c.args.text.now _ (coming c.see.new.tokens) x _ _ c.lexemes.invariant e _ shows (sym c.is_over.ensures ∙ c.lexemes-test.true) _ c.in_default-next.ensures.place past c.expected-expected-in_default-next.result c.expected-expected-in_default-next.ensures c.message_there.result
+    (c.message_there.ensures x.lexeme shows ∙ ap (λ n. reported g.T.WktNum.read c.expected-expected-in_default-next.result n (x.lexeme ∷ lexemes_of (coming c.see.new.tokens))) (own_parens c.lexemes.walk)))

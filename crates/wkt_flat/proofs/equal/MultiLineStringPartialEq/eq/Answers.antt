@@ -2,8 +2,8 @@
 use Rattle.std.proofs.Common.{rules}
 use Rattle.wkt_flat.specs.Exact.{exact_by, pointwise_exact}
 use Rattle.wkt_flat.specs.Equal.{sequence_exact}
-use Rattle.wkt_flat.proofs.Sames.{told}
+use Rattle.wkt_flat.proofs.Sames.{reported}
 use Rattle.wkt_flat.proofs.equal.MultiLineStringPartialEq.eq.Goals as goal
 
 pub returns-clause-exact : goal.returns-clause-exact
-returns-clause-exact g c = told (pointwise_exact (sequence_exact (exact_by g.met.T.WktNum.same))) _ _ _ (search rules)
+returns-clause-exact g c = reported (pointwise_exact (sequence_exact (exact_by g.met.T.WktNum.same))) _ _ _ (search rules)

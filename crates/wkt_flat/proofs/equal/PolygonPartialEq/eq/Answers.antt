@@ -2,8 +2,8 @@
 use Rattle.std.proofs.Common.{rules}
 use Rattle.wkt_flat.specs.Exact.{exact_by}
 use Rattle.wkt_flat.specs.Equal.{rings_exact, coord_exact}
-use Rattle.wkt_flat.proofs.Sames.{told}
+use Rattle.wkt_flat.proofs.Sames.{reported}
 use Rattle.wkt_flat.proofs.equal.PolygonPartialEq.eq.Goals as goal
 
 pub returns-then-eq-clause-exact : goal.returns-then-eq-clause-exact
-returns-then-eq-clause-exact g c = told (rings_exact (coord_exact (exact_by g.met.T.WktNum.same))) _ _ _ (search rules)
+returns-then-eq-clause-exact g c = reported (rings_exact (coord_exact (exact_by g.met.T.WktNum.same))) _ _ _ (search rules)

@@ -14,8 +14,8 @@ pub returns-in_err-members : goal.returns-in_err-members
 returns-in_err-members g c =
     let read = g.T.WktNum.read in
     record {
-      exact = λ whole tells. starts-pass read (each wkt_value) (All UniformWkt) _ _ (closed read whole) (shut_at read c.args.dim whole) _ c.from_residual.ensures.1
-          (closed-in read (each wkt_value) (All UniformWkt) c.args.body (Err c.in_err-members.field-0.0) whole _ _ tells c.in_err-members.ensures.exact)
+      exact = λ whole reports. starts-pass read (each wkt_value) (All UniformWkt) _ _ (closed read whole) (shut_at read c.args.dim whole) _ c.from_residual.ensures.1
+          (closed-in read (each wkt_value) (All UniformWkt) c.args.body (Err c.in_err-members.field-0.0) whole _ _ reports c.in_err-members.ensures.exact)
           (λ x e. ap (λ t. t >>= (λ p. Ok (Value.collection c.args.dim (members_read p.0), p.1))) e);
       lighter = weight-err c.from_residual.result _ c.from_residual.ensures.0;
       near = whole-err c.from_residual.result _ c.from_residual.ensures.0;
@@ -26,8 +26,8 @@ pub returns : goal.returns
 returns g c =
     let read = g.T.WktNum.read in
     record {
-      exact = λ whole tells.
-          let (e, all) = closed-in read (each wkt_value) (All UniformWkt) c.args.body (Ok c.in_ok-members.members) whole _ _ tells c.in_ok-members.ensures.exact in
+      exact = λ whole reports.
+          let (e, all) = closed-in read (each wkt_value) (All UniformWkt) c.args.body (Ok c.in_ok-members.members) whole _ _ reports c.in_ok-members.ensures.exact in
           (ap (λ t. t >>= (λ p. Ok (Value.collection c.args.dim (members_read p.0), p.1))) e ∙ ap (λ v. Ok (v, rest c.close.new.tokens)) (sym c.collection_of.ensures.value), c.collection_of.ensures.uniform all);
       lighter = closes-most read c.args.body c.in_ok-members.members _ _ c.in_ok-members.ensures.exact;
       near = c.in_ok-members.ensures.near;

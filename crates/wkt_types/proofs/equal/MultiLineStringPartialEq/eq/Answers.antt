@@ -3,8 +3,8 @@ use Rattle.std.proofs.Common.{rules}
 use Rattle.wkt_flat.specs.Exact.{exact_by}
 use Rattle.wkt_types.specs.Exact.{held_exact}
 use Rattle.wkt_types.specs.Equal.{wkt_line_string_exact}
-use Rattle.wkt_flat.proofs.Sames.{told}
+use Rattle.wkt_flat.proofs.Sames.{reported}
 use Rattle.wkt_types.proofs.equal.MultiLineStringPartialEq.eq.Goals as goal
 
 pub returns-clause-exact : goal.returns-clause-exact
-returns-clause-exact g c = told (held_exact (wkt_line_string_exact (exact_by g.met.T.WktNum.same))) _ _ _ (search rules)
+returns-clause-exact g c = reported (held_exact (wkt_line_string_exact (exact_by g.met.T.WktNum.same))) _ _ _ (search rules)
