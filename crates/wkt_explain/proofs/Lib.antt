@@ -10,3 +10,4 @@ mod Finding
 mod Streams
 mod Borders
 mod OnePlace
+mod Behind

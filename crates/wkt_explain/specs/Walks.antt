@@ -1,5 +1,5 @@
 -- How a walk goes over the lexemes of a geometry. Only private contracts cite this file.
-use Rattle.std.specs.Prelude.{◌≡◌, ◌+◌, ℕ, suc, zero, List, Option, Some, None, Bool, true, false, ◌==◌, if◌then◌else◌}
+use Rattle.std.specs.Prelude.{◌≡◌, ◌+◌, ℕ, suc, zero, List, ◌++◌, codes, Option, Some, None, ◌⊎◌, Bool, true, false, ◌==◌, if◌then◌else◌}
 use Rattle.wkt_num.specs.Bytes as lex
 use Rattle.wkt_num.specs.Bytes.{Lexeme}
 use Rattle.wkt_access.specs.declared.dimensions.Dimension.{Dimension}
@@ -148,6 +148,14 @@ after_geometry (suc depth) s = None
 -- where a walk begins
 abbrev pub start : Walk
 start = at 0 place.Kind
+
+-- behind `POINT(`
+abbrev pub in_point : Walk
+in_point = at 0 (place.Number part.Point XY 1)
+
+-- where a walk over a text begins, and over what: behind `POINT(`, or before the text
+abbrev pub Begins : List ℕ → List ℕ → Walk → Type 0
+Begins text rest w = ((text ≡ codes "POINT(" ++ rest) × (w ≡ in_point)) ⊎ ((rest ≡ text) × (w ≡ start))
 
 -- the same, by the place
 abbrev pub next_from : Place → ℕ → Seen → Option Walk

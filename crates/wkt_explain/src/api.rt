@@ -7,6 +7,7 @@ ghost use Rattle.wkt_read.specs.Items.{bad_number};
 ghost use Rattle.wkt_read.specs.Refusal.{IsRefusedWith, IsTextRefused};
 ghost use Rattle.wkt_explain.specs.Explained.{HasFront, IsRefusedAt, IsPart};
 ghost use Rattle.wkt_explain.specs.Table.{IsReportedAt};
+ghost use Rattle.wkt_explain.specs.Walks.{Begins};
 ghost use Rattle.wkt_explain.specs.White.{IsPastWhite};
 
 use crate::explanation::{Explanation, Refusal};
@@ -33,14 +34,25 @@ fn past_white(text: &[u8], from: usize) -> usize
     at
 }
 
+// What stands behind `POINT(`, and the walk there, of a text that begins with it; else the text, and the walk before it.
+#[inline(always)]
+fn begun(text: &str) -> (&str, Walk)
+    ensures { Begins text.now result.0.now result.1 }
+{
+    if text.as_bytes().starts_with(b"POINT(") {
+        return (&text[6..], Walk::in_point());
+    }
+    (text, Walk::start())
+}
+
 /// With which message a text is refused that has no geometry at its front. It takes no memory, and no stack for
 /// nesting, and less time than `refusal`.
 pub fn message<T: WktNum>(text: &str) -> Message
     requires { HasNoFront T.read text.now }
     ensures { IsRefusedWith T.read text.now result }
 {
-    let mut tokens = Tokens::<T>::from_str(text);
-    let mut walk = Walk::start();
+    let (rest, mut walk) = begun(text);
+    let mut tokens = Tokens::<T>::from_str(rest);
     'lexemes: loop {
         let Some(seen) = see(&mut tokens) else {
             return message_at_end::<T>(walk, walk.expected());

@@ -1,6 +1,6 @@
 //! A walk over the lexemes of a geometry, which keeps nothing of the geometry.
 ghost use Rattle.std.specs.Prelude.{◌≡◌, ◌<◌, ◌≤◌, ◌+◌, IfSome};
-ghost use Rattle.wkt_explain.specs.Walks.{start, next, is_over, expected_at, number_expected};
+ghost use Rattle.wkt_explain.specs.Walks.{start, in_point, next, is_over, expected_at, number_expected};
 
 use crate::expected::Expected;
 use crate::place::{
@@ -18,6 +18,17 @@ impl Walk {
     {
         Walk {
             place: Place::Kind,
+            depth: 0,
+        }
+    }
+
+    /// Behind `POINT(`.
+    #[inline(always)]
+    pub(crate) fn in_point() -> Self
+        ensures { result ≡ in_point }
+    {
+        Walk {
+            place: Place::Number(Part::Point, Dimension::XY, 1),
             depth: 0,
         }
     }
