@@ -90,6 +90,6 @@ module _ (text near : List ℕ) (room : length text + 32 ≤ length near) (zeros
       let ascii : IsAscii near = λ i. omega (arith, zeros i) in
       subst IsUtf8 (sym front-is) (IsUtf8-append text (take 32 behind) u (IsUtf8-from_ascii (take 32 behind) (IsAscii-take behind 32 (IsAscii-drop near (length text) ascii))))
 
--- the front of bytes that are all of ASCII
-pub front-utf8 : (xs ys : List ℕ) → IsAscii (xs ++ ys) → IsUtf8 xs
-front-utf8 xs ys h = IsUtf8-from_ascii xs (subst IsAscii (take-append_seam xs ys) (IsAscii-take (xs ++ ys) (length xs) h))
+-- the front of bytes that is all of ASCII
+pub front-utf8 : (xs ys : List ℕ) (n : ℕ) → n ≡ length xs → IsAscii (take n (xs ++ ys)) → IsUtf8 xs
+front-utf8 xs ys n e h = IsUtf8-from_ascii xs (subst IsAscii (ap (λ k. take k (xs ++ ys)) e ∙ take-append_seam xs ys) h)

@@ -15,10 +15,13 @@ module _ {N : Type 0} (read : List ℕ → Option N) (num : N → List ℕ) wher
   WritesIfAny text old new (Some p) = HasWritten read num text 0 old new p.0 p.1 × (p.1 + 64 ≤ length old)
   WritesIfAny text old new None = HasNoFront read text
 
--- The canonical text stands at the front of a room, as long as is returned, and where the front ends is returned too; or the text is refused.
+  -- The canonical text stands at the front of a room, as long as is returned, and where the front ends is returned too; or the text is refused.
+  abbrev pub WritesOrRefuses : List ℕ → List ℕ → Result (ℕ × ℕ) ℕ → Type 0
+  WritesOrRefuses text room result = MatchResult result (λ r. IsCanonical read num text (take r.1 room) r.0) (Refuses read text)
+
+-- The same, with decimals of as many places as are asked for.
 abbrev pub WritesCanonical : ℕ → List ℕ → List ℕ → Result (ℕ × ℕ) ℕ → Type 0
-WritesCanonical asked text room result =
-    MatchResult result (λ r. IsCanonical (read_at (places_in asked)) (print_at (places_in asked)) text (take r.1 room) r.0) (Refuses (read_at (places_in asked)) text)
+WritesCanonical asked text room result = WritesOrRefuses (read_at (places_in asked)) (print_at (places_in asked)) text room result
 
 -- By its status, what a call says of a text, and what it has written then.
 pub record AnswersCanonical (asked : ℕ) (text : List ℕ) (status : ℕ) (out out' : List ℕ) (needed needed' end end' : ℕ) : Type 0 where

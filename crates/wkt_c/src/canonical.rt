@@ -3,14 +3,14 @@ ghost use Rattle.std.specs.Prelude.{◌≡◌, ◌≢◌, ◌+◌, ◌*◌, ◌�
 ghost use Rattle.std.specs.Str.{IsAscii};
 ghost use Rattle.wkt_num.specs.Bytes.{AllWhite};
 ghost use Rattle.wkt_num.specs.Decimal.{IsUnits};
-ghost use Rattle.wkt_c.specs.Calls.{AnswersCanonical, AreCompared, IsWalkedFor, WritesCanonical, WritesIfAny};
+ghost use Rattle.wkt_c.specs.Calls.{AnswersCanonical, AreCompared, IsWalkedFor, WritesCanonical, WritesIfAny, WritesOrRefuses};
 ghost use Rattle.wkt_read.specs.Laws.{FrontIsWritable, OneText};
 ghost use Rattle.wkt_c.specs.Answer.{read_at, print_at, places_in, asks_whole, EndsAsAsked, IsCanonical, Compares, RefusesOne, IsHandedOut, HasNoRoom};
 
 use crate::asked::{ends_as_asked, places_of};
 use crate::fill::hand_out;
 use crate::places::at_places;
-use crate::refusal::refusal_at;
+use crate::refusal::refusal;
 use crate::room::{make_room, no_room};
 use crate::status::{DONE, NOT_TEXT, NOT_WHOLE, SMALL};
 use std::alloc::Global;
@@ -38,18 +38,46 @@ fn write<const D: u32>(text: &str, room: &mut [u8]) -> Option<(usize, usize)>
     write_canonical::<Decimal<D>>(text, room, 0).unwrap_or(None)
 }
 
-/// The same, with decimals of so many places.
-fn write_at(text: &str, places: u32, room: &mut [u8]) -> Option<(usize, usize)>
-    requires places { places ≤ 18 }
-    requires room { 2 * length text.now + 65 ≤ length room.old }
-    ensures writes { WritesIfAny (read_at places) (print_at places) text.now room.old room.new result }
+/// The same, which returns where that ends, and how long the canonical text is, or why there is none. `walked` is the
+/// text, or the text and what stands behind a NUL.
+fn write_or_refuse<const D: u32>(
+    text: &str,
+    walked: &str,
+    room: &mut [u8],
+) -> Result<(usize, usize), u32>
+    requires room { 2 * length walked.now + 65 ≤ length room.old }
+    requires utf8 { IsUtf8 text.now }
+    requires walked { IsWalkedFor text.now walked.now }
+    ensures canonical { WritesOrRefuses (read_at D) (print_at D) text.now room.new result }
+    ensures within { IfOk result (λ r. r.1 + 64 ≤ length room.new) }
     ensures whole { length room.new ≡ length room.old }
 {
-    at_places!(places, write(text, room), unreachable!())
+    match write::<D>(walked, room) {
+        Some((end, n)) => Ok((end, n)),
+        None => Err(refusal::<D>(text)),
+    }
 }
 
-/// Writes the canonical text of what a text begins with to the front of the room, and returns where that ends, and how
-/// long the canonical text is. `walked` is the text, or the text and what stands behind a NUL.
+/// The same, with decimals of so many places.
+#[inline(always)]
+fn write_or_refuse_at(
+    text: &str,
+    walked: &str,
+    places: u32,
+    room: &mut [u8],
+) -> Result<(usize, usize), u32>
+    requires places { places ≤ 18 }
+    requires room { 2 * length walked.now + 65 ≤ length room.old }
+    requires utf8 { IsUtf8 text.now }
+    requires walked { IsWalkedFor text.now walked.now }
+    ensures canonical { WritesOrRefuses (read_at places) (print_at places) text.now room.new result }
+    ensures within { IfOk result (λ r. r.1 + 64 ≤ length room.new) }
+    ensures whole { length room.new ≡ length room.old }
+{
+    at_places!(places, write_or_refuse(text, walked, room), unreachable!())
+}
+
+/// The same, with decimals of as many places as are asked for.
 fn write_in(text: &str, walked: &str, asked: u32, room: &mut [u8]) -> Result<(usize, usize), u32>
     requires places { places_in asked ≤ 18 }
     requires room { 2 * length walked.now + 65 ≤ length room.old }
@@ -59,11 +87,7 @@ fn write_in(text: &str, walked: &str, asked: u32, room: &mut [u8]) -> Result<(us
     ensures within { IfOk result (λ r. r.1 + 64 ≤ length room.new) }
     ensures whole { length room.new ≡ length room.old }
 {
-    let places = places_of(asked);
-    match write_at(walked, places, room) {
-        Some((end, n)) => Ok((end, n)),
-        None => Err(refusal_at(text, places)),
-    }
+    write_or_refuse_at(text, walked, places_of(asked), room)
 }
 
 /// The same in a room of which no more is used than the text needs.
@@ -94,12 +118,13 @@ pub(crate) fn write_long(text: &str, asked: u32, room: &mut Vec<u8>) -> Result<(
     write_within(text, asked, room.as_mut_slice())
 }
 
-/// Whether each byte is of ASCII.
-fn is_ascii(bytes: &[u8]) -> bool
-    ensures { result ≡ true → IsAscii bytes.now }
+/// Whether each of the first `n` bytes is of ASCII, and each of those behind them that are looked at too.
+fn is_ascii(bytes: &[u8], n: usize) -> bool
+    requires { n + 32 ≤ length bytes.now }
+    ensures { result ≡ true → IsAscii (take n bytes.now) }
 {
     let mut at = 0;
-    'wide: while bytes.len() - at >= 32 {
+    'wide: while at < n {
         let window = u8x32::from_slice(&bytes[at..]);
         let high = window.simd_gt(u8x32::splat(127)).to_bitmask();
         if high != 0 {
@@ -107,7 +132,7 @@ fn is_ascii(bytes: &[u8]) -> bool
         }
         at += 32;
     }
-    at == bytes.len()
+    true
 }
 
 /// Writes the canonical text of what a short text begins with. The text is copied before zeros first, so that the walk
@@ -129,7 +154,7 @@ fn write_short(
 {
     let n = text.len();
     near[..n].copy_from_slice(text);
-    let text = if is_ascii(near) {
+    let text = if is_ascii(near, n) {
         unsafe { str::from_utf8_unchecked(text) }
     } else {
         match str::from_utf8(text) {

@@ -5,7 +5,8 @@ use Rattle.wkt_c.proofs.Padded.{front-utf8, is-walked, walked-utf8}
 use Rattle.wkt_c.proofs.canonical.write_short.Goals as goal
 
 pub from_utf8_unchecked-requires : goal.from_utf8_unchecked-requires
-from_utf8_unchecked-requires c = subst IsUtf8 c.copy_from_slice.ensures.after (front-utf8 c.copy_from_slice.new.self (drop (length c.args.text.now) c.args.near.now) (c.is_ascii.ensures c.if-is_ascii.true))
+from_utf8_unchecked-requires c =
+    subst IsUtf8 c.copy_from_slice.ensures.after (front-utf8 c.copy_from_slice.new.self (drop (length c.args.text.now) c.args.near.now) (length c.args.text.now) (ap length (sym c.copy_from_slice.ensures.after)) (c.is_ascii.ensures c.if-is_ascii.true))
 
 pub from_utf8_unchecked-walked-requires : goal.from_utf8_unchecked-walked-requires
 from_utf8_unchecked-walked-requires c =
