@@ -10,6 +10,7 @@ pub mod ArrayColumns
 pub mod TextColumns
 pub mod Tails
 pub mod Filled
+pub mod FlatPoints
 pub mod Fitting
 pub mod Pieces
 pub mod Calls

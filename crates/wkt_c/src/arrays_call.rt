@@ -3,15 +3,17 @@ ghost use Rattle.std.specs.Prelude.{◌≡◌, ◌≤◌, ◌≢◌, ◌⊎◌};
 ghost use Rattle.wkt_c.specs.Answer.{places_in, asks_whole, EndsAsAsked};
 ghost use Rattle.wkt_c.specs.Arrays.{IsNotFlat, HasMoreAt};
 ghost use Rattle.wkt_c.specs.ArraysCall.{AnswersArrays};
+ghost use Rattle.wkt_c.specs.Flat.{IsFlatPoint};
 ghost use Rattle.wkt_c.specs.Sizes.{AreHandedOut, HaveNoRoom};
 
 use crate::arrays_room::ArraysRoom;
 use crate::asked::ends_as_asked;
 use crate::fill::copy_to_front;
-use crate::flat::flat_asked;
+use crate::flat::{flat_asked, point_asked};
 use crate::sizes::WktSizes;
 use crate::status::{DONE, MEMORY, NOT_WHOLE, SMALL};
 use std::alloc::Global;
+use wkt_events::NearPoint;
 use wkt_fill::Room;
 
 /// How long a text may be whose arrays are made in a room on the stack.
@@ -76,8 +78,68 @@ fn arrays_in(
     }
 }
 
-/// The same of a short text. A longer one may have no room.
+/// Hands out the arrays of a point, which the text begins with.
+#[inline(always)]
+fn hand_out_point(
+    text: &[u8],
+    places: u32,
+    point: NearPoint,
+    sizes: &mut WktSizes,
+    numbers: &mut [i64],
+    rings: &mut [usize],
+    polygons: &mut [usize],
+) -> u32
+    requires { IsFlatPoint (places_in places) text.now point }
+    ensures filled { result ≡ DONE → AreHandedOut (places_in places) text.now sizes.new numbers.old numbers.new rings.old
+        rings.new polygons.old polygons.new }
+    ensures small { result ≡ SMALL → HaveNoRoom (places_in places) text.now sizes.new numbers.old rings.old polygons.old }
+    ensures as_asked { (result ≡ DONE) ⊎ (result ≡ SMALL) → EndsAsAsked (asks_whole places) text.now sizes.new.end }
+    ensures more { result ≡ NOT_WHOLE → HasMoreAt (places_in places) (asks_whole places) text.now sizes.new.end }
+    ensures others { 1 ≤ result → result ≢ SMALL → result ≢ NOT_WHOLE → IsNotFlat (places_in places) text.now result }
+    ensures kept { 1 ≤ result →
+        (numbers.new ≡ numbers.old) × (rings.new ≡ rings.old) × (polygons.new ≡ polygons.old) }
+    ensures sizes_kept { 1 ≤ result → result ≢ SMALL → result ≢ NOT_WHOLE → sizes.new ≡ sizes.old }
+{
+    sizes.kind = 0;
+    sizes.dimension = 0;
+    sizes.numbers = 2;
+    sizes.rings = 2;
+    sizes.polygons = 2;
+    sizes.end = point.end;
+    if !ends_as_asked(text, point.end, places) {
+        return NOT_WHOLE;
+    }
+    if numbers.len() < 2 || rings.len() < 2 || polygons.len() < 2 {
+        return SMALL;
+    }
+    copy_to_front(&[point.x, point.y], numbers);
+    copy_to_front(&[0, 1], rings);
+    copy_to_front(&[0, 1], polygons);
+    DONE
+}
+
+/// Hands out the arrays of a short text. A longer one may have no room.
 pub(crate) fn arrays_short(
+    text: &[u8],
+    places: u32,
+    sizes: &mut WktSizes,
+    numbers: &mut [i64],
+    rings: &mut [usize],
+    polygons: &mut [usize],
+) -> u32
+    requires { places_in places ≤ 18 }
+    ensures { AnswersArrays places text.now result sizes.old sizes.new numbers.old numbers.new rings.old rings.new
+        polygons.old polygons.new }
+{
+    match point_asked(text, places) {
+        Some(point) => hand_out_point(text, places, point, sizes, numbers, rings, polygons),
+        None => arrays_few(text, places, sizes, numbers, rings, polygons),
+    }
+}
+
+/// The same of a text that may be no point. It is apart since its rooms are cleared for each call.
+#[inline(never)]
+fn arrays_few(
     text: &[u8],
     places: u32,
     sizes: &mut WktSizes,
@@ -105,6 +167,7 @@ pub(crate) fn arrays_short(
 }
 
 /// The same of a text of the fewest bytes.
+#[inline(never)]
 fn arrays_shortest(
     text: &[u8],
     places: u32,

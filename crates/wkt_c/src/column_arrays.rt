@@ -1,17 +1,19 @@
 //! A column of texts as flat arrays at once.
-ghost use Rattle.std.specs.Prelude.{◌≡◌, ◌≤◌, MatchResult, []};
+ghost use Rattle.std.specs.Prelude.{◌≡◌, ◌≤◌, MatchResult, [], false};
 ghost use Rattle.wkt_c.specs.Answer.{places_in, asks_whole};
 ghost use Rattle.wkt_c.specs.Column.{AreOffsets, HasBits, row_count};
+ghost use Rattle.wkt_c.specs.Flat.{IsFlatPoint};
 ghost use Rattle.wkt_c.specs.ArrayRows.{HoldsNoArrays, AddsArrays, AddsRowArrays, HoldsArrays, row_of};
 
 use crate::arrays_room::ArraysRoom;
 use crate::asked::ends_as_asked;
 use crate::column::{GivenColumn, is_null};
-use crate::flat::flat_asked;
+use crate::flat::{flat_asked, point_asked};
 use crate::joined::{Joined, push};
 use crate::rebuild::GivenArrays;
 use crate::status::{DONE, MEMORY, NOT_WHOLE, NULL_ROW};
 use std::alloc::Global;
+use wkt_events::NearPoint;
 
 /// The arrays of some first rows, one row's after the other's.
 #[derive(Drop)]
@@ -81,6 +83,26 @@ impl ArrayRows {
         self.add(none, status)
     }
 
+    /// Adds the arrays of a row that is a point.
+    #[inline(always)]
+    fn add_point(&mut self, text: &[u8], asked: u32, point: NearPoint) -> Result<(), u32>
+        requires { IsFlatPoint (places_in asked) text.now point }
+        ensures { MatchResult result
+            (λ _. AddsRowArrays (places_in asked) (asks_whole asked) false text.now self.old self.new) (λ s. s ≡ MEMORY) }
+    {
+        if !ends_as_asked(text, point.end, asked) {
+            return self.add_none(NOT_WHOLE);
+        }
+        let row = GivenArrays {
+            kind: 0,
+            dimension: 0,
+            numbers: &[point.x, point.y],
+            rings: &[0, 1],
+            polygons: &[0, 1],
+        };
+        self.add(row, DONE)
+    }
+
     /// Adds the arrays of a row, which are made in the room first.
     fn add_row(
         &mut self,
@@ -96,6 +118,19 @@ impl ArrayRows {
         if null {
             return self.add_none(NULL_ROW);
         }
+        if let Some(point) = point_asked(text, asked) {
+            return self.add_point(text, asked, point);
+        }
+        self.add_flat(text, asked, room)
+    }
+
+    /// The same of a row that isn't null and may be no point.
+    #[inline(never)]
+    fn add_flat(&mut self, text: &[u8], asked: u32, room: &mut ArraysRoom) -> Result<(), u32>
+        requires { places_in asked ≤ 18 }
+        ensures { MatchResult result
+            (λ _. AddsRowArrays (places_in asked) (asks_whole asked) false text.now self.old self.new) (λ s. s ≡ MEMORY) }
+    {
         room.make(text.len())?;
         match flat_asked(text, asked, room.lend()) {
             Ok(flat) => {

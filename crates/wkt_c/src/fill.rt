@@ -8,6 +8,7 @@ use crate::status::{DONE, SMALL};
 const PIECE: usize = 256;
 
 /// Puts the list to the front of the buffer, which has room for it.
+#[inline(always)]
 pub(crate) fn copy_to_front<T: Copy>(list: &[T], out: &mut [T])
     requires { length list.now ≤ length out.old }
     ensures { out.new ≡ with_front list.now out.old }

@@ -1,8 +1,8 @@
 //! The flat arrays of the geometry that a text begins with.
-ghost use Rattle.std.specs.Prelude.{◌≡◌, ◌≤◌, ◌↔◌, IsTrue, IsUtf8, MatchResult, length, drop};
+ghost use Rattle.std.specs.Prelude.{◌≡◌, ◌≤◌, ◌↔◌, IsTrue, IsUtf8, IfSome, MatchResult, length, drop};
 ghost use Rattle.wkt_read.specs.Front.{HasNoFront};
 ghost use Rattle.wkt_c.specs.Answer.{places_in, read_at, Refuses};
-ghost use Rattle.wkt_c.specs.Flat.{IsFlat};
+ghost use Rattle.wkt_c.specs.Flat.{IsFlat, IsFlatPoint};
 ghost use Rattle.wkt_c.specs.Arrays.{IsNotFlat};
 
 use crate::asked::places_of;
@@ -10,6 +10,7 @@ use crate::infer::{number_of_dimension, number_of_kind};
 use crate::places::at_places;
 use crate::refusal::refusal;
 use crate::status::NOT_TEXT;
+use wkt_events::{NearPoint, near_point};
 use wkt_fill::{Filler, Room, fill_arrays};
 use wkt_num::Decimal;
 
@@ -92,4 +93,36 @@ pub(crate) fn flat_asked<'a>(text: &[u8], asked: u32, room: Room<'a>) -> Result<
     ensures { MatchResult result (IsFlat (places_in asked) text.now) (IsNotFlat (places_in asked) text.now) }
 {
     flat_at(text, places_of(asked), room)
+}
+
+/// The point of two numbers at the front of a text. `None` doesn't imply that none stands there.
+#[inline(always)]
+fn make_point<const D: u32>(text: &[u8]) -> Option<NearPoint>
+    ensures { IfSome result (λ p. IsFlatPoint D text.now p) }
+{
+    let Some(point) = near_point::<D>(text) else {
+        return None;
+    };
+    if !is_text_from(text, point.end) {
+        return None;
+    }
+    Some(point)
+}
+
+/// The same, with decimals of so many places.
+#[inline(always)]
+fn point_at(text: &[u8], places: u32) -> Option<NearPoint>
+    requires { places ≤ 18 }
+    ensures { IfSome result (λ p. IsFlatPoint places text.now p) }
+{
+    at_places!(places, make_point(text), unreachable!())
+}
+
+/// The same, with decimals of as many places as are asked for.
+#[inline(always)]
+pub(crate) fn point_asked(text: &[u8], asked: u32) -> Option<NearPoint>
+    requires { places_in asked ≤ 18 }
+    ensures { IfSome result (λ p. IsFlatPoint (places_in asked) text.now p) }
+{
+    point_at(text, places_of(asked))
 }

@@ -50,7 +50,7 @@ module _ {N : Type 0} (read : List ℕ → Option N) (feed : Bool) (text : List 
   all = left feed text 0
 
   -- lexemes were taken up to a place, and by them a value was read
-  front-to : (to : ℕ) (v : Value N) → Goes feed text 0 to → value_at read (length all) all ≡ Ok (v, left feed text to) → Front read bytes v to
+  pub front-to : (to : ℕ) (v : Value N) → Goes feed text 0 to → value_at read (length all) all ≡ Ok (v, left feed text to) → Front read bytes v to
   front-to to v g e =
       let (f, split, stands) = sound read (length all) true all (v, left feed text to) (omega arith) e in
       let given : List Placed = g.given ++ (g.last ∷ []) in

@@ -179,7 +179,7 @@ module _ {N : Type 0} (read : List ℕ → Option N) where
         let p = parts (left feed text at) k d o (left feed text to) h.reads in
         (f, p.behind, omega (arith, le, few), p.opening, value-of f (left feed text at) k d p.behind p.header)
 
-    opened-behind : (to fuel : ℕ) → GivesHeader read feed text at k d true to → length (left feed text at) ≤ fuel
+    pub opened-behind : (to fuel : ℕ) → GivesHeader read feed text at k d true to → length (left feed text at) ≤ fuel
         → (f : ℕ) × (length (left feed text to) ≤ f) × (value_at read fuel (left feed text at) ≡ inside_at read k d f (left feed text to))
     opened-behind to fuel h le =
         let (f, rest, enough, opens, is) = behind true to fuel h le in

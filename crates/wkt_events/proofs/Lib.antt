@@ -24,6 +24,7 @@ pub mod Legibles
 pub mod Listing
 pub mod Members
 pub mod NamedHeads
+pub mod NearPoints
 pub mod Nests
 pub mod Nothings
 pub mod NextWords

@@ -9,6 +9,7 @@ pub mod Whole
 pub mod Numbers
 pub mod LongTexts
 pub mod PenMaker
+pub mod Points
 pub mod Plus
 pub mod Spaces
 pub mod Written

@@ -253,7 +253,7 @@ fn after_geometry<T: WktNum, B: Builder<T> + Drop, const FEED_ENDS: bool>(
 
 /// Behind `POINT(` or `POINT (`, with a byte behind it. `None` doesn't imply that none stands there.
 #[inline(always)]
-fn point_head<T: WktNum, const FEED_ENDS: bool>(text: &[u8], at: usize) -> Option<usize>
+pub(crate) fn point_head<T: WktNum, const FEED_ENDS: bool>(text: &[u8], at: usize) -> Option<usize>
     requires { at ≤ length text.now }
     ensures { IfSome result (λ to. GivesHeader T.read FEED_ENDS text.now at kind_of.Point dim_of.XY true to) }
 {

@@ -1,0 +1,19 @@
+-- A row is refused, followed by more than it may be, or has its arrays.
+use Rattle.wkt_c.specs.Answer.{places_in, asks_whole}
+use Rattle.std.proofs.Common.{inl, refl}
+use Rattle.wkt_c.proofs.Handing.{match-map}
+use Rattle.wkt_c.proofs.ArrayColumns.{refused-arrays, longer-arrays}
+use Rattle.wkt_c.proofs.column_arrays.ArrayRows.add_flat.Goals as goal
+
+pub returns-else-status-eq-MEMORY : goal.returns-else-status-eq-MEMORY
+returns-else-status-eq-MEMORY c =
+    match-map c.add_none-in-Err.result
+    (λ x adds. refused-arrays (places_in c.args.asked) (asks_whole c.args.asked) _ _ _ _ _ refl (inl (c.if-status-eq-MEMORY.false, c.in-Err.ensures)) adds) (λ e h. h)
+    c.add_none-in-Err.ensures
+
+pub returns-then-not-ends_as_asked : goal.returns-then-not-ends_as_asked
+returns-then-not-ends_as_asked c =
+    let more = c.ends_as_asked.ensures.no c.if-not-ends_as_asked.true in
+    match-map c.add_none.result
+    (λ x adds. longer-arrays (places_in c.args.asked) (asks_whole c.args.asked) _ _ _ _ c.in-Ok.flat.end _ _ _ _ _ refl c.in-Ok.ensures more.0 more.1 adds) (λ e h. h)
+    c.add_none.ensures
