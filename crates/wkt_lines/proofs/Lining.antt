@@ -2,7 +2,7 @@
 use Rattle.std.proofs.Common.{◌≡◌, ◌≢◌, ℕ, zero, suc, ◌+◌, ◌-◌, ◌<◌, ◌≤◌, inl, inr, false, ◌==◌, if◌then◌else◌, List, [], ◌∷◌, ◌++◌, length, take, drop, get_or, refl, sym, ap, ◌∙◌, subst, append_assoc, Option, None, Some, arith}
 use Rattle.std.proofs.lemmas.List.{append-nil, take_all, length-drop, length-take-le}
 use Rattle.std.proofs.lemmas.Bool.{cases_lt}
-use Rattle.std.proofs.lemmas.Bool.Decides.{eqb_reports}
+use Rattle.std.proofs.lemmas.Bool.Decides.{eqb_tells}
 use Rattle.std.specs.Io.KnownBytes.{Consumes, Keeps, IsAtEnd, prepend_known}
 use Rattle.wkt_lines.specs.Lines.{input_lines}
 use Rattle.wkt_lines.specs.Splitting.{before_feed, after_feed}
@@ -17,7 +17,7 @@ other : (b : ℕ) (bs : List ℕ) → (b == 10) ≡ false → (before_feed (b �
 other b bs e = (ap (λ t. if t then [] else b ∷ before_feed bs) e, ap (λ t. if t then bs else after_feed bs) e)
 
 not_feed : (b : ℕ) → b ≢ 10 → (b == 10) ≡ false
-not_feed b n = elim (eqb_reports b 10) [ inl t ↦ absurd (n t.1) | inr f ↦ f.0 ]
+not_feed b n = elim (eqb_tells b 10) [ inl t ↦ absurd (n t.1) | inr f ↦ f.0 ]
 
 none_onto : (b : ℕ) (bs : List ℕ) → b ≢ 10 → HasNoFeed bs → HasNoFeed (b ∷ bs)
 none_onto b bs n h zero k = n
@@ -26,7 +26,7 @@ none_onto b bs n h (suc i) k = h i (omega (arith, k))
 -- what stands before a line feed has none
 pub none_before : (xs : List ℕ) → HasNoFeed (before_feed xs)
 none_before [] = λ k h. absurd (omega (arith, h))
-none_before (b ∷ bs) = elim (eqb_reports b 10) [
+none_before (b ∷ bs) = elim (eqb_tells b 10) [
   | inl t ↦
       let e : before_feed (b ∷ bs) ≡ [] = ap (λ u. if u then [] else b ∷ before_feed bs) t.0 in
       subst (λ (xs : List ℕ). HasNoFeed xs) (sym e) (λ k h. absurd (omega (arith, h)))
@@ -61,7 +61,7 @@ module _ (seen n : ℕ) (xs rest : List ℕ) (is : rest ≡ xs) (within : seen �
 -- what ends the first line is a line feed
 feed_at : (xs : List ℕ) → length (before_feed xs) < length xs → get_or xs (length (before_feed xs)) 0 ≡ 10
 feed_at [] h = absurd (omega (arith, h))
-feed_at (b ∷ bs) h = elim (eqb_reports b 10) [
+feed_at (b ∷ bs) h = elim (eqb_tells b 10) [
   | inl t ↦
       let e : before_feed (b ∷ bs) ≡ [] = ap (λ u. if u then [] else b ∷ before_feed bs) t.0 in
       ap (λ (l : List ℕ). get_or (b ∷ bs) (length l) 0) e ∙ t.1
@@ -86,7 +86,7 @@ none_to_end n xs h e = subst (λ (ys : List ℕ). HasNoFeed ys) (sym e ∙ take_
 -- the first line ends within the first of two pieces
 ends_within : (xs ys : List ℕ) → length (before_feed xs) < length xs → (before_feed (xs ++ ys) ≡ before_feed xs) × (after_feed (xs ++ ys) ≡ after_feed xs ++ ys)
 ends_within [] ys h = absurd (omega (arith, h))
-ends_within (b ∷ bs) ys h = elim (eqb_reports b 10) [
+ends_within (b ∷ bs) ys h = elim (eqb_tells b 10) [
   | inl t ↦ (
     ap (λ u. if u then [] else b ∷ before_feed (bs ++ ys)) t.0 ∙ sym (ap (λ u. if u then [] else b ∷ before_feed bs) t.0),
     ap (λ u. if u then bs ++ ys else after_feed (bs ++ ys)) t.0 ∙ ap (λ (zs : List ℕ). zs ++ ys) (sym (ap (λ u. if u then bs else after_feed bs) t.0)),

@@ -6,7 +6,7 @@ pub mod Readings
 pub mod Many
 pub mod Frames
 pub mod Wkts
-pub mod Returns
+pub mod Reporting
 pub mod Reported
 pub mod Reaches
 pub mod Early
