@@ -1,8 +1,7 @@
 #!/usr/bin/env bash
-# Builds the library for C, in capi/out, and runs its callers in C, C++, Python and Rust, and compares the keys of tests/keys.tsv.
+# Builds the library for C by tests/c_library.sh, which says what that needs, and runs its callers in C, C++, Python and
+# Rust, and compares the keys of tests/keys.tsv. With WKT_C_BUILT=1 the library in capi/out is taken as it is.
 #
-# It needs crates/wkt_c proved: the gate runs it on what rt ci has just proved; alone, run rt check in crates/wkt_c first,
-# or name a library that is built already by WKT_C_LIB.
 # What a machine lacks fails (tests/needs.sh installs it), unless SKIP names it: SKIP=python,rust tests/c_callers.sh.
 # Names: valgrind, c++, python, numpy, rust. The last line says what was skipped.
 set -u
@@ -37,10 +36,7 @@ fi
 dir=$(mktemp -d)
 trap 'rm -rf "$dir"' EXIT
 out=$PWD/capi/out
-if [ -z "${WKT_C_LIB:-}" ]; then
-    tests/lib_for_c.py 2> /dev/null || (cd crates/wkt_c && rt lib > /dev/null) || fail "wkt_c: rt lib fails"
-fi
-CC=$cc capi/build.sh || fail "capi/build.sh fails"
+[ -n "${WKT_C_BUILT:-}" ] || CC=$cc tests/c_library.sh || fail "no library for C"
 
 # The exported names are those of the header.
 sed -n 's/.*\(wkt_[a-z_]*\)(.*/\1/p' include/wkt.h | grep -vx wkt_status | sort -u > "$dir/declared"

@@ -2,7 +2,7 @@
 use Rattle.std.proofs.Common.{◌≡◌, ◌+◌, ◌-◌, ◌<◌, ◌≤◌, ◌++◌, ◌⊎◌, inl, inr, ℕ, zero, suc, List, [], ◌∷◌, Option, Bool, length, take, drop, get_or, refl, sym, ap, ◌∙◌, subst, arith, append_assoc, length-take, length-drop, length-append}
 use Rattle.std.specs.Prelude.{◌==◌, if◌then◌else◌, true, false}
 use Rattle.std.proofs.lemmas.List.{append-nil, take_all}
-use Rattle.std.proofs.lemmas.Bool.Decides.{eqb_reports}
+use Rattle.std.proofs.lemmas.Bool.Decides.{eqb_tells}
 use Rattle.std.proofs.Math.Seq.{take-add}
 use Rattle.wkt_lines.specs.Laws.{IsWhole, OutputOfParts}
 use Rattle.wkt_lines.specs.Output.{IsOutput}
@@ -40,7 +40,7 @@ whole_at xs at p h e =
 
 feed-step : (b : ℕ) (bs : List ℕ) → (length (before_feed bs) < length bs → take (suc (length (before_feed bs))) bs ≡ before_feed bs ++ (10 ∷ [])) →
     length (before_feed (b ∷ bs)) < length (b ∷ bs) → take (suc (length (before_feed (b ∷ bs)))) (b ∷ bs) ≡ before_feed (b ∷ bs) ++ (10 ∷ [])
-feed-step b bs h = elim (eqb_reports b 10) [
+feed-step b bs h = elim (eqb_tells b 10) [
   | inl t ↦
       let e : before_feed (b ∷ bs) ≡ [] = ap (λ u. if u then [] else b ∷ before_feed bs) t.0 in
       λ lt. ap (λ xs. take (suc (length xs)) (b ∷ bs)) e ∙ ap (λ c. c ∷ []) t.1 ∙ ap (λ xs. xs ++ (10 ∷ [])) (sym e)
