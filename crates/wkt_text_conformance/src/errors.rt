@@ -1,33 +1,29 @@
 //! The texts of the errors of writing.
 use crate::asserts::equal;
-use std::alloc::AllocError;
+use std::alloc::{AllocError, Global};
 use std::fmt;
-use std::test::Fail;
-use wkt::error::Error;
+use std::process::Abort;
+use wkt_access::Error;
+
+/// The error has that text.
+fn says(rt: &impl Abort, alloc: Global, error: Error, want: &str) {
+    equal(
+        rt,
+        error.to_string(alloc).expect(rt, "memory").as_str(),
+        want,
+    );
+}
 
 #[test]
-fn why_a_geometry_is_not_written(rt: HostRuntime) -> Result<(), Fail> {
+fn why_a_geometry_is_not_written(rt: HostRuntime) {
     let alloc = rt.alloc();
-    for (error, text) in [
-        (
-            Error::RectUnsupportedDimension,
-            "Only 2D input is supported when writing Rect to WKT.",
-        ),
-        (
-            Error::UnknownDimension,
-            "Only defined dimensions and undefined dimensions of 2, 3, or 4 are supported.",
-        ),
-        (
-            Error::FmtError(fmt::Error),
-            "an error occurred when formatting an argument",
-        ),
-        (
-            Error::TooFewNumbers,
-            "A coordinate has fewer numbers than its dimension.",
-        ),
-        (Error::Memory(AllocError), "out of memory"),
-    ] {
-        equal(&rt, error.to_string(alloc)?.as_str(), text);
-    }
-    Ok(())
+    let want = "Only 2D input is supported when writing Rect to WKT.";
+    says(&rt, alloc, Error::RectUnsupportedDimension, want);
+    let want = "Only defined dimensions and undefined dimensions of 2, 3, or 4 are supported.";
+    says(&rt, alloc, Error::UnknownDimension, want);
+    let want = "an error occurred when formatting an argument";
+    says(&rt, alloc, Error::FmtError(fmt::Error), want);
+    let want = "A coordinate has fewer numbers than its dimension.";
+    says(&rt, alloc, Error::TooFewNumbers, want);
+    says(&rt, alloc, Error::Memory(AllocError), "out of memory");
 }

@@ -1,35 +1,37 @@
 //! Headers of each length.
-use std::alloc::{AllocError, Global};
-use std::test::Fail;
-use wkt::infer_type;
+use crate::asserts::equal;
+use std::alloc::Global;
+use std::process::Abort;
+use wkt_read::infer_type;
 
-// The kind and the dimension, or the text of the error.
-fn shown(alloc: Global, text: &str) -> Result<String, AllocError> {
+/// The prefix is refused, and the error shows it whole, in capitals.
+fn shows_prefix(rt: &impl Abort, alloc: Global, text: &str, want: &str) {
     match infer_type(alloc, text) {
-        Ok((kind, dimension)) => format!(in alloc; "{kind:?} {dimension:?}"),
-        Err(error) => format!(in alloc; "{error}"),
+        Ok(_) => panic!(rt; "{text} has a kind"),
+        Err(error) => equal(
+            rt,
+            error.to_string(alloc).expect(rt, "memory").as_str(),
+            want,
+        ),
     }
 }
 
-// Whether the error shows a header of so many letters whole.
-fn shows_prefix(alloc: Global, length: usize) -> Result<bool, AllocError> {
-    let mut text = String::new(alloc);
-    let mut wanted = String::from_str(alloc, "Unsupported WKT prefix ")?;
-    for _ in 0..length {
-        text.push('a')?;
-        wanted.push('A')?;
-    }
-    text.push('(')?;
-    Ok(shown(alloc, text.as_str())?.as_str() == wanted.as_str())
+/// A prefix of so many letters is shown whole.
+fn shows_letters(rt: &impl Abort, alloc: Global, length: usize) {
+    let letters = "a".repeat(alloc, length).expect(rt, "memory");
+    let text = [letters.as_str(), "("].concat(alloc).expect(rt, "memory");
+    let shown = "A".repeat(alloc, length).expect(rt, "memory");
+    let want = ["Unsupported WKT prefix ", &shown]
+        .concat(alloc)
+        .expect(rt, "memory");
+    shows_prefix(rt, alloc, &text, &want);
 }
 
 // An `infer_type` that gives up on unknown prefixes, or above a size, fails here.
 #[test]
-fn long_prefixes(rt: HostRuntime) -> Result<(), Fail> {
-    let alloc = rt.alloc();
+fn long_prefixes(rt: HostRuntime) {
     for length in 1..=300 {
-        assert!(rt; shows_prefix(alloc, length)?, "of {length} letters");
+        shows_letters(&rt, rt.alloc(), length);
     }
-    assert!(rt; shows_prefix(alloc, 100000)?);
-    Ok(())
+    shows_letters(&rt, rt.alloc(), 100_000);
 }

@@ -1,15 +1,15 @@
-//! Tests of values that cross crates: texts read, compared and written, two-dimensional values, and what of the docs'
-//! examples is no row of a table. A text and its answer is a row of `wkt_conformance`.
+//! Tests that use several crates below `wkt`: values of all types that are made, copied, compared and written, numbers,
+//! lexemes, and sinks that are slow, full or fail.
 //!
-//! Below stand `wkt` and `wkt_types`.
+//! Below stand the crates of the types, the writers and the reader.
 #![tactic(auto)]
 
 #[cfg(test)]
 mod asserts;
 #[cfg(test)]
-mod doc_examples;
-#[cfg(test)]
 mod errors;
+#[cfg(test)]
+mod flat_sinks;
 #[cfg(test)]
 mod flat_texts;
 #[cfg(test)]
@@ -19,8 +19,10 @@ mod headers;
 #[cfg(test)]
 mod numbers;
 #[cfg(test)]
+mod own_to_wkt;
+#[cfg(test)]
 mod reading;
 #[cfg(test)]
-mod same;
+mod slow_sinks;
 #[cfg(test)]
 mod types_by_hand;

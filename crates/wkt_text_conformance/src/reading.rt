@@ -1,9 +1,9 @@
 //! What is read, and what of the text was taken.
 use crate::asserts::equal;
 use std::alloc::Global;
-use std::test::Fail;
-use wkt::tokenizer::{PeekableTokens, Token, Tokens};
-use wkt::{FromWktStr, ReadError, Wkt};
+use std::process::Abort;
+use wkt_read::{FromWktStr, PeekableTokens, ReadError, Token, Tokens};
+use wkt_types::Wkt;
 
 const BAD_NUMBER: &str = "Unable to parse input number as the desired output type";
 
@@ -31,54 +31,59 @@ fn peeks(rt: HostRuntime) {
     equal(&rt, &tokens.next(), &None);
 }
 
-// The texts of all geometries of a text, each read where the one before it ends.
-fn rewritten(alloc: Global, text: &str) -> Result<String, ReadError> {
-    let mut out = String::new(alloc);
+// Adds the text of a geometry to others.
+fn add_text(alloc: Global, out: &mut String, geometry: &Wkt<i32>) -> Result<(), ReadError> {
+    out.push_str(geometry.to_string(alloc)?.as_str())?;
+    out.push(';')?;
+    Ok(())
+}
+
+// Adds the texts of all geometries of a text, each read where the one before it ends.
+fn rewrite(alloc: Global, out: &mut String, text: &str) -> Result<(), ReadError> {
     let mut rest = text;
     'fronts: while !rest.is_empty() {
         let (geometry, end) = Wkt::<i32>::read_front(alloc, rest)?;
         rest = &rest[end..];
-        out.push_str(geometry.to_string(alloc)?.as_str())?;
-        out.push(';')?;
+        add_text(alloc, out, &geometry)?;
     }
-    Ok(out)
-}
-
-#[test]
-fn reads_one_front_after_the_other(rt: HostRuntime) -> Result<(), Fail> {
-    let alloc = rt.alloc();
-    let text = "point ( +1 2 ) Linestring z empty MULTIPOINT((1 2),3 4)";
-    let want = "POINT(1 2);LINESTRING Z EMPTY;MULTIPOINT((1 2),(3 4));";
-    equal(&rt, rewritten(alloc, text)?.as_str(), want);
-    assert!(rt; rewritten(alloc, "POINT(1 2) x").is_err());
     Ok(())
 }
 
 #[test]
-fn goes_on_after_a_geometry(rt: HostRuntime) -> Result<(), Fail> {
+fn reads_one_front_after_the_other(rt: HostRuntime) {
+    let alloc = rt.alloc();
+    let text = "point ( +1 2 ) Linestring z empty MULTIPOINT((1 2),3 4)";
+    let want = "POINT(1 2);LINESTRING Z EMPTY;MULTIPOINT((1 2),(3 4));";
+    let mut out = String::new(alloc);
+    assert!(rt; rewrite(alloc, &mut out, text).is_ok());
+    equal(&rt, out.as_str(), want);
+    assert!(rt; rewrite(alloc, &mut out, "POINT(1 2) x").is_err());
+}
+
+/// The next geometry is refused with that message.
+fn refuses(rt: &impl Abort, alloc: Global, tokens: &mut PeekableTokens<'_, i32>, want: &str) {
+    match Wkt::<i32>::read_tokens(alloc, tokens) {
+        Err(ReadError::Text(message)) => equal(rt, message, want),
+        _ => panic!(rt; "it isn't refused: {want}"),
+    }
+}
+
+#[test]
+fn goes_on_after_a_geometry(rt: HostRuntime) {
     let alloc = rt.alloc();
     let mut tokens = PeekableTokens::new(Tokens::from_str("POINT(1 2)LINESTRING EMPTY x"));
     assert!(rt; Wkt::<i32>::read_tokens(alloc, &mut tokens).is_ok());
     equal(&rt, tokens.end(), 10);
     assert!(rt; Wkt::<i32>::read_tokens(alloc, &mut tokens).is_ok());
     equal(&rt, tokens.end(), 26);
-    for want in ["Invalid type encountered", "Invalid WKT format"] {
-        match Wkt::<i32>::read_tokens(alloc, &mut tokens) {
-            Err(ReadError::Text(message)) => equal(&rt, message, want),
-            _ => return Err(Fail::from("read")),
-        }
-    }
-    Ok(())
+    refuses(&rt, alloc, &mut tokens, "Invalid type encountered");
+    refuses(&rt, alloc, &mut tokens, "Invalid WKT format");
 }
 
 // After an error the lexemes go on behind the one that was too much.
 #[test]
-fn goes_on_after_a_fault(rt: HostRuntime) -> Result<(), Fail> {
+fn goes_on_after_a_fault(rt: HostRuntime) {
     let mut tokens = PeekableTokens::new(Tokens::<i32>::from_str("POLYGON((1 2,x),3 4"));
-    match Wkt::<i32>::read_tokens(rt.alloc(), &mut tokens) {
-        Err(ReadError::Text(message)) => equal(&rt, message, NO_CLOSING),
-        _ => return Err(Fail::from("read")),
-    }
+    refuses(&rt, rt.alloc(), &mut tokens, NO_CLOSING);
     equal(&rt, tokens.next(), Some(Ok(Token::Number(3))));
-    Ok(())
 }

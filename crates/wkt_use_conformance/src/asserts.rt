@@ -6,8 +6,3 @@ use std::process::Abort;
 pub(crate) fn equal<T: PartialEq + Debug + Drop>(rt: &impl Abort, given: T, want: T) {
     assert_eq!(rt; given, want);
 }
-
-/// The two are equal, at that row.
-pub(crate) fn equal_at<T: PartialEq + Debug + Drop>(rt: &impl Abort, row: &str, given: T, want: T) {
-    assert_eq!(rt; given, want, "at {row}");
-}

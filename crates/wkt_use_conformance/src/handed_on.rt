@@ -4,7 +4,6 @@ use std::alloc::Global;
 use std::io;
 use std::io::ErrorKind;
 use std::process::Abort;
-use std::test::Fail;
 use wkt::geo_types::{Geometry, LineString, Point, Polygon};
 use wkt::geo_types_from_wkt::Error as FlatError;
 use wkt::to_wkt::{ByteSink, ByteSource, ReadAllError, TextSink, WriterWrapper, put_all, read_all};
@@ -21,7 +20,7 @@ enum Given {
     Code(i32),
 }
 
-const GIVEN: [Given; 6] = [
+const GIVEN: &[Given] = &[
     Given::Kind(ErrorKind::Other),
     Given::Kind(ErrorKind::BrokenPipe),
     Given::Kind(ErrorKind::PermissionDenied),
@@ -112,20 +111,31 @@ fn of_wrapper(failing: &mut Failing) -> Option<io::Error> {
     wrapper.take_fault()
 }
 
-/// What comes of each of eight calls that take a sink, or text that is gathered for one.
-fn of_sink(alloc: Global, call: usize, failing: &mut Failing) -> Option<io::Error> {
+/// What comes of the calls of the library that write.
+fn of_writer(alloc: Global, call: usize, failing: &mut Failing) -> Option<io::Error> {
     let point = Point::new(1i32, 2);
     match call {
-        0 => put_all(failing, b"POINT").err(),
-        1 => of_writing(point.write_wkt(alloc, failing)),
-        2 => of_writing(Geometry::from(point).write_wkt(alloc, failing)),
-        3 => of_writing(write_flat_key(alloc, &Geometry::from(point), failing)),
-        4 => of_run(run(alloc, &mut piecewise(b"POINT(1 2)\n"), failing)),
-        5 => of_run(stream(alloc, &mut piecewise(b"POINT(1 2)\n"), failing)),
-        6 => {
-            let mut polygon = piecewise(b"POLYGON((0 0,4 0,2 4))");
-            of_copy(copy_polygon::<i32, Piecewise<'_>, Failing>(alloc, &mut polygon, failing))
-        }
+        0 => of_writing(point.write_wkt(alloc, failing)),
+        1 => of_writing(Geometry::from(point).write_wkt(alloc, failing)),
+        _ => of_writing(write_flat_key(alloc, &Geometry::from(point), failing)),
+    }
+}
+
+/// The error of a copy whose sink fails.
+fn of_copy_out(alloc: Global, failing: &mut Failing) -> Option<io::Error> {
+    let mut polygon = piecewise(b"POLYGON((0 0,4 0,2 4))");
+    of_copy(copy_polygon::<i32, Piecewise<'_>, Failing>(alloc, &mut polygon, failing))
+}
+
+/// What comes of each of eight calls that take a sink, or text that is gathered for one.
+fn of_sink(alloc: Global, call: usize, failing: &mut Failing) -> Option<io::Error> {
+    let mut line = piecewise(b"POINT(1 2)\n");
+    match call {
+        0..=2 => of_writer(alloc, call, failing),
+        3 => put_all(failing, b"POINT").err(),
+        4 => of_run(run(alloc, &mut line, failing)),
+        5 => of_run(stream(alloc, &mut line, failing)),
+        6 => of_copy_out(alloc, failing),
         _ => of_wrapper(failing),
     }
 }
@@ -134,6 +144,16 @@ fn of_read_all(answer: Result<Vec<u8>, ReadAllError>) -> Option<io::Error> {
     match answer {
         Err(ReadAllError::Read(e)) => Some(e),
         _ => None,
+    }
+}
+
+/// What comes of the readers of flat values.
+fn of_reader(alloc: Global, call: usize, failing: &mut Failing) -> Option<io::Error> {
+    match call {
+        1 => of_reading(Point::<i32>::try_from_wkt_reader(alloc, failing)),
+        2 => of_reading(LineString::<i32>::try_from_wkt_reader(alloc, failing)),
+        3 => of_reading(Polygon::<i32>::try_from_wkt_reader(alloc, failing)),
+        _ => of_reading(Geometry::<i32>::try_from_wkt_reader(alloc, failing)),
     }
 }
 
@@ -146,62 +166,55 @@ fn of_source(alloc: Global, call: usize, failing: &mut Failing) -> Option<io::Er
     };
     match call {
         0 => of_read_all(read_all(alloc, failing)),
-        1 => of_reading(Point::<i32>::try_from_wkt_reader(alloc, failing)),
-        2 => of_reading(LineString::<i32>::try_from_wkt_reader(alloc, failing)),
-        3 => of_reading(Polygon::<i32>::try_from_wkt_reader(alloc, failing)),
-        4 => of_reading(Geometry::<i32>::try_from_wkt_reader(alloc, failing)),
+        1..=4 => of_reader(alloc, call, failing),
         5 => of_run(run(alloc, failing, &mut page)),
         6 => of_run(stream(alloc, failing, &mut page)),
         _ => of_copy(copy_polygon::<i32, Failing, Page>(alloc, failing, &mut page)),
     }
 }
 
+/// The words of an error.
+fn words(rt: &impl Abort, alloc: Global, error: &io::Error) -> String {
+    error.to_string(alloc).expect(rt, "memory")
+}
+
 /// The error that came has the kind, the code and the words of the one that was given.
-fn came_unchanged(
-    rt: &impl Abort,
-    alloc: Global,
-    call: usize,
-    came: Option<io::Error>,
-    given: Given,
-) -> Result<(), Fail> {
-    let Some(came) = came else {
-        panic!(rt; "call {call} returned no error of its sink or source");
-    };
-    let want = error(given);
-    assert!(rt; came.kind() == want.kind(), "of call {call}");
-    assert!(rt;
-        came.raw_os_error() == want.raw_os_error(),
-        "of call {call}"
-    );
-    let (words, wanted) = (format!(in alloc; "{came}")?, format!(in alloc; "{want}")?);
-    assert!(rt; words == wanted, "of call {call}");
-    Ok(())
+fn is_unchanged(rt: &impl Abort, alloc: Global, came: &io::Error, want: &io::Error) {
+    equal(rt, came.kind(), want.kind());
+    equal(rt, came.raw_os_error(), want.raw_os_error());
+    equal(rt, words(rt, alloc, came), words(rt, alloc, want));
+}
+
+/// The sink's error comes of the call, which makes one call on it.
+fn comes_of_sink(rt: &impl Abort, alloc: Global, call: usize, given: Given) {
+    let mut sink = Failing { given, failures: 0 };
+    let came = of_sink(alloc, call, &mut sink).expect(rt, "no error of the sink");
+    is_unchanged(rt, alloc, &came, &error(given));
+    equal(rt, sink.failures, 1);
 }
 
 #[test]
-fn comes_unchanged_from_sinks(rt: HostRuntime) -> Result<(), Fail> {
-    let alloc = rt.alloc();
-    for given in GIVEN {
+fn comes_unchanged_from_sinks(rt: HostRuntime) {
+    for &given in GIVEN {
         for call in 0..8 {
-            let mut sink = Failing { given, failures: 0 };
-            let came = of_sink(alloc, call, &mut sink);
-            came_unchanged(&rt, alloc, call, came, given)?;
-            equal(&rt, sink.failures, 1);
+            comes_of_sink(&rt, rt.alloc(), call, given);
         }
     }
-    Ok(())
+}
+
+/// The source's error comes of the call, which makes one call on it.
+fn comes_of_source(rt: &impl Abort, alloc: Global, call: usize, given: Given) {
+    let mut source = Failing { given, failures: 0 };
+    let came = of_source(alloc, call, &mut source).expect(rt, "no error of the source");
+    is_unchanged(rt, alloc, &came, &error(given));
+    equal(rt, source.failures, 1);
 }
 
 #[test]
-fn comes_unchanged_from_sources(rt: HostRuntime) -> Result<(), Fail> {
-    let alloc = rt.alloc();
-    for given in GIVEN {
+fn comes_unchanged_from_sources(rt: HostRuntime) {
+    for &given in GIVEN {
         for call in 0..8 {
-            let mut source = Failing { given, failures: 0 };
-            let came = of_source(alloc, call, &mut source);
-            came_unchanged(&rt, alloc, call, came, given)?;
-            equal(&rt, source.failures, 1);
+            comes_of_source(&rt, rt.alloc(), call, given);
         }
     }
-    Ok(())
 }

@@ -1,5 +1,5 @@
-//! Tests of the library in use: the callers of `wkt_uses`, called; sinks and sources that are slow, full or fail, under
-//! the library and under the programs.
+//! Tests of the library in use: the callers of `wkt_uses`, called; readers of flat values over slow sources; what of the
+//! docs' examples is no row of a table. A text and its answer is a row of `wkt_conformance`.
 //!
 //! Below stand `wkt_uses` and the crates that it calls.
 #![tactic(auto)]
@@ -9,22 +9,14 @@ mod asserts;
 #[cfg(test)]
 mod callers;
 #[cfg(test)]
-mod flat_sinks;
+mod doc_examples;
 #[cfg(test)]
-mod gathered;
+mod flat_sources;
 #[cfg(test)]
 mod handed_on;
 #[cfg(test)]
-mod own_to_wkt;
-#[cfg(test)]
 mod own_types;
 #[cfg(test)]
-mod pieces;
-#[cfg(test)]
-mod program_sinks;
-#[cfg(test)]
-mod read_lines;
-#[cfg(test)]
-mod slow_sinks;
+mod same;
 #[cfg(test)]
 mod walks;

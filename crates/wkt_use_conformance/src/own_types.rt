@@ -1,8 +1,7 @@
 //! The custom representation in `wkt_uses`, written by all eleven writers.
 use crate::asserts::equal;
-use std::alloc::{AllocError, Global};
+use std::alloc::Global;
 use std::process::Abort;
-use std::test::Fail;
 use wkt::error::Error;
 use wkt::geo_traits::Dimensions;
 use wkt::to_wkt::{
@@ -14,233 +13,233 @@ use wkt_uses::my_map::{Area, Areas, Corners, Figure, Map, Segment, Track, Tracks
 use wkt_uses::my_paper::Paper;
 use wkt_uses::my_points::{Dot, Dots, Spot};
 
-fn spot(alloc: Global, x: i32, y: i32, others: &[i32]) -> Result<Spot, AllocError> {
-    let mut numbers = [x, y].to_vec(alloc)?;
-    numbers.extend_from_slice(others)?;
-    Ok(Spot { numbers })
+fn spot(rt: &impl Abort, alloc: Global, x: i32, y: i32, others: &[i32]) -> Spot {
+    let first: &[i32] = &[x, y];
+    Spot {
+        numbers: [first, others].concat(alloc).expect(rt, "memory"),
+    }
 }
 
-fn dot(alloc: Global, header: Dimensions, others: &[i32]) -> Result<Dot, AllocError> {
-    let spot = spot(alloc, 1, 2, others)?;
-    Ok(Dot {
+fn dot(rt: &impl Abort, alloc: Global, header: Dimensions, others: &[i32]) -> Dot {
+    Dot {
         header,
-        spot: Some(spot),
-    })
+        spot: Some(spot(rt, alloc, 1, 2, others)),
+    }
 }
 
-fn track(alloc: Global, header: Dimensions, places: &[(i32, i32)]) -> Result<Track, AllocError> {
+fn track(rt: &impl Abort, alloc: Global, header: Dimensions, places: &[(i32, i32)]) -> Track {
     let mut spots = Vec::new(alloc);
     for &(x, y) in places {
-        spots.push(spot(alloc, x, y, &[])?)?;
+        spots.push(spot(rt, alloc, x, y, &[])).expect(rt, "memory");
     }
-    Ok(Track { header, spots })
+    Track { header, spots }
 }
 
 /// The corners (1 2), (3 4) and (5 6), each with the same further numbers.
-fn corners(alloc: Global, header: Dimensions, others: &[i32]) -> Result<Corners, AllocError> {
-    Ok(Corners {
+fn corners(rt: &impl Abort, alloc: Global, header: Dimensions, others: &[i32]) -> Corners {
+    Corners {
         header,
-        one: spot(alloc, 1, 2, others)?,
-        two: spot(alloc, 3, 4, others)?,
-        three: spot(alloc, 5, 6, others)?,
-    })
+        one: spot(rt, alloc, 1, 2, others),
+        two: spot(rt, alloc, 3, 4, others),
+        three: spot(rt, alloc, 5, 6, others),
+    }
 }
 
 /// A line of more numbers than its header says.
-fn segment(alloc: Global) -> Result<Segment, AllocError> {
-    Ok(Segment {
+fn segment(rt: &impl Abort, alloc: Global) -> Segment {
+    Segment {
         header: Dimensions::Unknown(4),
-        from: spot(alloc, 1, 2, &[7, 8, 9])?,
-        to: spot(alloc, 3, 4, &[7, 8])?,
-    })
+        from: spot(rt, alloc, 1, 2, &[7, 8, 9]),
+        to: spot(rt, alloc, 3, 4, &[7, 8]),
+    }
 }
 
 /// A polygon with one empty interior.
-fn area(alloc: Global, exterior: Option<Track>) -> Result<Area, AllocError> {
-    let mut interiors = Vec::new(alloc);
-    interiors.push(track(alloc, Dimensions::Xy, &[])?)?;
-    Ok(Area {
+fn area(rt: &impl Abort, alloc: Global, exterior: Option<Track>) -> Area {
+    let interior = track(rt, alloc, Dimensions::Xy, &[]);
+    Area {
         header: Dimensions::Xy,
         exterior,
-        interiors,
-    })
+        interiors: vec![in alloc; interior].expect(rt, "memory"),
+    }
 }
 
-fn ring(alloc: Global) -> Result<Track, AllocError> {
-    track(alloc, Dimensions::Xy, &[(0, 0), (1, 0), (0, 1), (0, 0)])
+fn ring(rt: &impl Abort, alloc: Global) -> Track {
+    let places = [(0, 0), (1, 0), (0, 1), (0, 0)];
+    track(rt, alloc, Dimensions::Xy, &places)
 }
 
 /// A point, and an empty one. The headers of members aren't looked at.
-fn dots(alloc: Global) -> Result<Dots, AllocError> {
+fn dots(rt: &impl Abort, alloc: Global) -> Dots {
     let header = Dimensions::Unknown(9);
-    let mut members = Vec::new(alloc);
-    members.push(dot(alloc, header, &[])?)?;
-    members.push(Dot { header, spot: None })?;
-    Ok(Dots {
+    let one = dot(rt, alloc, header, &[]);
+    let members = vec![in alloc; one, Dot { header, spot: None }];
+    Dots {
         header: Dimensions::Xy,
-        members,
-    })
+        members: members.expect(rt, "memory"),
+    }
 }
 
 /// A line string, and an empty one.
-fn tracks(alloc: Global) -> Result<Tracks, AllocError> {
-    let mut members = Vec::new(alloc);
-    members.push(track(alloc, Dimensions::Unknown(9), &[(1, 2), (3, 4)])?)?;
-    members.push(track(alloc, Dimensions::Unknown(9), &[])?)?;
-    Ok(Tracks {
+fn tracks(rt: &impl Abort, alloc: Global) -> Tracks {
+    let one = track(rt, alloc, Dimensions::Unknown(9), &[(1, 2), (3, 4)]);
+    let other = track(rt, alloc, Dimensions::Unknown(9), &[]);
+    Tracks {
         header: Dimensions::Xy,
-        members,
-    })
+        members: vec![in alloc; one, other].expect(rt, "memory"),
+    }
 }
 
 /// A polygon, one without exterior, and one with an empty exterior.
-fn areas(alloc: Global) -> Result<Areas, AllocError> {
-    let mut members = Vec::new(alloc);
-    members.push(area(alloc, Some(ring(alloc)?))?)?;
-    members.push(area(alloc, None)?)?;
-    members.push(area(alloc, Some(track(alloc, Dimensions::Xy, &[])?))?)?;
-    Ok(Areas {
+fn areas(rt: &impl Abort, alloc: Global) -> Areas {
+    let one = area(rt, alloc, Some(ring(rt, alloc)));
+    let other = area(rt, alloc, None);
+    let last = area(rt, alloc, Some(track(rt, alloc, Dimensions::Xy, &[])));
+    Areas {
         header: Dimensions::Xy,
-        members,
-    })
+        members: vec![in alloc; one, other, last].expect(rt, "memory"),
+    }
+}
+
+fn add(rt: &impl Abort, figures: &mut Vec<Figure>, figure: Figure) {
+    figures.push(figure).expect(rt, "memory");
 }
 
 /// A figure of each kind, the last of them a group of an empty group.
-fn figures(alloc: Global) -> Result<Vec<Figure>, AllocError> {
+fn figures(rt: &impl Abort, alloc: Global) -> Vec<Figure> {
     let mut figures = Vec::new(alloc);
-    push_parts(alloc, &mut figures)?;
-    push_lists(alloc, &mut figures)?;
-    push_others(alloc, &mut figures)?;
-    Ok(figures)
+    push_parts(rt, alloc, &mut figures);
+    push_lists(rt, alloc, &mut figures);
+    push_others(rt, alloc, &mut figures);
+    figures
 }
 
-fn push_parts(alloc: Global, figures: &mut Vec<Figure>) -> Result<(), AllocError> {
-    figures.push(Figure::Point(dot(alloc, Dimensions::Xyz, &[3, 4])?))?;
-    figures.push(Figure::Line(track(alloc, Dimensions::Xym, &[])?))?;
-    figures.push(Figure::Polygon(area(alloc, Some(ring(alloc)?))?))?;
-    Ok(())
+fn push_parts(rt: &impl Abort, alloc: Global, figures: &mut Vec<Figure>) {
+    let point = dot(rt, alloc, Dimensions::Xyz, &[3, 4]);
+    add(rt, figures, Figure::Point(point));
+    let line = track(rt, alloc, Dimensions::Xym, &[]);
+    add(rt, figures, Figure::Line(line));
+    let polygon = area(rt, alloc, Some(ring(rt, alloc)));
+    add(rt, figures, Figure::Polygon(polygon));
 }
 
-fn push_lists(alloc: Global, figures: &mut Vec<Figure>) -> Result<(), AllocError> {
-    figures.push(Figure::Points(dots(alloc)?))?;
-    figures.push(Figure::Lines(tracks(alloc)?))?;
-    figures.push(Figure::Polygons(areas(alloc)?))?;
-    Ok(())
+fn push_lists(rt: &impl Abort, alloc: Global, figures: &mut Vec<Figure>) {
+    add(rt, figures, Figure::Points(dots(rt, alloc)));
+    add(rt, figures, Figure::Lines(tracks(rt, alloc)));
+    add(rt, figures, Figure::Polygons(areas(rt, alloc)));
 }
 
-fn push_others(alloc: Global, figures: &mut Vec<Figure>) -> Result<(), AllocError> {
-    figures.push(Figure::Rect(corners(alloc, Dimensions::Unknown(2), &[])?))?;
-    figures.push(Figure::Triangle(corners(alloc, Dimensions::Xym, &[7])?))?;
-    figures.push(Figure::Segment(segment(alloc)?))?;
-    let inner = vec![in alloc; Figure::Group(Dimensions::Xyzm, Vec::new(alloc))]?;
-    figures.push(Figure::Group(Dimensions::Unknown(3), inner))?;
-    Ok(())
+fn push_others(rt: &impl Abort, alloc: Global, figures: &mut Vec<Figure>) {
+    let rect = corners(rt, alloc, Dimensions::Unknown(2), &[]);
+    add(rt, figures, Figure::Rect(rect));
+    let triangle = corners(rt, alloc, Dimensions::Xym, &[7]);
+    add(rt, figures, Figure::Triangle(triangle));
+    add(rt, figures, Figure::Segment(segment(rt, alloc)));
+    let empty = Figure::Group(Dimensions::Xyzm, Vec::new(alloc));
+    let inner = vec![in alloc; empty].expect(rt, "memory");
+    add(rt, figures, Figure::Group(Dimensions::Unknown(3), inner));
 }
 
 const ALL: &str =
     "GEOMETRYCOLLECTION(POINT Z(1 2 3),LINESTRING M EMPTY,POLYGON((0 0,1 0,0 1,0 0),EMPTY),MULTIPOINT((1 2),EMPTY),MULTILINESTRING((1 2,3 4),EMPTY),MULTIPOLYGON(((0 0,1 0,0 1,0 0),EMPTY),EMPTY,EMPTY),POLYGON((3 2,3 4,1 4,1 2,3 2)),POLYGON M((1 2 7,3 4 7,5 6 7,1 2 7)),LINESTRING ZM(1 2 7 8,3 4 7 8),GEOMETRYCOLLECTION Z(GEOMETRYCOLLECTION ZM EMPTY))";
 
 /// Writes a part of each kind.
-fn write_parts<W: TextSink>(sink: &mut W, alloc: Global) -> Result<(), Fail> {
-    write_point(sink, &dot(alloc, Dimensions::Xym, &[3])?)?;
-    write_linestring(sink, &track(alloc, Dimensions::Xy, &[(1, -2)])?)?;
-    write_polygon(sink, &area(alloc, None)?)?;
-    Ok(())
+fn write_parts<W: TextSink>(rt: &impl Abort, alloc: Global, sink: &mut W) {
+    let point = dot(rt, alloc, Dimensions::Xym, &[3]);
+    write_point(sink, &point).expect(rt, "written");
+    let line = track(rt, alloc, Dimensions::Xy, &[(1, -2)]);
+    write_linestring(sink, &line).expect(rt, "written");
+    write_polygon(sink, &area(rt, alloc, None)).expect(rt, "written");
 }
 
 /// Writes a list of each kind.
-fn write_lists<W: TextSink>(sink: &mut W, alloc: Global) -> Result<(), Fail> {
-    write_multi_point(sink, &dots(alloc)?)?;
-    write_multi_linestring(sink, &tracks(alloc)?)?;
-    write_multi_polygon(sink, &areas(alloc)?)?;
-    Ok(())
+fn write_lists<W: TextSink>(rt: &impl Abort, alloc: Global, sink: &mut W) {
+    write_multi_point(sink, &dots(rt, alloc)).expect(rt, "written");
+    write_multi_linestring(sink, &tracks(rt, alloc)).expect(rt, "written");
+    write_multi_polygon(sink, &areas(rt, alloc)).expect(rt, "written");
 }
 
 /// Writes what is written as another kind.
-fn write_others<W: TextSink>(sink: &mut W, alloc: Global) -> Result<(), Fail> {
-    write_rect(sink, &corners(alloc, Dimensions::Unknown(2), &[])?)?;
-    write_triangle(sink, &corners(alloc, Dimensions::Xy, &[])?)?;
-    write_line(sink, &segment(alloc)?)?;
-    Ok(())
+fn write_others<W: TextSink>(rt: &impl Abort, alloc: Global, sink: &mut W) {
+    let rect = corners(rt, alloc, Dimensions::Unknown(2), &[]);
+    write_rect(sink, &rect).expect(rt, "written");
+    let triangle = corners(rt, alloc, Dimensions::Xy, &[]);
+    write_triangle(sink, &triangle).expect(rt, "written");
+    write_line(sink, &segment(rt, alloc)).expect(rt, "written");
 }
 
 const EACH: &str =
     "POINT M(1 2 3)LINESTRING(1 -2)POLYGON EMPTYMULTIPOINT((1 2),EMPTY)MULTILINESTRING((1 2,3 4),EMPTY)MULTIPOLYGON(((0 0,1 0,0 1,0 0),EMPTY),EMPTY,EMPTY)POLYGON((3 2,3 4,1 4,1 2,3 2))POLYGON((1 2,3 4,5 6,1 2))LINESTRING ZM(1 2 7 8,3 4 7 8)";
 
 #[test]
-fn writes_each_kind(rt: HostRuntime) -> Result<(), Fail> {
-    let alloc = rt.alloc();
-    let mut text = String::new(alloc);
+fn writes_each_kind(rt: HostRuntime) {
+    let mut text = String::new(rt.alloc());
     let mut sink = CountedText::new(&mut text);
-    write_parts(&mut sink, alloc)?;
-    write_lists(&mut sink, alloc)?;
-    write_others(&mut sink, alloc)?;
+    write_parts(&rt, rt.alloc(), &mut sink);
+    write_lists(&rt, rt.alloc(), &mut sink);
+    write_others(&rt, rt.alloc(), &mut sink);
     sink.into_writer();
     equal(&rt, text.as_str(), EACH);
-    Ok(())
 }
 
 #[test]
-fn writes_collections(rt: HostRuntime) -> Result<(), Fail> {
-    let alloc = rt.alloc();
+fn writes_collections(rt: HostRuntime) {
     let header = Dimensions::Xy;
-    let figures = figures(alloc)?;
+    let figures = figures(&rt, rt.alloc());
     let map = Map { header, figures };
-    let mut text = String::new(alloc);
-    let mut sink = CountedText::new(&mut text);
-    write_geometry_collection(&mut sink, &map)?;
-    sink.into_writer();
+    let mut text = String::new(rt.alloc());
+    write_geometry_collection(&mut CountedText::new(&mut text), &map).expect(&rt, "written");
     equal(&rt, text.as_str(), ALL);
-    let group = Figure::Group(header, map.figures);
-    let mut text = String::new(alloc);
-    push_geometry(&mut text, &group)?;
+}
+
+#[test]
+fn writes_groups(rt: HostRuntime) {
+    let group = Figure::Group(Dimensions::Xy, figures(&rt, rt.alloc()));
+    let mut text = String::new(rt.alloc());
+    push_geometry(&mut text, &group).expect(&rt, "written");
     equal(&rt, text.as_str(), ALL);
-    Ok(())
 }
 
 /// Why a figure isn't written; nothing of it is.
-fn fault_of(alloc: Global, figure: &Figure) -> Result<Error, Fail> {
+fn fault_of(rt: &impl Abort, alloc: Global, figure: &Figure) -> Error {
     let mut text = String::new(alloc);
-    match push_geometry(&mut text, figure) {
-        Err(error) if text.is_empty() => Ok(error),
-        _ => Err(Fail::from("something is written")),
-    }
+    let answer = push_geometry(&mut text, figure);
+    equal(rt, text.len(), 0);
+    answer.expect_err(rt, "it is written")
 }
 
 #[test]
-fn refuses_few_numbers(rt: HostRuntime) -> Result<(), Fail> {
-    let alloc = rt.alloc();
-    let short = Figure::Point(dot(alloc, Dimensions::Xyzm, &[3])?);
-    assert!(rt; matches!(fault_of(alloc, &short)?, Error::TooFewNumbers));
-    Ok(())
+fn refuses_few_numbers(rt: HostRuntime) {
+    let short = Figure::Point(dot(&rt, rt.alloc(), Dimensions::Xyzm, &[3]));
+    let fault = fault_of(&rt, rt.alloc(), &short);
+    assert!(rt; matches!(fault, Error::TooFewNumbers));
 }
 
 #[test]
-fn refuses_an_unknown_dimension(rt: HostRuntime) -> Result<(), Fail> {
-    let alloc = rt.alloc();
-    let line = Figure::Line(track(alloc, Dimensions::Unknown(5), &[(1, 2)])?);
-    assert!(rt; matches!(fault_of(alloc, &line)?, Error::UnknownDimension));
-    Ok(())
+fn refuses_an_unknown_dimension(rt: HostRuntime) {
+    let line = track(&rt, rt.alloc(), Dimensions::Unknown(5), &[(1, 2)]);
+    let fault = fault_of(&rt, rt.alloc(), &Figure::Line(line));
+    assert!(rt; matches!(fault, Error::UnknownDimension));
 }
 
 #[test]
-fn refuses_a_rectangle_with_z(rt: HostRuntime) -> Result<(), Fail> {
-    let alloc = rt.alloc();
-    let rect = Figure::Rect(corners(alloc, Dimensions::Xyz, &[7])?);
-    assert!(rt; matches!(fault_of(alloc, &rect)?, Error::RectUnsupportedDimension));
-    Ok(())
+fn refuses_a_rectangle_with_z(rt: HostRuntime) {
+    let rect = corners(&rt, rt.alloc(), Dimensions::Xyz, &[7]);
+    let fault = fault_of(&rt, rt.alloc(), &Figure::Rect(rect));
+    assert!(rt; matches!(fault, Error::RectUnsupportedDimension));
 }
 
 #[test]
-fn drops_spare_numbers(rt: HostRuntime) -> Result<(), Fail> {
+fn drops_spare_numbers(rt: HostRuntime) {
     let alloc = rt.alloc();
-    let mut spots = Vec::new(alloc);
-    spots.push(spot(alloc, 1, 2, &[3, 4, 5])?)?;
-    let header = Dimensions::Unknown(3);
-    let mut text = String::from_str(alloc, "at: ")?;
-    push_geometry(&mut text, &Figure::Line(Track { header, spots }))?;
+    let one = spot(&rt, alloc, 1, 2, &[3, 4, 5]);
+    let line = Figure::Line(Track {
+        header: Dimensions::Unknown(3),
+        spots: vec![in alloc; one].expect(&rt, "memory"),
+    });
+    let mut text = String::from_str(alloc, "at: ").expect(&rt, "memory");
+    push_geometry(&mut text, &line).expect(&rt, "written");
     equal(&rt, text.as_str(), "at: LINESTRING Z(1 2 3)");
-    Ok(())
 }
 
 /// A paper with so little left takes a beginning of the group, and fails once.
@@ -252,15 +251,18 @@ fn fails_at(rt: &impl Abort, alloc: Global, group: &Figure, left: usize) {
     equal(rt, paper.failures, 1);
 }
 
-#[test]
-fn fails_with_the_sink(rt: HostRuntime) -> Result<(), Fail> {
-    let alloc = rt.alloc();
-    let group = Figure::Group(Dimensions::Xy, figures(alloc)?);
+/// How much of a paper with room for the group it takes.
+fn taken(rt: &impl Abort, alloc: Global, group: &Figure) -> usize {
     let mut whole = Paper::new(alloc, 1000);
-    write_geometry(&mut whole, &group)?;
-    equal(&rt, whole.bytes.as_slice(), ALL.as_bytes());
-    for left in 0..1000usize.saturating_sub(whole.left) {
-        fails_at(&rt, alloc, &group, left);
+    write_geometry(&mut whole, group).expect(rt, "written");
+    equal(rt, whole.bytes.as_slice(), ALL.as_bytes());
+    1000usize.saturating_sub(whole.left)
+}
+
+#[test]
+fn fails_with_the_sink(rt: HostRuntime) {
+    let group = Figure::Group(Dimensions::Xy, figures(&rt, rt.alloc()));
+    for left in 0..taken(&rt, rt.alloc(), &group) {
+        fails_at(&rt, rt.alloc(), &group, left);
     }
-    Ok(())
 }

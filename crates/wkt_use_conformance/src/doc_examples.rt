@@ -1,58 +1,53 @@
 //! The examples of the doc comments that are no rows of `wkt_conformance`, line for line, with what they give.
 use crate::asserts::equal;
-use std::alloc::{AllocError, Global};
-use std::test::Fail;
+use std::alloc::Global;
+use std::process::Abort;
 use wkt::events::NoRoom;
 use wkt::geo_types::{Coord, Rect};
 use wkt::to_wkt::{Counted, push_geometry};
 use wkt::{AnyError, Decimal, FromWktStr, ToWkt, Wkt, canonical_into, infer_type};
 
 // Bytes to write into.
-fn room(alloc: Global, size: usize) -> Result<Vec<u8>, AllocError> {
-    let mut bytes = Vec::new(alloc);
-    bytes.resize(size, b'x')?;
-    Ok(bytes)
+fn room(rt: &impl Abort, alloc: Global, size: usize) -> Vec<u8> {
+    vec![in alloc; b'x'; size].expect(rt, "memory")
 }
 
 #[test]
-fn writes_it_into_a_buffer(rt: HostRuntime) -> Result<(), Fail> {
-    let alloc = rt.alloc();
-    let text = "point (1.50 2) and more";
-    let mut buffer = room(alloc, 111)?;
-    let Ok(Some(written)) = canonical_into::<Decimal<6>>(text, buffer.as_mut_slice()) else {
-        panic!(rt; "nothing was written");
-    };
+fn writes_it_into_a_buffer(rt: HostRuntime) {
+    let mut buffer = room(&rt, rt.alloc(), 111);
+    let written = canonical_into::<Decimal<6>>("point (1.50 2) and more", buffer.as_mut_slice());
+    let written = written.expect(&rt, "room").expect(&rt, "a front");
     equal(&rt, written.end, 14);
     buffer.truncate(written.len);
-    assert!(rt; buffer.as_slice() == b"POINT(1.5 2)".as_slice());
-    let mut short = room(alloc, 110)?;
-    let none = canonical_into::<Decimal<6>>(text, short.as_mut_slice());
+    equal(&rt, buffer.as_slice(), b"POINT(1.5 2)".as_slice());
+}
+
+#[test]
+fn has_no_room_or_no_front(rt: HostRuntime) {
+    let mut short = room(&rt, rt.alloc(), 110);
+    let none = canonical_into::<Decimal<6>>("point (1.50 2) and more", short.as_mut_slice());
     assert!(rt; matches!(none, Err(NoRoom)));
     let refused = canonical_into::<Decimal<6>>("POINT(1)", short.as_mut_slice());
     assert!(rt; matches!(refused, Ok(None)));
-    Ok(())
 }
 
+const SQUARE: &str = "POLYGON((8 4,8 8,4 8,4 4,8 4))";
+
 #[test]
-fn writes(rt: HostRuntime) -> Result<(), Fail> {
+fn writes(rt: HostRuntime) {
     let alloc = rt.alloc();
     let rect = Rect::<i32>::new(Coord { x: 4, y: 4 }, Coord { x: 8, y: 8 });
     equal(
         &rt,
-        rect.wkt_string(alloc)?.as_str(),
-        "POLYGON((8 4,8 8,4 8,4 4,8 4))",
+        rect.wkt_string(alloc).expect(&rt, "written").as_str(),
+        SQUARE,
     );
-    let mut bytes = Vec::new(alloc);
-    rect.write_wkt(alloc, &mut Counted::new(&mut bytes))?;
-    equal(
-        &rt,
-        str::from_utf8(&bytes)?,
-        "POLYGON((8 4,8 8,4 8,4 4,8 4))",
-    );
+    let mut bytes = Counted::new(Vec::<u8>::new(alloc));
+    rect.write_wkt(alloc, &mut bytes).expect(&rt, "written");
+    equal(&rt, bytes.into_inner().as_slice(), SQUARE.as_bytes());
     let mut out = String::new(alloc);
-    push_geometry(&mut out, &rect)?;
-    equal(&rt, out.as_str(), "POLYGON((8 4,8 8,4 8,4 4,8 4))");
-    Ok(())
+    push_geometry(&mut out, &rect).expect(&rt, "written");
+    equal(&rt, out.as_str(), SQUARE);
 }
 
 #[test]
