@@ -1,4 +1,1 @@
 pub mod Answer
-pub mod Numbers
-pub mod NumberLaws
-pub mod WrongNumbers

@@ -1,11 +1,11 @@
 -- No text is bytes that are no text.
-use Rattle.std.proofs.Common.{◌≡◌, ℕ, List, [], ◌∷◌, Bool, true, false, Option, Some, None, IsUtf8, codes, sym, ap, ◌∙◌, subst, refl, if◌then◌else◌}
+use Rattle.std.proofs.Common.{◌≡◌, ℕ, List, [], ◌∷◌, Bool, true, false, Some, None, IsUtf8, codes, sym, ap, ◌∙◌, refl, if◌then◌else◌}
 use Rattle.std.specs.Str.{bytes_eq, is_utf8, chars}
 use lib.Utf8.{encode}
 use Rattle.std.proofs.lemmas.Str.{is_utf8-from_IsUtf8}
 use Rattle.std.proofs.lemmas.Slice.Eq.{bytes_eq-Decides}
-use Rattle.wkt_test_support.specs.declared.numbers.Long as longs
-use Rattle.wkt_test_support.specs.Numbers.{read_long}
+use Rattle.wkt_test_numbers.specs.declared.numbers.Long as longs
+use Rattle.wkt_test_numbers.specs.Numbers.{read_long}
 
 no-text : is_utf8 (46 ∷ 200 ∷ []) ≡ false
 unfolding is_utf8 chars encode
