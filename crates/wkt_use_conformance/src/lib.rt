@@ -27,4 +27,6 @@ mod read_lines;
 #[cfg(test)]
 mod slow_sinks;
 #[cfg(test)]
+mod table_callers;
+#[cfg(test)]
 mod walks;
