@@ -3,8 +3,7 @@ use crate::calls::Number;
 use std::alloc::Global;
 use wkt::to_wkt::CountedText;
 use wkt::{AnyError, Decimal, WktNum};
-use wkt_test_numbers::{Dash, Letter, Long};
-use wkt_test_support::{answer, text_or_message};
+use wkt_test_support::{Dash, Letter, Long, answer, text_or_message};
 
 /// What reading a text gives over that number type, if all calls agree.
 pub(crate) fn answer_of(alloc: Global, number: &str, text: &str) -> Result<String, AnyError> {

@@ -1,1 +1,4 @@
 pub mod Answer
+pub mod Numbers
+pub mod NumberLaws
+pub mod WrongNumbers

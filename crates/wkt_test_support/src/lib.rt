@@ -1,4 +1,4 @@
-//! Support for tests: what all calls return for a text.
+//! Support for tests: what all calls return for a text, and number types of one value and of two.
 //!
 //! Below stands `wkt`, above the conformance crates. Nothing that users build depends on this crate.
 #![tactic(auto)]
@@ -6,6 +6,8 @@
 mod answers;
 mod canonical_calls;
 mod flat_calls;
+mod numbers;
 mod shown;
 
 pub use answers::{AnswerError, answer, text_or_message};
+pub use numbers::{Dash, Letter, Long};

@@ -1,10 +1,10 @@
 -- Number types with two values and with one.
 use Rattle.std.specs.Prelude.{ℕ, ◌==◌, if◌then◌else◌, List, [], ◌∷◌, Option, Some, None, codes}
 use Rattle.std.specs.Str.{bytes_eq}
-use Rattle.wkt_test_numbers.specs.declared.numbers.Letter.{Letter}
-use Rattle.wkt_test_numbers.specs.declared.numbers.Letter.TheVariants.{A, B}
-use Rattle.wkt_test_numbers.specs.declared.numbers.Dash as dashes
-use Rattle.wkt_test_numbers.specs.declared.numbers.Long as longs
+use Rattle.wkt_test_support.specs.declared.numbers.Letter.{Letter}
+use Rattle.wkt_test_support.specs.declared.numbers.Letter.TheVariants.{A, B}
+use Rattle.wkt_test_support.specs.declared.numbers.Dash as dashes
+use Rattle.wkt_test_support.specs.declared.numbers.Long as longs
 
 -- Each letter is a value.
 abbrev pub AnyLetter : Letter → Type 0

@@ -1,12 +1,12 @@
 -- Proofs of the laws of numbers for the odd types, and no words of contracts.
 use Rattle.std.proofs.Common.{◌≡◌, Option, Some, None, IfSome, refl}
-use Rattle.wkt_test_numbers.specs.declared.numbers.Letter.{Letter}
-use Rattle.wkt_test_numbers.specs.declared.numbers.Letter.TheVariants.{A, B}
-use Rattle.wkt_test_numbers.specs.declared.numbers.Dash as dashes
-use Rattle.wkt_test_numbers.specs.declared.numbers.Long as longs
+use Rattle.wkt_test_support.specs.declared.numbers.Letter.{Letter}
+use Rattle.wkt_test_support.specs.declared.numbers.Letter.TheVariants.{A, B}
+use Rattle.wkt_test_support.specs.declared.numbers.Dash as dashes
+use Rattle.wkt_test_support.specs.declared.numbers.Long as longs
 use Rattle.wkt_num.specs.Bytes.{class_of}
 use Rattle.wkt_num.specs.Number.{IsNumberText}
-use Rattle.wkt_test_numbers.specs.Numbers.{AnyLetter, letter_text, read_letter, AnyDash, dash_text, read_dash, AnyLong, long_text, read_long}
+use Rattle.wkt_test_support.specs.Numbers.{AnyLetter, letter_text, read_letter, AnyDash, dash_text, read_dash, AnyLong, long_text, read_long}
 
 -- The text of a letter reads back.
 pub letter_reads_back : (x : Letter) → AnyLetter x → read_letter (letter_text x) ≡ Some x

@@ -11,9 +11,9 @@ pub enum Letter {
 
 impl WktNum for Letter {
     ghost use Rattle.std.proofs.Common.{rules};
-    ghost use Rattle.wkt_test_numbers.specs.Numbers.{AnyLetter, letter_text, read_letter};
-    ghost use Rattle.wkt_test_numbers.specs.NumberLaws.{letter_reads_back, any_letter, letter_number_text};
-    ghost use Rattle.wkt_test_numbers.specs.WrongNumbers.{plus_text, read_plus, plus_reads_back, comma_text, read_comma, comma_reads_back};
+    ghost use Rattle.wkt_test_support.specs.Numbers.{AnyLetter, letter_text, read_letter};
+    ghost use Rattle.wkt_test_support.specs.NumberLaws.{letter_reads_back, any_letter, letter_number_text};
+    ghost use Rattle.wkt_test_support.specs.WrongNumbers.{plus_text, read_plus, plus_reads_back, comma_text, read_comma, comma_reads_back};
 
     ghost is_value = { AnyLetter };
 
@@ -55,8 +55,8 @@ pub enum Dash {
 
 impl WktNum for Dash {
     ghost use Rattle.std.proofs.Common.{rules};
-    ghost use Rattle.wkt_test_numbers.specs.Numbers.{AnyDash, dash_text, read_dash};
-    ghost use Rattle.wkt_test_numbers.specs.NumberLaws.{dash_reads_back, any_dash, dash_number_text};
+    ghost use Rattle.wkt_test_support.specs.Numbers.{AnyDash, dash_text, read_dash};
+    ghost use Rattle.wkt_test_support.specs.NumberLaws.{dash_reads_back, any_dash, dash_number_text};
 
     ghost is_value = { AnyDash };
 
@@ -98,8 +98,8 @@ const LONG: &str = ".llllllllllllllllllll";
 
 impl WktNum for Long {
     ghost use Rattle.std.proofs.Common.{rules};
-    ghost use Rattle.wkt_test_numbers.specs.Numbers.{AnyLong, long_text, read_long};
-    ghost use Rattle.wkt_test_numbers.specs.NumberLaws.{long_reads_back, any_long, long_number_text};
+    ghost use Rattle.wkt_test_support.specs.Numbers.{AnyLong, long_text, read_long};
+    ghost use Rattle.wkt_test_support.specs.NumberLaws.{long_reads_back, any_long, long_number_text};
 
     ghost is_value = { AnyLong };
 
