@@ -1,15 +1,16 @@
 #!/usr/bin/env bash
-# Refuses each growth of memory of the four built programs in turn, and of the macros' built tests, until a run meets none.
+# Refuses each growth of memory of the four built programs in turn, and of the built tests of the macros and of the
+# callers of wkt_uses over rows, until a run meets none.
 #
 # wktline, wktstream and the command wkt answer lines of every kind: each refusal has to end them with their words and status, after the
 # whole answers to some first lines. wkt_conformance reads each text by three calls, copies the geometry, puts the copy together again from
 # its parts and displays it, converts it to a two-dimensional one and back, reads that from the text, from bytes and
 # from JSON, and writes it in three ways: each refusal has to end it as out of memory, with no row reported as wrong, or to
-# change nothing. Then the same of ten thousand nested collections, at growths all over the run. A test of the macros
-# has to end as out of memory, which no wrong value does, or to pass.
+# change nothing. Then the same of ten thousand nested collections, at growths all over the run. A test has to end as
+# out of memory, which no wrong value does, or to pass.
 #
-# The gate runs it on what it has built; alone, build all five first (rt run in crates/wktline, crates/wktstream,
-# crates/wkt_command and crates/wkt_conformance, rt test in crates/wkt).
+# The gate runs it on what it has built; alone, build all six first (rt run in crates/wktline, crates/wktstream,
+# crates/wkt_command and crates/wkt_conformance, rt test in crates/wkt and crates/wkt_use_conformance).
 set -u
 cd "$(dirname "$0")/.."
 dir=$(mktemp -d)
@@ -71,10 +72,10 @@ each() {
     echo "$program: $tried growths refused, each in a run of its own; $ended ended it, the others changed nothing"
 }
 
-# each_test CRATE: every growth in turn of each of its tests
+# each_test CRATE [MODULE]: every growth in turn of each of its tests, or of those of a module
 each_test() {
     local tests=crates/$1/out/$1_tests name n tried=0 ended=0 status
-    for name in $("$tests" --list | sed -n 's/: test$//p'); do
+    for name in $("$tests" --list | sed -n 's/: test$//p' | grep "${2:-}"); do
         n=1
         while true; do
             run "$n" "$tests" "$name"
@@ -104,6 +105,7 @@ each wkt_command "$dir/lines" 2 1 dups -p 6 -
 each wkt_command "$dir/lines" 2 1 check --max 0
 each wkt_command /dev/null 2 1 same 'LINESTRING(1 2,3 4)' 'linestring ( 1.0 2, 3 +4)'
 each_test wkt
+each_test wkt_use_conformance table_callers::
 
 # nested N: a point in so many collections
 nested() { printf 'GEOMETRYCOLLECTION(%.0s' $(seq "$1"); printf 'POINT(1 2)'; printf ')%.0s' $(seq "$1"); }

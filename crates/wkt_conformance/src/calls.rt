@@ -1,15 +1,16 @@
 //! The calls of the rows, by their names.
 use crate::built::built;
-use crate::callers::used;
 use crate::flat_calls::{becomes, converted, flat_of};
 use crate::json_calls::json_given;
 use crate::made::{canonical, lines, pushed, turned};
 use crate::numbers::{answer_of, number_of};
-use crate::parts::{ended, flat_of_whole, held, lexemes};
-use crate::refusals::{message, place, shown};
+use crate::parts::{flat_of_whole, held, lexemes};
+use crate::refusals::{message, place};
+use crate::shown::{shown, shown_if_any, shows};
 use std::alloc::{AllocError, Global};
 use wkt::{
-    AnyError, Decimal, FromWktStr, Wkt, canonical_text, infer_type, read_whole, same_geometry,
+    AnyError, Decimal, FromWktStr, Wkt, canonical_text, explain, front_end, infer_type, read_whole,
+    same_geometry,
 };
 
 /// The number type of the rows that name none.
@@ -23,30 +24,37 @@ pub(crate) fn given(alloc: Global, call: &str, of: &str, text: &str) -> Result<S
     match call {
         "answer" => answer_of(alloc, of, text),
         "read_number" => number_of(alloc, of, text),
+        "same_geometry" => same(alloc, of, text),
+        "try_from_wkt_str" => flat_of(alloc, of, text),
+        "push" => pushed(alloc, of, text),
+        "wkt_from_value" | "deserialize_geometry" | "deserialize_wkt" | "deserialize_point" => {
+            json_given(alloc, call, of, text)
+        }
+        _ => of_text(alloc, call, text),
+    }
+}
+
+/// The same of a call that is asked for nothing but a text.
+fn of_text(alloc: Global, call: &str, text: &str) -> Result<String, AnyError> {
+    match call {
         "read_front" => front(alloc, text),
-        "read_whole" => whole(alloc, text),
+        "read_whole" => shown(alloc, read_whole::<Number>(alloc, text)),
         "flat_of_whole" => flat_of_whole(alloc, text),
-        "canonical_text" => Ok(canonical_text::<Number>(alloc, text)?),
-        "front_end" => Ok(ended(alloc, text)?),
+        "canonical_text" => shown(alloc, canonical_text::<Number>(alloc, text)),
+        "front_end" => shown_if_any(alloc, front_end::<Number>(text)),
         "held" => held(alloc, text),
         "lexemes" => Ok(lexemes(alloc, text)?),
         "infer_type" => header(alloc, text),
-        "same_geometry" => same(alloc, of, text),
-        "try_from_wkt_str" => flat_of(alloc, of, text),
         "convert_from" => converted(alloc, text),
         "kinds" => becomes(alloc, text),
         "into_canonical" => canonical(alloc, text),
         "map_coords" => turned(alloc, text),
         "literals" => built(alloc, text),
-        "push" => pushed(alloc, of, text),
         "lines" => lines(alloc, text),
         "explain" => place(alloc, text),
-        "explained" => shown(alloc, text),
+        "explained" => shown_if_any(alloc, explain::<Number>(alloc, text)?),
         "explain_message" => message(alloc, text),
-        "wkt_from_value" | "deserialize_geometry" | "deserialize_wkt" | "deserialize_point" => {
-            json_given(alloc, call, of, text)
-        }
-        _ => used(alloc, call, of, text),
+        _ => Ok(String::from_str(alloc, "no such call")?),
     }
 }
 
@@ -54,11 +62,6 @@ pub(crate) fn given(alloc: Global, call: &str, of: &str, text: &str) -> Result<S
 fn front(alloc: Global, text: &str) -> Result<String, AnyError> {
     let (geometry, end) = Wkt::<Number>::read_front(alloc, text)?;
     Ok(format!(in alloc; "{geometry} {end}")?)
-}
-
-/// The geometry that a text is.
-fn whole(alloc: Global, text: &str) -> Result<String, AnyError> {
-    Ok(read_whole::<Number>(alloc, text)?.to_string(alloc)?)
 }
 
 /// The kind and the dimension that the header of a text names.
@@ -70,8 +73,12 @@ fn header(alloc: Global, text: &str) -> Result<String, AnyError> {
 /// Whether two texts name one geometry, if both ways round it is said so, and by their texts too.
 fn same(alloc: Global, one: &str, other: &str) -> Result<String, AnyError> {
     let one = Wkt::<Number>::from_str(alloc, one)?;
+    same_as(alloc, &one, other)
+}
+
+fn same_as(alloc: Global, one: &Wkt<Number>, other: &str) -> Result<String, AnyError> {
     let other = Wkt::<Number>::from_str(alloc, other)?;
-    Ok(same_by_texts(alloc, &one, &other)?)
+    Ok(same_by_texts(alloc, one, &other)?)
 }
 
 fn same_by_texts(
@@ -79,8 +86,9 @@ fn same_by_texts(
     one: &Wkt<Number>,
     other: &Wkt<Number>,
 ) -> Result<String, AllocError> {
+    let text = one.to_string(alloc)?;
+    let texts = shows(alloc, other, &text)?;
     let same = same_geometry(one, other);
-    let texts = one.to_string(alloc)? == other.to_string(alloc)?;
     if same_geometry(other, one) != same || texts != same {
         return String::from_str(alloc, "the calls differ");
     }

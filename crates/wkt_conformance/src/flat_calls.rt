@@ -1,5 +1,6 @@
 //! Calls over the two-dimensional types, by their names.
 use crate::calls::Number;
+use crate::shown::{flat_or_words, flat_shown};
 use std::alloc::Global;
 use wkt::geo_types::{
     Geometry, GeometryCollection, Line, LineString, MultiLineString, MultiPoint, MultiPolygon,
@@ -32,7 +33,7 @@ fn flat<G>(alloc: Global, text: &str) -> Result<String, AnyError>
 where
     G: TryFromWkt<Number, Error = Error> + ToWkt<Number> + Drop,
 {
-    Ok(G::try_from_wkt_str(alloc, text)?.wkt_string(alloc)?)
+    flat_shown(alloc, G::try_from_wkt_str(alloc, text))
 }
 
 /// The text of the flat value of the text's geometry, if its own type gives one by reference and by value.
@@ -44,112 +45,116 @@ pub(crate) fn converted(alloc: Global, text: &str) -> Result<String, AnyError> {
         Wkt::MultiLineString(x) => multi_line_string(alloc, x),
         Wkt::MultiPolygon(x) => multi_polygon(alloc, x),
         Wkt::GeometryCollection(x) => collection(alloc, x),
-        point => {
-            let one = try_into_geometry(alloc, &point);
-            both(alloc, one, Geometry::convert_from(alloc, point))
-        }
+        point => any(alloc, point),
     }
+}
+
+fn any(alloc: Global, x: Wkt<Number>) -> Result<String, AnyError> {
+    let one = try_into_geometry(alloc, &x);
+    both(alloc, one, Geometry::convert_from(alloc, x))
 }
 
 fn line_string(alloc: Global, x: types::LineString<Number>) -> Result<String, AnyError> {
     let one = Geometry::convert_from(alloc, &x);
-    both(
-        alloc,
-        one,
-        LineString::convert_from(alloc, x).map(Geometry::LineString),
-    )
+    both(alloc, one, LineString::convert_from(alloc, x))
 }
 
 fn polygon(alloc: Global, x: types::Polygon<Number>) -> Result<String, AnyError> {
     let one = Geometry::convert_from(alloc, &x);
-    both(
-        alloc,
-        one,
-        Polygon::convert_from(alloc, x).map(Geometry::Polygon),
-    )
+    both(alloc, one, Polygon::convert_from(alloc, x))
 }
 
 fn multi_point(alloc: Global, x: types::MultiPoint<Number>) -> Result<String, AnyError> {
     let one = Geometry::convert_from(alloc, &x);
-    both(
-        alloc,
-        one,
-        MultiPoint::convert_from(alloc, x).map(Geometry::MultiPoint),
-    )
+    both(alloc, one, MultiPoint::convert_from(alloc, x))
 }
 
 fn multi_line_string(alloc: Global, x: types::MultiLineString<Number>) -> Result<String, AnyError> {
     let one = Geometry::convert_from(alloc, &x);
-    both(
-        alloc,
-        one,
-        MultiLineString::convert_from(alloc, x).map(Geometry::MultiLineString),
-    )
+    both(alloc, one, MultiLineString::convert_from(alloc, x))
 }
 
 fn multi_polygon(alloc: Global, x: types::MultiPolygon<Number>) -> Result<String, AnyError> {
     let one = Geometry::convert_from(alloc, &x);
-    both(
-        alloc,
-        one,
-        MultiPolygon::convert_from(alloc, x).map(Geometry::MultiPolygon),
-    )
+    both(alloc, one, MultiPolygon::convert_from(alloc, x))
 }
 
 fn collection(alloc: Global, x: types::GeometryCollection<Number>) -> Result<String, AnyError> {
     let one = try_into_geometry_collection(alloc, &x);
-    let other = GeometryCollection::convert_from(alloc, x);
-    both(alloc, one, other.map(Geometry::GeometryCollection))
+    both(alloc, one, GeometryCollection::convert_from(alloc, x))
 }
 
 /// The text of the flat value, or the error, that two calls gave.
-fn both(
+fn both<G: ToWkt<Number> + Drop>(
     alloc: Global,
     one: Result<Geometry<Number>, Error>,
-    other: Result<Geometry<Number>, Error>,
+    other: Result<G, Error>,
 ) -> Result<String, AnyError> {
-    let one = shown(alloc, one)?;
-    if shown(alloc, other)?.as_str() == one.as_str() {
+    let one = words(alloc, one)?;
+    if words(alloc, other)?.as_str() == one.as_str() {
         Ok(one)
     } else {
         Ok(String::from_str(alloc, "two answers")?)
     }
 }
 
-fn shown(alloc: Global, answer: Result<Geometry<Number>, Error>) -> Result<String, AnyError> {
+/// The text of the flat value, or the words of the error; out of memory is an error by itself.
+fn words<G: ToWkt<Number> + Drop>(
+    alloc: Global,
+    answer: Result<G, Error>,
+) -> Result<String, AnyError> {
     match answer {
-        Ok(flat) => Ok(flat.wkt_string(alloc)?),
         Err(Error::Memory(e)) => Err(AnyError::Memory(e)),
-        Err(error) => Ok(error.to_string(alloc)?),
+        answer => flat_or_words(alloc, answer),
     }
 }
 
-/// The names of the types, but for Geometry itself, that the text's geometry becomes.
+/// The types, but for Geometry itself.
+const KINDS: [&str; 10] = [
+    "Point",
+    "Line",
+    "LineString",
+    "Polygon",
+    "MultiPoint",
+    "MultiLineString",
+    "MultiPolygon",
+    "GeometryCollection",
+    "Rect",
+    "Triangle",
+];
+
+/// The names of those that the text's geometry becomes.
 pub(crate) fn becomes(alloc: Global, text: &str) -> Result<String, AnyError> {
     let mut all = String::new(alloc);
-    add_if::<Point<Number>>(alloc, &mut all, "Point", text)?;
-    add_if::<Line<Number>>(alloc, &mut all, "Line", text)?;
-    add_if::<LineString<Number>>(alloc, &mut all, "LineString", text)?;
-    add_if::<Polygon<Number>>(alloc, &mut all, "Polygon", text)?;
-    add_if::<MultiPoint<Number>>(alloc, &mut all, "MultiPoint", text)?;
-    add_if::<MultiLineString<Number>>(alloc, &mut all, "MultiLineString", text)?;
-    add_if::<MultiPolygon<Number>>(alloc, &mut all, "MultiPolygon", text)?;
-    add_if::<GeometryCollection<Number>>(alloc, &mut all, "GeometryCollection", text)?;
-    add_if::<Rect<Number>>(alloc, &mut all, "Rect", text)?;
-    add_if::<Triangle<Number>>(alloc, &mut all, "Triangle", text)?;
+    for name in KINDS {
+        if becomes_one(alloc, name, text)? {
+            all.push_str(name)?;
+        }
+    }
     Ok(all)
 }
 
-/// The name, where the text's geometry becomes that type.
-fn add_if<G: ConvertFrom<Wkt<Number>> + Drop>(
-    alloc: Global,
-    all: &mut String,
-    name: &str,
-    text: &str,
-) -> Result<(), AnyError> {
+/// Whether the text's geometry becomes that type.
+fn becomes_one(alloc: Global, name: &str, text: &str) -> Result<bool, AnyError> {
+    match name {
+        "Point" => is::<Point<Number>>(alloc, text),
+        "Line" => is::<Line<Number>>(alloc, text),
+        "LineString" => is::<LineString<Number>>(alloc, text),
+        "Polygon" => is::<Polygon<Number>>(alloc, text),
+        "MultiPoint" => is::<MultiPoint<Number>>(alloc, text),
+        "MultiLineString" => is::<MultiLineString<Number>>(alloc, text),
+        "MultiPolygon" => is::<MultiPolygon<Number>>(alloc, text),
+        "GeometryCollection" => is::<GeometryCollection<Number>>(alloc, text),
+        "Rect" => is::<Rect<Number>>(alloc, text),
+        "Triangle" => is::<Triangle<Number>>(alloc, text),
+        _ => Ok(false),
+    }
+}
+
+fn is<G: ConvertFrom<Wkt<Number>> + Drop>(alloc: Global, text: &str) -> Result<bool, AnyError> {
     match G::convert_from(alloc, Wkt::from_str(alloc, text)?) {
-        Ok(_) => Ok(all.push_str(name)?),
+        Ok(_) => Ok(true),
         Err(Error::Memory(e)) => Err(AnyError::Memory(e)),
-        Err(_) => Ok(()),
+        Err(_) => Ok(false),
     }
 }

@@ -1,6 +1,7 @@
 //! Calls over JSON values, by their names.
 use crate::calls::Number;
 use crate::rows::value_of;
+use crate::shown::flat_or_words;
 use serde_json::Value;
 use std::alloc::Global;
 use wkt::deserialize::geo_types::{deserialize_geometry, deserialize_point};
@@ -16,14 +17,20 @@ pub(crate) fn json_given(
     of: &str,
     json: &str,
 ) -> Result<String, AnyError> {
-    let Some(value) = value_of(alloc, json)? else {
-        return Ok(String::from_str(alloc, "no JSON")?);
-    };
+    match value_of(alloc, json)? {
+        Some(value) => of_value(alloc, call, of, &value),
+        None => Ok(String::from_str(alloc, "no JSON")?),
+    }
+}
+
+fn of_value(alloc: Global, call: &str, of: &str, value: &Value) -> Result<String, AnyError> {
     match (call, of) {
-        ("wkt_from_value", _) => wkt_text(alloc, &value),
-        ("deserialize_geometry", _) => geometry_text(alloc, &value),
-        ("deserialize_wkt", "Point") => point_text(alloc, &value),
-        ("deserialize_point", _) => text_if_any(alloc, &value),
+        ("wkt_from_value", _) => wkt_text(alloc, value),
+        ("deserialize_geometry", _) => {
+            flat_or_words(alloc, deserialize_geometry::<Number>(alloc, value))
+        }
+        ("deserialize_wkt", "Point") => point_text(alloc, value),
+        ("deserialize_point", _) => text_if_any(alloc, value),
         _ => Ok(String::from_str(alloc, "no such call")?),
     }
 }
@@ -31,13 +38,6 @@ pub(crate) fn json_given(
 fn wkt_text(alloc: Global, value: &Value) -> Result<String, AnyError> {
     match wkt_from_value::<Number>(alloc, value) {
         Ok(geometry) => Ok(geometry.to_string(alloc)?),
-        Err(error) => Ok(error.to_string(alloc)?),
-    }
-}
-
-fn geometry_text(alloc: Global, value: &Value) -> Result<String, AnyError> {
-    match deserialize_geometry::<Number>(alloc, value) {
-        Ok(geometry) => Ok(geometry.wkt_string(alloc)?),
         Err(error) => Ok(error.to_string(alloc)?),
     }
 }

@@ -1,5 +1,6 @@
 //! Calls that make a geometry or a text of another, by their names.
 use crate::calls::Number;
+use crate::shown::flat_shown;
 use std::alloc::{AllocError, Global};
 use wkt::error::Error as WriteError;
 use wkt::geo_types::{Coord, Geometry, Line, LineString, Rect, Triangle};
@@ -9,7 +10,7 @@ use wkt::to_wkt::{
     push_rect, push_triangle,
 };
 use wkt::walks::{Mapper, map_coords};
-use wkt::{AnyError, FromWktStr, ReadError, ToWkt, TryFromWkt, Wkt};
+use wkt::{AnyError, FromWktStr, ReadError, TryFromWkt, Wkt};
 use wkt_lines::Lines;
 
 /// Each coordinate with x for y.
@@ -30,19 +31,18 @@ impl Mapper<Number, Number> for Swapped {
 /// The two-dimensional geometry of a text, with x for y.
 pub(crate) fn turned(alloc: Global, text: &str) -> Result<String, AnyError> {
     let geometry = Geometry::<Number>::try_from_wkt_str(alloc, text)?;
-    let turned = map_coords(alloc, &geometry, &Swapped)?;
-    text_of(alloc, &turned)
-}
-
-fn text_of(alloc: Global, geometry: &Geometry<Number>) -> Result<String, AnyError> {
-    Ok(geometry.wkt_string(alloc)?)
+    flat_shown(alloc, map_coords(alloc, &geometry, &Swapped))
 }
 
 /// The geometry of a text made canonical, if its text is read as the same.
 pub(crate) fn canonical(alloc: Global, text: &str) -> Result<String, AnyError> {
     let geometry = Wkt::<Number>::from_str(alloc, text)?.into_canonical();
+    text_if_read(alloc, &geometry)
+}
+
+fn text_if_read(alloc: Global, geometry: &Wkt<Number>) -> Result<String, AnyError> {
     let text = geometry.to_string(alloc)?;
-    if reads_as(alloc, &text, &geometry)? {
+    if reads_as(alloc, &text, geometry)? {
         Ok(text)
     } else {
         Ok(String::from_str(alloc, "another geometry")?)
@@ -100,19 +100,27 @@ fn push_line_string(
 /// The lines of a text, each in brackets.
 pub(crate) fn lines(alloc: Global, text: &str) -> Result<String, AnyError> {
     let mut out = String::new(alloc);
+    match add_lines(alloc, &mut out, text) {
+        Ok(()) => Ok(out),
+        Err(ReadAllError::Memory(error)) => Err(AnyError::Memory(error)),
+        Err(ReadAllError::Read(_)) => Ok(String::from_str(alloc, "a read fault")?),
+    }
+}
+
+fn add_lines(alloc: Global, out: &mut String, text: &str) -> Result<(), ReadAllError> {
     let mut lines = Lines::new(alloc, Counted::new(text.as_bytes()));
     for _ in 0..1000 {
-        match lines.advance() {
-            Ok(true) => {
-                let line = str::from_utf8(lines.line()).unwrap_or("no text");
-                out.push('[')?;
-                out.push_str(line)?;
-                out.push(']')?;
-            }
-            Ok(false) => return Ok(out),
-            Err(ReadAllError::Memory(error)) => return Err(AnyError::Memory(error)),
-            Err(ReadAllError::Read(_)) => return Ok(String::from_str(alloc, "a read fault")?),
+        if !lines.advance()? {
+            return Ok(());
         }
+        add_line(out, lines.line()).map_err(ReadAllError::Memory)?;
     }
-    Ok(String::from_str(alloc, "too many lines")?)
+    add_line(out, b"too many lines").map_err(ReadAllError::Memory)
+}
+
+fn add_line(out: &mut String, line: &[u8]) -> Result<(), AllocError> {
+    for piece in ["[", str::from_utf8(line).unwrap_or("no text"), "]"] {
+        out.push_str(piece)?;
+    }
+    Ok(())
 }

@@ -1,6 +1,6 @@
 //! The tables of texts, which this program checks.
 //!
-//! Below stand `wkt`, `wkt_lines`, `wkt_uses` and `wkt_test_support`.
+//! Below stand `wkt`, `wkt_lines` and the crates that support tests.
 //!
 //! Each line of standard input is a text, a tab, and what reading the text over decimals of eighteen
 //! places gives: the text of its geometry, or the message. The table that stands beside the sources
@@ -12,7 +12,6 @@
 #![tactic(auto)]
 
 mod built;
-mod callers;
 mod calls;
 mod flat_calls;
 mod json_calls;
@@ -21,6 +20,7 @@ mod numbers;
 mod parts;
 mod refusals;
 mod rows;
+mod shown;
 mod table;
 
 use std::process::ExitCode;

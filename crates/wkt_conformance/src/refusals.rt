@@ -14,14 +14,6 @@ pub(crate) fn place(alloc: Global, text: &str) -> Result<String, AnyError> {
     }
 }
 
-/// The line with a mark under the place, or none.
-pub(crate) fn shown(alloc: Global, text: &str) -> Result<String, AnyError> {
-    match explain::<Number>(alloc, text)? {
-        Some(why) => Ok(format!(in alloc; "{why}")?),
-        None => Ok(String::from_str(alloc, "none")?),
-    }
-}
-
 /// The message and the lexeme over whole numbers, or none.
 pub(crate) fn message(alloc: Global, text: &str) -> Result<String, AnyError> {
     match explain::<i32>(alloc, text)? {

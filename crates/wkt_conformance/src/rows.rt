@@ -35,22 +35,27 @@ pub(crate) fn value_of(alloc: Global, json: &str) -> Result<Option<Value>, Alloc
 /// # Errors
 /// Out of memory.
 pub(crate) fn row_of(alloc: Global, line: &str) -> Result<Row, AllocError> {
-    let Some(Value::Array(columns)) = value_of(alloc, line)? else {
-        return no_row(alloc);
-    };
-    match columns.as_slice() {
-        [
-            Value::String(call),
-            Value::String(text),
-            Value::String(want),
-        ] => { made(alloc, given(alloc, call, "", text), want) }
-        [
-            Value::String(call),
-            Value::String(of),
-            Value::String(text),
-            Value::String(want),
-        ] => made(alloc, given(alloc, call, of, text), want),
-        _ => no_row(alloc),
+    match value_of(alloc, line)? {
+        Some(value) => row_of_value(alloc, &value),
+        None => no_row(alloc),
+    }
+}
+
+fn row_of_value(alloc: Global, value: &Value) -> Result<Row, AllocError> {
+    match columns(value) {
+        Some((call, of, text, want)) => made(alloc, given(alloc, call, of, text), want),
+        None => no_row(alloc),
+    }
+}
+
+/// The call, what it is asked for, the text, and what it has to give.
+fn columns(value: &Value) -> Option<(&str, &str, &str, &str)> {
+    match value.as_array()?.as_slice() {
+        [call, text, want] => Some((call.as_str()?, "", text.as_str()?, want.as_str()?)),
+        [call, of, text, want] => {
+            Some((call.as_str()?, of.as_str()?, text.as_str()?, want.as_str()?))
+        }
+        _ => None,
     }
 }
 

@@ -1,7 +1,7 @@
 //! The table of texts on standard input, and the files of rows that the arguments name.
 ghost use Rattle.std.specs.Prelude.{◌≡◌, ◌↔◌, IfOk, IsTrue};
 
-use crate::rows::{Row, row_of};
+use crate::rows::row_of;
 use std::alloc::{AllocError, Global};
 use std::io::{self, ErrorKind, Read};
 use std::{env, fs};
@@ -63,13 +63,8 @@ fn check_table(rt: &impl Print, alloc: Global, table: &str) -> Result<u64, Table
     let mut rows = 0u64;
     let mut wrong = 0u64;
     for row in table.lines() {
-        let (text, want) = row.split_once('\t').unwrap_or((row, ""));
-        let given = match text_or_message(alloc, answer::<Decimal<18>>(alloc, text)) {
-            Ok(given) => given,
-            Err(e) => return Err(TableError::Memory(e)),
-        };
         rows = rows.wrapping_add(1);
-        if !is_right(rt, text, &given, want)? {
+        if !check_text(rt, alloc, row)? {
             wrong = wrong.wrapping_add(1);
         }
     }
@@ -77,12 +72,26 @@ fn check_table(rt: &impl Print, alloc: Global, table: &str) -> Result<u64, Table
     Ok(wrong)
 }
 
-/// Checks each row of a file, but for its head, and prints which are wrong, and how many.
+/// Whether the row of a text is right. Prints one that isn't.
+fn check_text(rt: &impl Print, alloc: Global, row: &str) -> Result<bool, TableError> {
+    let (text, want) = row.split_once('\t').unwrap_or((row, ""));
+    match text_or_message(alloc, answer::<Decimal<18>>(alloc, text)) {
+        Ok(given) => is_right(rt, text, &given, want),
+        Err(e) => Err(TableError::Memory(e)),
+    }
+}
+
+/// Checks each row of a file, and prints which are wrong, and how many.
 fn check_file(rt: &HostRuntime, alloc: Global, name: &str) -> Result<u64, TableError> {
     let bytes = bytes_of(alloc, fs::open(rt, name).map_err(unread)?)?;
+    check_rows(rt, alloc, name, text_of(&bytes)?)
+}
+
+/// Checks each row of a file's text, but for its head.
+fn check_rows(rt: &impl Print, alloc: Global, name: &str, text: &str) -> Result<u64, TableError> {
     let mut rows = 0u64;
     let mut wrong = 0u64;
-    for line in text_of(&bytes)?.lines() {
+    for line in text.lines() {
         if line.starts_with('#') {
             continue;
         }
@@ -98,7 +107,7 @@ fn check_file(rt: &HostRuntime, alloc: Global, name: &str) -> Result<u64, TableE
 /// Whether the row of a line is right. Prints one that isn't.
 fn check_line(rt: &impl Print, alloc: Global, line: &str) -> Result<bool, TableError> {
     match row_of(alloc, line) {
-        Ok(Row { given, want }) => is_right(rt, line, &given, &want),
+        Ok(row) => is_right(rt, line, &row.given, &row.want),
         Err(e) => Err(TableError::Memory(e)),
     }
 }

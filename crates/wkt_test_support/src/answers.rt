@@ -8,6 +8,7 @@ ghost use Rattle.wkt_test_support.specs.Answer.{OnMemory, OnRefused};
 
 use crate::canonical_calls::{is_canonical_alike, is_refused_alike};
 use crate::flat_calls::flat_alike;
+use crate::shown::shows;
 use std::alloc::{AllocError, Global};
 use thiserror::Error;
 use wkt::laws::read_values_are_writable;
@@ -113,7 +114,16 @@ fn again_alike<T: WktNum>(
     answer: &str,
 ) -> Result<bool, AllocError> {
     let again = rebuilt(alloc, geometry.try_clone(alloc)?)?;
-    Ok(again == *geometry && format!(in alloc; "{again}")?.as_str() == answer)
+    is_again(alloc, &again, geometry, answer)
+}
+
+fn is_again<T: WktNum>(
+    alloc: Global,
+    again: &Wkt<T>,
+    geometry: &Wkt<T>,
+    answer: &str,
+) -> Result<bool, AllocError> {
+    Ok(*again == *geometry && shows(alloc, again, answer)?)
 }
 
 /// Whether the two calls that return where the front ends read that geometry, and agree on that end.
@@ -167,19 +177,19 @@ fn rebuilt<T: WktNum>(alloc: Global, geometry: Wkt<T>) -> Result<Wkt<T>, AllocEr
 fn line_string_again<T: WktNum>(alloc: Global, line: LineString<T>) -> Result<Wkt<T>, AllocError> {
     let (coords, dim) = line.into_inner();
     let line = LineString::from_coords(alloc, coords.into_iter())?;
-    Ok(Wkt::from(line.unwrap_or_else(|| LineString::empty(alloc, dim))))
+    Ok(Wkt::from(line.unwrap_or(LineString::empty(alloc, dim))))
 }
 
 fn polygon_again<T: WktNum>(alloc: Global, polygon: Polygon<T>) -> Result<Wkt<T>, AllocError> {
     let (rings, dim) = polygon.into_inner();
     let polygon = Polygon::from_rings(alloc, rings.into_iter())?;
-    Ok(Wkt::from(polygon.unwrap_or_else(|| Polygon::empty(alloc, dim))))
+    Ok(Wkt::from(polygon.unwrap_or(Polygon::empty(alloc, dim))))
 }
 
 fn points_again<T: WktNum>(alloc: Global, points: MultiPoint<T>) -> Result<Wkt<T>, AllocError> {
     let (points, dim) = points.into_inner();
     let points = MultiPoint::from_points(alloc, points.into_iter())?;
-    Ok(Wkt::from(points.unwrap_or_else(|| MultiPoint::empty(alloc, dim))))
+    Ok(Wkt::from(points.unwrap_or(MultiPoint::empty(alloc, dim))))
 }
 
 fn line_strings_again<T: WktNum>(
@@ -188,7 +198,7 @@ fn line_strings_again<T: WktNum>(
 ) -> Result<Wkt<T>, AllocError> {
     let (lines, dim) = lines.into_inner();
     let lines = MultiLineString::from_line_strings(alloc, lines.into_iter())?;
-    Ok(Wkt::from(lines.unwrap_or_else(|| MultiLineString::empty(alloc, dim))))
+    Ok(Wkt::from(lines.unwrap_or(MultiLineString::empty(alloc, dim))))
 }
 
 fn polygons_again<T: WktNum>(
@@ -197,7 +207,7 @@ fn polygons_again<T: WktNum>(
 ) -> Result<Wkt<T>, AllocError> {
     let (polygons, dim) = polygons.into_inner();
     let polygons = MultiPolygon::from_polygons(alloc, polygons.into_iter())?;
-    Ok(Wkt::from(polygons.unwrap_or_else(|| MultiPolygon::empty(alloc, dim))))
+    Ok(Wkt::from(polygons.unwrap_or(MultiPolygon::empty(alloc, dim))))
 }
 
 /// The dimension of a collection need not be that of its first member.
@@ -207,7 +217,7 @@ fn collection_again<T: WktNum>(
 ) -> Result<Wkt<T>, AllocError> {
     let (members, dim) = all.into_inner();
     let all = GeometryCollection::from_geometries(alloc, members.into_iter())?;
-    let all = all.unwrap_or_else(|| GeometryCollection::empty(alloc, dim));
+    let all = all.unwrap_or(GeometryCollection::empty(alloc, dim));
     let (members, _) = all.into_inner();
     Ok(Wkt::from(GeometryCollection::new(members, dim)))
 }

@@ -7,6 +7,7 @@ mod answers;
 mod canonical_calls;
 mod flat_calls;
 mod numbers;
+mod shown;
 
 pub use answers::{AnswerError, answer, text_or_message};
 pub use numbers::{Dash, Letter, Long};

@@ -19,4 +19,6 @@ mod own_types;
 #[cfg(test)]
 mod same;
 #[cfg(test)]
+mod table_callers;
+#[cfg(test)]
 mod walks;
