@@ -58,8 +58,9 @@ fn source(rest: &[u8], step: usize, calls: usize) -> Pieces<'_>
 #[test]
 fn reads_one_byte_a_call(rt: HostRuntime) {
     let mut reader = source(b"POINT(10 20)", 1, 100);
-    let answer = Point::<Number>::try_from_wkt_reader(rt.alloc(), &mut reader);
-    let point = answer.expect(&rt, "a point");
+    let Ok(point) = Point::<Number>::try_from_wkt_reader(rt.alloc(), &mut reader) else {
+        panic!(rt; "a point wasn't read");
+    };
     equal(&rt, point.x().units(), 10_000_000);
     equal(&rt, point.y().units(), 20_000_000);
     equal(&rt, reader.rest.len(), 0);

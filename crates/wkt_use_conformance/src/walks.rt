@@ -60,9 +60,10 @@ fn is_counted(rt: &impl Abort, alloc: Global, text: &str, count: usize) {
 
 /// That is the text of the least rectangle around the geometry of the text, if there is one.
 fn is_bounded(rt: &impl Abort, alloc: Global, text: &str, around: &str) {
-    match box_of_text::<i64>(alloc, text).expect(rt, text) {
-        Some(rect) => is_rectangle(rt, alloc, &rect, around),
-        None => equal(rt, (text, ""), (text, around)),
+    match box_of_text::<i64>(alloc, text) {
+        Ok(Some(rect)) => is_rectangle(rt, alloc, &rect, around),
+        Ok(None) => equal(rt, (text, ""), (text, around)),
+        Err(_) => panic!(rt; "{text} wasn't read"),
     }
 }
 
