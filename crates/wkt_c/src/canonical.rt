@@ -38,8 +38,8 @@ fn write<const D: u32>(text: &str, room: &mut [u8]) -> Option<(usize, usize)>
     write_canonical::<Decimal<D>>(text, room, 0).unwrap_or(None)
 }
 
-/// The same, which returns where that ends, and how long the canonical text is, or why there is none. `walked` is the
-/// text, or the text and what stands behind a NUL.
+/// Does what `write` does, and returns where the front ends and how long its canonical text is, or why the text is
+/// refused. `walked` is the text, or the text and what stands behind a NUL.
 fn write_or_refuse<const D: u32>(
     text: &str,
     walked: &str,

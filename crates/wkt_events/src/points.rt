@@ -10,7 +10,7 @@ use crate::bytes::{skip_white, take};
 use crate::walk::point_head;
 use wkt_num::{Decimal, units_near};
 
-/// A point of two numbers, in units of 64 bits, and where it ends in its text.
+/// A point of two decimals, as the units of each (`Decimal::units`), and where it ends in its text.
 #[derive(Clone, Copy)]
 pub struct NearPoint {
     pub x: i64,
