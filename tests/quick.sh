@@ -11,17 +11,17 @@ jobs=${JOBS:-2}
 dir=$(mktemp -d)
 trap 'rm -rf "$dir"' EXIT
 
-# counted CRATE PASSED FAILED WORDS: what came of a crate, by the work that runs
+# counted CRATE PASSED FAILED WORDS: what came of a crate
 counted() {
     echo "$1: $4$2 passed, $3 failed ($((SECONDS - start)) s)"
-    echo "$2 $3" > "$dir/$kind.$1.count"
+    echo "$2 $3" > "$dir/$1.count"
 }
 # ended FILE: whether rt try came to an end, and not to a crash or a limit
 ended() { tail -n 1 "$1" | grep -q '^run=ended '; }
 
 # tests CRATE: its tests
 tests() {
-    local said=$dir/tests.$1.said passed failed start=$SECONDS
+    local said=$dir/$1.said passed failed start=$SECONDS
     (cd "crates/$1" && rt try --test) > "$said" 2>&1 < /dev/null
     passed=$(sed -n 's/^test result: .* \([0-9]*\) passed;.*/\1/p' "$said")
     failed=$(sed -n 's/^test result: .*; \([0-9]*\) failed;.*/\1/p' "$said")
@@ -107,16 +107,16 @@ for one in "${work[@]}"; do
     read -r kind crate <<< "$one"
     [ $# = 0 ] || case $named in *" $crate "*) ;; *) continue ;; esac
     if [ "$running" -ge "$jobs" ]; then wait -n; running=$((running - 1)); fi
-    begun+=("$kind.$crate")
+    begun+=("$crate")
     # What it says comes in one piece.
-    { "$kind" "$crate" > "$dir/$kind.$crate.out" 2>&1; cat "$dir/$kind.$crate.out"; } &
+    { "$kind" "$crate" > "$dir/$crate.out" 2>&1; cat "$dir/$crate.out"; } &
     running=$((running + 1))
 done
 wait
 
 passed=0 failed=0
-for one in "${begun[@]}"; do
-    read -r p f < "$dir/$one.count" || { echo "$one: came to no count"; p=0 f=1; }
+for crate in "${begun[@]}"; do
+    read -r p f < "$dir/$crate.count" || { echo "$crate: came to no count"; p=0 f=1; }
     passed=$((passed + p)) failed=$((failed + f))
 done
 [ $# != 0 ] || echo "not run here: wkt_long_conformance ($(grep -rh '^#\[test\]' crates/wkt_long_conformance/src | wc -l) tests, which the gate runs)"

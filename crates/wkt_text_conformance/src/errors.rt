@@ -1,18 +1,8 @@
 //! The texts of the errors of writing.
-use crate::asserts::equal;
-use std::alloc::{AllocError, Global};
+use crate::asserts::says;
+use std::alloc::AllocError;
 use std::fmt;
-use std::process::Abort;
 use wkt_access::Error;
-
-/// The error has that text.
-fn says(rt: &impl Abort, alloc: Global, error: Error, want: &str) {
-    equal(
-        rt,
-        error.to_string(alloc).expect(rt, "memory").as_str(),
-        want,
-    );
-}
 
 #[test]
 fn why_a_geometry_is_not_written(rt: HostRuntime) {

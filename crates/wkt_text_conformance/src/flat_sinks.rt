@@ -1,6 +1,6 @@
 //! Flat values to writers that are slow or fail.
 
-use crate::asserts::equal;
+use crate::asserts::{equal, says};
 use crate::slow_sinks::Slow;
 use std::alloc::Global;
 use std::io;
@@ -114,15 +114,6 @@ fn gathers_pieces(rt: HostRuntime) {
     assert!(rt; wrapper.finish().is_ok());
     wrapper.into_writer();
     equal(&rt, (writer.len, writer.calls), (256, 99));
-}
-
-/// The error has that text.
-fn says(rt: &impl Abort, alloc: Global, error: ToWktError, want: &str) {
-    equal(
-        rt,
-        error.to_string(alloc).expect(rt, "memory").as_str(),
-        want,
-    );
 }
 
 #[test]

@@ -1,5 +1,5 @@
 //! The text of a value of each two-dimensional type, by each call that writes it, and the texts of the errors.
-use crate::asserts::equal;
+use crate::asserts::{equal, says};
 use std::alloc::{AllocError, Global};
 use std::io;
 use std::io::ErrorKind;
@@ -128,32 +128,32 @@ fn single_values(rt: HostRuntime) {
     is_written(&rt, alloc, &line, "LINESTRING(1 2,3 4)");
 }
 
+/// The value and its polygon are written so.
+fn both_give(
+    rt: &impl Abort,
+    alloc: Global,
+    polygon: &Polygon<i32>,
+    value: &Geometry<i32>,
+    want: &str,
+) {
+    gives(rt, alloc, polygon, want);
+    is_written(rt, alloc, value, want);
+}
+
 #[test]
 fn rectangles(rt: HostRuntime) {
-    let alloc = rt.alloc();
     let rect = Rect::new(at(8, 1), at(4, 6));
+    let polygon = rect.to_polygon(rt.alloc()).expect(&rt, "memory");
     let want = "POLYGON((8 1,8 6,4 6,4 1,8 1))";
-    gives(
-        &rt,
-        alloc,
-        &rect.to_polygon(alloc).expect(&rt, "memory"),
-        want,
-    );
-    is_written(&rt, alloc, &Geometry::from(rect), want);
+    both_give(&rt, rt.alloc(), &polygon, &Geometry::from(rect), want);
 }
 
 #[test]
 fn triangles(rt: HostRuntime) {
-    let alloc = rt.alloc();
     let triangle = Triangle::new(at(0, 0), at(4, 0), at(2, 4));
+    let polygon = triangle.to_polygon(rt.alloc()).expect(&rt, "memory");
     let want = "POLYGON((0 0,4 0,2 4,0 0))";
-    gives(
-        &rt,
-        alloc,
-        &triangle.to_polygon(alloc).expect(&rt, "memory"),
-        want,
-    );
-    is_written(&rt, alloc, &Geometry::from(triangle), want);
+    both_give(&rt, rt.alloc(), &polygon, &Geometry::from(triangle), want);
 }
 
 // An exterior, an interior, and the text of their polygon.
@@ -252,15 +252,6 @@ fn empty_lists_of_parts(rt: HostRuntime) {
 fn an_empty_point_is_refused(rt: HostRuntime) {
     let empty = WktPoint::<Decimal<6>>::empty(Dimension::XYZ);
     assert!(rt; matches!(Point::try_from(empty), Err(Error::PointConversionError)));
-}
-
-/// The error has that text.
-fn says(rt: &impl Abort, alloc: Global, error: Error, want: &str) {
-    equal(
-        rt,
-        error.to_string(alloc).expect(rt, "memory").as_str(),
-        want,
-    );
 }
 
 #[test]

@@ -1,7 +1,7 @@
 //! Tests that use several crates below `wkt`: values of all types that are made, copied, compared and written, numbers,
-//! lexemes, and sinks that are slow, full or fail.
+//! lexemes, lines, and sinks and sources that are slow, full or fail.
 //!
-//! Below stand the crates of the types, the writers and the reader.
+//! Below stand the crates of the types, the writers, the reader and the lines.
 #![tactic(auto)]
 
 #[cfg(test)]
@@ -15,11 +15,19 @@ mod flat_texts;
 #[cfg(test)]
 mod flat_values;
 #[cfg(test)]
+mod gathered;
+#[cfg(test)]
 mod headers;
 #[cfg(test)]
 mod numbers;
 #[cfg(test)]
 mod own_to_wkt;
+#[cfg(test)]
+mod pieces;
+#[cfg(test)]
+mod program_sinks;
+#[cfg(test)]
+mod read_lines;
 #[cfg(test)]
 mod reading;
 #[cfg(test)]

@@ -1,9 +1,9 @@
-//! A sink of bytes that is slow, or fails, or is full.
+//! Sinks and sources of bytes that are slow, or fail, or are full.
 ghost use Rattle.std.specs.Prelude.{◌≡◌, ◌≤◌, ◌<◌};
 
 use std::io;
 use std::io::ErrorKind;
-use wkt_bytes::ByteSink;
+use wkt_bytes::{ByteSink, ByteSource};
 
 /// A sink that takes `step` bytes a call. After the first `calls` it takes none: each call fails, or
 /// where `full` says so answers zero.
@@ -67,5 +67,47 @@ impl ByteSink for Slow {
             self.failures = self.failures.wrapping_add(1);
         }
         Ok(count)
+    }
+}
+
+/// A source that gives `step` bytes a call, and fails at each call after the first `calls`.
+#[derive(Drop)]
+pub(crate) struct Pieces<'a> {
+    pub(crate) rest: &'a [u8],
+    step: usize,
+    calls: usize,
+    pub(crate) failures: u64,
+    ghost moves: { 0 < step },
+}
+
+impl ByteSource for Pieces<'_> {
+    ghost use Rattle.std.specs.Prelude.{Some};
+
+    ghost left = { λ s. Some s.rest.now };
+
+    ghost failures = { λ s. s.failures };
+
+    fn take(&mut self, buf: &mut [u8]) -> io::Result<usize> {
+        if self.calls == 0 {
+            self.failures = self.failures.wrapping_add(1);
+            return Err(io::Error::from(ErrorKind::Interrupted));
+        }
+        self.calls -= 1;
+        let count = buf.len().min(self.step).min(self.rest.len());
+        buf[..count].copy_from_slice(&self.rest[..count]);
+        self.rest = &self.rest[count..];
+        Ok(count)
+    }
+}
+
+/// A source of these bytes, at most so many a call.
+pub(crate) fn source(rest: &[u8], step: usize, calls: usize) -> Pieces<'_>
+    requires { 0 < step }
+{
+    Pieces {
+        rest,
+        step,
+        calls,
+        failures: 0,
     }
 }

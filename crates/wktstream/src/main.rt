@@ -1,21 +1,7 @@
 //! Answers each line of standard input on standard output as `wktline` does, in the memory of the longest line.
 //!
-//! Below stands `wkt_lines`, with the call that this program makes; the tests here are those of `wkt_lines` and `wkt_bytes`
-//! over sinks and sources that are slow, full or fail.
+//! Below stands `wkt_lines`, with the call that this program makes.
 #![tactic(auto)]
-
-#[cfg(test)]
-mod asserts;
-#[cfg(test)]
-mod gathered;
-#[cfg(test)]
-mod pieces;
-#[cfg(test)]
-mod program_sinks;
-#[cfg(test)]
-mod read_lines;
-#[cfg(test)]
-mod slow_sinks;
 
 use std::process::ExitCode;
 use wkt_bytes::Counted;

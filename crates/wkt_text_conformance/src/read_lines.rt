@@ -203,8 +203,7 @@ fn answers(
     alloc: Global,
     reader: &mut Pieces<'_>,
     writer: &mut Slow,
-    end: End,
-    want: &[u8],
+    (end, want): (End, &[u8]),
 ) {
     let word = Word { word: "seen" };
     ended(rt, stream_with(alloc, &word, reader, writer), end);
@@ -215,7 +214,7 @@ fn answers(
 fn answers_all(rt: &impl Abort, alloc: Global, input: &[u8], step: usize, want: &[u8]) {
     let mut reader = source(input, step.max(1), 1000);
     let mut writer = Slow::new(1000, 1000);
-    answers(rt, alloc, &mut reader, &mut writer, WELL, want);
+    answers(rt, alloc, &mut reader, &mut writer, (WELL, want));
     equal(rt, reader.rest.len(), 0);
 }
 
@@ -257,7 +256,13 @@ fn faults_of_a_writer_of_answers(rt: HostRuntime) {
         let mut reader = source(b"one\ntwo\nthree", 1000, 1000);
         let mut writer = Slow::new(1, calls);
         let want = &SEEN[..calls];
-        answers(&rt, rt.alloc(), &mut reader, &mut writer, BROKEN_PIPE, want);
+        answers(
+            &rt,
+            rt.alloc(),
+            &mut reader,
+            &mut writer,
+            (BROKEN_PIPE, want),
+        );
         equal(&rt, writer.failures, 1);
     }
 }
@@ -277,7 +282,13 @@ fn faults_of_a_reader_of_lines(rt: HostRuntime) {
     for &(calls, want) in READ_FAULTS {
         let mut reader = source(b"one\ntwo\nthree", 1, calls);
         let mut writer = Slow::new(1000, 1000);
-        answers(&rt, rt.alloc(), &mut reader, &mut writer, INTERRUPTED, want);
+        answers(
+            &rt,
+            rt.alloc(),
+            &mut reader,
+            &mut writer,
+            (INTERRUPTED, want),
+        );
         equal(&rt, reader.failures, 1);
     }
 }
@@ -293,7 +304,13 @@ const REFUSED: &[(&[u8], &[u8])] = &[
 fn is_refused(rt: &impl Abort, alloc: Global, input: &[u8], step: usize, want: &[u8]) {
     let mut reader = source(input, step.max(1), 1000);
     let mut writer = Slow::new(1000, 1000);
-    answers(rt, alloc, &mut reader, &mut writer, ("memory", None), want);
+    answers(
+        rt,
+        alloc,
+        &mut reader,
+        &mut writer,
+        (("memory", None), want),
+    );
     equal(rt, writer.failures, 0);
 }
 
