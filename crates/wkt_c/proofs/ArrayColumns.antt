@@ -1,13 +1,15 @@
 -- The arrays of a column, row after row.
-use Rattle.std.proofs.Common.{◌≡◌, ◌+◌, ◌<◌, inl, inr, ℕ, ℤ, List, [], Bool, true, false, length, drop, refl, sym, ap, ◌∙◌, subst, arith, below_more}
+use Rattle.std.proofs.Common.{◌≡◌, ◌+◌, ◌<◌, ◌++◌, ◌∷◌, map, inl, inr, ℕ, ℤ, List, [], Bool, true, false, length, drop, refl, sym, ap, ◌∙◌, subst, arith, below_more}
 use Rattle.std.specs.List.{slice_index}
+use Rattle.std.proofs.lemmas.List.{map-append}
 use Rattle.wkt_c.specs.Column.{row, is_null}
 use Rattle.wkt_num.specs.Bytes.{AllWhite}
 use Rattle.wkt_c.specs.Answer.{EndsAsAsked}
 use Rattle.wkt_c.specs.Arrays.{AreOf}
 use Rattle.wkt_c.specs.ColumnArrays.{RowArrays, row_arrays, HasNothing, HasNoRowArrays, IsRowArrays}
-use Rattle.wkt_c.specs.ArrayRows.{held_arrays, HoldsNoArrays, AddsArrays, AddsRowArrays, HoldsArrays, row_of}
+use Rattle.wkt_c.specs.ArrayRows.{held_arrays, kinds_of, dimensions_of, statuses_of, HoldsNoArrays, AddsArrays, AddsRowArrays, HoldsArrays, row_of}
 use Rattle.wkt_c.specs.declared.column_arrays.ArrayRows.{ArrayRows}
+use Rattle.wkt_c.specs.declared.column_arrays.RowHead.{RowHead}
 use Rattle.wkt_c.proofs.Columns.{no-list, longer, old-list, new-list, old-word, new-word, more-words}
 
 -- ---- rows
@@ -23,18 +25,30 @@ module _ (places : ℕ) (whole : Bool) (texts offsets valid : List ℕ) where
     numbers_joined = no-list r.numbers h.no_numbers;
     rings_joined = no-list r.rings h.no_rings;
     polygons_joined = no-list r.polygons h.no_polygons;
-    kinds_size = ap length h.no_kinds;
-    dimensions_size = ap length h.no_dimensions;
-    statuses_size = ap length h.no_statuses;
+    kinds_size = ap (λ hs. length (kinds_of hs)) h.no_heads;
+    dimensions_size = ap (λ hs. length (dimensions_of hs)) h.no_heads;
+    statuses_size = ap (λ hs. length (statuses_of hs)) h.no_heads;
     answers = λ i lt. absurd (omega (arith, lt));
   }
 
   module _ (i : ℕ) (r : RowArrays) (status : ℕ) (a b : ArrayRows) (are : HoldsArrays places whole texts offsets valid i a) (adds : AddsArrays r status a b) where
+    part-added : (part : RowHead → ℕ) → map part b.heads.items ≡ map part a.heads.items ++ part (record { kind = r.kind; dimension = r.dimension; status = status }) ∷ []
+    part-added part = ap (λ hs. map part hs) adds.head_added ∙ map-append part a.heads.items (record { kind = r.kind; dimension = r.dimension; status = status } ∷ [])
+
+    kind-added : kinds_of b.heads.items ≡ kinds_of a.heads.items ++ r.kind ∷ []
+    kind-added = part-added (λ h. h.kind)
+
+    dimension-added : dimensions_of b.heads.items ≡ dimensions_of a.heads.items ++ r.dimension ∷ []
+    dimension-added = part-added (λ h. h.dimension)
+
+    status-added : statuses_of b.heads.items ≡ statuses_of a.heads.items ++ status ∷ []
+    status-added = part-added (λ h. h.status)
+
     old-row : (k : ℕ) → k < i → row_arrays (held_arrays a) k ≡ row_arrays (held_arrays b) k
     old-row k lt =
         same-row _ _ _ _ _ _ _ _ _ _
-        (old-word a.kinds.items b.kinds.items r.kind k adds.kind_added (omega (arith, lt, are.kinds_size)))
-        (old-word a.dimensions.items b.dimensions.items r.dimension k adds.dimension_added (omega (arith, lt, are.dimensions_size)))
+        (old-word (kinds_of a.heads.items) (kinds_of b.heads.items) r.kind k kind-added (omega (arith, lt, are.kinds_size)))
+        (old-word (dimensions_of a.heads.items) (dimensions_of b.heads.items) r.dimension k dimension-added (omega (arith, lt, are.dimensions_size)))
         (old-list i r.numbers a.numbers b.numbers are.numbers_joined adds.numbers_added k lt)
         (old-list i r.rings a.rings b.rings are.rings_joined adds.rings_added k lt)
         (old-list i r.polygons a.polygons b.polygons are.polygons_joined adds.polygons_added k lt)
@@ -42,26 +56,26 @@ module _ (places : ℕ) (whole : Bool) (texts offsets valid : List ℕ) where
     new-row : r ≡ row_arrays (held_arrays b) i
     new-row =
         same-row _ _ _ _ _ _ _ _ _ _
-        (new-word a.kinds.items b.kinds.items r.kind i adds.kind_added are.kinds_size)
-        (new-word a.dimensions.items b.dimensions.items r.dimension i adds.dimension_added are.dimensions_size)
+        (new-word (kinds_of a.heads.items) (kinds_of b.heads.items) r.kind i kind-added are.kinds_size)
+        (new-word (dimensions_of a.heads.items) (dimensions_of b.heads.items) r.dimension i dimension-added are.dimensions_size)
         (new-list i r.numbers a.numbers b.numbers are.numbers_joined adds.numbers_added)
         (new-list i r.rings a.rings b.rings are.rings_joined adds.rings_added)
         (new-list i r.polygons a.polygons b.polygons are.polygons_joined adds.polygons_added)
 
     pub one-row-more : IsRowArrays places whole (is_null valid i) (row texts offsets i) r status → HoldsArrays places whole texts offsets valid (i + 1) b
     one-row-more is = record {
-      kinds_size = more-words a.kinds.items b.kinds.items r.kind i adds.kind_added are.kinds_size;
-      dimensions_size = more-words a.dimensions.items b.dimensions.items r.dimension i adds.dimension_added are.dimensions_size;
+      kinds_size = more-words (kinds_of a.heads.items) (kinds_of b.heads.items) r.kind i kind-added are.kinds_size;
+      dimensions_size = more-words (dimensions_of a.heads.items) (dimensions_of b.heads.items) r.dimension i dimension-added are.dimensions_size;
       numbers_joined = longer i r.numbers a.numbers b.numbers are.numbers_joined adds.numbers_added;
       rings_joined = longer i r.rings a.rings b.rings are.rings_joined adds.rings_added;
       polygons_joined = longer i r.polygons a.polygons b.polygons are.polygons_joined adds.polygons_added;
-      statuses_size = more-words a.statuses.items b.statuses.items status i adds.status_added are.statuses_size;
-      answers = below_more (λ k. IsRowArrays places whole (is_null valid k) (row texts offsets k) (row_arrays (held_arrays b) k) (slice_index b.statuses.items k)) i
+      statuses_size = more-words (statuses_of a.heads.items) (statuses_of b.heads.items) status i status-added are.statuses_size;
+      answers = below_more (λ k. IsRowArrays places whole (is_null valid k) (row texts offsets k) (row_arrays (held_arrays b) k) (slice_index (statuses_of b.heads.items) k)) i
           (λ k lt. subst (λ s. IsRowArrays places whole (is_null valid k) (row texts offsets k) (row_arrays (held_arrays b) k) s)
-          (old-word a.statuses.items b.statuses.items status k adds.status_added (omega (arith, are.statuses_size, lt)))
-          (subst (λ x. IsRowArrays places whole (is_null valid k) (row texts offsets k) x (slice_index a.statuses.items k)) (old-row k lt) (are.answers k lt)))
+          (old-word (statuses_of a.heads.items) (statuses_of b.heads.items) status k status-added (omega (arith, are.statuses_size, lt)))
+          (subst (λ x. IsRowArrays places whole (is_null valid k) (row texts offsets k) x (slice_index (statuses_of a.heads.items) k)) (old-row k lt) (are.answers k lt)))
           (subst (λ s. IsRowArrays places whole (is_null valid i) (row texts offsets i) (row_arrays (held_arrays b) i) s)
-          (new-word a.statuses.items b.statuses.items status i adds.status_added are.statuses_size)
+          (new-word (statuses_of a.heads.items) (statuses_of b.heads.items) status i status-added are.statuses_size)
           (subst (λ x. IsRowArrays places whole (is_null valid i) (row texts offsets i) x status) new-row is));
     }
 

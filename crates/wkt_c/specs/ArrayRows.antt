@@ -1,14 +1,25 @@
 -- The arrays of a column as they grow. Only private contracts cite these words.
-use Rattle.std.specs.Prelude.{◌≡◌, ◌++◌, ℕ, ℤ, List, [], ◌∷◌, Bool}
+use Rattle.std.specs.Prelude.{◌≡◌, ◌++◌, ℕ, ℤ, List, [], ◌∷◌, Bool, map}
 use Rattle.wkt_c.specs.ColumnArrays.{RowArrays, ColumnArrays, IsRowArrays, AreRowArrays}
 use Rattle.wkt_c.specs.Joining.{HoldsNoList, AddsList}
 use Rattle.wkt_c.specs.declared.column_arrays.ArrayRows.{ArrayRows}
+use Rattle.wkt_c.specs.declared.column_arrays.RowHead.{RowHead}
+
+-- Each part of the heads of rows.
+abbrev pub kinds_of : List RowHead → List ℕ
+kinds_of heads = map (λ h. h.kind) heads
+
+abbrev pub dimensions_of : List RowHead → List ℕ
+dimensions_of heads = map (λ h. h.dimension) heads
+
+abbrev pub statuses_of : List RowHead → List ℕ
+statuses_of heads = map (λ h. h.status) heads
 
 -- All that they hold.
 abbrev pub held_arrays : ArrayRows → ColumnArrays
 held_arrays r = record {
-  kinds = r.kinds.items;
-  dimensions = r.dimensions.items;
+  kinds = kinds_of r.heads.items;
+  dimensions = dimensions_of r.heads.items;
   numbers = r.numbers.items.items;
   number_ends = r.numbers.ends.items;
   rings = r.rings.items.items;
@@ -22,18 +33,14 @@ pub record HoldsNoArrays (r : ArrayRows) : Type 0 where
   pub no_numbers : HoldsNoList r.numbers
   pub no_rings : HoldsNoList r.rings
   pub no_polygons : HoldsNoList r.polygons
-  pub no_kinds : r.kinds.items ≡ []
-  pub no_dimensions : r.dimensions.items ≡ []
-  pub no_statuses : r.statuses.items ≡ []
+  pub no_heads : r.heads.items ≡ []
 
 -- A row of these arrays and this status was added.
 pub record AddsArrays (row : RowArrays) (status : ℕ) (a b : ArrayRows) : Type 0 where
   pub numbers_added : AddsList row.numbers a.numbers b.numbers
   pub rings_added : AddsList row.rings a.rings b.rings
   pub polygons_added : AddsList row.polygons a.polygons b.polygons
-  pub kind_added : b.kinds.items ≡ a.kinds.items ++ row.kind ∷ []
-  pub dimension_added : b.dimensions.items ≡ a.dimensions.items ++ row.dimension ∷ []
-  pub status_added : b.statuses.items ≡ a.statuses.items ++ status ∷ []
+  pub head_added : b.heads.items ≡ a.heads.items ++ record { kind = row.kind; dimension = row.dimension; status = status } ∷ []
 
 -- The parts of a row as one.
 abbrev pub row_of : ℕ → ℕ → List ℤ → List ℕ → List ℕ → RowArrays
@@ -48,4 +55,4 @@ pub record AddsRowArrays (places : ℕ) (whole null : Bool) (text : List ℕ) (a
 
 -- These are the arrays of so many first rows.
 abbrev pub HoldsArrays : ℕ → Bool → List ℕ → List ℕ → List ℕ → ℕ → ArrayRows → Type 0
-HoldsArrays places whole texts offsets valid rows r = AreRowArrays places whole texts offsets valid rows (held_arrays r) r.statuses.items
+HoldsArrays places whole texts offsets valid rows r = AreRowArrays places whole texts offsets valid rows (held_arrays r) (statuses_of r.heads.items)

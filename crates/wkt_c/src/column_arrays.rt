@@ -1,9 +1,9 @@
 //! A column of texts as flat arrays at once.
-ghost use Rattle.std.specs.Prelude.{◌≡◌, ◌≤◌, MatchResult, [], false};
+ghost use Rattle.std.specs.Prelude.{◌≡◌, ◌≤◌, MatchResult, [], false, length};
 ghost use Rattle.wkt_c.specs.Answer.{places_in, asks_whole};
 ghost use Rattle.wkt_c.specs.Column.{AreOffsets, HasBits, row_count};
 ghost use Rattle.wkt_c.specs.Flat.{IsFlatPoint};
-ghost use Rattle.wkt_c.specs.ArrayRows.{HoldsNoArrays, AddsArrays, AddsRowArrays, HoldsArrays, row_of};
+ghost use Rattle.wkt_c.specs.ArrayRows.{HoldsNoArrays, AddsArrays, AddsRowArrays, HoldsArrays, row_of, kinds_of, dimensions_of, statuses_of};
 
 use crate::arrays_room::ArraysRoom;
 use crate::asked::ends_as_asked;
@@ -21,19 +21,15 @@ pub(crate) struct ArrayRows {
     pub(crate) numbers: Joined<i64>,
     pub(crate) rings: Joined<usize>,
     pub(crate) polygons: Joined<usize>,
-    pub(crate) kinds: Vec<u32>,
-    pub(crate) dimensions: Vec<u32>,
-    pub(crate) statuses: Vec<u32>,
+    pub(crate) heads: Vec<RowHead>,
 }
 
-/// A list with room for so many.
-fn list_for(alloc: Global, count: usize) -> Result<Vec<u32>, u32>
-    ensures { MatchResult result (λ list. list.items ≡ []) (λ s. s ≡ MEMORY) }
-{
-    match Vec::with_capacity(alloc, count) {
-        Ok(list) => Ok(list),
-        Err(_) => Err(MEMORY),
-    }
+/// The kind, the dimension and the status of a row. They are kept together, since each row adds one of each.
+#[derive(Clone, Copy)]
+pub(crate) struct RowHead {
+    pub(crate) kind: u32,
+    pub(crate) dimension: u32,
+    pub(crate) status: u32,
 }
 
 impl ArrayRows {
@@ -42,13 +38,14 @@ impl ArrayRows {
         ensures { MatchResult result HoldsNoArrays (λ s. s ≡ MEMORY) }
     {
         let twice = rows.saturating_mul(2);
+        let Ok(heads) = Vec::with_capacity(alloc, rows) else {
+            return Err(MEMORY);
+        };
         Ok(ArrayRows {
             numbers: Joined::new(alloc, rows, twice)?,
             rings: Joined::new(alloc, rows, twice)?,
             polygons: Joined::new(alloc, rows, twice)?,
-            kinds: list_for(alloc, rows)?,
-            dimensions: list_for(alloc, rows)?,
-            statuses: list_for(alloc, rows)?,
+            heads,
         })
     }
 
@@ -62,9 +59,12 @@ impl ArrayRows {
         self.numbers.add(row.numbers)?;
         self.rings.add(row.rings)?;
         self.polygons.add(row.polygons)?;
-        push(&mut self.kinds, row.kind)?;
-        push(&mut self.dimensions, row.dimension)?;
-        push(&mut self.statuses, status)
+        let head = RowHead {
+            kind: row.kind,
+            dimension: row.dimension,
+            status,
+        };
+        push(&mut self.heads, head)
     }
 
     /// Adds a row without arrays, which has this status.
@@ -153,6 +153,28 @@ impl ArrayRows {
                 self.add_none(status)
             }
         }
+    }
+}
+
+/// Puts the heads of all rows into three buffers, a part of each into its own. They are as long as the rows are many.
+pub(crate) fn copy_heads(
+    heads: &[RowHead],
+    kinds: &mut [u32],
+    dimensions: &mut [u32],
+    statuses: &mut [u32],
+)
+    requires kinds_fit { length heads.now ≡ length kinds.old }
+    requires dimensions_fit { length heads.now ≡ length dimensions.old }
+    requires statuses_fit { length heads.now ≡ length statuses.old }
+    ensures kinds_are { kinds.new ≡ kinds_of heads.now }
+    ensures dimensions_are { dimensions.new ≡ dimensions_of heads.now }
+    ensures statuses_are { statuses.new ≡ statuses_of heads.now }
+{
+    for i in 0..heads.len() {
+        let head = heads[i];
+        kinds[i] = head.kind;
+        dimensions[i] = head.dimension;
+        statuses[i] = head.status;
     }
 }
 

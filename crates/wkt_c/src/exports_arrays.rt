@@ -2,11 +2,11 @@
 ghost use Rattle.wkt_c.specs.Answer.{IsHandedOut, HasNoRoom};
 ghost use Rattle.std.specs.Prelude.{◌≡◌, ◌≤◌, ◌≢◌, ◌⊎◌, ℕ, List, length};
 ghost use Rattle.wkt_c.specs.ColumnArrays.{ColumnArrays, AreColumnArrays, AreFilled, FillColumn, LackRoom, HasNoArrays, IsTextColumn, IsArrayColumn, AreColumnTexts, HasNoTexts, as_column};
-ghost use Rattle.wkt_c.specs.ArrayRows.{held_arrays};
+ghost use Rattle.wkt_c.specs.ArrayRows.{held_arrays, statuses_of};
 
 use crate::asked::has_places;
 use crate::column::{GivenColumn, is_column};
-use crate::column_arrays::{ArrayRows, all_arrays};
+use crate::column_arrays::{ArrayRows, all_arrays, copy_heads};
 use crate::column_texts::{GivenRows, is_array_column, texts_at};
 use crate::exports::hand_out_rows;
 use crate::fill::{copy_to_front, copy_whole};
@@ -31,13 +31,13 @@ fn hand_out_arrays(
     requires number_offsets_fit { length rows.now.numbers.ends.items ≡ length number_offsets.old }
     requires ring_offsets_fit { length rows.now.rings.ends.items ≡ length ring_offsets.old }
     requires polygon_offsets_fit { length rows.now.polygons.ends.items ≡ length polygon_offsets.old }
-    requires kinds_fit { length rows.now.kinds.items ≡ length kinds.old }
-    requires dimensions_fit { length rows.now.dimensions.items ≡ length dimensions.old }
-    requires statuses_fit { length rows.now.statuses.items ≡ length statuses.old }
+    requires kinds_fit { length rows.now.heads.items ≡ length kinds.old }
+    requires dimensions_fit { length rows.now.heads.items ≡ length dimensions.old }
+    requires statuses_fit { length rows.now.heads.items ≡ length statuses.old }
     ensures stands { result ≡ DONE → FillColumn (held_arrays rows.now) sizes.new numbers.old rings.old polygons.old
         (as_column kinds.new dimensions.new numbers.new number_offsets.new rings.new ring_offsets.new polygons.new
         polygon_offsets.new) }
-    ensures statuses_are { result ≡ DONE → statuses.new ≡ rows.now.statuses.items }
+    ensures statuses_are { result ≡ DONE → statuses.new ≡ statuses_of rows.now.heads.items }
     ensures lacks { result ≡ SMALL → LackRoom (held_arrays rows.now) sizes.new (as_column kinds.old dimensions.old
         numbers.old number_offsets.old rings.old ring_offsets.old polygons.old polygon_offsets.old) }
     ensures kept { 1 ≤ result → (numbers.new ≡ numbers.old) × (rings.new ≡ rings.old) × (polygons.new ≡ polygons.old) }
@@ -56,15 +56,13 @@ fn hand_out_arrays(
     {
         return SMALL;
     }
-    copy_whole(&rows.kinds, kinds);
-    copy_whole(&rows.dimensions, dimensions);
+    copy_heads(&rows.heads, kinds, dimensions, statuses);
     copy_to_front(&rows.numbers.items, numbers);
     copy_whole(&rows.numbers.ends, number_offsets);
     copy_to_front(&rows.rings.items, rings);
     copy_whole(&rows.rings.ends, ring_offsets);
     copy_to_front(&rows.polygons.items, polygons);
     copy_whole(&rows.polygons.ends, polygon_offsets);
-    copy_whole(&rows.statuses, statuses);
     DONE
 }
 
