@@ -14,7 +14,7 @@ use mir.Val.{bits, hbits}
 use Rattle.wkt_num.specs.Lanes.{DigitLanes, lanes_after, lanes_value, last_lanes}
 
 -- a byte less 48
-abbrev digit : ℕ → ℕ
+abbrev pub digit : ℕ → ℕ
 digit b = (b + 208) % 256
 
 abbrev less : ℕ → ℕ → ℕ
@@ -79,7 +79,7 @@ after-zeros : (k : ℕ) (ds : List ℕ) → DigitLanes (replicate k 0 ++ ds) →
 after-zeros zero ds h = h
 after-zeros (suc k) ds h = after-zeros k ds h.1
 
-value-after-zeros : (k : ℕ) (ds : List ℕ) → lanes_value (replicate k 0 ++ ds) ≡ lanes_value ds
+pub value-after-zeros : (k : ℕ) (ds : List ℕ) → lanes_value (replicate k 0 ++ ds) ≡ lanes_value ds
 value-after-zeros zero ds = refl
 value-after-zeros (suc k) ds = value-after-zeros k ds
 
@@ -92,11 +92,11 @@ byte-digit b h k = let r : (48 ≤ b) × (b ≤ 57) = (omega (arith, h, k), omeg
     go : 48 ≤ b → b ≤ 57 → (digit_value b ≡ digit b) × (digit_value b < 10)
     go low high = (omega (arith, value low high, low, high), omega (arith, value low high, low, high))
 
-all-digits : (bs : List ℕ) → Each1 (Fits w8) bs → DigitLanes (map digit bs) → AllDigits 10 bs
+pub all-digits : (bs : List ℕ) → Each1 (Fits w8) bs → DigitLanes (map digit bs) → AllDigits 10 bs
 all-digits [] f h = tt
 all-digits (b ∷ bs) f h = let less : b < 256 = f.0.fits in ((byte-digit b less h.0).1, all-digits bs f.1 h.1)
 
-same-value : (n : ℕ) (bs : List ℕ) → Each1 (Fits w8) bs → DigitLanes (map digit bs) → lanes_after n (map digit bs) ≡ digits_value_after 10 n bs
+pub same-value : (n : ℕ) (bs : List ℕ) → Each1 (Fits w8) bs → DigitLanes (map digit bs) → lanes_after n (map digit bs) ≡ digits_value_after 10 n bs
 same-value n [] f h = refl
 same-value n (b ∷ bs) f h =
     let less : b < 256 = f.0.fits in

@@ -1,5 +1,5 @@
-//! The digits that end a text, eight or sixteen at once.
-ghost use Rattle.std.specs.Prelude.{◌≡◌, ◌+◌, ◌-◌, ◌*◌, ◌%◌, ◌≤◌, ◌<◌, ◌++◌, ◌^◌, IfSome, length, drop, map, replicate};
+//! Digits read eight or sixteen at once.
+ghost use Rattle.std.specs.Prelude.{◌≡◌, ◌+◌, ◌-◌, ◌*◌, ◌%◌, ◌≤◌, ◌<◌, ◌++◌, ◌^◌, IfSome, length, take, drop, map, replicate};
 ghost use Rattle.std.specs.Str.Parse.{AllDigits, digits_value};
 ghost use Rattle.wkt_num.specs.Lanes.{DigitLanes, lanes_value, last_lanes};
 
@@ -23,7 +23,7 @@ pub fn last_digits(body: &[u8], count: usize) -> Option<u64>
 
 /// The same of at most eight bytes, of a text that has eight.
 #[inline(always)]
-pub(crate) fn last_8(body: &[u8], count: usize) -> Option<u64>
+fn last_8(body: &[u8], count: usize) -> Option<u64>
     requires { (8 ≤ length body.now) × (count ≤ 8) }
     ensures digits { IfSome result (λ _. AllDigits 10 (drop (length body.now - count) body.now)) }
     ensures value { IfSome result (λ n. n ≡ digits_value 10 (drop (length body.now - count) body.now)) }
@@ -88,6 +88,19 @@ fn number_8(digits: u8x8) -> u64
         >> u32x2::splat(16);
     let [a, b] = fours.to_array();
     u64::from(a) * 10_000 + u64::from(b)
+}
+
+/// The number that the first `count` of eight lanes spell.
+#[inline(always)]
+pub(crate) fn first_8(digits: u8x8, count: usize) -> u64
+    requires some { 0 < count }
+    requires most { count ≤ 8 }
+    requires digits { DigitLanes (take count digits) }
+    ensures { result ≡ lanes_value (take count digits) }
+{
+    // A shift moves them to the last lanes, after lanes of 0.
+    let last = u64x1::from_le_bytes(digits) << u64x1::splat(64 - 8 * count as u64);
+    number_8(last.to_le_bytes())
 }
 
 /// The number of sixteen digits.

@@ -1,9 +1,10 @@
 //! Numbers of few digits, straight to units of 64 bits.
-ghost use Rattle.std.specs.Prelude.{◌≡◌, ◌+◌, ◌-◌, ◌*◌, ◌^◌, ◌≤◌, ◌<◌, IfSome, length};
+ghost use Rattle.std.specs.Prelude.{◌≡◌, ◌+◌, ◌-◌, ◌*◌, ◌^◌, ◌≤◌, ◌<◌, IfSome, length, slice_range};
+ghost use Rattle.std.specs.Str.Parse.{AllDigits, digits_value};
 ghost use Rattle.wkt_num.specs.Near.{BeginsUnits, ReadsDigits, signed};
 
 use crate::kept::{after_minus, is_of_run};
-use crate::lanes::last_8;
+use crate::lanes::first_8;
 use crate::powers::{SHORT_PLACES, ten_to};
 use crate::reading::digits_from;
 use std::simd::prelude::*;
@@ -66,33 +67,34 @@ fn units_before(places: u32, bytes: &[u8], most: usize) -> Option<(i64, usize)>
 fn fraction_from(bytes: &[u8], from: usize, most: usize, number: u64) -> (u64, usize)
     requires few { most ≤ 18 }
     requires within { most ≤ length bytes.now }
+    requires order { from ≤ most }
     requires small { number < 10 ^ from }
     ensures { ReadsDigits bytes.now from most number result.0 result.1 }
 {
-    let count = digits_near(bytes, from, most);
-    if count == 0 || from + count < 8 {
+    if most - from < 8 {
         return digits_from(bytes, from, most, number);
     }
-    let end = from + count;
-    match last_8(&bytes[..end], count) {
-        Some(fraction) => (number * ten_to(count as u32) + fraction, end),
+    match digits_near(bytes, from) {
+        Some((fraction, count)) => (number * ten_to(count as u32) + fraction, from + count),
         None => digits_from(bytes, from, most, number),
     }
 }
 
-/// How many digits stand there before a byte that is none, if these are eight bytes before `most`, else 0.
+/// The number that the digits from `from` on spell, and how many they are, if a byte that is none follows one to seven of
+/// them. `None` implies nothing.
 #[inline(always)]
-fn digits_near(bytes: &[u8], from: usize, most: usize) -> usize
-    requires within { most ≤ length bytes.now }
-    ensures few { result < 8 }
-    ensures within { 0 < result → from + result ≤ most }
+fn digits_near(bytes: &[u8], from: usize) -> Option<(u64, usize)>
+    requires within { from + 8 ≤ length bytes.now }
+    ensures few { IfSome result (λ r. r.1 < 8) }
+    ensures digits { IfSome result (λ r. AllDigits 10 (slice_range bytes.now from (from + r.1))) }
+    ensures value { IfSome result (λ r. r.0 ≡ digits_value 10 (slice_range bytes.now from (from + r.1))) }
 {
-    if from >= most || most - from < 8 {
-        return 0;
-    }
     let digits = u8x8::from_slice(&bytes[from..]) - u8x8::splat(48);
     let count = digits.simd_gt(u8x8::splat(9)).to_bitmask().trailing_zeros() as usize;
-    if count < 8 { count } else { 0 }
+    if count == 0 || count > 7 {
+        return None;
+    }
+    Some((first_8(digits, count), count))
 }
 
 /// So many times a number, with a minus or without, if 64 bits hold it.
