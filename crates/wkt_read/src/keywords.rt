@@ -1,5 +1,5 @@
 //! Words that have a meaning, whatever the case of their ASCII letters.
-ghost use Rattle.std.specs.Prelude.{◌≡◌};
+ghost use Rattle.std.specs.Prelude.{◌≡◌, ◌++◌, codes};
 ghost use Rattle.std.specs.Str.{str_to_ascii_uppercase};
 ghost use Rattle.wkt_read.specs.Grammar.{kind_word, dim_word};
 ghost use Rattle.wkt_read.specs.Parser.Outcome.{is_empty_word};
@@ -17,13 +17,13 @@ pub(crate) fn begins(word: &[u8], text: &[u8]) -> bool
     requires capitals { AllByRecursion IsCapital word.now }
     ensures { result ≡ begins word.now (str_to_ascii_uppercase text.now) }
 {
+    if text.len() < word.len() {
+        return false;
+    }
     let mut i = 0;
     'byte: while i < word.len() {
-        if i == text.len() {
-            return false;
-        }
-        // Most headers are in capitals, which are compared as they are.
-        if text[i] != word[i] && text[i].to_ascii_uppercase() != word[i] {
+        // Of a word that is known these two are one comparison.
+        if text[i] != word[i] && text[i] != word[i].to_ascii_lowercase() {
             return false;
         }
         i += 1;
@@ -44,31 +44,70 @@ fn strip<'a>(word: &[u8], text: &'a [u8]) -> Option<&'a [u8]>
     }
 }
 
-// The kind that the header begins with, and what follows its word. It is a part of its callers, since each header
-// is read by it.
+// The kind of a header by what follows its first letter, P.
+#[inline(always)]
+#[tactic(auto, unfolding(crate::specs::Grammar::kind_words))]
+fn kind_after_p(rest: &[u8]) -> Option<(GeometryType, &[u8])>
+    ensures named { BeginsKind result (codes "P" ++ str_to_ascii_uppercase rest.now) }
+{
+    if let Some(rest) = strip(b"OINT", rest) {
+        Some((GeometryType::Point, rest))
+    } else if let Some(rest) = strip(b"OLYGON", rest) {
+        Some((GeometryType::Polygon, rest))
+    } else {
+        None
+    }
+}
+
+// The same of L.
+#[inline(always)]
+#[tactic(auto, unfolding(crate::specs::Grammar::kind_words))]
+fn kind_after_l(rest: &[u8]) -> Option<(GeometryType, &[u8])>
+    ensures named { BeginsKind result (codes "L" ++ str_to_ascii_uppercase rest.now) }
+{
+    if let Some(rest) = strip(b"INESTRING", rest) {
+        Some((GeometryType::LineString, rest))
+    } else if let Some(rest) = strip(b"INEARRING", rest) {
+        Some((GeometryType::LineString, rest))
+    } else {
+        None
+    }
+}
+
+// The same of M.
+#[inline(always)]
+#[tactic(auto, unfolding(crate::specs::Grammar::kind_words))]
+fn kind_after_m(rest: &[u8]) -> Option<(GeometryType, &[u8])>
+    ensures named { BeginsKind result (codes "M" ++ str_to_ascii_uppercase rest.now) }
+{
+    let rest = strip(b"ULTI", rest)?;
+    if let Some(rest) = strip(b"POINT", rest) {
+        Some((GeometryType::MultiPoint, rest))
+    } else if let Some(rest) = strip(b"LINESTRING", rest) {
+        Some((GeometryType::MultiLineString, rest))
+    } else if let Some(rest) = strip(b"POLYGON", rest) {
+        Some((GeometryType::MultiPolygon, rest))
+    } else {
+        None
+    }
+}
+
+// The kind that the header begins with, and what follows its word. The first letter says which words it can be. It is
+// a part of its callers, since each header is read by it.
 #[inline(always)]
 #[tactic(auto, unfolding(crate::specs::Grammar::kind_words))]
 pub(crate) fn kind(header: &[u8]) -> Option<(GeometryType, &[u8])>
     ensures named { BeginsKind result (str_to_ascii_uppercase header.now) }
 {
-    if let Some(rest) = strip(b"POINT", header) {
-        Some((GeometryType::Point, rest))
-    } else if let Some(rest) = strip(b"LINESTRING", header) {
-        Some((GeometryType::LineString, rest))
-    } else if let Some(rest) = strip(b"LINEARRING", header) {
-        Some((GeometryType::LineString, rest))
-    } else if let Some(rest) = strip(b"POLYGON", header) {
-        Some((GeometryType::Polygon, rest))
-    } else if let Some(rest) = strip(b"MULTIPOINT", header) {
-        Some((GeometryType::MultiPoint, rest))
-    } else if let Some(rest) = strip(b"MULTILINESTRING", header) {
-        Some((GeometryType::MultiLineString, rest))
-    } else if let Some(rest) = strip(b"MULTIPOLYGON", header) {
-        Some((GeometryType::MultiPolygon, rest))
-    } else if let Some(rest) = strip(b"GEOMETRYCOLLECTION", header) {
-        Some((GeometryType::GeometryCollection, rest))
-    } else {
-        None
+    match header {
+        [b'P' | b'p', rest @ ..] => kind_after_p(rest),
+        [b'L' | b'l', rest @ ..] => kind_after_l(rest),
+        [b'M' | b'm', rest @ ..] => kind_after_m(rest),
+        [b'G' | b'g', rest @ ..] => {
+            let rest = strip(b"EOMETRYCOLLECTION", rest)?;
+            Some((GeometryType::GeometryCollection, rest))
+        }
+        _ => None,
     }
 }
 
@@ -121,12 +160,12 @@ pub fn dimension_in(letters: &[u8]) -> Option<Dimension>
 pub fn is_empty(word: &str) -> bool
     ensures { result ≡ is_empty_word word.now }
 {
-    word.eq_ignore_ascii_case("EMPTY")
+    is_empty_in(word.as_bytes())
 }
 
 /// The same of a word as its bytes.
 pub fn is_empty_in(word: &[u8]) -> bool
     ensures { result ≡ is_empty_word word.now }
 {
-    word.eq_ignore_ascii_case(b"EMPTY")
+    word.len() == 5 && begins(b"EMPTY", word)
 }

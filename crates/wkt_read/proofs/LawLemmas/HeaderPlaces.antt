@@ -23,9 +23,6 @@ begins_at word text i h k =
     ap (λ w. begins w (str_to_ascii_uppercase (drop i text))) (drop-cons word i 0 h ∙ ap (λ j. get_or word i 0 ∷ drop j word) (sym (add-one i)))
     ∙ ap (begins (get_or word i 0 ∷ drop (i + 1) word)) (upper_at text i k)
 
-pub begins_short : (word text : List ℕ) (i : ℕ) → i < length word → i ≡ length text → begins (drop i word) (str_to_ascii_uppercase (drop i text)) ≡ false
-begins_short word text i h e = ap (λ w. begins w (str_to_ascii_uppercase (drop i text))) (drop-cons word i 0 h) ∙ ap (begins (get_or word i 0 ∷ drop (suc i) word)) (upper_end text i e)
-
 pub begins_all : (word text : List ℕ) (i : ℕ) → i ≡ length word → begins (drop i word) text ≡ true
 begins_all word text i e = ap (λ j. begins (drop j word) text) e ∙ ap (λ w. begins w text) (drop-length word)
 
@@ -116,6 +113,13 @@ begins_long (a ∷ word) (b ∷ text) e = let h = begins_long word text (second 
 
 pub upper_long : (word text : List ℕ) → begins word (str_to_ascii_uppercase text) ≡ true → length word ≤ length text
 upper_long word text e = let h = begins_long word (str_to_ascii_uppercase text) e in omega (arith, h, length-map {A = ℕ} {B = ℕ} text)
+
+pub upper_short : (word text : List ℕ) → length text < length word → begins word (str_to_ascii_uppercase text) ≡ false
+upper_short word text h = by_test (begins word (str_to_ascii_uppercase text)) refl
+  where
+    by_test : (r : Bool) → begins word (str_to_ascii_uppercase text) ≡ r → begins word (str_to_ascii_uppercase text) ≡ false
+    by_test true e = let k = upper_long word text e in absurd (omega (arith, k, h))
+    by_test false e = e
 
 pub upper_rest : (text : List ℕ) (i : ℕ) → drop i (str_to_ascii_uppercase text) ≡ str_to_ascii_uppercase (take (length text - i) (drop i text))
 upper_rest text i = drop-map to_ascii_uppercase i text ∙ sym (rest_text text i)

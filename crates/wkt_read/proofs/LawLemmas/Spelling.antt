@@ -1,30 +1,37 @@
--- The words that the code compares are those of the grammar.
-use Rattle.std.proofs.Common.{◌≡◌, ℕ, List, [], ◌∷◌, refl, sym, ap, ◌∙◌, Bool, codes, arith}
-use Rattle.std.specs.Str.{str_eq_ignore_ascii_case, str_to_ascii_uppercase, str_to_ascii_lowercase, bytes_eq}
-use Rattle.std.specs.Bool.{Decides}
-use Rattle.std.specs.Char.{to_ascii_uppercase, to_ascii_lowercase}
+-- A run is a word where it begins with it and is as long.
+use Rattle.std.proofs.Common.{◌≡◌, ℕ, List, [], ◌∷◌, length, refl, sym, ap, ◌∙◌, Bool, true, false, ◌&&◌, ◌==◌, nat_eq, codes, arith}
+use Rattle.std.specs.Str.{str_to_ascii_uppercase, bytes_eq}
+use Rattle.std.specs.Char.{to_ascii_uppercase}
+use Rattle.std.proofs.lemmas.List.{length-map}
 use Rattle.std.proofs.lemmas.Slice.Eq.{bytes_eq-Decides}
-use Rattle.std.proofs.lemmas.Str.Ascii.{lowercase-uppercase}
-use Rattle.std.proofs.lemmas.Bool.Decides.{nat_tests, same_from_decides, Decides-like}
+use Rattle.std.proofs.lemmas.Bool.Decides.{nat_tests}
+use Rattle.wkt_read.specs.Header.{begins}
 use Rattle.wkt_read.specs.Parser.Outcome.{is_empty_word}
+use Rattle.wkt_read.proofs.LawLemmas.HeaderPlaces.{not_test}
 
-lowers : (bs : List ℕ) → str_to_ascii_lowercase (str_to_ascii_uppercase bs) ≡ str_to_ascii_lowercase bs
-lowers [] = refl
-lowers (b ∷ bs) = let p = lowercase-uppercase b in let q = lowers bs in cc
+swap : (a b : ℕ) → nat_eq a b ≡ nat_eq b a
+swap a b = grind (arith, nat_tests)
 
-uppercase-lowercase : (c : ℕ) → to_ascii_uppercase (to_ascii_lowercase c) ≡ to_ascii_uppercase c
-uppercase-lowercase c = grind (arith, nat_tests)
+one-length : (word run : List ℕ) → length run ≡ length word → begins word run ≡ bytes_eq run word
+one-length [] [] h = refl
+one-length [] (b ∷ run) h = cc
+one-length (a ∷ word) [] h = cc
+one-length (a ∷ word) (b ∷ run) h = ap (λ s. s && begins word run) (swap a b) ∙ ap (λ s. nat_eq b a && s) (one-length word run (omega (arith, h)))
 
-uppers : (bs : List ℕ) → str_to_ascii_uppercase (str_to_ascii_lowercase bs) ≡ str_to_ascii_uppercase bs
-uppers [] = refl
-uppers (b ∷ bs) = let p = uppercase-lowercase b in let q = uppers bs in cc
+other-length : (word run : List ℕ) → (length run ≡ length word → ⊥) → bytes_eq run word ≡ false
+other-length word run h = by_test (bytes_eq run word) refl
+  where
+    by_test : (s : Bool) → bytes_eq run word ≡ s → bytes_eq run word ≡ false
+    by_test true e = absurd (h (ap length ((bytes_eq-Decides run word).0 e)))
+    by_test false e = e
 
--- to ignore the case of ASCII letters is to compare in capitals
-pub ignore-case : (run word : List ℕ) → str_to_ascii_uppercase word ≡ word → str_eq_ignore_ascii_case run word ≡ bytes_eq (str_to_ascii_uppercase run) word
-ignore-case run word capitals =
-    same_from_decides _ _ (bytes_eq-Decides (str_to_ascii_lowercase run) (str_to_ascii_lowercase word))
-    (Decides-like _ (λ e. sym (lowers run) ∙ ap str_to_ascii_lowercase e) (λ e. sym (uppers run) ∙ ap str_to_ascii_uppercase e ∙ uppers word ∙ capitals) (bytes_eq-Decides (str_to_ascii_uppercase run) word))
+upper-length : (run : List ℕ) → length (str_to_ascii_uppercase run) ≡ length run
+upper-length run = length-map run to_ascii_uppercase
 
-pub empty-word : (run : List ℕ) (r : Bool) → Decides r (str_to_ascii_lowercase run ≡ str_to_ascii_lowercase (codes "EMPTY")) → r ≡ is_empty_word run
+pub empty-word : (run : List ℕ) → length run ≡ 5 → begins (codes "EMPTY") (str_to_ascii_uppercase run) ≡ is_empty_word run
 unfolding is_empty_word
-empty-word run r d = same_from_decides r _ d (Decides-like _ (λ e. sym (lowers run) ∙ ap str_to_ascii_lowercase e) (λ e. sym (uppers run) ∙ ap str_to_ascii_uppercase e) (bytes_eq-Decides (str_to_ascii_uppercase run) (codes "EMPTY")))
+empty-word run h = one-length (codes "EMPTY") (str_to_ascii_uppercase run) (upper-length run ∙ h)
+
+pub not-empty-word : (run : List ℕ) → (length run ≡ 5 → ⊥) → (length run == 5) ≡ is_empty_word run
+unfolding is_empty_word
+not-empty-word run h = not_test (length run) 5 h ∙ sym (other-length (codes "EMPTY") (str_to_ascii_uppercase run) (λ e. h (sym (upper-length run) ∙ e)))

@@ -1,7 +1,7 @@
--- The bytes so far begin with the word, in any case of their letters.
-use Rattle.std.proofs.Common.{◌∙◌, sym}
-use Rattle.wkt_read.proofs.LawLemmas.HeaderPlaces.{begins_short}
+-- A text that is shorter than the word doesn't begin with it.
+use Rattle.std.proofs.Common.{sym}
+use Rattle.wkt_read.proofs.LawLemmas.HeaderPlaces.{upper_short}
 use Rattle.wkt_read.proofs.keywords.begins.Goals as goal
 
-pub returns-then-i-text : goal.returns-then-i-text
-returns-then-i-text c = sym (c.byte.invariant.same ∙ begins_short _ _ _ c.byte-test.true c.if-i-text.true)
+pub returns-then-text-word : goal.returns-then-text-word
+returns-then-text-word c = sym (upper_short c.args.word.now c.args.text.now c.if-text-word.true)

@@ -4,7 +4,7 @@ use Rattle.wkt_read.specs.Header.{begins}
 use Rattle.wkt_read.proofs.keywords.begins.Given as goal
 
 abbrev pub invariant-byte : goal.invariant-byte
-invariant-byte l = record { within : l.i ≤ length l.word; within_text : l.i ≤ length l.text; same : begins l.word (str_to_ascii_uppercase l.text) ≡ begins (drop l.i l.word) (str_to_ascii_uppercase (drop l.i l.text)) }
+invariant-byte l = record { within : l.i ≤ length l.word; same : begins l.word (str_to_ascii_uppercase l.text) ≡ begins (drop l.i l.word) (str_to_ascii_uppercase (drop l.i l.text)) }
 
 abbrev pub decreases-byte : goal.decreases-byte
 decreases-byte l = length l.word - l.i

@@ -1,6 +1,7 @@
--- A run is EMPTY in any case of its letters.
-use Rattle.wkt_read.proofs.LawLemmas.Spelling.{empty-word}
+-- The bytes of a run are compared.
+use Rattle.std.proofs.Common.{◌∙◌, ap}
+use Rattle.wkt_read.specs.Parser.Outcome.{is_empty_word}
 use Rattle.wkt_read.proofs.keywords.is_empty.Goals as goal
 
 pub returns : goal.returns
-returns c = empty-word c.args.word.now _ c.eq_ignore_ascii_case.ensures.test
+returns c = c.is_empty_in.ensures ∙ ap is_empty_word c.as_bytes.ensures.value
