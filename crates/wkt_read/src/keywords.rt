@@ -22,7 +22,7 @@ pub(crate) fn begins(word: &[u8], text: &[u8]) -> bool
     }
     let mut i = 0;
     'byte: while i < word.len() {
-        // Of a word that is known these two are one comparison.
+        // Where the word is a constant, the compiler makes one comparison of the two.
         if text[i] != word[i] && text[i] != word[i].to_ascii_lowercase() {
             return false;
         }
