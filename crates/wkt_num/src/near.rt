@@ -85,6 +85,7 @@ fn fraction_from(bytes: &[u8], from: usize, most: usize, number: u64) -> (u64, u
 #[inline(always)]
 fn digits_near(bytes: &[u8], from: usize) -> Option<(u64, usize)>
     requires within { from + 8 ≤ length bytes.now }
+    ensures some { IfSome result (λ r. 0 < r.1) }
     ensures few { IfSome result (λ r. r.1 < 8) }
     ensures digits { IfSome result (λ r. AllDigits 10 (slice_range bytes.now from (from + r.1))) }
     ensures value { IfSome result (λ r. r.0 ≡ digits_value 10 (slice_range bytes.now from (from + r.1))) }
