@@ -13,6 +13,8 @@ trap 'rm -rf "$dir"' EXIT
 cat > "$dir/right" <<'RIGHT'
 # A fast way of reading digits: its None says nothing of them, and they are then read in the plain way.
 wkt_num last_digits: \{ None \}
+# The same of a short number.
+wkt_num units_near: \{ (None|self::units_near\(places, &\[\]\)) \}
 # A fast way of finding text: its false says nothing, and the run is then looked at byte by byte.
 wkt_events is_near_ascii: \{ false \}
 # Fast ways of finding `POINT (` and `GEOMETRYCOLLECTION (`: None and false say nothing, and the header is then read in the general way.
