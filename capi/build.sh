@@ -8,7 +8,12 @@ proved=${WKT_C_LIB:-$here/../crates/wkt_c/out/libwkt_c.a}
 work=$(mktemp -d)
 trap 'rm -rf "$work"' EXIT
 (cd "$work" && ar x "$(realpath "$proved")")
-"${CC:-gcc}" -O2 -fPIC -fvisibility=hidden -c "$here/heap.c" -o "$work/heap.o"
+# pointers.c has the functions that C calls, and calls the proved ones by other names.
+nm -g --defined-only "$work"/*.o | sed -n 's/.* T \(wkt_[a-z_]*\)$/\1 proved_\1/p' > "$work/renamed"
+for object in "$work"/*.o; do objcopy --redefine-syms="$work/renamed" "$object"; done
+for name in heap pointers; do
+    "${CC:-gcc}" -O2 -fPIC -fvisibility=hidden -c "$here/$name.c" -o "$work/$name.o"
+done
 rm -f "$out/libwkt.a"
 ar rcs "$out/libwkt.a" "$work"/*.o
 printf 'WKT_0 { global: wkt_*; local: *; };\n' > "$work/names"

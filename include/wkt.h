@@ -6,10 +6,12 @@
  *
  * Every function answers a status. After any status but WKT_OK the caller's buffers are as they were (but for
  * wkt_lines_some), and so are the results (*needed, *end, *same, *sizes ..), but where a comment says that one is
- * set. Texts need no 0 at the end, and may hold any bytes.
+ * set. Texts need no 0 at the end, and may hold any bytes. A buffer or text of size 0 may be NULL; any other pointer that
+ * is NULL is refused with WKT_NULL_POINTER.
  *
  * Each function is proved to do what its comment says, in crates/wkt_c/src/exports.rt. Only tested, and not proved, are
- * wkt_version, what a call costs, and that memory suffices: a call that always answered WKT_NO_MEMORY would be proved.
+ * wkt_version, that NULL is refused, what a call costs, and that memory suffices: a call that always answered
+ * WKT_NO_MEMORY would be proved.
  *
  * What a call costs: it checks its whole text for UTF-8, also behind the geometry. wkt_canonical, wkt_same and
  * wkt_same_ends take memory for twice the text, and none for texts of up to 200 bytes. So a reader that goes on from
@@ -18,7 +20,6 @@
  *
  * What nothing checks, and a caller has to see to:
  * - no two pointers that are passed overlap, but for those that are only read; a size is that of its buffer;
- *   a buffer or text of size 0 may be NULL, and no other;
  * - malloc, realloc and free come from one allocator; no call from a signal handler, nor in the forked child of a
  *   process with threads. Calls may run side by side on several threads: there is no state between calls;
  * - arrays that are passed to a call, offsets too, don't change while it runs.
@@ -62,7 +63,8 @@ enum {
     WKT_NOT_COLUMN = 27, /* The offsets, the bits or the sizes are of no column */
     WKT_NULL = 28, /* The row is null */
     WKT_ACCEPTED = 29, /* The text is not refused */
-    WKT_NOT_WHOLE = 30 /* More than white space follows the geometry */
+    WKT_NOT_WHOLE = 30, /* More than white space follows the geometry */
+    WKT_NULL_POINTER = 31 /* A pointer is NULL */
 };
 /* Kinds. */
 enum {
@@ -105,7 +107,7 @@ enum {
     "The text is not UTF-8", "A buffer has no room", "Out of memory", "There are no numbers of so many places", \
     "A collection has no flat arrays", "A number has more units than 64 bits hold", "The arrays are of no geometry", \
     "The offsets, the bits or the sizes are of no column", "The row is null", "The text is not refused", \
-    "More than white space follows the geometry" }
+    "More than white space follows the geometry", "A pointer is NULL" }
 /* The words of the statuses 1 to 3 of wkt_infer. */
 #define WKT_HEADER_MESSAGES { "", "No kind word", "No space before EMPTY", "Neither a parenthesis nor EMPTY" }
 /* The kinds, at their numbers. */

@@ -57,7 +57,7 @@ wrap="-Wl,--wrap=malloc -Wl,--wrap=realloc"
 each() {
     local name=$1
     shift
-    "$@" -Wall -Wextra -Werror -I"$out" -o "$dir/calls" capi/tests/{calls,texts,columns}.c -x none "$out/libwkt.a" $wrap || fail "$name: not compiled"
+    "$@" -Wall -Wextra -Werror -I"$out" -o "$dir/calls" capi/tests/{calls,texts,columns,pointers}.c -x none "$out/libwkt.a" $wrap || fail "$name: not compiled"
     "$dir/calls" > "$dir/said" 2>&1 || { cat "$dir/said"; fail "$name: the tests fail"; }
     echo "$name: $(cat "$dir/said")"
 }

@@ -1,5 +1,5 @@
 /* Every function and every status, with values worked by hand. It also refuses each growth of memory in turn: link it, with
- * texts.c and columns.c, with -Wl,--wrap=malloc -Wl,--wrap=realloc. */
+ * texts.c, columns.c and pointers.c, with -Wl,--wrap=malloc -Wl,--wrap=realloc. */
 #include "calls.h"
 
 #ifdef __cplusplus
@@ -114,6 +114,7 @@ static void refusals(void) {
 int main(void) {
     test_texts();
     test_columns();
+    test_pointers();
     refusals();
     printf("%d checks hold\n", checks);
     return 0;

@@ -25,6 +25,9 @@ int untouched(void);
 /* texts.c */
 void test_texts(void);
 
+/* pointers.c */
+void test_pointers(void);
+
 /* columns.c */
 void test_columns(void);
 wkt_status fill_of(const char *texts, const int64_t *offsets, const uint8_t *valid, size_t rows, uint32_t places,

@@ -33,6 +33,7 @@ MESSAGES = (
     "The row is null",
     "The text is not refused",
     "More than white space follows the geometry",
+    "A pointer is NULL",
 )
 # The words of the statuses 1 to 3 of wkt_infer.
 HEADER_MESSAGES = (
@@ -103,4 +104,5 @@ NOT_COLUMN = 27
 NULL = 28
 ACCEPTED = 29
 NOT_WHOLE = 30
+NULL_POINTER = 31
 # names.py: end

@@ -2,7 +2,7 @@
 #![allow(dead_code)]
 // names.py: rust (tests/names.py --write makes this of docs/names.tsv)
 /// The words of a status, at its number.
-pub const MESSAGES: [&str; 31] = [
+pub const MESSAGES: [&str; 32] = [
     "",
     "Invalid WKT format",
     "Encountered non-ascii word",
@@ -34,6 +34,7 @@ pub const MESSAGES: [&str; 31] = [
     "The row is null",
     "The text is not refused",
     "More than white space follows the geometry",
+    "A pointer is NULL",
 ];
 /// The words of the statuses 1 to 3 of wkt_infer.
 pub const HEADER_MESSAGES: [&str; 4] = [
@@ -106,4 +107,6 @@ pub const NULL: u32 = 28;
 pub const ACCEPTED: u32 = 29;
 /// More than white space follows the geometry.
 pub const NOT_WHOLE: u32 = 30;
+/// A pointer is NULL.
+pub const NULL_POINTER: u32 = 31;
 // names.py: end
