@@ -8,7 +8,7 @@ ghost use Rattle.wkt_c.specs.Sizes.{AreHandedOut, HaveNoRoom};
 
 use crate::arrays_room::ArraysRoom;
 use crate::asked::ends_as_asked;
-use crate::fill::copy_to_front;
+use crate::fill::{copy_to_front, put_two};
 use crate::flat::{flat_asked, point_asked};
 use crate::sizes::WktSizes;
 use crate::status::{DONE, MEMORY, NOT_WHOLE, SMALL};
@@ -112,9 +112,9 @@ fn hand_out_point(
     if numbers.len() < 2 || rings.len() < 2 || polygons.len() < 2 {
         return SMALL;
     }
-    copy_to_front(&[point.x, point.y], numbers);
-    copy_to_front(&[0, 1], rings);
-    copy_to_front(&[0, 1], polygons);
+    put_two(point.x, point.y, numbers);
+    put_two(0, 1, rings);
+    put_two(0, 1, polygons);
     DONE
 }
 

@@ -6,10 +6,11 @@ ghost use Rattle.wkt_c.specs.Flat.{IsFlatPoint};
 ghost use Rattle.wkt_c.specs.ArrayRows.{HoldsNoArrays, AddsArrays, AddsRowArrays, HoldsArrays, row_of, kinds_of, dimensions_of, statuses_of};
 
 use crate::arrays_room::ArraysRoom;
-use crate::asked::ends_as_asked;
+use crate::asked::{ends_as_asked, places_of};
 use crate::column::{GivenColumn, is_null};
-use crate::flat::{flat_asked, point_asked};
+use crate::flat::{flat_asked, make_point};
 use crate::joined::{Joined, push};
+use crate::places::at_places;
 use crate::rebuild::GivenArrays;
 use crate::status::{DONE, MEMORY, NOT_WHOLE, NULL_ROW};
 use std::alloc::Global;
@@ -104,21 +105,23 @@ impl ArrayRows {
     }
 
     /// Adds the arrays of a row, which are made in the room first.
-    fn add_row(
+    #[inline(always)]
+    fn add_row<const D: u32>(
         &mut self,
         text: &[u8],
         null: bool,
         asked: u32,
         room: &mut ArraysRoom,
     ) -> Result<(), u32>
-        requires { places_in asked ≤ 18 }
+        requires places { places_in asked ≤ 18 }
+        requires same { places_in asked ≡ D }
         ensures { MatchResult result
             (λ _. AddsRowArrays (places_in asked) (asks_whole asked) null text.now self.old self.new) (λ s. s ≡ MEMORY) }
     {
         if null {
             return self.add_none(NULL_ROW);
         }
-        if let Some(point) = point_asked(text, asked) {
+        if let Some(point) = make_point::<D>(text) {
             return self.add_point(text, asked, point);
         }
         self.add_flat(text, asked, room)
@@ -178,6 +181,31 @@ pub(crate) fn copy_heads(
     }
 }
 
+/// The arrays of all rows of a column, with decimals of so many places.
+fn arrays_of<const D: u32>(
+    alloc: Global,
+    given: GivenColumn<'_>,
+    asked: u32,
+) -> Result<ArrayRows, u32>
+    requires offsets { AreOffsets given.texts.now given.offsets.now }
+    requires bits { HasBits given.valid.now (row_count given.offsets.now) }
+    requires places { places_in asked ≤ 18 }
+    requires same { places_in asked ≡ D }
+    ensures { MatchResult result
+        (HoldsArrays (places_in asked) (asks_whole asked) given.entry.texts.now given.entry.offsets.now given.entry.valid.now (row_count given.entry.offsets.now))
+        (λ s. s ≡ MEMORY) }
+{
+    let count = given.offsets.len() - 1;
+    let mut rows = ArrayRows::new(alloc, count)?;
+    let mut room = ArraysRoom::new(alloc);
+    for i in 0..count {
+        let text = &given.texts[given.offsets[i]..given.offsets[i + 1]];
+        let null = is_null(given.valid, i);
+        rows.add_row::<D>(text, null, asked, &mut room)?;
+    }
+    Ok(rows)
+}
+
 /// The arrays of all rows of a column.
 pub(crate) fn all_arrays(
     alloc: Global,
@@ -191,13 +219,9 @@ pub(crate) fn all_arrays(
         (HoldsArrays (places_in asked) (asks_whole asked) given.entry.texts.now given.entry.offsets.now given.entry.valid.now (row_count given.entry.offsets.now))
         (λ s. s ≡ MEMORY) }
 {
-    let count = given.offsets.len() - 1;
-    let mut rows = ArrayRows::new(alloc, count)?;
-    let mut room = ArraysRoom::new(alloc);
-    for i in 0..count {
-        let text = &given.texts[given.offsets[i]..given.offsets[i + 1]];
-        let null = is_null(given.valid, i);
-        rows.add_row(text, null, asked, &mut room)?;
-    }
-    Ok(rows)
+    at_places!(
+        places_of(asked),
+        arrays_of(alloc, given, asked),
+        unreachable!()
+    )
 }

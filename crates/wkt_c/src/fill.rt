@@ -1,5 +1,5 @@
 //! A list handed to the caller's buffer.
-ghost use Rattle.std.specs.Prelude.{◌≡◌, ◌≤◌, ◌<◌, ◌⊎◌, length};
+ghost use Rattle.std.specs.Prelude.{◌≡◌, ◌≤◌, ◌<◌, ◌⊎◌, ◌∷◌, [], length};
 ghost use Rattle.wkt_c.specs.Answer.{with_front, IsHandedOut, HasNoRoom};
 
 use crate::status::{DONE, SMALL};
@@ -22,6 +22,16 @@ pub(crate) fn copy_to_front<T: Copy>(list: &[T], out: &mut [T])
         at = end;
     }
     out[at..size].copy_from_slice(&list[at..]);
+}
+
+/// Puts two items to the front of the buffer, which has room for them.
+#[inline(always)]
+pub(crate) fn put_two<T: Copy>(first: T, second: T, out: &mut [T])
+    requires { 2 ≤ length out.old }
+    ensures { out.new ≡ with_front (first ∷ second ∷ []) out.old }
+{
+    out[0] = first;
+    out[1] = second;
 }
 
 /// Puts the list in the place of the buffer, which is as long.

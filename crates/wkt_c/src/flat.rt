@@ -97,7 +97,7 @@ pub(crate) fn flat_asked<'a>(text: &[u8], asked: u32, room: Room<'a>) -> Result<
 
 /// The point of two numbers at the front of a text. `None` doesn't imply that none stands there.
 #[inline(always)]
-fn make_point<const D: u32>(text: &[u8]) -> Option<NearPoint>
+pub(crate) fn make_point<const D: u32>(text: &[u8]) -> Option<NearPoint>
     ensures { IfSome result (λ p. IsFlatPoint D text.now p) }
 {
     let Some(point) = near_point::<D>(text) else {

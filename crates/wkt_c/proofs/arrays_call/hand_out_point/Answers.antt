@@ -35,7 +35,7 @@ returns-clause-filled c =
     let ey : to_z w64 (of_z w64 c.args.point.y) ≡ c.args.point.y = search rules in
     λ _. record {
       reported = told-of _ _ c.args.point c.requires;
-      numbers_in = c.copy_to_front.ensures ∙ ap₂ (λ a b. with_front (a ∷ b ∷ []) c.args.numbers.now) ex ey;
-      rings_in = c.copy_to_front-2.ensures;
-      polygons_in = c.copy_to_front-3.ensures;
+      numbers_in = c.put_two.ensures ∙ ap₂ (λ a b. with_front (a ∷ b ∷ []) c.args.numbers.now) ex ey;
+      rings_in = c.put_two-2.ensures;
+      polygons_in = c.put_two-3.ensures;
     }
