@@ -7,10 +7,9 @@ ghost use Rattle.wkt_c.specs.Flat.{IsFlatPoint};
 ghost use Rattle.wkt_c.specs.Sizes.{AreHandedOut, HaveNoRoom};
 
 use crate::arrays_room::ArraysRoom;
-use crate::asked::{ends_as_asked, places_of};
+use crate::asked::ends_as_asked;
 use crate::fill::{copy_to_front, put_two};
-use crate::flat::{flat_asked, make_point};
-use crate::places::at_places;
+use crate::flat::{flat_asked, point_asked};
 use crate::sizes::WktSizes;
 use crate::status::{DONE, MEMORY, NOT_WHOLE, SMALL};
 use std::alloc::Global;
@@ -119,27 +118,7 @@ fn hand_out_point(
     DONE
 }
 
-/// Hands out the arrays of a short text, with decimals of so many places. A longer one may have no room.
-fn arrays_of_places<const D: u32>(
-    text: &[u8],
-    places: u32,
-    sizes: &mut WktSizes,
-    numbers: &mut [i64],
-    rings: &mut [usize],
-    polygons: &mut [usize],
-) -> u32
-    requires places { places_in places ≤ 18 }
-    requires same { places_in places ≡ D }
-    ensures { AnswersArrays places text.now result sizes.old sizes.new numbers.old numbers.new rings.old rings.new
-        polygons.old polygons.new }
-{
-    match make_point::<D>(text) {
-        Some(point) => hand_out_point(text, places, point, sizes, numbers, rings, polygons),
-        None => arrays_few(text, places, sizes, numbers, rings, polygons),
-    }
-}
-
-/// The same, with decimals of as many places as are asked for.
+/// Hands out the arrays of a short text. A longer one may have no room.
 pub(crate) fn arrays_short(
     text: &[u8],
     places: u32,
@@ -152,11 +131,10 @@ pub(crate) fn arrays_short(
     ensures { AnswersArrays places text.now result sizes.old sizes.new numbers.old numbers.new rings.old rings.new
         polygons.old polygons.new }
 {
-    at_places!(
-        places_of(places),
-        arrays_of_places(text, places, sizes, numbers, rings, polygons),
-        unreachable!()
-    )
+    match point_asked(text, places) {
+        Some(point) => hand_out_point(text, places, point, sizes, numbers, rings, polygons),
+        None => arrays_few(text, places, sizes, numbers, rings, polygons),
+    }
 }
 
 /// The same of a text that may be no point. It is apart since its rooms are cleared for each call.

@@ -108,3 +108,21 @@ pub(crate) fn make_point<const D: u32>(text: &[u8]) -> Option<NearPoint>
     }
     Some(point)
 }
+
+/// The same, with decimals of so many places.
+#[inline(always)]
+fn point_at(text: &[u8], places: u32) -> Option<NearPoint>
+    requires { places ≤ 18 }
+    ensures { IfSome result (λ p. IsFlatPoint places text.now p) }
+{
+    at_places!(places, make_point(text), unreachable!())
+}
+
+/// The same, with decimals of as many places as are asked for.
+#[inline(always)]
+pub(crate) fn point_asked(text: &[u8], asked: u32) -> Option<NearPoint>
+    requires { places_in asked ≤ 18 }
+    ensures { IfSome result (λ p. IsFlatPoint (places_in asked) text.now p) }
+{
+    point_at(text, places_of(asked))
+}
