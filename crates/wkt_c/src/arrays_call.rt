@@ -9,7 +9,7 @@ ghost use Rattle.wkt_c.specs.Sizes.{AreHandedOut, HaveNoRoom};
 use crate::arrays_room::ArraysRoom;
 use crate::asked::ends_as_asked;
 use crate::fill::{copy_to_front, put_two};
-use crate::flat::{flat_asked, point_asked};
+use crate::flat::{find_point, flat_asked};
 use crate::sizes::WktSizes;
 use crate::status::{DONE, MEMORY, NOT_WHOLE, SMALL};
 use std::alloc::Global;
@@ -131,10 +131,11 @@ pub(crate) fn arrays_short(
     ensures { AnswersArrays places text.now result sizes.old sizes.new numbers.old numbers.new rings.old rings.new
         polygons.old polygons.new }
 {
-    match point_asked(text, places) {
-        Some(point) => hand_out_point(text, places, point, sizes, numbers, rings, polygons),
-        None => arrays_few(text, places, sizes, numbers, rings, polygons),
+    let mut point = NearPoint { x: 0, y: 0, end: 0 };
+    if find_point(text, places, &mut point) {
+        return hand_out_point(text, places, point, sizes, numbers, rings, polygons);
     }
+    arrays_few(text, places, sizes, numbers, rings, polygons)
 }
 
 /// The same of a text that may be no point. It is apart since its rooms are cleared for each call.

@@ -1,5 +1,5 @@
 //! The flat arrays of the geometry that a text begins with.
-ghost use Rattle.std.specs.Prelude.{◌≡◌, ◌≤◌, ◌↔◌, IsTrue, IsUtf8, IfSome, MatchResult, length, drop};
+ghost use Rattle.std.specs.Prelude.{◌≡◌, ◌≤◌, ◌↔◌, IsTrue, IsUtf8, IfSome, MatchResult, length, drop, true};
 ghost use Rattle.wkt_read.specs.Front.{HasNoFront};
 ghost use Rattle.wkt_c.specs.Answer.{places_in, read_at, Refuses};
 ghost use Rattle.wkt_c.specs.Flat.{IsFlat, IsFlatPoint};
@@ -109,20 +109,26 @@ pub(crate) fn make_point<const D: u32>(text: &[u8]) -> Option<NearPoint>
     Some(point)
 }
 
-/// The same, with decimals of so many places.
+/// Puts it there, and returns whether there is one. A point that is returned would come through memory that is cleared for
+/// each text.
 #[inline(always)]
-fn point_at(text: &[u8], places: u32) -> Option<NearPoint>
-    requires { places ≤ 18 }
-    ensures { IfSome result (λ p. IsFlatPoint places text.now p) }
+fn put_point<const D: u32>(text: &[u8], point: &mut NearPoint) -> bool
+    ensures { result ≡ true → IsFlatPoint D text.now point.new }
 {
-    at_places!(places, make_point(text), unreachable!())
+    match make_point::<D>(text) {
+        Some(found) => {
+            *point = found;
+            true
+        }
+        None => false,
+    }
 }
 
 /// The same, with decimals of as many places as are asked for.
-#[inline(always)]
-pub(crate) fn point_asked(text: &[u8], asked: u32) -> Option<NearPoint>
+#[inline(never)]
+pub(crate) fn find_point(text: &[u8], asked: u32, point: &mut NearPoint) -> bool
     requires { places_in asked ≤ 18 }
-    ensures { IfSome result (λ p. IsFlatPoint (places_in asked) text.now p) }
+    ensures { result ≡ true → IsFlatPoint (places_in asked) text.now point.new }
 {
-    point_at(text, places_of(asked))
+    at_places!(places_of(asked), put_point(text, point), unreachable!())
 }
