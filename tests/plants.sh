@@ -20,7 +20,7 @@ wkt_events is_near_ascii: \{ false \}
 # Fast ways of finding `POINT (` and `GEOMETRYCOLLECTION (`: None and false say nothing, and the header is then read in the general way.
 wkt_events (point_head|collection_head|opens_behind): \{ None \}
 # A fast way of reading a point: its None says nothing, and the text then goes by the walk.
-wkt_events near_point: \{ None \}
+wkt_events near_point: \{ (None|self::near_point::<D>\(&\[\]\)) \}
 wkt_events is_(point|collection): \{ false \}
 # Which of two texts stands first makes no difference.
 wkt_uses same_place: \{ .*\(alloc, other, one\) \}
