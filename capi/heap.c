@@ -30,7 +30,8 @@ void rattle_dealloc(void *at, size_t size, size_t align) {
 
 __attribute__((visibility("default"))) const char *wkt_version(void) { return WKT_VERSION; }
 
-/* The proved code is compiled for x86-64-v2. A test gives another answer here. */
+/* The proved code is compiled for x86-64-v2, and on aarch64 for any. A test gives another answer here. */
+#ifdef __x86_64__
 #ifndef WKT_HAS_CPU
 #define WKT_HAS_CPU (__builtin_cpu_supports("ssse3") && __builtin_cpu_supports("sse4.2") && __builtin_cpu_supports("popcnt"))
 #endif
@@ -42,3 +43,4 @@ __attribute__((constructor)) static void look_at_processor(void) {
     fputs("libwkt: this build needs an x86-64 processor with SSE4.2 and POPCNT (x86-64-v2)\n", stderr);
     _exit(1);
 }
+#endif

@@ -39,9 +39,11 @@ install -m 755 "$(program wktstream)" "$to/bin/wktstream"
     sed -n 's/.*\(wkt_[a-z_]*\)(.*/\1/p' "$lib/wkt.h" | grep -vx wkt_status | sort -u | sed "s/.*/ &@WKT_0 $version/"
 } > "$to/debian/libwkt0.symbols"
 (cd "$to" && find . -type f ! -name SHA256SUMS -print0 | LC_ALL=C sort -z | xargs -0 sha256sum > SHA256SUMS)
-tar -C "$out" --sort=name --owner=0 --group=0 --numeric-owner --mtime=@0 -czf "$to.tar.gz" "wkt-proved-$version"
+# Its bytes depend on the files alone: their time is that of the commit, their mode no umask's.
+when=${SOURCE_DATE_EPOCH:-$(git -C "$root" log -1 --format=%ct 2> /dev/null || echo 315532800)}
+tar -C "$out" --format=gnu --sort=name --owner=0 --group=0 --numeric-owner --mode=u+rwX,go=rX --mtime="@$when" -czf "$to.tar.gz" "wkt-proved-$version"
 
 make -s -C "$to" check
 make -s -C "$to" clean
-WKT=$lib "${PYTHON:-/usr/bin/python3}" -m pip wheel -q --no-build-isolation --no-deps --no-index -w "$out" "$root/python"
+SOURCE_DATE_EPOCH=$when WKT=$lib "${PYTHON:-/usr/bin/python3}" -m pip wheel -q --no-build-isolation --no-deps --no-index -w "$out" "$root/python"
 (cd "$out" && ls -l ./*.tar.gz ./*.whl)

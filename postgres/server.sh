@@ -8,7 +8,7 @@
 # The folder of wkt.h and libwkt.a: the argument, or WKT_LIB_DIR, or capi/out.
 library() {
     wkt=${1:-${WKT_LIB_DIR:-$(dirname "${BASH_SOURCE[0]}")/../capi/out}}
-    [ -f "$wkt/libwkt.a" ] || { echo "no libwkt.a in $wkt: capi/build.sh makes it"; exit 1; }
+    [ -f "$wkt/libwkt.a" ] || "$(dirname "${BASH_SOURCE[0]}")/../capi/build.sh" "$wkt" || { echo "no libwkt.a in $wkt: capi/build.sh makes it"; exit 1; }
     wkt=$(cd "$wkt" && pwd)
 }
 

@@ -1,15 +1,42 @@
-//! Links libwkt: from WKT_LIB_DIR, from ../capi/out beside a clone, or as pkg-config finds it.
+//! Links libwkt: from WKT_LIB_DIR; from ../capi/out of a clone, or as ../capi/build.sh makes it there of ../dist, without
+//! the prover; or as pkg-config finds it.
 use std::path::Path;
 use std::process::Command;
 
 fn main() {
     println!("cargo:rerun-if-env-changed=WKT_LIB_DIR");
     let beside = format!("{}/../capi/out", env!("CARGO_MANIFEST_DIR"));
-    let built = Path::new(&beside).join("libwkt.a").exists();
+    // What stands there is of this processor.
+    let here = std::env::var("HOST") == std::env::var("TARGET");
+    let built = here && Path::new(&beside).join("libwkt.a").exists();
+    let clone = format!("{}/..", env!("CARGO_MANIFEST_DIR"));
     match std::env::var("WKT_LIB_DIR") {
         Ok(folder) => link_static(&folder),
         Err(_) if built => link_static(&beside),
+        Err(_) if Path::new(&clone).join("dist/objects.sh").exists() => {
+            link_static(&made_of_dist(&clone))
+        }
         Err(_) => link_as_pkg_config_says(),
+    }
+}
+
+/// The folder with the library that is linked of the proved objects in dist/, for the processor that cargo builds for.
+fn made_of_dist(clone: &str) -> String {
+    let of = |name: &str| std::env::var(name).unwrap_or_default();
+    let out = format!("{}/libwkt", of("OUT_DIR"));
+    let mut command = Command::new(format!("{clone}/capi/build.sh"));
+    command.arg(&out).env("WKT_C_LIB", "dist");
+    if of("HOST") != of("TARGET") && of("CC").is_empty() {
+        command.env(
+            "CC",
+            format!("{}-linux-gnu-gcc", of("CARGO_CFG_TARGET_ARCH")),
+        );
+    }
+    println!("cargo:rerun-if-changed={clone}/dist");
+    println!("cargo:rerun-if-changed={clone}/capi");
+    match command.status() {
+        Ok(status) if status.success() => out,
+        _ => panic!("capi/build.sh fails: it needs gcc, binutils, and xz or python3"),
     }
 }
 

@@ -6,7 +6,7 @@
 set -eu
 here=$(cd "$(dirname "$0")" && pwd)
 wkt=${1:-${WKT_LIB_DIR:-$here/../capi/out}}
-[ -f "$wkt/libwkt.a" ] || { echo "no libwkt.a in $wkt: capi/build.sh makes it"; exit 1; }
+[ -f "$wkt/libwkt.a" ] || "$here/../capi/build.sh" "$wkt" || { echo "no libwkt.a in $wkt: capi/build.sh makes it"; exit 1; }
 wkt=$(cd "$wkt" && pwd)
 command -v sqlite3 > /dev/null || { echo "no sqlite3: not run"; exit 1; }
 dir=$(mktemp -d)

@@ -1,0 +1,57 @@
+#!/usr/bin/env bash
+# Whether dist/ is what these sources give. In the gate, beside what it has just proved and built; alone, as far as that is there.
+#
+# It fails where a sum is wrong; where dist is of these very sources and this kit, and other bytes were built; and where
+# the library's tests, with today's header and C, don't pass over it. Else it says how old dist is.
+set -u
+here=$(cd "$(dirname "$0")" && pwd)
+cd "$here/.." || exit 1
+work=$(mktemp -d)
+trap 'rm -rf "$work"' EXIT
+fail() { echo "dist: $*"; exit 1; }
+
+# Nothing but what PROVENANCE names, each with its sum.
+for processor in dist/*/; do
+    [ -e "$processor/PROVENANCE" ] || continue
+    processor=$(basename "$processor")
+    names=$(sed -n 's/^[0-9a-f]\{64\}  \(.*\)\.o$/\1/p' "dist/$processor/PROVENANCE")
+    [ "$(echo "$names" | sed 's/$/.o.xz/')" = "$(cd "dist/$processor" && find . -type f ! -name PROVENANCE | sed "s,^\./,," | LC_ALL=C sort)" ] || fail "$processor: other files than in PROVENANCE"
+    mkdir -p "$work/dist/$processor"
+    ARCH=$processor dist/objects.sh "$work/dist/$processor" $names || exit 1
+done
+
+# What was built here: of x86_64 by the gate, of others where BUILT names it, as for refresh.sh.
+archive=${WKT_C_LIB:-crates/wkt_c/out/libwkt_c.a}
+mkdir "$work/x86_64"
+[ ! -e "$archive" ] || ar p "$archive" > "$work/x86_64/wkt_c.o"
+for name in wkt_command wktline wktstream; do
+    [ ! -e "crates/$name/out/$name.o" ] || cp "crates/$name/out/$name.o" "$work/x86_64"
+done
+kit=$(command -v rt > /dev/null && rt version)
+now="$(git rev-parse HEAD:crates) $(git rev-parse HEAD:crates.txt)"
+[ -z "$(git status --porcelain -- crates crates.txt)" ] || now="$now changed"
+for processor in dist/*/; do
+    [ -e "$processor/PROVENANCE" ] || continue
+    processor=$(basename "$processor")
+    of() { sed -n "s/^$1  *//p" "dist/$processor/PROVENANCE"; }
+    same=() other=()
+    for name in wkt_c wkt_command wktline wktstream; do
+        built=$work/$processor/$name.o
+        [ -e "$built" ] || built=${BUILT:-/nowhere}/$processor/$name.o
+        [ -e "$built" ] || continue
+        if cmp -s "$work/dist/$processor/$name.o" "$built"; then same+=("$name"); else other+=("$name"); fi
+    done
+    if [ "$now" = "$(of crates) $(of crates.txt)" ]; then
+        [ "${#other[@]}" = 0 ] || [ "$kit" != "$(of kit)" ] || fail "$processor: these sources and this kit gave other bytes for: ${other[*]}"
+        age="of these sources"
+    else
+        commit=$(of commit)
+        age="of commit ${commit:0:12}, $(git rev-list --count "$commit..HEAD" 2> /dev/null || echo '?') commits ago, of which $(
+            git rev-list --count "$commit..HEAD" -- crates crates.txt 2> /dev/null || echo '?') change crates/"
+    fi
+    echo "dist: $processor: $age; built here: ${#same[@]} with the same bytes${other[*]:+; with other bytes, by $kit: ${other[*]}}"
+done
+
+# With today's header, C and keys. (Of this processor.)
+make -s -C dist check O="$work/out" > "$work/said" 2>&1 || { tail -n 20 "$work/said"; fail "doesn't fit these sources: dist/refresh.sh renews it"; }
+sed 's/^/dist: /' "$work/said"
