@@ -53,5 +53,5 @@ for processor in dist/*/; do
 done
 
 # With today's header, C and keys. (Of this processor.)
-make -s -C dist check O="$work/out" > "$work/said" 2>&1 || { tail -n 20 "$work/said"; fail "doesn't fit these sources: dist/refresh.sh renews it"; }
+WKT_C_LIB=dist make -s -C dist check O="$work/out" > "$work/said" 2>&1 || { tail -n 20 "$work/said"; fail "doesn't fit these sources: dist/refresh.sh renews it"; }
 sed 's/^/dist: /' "$work/said"

@@ -1,21 +1,35 @@
 /* What the proved programs call beside the C library, where the kit's rattle-link doesn't link them: their arguments, and
- * errno. Nothing here is proved. Linked with -Wl,--wrap=main. */
+ * errno. Nothing here is proved. Linked with -Wl,--wrap=__libc_start_main. */
 #define _GNU_SOURCE
 #include <errno.h>
 #include <signal.h>
 #include <stddef.h>
 #include <stdint.h>
 #include <string.h>
+#include <sys/syscall.h>
 #include <unistd.h>
 
 static size_t count;
 static char **words;
 
-int __real_main(int argc, char **argv);
-int __wrap_main(int argc, char **argv) {
+/* The C library's start. Of glibc it is the oldest: the newest is of 2.34, and so would keep a program that was linked there
+ * from older systems. Those run no constructors then; there are none. */
+typedef int program(int argc, char **argv, char **environment);
+typedef void step(void);
+int start(program *main, int argc, char **argv, step *init, step *fini, step *end, void *stack);
+#if defined __GLIBC__ && defined __x86_64__
+__asm__(".symver start, __libc_start_main@GLIBC_2.2.5");
+#elif defined __GLIBC__ && defined __aarch64__
+__asm__(".symver start, __libc_start_main@GLIBC_2.17");
+#else
+#define start __real___libc_start_main
+int start(program *main, int argc, char **argv, step *init, step *fini, step *end, void *stack);
+#endif
+int __wrap___libc_start_main(program *main, int argc, char **argv, step *init, step *fini, step *end, void *stack);
+int __wrap___libc_start_main(program *main, int argc, char **argv, step *init, step *fini, step *end, void *stack) {
     count = (size_t)argc;
     words = argv;
-    return __real_main(argc, argv);
+    return start(main, argc, argv, init, fini, end, stack);
 }
 
 /* Argument i, put at the start of buf: its length; -1 where there is none, and -2 where it doesn't fit. */
@@ -45,12 +59,15 @@ const leaf *__x86_get_cpuid_feature_leaf(unsigned number) {
 }
 #endif
 
-#ifndef __GLIBC__
-/* What glibc has and another C library may lack. */
-#include <sys/syscall.h>
-void (*__sysv_signal(int number, void (*to)(int)))(int) { return signal(number, to); }
-ssize_t __write(int fd, const void *from, size_t size) { return write(fd, from, size); }
-__attribute__((weak)) int statx(int dir, const char *path, int flags, unsigned mask, void *to) {
+/* Of what the programs call, these two came to glibc after 2.17. */
+int getentropy(void *to, size_t size) { return syscall(SYS_getrandom, to, size, 0) == (long)size ? 0 : -1; }
+int statx(int dir, const char *path, int flags, unsigned mask, void *to);
+int statx(int dir, const char *path, int flags, unsigned mask, void *to) {
     return (int)syscall(SYS_statx, dir, path, flags, mask, to);
 }
+
+#ifndef __GLIBC__
+/* What glibc has and another C library may lack. */
+void (*__sysv_signal(int number, void (*to)(int)))(int) { return signal(number, to); }
+ssize_t __write(int fd, const void *from, size_t size) { return write(fd, from, size); }
 #endif

@@ -45,5 +45,5 @@ tar -C "$out" --format=gnu --sort=name --owner=0 --group=0 --numeric-owner --mod
 
 make -s -C "$to" check
 make -s -C "$to" clean
-SOURCE_DATE_EPOCH=$when WKT=$lib "${PYTHON:-/usr/bin/python3}" -m pip wheel -q --no-build-isolation --no-deps --no-index -w "$out" "$root/python"
+SOURCE_DATE_EPOCH=$when WKT_LIB_DIR=$lib "${PYTHON:-/usr/bin/python3}" -m pip wheel -q --no-build-isolation --no-deps --no-index -w "$out" "$root/python"
 (cd "$out" && ls -l ./*.tar.gz ./*.whl)

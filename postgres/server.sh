@@ -39,7 +39,7 @@ copy_server() {
 
 build_extension() {
     cp -r "$(dirname "${BASH_SOURCE[0]}")"/* "$dir/work"
-    make -s -C "$dir/work" PG_CONFIG="$config" WKT="$wkt" PG_CFLAGS="-Wall -Wextra -Wno-unused-parameter -Wno-sign-compare -Werror ${CFLAGS_MORE:-}" > "$dir/make.log" 2>&1 ||
+    make -s -C "$dir/work" PG_CONFIG="$config" WKT_LIB_DIR="$wkt" PG_CFLAGS="-Wall -Wextra -Wno-unused-parameter -Wno-sign-compare -Werror ${CFLAGS_MORE:-}" > "$dir/make.log" 2>&1 ||
         { cat "$dir/make.log"; exit 1; }
     cp "$dir/work/wkt.so" "$dir$lib/"
     cp "$dir"/work/wkt.control "$dir"/work/wkt--*.sql "$dir$share/extension/"

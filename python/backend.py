@@ -2,8 +2,8 @@
 
 The wheel has wkt/, the shared library, and `wkt/_fast.abi3.so` where the Python that builds is 3.11 or later and has its
 headers: it then serves 3.11 and each later Python. WKT_FAST=0 makes one for Python 3.8 on, which calls the library by
-ctypes alone; WKT_FAST=1 fails where the fast module can't be compiled. WKT names the folder with libwkt.so; else it is
-capi/out, and where that has none, capi/build.sh makes it of dist/, without the prover. CC names the C compiler.
+ctypes alone; WKT_FAST=1 fails where the fast module can't be compiled. WKT_LIB_DIR names the folder with libwkt.so; without
+it capi/build.sh makes the library for this wheel, in a second and without the prover. CC names the C compiler.
 
 A wheel's bytes depend on its files alone; its times are SOURCE_DATE_EPOCH, or 1980.
 """
@@ -28,16 +28,19 @@ here = os.path.dirname(os.path.abspath(__file__))
 
 
 def _library(folder):
-    """The folder with libwkt.so: what is there, or what capi/build.sh makes of dist/, in the folder that is given."""
-    there = os.environ.get("WKT", os.path.join(here, os.pardir, "capi", "out"))
-    if os.path.exists(os.path.join(there, "libwkt.so")):
-        return there
+    """The folder with libwkt.so: WKT_LIB_DIR, or the one that is given, in which capi/build.sh makes it."""
+    named = os.environ.get("WKT_LIB_DIR")
     build = os.path.join(here, os.pardir, "capi", "build.sh")
-    if "WKT" in os.environ or not os.path.exists(build):
-        raise SystemExit("capi/build.sh makes the library that this package needs; run it first, and name its folder by WKT (pip before 21.3 builds in a copy of this folder)")
-    if not shutil.which(shlex.split(os.environ.get("CC", "gcc"))[0]):
-        raise SystemExit("libwkt.so is linked of dist/ by a C compiler, and there is none: install gcc, or name it by CC")
-    subprocess.run([build, folder], check=True)
+    if named:
+        if os.path.exists(os.path.join(named, "libwkt.so")):
+            return named
+        raise SystemExit("WKT_LIB_DIR: there is no libwkt.so in %s: capi/build.sh in a clone of wkt makes it" % named)
+    if not os.path.exists(build):
+        raise SystemExit("this package needs libwkt.so: run capi/build.sh in a clone of wkt, and name its folder, capi/out, by "
+                         "WKT_LIB_DIR (pip before 21.3 builds in a copy of this folder)")
+    # Its own words say what is lacking.
+    if subprocess.run([build, folder], check=False).returncode:
+        raise SystemExit("capi/build.sh fails, which makes the library of this package")
     return folder
 
 
@@ -98,7 +101,7 @@ def _compiled(folder):
     if lacks:
         return None
     made = os.path.join(folder, "_fast.abi3.so")
-    words = ["-O2", "-shared", "-fPIC", "-I", headers, os.path.join(here, "src", "_fast.c"), "-o", made]
+    words = ["-O2", "-shared", "-fPIC", "-fstack-protector-strong", "-Wl,-z,relro,-z,now", "-I", headers, os.path.join(here, "src", "_fast.c"), "-o", made]
     subprocess.run(compiler + words, check=True)
     return made
 

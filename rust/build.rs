@@ -1,42 +1,41 @@
-//! Links libwkt: from WKT_LIB_DIR; from ../capi/out of a clone, or as ../capi/build.sh makes it there of ../dist, without
-//! the prover; or as pkg-config finds it.
+//! Links libwkt: that of the folder WKT_LIB_DIR; in a clone of the project the one that ../capi/build.sh makes, without the
+//! prover; elsewhere the one that pkg-config finds.
+use std::env;
 use std::path::Path;
 use std::process::Command;
 
 fn main() {
     println!("cargo:rerun-if-env-changed=WKT_LIB_DIR");
-    let beside = format!("{}/../capi/out", env!("CARGO_MANIFEST_DIR"));
-    // What stands there is of this processor.
-    let here = std::env::var("HOST") == std::env::var("TARGET");
-    let built = here && Path::new(&beside).join("libwkt.a").exists();
     let clone = format!("{}/..", env!("CARGO_MANIFEST_DIR"));
-    match std::env::var("WKT_LIB_DIR") {
-        Ok(folder) => link_static(&folder),
-        Err(_) if built => link_static(&beside),
-        Err(_) if Path::new(&clone).join("dist/objects.sh").exists() => {
-            link_static(&made_of_dist(&clone))
-        }
+    match env::var("WKT_LIB_DIR") {
+        Ok(folder) if Path::new(&folder).join("libwkt.a").exists() => link_static(&folder),
+        Ok(folder) => panic!("WKT_LIB_DIR: there is no libwkt.a in {folder}: capi/build.sh in a clone of wkt makes it"),
+        Err(_) if Path::new(&clone).join("capi/build.sh").exists() => link_static(&built(&clone)),
         Err(_) => link_as_pkg_config_says(),
     }
 }
 
-/// The folder with the library that is linked of the proved objects in dist/, for the processor that cargo builds for.
-fn made_of_dist(clone: &str) -> String {
-    let of = |name: &str| std::env::var(name).unwrap_or_default();
+/// The folder in which capi/build.sh makes the library, for the processor that cargo builds for.
+fn built(clone: &str) -> String {
+    let of = |name: &str| env::var(name).unwrap_or_default();
     let out = format!("{}/libwkt", of("OUT_DIR"));
     let mut command = Command::new(format!("{clone}/capi/build.sh"));
-    command.arg(&out).env("WKT_C_LIB", "dist");
+    command.arg(&out);
     if of("HOST") != of("TARGET") && of("CC").is_empty() {
-        command.env(
-            "CC",
-            format!("{}-linux-gnu-gcc", of("CARGO_CFG_TARGET_ARCH")),
-        );
+        let processor = of("CARGO_CFG_TARGET_ARCH");
+        command.env("CC", format!("{processor}-linux-gnu-gcc"));
     }
-    println!("cargo:rerun-if-changed={clone}/dist");
-    println!("cargo:rerun-if-changed={clone}/capi");
+    for part in ["capi", "dist", "include", "crates/wkt_c/out/libwkt_c.a"] {
+        let path = format!("{clone}/{part}");
+        if Path::new(&path).exists() {
+            println!("cargo:rerun-if-changed={path}");
+        }
+    }
+    println!("cargo:rerun-if-env-changed=CC");
+    println!("cargo:rerun-if-env-changed=WKT_C_LIB");
     match command.status() {
         Ok(status) if status.success() => out,
-        _ => panic!("capi/build.sh fails: it needs gcc, binutils, and xz or python3"),
+        _ => panic!("capi/build.sh fails, which makes the library of this crate"),
     }
 }
 
@@ -48,11 +47,11 @@ fn link_static(folder: &str) {
 
 fn link_as_pkg_config_says() {
     println!("cargo:rerun-if-env-changed=PKG_CONFIG_PATH");
-    let program = std::env::var("PKG_CONFIG").unwrap_or_else(|_| "pkg-config".to_string());
+    let program = env::var("PKG_CONFIG").unwrap_or_else(|_| "pkg-config".to_string());
     let said = match Command::new(program).args(["--libs", "wkt"]).output() {
         Ok(said) if said.status.success() => String::from_utf8_lossy(&said.stdout).into_owned(),
         _ => panic!(
-            "libwkt isn't found: set WKT_LIB_DIR to the folder with libwkt.a, or install it with its wkt.pc"
+            "there is no libwkt: capi/build.sh in a clone of wkt makes it, and WKT_LIB_DIR names its folder"
         ),
     };
     for word in said.split_whitespace() {

@@ -12,7 +12,7 @@ command -v sqlite3 > /dev/null || { echo "no sqlite3: not run"; exit 1; }
 dir=$(mktemp -d)
 trap 'rm -rf "$dir"' EXIT
 cp "$here"/{Makefile,wkt_sqlite.c,test.sql,test.py} "$dir"
-make -s -C "$dir" WKT="$wkt" CFLAGS="-O2 -Werror"
+make -s -C "$dir" WKT_LIB_DIR="$wkt" CFLAGS="-O2 -Werror"
 cd "$dir"
 # The shell's own words around an error differ from version to version.
 { sqlite3 :memory: < test.sql 2>&1 || true; } | sed 's/^.*[Ee]rror[^:]* near line \([0-9]*\): /\1: /; s/ ([0-9]*)$//' > said

@@ -25,7 +25,7 @@ each() {
 
 each "over ctypes alone" "$here/.." WKT_LIB="$WKT/libwkt.so"
 for fast in 1 0; do
-    WKT=$WKT WKT_FAST=$fast "$python" -m pip wheel -q --no-build-isolation --no-deps --no-index -w "$work/wheels$fast" "$here/.."
+    WKT_LIB_DIR=$WKT WKT_FAST=$fast "$python" -m pip wheel -q --no-build-isolation --no-deps --no-index -w "$work/wheels$fast" "$here/.."
     wheel=$(echo "$work/wheels$fast"/*.whl)
     "$python" -m pip install -q --root-user-action=ignore --no-index --no-deps --target "$work/installed$fast" "$wheel"
     [ $fast = 0 ] || "$python" -c "import sys; sys.path.insert(0, '$work/installed1'); import wkt._fast"
