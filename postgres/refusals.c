@@ -8,7 +8,6 @@
 #include "utils/builtins.h"
 #if PG_VERSION_NUM >= 160000
 #include "nodes/miscnodes.h"
-#include "varatt.h"
 #else
 /* Before 16 there are no soft errors. */
 #define ereturn(context, dummy, rest) ereport(ERROR, rest)

@@ -1,0 +1,28 @@
+#!/usr/bin/env bash
+# Runs test.sh on PostgreSQL 17, in a Debian 13 that debootstrap unpacks: versions.sh [FOLDER]
+#
+# FOLDER as test.sh has it. It is run by hand: it needs root, debootstrap and Debian's archive (DEBIAN_MIRROR), and takes
+# some three minutes. DEBIAN=PLACE unpacks there and leaves it, so that the next run finds it.
+set -eu
+here=$(cd "$(dirname "$0")" && pwd)
+. "$here/server.sh"
+library "${1:-}"
+dir=$(mktemp -d)
+trap 'rm -rf "$dir"' EXIT
+root=${DEBIAN:-$dir/debian}
+packages=gcc,libc6-dev,make,postgresql-17,postgresql-server-dev-17
+if [ ! -x "$root/usr/lib/postgresql/17/bin/postgres" ]; then
+    debootstrap --variant=minbase --include=$packages trixie "$root" "${DEBIAN_MIRROR:-http://deb.debian.org/debian}" \
+        > "$dir/log" 2>&1 || { tail -n 20 "$dir/log"; exit 1; }
+fi
+rm -rf "$root/wkt"
+mkdir -p "$root/wkt/tests"
+cp -r "$here" "$root/wkt/postgres"
+cp "$here"/../tests/key*.tsv "$root/wkt/tests/"
+cp -r "$wkt" "$root/wkt/library"
+# inside COMMAND..: in that Debian, with its own processes and shared memory
+inside() {
+    unshare --mount --pid --fork sh -eu -c 'root=$1; shift; mount -t proc proc "$root/proc"
+        mount -t tmpfs tmpfs "$root/dev/shm"; exec chroot "$root" env -i PATH="$PATH" "$@"' sh "$root" "$@"
+}
+inside /wkt/postgres/test.sh /wkt/library
