@@ -1,5 +1,8 @@
 #!/usr/bin/env python3
-"""build.py NAME PROCESSOR FILE: proves and builds the object of the crate NAME for that processor, over what rt ci left."""
+"""build.py NAME PROCESSOR FILE: proves and builds the object of the crate NAME for that processor, over what rt ci left.
+
+With INCREMENTAL=yes the proof begins with what `rt check` left of the crate, in a copy.
+"""
 import os
 import shutil
 import subprocess
@@ -20,9 +23,11 @@ def main():
     words = ["--crate-name", name, *(["src/lib.rt", "--crate-type", "staticlib"] if is_library else ["src/main.rt"])]
     words += [*lib.library_words(kit, name, uses, made), "--jobs", os.environ.get("JOBS", "2"), "--toolchain", f"{kit}/toolchain"]
     words += ["--backend", "llvm", "--target", f"{processor}-unknown-linux-gnu"]
-    if os.environ.get("INCREMENTAL"):
-        words += ["--incremental", os.environ["INCREMENTAL"]]
+    kept = f"{TOP}/crates/{name}/out/incremental"
     with tempfile.TemporaryDirectory() as folder:
+        if os.environ.get("INCREMENTAL") and os.path.isdir(kept):
+            shutil.copytree(kept, f"{folder}/kept", symlinks=True)
+            words += ["--incremental", f"{folder}/kept"]
         out = f"{folder}/made"
         status = subprocess.run([f"{kit}/bin/rattle", "build", *words, "-o", out], cwd=f"{TOP}/crates/{name}").returncode
         if status:

@@ -1,24 +1,37 @@
 #!/usr/bin/env bash
 # Whether dist/ is what these sources give. In the gate, beside what it has just proved and built; alone, as far as that is there.
 #
-# It fails where a sum is wrong; where dist is of these very sources and this kit, and other bytes were built; and where
-# the library's tests, with today's header and C, don't pass over it. Else it says how old dist is.
+# It fails where a sum is wrong; where dist is of these very sources and this kit, and other bytes were built; where NOTICE
+# names other crates than the objects; and where the library's tests, with today's header and C, don't pass over it. Else it
+# says how old dist is.
 set -u
 here=$(cd "$(dirname "$0")" && pwd)
 cd "$here/.." || exit 1
 work=$(mktemp -d)
 trap 'rm -rf "$work"' EXIT
 fail() { echo "dist: $*"; exit 1; }
+names=(wkt_c wkt_command wktline wktstream)
+processors=$(cd dist && echo */PROVENANCE | sed 's,/PROVENANCE,,g')
 
-# Nothing but what PROVENANCE names, each with its sum.
-for processor in dist/*/; do
-    [ -e "$processor/PROVENANCE" ] || continue
-    processor=$(basename "$processor")
-    names=$(sed -n 's/^[0-9a-f]\{64\}  \(.*\)\.o$/\1/p' "dist/$processor/PROVENANCE")
-    [ "$(echo "$names" | sed 's/$/.o.xz/')" = "$(cd "dist/$processor" && find . -type f ! -name PROVENANCE | sed "s,^\./,," | LC_ALL=C sort)" ] || fail "$processor: other files than in PROVENANCE"
-    mkdir -p "$work/dist/$processor"
-    ARCH=$processor dist/objects.sh "$work/dist/$processor" $names || exit 1
-done
+# unpacked PROCESSOR: nothing but what PROVENANCE names, each with its sum
+unpacked() {
+    local has wanted
+    wanted=$(printf '%s\n' PROVENANCE "${names[@]/%/.o.xz}" | LC_ALL=C sort)
+    has=$(cd "dist/$1" && find . -type f | sed 's,^\./,,' | LC_ALL=C sort)
+    [ "$has" = "$wanted" ] || fail "$1: other files than the objects and PROVENANCE"
+    mkdir -p "$work/dist/$1"
+    ARCH=$1 dist/objects.sh "$work/dist/$1" "${names[@]}" || exit 1
+}
+
+# noticed PROCESSOR: of each object NOTICE names the crates that aren't of this repository
+noticed() {
+    local name ours crates
+    ours=$(sed -n 's/^\([a-z_]*\).*:.*/\1/p' crates.txt)
+    for name in "${names[@]}"; do
+        crates=$(readelf -W -S "$work/dist/$1/$name.o" | sed -n 's/.* \.text\.\(unlikely\.\|hot\.\)\?\([a-z_]*\)::.*/\2/p' | LC_ALL=C sort -u | grep -vxF "$ours")
+        grep -qx "    $name: $(echo $crates)" dist/NOTICE || fail "NOTICE: $1/$name.o holds code of: $(echo $crates)"
+    done
+}
 
 # What was built here: of x86_64 by the gate, of others where BUILT names it, as for refresh.sh.
 archive=${WKT_C_LIB:-crates/wkt_c/out/libwkt_c.a}
@@ -30,12 +43,13 @@ done
 kit=$(command -v rt > /dev/null && rt version)
 now="$(git rev-parse HEAD:crates) $(git rev-parse HEAD:crates.txt)"
 [ -z "$(git status --porcelain -- crates crates.txt)" ] || now="$now changed"
-for processor in dist/*/; do
-    [ -e "$processor/PROVENANCE" ] || continue
-    processor=$(basename "$processor")
+
+# compared PROCESSOR: its age, and whether what was built here has the same bytes
+compared() {
+    local name built age commit same=() other=()
     of() { sed -n "s/^$1  *//p" "dist/$processor/PROVENANCE"; }
-    same=() other=()
-    for name in wkt_c wkt_command wktline wktstream; do
+    processor=$1
+    for name in "${names[@]}"; do
         built=$work/$processor/$name.o
         [ -e "$built" ] || built=${BUILT:-/nowhere}/$processor/$name.o
         [ -e "$built" ] || continue
@@ -50,8 +64,13 @@ for processor in dist/*/; do
             git rev-list --count "$commit..HEAD" -- crates crates.txt 2> /dev/null || echo '?') change crates/"
     fi
     echo "dist: $processor: $age; built here: ${#same[@]} with the same bytes${other[*]:+; with other bytes, by $kit: ${other[*]}}"
-done
+}
 
+for processor in $processors; do
+    unpacked "$processor"
+    noticed "$processor"
+    compared "$processor"
+done
 # With today's header, C and keys. (Of this processor.)
 WKT_C_LIB=dist make -s -C dist check O="$work/out" > "$work/said" 2>&1 || { tail -n 20 "$work/said"; fail "doesn't fit these sources: dist/refresh.sh renews it"; }
 sed 's/^/dist: /' "$work/said"
