@@ -1,15 +1,29 @@
 #!/usr/bin/env bash
 # Makes the Debian packages libwkt0, libwkt-dev, python3-wkt and wkt-tools of the release that release.sh has made.
 #
-# debs.sh [OUT]: in OUT (packaging/out) is the release, and there the packages go. It needs debhelper, dh-python and
-# python3-dev.
+# debs.sh [OUT [ARCHITECTURE..]]: in OUT (packaging/out) is the release, and there the packages go; those of this machine's
+# architecture where none is named (amd64, arm64). It needs debhelper and dh-python; libpython3-dev and, of another
+# architecture, crossbuild-essential-ARCHITECTURE. The packages of another one are made without their tests (dist/cross.sh),
+# and their Build-Depends aren't looked at: the headers of libpython3-dev:ARCHITECTURE are enough.
 set -eu
 here=$(cd "$(dirname "$0")" && pwd)
 out=$(cd "${1:-$here/out}" && pwd)
+shift || true
+own=$(dpkg --print-architecture)
+[ $# != 0 ] || set -- "$own"
 work=$(mktemp -d)
 trap 'rm -rf "$work"' EXIT
-tar -C "$work" -xzf "$out"/wkt-proved-*.tar.gz
-(cd "$work"/wkt-proved-*/ && dpkg-buildpackage -b -us -uc > "$work/log" 2>&1) || { tail -n 40 "$work/log"; exit 1; }
 rm -f "$out"/*.deb
-cp "$work"/*.deb "$out"
+for architecture; do
+    mkdir "$work/$architecture"
+    tar -C "$work/$architecture" -xzf "$out"/wkt-proved-*.tar.gz
+    words=(-b -us -uc)
+    [ "$architecture" = "$own" ] || words+=(-d "-a$architecture")
+    (
+        cd "$work/$architecture"/wkt-proved-*/
+        [ "$architecture" = "$own" ] || export DEB_BUILD_OPTIONS=nocheck
+        dpkg-buildpackage "${words[@]}" > "$work/log" 2>&1
+    ) || { tail -n 40 "$work/log"; exit 1; }
+    cp "$work/$architecture"/*.deb "$out"
+done
 (cd "$out" && ls -l ./*.deb)

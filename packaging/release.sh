@@ -1,49 +1,42 @@
 #!/usr/bin/env bash
-# Makes what is given to people who have no prover, of what is proved and built here.
+# Makes what is given to people who have no prover: of what is committed in dist/, which dist/refresh.sh renews.
 #
-# release.sh [OUT]: into OUT (packaging/out): wkt-proved-0.14.0/ and its .tar.gz, a source release that needs a C compiler
-# and make, with the proved objects and programs; and the wheel of the Python package. It runs `make check` in the release.
-# It needs capi/out (capi/build.sh) and the programs in crates/{wkt_command,wktline,wktstream}/out (rt run). WKT names
-# another folder with libwkt.a, libwkt.so and wkt.h, BIN another one with the three programs.
+# release.sh [OUT]: into OUT (packaging/out): wkt-proved-VERSION/ and its .tar.gz, a source release that needs a C compiler
+# and make, with the proved objects of each processor and what is built over them: the library, the programs, the
+# extensions, the Python package, the Rust crate; and the wheel of the Python package. It runs `make check` in the release.
+# VERSION is that of include/wkt.h. All times are the date of that version in CHANGELOG.md, or of the commit while it has none.
 set -eu
 here=$(cd "$(dirname "$0")" && pwd)
 root=$(dirname "$here")
-version=0.14.0
+version=$(sed -n 's/^#define WKT_VERSION "\(.*\)"/\1/p' "$root/include/wkt.h")
 out=$(mkdir -p "${1:-$here/out}" && cd "${1:-$here/out}" && pwd)
-lib=$(cd "${WKT:-$root/capi/out}" && pwd)
 to=$out/wkt-proved-$version
-
-# program NAME: its file
-program() {
-    if [ -n "${BIN:-}" ]; then echo "$BIN/$1"; else echo "$root/crates/$1/out/$1"; fi
-}
+date=$(sed -n "s/^## \[$version\] - \([0-9-]*\)\$/\1/p" "$root/CHANGELOG.md")
+when=$(if [ -n "$date" ]; then date -u -d "$date" +%s; else git -C "$root" log -1 --format=%ct; fi)
+# What stands in a clone, at the same place there.
+parts=(capi include dist postgres sqlite rust python tests/command tests/command.sh tests/keys.c tests/keys.tsv
+    crates/wktline/stdin crates/wktline/stdout packaging/release/man LICENSE-APACHE LICENSE-MIT CHANGELOG.md)
 
 rm -rf "$to"
-mkdir -p "$to"/{prebuilt,include,capi,bin,tests,python}
-(cd "$to/prebuilt" && ar x "$lib/libwkt.a" && rm -f heap.o pointers.o)
-cp "$lib/wkt.h" "$to/include"
-cp "$root"/capi/{heap,pointers}.c "$to/capi"
-cp "$root"/LICENSE-* "$to"
-cp "$root"/capi/tests/{calls.c,calls.h,texts.c,columns.c,pointers.c} "$to/tests"
-cp -r "$root/python/wkt" "$to/python"
-[ ! -d "$root/python/src" ] || cp -r "$root/python/src" "$to/python"
-rm -rf "$to"/python/wkt/{libwkt.so,_fast*.so,__pycache__}
-cp -r "$here"/release/* "$to"
-install -m 755 "$(program wkt_command)" "$to/bin/wkt"
-install -m 755 "$(program wktline)" "$to/bin/wktline"
-install -m 755 "$(program wktstream)" "$to/bin/wktstream"
+mkdir -p "$to"
+git -C "$root" ls-files -z -- "${parts[@]}" | tar -C "$root" --null -T - -cf - | tar -C "$to" -xf -
+cp -r "$here"/release/{Makefile,README,debian} "$to"
+{
+    printf 'wkt-proved (%s) unstable; urgency=medium\n\n  * CHANGELOG.md has what is new.\n\n' "$version"
+    printf ' -- The wkt developers <wkt@example.org>  %s\n' "$(date -u -R -d "@$when")"
+} > "$to/debian/changelog"
 # The exported names are those of the header.
 {
     echo "libwkt.so.0 libwkt0 #MINVER#"
     echo " WKT_0@WKT_0 $version"
-    sed -n 's/.*\(wkt_[a-z_]*\)(.*/\1/p' "$lib/wkt.h" | grep -vx wkt_status | sort -u | sed "s/.*/ &@WKT_0 $version/"
+    sed -n 's/.*\(wkt_[a-z_]*\)(.*/\1/p' "$to/include/wkt.h" | grep -vx wkt_status | LC_ALL=C sort -u | sed "s/.*/ &@WKT_0 $version/"
 } > "$to/debian/libwkt0.symbols"
 (cd "$to" && find . -type f ! -name SHA256SUMS -print0 | LC_ALL=C sort -z | xargs -0 sha256sum > SHA256SUMS)
-# Its bytes depend on the files alone: their time is that of the commit, their mode no umask's.
-when=${SOURCE_DATE_EPOCH:-$(git -C "$root" log -1 --format=%ct 2> /dev/null || echo 315532800)}
-tar -C "$out" --format=gnu --sort=name --owner=0 --group=0 --numeric-owner --mode=u+rwX,go=rX --mtime="@$when" -czf "$to.tar.gz" "wkt-proved-$version"
+# Its bytes depend on the files alone: their time is the release's, their mode no umask's.
+tar -C "$out" --format=gnu --sort=name --owner=0 --group=0 --numeric-owner --mode=u+rwX,go=rX --mtime="@$when" -cf - "wkt-proved-$version" |
+    gzip -9n > "$to.tar.gz"
 
 make -s -C "$to" check
 make -s -C "$to" clean
-SOURCE_DATE_EPOCH=$when WKT_LIB_DIR=$lib "${PYTHON:-/usr/bin/python3}" -m pip wheel -q --no-build-isolation --no-deps --no-index -w "$out" "$root/python"
+SOURCE_DATE_EPOCH=$when WKT_LIB_DIR='' WKT_C_LIB=dist "${PYTHON:-/usr/bin/python3}" -m pip wheel -q --no-build-isolation --no-deps --no-index -w "$out" "$to/python"
 (cd "$out" && ls -l ./*.tar.gz ./*.whl)

@@ -2,8 +2,9 @@
 # Installs what release.sh and debs.sh have made, each where nothing of it is, and calls each once.
 #
 # test.sh [OUT]: what is in OUT (packaging/out). Parts, all without SKIP=NAME,NAME: source (make install below an empty
-# folder), wheel (a fresh venv), debs (an empty Debian by debootstrap, as root, with the network), vendor (an empty
-# repository, by rt try). The last line says what was skipped.
+# folder), bytes (the release again, under another umask), wheel (a fresh venv), faces (the extensions and the crate, of the
+# unpacked release), debs (an empty Debian by debootstrap, as root, with the network), vendor (an empty repository, by
+# rt try). The last line says what was skipped.
 set -u
 here=$(cd "$(dirname "$0")" && pwd)
 root=$(dirname "$here")
@@ -35,6 +36,37 @@ source_release() {
         [ -z "$(groff -man -Tutf8 -ww "$page" 2>&1 > "$dir/page")" ] || fail "groff: $page"
     done
     echo "source release: installed, each called"
+}
+
+bytes() {
+    local file
+    (umask 077 && "$here/release.sh" "$dir/again" > "$dir/log" 2>&1) || { tail -n 20 "$dir/log"; fail "release.sh under umask 077"; }
+    for file in "$dir"/again/*.tar.gz "$dir"/again/*.whl; do
+        cmp "$file" "$out/$(basename "$file")" || fail "another umask gives other bytes"
+    done
+    # Its files are readable, and of one day: that of its newest change.
+    [ -z "$(tar -tvzf "$dir"/again/*.tar.gz | awk '{ print $4 }' | sort -u | sed 1d)" ] || fail "files of two days"
+    [ -z "$(tar -tvzf "$dir"/again/*.tar.gz | grep -v '^[-ld]r[w-][x-]r-[x-]r-[x-]')" ] || fail "a file that others can't read"
+    local said
+    said=$(tar -xOzf "$dir"/again/*.tar.gz --wildcards '*/debian/changelog' | sed -n 's/^ -- .*>  //p')
+    [ "$(date -u -d "$said" +%F)" = "$(TZ=UTC0 tar -tvzf "$dir"/again/*.tar.gz | awk 'NR == 1 { print $4 }')" ] || fail "files of another day than the changelog's"
+    echo "release: the same bytes under umask 077, of the changelog's date"
+}
+
+# faces: what else the release has is built where nothing else of the repository is
+faces() {
+    mkdir "$dir/faces" && tar -C "$dir/faces" --strip-components=1 -xzf "$out"/wkt-proved-*.tar.gz
+    if ! skips sqlite; then
+        make -s -C "$dir/faces/sqlite" > "$dir/log" 2>&1 || { cat "$dir/log"; fail "make -C sqlite"; }
+        [ "$(sqlite3 -cmd ".load $dir/faces/sqlite/mod_wkt" :memory: "SELECT wkt_canonical('$text')")" = "$answer" ] || fail "mod_wkt"
+    fi
+    skips postgres || make -s -C "$dir/faces/postgres" > "$dir/log" 2>&1 || { cat "$dir/log"; fail "make -C postgres"; }
+    if ! skips rust; then
+        CARGO_TARGET_DIR=$dir/target cargo run -q --offline --manifest-path "$dir/faces/rust/Cargo.toml" --example show -- "$text" > "$dir/said" 2> "$dir/log" ||
+            { cat "$dir/log"; fail "cargo run"; }
+        grep -qF "$answer" "$dir/said" || { cat "$dir/said"; fail "the crate's example"; }
+    fi
+    echo "SQLite, PostgreSQL and Rust: built of the release"
 }
 
 wheel() {
@@ -92,7 +124,7 @@ vendor() {
     echo "vendor: brought, called by rt try, brought again"
 }
 
-for part in source wheel debs vendor; do
+for part in source bytes wheel faces debs vendor; do
     if ! skips "$part"; then
         case $part in source) source_release ;; *) "$part" ;; esac
     fi
