@@ -1,0 +1,26 @@
+#!/usr/bin/env bash
+# The library and the programs for another processor, by qemu-user: the tests in C, the keys, the command's cases, nesting and
+# threads, the examples, and what `make install` leaves.
+#
+# cross.sh [PROCESSOR]: aarch64 where none is named. It needs PROCESSOR-linux-gnu-gcc with its C library (on Debian
+# gcc-aarch64-linux-gnu, libc6-dev-arm64-cross) and qemu-PROCESSOR-static (qemu-user-static).
+set -eu
+cd "$(dirname "$0")/.."
+processor=${1:-aarch64}
+export CC=$processor-linux-gnu-gcc RUN="qemu-$processor-static -L /usr/$processor-linux-gnu"
+out=$(mktemp -d)
+trap 'rm -rf "$out"' EXIT
+
+make -s -C dist check O="$out"
+$CC -O2 -Wall -Wextra -Werror -I"$out" -o "$out/deep" capi/tests/deep.c "$out/libwkt.a" -pthread
+$RUN "$out/deep"
+for example in show lines stream; do
+    $CC -O2 -I"$out" -o "$out/$example" "capi/examples/$example.c" "$out/libwkt.a"
+done
+$RUN "$out/show" > /dev/null
+for example in lines stream; do $RUN "$out/$example" < crates/wktline/stdin | cmp - crates/wktline/stdout; done
+# The shared library, too.
+$CC -O2 -I"$out" -o "$out/shared" tests/keys.c -L"$out" -lwkt
+$RUN -E LD_LIBRARY_PATH="$out" "$out/shared" < tests/keys.tsv
+tests/c_install.sh
+echo "$processor: all passed"
