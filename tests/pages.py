@@ -69,7 +69,7 @@ def commands(text):
         for line in block.split("\n"):
             if kind == "console" and not line.startswith("$ "):
                 continue
-            line = re.sub(r"(^|\s)#.*$", "", line.removeprefix("$ "))
+            line = re.sub(r"'[^']*'", "''", re.sub(r"(^|\s)#.*$", "", line.removeprefix("$ ")))
             for command in re.split(r"&&|\|\||[|;()]", line):
                 words = command.split()
                 while words and re.match(r"\w+=", words[0]):
