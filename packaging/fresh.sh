@@ -1,0 +1,65 @@
+#!/usr/bin/env bash
+# README's commands in an empty Debian, each from a fresh clone of what is committed here, without the prover; with the
+# seconds of each. The commands and the packages are taken out of README.
+#
+# fresh.sh SUITE [FOLDER]: bookworm, trixie; the Debian is put into FOLDER, and kept there, or into a temporary one. It needs
+# debootstrap, root and a network.
+set -u
+here=$(cd "$(dirname "$0")" && pwd)
+root=$(dirname "$here")
+suite=$1
+dir=$(mktemp -d)
+debian=${2:-$dir/debian}
+trap 'rm -rf "$dir"' EXIT
+failed=0
+in_root() { chroot "$debian" env -i PATH=/usr/sbin:/usr/bin:/sbin:/bin HOME=/root DEBIAN_FRONTEND=noninteractive LC_ALL=C.UTF-8 "$@"; }
+
+if [ ! -d "$debian/etc" ]; then
+    debootstrap --variant=minbase --include=ca-certificates,git,gcc,libc6-dev,make,python3 "$suite" "$debian" \
+        "${DEBIAN_MIRROR:-http://deb.debian.org/debian}" > "$dir/log" 2>&1 || { tail -n 20 "$dir/log"; exit 1; }
+fi
+in_root sh -c 'command -v rt' && { echo "rt is there"; exit 1; }
+rm -rf "$debian/repo.git" && git clone -q --bare "$root" "$debian/repo.git"
+
+# row NAME PACKAGES SCRIPT: installs the packages, and runs the script at the top of a fresh clone
+row() {
+    local name=$1 packages=$2 start=$SECONDS installed=
+    if [ -n "$packages" ]; then
+        in_root sh -c "apt-get update -q && apt-get install -qy --no-install-recommends $packages" > "$dir/log" 2>&1 || { tail -n 5 "$dir/log"; failed=1; }
+        installed="; its packages $((SECONDS - start)) s"
+    fi
+    printf '%s\n' 'set -eu' 'sudo() { "$@"; }' 'rm -rf /clone && git clone -q /repo.git /clone && cd /clone' 'start=$(date +%s%N)' \
+        "$3" 'echo "took $((($(date +%s%N) - start) / 1000000)) ms"' > "$debian/row.sh"
+    if in_root bash /row.sh > "$dir/said" 2>&1; then
+        echo "$name: $(sed -n '$s/^took //p' "$dir/said")$installed"
+    else
+        tail -n 20 "$dir/said"
+        echo "$name: FAILED"
+        failed=1
+    fi
+}
+# cell NAME COLUMN: what stands in backquotes in that cell of README's table
+cell() { grep "^| $1 |" "$root/README.md" | cut -d '|' -f "$(($2 + 1))" | grep -o '`[^`]*`' | tr -d '`'; }
+packages() { cell "$1" 3 | tr '\n' ' '; }
+first() { cell "$1" 2 | head -n 1; }
+answer='POINT(1 2.5)'
+
+# The first block: each command, and what the page says that it prints.
+sed -n '/^```console$/,/^```$/{//!p}' "$root/README.md" | sed '/^\$ rt try$/,$d' > "$dir/block"
+grep -v '^\$ ' "$dir/block" > "$dir/want"
+cp "$dir/want" "$debian/want"
+row "the first block" "" "{ $(sed -n 's/^\$ \(.*\)/\1 || [ $? = 1 ]/p' "$dir/block")
+} > /tmp/said; cmp /want /tmp/said"
+row "make install" "" "sudo make -s -C dist install; sudo ldconfig; echo 'point ( 1 2.50 )' | wktline | grep -qxF '$answer'"
+row "run" "" "$(sed -n 's/^\(make -C dist && .*\)#.*/\1/p' "$root/README.md") | cmp - crates/wktline/stdout"
+row "make check" "" "$(sed -n 's/^\(make -C dist check\) *#.*/\1/p' "$root/README.md")"
+row Python "$(packages Python)" "python3 -m venv /tmp/venv && . /tmp/venv/bin/activate; $(first Python)
+cd /; python -c \"import wkt; assert wkt.canonical('point ( 1 2.50 )') == '$answer'\"; rm -rf /tmp/venv"
+row "C, C++" "" "$(first "C, C++")"
+row Rust "$(packages Rust)" "rm -rf /tmp/mine && cargo new -q /tmp/mine && cd /tmp/mine; $(first Rust | sed 's,CLONE,/clone,')
+echo 'fn main() { print!(\"{}\", wkt_proved::canonical(\"point ( 1 2.50 )\", 6).unwrap().0) }' > src/main.rs; [ \"\$(cargo run -q)\" = '$answer' ]"
+row PostgreSQL "$(packages PostgreSQL)" "$(first PostgreSQL)
+service postgresql start; su postgres -c \"psql -qAtc '$(cell PostgreSQL 2 | sed -n 2p)' -c 'SELECT wkt_canonical(''POINT(1 2)'')' || true\"; su postgres -c \"psql -Atc \\\"SELECT wkt_canonical('point ( 1 2.50 )')\\\"\" | grep -qxF '$answer'; su postgres -c \"psql -qc 'DROP EXTENSION wkt'\"; service postgresql stop"
+row SQLite "$(packages SQLite)" "$(first SQLite) | grep -qx 'POINT(1 2)'"
+[ $failed = 0 ] && echo "$suite: each row of README was run from a fresh clone"
+exit $failed
