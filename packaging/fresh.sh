@@ -10,14 +10,16 @@ root=$(dirname "$here")
 suite=$1
 dir=$(mktemp -d)
 debian=${2:-$dir/debian}
-trap 'rm -rf "$dir"' EXIT
+trap 'umount "$debian/proc" 2> /dev/null; rm -rf "$dir"' EXIT
 failed=0
-in_root() { chroot "$debian" env -i PATH=/usr/sbin:/usr/bin:/sbin:/bin HOME=/root DEBIAN_FRONTEND=noninteractive LC_ALL=C.UTF-8 "$@"; }
+in_root() { chroot "$debian" env -i PATH=/usr/local/bin:/usr/sbin:/usr/bin:/sbin:/bin HOME=/root DEBIAN_FRONTEND=noninteractive LC_ALL=C.UTF-8 "$@"; }
 
 if [ ! -d "$debian/etc" ]; then
     debootstrap --variant=minbase --include=ca-certificates,git,gcc,libc6-dev,make,python3 "$suite" "$debian" \
         "${DEBIAN_MIRROR:-http://deb.debian.org/debian}" > "$dir/log" 2>&1 || { tail -n 20 "$dir/log"; exit 1; }
 fi
+# rustc and PostgreSQL look into /proc.
+mount -t proc proc "$debian/proc" || exit 1
 in_root sh -c 'command -v rt' && { echo "rt is there"; exit 1; }
 rm -rf "$debian/repo.git" && git clone -q --bare "$root" "$debian/repo.git"
 
@@ -31,7 +33,7 @@ row() {
     printf '%s\n' 'set -eu' 'sudo() { "$@"; }' 'rm -rf /clone && git clone -q /repo.git /clone && cd /clone' 'start=$(date +%s%N)' \
         "$3" 'echo "took $((($(date +%s%N) - start) / 1000000)) ms"' > "$debian/row.sh"
     if in_root bash /row.sh > "$dir/said" 2>&1; then
-        echo "$name: $(sed -n '$s/^took //p' "$dir/said")$installed"
+        echo "$name: $(sed -n 's/^took //p' "$dir/said")$installed"
     else
         tail -n 20 "$dir/said"
         echo "$name: FAILED"
@@ -58,8 +60,9 @@ cd /; python -c \"import wkt; assert wkt.canonical('point ( 1 2.50 )') == '$answ
 row "C, C++" "" "$(first "C, C++")"
 row Rust "$(packages Rust)" "rm -rf /tmp/mine && cargo new -q /tmp/mine && cd /tmp/mine; $(first Rust | sed 's,CLONE,/clone,')
 echo 'fn main() { print!(\"{}\", wkt_proved::canonical(\"point ( 1 2.50 )\", 6).unwrap().0) }' > src/main.rs; [ \"\$(cargo run -q)\" = '$answer' ]"
+printf '%s;\n' "$(cell PostgreSQL 2 | sed -n 2p)" "SELECT wkt_canonical('point ( 1 2.50 )')" 'DROP EXTENSION wkt' > "$debian/row.sql"
 row PostgreSQL "$(packages PostgreSQL)" "$(first PostgreSQL)
-service postgresql start; su postgres -c \"psql -qAtc '$(cell PostgreSQL 2 | sed -n 2p)' -c 'SELECT wkt_canonical(''POINT(1 2)'')' || true\"; su postgres -c \"psql -Atc \\\"SELECT wkt_canonical('point ( 1 2.50 )')\\\"\" | grep -qxF '$answer'; su postgres -c \"psql -qc 'DROP EXTENSION wkt'\"; service postgresql stop"
+service postgresql start; trap 'service postgresql stop' EXIT; su postgres -c 'psql -qAt -v ON_ERROR_STOP=1 -f /row.sql' | grep -xF '$answer'"
 row SQLite "$(packages SQLite)" "$(first SQLite) | grep -qx 'POINT(1 2)'"
 [ $failed = 0 ] && echo "$suite: each row of README was run from a fresh clone"
 exit $failed

@@ -85,7 +85,7 @@ in_root() { chroot "$dir/debian" env -i PATH=/usr/sbin:/usr/bin:/sbin:/bin DEBIA
 debs() {
     debootstrap --variant=minbase --include=python3-minimal,gcc,libc6-dev,pkg-config bookworm "$dir/debian" \
         "${DEBIAN_MIRROR:-http://deb.debian.org/debian}" > "$dir/log" 2>&1 || { tail -n 20 "$dir/log"; fail "debootstrap"; }
-    cp "$out"/*.deb "$root/capi/examples/show.c" "$dir/debian/tmp"
+    cp "$out"/*_"$(dpkg --print-architecture)".deb "$root/capi/examples/show.c" "$dir/debian/tmp"
     local deb
     for deb in wkt-tools libwkt0 libwkt-dev python3-wkt; do
         local start=$SECONDS
