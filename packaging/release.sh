@@ -24,7 +24,7 @@ mkdir -p "$to"/{prebuilt,include,capi,bin,tests,python}
 cp "$lib/wkt.h" "$to/include"
 cp "$root"/capi/{heap,pointers}.c "$to/capi"
 cp "$root"/LICENSE-* "$to"
-cp "$root"/capi/tests/{calls.c,calls.h,texts.c,columns.c,pointers.c} "$to/tests"
+cp "$root"/capi/tests/{calls.c,calls.h,texts.c,explain.c,columns.c,pointers.c} "$to/tests"
 cp -r "$root/python/wkt" "$to/python"
 [ ! -d "$root/python/src" ] || cp -r "$root/python/src" "$to/python"
 rm -rf "$to"/python/wkt/{libwkt.so,_fast*.so,__pycache__}

@@ -51,8 +51,13 @@ impl<'a> Explanation<'a> {
     pub fn hint(&self, places: u32) -> Option<Hint>
         ensures { result ≡ hint_at self.now.text.now self.now.start self.now.end self.now.expected places }
     {
-        let text = self.text.as_bytes();
-        hint_at(text, self.start, self.end, self.expected, places)
+        hint_at(
+            self.text.as_bytes(),
+            self.start,
+            self.end,
+            self.expected,
+            places,
+        )
     }
 }
 

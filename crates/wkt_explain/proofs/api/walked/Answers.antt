@@ -44,7 +44,6 @@ lexemes-preserved g c =
     subst (λ n. IsBefore g.T.WktNum.read c.args.text.now (coming c.see.new.tokens) n c.in-Some-next.next) (sym ends)
     (at_next g.T.WktNum.read c.args.text.now _ _ x _ _ c.lexemes.invariant e _ shows (sym c.is_over.ensures ∙ c.lexemes-test.true) c.in-Some-next.next c.in-Some-next.ensures.place c.in-Some-next.ensures.deeper)
 
-
 pub returns-clause-front : goal.returns-clause-front
 returns-clause-front g c = subst (EndsFront g.T.WktNum.read c.args.text.now) (sym c.end.ensures) (at_over g.T.WktNum.read c.args.text.now _ _ _ c.lexemes.invariant (sym c.is_over.ensures ∙ c.lexemes-test.false))
 
