@@ -45,6 +45,9 @@ grep -vqE '@@WKT_0$' "$dir/versioned" && fail "libwkt.so: a name of another vers
 sed 's/@.*//' "$dir/versioned" | sort > "$dir/exported"
 cmp -s "$dir/declared" "$dir/exported" || { diff "$dir/declared" "$dir/exported"; fail "libwkt.so: other names"; }
 echo "libwkt.so exports the $(wc -l < "$dir/exported") functions of wkt.h, and nothing else"
+while read -r name; do
+    grep -qw "$name" packaging/release/man/wkt.3 || fail "wkt.3 doesn't name $name"
+done < "$dir/declared"
 
 wrap="-Wl,--wrap=malloc -Wl,--wrap=realloc"
 # each NAME COMPILER FLAG..: the tests in C, compiled so
