@@ -1,17 +1,21 @@
 /* Well-known text, read and written by proved code: one text for one geometry, exact decimals, exact refusals.
  *
- * Numbers are decimals of `places` digits after the point: whole units of ten to the minus `places`, of which a
- * text's number may have up to 2^127. Nothing is rounded: a text with more digits after the point is refused.
- * `places` is 0 to 18.
+ * Numbers are decimals with up to `places` digits after the point, 0 to 18. Nothing is rounded: a text with more digits
+ * after the point is refused. A number may have up to 2^127 units of ten to the minus `places`.
  *
- * Every function answers a status. After any status but WKT_OK the caller's buffers are as they were (but for
- * wkt_lines_some), and so are the results (*needed, *end, *same, *sizes ..), but where a comment says that one is
- * set. Texts need no 0 at the end, and may hold any bytes. A buffer or text of size 0 may be NULL; any other pointer that
- * is NULL is refused with WKT_NULL_POINTER.
+ * Every function but the first three returns a status. After any status but WKT_OK the caller's buffers are as they were
+ * (but for wkt_lines_some), and so are the results (*needed, *end, *same, *sizes ..), but where a comment says that one is
+ * set. Texts need no 0 at the end, and may hold any bytes.
  *
- * Each function is proved to do what its comment says, in crates/wkt_c/src/exports.rt. Only tested, and not proved, are
- * wkt_version, that NULL is refused, what a call costs, and that memory suffices: a call that always answered
- * WKT_NO_MEMORY would be proved.
+ * Every call refuses, before it reads anything:
+ * - with WKT_NOT_SUPPORTED, everything where wkt_supported() is 0;
+ * - with WKT_NULL_POINTER, a pointer that is NULL. A buffer or text of size 0 may be NULL;
+ * - with WKT_TOO_LONG, a buffer or text of more than PTRDIFF_MAX bytes. A size counts items, of 1, 4 or 8 bytes each.
+ * Of the last two, the first parameter that is wrong decides.
+ *
+ * Each function from wkt_canonical on is proved to do what its comment says, in crates/wkt_c/src/exports*.rt. Only tested,
+ * and not proved, are the first three functions, those three statuses, what a call costs, and that memory suffices: a call
+ * that always returned WKT_NO_MEMORY would be proved.
  *
  * What a call costs: it checks its whole text for UTF-8, also behind the geometry. wkt_canonical, wkt_same and
  * wkt_same_ends take memory for twice the text, and none for texts of up to 200 bytes. So a reader that goes on from
@@ -19,13 +23,13 @@
  * A canonical text has at most twice the length of its text and 65 bytes more: a buffer of that size is never too small.
  *
  * What nothing checks, and a caller has to see to:
+ * - a pointer is aligned as its type asks: 8 bytes for int64_t, size_t, WktSizes and WktColumnSizes, 4 for uint32_t;
  * - no two pointers that are passed overlap, but for those that are only read; a size is that of its buffer;
  * - malloc, realloc and free come from one allocator; no call from a signal handler, nor in the forked child of a
- *   process with threads. Calls may run side by side on several threads: there is no state between calls;
+ *   process with threads. Calls may run side by side on several threads: no call depends on another;
  * - arrays that are passed to a call, offsets too, don't change while it runs.
  *
- * The library is built for x86-64 processors with SSE4.2 and POPCNT (x86-64-v2, all since about 2009). Loaded on another
- * it says so on standard error and ends the process. */
+ * docs/ABI.md says what a later version keeps. */
 #ifndef WKT_H
 #define WKT_H
 #include <stddef.h>
@@ -34,16 +38,17 @@
 extern "C" {
 #endif
 
-#define WKT_VERSION "0.14.0"
+#define WKT_VERSION "1.0.0"
 /* The version of the library that is linked; that of this header is WKT_VERSION. */
 const char *wkt_version(void);
 
-/* This version has wkt_explain, and no call takes stack for nesting. */
+/* This version has wkt_explain; no call takes stack for nesting; it has wkt_hint, wkt_supported and wkt_message. */
 #define WKT_HAS_EXPLAIN 1
 #define WKT_NO_STACK 1
+#define WKT_HAS_HINT 1
 
-/* Added to `places`: each text, or each row, is to be one geometry as a whole. One that has more than white space
- * behind its geometry is answered with WKT_NOT_WHOLE; a 0 byte is more. For the calls whose comment names it. */
+/* Added to `places`: each text, or each row, is to be one geometry as a whole. A text with more than white space behind its
+ * geometry gives WKT_NOT_WHOLE; a 0 byte is more. For the calls whose comment names it. */
 #define WKT_WHOLE 256u
 
 typedef uint32_t wkt_status;
@@ -51,7 +56,7 @@ typedef uint32_t wkt_status;
 /* Statuses. 1 to 14: the text begins with no geometry, and WKT_MESSAGES says why. */
 enum {
     WKT_OK = 0, /* Done */
-    WKT_BAD_NUMBER = 13, /* of the refusals, 1 to 14: some number is none of so many places, or too large */
+    WKT_BAD_NUMBER = 13, /* of the refusals, 1 to 14: a number has too many decimals, or is too large */
     WKT_LAST_REFUSAL = 14, /* Refused */
     WKT_NOT_UTF8 = 20, /* The text is not UTF-8 */
     WKT_TOO_SMALL = 21, /* A buffer has no room */
@@ -64,7 +69,9 @@ enum {
     WKT_NULL = 28, /* The row is null */
     WKT_ACCEPTED = 29, /* The text is not refused */
     WKT_NOT_WHOLE = 30, /* More than white space follows the geometry */
-    WKT_NULL_POINTER = 31 /* A pointer is NULL */
+    WKT_NULL_POINTER = 31, /* A pointer is NULL */
+    WKT_NOT_SUPPORTED = 32, /* The processor is not supported */
+    WKT_TOO_LONG = 33 /* A size is more than PTRDIFF_MAX */
 };
 /* Kinds. */
 enum {
@@ -97,6 +104,21 @@ enum {
     WKT_EXPECTED_MORE = 9, /* `,` or `)` */
     WKT_EXPECTED_CLOSING = 10 /* `)` */
 };
+/* Why a text is refused, as far as that is known. */
+enum {
+    WKT_HINT_NONE = 0,
+    WKT_HINT_BYTE_ORDER_MARK = 1, /* the text begins with a byte order mark */
+    WKT_HINT_HEXADECIMAL = 2, /* WKB in hexadecimal is not read; ST_AsText gives its text */
+    WKT_HINT_SRID = 3, /* SRID=..; of EWKT is not read; ST_AsText leaves it out */
+    WKT_HINT_CURVE = 4, /* curves are not read; ST_CurveToLine gives lines */
+    WKT_HINT_SURFACE = 5, /* triangles and surfaces are not read; polygons are */
+    WKT_HINT_EXPONENT = 6, /* exponents are not read; write 0.0000001 for 1e-7 */
+    WKT_HINT_NO_NUMBER = 7, /* NaN and infinity are no decimals; EMPTY says that there is no point */
+    WKT_HINT_PLACES = 8, /* numbers have at most %u places here */
+    WKT_HINT_LARGE = 9, /* the number is too large */
+    WKT_HINT_DIMENSION = 10, /* a third number needs Z or M, as in POINT Z(1 2 3), and a fourth ZM */
+    WKT_HINT_EMPTY = 11 /* what holds nothing is written EMPTY, without parentheses */
+};
 /* The words of a status, at its number. */
 #define WKT_MESSAGES { "", "Invalid WKT format", "Encountered non-ascii word", "Invalid type encountered", \
     "Unexpected word before open paren", "End of stream", "Missing open parenthesis for type", \
@@ -107,7 +129,8 @@ enum {
     "The text is not UTF-8", "A buffer has no room", "Out of memory", "There are no numbers of so many places", \
     "A collection has no flat arrays", "A number has more units than 64 bits hold", "The arrays are of no geometry", \
     "The offsets, the bits or the sizes are of no column", "The row is null", "The text is not refused", \
-    "More than white space follows the geometry", "A pointer is NULL" }
+    "More than white space follows the geometry", "A pointer is NULL", "The processor is not supported", \
+    "A size is more than PTRDIFF_MAX" }
 /* The words of the statuses 1 to 3 of wkt_infer. */
 #define WKT_HEADER_MESSAGES { "", "No kind word", "No space before EMPTY", "Neither a parenthesis nor EMPTY" }
 /* The kinds, at their numbers. */
@@ -124,9 +147,25 @@ enum {
 #define WKT_EXPECTED { "a kind of geometry, such as POINT,", "a member of the collection", "`(`, EMPTY, Z, M or ZM", \
     "`(` or EMPTY", "a first number, `(` or EMPTY", "a first number", "a second number", "a number z", "a number m", \
     "`,` or `)`", "`)`" }
+/* Why a text is refused, at the number of the hint; %u is the number of places. */
+#define WKT_HINTS { "", "the text begins with a byte order mark", \
+    "WKB in hexadecimal is not read; ST_AsText gives its text", \
+    "SRID=..; of EWKT is not read; ST_AsText leaves it out", "curves are not read; ST_CurveToLine gives lines", \
+    "triangles and surfaces are not read; polygons are", "exponents are not read; write 0.0000001 for 1e-7", \
+    "NaN and infinity are no decimals; EMPTY says that there is no point", "numbers have at most %u places here", \
+    "the number is too large", "a third number needs Z or M, as in POINT Z(1 2 3), and a fourth ZM", \
+    "what holds nothing is written EMPTY, without parentheses" }
 /* names.py: end */
+
+/* Whether this processor has what the library is built for: 1, or 0. On x86-64 that is SSE4.2 and POPCNT (x86-64-v2, all
+ * since about 2009); any aarch64 will do. */
+int wkt_supported(void);
+
+/* The words of a status, as WKT_MESSAGES has them; "" for WKT_OK and for a number that is no status. */
+const char *wkt_message(wkt_status status);
+
 /* Of a text that begins with no geometry the message is proved to be that of the table in docs/GRAMMAR.md; 14 never
- * comes. After WKT_TOO_SMALL the sizes that are needed are set, and so is the rest. WKT_NULL is of a row alone. A
+ * comes. After WKT_TOO_SMALL *needed and the other results that are no buffers are set. WKT_NULL is of a row alone. A
  * coordinate has 2, 3, 3 and 4 numbers, by its dimension. */
 
 /* The canonical text of the geometry that the text begins with. *end: where the geometry ends in the text; what
@@ -145,13 +184,18 @@ wkt_status wkt_same(const uint8_t *one, size_t one_len, const uint8_t *other, si
 wkt_status wkt_same_ends(const uint8_t *one, size_t one_len, const uint8_t *other, size_t other_len, uint32_t places,
                          uint32_t *same, size_t *end, size_t *other_end);
 
-/* Where a text is refused. WKT_OK: from byte *start to byte *stop of it is what is too much: those lexemes that stand
- * before it are the beginning of a geometry, and with it none can come any more. Nothing is from *start to *stop where
- * the text ends too early. *message: the number of the message, 1 to 14; *expected: of what could stand there, in
- * WKT_EXPECTED. WKT_ACCEPTED: the text begins with a geometry. 20, 23. It takes no memory. Of a bad number it doesn't say
- * whether it has an exponent, too many places or too many digits. */
+/* Where a text is refused. WKT_OK: the bytes from *start to before *stop are the first word, number or mark that can't
+ * stand there; *start is *stop where the text ends too early. *message: the number of the message, 1 to 14; *expected: what
+ * could stand there, in WKT_EXPECTED. WKT_ACCEPTED: the text begins with a geometry. With WKT_WHOLE, WKT_NOT_WHOLE: more
+ * than white space follows the geometry; *start is the first byte of it that is no white space, and *stop is text_len;
+ * *message and *expected are as they were. 20, 23. It takes no memory. */
 wkt_status wkt_explain(const uint8_t *text, size_t text_len, uint32_t places, uint32_t *message, size_t *start,
                        size_t *stop, uint32_t *expected);
+
+/* Why a text is refused, in a user's words: *hint is a number in WKT_HINTS, or 0 where nothing is known. It is of the bytes
+ * from *start to *stop of wkt_explain. The words of WKT_HINT_PLACES have a %u for the number of places that was asked for.
+ * WKT_ACCEPTED, WKT_NOT_WHOLE, 20, 23: as of wkt_explain. It takes no memory. */
+wkt_status wkt_hint(const uint8_t *text, size_t text_len, uint32_t places, uint32_t *hint);
 
 /* The kind and the dimension that the header of the text names; the rest is not read. 1: it begins with no kind word.
  * 2: EMPTY comes first, with no space before it. 3: there is neither a parenthesis nor EMPTY. 20, 22. */
@@ -179,7 +223,8 @@ wkt_status wkt_lines_some(const uint8_t *input, size_t input_len, uint32_t place
  * out_offsets[i] to out_offsets[i + 1]. statuses[i] is WKT_OK, or why row i has no text: 1..14, 20, WKT_NULL, or, with
  * WKT_WHOLE, WKT_NOT_WHOLE.
  * WKT_TOO_SMALL: *needed is their length, at most 2 * texts_len and a byte for each row. 22, 23. WKT_NOT_COLUMN: an offset
- * is less than the one before it, or past texts (as one below 0 is), or a size fits no such column. After any but WKT_OK the three buffers are as they were. */
+ * is less than the one before it, or past texts (as one below 0 is), or a size fits no such column. After any but WKT_OK
+ * the three buffers are as they were. */
 wkt_status wkt_column_canonical(const uint8_t *texts, size_t texts_len, const int64_t *offsets, size_t offsets_len,
                                 const uint8_t *valid, size_t valid_len, uint32_t places,
                                 uint8_t *out, size_t out_len, int64_t *out_offsets, size_t out_offsets_len,

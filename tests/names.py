@@ -1,5 +1,5 @@
 #!/usr/bin/env python3
-"""Keeps one list of names: the messages, statuses, kinds, dimensions and expectations of docs/names.tsv.
+"""Keeps one list of names: the messages, statuses, kinds, dimensions, expectations and hints of docs/names.tsv.
 
 names.py: whether each table is what the list says; if not, it is named and the status is 1. A file that lacks a table
 that it should have is named too. At the end it exchanges two names in each of the files, and wants to see that refused.
@@ -14,8 +14,9 @@ import sys
 
 TOP = os.path.dirname(os.path.dirname(os.path.abspath(__file__)))
 LIST = "docs/names.tsv"
-# Where the expectations have numbers.
+# Where the expectations and the hints have numbers.
 NUMBERED = "crates/wkt_c/specs/Explained.antt"
+HINTS = "crates/wkt_explain/src/hint.rt"
 # Which file has a table, and in which form.
 TABLES = {
     "include/wkt.h": "c",
@@ -99,6 +100,7 @@ def lists(groups):
         ("DIMENSIONS", "The dimensions, at their numbers.", names(groups, "dimension")),
         ("DIMENSION_WORDS", "What stands after a kind word for each.", words(groups, "dimension")),
         ("EXPECTED", "What could stand where a text is refused, at its number.", words(groups, "expected")),
+        ("HINTS", "Why a text is refused, at the number of the hint; %u is the number of places.", words(groups, "hint")),
     ]
 
 
@@ -113,12 +115,14 @@ def c_enum(what, rows):
 def c_table(groups):
     bad = next(row for row in groups["message"] if row.name == "BadNumber")
     statuses = [(row.name, row.number, row.text) for row in groups["status"]]
-    statuses.insert(1, ("BAD_NUMBER", bad.number, "of the refusals, 1 to 14: some number is none of so many places, or too large"))
+    statuses.insert(1, ("BAD_NUMBER", bad.number, "of the refusals, 1 to 14: a number has too many decimals, or is too large"))
     lines = c_enum("Statuses. 1 to 14: the text begins with no geometry, and WKT_MESSAGES says why.", statuses)
     lines += c_enum("Kinds.", [(row.text, row.number, "") for row in groups["kind"]])
     lines += c_enum("Dimensions.", [(row.name, row.number, "") for row in groups["dimension"]])
     expected = [("EXPECTED_" + capitals(row.name), row.number, row.text) for row in groups["expected"]]
     lines += c_enum("What could stand where a text is refused.", expected)
+    hints = [("HINT_" + capitals(row.name), row.number, row.text) for row in groups["hint"]]
+    lines += c_enum("Why a text is refused, as far as that is known.", hints)
     for name, what, items in lists(groups):
         lines += [f"/* {what} */"]
         lines += wrapped(f"#define WKT_{name} {{", items, " }", " \\", "    ", 118)
@@ -174,6 +178,9 @@ def by_hand(groups):
     bad = [row.text for row in messages if row.name == "BadNumber"]
     expected = [(row.name, row.text) for row in groups["expected"]]
     expected_numbers = [(row.name, str(row.number)) for row in groups["expected"]]
+    hints = [(row.name, row.text) for row in groups["hint"] if row.text and "%u" not in row.text]
+    with_places = [(row.name, row.text.replace("%u", "{places}")) for row in groups["hint"] if "%u" in row.text]
+    hint_numbers = [(row.name, str(row.number)) for row in groups["hint"] if row.number]
     constants = [(row.constant, str(row.number)) for row in groups["status"] if row.constant]
     source, spec = "crates/wkt_read/src/messages.rt", "crates/wkt_read/specs/Messages.antt"
     answer = "crates/wkt_c/specs/Answer.antt"
@@ -191,6 +198,9 @@ def by_hand(groups):
         (answer, "dimensions", r"^dimension_number (\w+) = (\d+)$", [(row.name, str(row.number)) for row in dimensions]),
         ("crates/wkt_c/src/status.rt", "statuses", r"^pub\(crate\) const (\w+): u32 = (\d+);$", constants),
         (NUMBERED, "expectations", r"^expected_number expected\.(\w+) = (\d+)$", expected_numbers),
+        (HINTS, "hints", r'Hint::(\w+) => "(.*)",$', hints),
+        (HINTS, "hints with a number", r'Hint::(\w+)\(places\) => return write!\(f, "(.*)"\),$', with_places),
+        (NUMBERED, "hints", r"^hint_number \(Some \(?hint\.(\w+)(?: most\))?\) = (\d+)$", hint_numbers),
     ]
 
 

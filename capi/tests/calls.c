@@ -1,5 +1,5 @@
 /* Every function and every status, with values worked by hand. It also refuses each growth of memory in turn: link it, with
- * texts.c, columns.c and pointers.c, with -Wl,--wrap=malloc -Wl,--wrap=realloc. */
+ * texts.c, explain.c, columns.c and pointers.c, with -Wl,--wrap=malloc -Wl,--wrap=realloc. */
 #include "calls.h"
 
 #ifdef __cplusplus
@@ -112,7 +112,12 @@ static void refusals(void) {
 }
 
 int main(void) {
+#ifdef PROCESSOR
+    test_processor();
+#endif
+    CHECK(wkt_supported() == 1);
     test_texts();
+    test_explain();
     test_columns();
     test_pointers();
     refusals();

@@ -27,6 +27,10 @@ void test_texts(void);
 
 /* pointers.c */
 void test_pointers(void);
+void test_processor(void);
+
+/* explain.c */
+void test_explain(void);
 
 /* columns.c */
 void test_columns(void);

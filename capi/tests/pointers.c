@@ -1,66 +1,71 @@
-/* A pointer that is NULL, each of each function in turn. */
+/* What each function refuses before it reads anything, at each pointer and size of it in turn: a pointer that is NULL, a size
+ * above PTRDIFF_MAX, and a processor that lacks something. */
 #include "calls.h"
 
 #define MOST 13
 #define AT(type, which) ((type *)given[which])
+#define OF(type, which) AT(type, which), sizes[which]
 
 /* What the pointers of a call point to, and the size that is passed of each that has one. */
 static uint64_t rooms[MOST][8];
 static void *given[MOST];
-static size_t n;
+static size_t sizes[MOST];
 
-/* A function with its pointers in the order of its parameters: how many they are, and the bits of those with a size. */
+/* A function with its pointers in the order of its parameters: of each the width of an item, or 0 of a result. */
 typedef struct {
     wkt_status (*call)(void);
-    int pointers;
-    unsigned sized;
+    const char *widths;
 } function;
 
-static wkt_status canonical(void) { return wkt_canonical(AT(uint8_t, 0), n, 6, AT(uint8_t, 1), n, AT(size_t, 2), AT(size_t, 3)); }
-static wkt_status same(void) { return wkt_same(AT(uint8_t, 0), n, AT(uint8_t, 1), n, 6, AT(uint32_t, 2)); }
+static wkt_status canonical(void) { return wkt_canonical(OF(uint8_t, 0), 6, OF(uint8_t, 1), AT(size_t, 2), AT(size_t, 3)); }
+static wkt_status same(void) { return wkt_same(OF(uint8_t, 0), OF(uint8_t, 1), 6, AT(uint32_t, 2)); }
 static wkt_status same_ends(void) {
-    return wkt_same_ends(AT(uint8_t, 0), n, AT(uint8_t, 1), n, 6, AT(uint32_t, 2), AT(size_t, 3), AT(size_t, 4));
+    return wkt_same_ends(OF(uint8_t, 0), OF(uint8_t, 1), 6, AT(uint32_t, 2), AT(size_t, 3), AT(size_t, 4));
 }
 static wkt_status explain(void) {
-    return wkt_explain(AT(uint8_t, 0), n, 6, AT(uint32_t, 1), AT(size_t, 2), AT(size_t, 3), AT(uint32_t, 4));
+    return wkt_explain(OF(uint8_t, 0), 6, AT(uint32_t, 1), AT(size_t, 2), AT(size_t, 3), AT(uint32_t, 4));
 }
-static wkt_status infer(void) { return wkt_infer(AT(uint8_t, 0), n, AT(uint32_t, 1), AT(uint32_t, 2)); }
-static wkt_status lines(void) { return wkt_lines(AT(uint8_t, 0), n, 6, AT(uint8_t, 1), n, AT(size_t, 2)); }
+static wkt_status hint(void) { return wkt_hint(OF(uint8_t, 0), 6, AT(uint32_t, 1)); }
+static wkt_status infer(void) { return wkt_infer(OF(uint8_t, 0), AT(uint32_t, 1), AT(uint32_t, 2)); }
+static wkt_status lines(void) { return wkt_lines(OF(uint8_t, 0), 6, OF(uint8_t, 1), AT(size_t, 2)); }
 static wkt_status lines_some(void) {
-    return wkt_lines_some(AT(uint8_t, 0), n, 6, 1, AT(uint8_t, 1), n, AT(size_t, 2), AT(size_t, 3));
+    return wkt_lines_some(OF(uint8_t, 0), 6, 1, OF(uint8_t, 1), AT(size_t, 2), AT(size_t, 3));
 }
 static wkt_status column_canonical(void) {
-    return wkt_column_canonical(AT(uint8_t, 0), n, AT(int64_t, 1), n, AT(uint8_t, 2), n, 6, AT(uint8_t, 3), n, AT(int64_t, 4), n,
-                                AT(wkt_status, 5), n, AT(size_t, 6));
+    return wkt_column_canonical(OF(uint8_t, 0), OF(int64_t, 1), OF(uint8_t, 2), 6, OF(uint8_t, 3), OF(int64_t, 4),
+                                OF(wkt_status, 5), AT(size_t, 6));
 }
 static wkt_status arrays(void) {
-    return wkt_arrays(AT(uint8_t, 0), n, 6, AT(WktSizes, 1), AT(int64_t, 2), n, AT(size_t, 3), n, AT(size_t, 4), n);
+    return wkt_arrays(OF(uint8_t, 0), 6, AT(WktSizes, 1), OF(int64_t, 2), OF(size_t, 3), OF(size_t, 4));
 }
 static wkt_status column_arrays(void) {
-    return wkt_column_arrays(AT(uint8_t, 0), n, AT(int64_t, 1), n, AT(uint8_t, 2), n, 6, AT(WktColumnSizes, 3), AT(uint32_t, 4), n,
-                             AT(uint32_t, 5), n, AT(int64_t, 6), n, AT(int64_t, 7), n, AT(size_t, 8), n, AT(int64_t, 9), n,
-                             AT(size_t, 10), n, AT(int64_t, 11), n, AT(wkt_status, 12), n);
+    return wkt_column_arrays(OF(uint8_t, 0), OF(int64_t, 1), OF(uint8_t, 2), 6, AT(WktColumnSizes, 3), OF(uint32_t, 4),
+                             OF(uint32_t, 5), OF(int64_t, 6), OF(int64_t, 7), OF(size_t, 8), OF(int64_t, 9),
+                             OF(size_t, 10), OF(int64_t, 11), OF(wkt_status, 12));
 }
 static wkt_status from_arrays(void) {
-    return wkt_from_arrays(0, 0, AT(int64_t, 0), n, AT(size_t, 1), n, AT(size_t, 2), n, 6, AT(uint8_t, 3), n, AT(size_t, 4));
+    return wkt_from_arrays(0, 0, OF(int64_t, 0), OF(size_t, 1), OF(size_t, 2), 6, OF(uint8_t, 3), AT(size_t, 4));
 }
 static wkt_status column_from_arrays(void) {
-    return wkt_column_from_arrays(AT(uint32_t, 0), n, AT(uint32_t, 1), n, AT(int64_t, 2), n, AT(int64_t, 3), n, AT(size_t, 4), n,
-                                  AT(int64_t, 5), n, AT(size_t, 6), n, AT(int64_t, 7), n, AT(uint8_t, 8), n, 6, AT(uint8_t, 9), n,
-                                  AT(int64_t, 10), n, AT(wkt_status, 11), n, AT(size_t, 12));
+    return wkt_column_from_arrays(OF(uint32_t, 0), OF(uint32_t, 1), OF(int64_t, 2), OF(int64_t, 3), OF(size_t, 4),
+                                  OF(int64_t, 5), OF(size_t, 6), OF(int64_t, 7), OF(uint8_t, 8), 6, OF(uint8_t, 9),
+                                  OF(int64_t, 10), OF(wkt_status, 11), AT(size_t, 12));
 }
 
 static const function functions[] = {
-    {canonical, 4, 0x3}, {same, 3, 0x3}, {same_ends, 5, 0x3}, {explain, 5, 0x1}, {infer, 3, 0x1}, {lines, 3, 0x3},
-    {lines_some, 4, 0x3}, {column_canonical, 7, 0x3f}, {arrays, 5, 0x1d}, {column_arrays, 13, 0x1ff7}, {from_arrays, 5, 0xf},
-    {column_from_arrays, 13, 0xfff},
+    {canonical, "1100"}, {same, "110"}, {same_ends, "11000"}, {explain, "10000"}, {hint, "10"}, {infer, "100"}, {lines, "110"},
+    {lines_some, "1100"}, {column_canonical, "1811840"}, {arrays, "10888"}, {column_arrays, "1810448888884"},
+    {from_arrays, "88810"}, {column_from_arrays, "4488888811840"},
 };
+#define FUNCTIONS (sizeof functions / sizeof *functions)
 
 static void reset(size_t size) {
     int i;
     memset(rooms, '#', sizeof rooms);
-    for (i = 0; i < MOST; i++) given[i] = rooms[i];
-    n = size;
+    for (i = 0; i < MOST; i++) {
+        given[i] = rooms[i];
+        sizes[i] = size;
+    }
 }
 
 static int rooms_untouched(void) {
@@ -71,25 +76,71 @@ static int rooms_untouched(void) {
     return 1;
 }
 
+static void test_null(const function *of, int i) {
+    reset(8);
+    given[i] = NULL;
+    CHECK(of->call() == WKT_NULL_POINTER && rooms_untouched());
+    sizes[i] = SIZE_MAX;
+    CHECK(of->call() == WKT_NULL_POINTER && rooms_untouched());
+    /* Of no size it may be NULL, and so not for a result. */
+    reset(0);
+    given[i] = NULL;
+    CHECK((of->call() == WKT_NULL_POINTER) == (of->widths[i] == '0'));
+}
+
+/* One item more than PTRDIFF_MAX bytes hold, and the most that a size can be. */
+static void test_long(const function *of, int i) {
+    size_t width = (size_t)(of->widths[i] - '0');
+    if (!width) return;
+    reset(8);
+    sizes[i] = PTRDIFF_MAX / width + 1;
+    CHECK(of->call() == WKT_TOO_LONG && rooms_untouched());
+    sizes[i] = SIZE_MAX;
+    CHECK(of->call() == WKT_TOO_LONG && rooms_untouched());
+}
+
+/* Room of as many bytes as a size may say is taken, as far as it is written to. */
+static void test_most(void) {
+    int64_t numbers[2];
+    size_t rings[2], polygons[2];
+    WktSizes found;
+    CHECK(wkt_canonical(BYTES("POINT(1 2)"), 6, out, PTRDIFF_MAX, &needed, &end_at) == WKT_OK && needed == 10);
+    CHECK(wkt_arrays(BYTES("POINT(1 2)"), 6, &found, numbers, PTRDIFF_MAX / 8, rings, 2, polygons, 2) == WKT_OK);
+    CHECK(numbers[0] == 1000000 && numbers[1] == 2000000);
+}
+
 void test_pointers(void) {
-    size_t f;
-    int i;
-    for (f = 0; f < sizeof functions / sizeof *functions; f++) {
+    size_t f, i;
+    for (f = 0; f < FUNCTIONS; f++) {
         const function *of = &functions[f];
-        for (i = 0; i < of->pointers; i++) {
-            reset(8);
-            given[i] = NULL;
-            CHECK(of->call() == WKT_NULL_POINTER && rooms_untouched());
-            /* Of no size it may be NULL, and so not for a result. */
-            reset(0);
-            given[i] = NULL;
-            CHECK((of->call() == WKT_NULL_POINTER) == !(of->sized >> i & 1));
+        for (i = 0; i < strlen(of->widths); i++) {
+            test_null(of, (int)i);
+            test_long(of, (int)i);
         }
         reset(8);
         CHECK(of->call() != WKT_NULL_POINTER);
         reset(0);
-        for (i = 0; i < of->pointers; i++)
-            if (of->sized >> i & 1) given[i] = NULL;
-        CHECK(of->call() != WKT_NULL_POINTER);
+        for (i = 0; i < strlen(of->widths); i++)
+            if (of->widths[i] != '0') given[i] = NULL;
+        CHECK(of->call() != WKT_NULL_POINTER && of->call() != WKT_TOO_LONG);
     }
+    test_most();
 }
+
+#ifdef PROCESSOR
+extern int processor_lacks;
+
+/* Each function answers so on a processor that lacks something, and nothing else is looked at. */
+void test_processor(void) {
+    size_t f;
+    CHECK(wkt_supported() == 0);
+    for (f = 0; f < FUNCTIONS; f++) {
+        reset(8);
+        CHECK(functions[f].call() == WKT_NOT_SUPPORTED && rooms_untouched());
+        memset(given, 0, sizeof given);
+        CHECK(functions[f].call() == WKT_NOT_SUPPORTED);
+    }
+    CHECK(!strcmp(wkt_version(), WKT_VERSION));
+    processor_lacks = 0;
+}
+#endif

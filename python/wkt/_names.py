@@ -34,6 +34,8 @@ MESSAGES = (
     "The text is not refused",
     "More than white space follows the geometry",
     "A pointer is NULL",
+    "The processor is not supported",
+    "A size is more than PTRDIFF_MAX",
 )
 # The words of the statuses 1 to 3 of wkt_infer.
 HEADER_MESSAGES = (
@@ -90,6 +92,21 @@ EXPECTED = (
     "`,` or `)`",
     "`)`",
 )
+# Why a text is refused, at the number of the hint; %u is the number of places.
+HINTS = (
+    "",
+    "the text begins with a byte order mark",
+    "WKB in hexadecimal is not read; ST_AsText gives its text",
+    "SRID=..; of EWKT is not read; ST_AsText leaves it out",
+    "curves are not read; ST_CurveToLine gives lines",
+    "triangles and surfaces are not read; polygons are",
+    "exponents are not read; write 0.0000001 for 1e-7",
+    "NaN and infinity are no decimals; EMPTY says that there is no point",
+    "numbers have at most %u places here",
+    "the number is too large",
+    "a third number needs Z or M, as in POINT Z(1 2 3), and a fourth ZM",
+    "what holds nothing is written EMPTY, without parentheses",
+)
 # Statuses.
 OK = 0
 LAST_REFUSAL = 14
@@ -105,4 +122,6 @@ NULL = 28
 ACCEPTED = 29
 NOT_WHOLE = 30
 NULL_POINTER = 31
+NOT_SUPPORTED = 32
+TOO_LONG = 33
 # names.py: end

@@ -25,6 +25,9 @@
 //!        ^ a second number was expected
 //! ```
 //!
+//! Which spelling of another tool stands there, if one is known, says [`Explanation::hint`]. Where the geometry of a text
+//! ends, and whether more follows it, says [`check`].
+//!
 //! # Compare
 //! `==` compares what is held. Whether two geometries have one text says [`same_geometry`], and `==` too, after
 //! `into_canonical`.
@@ -90,7 +93,7 @@ pub use same::same_geometry;
 pub use whole::{WholeError, read_whole};
 pub use wkt_convert::{ToWkt, ToWktError};
 pub use wkt_events::{TextWritten, canonical_into, front_end};
-pub use wkt_explain::{Expected, Explanation, Refusal, explain, refusal};
+pub use wkt_explain::{Expected, Explanation, Hint, Problem, Refusal, check, explain, refusal};
 pub use wkt_num::{Decimal, WktNum};
 pub use wkt_read::{FromWktStr, InferError, Message, ReadError, infer_type};
 

@@ -1,23 +1,16 @@
-//! Where a text is refused.
+//! Where a text is refused, and why.
 ghost use Rattle.std.specs.Prelude.{◌≡◌, ◌≤◌, MatchResult, IsUtf8};
-ghost use Rattle.wkt_c.specs.Answer.{read_at};
-ghost use Rattle.wkt_c.specs.Explained.{IsExplained, IsUnexplained, expected_number};
+ghost use Rattle.wkt_explain.specs.Problems.{IsAccepted, IsProblem};
+ghost use Rattle.wkt_c.specs.Answer.{read_at, places_in, asks_whole};
+ghost use Rattle.wkt_c.specs.Explained.{IsUnexplained, expected_number, hint_number};
 
+use crate::asked::{asks_whole, places_of};
 use crate::places::at_places;
 use crate::status::{ACCEPTED, NOT_TEXT};
-use wkt_explain::{Expected, refusal};
-use wkt_num::{Decimal, WktNum};
+use wkt_explain::{Expected, Hint, Problem, check};
+use wkt_num::Decimal;
 
-/// Where a text is refused, from which byte to which; the number of its message, and that of what could stand there.
-#[derive(Clone, Copy)]
-pub(crate) struct Place {
-    pub(crate) message: u32,
-    pub(crate) start: usize,
-    pub(crate) stop: usize,
-    pub(crate) expected: u32,
-}
-
-fn number_of(expected: Expected) -> u32
+pub(crate) fn number_of_expected(expected: Expected) -> u32
     ensures { result ≡ expected_number expected }
 {
     match expected {
@@ -35,35 +28,47 @@ fn number_of(expected: Expected) -> u32
     }
 }
 
-/// Where the text is refused, or the status of a text that isn't refused or no text.
-fn explained<const D: u32>(text: &[u8]) -> Result<Place, u32>
-    ensures { MatchResult result (λ p. IsExplained (read_at D) text.now p.message p.start p.stop p.expected) (IsUnexplained (read_at D) text.now) }
+pub(crate) fn number_of_hint(hint: Option<Hint>) -> u32
+    ensures { result ≡ hint_number hint }
 {
-    match str::from_utf8(text) {
-        Ok(text) => explained_text::<Decimal<D>>(text),
-        Err(_) => Err(NOT_TEXT),
+    let Some(hint) = hint else {
+        return 0;
+    };
+    match hint {
+        Hint::ByteOrderMark => 1,
+        Hint::Hexadecimal => 2,
+        Hint::Srid => 3,
+        Hint::Curve => 4,
+        Hint::Surface => 5,
+        Hint::Exponent => 6,
+        Hint::NoNumber => 7,
+        Hint::Places(_) => 8,
+        Hint::Large => 9,
+        Hint::Dimension => 10,
+        Hint::Empty => 11,
     }
 }
 
-fn explained_text<T: WktNum>(text: &str) -> Result<Place, u32>
-    requires { IsUtf8 text.now }
-    ensures { MatchResult result (λ p. IsExplained T.read text.now p.message p.start p.stop p.expected) (IsUnexplained T.read text.now) }
+fn checked<const D: u32>(text: &str, whole: bool) -> Result<usize, Problem>
+    ensures { MatchResult result (IsAccepted (read_at D) whole text.now) (IsProblem (read_at D) whole text.now) }
 {
-    match refusal::<T>(text) {
-        Some(why) => Ok(Place {
-            message: why.message.number(),
-            start: why.start,
-            stop: why.end,
-            expected: number_of(why.expected),
-        }),
-        None => Err(ACCEPTED),
-    }
+    check::<Decimal<D>>(text, whole)
 }
 
-/// The same, with decimals of so many places.
-pub(crate) fn explained_at(text: &[u8], places: u32) -> Result<Place, u32>
-    requires { places ≤ 18 }
-    ensures { MatchResult result (λ p. IsExplained (read_at places) text.now p.message p.start p.stop p.expected) (IsUnexplained (read_at places) text.now) }
+/// Why the text isn't accepted; or the status of a text that is accepted, or that is no text.
+pub(crate) fn problem(text: &[u8], asked: u32) -> Result<Problem, u32>
+    requires { places_in asked ≤ 18 }
+    ensures { MatchResult result
+        (λ p. IsUtf8 text.now × IsProblem (read_at (places_in asked)) (asks_whole asked) text.now p)
+        (IsUnexplained (read_at (places_in asked)) (asks_whole asked) text.now) }
 {
-    at_places!(places, explained(text), unreachable!())
+    let Ok(text) = str::from_utf8(text) else {
+        return Err(NOT_TEXT);
+    };
+    let whole = asks_whole(asked);
+    let places = places_of(asked);
+    match at_places!(places, checked(text, whole), unreachable!()) {
+        Ok(_) => Err(ACCEPTED),
+        Err(problem) => Ok(problem),
+    }
 }

@@ -5,7 +5,6 @@ ghost use Rattle.wkt_c.specs.Answer.{read_at, print_at, places_in, asks_whole, E
 ghost use Rattle.wkt_c.specs.Chunks.{AnswersSome, AnswersNone, ends_here};
 ghost use Rattle.wkt_c.specs.Column.{AreColumnAnswers, IsColumn, IsNoColumn, row_count};
 ghost use Rattle.wkt_c.specs.Arrays.{IsTextOf, IsNoTextAt, IsNotFlat, HasMoreAt};
-ghost use Rattle.wkt_c.specs.Explained.{IsExplained, IsUnexplained};
 ghost use Rattle.wkt_c.specs.Sizes.{AreHandedOut, HaveNoRoom};
 
 use crate::arrays_call::{arrays_long, arrays_short, is_short};
@@ -13,7 +12,6 @@ use crate::asked::{ends_as_asked, has_places};
 use crate::canonical::canonical;
 use crate::chunks::{is_last, some_at};
 use crate::column::{GivenColumn, Rows, answers, is_column};
-use crate::explain::explained_at;
 use crate::fill::{copy_whole, hand_out};
 use crate::infer::infer;
 use crate::lines::answers_at;
@@ -115,38 +113,6 @@ pub extern "C" fn wkt_same(
     let mut end = 0;
     let mut other_end = 0;
     wkt_same_ends(alloc, one, other, places, same, &mut end, &mut other_end)
-}
-
-/// Reports where `text` is refused: from byte `start` to byte `stop` is the lexeme that is too much, or nothing, where the
-/// text ends too early; `message` is the number of the message, and `expected` that of what could stand there. The
-/// status is 29 where the text isn't refused. Numbers are decimals of so many places.
-#[unsafe(no_mangle)]
-pub extern "C" fn wkt_explain(
-    text: &[u8],
-    places: u32,
-    message: &mut u32,
-    start: &mut usize,
-    stop: &mut usize,
-    expected: &mut u32,
-) -> u32
-    ensures explained { result ≡ DONE → IsExplained (read_at places) text.now message.new start.new stop.new expected.new }
-    ensures others { 1 ≤ result → HasNoPlaces places result ⊎ IsUnexplained (read_at places) text.now result }
-    ensures kept { 1 ≤ result → (message.new ≡ message.old) × (start.new ≡ start.old) × (stop.new ≡ stop.old)
-        × (expected.new ≡ expected.old) }
-{
-    if places > 18 {
-        return NO_PLACES;
-    }
-    match explained_at(text, places) {
-        Ok(place) => {
-            *message = place.message;
-            *start = place.start;
-            *stop = place.stop;
-            *expected = place.expected;
-            DONE
-        }
-        Err(status) => status,
-    }
 }
 
 /// Reports the kind (0 Point to 6 GeometryCollection) and the dimension (0 XY, 1 XYZ, 2 XYM, 3 XYZM) that the

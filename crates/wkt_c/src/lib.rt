@@ -18,6 +18,7 @@ mod column_texts;
 mod explain;
 mod exports;
 mod exports_arrays;
+mod exports_explain;
 mod fill;
 mod flat;
 mod gathered;

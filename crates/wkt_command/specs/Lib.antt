@@ -1,4 +1,3 @@
-pub mod Hints
 pub mod Place
 pub mod Seen
 pub mod Verdicts

@@ -9,7 +9,6 @@ mod dups;
 mod error;
 mod excerpt;
 mod help;
-mod hint;
 mod input;
 mod kind;
 mod numbers;

@@ -3,7 +3,6 @@ ghost use Rattle.std.specs.Prelude.{◌≡◌, ◌++◌, ◌+◌, ◌-◌, ◌^�
 ghost use Rattle.wkt_command.specs.Place.{line_after, place_text, utf8_text};
 
 use crate::excerpt::Excerpt;
-use crate::hint::hint_for;
 use crate::place::{byte_after, place_after};
 use std::alloc::AllocError;
 use std::fmt;
@@ -41,16 +40,6 @@ pub enum Refusal<'a> {
     Text(Explanation<'a>),
     /// More than white space follows its geometry, which ends at this byte.
     Rest(&'a str, usize),
-}
-
-/// The word from here on, which ends where white space, a parenthesis or a comma stands.
-fn word_at(text: &[u8], start: usize) -> &[u8] {
-    let rest = text.get(start..).unwrap_or(&[]);
-    let end = rest
-        .iter()
-        .position(|b| is_white(*b) || *b == b'(' || *b == b')' || *b == b',')
-        .unwrap_or(rest.len());
-    rest.get(..end).unwrap_or(&[])
 }
 
 /// The first place from here on where no white space stands.
@@ -97,7 +86,7 @@ pub fn push_refusal(
         Refusal::Text(why) => {
             let expected = why.expected;
             write!(out, "{expected} was expected")?;
-            if let Some(hint) = hint_for(expected, word_at(bytes, start), places) {
+            if let Some(hint) = why.hint(places) {
                 write!(out, " ({hint})")?;
             }
         }

@@ -18,7 +18,7 @@ use Rattle.wkt_explain.specs.declared.expected.Expected.TheVariants as expected
 use Rattle.wkt_explain.specs.declared.place.Place.{Place}
 use Rattle.wkt_explain.specs.declared.place.Walk.{Walk}
 use Rattle.wkt_explain.specs.declared.seen.Seen.{Seen}
-use Rattle.wkt_explain.specs.Explained.{HasFront, IsExpectedAfter, IsRefusedAt}
+use Rattle.wkt_explain.specs.Explained.{EndsFront, IsExpectedAfter, IsRefusedAt}
 use Rattle.wkt_explain.specs.Walks.{Shows, start, next, is_over, expected_at}
 use Rattle.wkt_explain.specs.Table.{reported, before_place, IsReportedAt}
 use Rattle.wkt_explain.specs.White.{IsPastWhite}
@@ -210,16 +210,16 @@ module _ {N : Type 0} (read : List ℕ → Option N) where
       pub reported_at_end : (to : ℕ) → IsPastWhite text end to → (m : Expected) → m ≡ expected_at w.place w.depth → (k : Message) → k ≡ reported read m (parens w) [] → IsReportedAt read text to to m k
       reported_at_end to past m em k ek = table_at to to m k (lexemes_of b.given) [] (refused_end to past m em) whole_end (parens w) b.counted ek
 
-    -- a geometry was walked over
-    pub at_over : (left : List Placed) (end : ℕ) (w : Walk) → IsBefore left end w → is_over w ≡ true → HasFront read text
+    -- a geometry was walked over, which ends where the last lexeme does
+    pub at_over : (left : List Placed) (end : ℕ) (w : Walk) → IsBefore left end w → is_over w ≡ true → EndsFront read text end
     at_over left end w b done =
         let ls : List Lexeme = lexemes_of b.given ++ lexemes_of left in
         let ok = over read w.place w.depth done (lexemes_of left) (whole ls) (b.stands (lexemes_of left)) in
         let (v, f, split, g) = read_whole read (length ls) ls (lexemes_of left) (omega arith) ok in
-        front_at read text b.given left (subst (AreEnds text) b.split (placed-ends text)) v f (lexemes_append b.given left ∙ split) g
+        subst (EndsFront read text) (sym b.ends) (front_at read text b.given left (subst (AreEnds text) b.split (placed-ends text)) v f (lexemes_append b.given left ∙ split) g)
 
     not_done : (left : List Placed) (end : ℕ) (w : Walk) → IsBefore left end w → HasNoFront read text → (o : Bool) → is_over w ≡ o → o ≡ false
-    not_done left end w b none true is = let (v, to, front) = at_over left end w b is in absurd (none v to front)
+    not_done left end w b none true is = let (v, front) = at_over left end w b is in absurd (none v end front)
     not_done left end w b none false is = refl
 
     -- where the text has no geometry at its front, none was walked over

@@ -21,7 +21,7 @@ use Rattle.wkt_read.proofs.ParserLemmas.Readings.{value_part, sound}
 use Rattle.wkt_read.proofs.ParserLemmas.Early.{dead, just}
 use Rattle.wkt_read.proofs.ParserLemmas.Free.{none_begins}
 use Rattle.wkt_explain.specs.declared.expected.Expected.{Expected}
-use Rattle.wkt_explain.specs.Explained.{HasFront, IsExpectedAfter, IsTooMuch, IsTooShort}
+use Rattle.wkt_explain.specs.Explained.{EndsFront, IsExpectedAfter, IsTooMuch, IsTooShort}
 use Rattle.wkt_explain.specs.White.{IsPastWhite}
 use Rattle.wkt_explain.specs.declared.expected.Expected.TheVariants as expected
 use Rattle.wkt_explain.proofs.Marks.{Fault, value_m}
@@ -153,7 +153,7 @@ module _ {N : Type 0} (read : List ℕ → Option N) (text : List ℕ) where
       }
 
   -- where the walk is over there is a front
-  pub front_at : (given later : List Placed) → AreEnds text (given ++ later) → (v : Value N) (f : List Lexeme) → lexemes_of (given ++ later) ≡ f ++ lexemes_of later → StandFor read f v → HasFront read text
+  pub front_at : (given later : List Placed) → AreEnds text (given ++ later) → (v : Value N) (f : List Lexeme) → lexemes_of (given ++ later) ≡ f ++ lexemes_of later → StandFor read f v → EndsFront read text (end_after 0 given)
   front_at given later are v f split g =
       let same : lexemes_of given ≡ f = append_cancel_right (lexemes_of given) f (lexemes_of later) (sym (lexemes_append given later) ∙ split) in
-      (v, end_after 0 given, front-of-lexemes read text given later v are (subst (λ l. StandFor read l v) (sym same) g))
+      (v, front-of-lexemes read text given later v are (subst (λ l. StandFor read l v) (sym same) g))

@@ -12,6 +12,10 @@ use Rattle.wkt_read.specs.Early.{IsJustDead}
 use Rattle.wkt_explain.specs.declared.expected.Expected.{Expected}
 use Rattle.wkt_explain.specs.declared.expected.Expected.TheVariants as expected
 
+-- A geometry at the text's front ends there.
+abbrev pub EndsFront : {N : Type 0} → (List ℕ → Option N) → List ℕ → ℕ → Type 0
+EndsFront {N} read text end = (v : Value N) × Front read text v end
+
 -- The text has a geometry at its front.
 abbrev pub HasFront : {N : Type 0} → (List ℕ → Option N) → List ℕ → Type 0
 HasFront {N} read text = (v : Value N) × (end : ℕ) × Front read text v end

@@ -1,4 +1,6 @@
 pub mod Explained
+pub mod Hints
+pub mod Problems
 pub mod Table
 pub mod Walks
 pub mod White

@@ -1,4 +1,4 @@
--- White space between lexemes. Only private contracts cite this file.
+-- White space between lexemes, and behind them.
 use Rattle.std.specs.Prelude.{◌≡◌, ℕ, ◌≤◌, List, ◌++◌, length, drop}
 use Rattle.wkt_num.specs.Bytes.{White, AllWhite}
 use Rattle.wkt_read.specs.Lexemes.{StartsOther}

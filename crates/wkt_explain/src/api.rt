@@ -1,11 +1,11 @@
 //! Where a text is refused.
-ghost use Rattle.std.specs.Prelude.{◌≡◌, ◌≤◌, length, IfNone, IfSome, OnSome, IfOk};
+ghost use Rattle.std.specs.Prelude.{◌≡◌, ◌≤◌, length, IfNone, IfSome, OnSome, IfOk, IfErr, OnErr};
 ghost use Rattle.std.specs.Result.{IsOk};
 ghost use Rattle.wkt_read.specs.Answered.{HasBadNumber};
 ghost use Rattle.wkt_read.specs.Front.{HasNoFront};
 ghost use Rattle.wkt_read.specs.Items.{bad_number};
 ghost use Rattle.wkt_read.specs.Refusal.{IsRefusedWith, IsTextRefused};
-ghost use Rattle.wkt_explain.specs.Explained.{HasFront, IsRefusedAt, IsPart};
+ghost use Rattle.wkt_explain.specs.Explained.{EndsFront, HasFront, IsRefusedAt, IsPart};
 ghost use Rattle.wkt_explain.specs.Table.{IsReportedAt};
 ghost use Rattle.wkt_explain.specs.Walks.{Begins};
 ghost use Rattle.wkt_explain.specs.White.{IsPastWhite};
@@ -20,7 +20,7 @@ use wkt_read::words::is_white;
 use wkt_read::{Message, Tokens};
 
 // The first place from here on where no white space stands.
-fn past_white(text: &[u8], from: usize) -> usize
+pub(crate) fn past_white(text: &[u8], from: usize) -> usize
     requires within { from ≤ length text.now }
     ensures { IsPastWhite text.now from result }
 {
@@ -64,6 +64,45 @@ pub fn message<T: WktNum>(text: &str) -> Message
     }
 }
 
+// Where the geometry ends that the text begins with, or where the text is refused.
+pub(crate) fn walked<T: WktNum>(text: &str) -> Result<usize, Refusal>
+    ensures front { IfOk result (λ end. EndsFront T.read text.now end) }
+    ensures within { IfOk result (λ end. end ≤ length text.now) }
+    ensures no_front { OnErr result (HasNoFront T.read text.now) }
+    ensures place { IfErr result (λ r. IsRefusedAt T.read text.now r.start r.end r.expected) }
+    ensures part { IfErr result (λ r. IsPart text.now r.start r.end) }
+    ensures message { IfErr result (λ r. IsRefusedWith T.read text.now r.message) }
+    ensures table { IfErr result (λ r. IsReportedAt T.read text.now r.start r.end r.expected r.message) }
+{
+    let mut tokens = Tokens::<T>::from_str(text);
+    let mut walk = Walk::start();
+    'lexemes: while !walk.is_over() {
+        let before = tokens.end();
+        let Some(seen) = see(&mut tokens) else {
+            let expected = walk.expected();
+            let end = past_white(text.as_bytes(), before);
+            return Err(Refusal {
+                message: message_at_end::<T>(walk, expected),
+                start: end,
+                end,
+                expected,
+            });
+        };
+        let Some(next) = walk.next(seen) else {
+            let expected = walk.expected();
+            let end = tokens.end();
+            return Err(Refusal {
+                message: message_there(walk, expected, seen, tokens),
+                start: past_white(text.as_bytes(), before),
+                end,
+                expected,
+            });
+        };
+        walk = next;
+    }
+    Ok(tokens.end())
+}
+
 /// Where a text is refused, with which message, and what could stand there; `None` where it has a geometry at its
 /// front. It takes no memory, and no stack for nesting.
 ///
@@ -85,33 +124,10 @@ pub fn refusal<T: WktNum>(text: &str) -> Option<Refusal>
     ensures message { IfSome result (λ r. IsRefusedWith T.read text.now r.message) }
     ensures table { IfSome result (λ r. IsReportedAt T.read text.now r.start r.end r.expected r.message) }
 {
-    let mut tokens = Tokens::<T>::from_str(text);
-    let mut walk = Walk::start();
-    'lexemes: while !walk.is_over() {
-        let before = tokens.end();
-        let Some(seen) = see(&mut tokens) else {
-            let expected = walk.expected();
-            let end = past_white(text.as_bytes(), before);
-            return Some(Refusal {
-                message: message_at_end::<T>(walk, expected),
-                start: end,
-                end,
-                expected,
-            });
-        };
-        let Some(next) = walk.next(seen) else {
-            let expected = walk.expected();
-            let end = tokens.end();
-            return Some(Refusal {
-                message: message_there(walk, expected, seen, tokens),
-                start: past_white(text.as_bytes(), before),
-                end,
-                expected,
-            });
-        };
-        walk = next;
+    match walked::<T>(text) {
+        Ok(_) => None,
+        Err(why) => Some(why),
     }
-    None
 }
 
 /// Where and why a text is refused, with the text, to be displayed; `None` where it has a geometry at its front. What

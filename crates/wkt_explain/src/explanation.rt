@@ -1,5 +1,9 @@
 //! A refusal, and how it is shown.
+ghost use Rattle.std.specs.Prelude.{◌≡◌};
+ghost use Rattle.wkt_explain.specs.Hints.{hint_at};
+
 use crate::expected::Expected;
+use crate::hint::{Hint, hint_at};
 use std::fmt;
 use std::fmt::Formatter;
 use wkt_read::Message;
@@ -30,6 +34,31 @@ pub struct Explanation<'a> {
     pub end: usize,
     /// What could stand there in its place.
     pub expected: Expected,
+}
+
+impl Refusal {
+    /// What the lexeme may come from that is refused, of the text that is passed, where numbers have so many places; none
+    /// where nothing is known.
+    pub fn hint(&self, text: &[u8], places: u32) -> Option<Hint>
+        ensures { result ≡ hint_at text.now self.now.start self.now.end self.now.expected places }
+    {
+        hint_at(text, self.start, self.end, self.expected, places)
+    }
+}
+
+impl<'a> Explanation<'a> {
+    /// What the lexeme may come from that is refused, where numbers have so many places; none where nothing is known.
+    pub fn hint(&self, places: u32) -> Option<Hint>
+        ensures { result ≡ hint_at self.now.text.now self.now.start self.now.end self.now.expected places }
+    {
+        hint_at(
+            self.text.as_bytes(),
+            self.start,
+            self.end,
+            self.expected,
+            places,
+        )
+    }
 }
 
 /// The line in which the place is, and below it a mark under the place and what could stand there.

@@ -6,13 +6,17 @@
 mod api;
 mod expected;
 mod explanation;
+mod hint;
 pub mod laws;
 mod place;
 mod seen;
 mod shape;
 mod table;
 mod walk;
+mod whole;
 
 pub use api::{explain, message, refusal};
 pub use expected::Expected;
 pub use explanation::{Explanation, Refusal};
+pub use hint::Hint;
+pub use whole::{Problem, check};

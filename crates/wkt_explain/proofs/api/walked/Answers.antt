@@ -1,13 +1,13 @@
 use Rattle.std.proofs.Common.{[], ◌∷◌, sym, ap, ◌∙◌, subst}
 use Rattle.wkt_read.specs.Placed.{lexemes_of}
 use Rattle.wkt_read.specs.Stream.{coming}
-use Rattle.wkt_explain.specs.Explained.{IsRefusedAt}
+use Rattle.wkt_explain.specs.Explained.{EndsFront, IsRefusedAt}
 use Rattle.wkt_explain.specs.Table.{reported, IsReportedAt}
 use Rattle.wkt_explain.proofs.Counts.{own_parens}
 use Rattle.wkt_explain.proofs.Borders.{part}
 use Rattle.wkt_explain.proofs.Finding.{IsBefore, at_start, at_next, none_at_fault, at_fault, message_at_fault, reported_at_fault, none_at_end, at_end, message_at_end, reported_at_end, at_over, past_same}
 use Rattle.wkt_explain.proofs.Streams.{sees_some, sees_none}
-use Rattle.wkt_explain.proofs.api.refusal.Goals as goal
+use Rattle.wkt_explain.proofs.api.walked.Goals as goal
 
 pub lexemes-init : goal.lexemes-init
 lexemes-init g c = at_start g.T.WktNum.read c.args.text.now _ _ _ c.from_str-tokens.ensures.placed c.from_str-tokens.ensures.start c.start-walk.ensures
@@ -45,7 +45,7 @@ lexemes-preserved g c =
     (at_next g.T.WktNum.read c.args.text.now _ _ x _ _ c.lexemes.invariant e _ shows (sym c.is_over.ensures ∙ c.lexemes-test.true) c.in-Some-next.next c.in-Some-next.ensures.place c.in-Some-next.ensures.deeper)
 
 pub returns-clause-front : goal.returns-clause-front
-returns-clause-front g c = at_over g.T.WktNum.read c.args.text.now _ _ _ c.lexemes.invariant (sym c.is_over.ensures ∙ c.lexemes-test.false)
+returns-clause-front g c = subst (EndsFront g.T.WktNum.read c.args.text.now) (sym c.end.ensures) (at_over g.T.WktNum.read c.args.text.now _ _ _ c.lexemes.invariant (sym c.is_over.ensures ∙ c.lexemes-test.false))
 
 pub returns-in_default-clause-message : goal.returns-in_default-clause-message
 returns-in_default-clause-message g c =

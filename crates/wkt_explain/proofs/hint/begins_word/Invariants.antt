@@ -2,7 +2,7 @@
 use Rattle.std.proofs.Common.{◌≡◌, length}
 use Rattle.std.specs.Str.{str_to_ascii_uppercase}
 use Rattle.wkt_read.specs.Header.{begins}
-use Rattle.wkt_command.proofs.hint.begins_word.Given as goal
+use Rattle.wkt_explain.proofs.hint.begins_word.Given as goal
 
 abbrev pub invariant-byte : goal.invariant-byte
 invariant-byte l = begins l.left (str_to_ascii_uppercase l.rest) ≡ begins l.front (str_to_ascii_uppercase l.text)

@@ -1,35 +1,47 @@
 //! What a lexeme that is refused may come from: spellings of other tools.
-ghost use Rattle.std.specs.Prelude.{◌≡◌, false};
+ghost use Rattle.std.specs.Prelude.{◌≡◌, ◌-◌, take, drop, false};
 ghost use Rattle.std.specs.List.{list_all};
 ghost use Rattle.std.specs.Char.{is_ascii_hexdigit};
 ghost use Rattle.std.specs.Str.{str_to_ascii_uppercase};
 ghost use Rattle.std.specs.Str.Parse.{without_leading_sign};
 ghost use Rattle.wkt_read.specs.Header.{begins};
-ghost use Rattle.wkt_command.specs.Hints.{begins_word, is_hexadecimal, is_curve, is_surface, kind_hint, begins_number, has_exponent, kept_after, places_in, number_hint, hint_of};
+ghost use Rattle.wkt_explain.specs.Hints.{begins_word, is_hexadecimal, is_curve, is_surface, kind_hint, begins_number, has_exponent, kept_after, places_in, number_hint, is_empty_pair, word_hint, hint_at};
 
+use crate::expected::Expected;
 use std::fmt;
 use std::fmt::Formatter;
-use wkt_explain::Expected;
 
-/// What a lexeme that is refused may come from.
+/// What a lexeme that is refused may come from. Displayed, it says what to write instead.
 #[derive(Clone, Copy, PartialEq, Eq, Debug)]
 pub enum Hint {
+    /// A byte order mark, in place of a kind word.
     ByteOrderMark,
+    /// Well-known binary in hexadecimal digits.
     Hexadecimal,
+    /// The `SRID=..;` of EWKT.
     Srid,
+    /// A kind with curves.
     Curve,
+    /// A kind of surface that isn't read.
     Surface,
+    /// A number with an exponent.
     Exponent,
+    /// NaN or infinity.
     NoNumber,
+    /// A number with more than so many places.
     Places(u32),
+    /// A number that is too large.
     Large,
+    /// A number after the last of a coordinate.
     Dimension,
+    /// Parentheses with nothing between them.
+    Empty,
 }
 
 impl fmt::Display for Hint {
     fn fmt<W: fmt::Write>(&self, f: &mut Formatter<W>) -> fmt::Result {
         f.write_str(match self {
-            Hint::ByteOrderMark => "the file begins with a byte order mark",
+            Hint::ByteOrderMark => "the text begins with a byte order mark",
             Hint::Hexadecimal => "WKB in hexadecimal is not read; ST_AsText gives its text",
             Hint::Srid => "SRID=..; of EWKT is not read; ST_AsText leaves it out",
             Hint::Curve => "curves are not read; ST_CurveToLine gives lines",
@@ -39,6 +51,7 @@ impl fmt::Display for Hint {
             Hint::Places(places) => return write!(f, "numbers have at most {places} places here"),
             Hint::Large => "the number is too large",
             Hint::Dimension => "a third number needs Z or M, as in POINT Z(1 2 3), and a fourth ZM",
+            Hint::Empty => "what holds nothing is written EMPTY, without parentheses",
         })
     }
 }
@@ -228,8 +241,8 @@ fn of_number(digits: &[u8], places: u32) -> Option<Hint>
 }
 
 /// What the word at the place of a refusal may come from, where this was expected there.
-pub fn hint_for(expected: Expected, word: &[u8], places: u32) -> Option<Hint>
-    ensures { result ≡ hint_of expected word.now places }
+fn of_word(expected: Expected, word: &[u8], places: u32) -> Option<Hint>
+    ensures { result ≡ word_hint expected word.now places }
 {
     match expected {
         Expected::Kind | Expected::Member => of_kind(word),
@@ -241,4 +254,47 @@ pub fn hint_for(expected: Expected, word: &[u8], places: u32) -> Option<Hint>
         }
         _ => None,
     }
+}
+
+/// Whether `)` stands at the place, right behind `(`.
+fn is_empty_pair(text: &[u8], start: usize) -> bool
+    ensures { result ≡ is_empty_pair start text.now }
+{
+    start > 0 && begins(b"()", from_place(text, start - 1))
+}
+
+/// The text from a place on.
+fn from_place(text: &[u8], start: usize) -> &[u8]
+    ensures { result.now ≡ drop start text.now }
+{
+    if start < text.len() {
+        &text[start..]
+    } else {
+        &[]
+    }
+}
+
+/// The text from one place to another.
+fn between(text: &[u8], start: usize, end: usize) -> &[u8]
+    ensures { result.now ≡ take (end - start) (drop start text.now) }
+{
+    let rest = from_place(text, start);
+    let len = end.saturating_sub(start);
+    if len < rest.len() { &rest[..len] } else { rest }
+}
+
+/// What may stand from one place of a text to another, where this was expected.
+pub(crate) fn hint_at(
+    text: &[u8],
+    start: usize,
+    end: usize,
+    expected: Expected,
+    places: u32,
+) -> Option<Hint>
+    ensures { result ≡ hint_at text.now start end expected places }
+{
+    if is_empty_pair(text, start) {
+        return Some(Hint::Empty);
+    }
+    of_word(expected, between(text, start, end), places)
 }

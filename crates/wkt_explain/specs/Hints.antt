@@ -1,5 +1,5 @@
--- What a refused word may come from.
-use Rattle.std.specs.Prelude.{ℕ, suc, zero, List, [], ◌∷◌, length, Bool, true, false, not, ◌&&◌, ◌||◌, ◌==◌, nat_lt, nat_le, codes, Option, Some, None, if◌then◌else◌}
+-- What a refused lexeme may come from.
+use Rattle.std.specs.Prelude.{ℕ, suc, zero, ◌-◌, List, [], ◌∷◌, length, take, drop, Bool, true, false, not, ◌&&◌, ◌||◌, ◌==◌, nat_lt, nat_le, codes, Option, Some, None, if◌then◌else◌}
 use Rattle.std.specs.List.{list_any, list_all}
 use Rattle.std.specs.Char.{is_ascii_digit, is_ascii_hexdigit}
 use Rattle.std.specs.Str.{str_to_ascii_uppercase}
@@ -7,8 +7,8 @@ use Rattle.std.specs.Str.Parse.{without_leading_sign}
 use Rattle.wkt_read.specs.Header.{begins}
 use Rattle.wkt_explain.specs.declared.expected.Expected.{Expected}
 use Rattle.wkt_explain.specs.declared.expected.Expected.TheVariants as expected
-use Rattle.wkt_command.specs.declared.hint.Hint.{Hint}
-use Rattle.wkt_command.specs.declared.hint.Hint.TheVariants as hint
+use Rattle.wkt_explain.specs.declared.hint.Hint.{Hint}
+use Rattle.wkt_explain.specs.declared.hint.Hint.TheVariants as hint
 
 -- Whether a word begins with these capitals, in whatever case.
 abbrev pub begins_word : List ℕ → List ℕ → Bool
@@ -73,15 +73,24 @@ number_hint most ds =
     else places_hint most (places_in false ds)))
 
 -- What the word at the place of a refusal may come from, by what was expected there.
-abbrev pub hint_of : Expected → List ℕ → ℕ → Option Hint
-hint_of expected.Kind w most = kind_hint w
-hint_of expected.Member w most = kind_hint w
-hint_of expected.Point w most = number_hint most (without_leading_sign w)
-hint_of expected.X w most = number_hint most (without_leading_sign w)
-hint_of expected.Y w most = number_hint most (without_leading_sign w)
-hint_of expected.Z w most = number_hint most (without_leading_sign w)
-hint_of expected.M w most = number_hint most (without_leading_sign w)
-hint_of expected.More w most = if begins_number (without_leading_sign w) then Some hint.Dimension else None
-hint_of expected.Closing w most = if begins_number (without_leading_sign w) then Some hint.Dimension else None
-hint_of expected.Dimension w most = None
-hint_of expected.Opening w most = None
+abbrev pub word_hint : Expected → List ℕ → ℕ → Option Hint
+word_hint expected.Kind w most = kind_hint w
+word_hint expected.Member w most = kind_hint w
+word_hint expected.Point w most = number_hint most (without_leading_sign w)
+word_hint expected.X w most = number_hint most (without_leading_sign w)
+word_hint expected.Y w most = number_hint most (without_leading_sign w)
+word_hint expected.Z w most = number_hint most (without_leading_sign w)
+word_hint expected.M w most = number_hint most (without_leading_sign w)
+word_hint expected.More w most = if begins_number (without_leading_sign w) then Some hint.Dimension else None
+word_hint expected.Closing w most = if begins_number (without_leading_sign w) then Some hint.Dimension else None
+word_hint expected.Dimension w most = None
+word_hint expected.Opening w most = None
+
+-- `)` stands at this place, right behind `(`.
+abbrev pub is_empty_pair : ℕ → List ℕ → Bool
+is_empty_pair zero text = false
+is_empty_pair (suc before) text = begins (codes "()") (drop before text)
+
+-- What a text that is refused from one place to another may come from, by what was expected there.
+abbrev pub hint_at : List ℕ → ℕ → ℕ → Expected → ℕ → Option Hint
+hint_at text start end e most = if is_empty_pair start text then Some hint.Empty else word_hint e (take (end - start) (drop start text)) most

@@ -1,0 +1,161 @@
+/* Where a text is refused, and why: wkt_explain with WKT_WHOLE, wkt_hint, and the words of a status. */
+#include "calls.h"
+
+/* A text, the number of places, and the hint. For each hint texts that have it and texts that nearly have it; the words of
+ * docs/names.tsv say what each hint is. */
+static const struct { const char *text; uint32_t places, hint; } hints[] = {
+    {"\xef\xbb\xbfPOINT(1 2)", 6, WKT_HINT_BYTE_ORDER_MARK},
+    {"\xef\xbb\xbf", 6, WKT_HINT_BYTE_ORDER_MARK},
+    {"\xef\xbb\xbePOINT(1 2)", 6, WKT_HINT_NONE},
+    {"POINT(\xef\xbb\xbf" "1 2)", 6, WKT_HINT_NONE},
+    {"0101000000000000000000F03F0000000000000040", 6, WKT_HINT_HEXADECIMAL},
+    {"00000000013ff00000000000004000000000000000", 6, WKT_HINT_HEXADECIMAL},
+    {"0101000000", 6, WKT_HINT_HEXADECIMAL},
+    {"010100000", 6, WKT_HINT_NONE},
+    {"0201000000000000000000F03F0000000000000040", 6, WKT_HINT_NONE},
+    {"0101000000000000000000G03F0000000000000040", 6, WKT_HINT_NONE},
+    {"SRID=4326;POINT(1 2)", 6, WKT_HINT_SRID},
+    {"srid=0; POINT(1 2)", 6, WKT_HINT_SRID},
+    {"SRID4326;POINT(1 2)", 6, WKT_HINT_NONE},
+    {"SRID =4326;POINT(1 2)", 6, WKT_HINT_NONE},
+    {"CURVEPOLYGON((0 0,1 1,1 0,0 0))", 6, WKT_HINT_CURVE},
+    {"circularstring z (0 0 0,1 1 1)", 6, WKT_HINT_CURVE},
+    {"GEOMETRYCOLLECTION(COMPOUNDCURVE((0 0,1 1)))", 6, WKT_HINT_CURVE},
+    {"MULTICURVE((0 0,1 1))", 6, WKT_HINT_CURVE},
+    {"MultiSurface(((0 0,1 1,1 0,0 0)))", 6, WKT_HINT_CURVE},
+    {"CURVE(0 0,1 1)", 6, WKT_HINT_NONE},
+    {"CIRCULAR STRING(0 0,1 1)", 6, WKT_HINT_NONE},
+    {"TIN(((0 0,1 1,1 0,0 0)))", 6, WKT_HINT_SURFACE},
+    {"GEOMETRYCOLLECTION(TRIANGLE((0 0,1 1,1 0,0 0)))", 6, WKT_HINT_SURFACE},
+    {"polyhedralsurface(((0 0,1 1,1 0,0 0)))", 6, WKT_HINT_SURFACE},
+    {"SURFACE((0 0,1 1,1 0,0 0))", 6, WKT_HINT_NONE},
+    {"TI(((0 0,1 1,1 0,0 0)))", 6, WKT_HINT_NONE},
+    {"POINT(1e-7 2)", 18, WKT_HINT_EXPONENT},
+    {"POINT(1 -2.5E3)", 6, WKT_HINT_EXPONENT},
+    {"POINT(e7 2)", 6, WKT_HINT_NONE},
+    {"POINT(1_7 2)", 6, WKT_HINT_NONE},
+    {"POINT(nan nan)", 6, WKT_HINT_NO_NUMBER},
+    {"MULTIPOINT(1 2,-Inf 3)", 6, WKT_HINT_NO_NUMBER},
+    {"POINT(1 1.#QNAN)", 6, WKT_HINT_NO_NUMBER},
+    {"POINT(na 2)", 6, WKT_HINT_NONE},
+    {"POINT(1.QNAN 2)", 6, WKT_HINT_NONE},
+    {"POINT(0.1234567 2)", 6, WKT_HINT_PLACES},
+    {"POINT Z(1 2 -3.5)", 0, WKT_HINT_PLACES},
+    {"POINT(0.1234567890123456789 2)", 18, WKT_HINT_PLACES},
+    {"POINT(0.12.3456 2)", 3, WKT_HINT_NONE},
+    {"POINT(1 1000000000000000000000000000000000000000)", 18, WKT_HINT_LARGE},
+    {"POINT(-170141183460469231731687303715884105729 0)", 0, WKT_HINT_LARGE},
+    {"POINT(1700000000000000000000a 0)", 0, WKT_HINT_NONE},
+    {"POINT(1 2 3)", 6, WKT_HINT_DIMENSION},
+    {"LINESTRING(1 2 3,4 5 6)", 6, WKT_HINT_DIMENSION},
+    {"POINT M(1 2 3 4)", 6, WKT_HINT_DIMENSION},
+    {"POINT(1 2 x)", 6, WKT_HINT_NONE},
+    {"POINT Z(1 2)", 6, WKT_HINT_NONE},
+    {"POINT()", 6, WKT_HINT_EMPTY},
+    {"POLYGON(())", 6, WKT_HINT_EMPTY},
+    {"GEOMETRYCOLLECTION()", 6, WKT_HINT_EMPTY},
+    {"MULTIPOINT(1 2,())", 6, WKT_HINT_EMPTY},
+    {"multipolygon z ()", 6, WKT_HINT_EMPTY},
+    {"POINT( )", 6, WKT_HINT_NONE},
+    {"()", 6, WKT_HINT_NONE},
+    {")", 6, WKT_HINT_NONE},
+    {"MULTIPOINT(1 2,)", 6, WKT_HINT_NONE},
+    {"POINT(", 6, WKT_HINT_NONE},
+    {"POINT(1)", 6, WKT_HINT_NONE},
+    {"", 6, WKT_HINT_NONE},
+};
+
+static void test_hints(void) {
+    size_t i;
+    for (i = 0; i < sizeof hints / sizeof *hints; i++) {
+        uint32_t hint = 99, of_whole = 99;
+        growths = 0;
+        CHECK(wkt_hint(BYTES(hints[i].text), hints[i].places, &hint) == WKT_OK && hint == hints[i].hint);
+        CHECK(wkt_hint(BYTES(hints[i].text), hints[i].places | WKT_WHOLE, &of_whole) == WKT_OK && of_whole == hint);
+        CHECK(growths == 0);
+    }
+}
+
+/* The hint's status where it isn't WKT_OK, and that it is left as it was. */
+static wkt_status no_hint(const char *text, uint32_t places) {
+    uint32_t hint = 99;
+    wkt_status status = wkt_hint(BYTES(text), places, &hint);
+    CHECK(hint == 99);
+    return status;
+}
+
+static void test_no_hints(void) {
+    /* Nearly refused: as many places as are asked for, behind zeros; the largest number. */
+    CHECK(no_hint("POINT(0.1234560 2)", 6) == WKT_ACCEPTED);
+    CHECK(no_hint("POINT(1.0 2)", 0) == WKT_ACCEPTED);
+    CHECK(no_hint("POINT(170141183460469231731687303715884105727 0)", 0) == WKT_ACCEPTED);
+    CHECK(no_hint("POINT(1 2))", 6) == WKT_ACCEPTED);
+    CHECK(no_hint("POINT(1 2)", 6 | WKT_WHOLE) == WKT_ACCEPTED);
+    CHECK(no_hint("POINT(1 2))", 6 | WKT_WHOLE) == WKT_NOT_WHOLE);
+    CHECK(no_hint("POINT()\xff", 6) == WKT_NOT_UTF8);
+    CHECK(no_hint("POINT(1 2)", 19) == WKT_NO_PLACES);
+    CHECK(no_hint("POINT()", 19 | WKT_WHOLE) == WKT_NO_PLACES);
+    CHECK(no_hint("POINT()", 255) == WKT_NO_PLACES);
+    CHECK(no_hint("POINT()", UINT32_MAX) == WKT_NO_PLACES);
+}
+
+/* What follows a geometry: where it begins, or 0 where nothing does. */
+static const struct { const char *text; size_t size, rest; } wholes[] = {
+    {"POINT(1 2)", 10, 0},
+    {"  POINT ( 1 2 ) \t\r\n", 19, 0},
+    {"POINT(1 2) x", 12, 11},
+    {"POINT(1 2)x", 11, 10},
+    {"POINT(1 2) \t\r\n POINT(3 4)", 25, 15},
+    {"POINT(1 2))", 11, 10},
+    {"POINT(1 2)\0", 11, 10},
+    {"POINT EMPTY \xc3\xa9", 14, 12},
+    {"GEOMETRYCOLLECTION(POINT(1 2)) ,", 32, 31},
+};
+
+static void test_wholes(void) {
+    size_t i;
+    for (i = 0; i < sizeof wholes / sizeof *wholes; i++) {
+        const uint8_t *text = (const uint8_t *)wholes[i].text;
+        size_t size = wholes[i].size, rest = wholes[i].rest, start = 99, stop = 99;
+        uint32_t message = 99, expected = 99, hint = 99;
+        wkt_status wanted = rest ? WKT_NOT_WHOLE : WKT_ACCEPTED;
+        growths = 0;
+        CHECK(wkt_explain(text, size, 6, &message, &start, &stop, &expected) == WKT_ACCEPTED && start == 99 && stop == 99);
+        CHECK(wkt_explain(text, size, 6 | WKT_WHOLE, &message, &start, &stop, &expected) == wanted);
+        CHECK(rest ? start == rest && stop == size : start == 99 && stop == 99);
+        CHECK(message == 99 && expected == 99 && growths == 0);
+        CHECK(wkt_hint(text, size, 6 | WKT_WHOLE, &hint) == wanted && hint == 99);
+    }
+}
+
+static void test_refused_wholes(void) {
+    size_t start = 99, stop = 99;
+    uint32_t message = 99, expected = 99;
+    CHECK(wkt_explain(BYTES("POINT(1) x"), 6 | WKT_WHOLE, &message, &start, &stop, &expected) == WKT_OK);
+    CHECK(start == 7 && stop == 8 && message == 7 && expected == WKT_EXPECTED_Y);
+    CHECK(wkt_explain(BYTES("POINT(1 2)\xff"), 6 | WKT_WHOLE, &message, &start, &stop, &expected) == WKT_NOT_UTF8);
+    CHECK(wkt_explain(BYTES("POINT(1)"), 19 | WKT_WHOLE, &message, &start, &stop, &expected) == WKT_NO_PLACES);
+    CHECK(wkt_explain(BYTES("POINT(1)"), 255, &message, &start, &stop, &expected) == WKT_NO_PLACES);
+    CHECK(wkt_explain(BYTES("POINT(1) x"), 18 | WKT_WHOLE, &message, &start, &stop, &expected) == WKT_OK);
+    CHECK(start == 7 && stop == 8 && message == 7 && expected == WKT_EXPECTED_Y);
+}
+
+static void test_words(void) {
+    static const char *const messages[] = WKT_MESSAGES;
+    static const char *const words[] = WKT_HINTS;
+    uint32_t status, count = sizeof messages / sizeof *messages;
+    for (status = 0; status < count; status++) CHECK(!strcmp(wkt_message(status), messages[status]));
+    CHECK(!strcmp(wkt_message(WKT_OK), "") && !strcmp(wkt_message(count), "") && !strcmp(wkt_message(UINT32_MAX), ""));
+    CHECK(!strcmp(wkt_message(7), "Missing closing parenthesis for type"));
+    CHECK(!strcmp(wkt_message(WKT_NOT_SUPPORTED), "The processor is not supported"));
+    CHECK(!strcmp(wkt_message(WKT_TOO_LONG), "A size is more than PTRDIFF_MAX"));
+    CHECK(sizeof words / sizeof *words == WKT_HINT_EMPTY + 1 && strstr(words[WKT_HINT_PLACES], "%u"));
+}
+
+void test_explain(void) {
+    test_hints();
+    test_no_hints();
+    test_wholes();
+    test_refused_wholes();
+    test_words();
+}

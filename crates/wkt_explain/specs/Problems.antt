@@ -1,0 +1,37 @@
+-- Whether a text is accepted, and what follows its geometry.
+use Rattle.std.specs.Prelude.{◌≡◌, ◌<◌, ℕ, List, length, drop, Option, Bool, true}
+use Rattle.wkt_num.specs.Bytes.{AllWhite}
+use Rattle.wkt_read.specs.Front.{HasNoFront}
+use Rattle.wkt_read.specs.Refusal.{IsRefusedWith}
+use Rattle.wkt_explain.specs.Explained.{EndsFront, IsRefusedAt, IsPart}
+use Rattle.wkt_explain.specs.Table.{IsReportedAt}
+use Rattle.wkt_explain.specs.White.{IsPastWhite}
+use Rattle.wkt_explain.specs.declared.explanation.Refusal.{Refusal}
+use Rattle.wkt_explain.specs.declared.whole.Problem.{Problem}
+use Rattle.wkt_explain.specs.declared.whole.Problem.TheVariants.{Refused, Rest}
+
+module _ {N : Type 0} (read : List ℕ → Option N) where
+  -- The text begins with a geometry, which ends there; where whole texts are asked for, white space alone follows it.
+  pub record IsAccepted (whole : Bool) (text : List ℕ) (end : ℕ) : Type 0 where
+    pub front : EndsFront read text end
+    pub blank : whole ≡ true → AllWhite (drop end text)
+
+  -- The text begins with a geometry, behind which more than white space follows, from this byte on.
+  pub record HasRest (text : List ℕ) (at : ℕ) : Type 0 where
+    pub end : ℕ
+    pub front : EndsFront read text end
+    pub past : IsPastWhite text end at
+    pub more : at < length text
+
+  -- The text begins with no geometry: where it is refused, what could stand there, and with which message.
+  pub record IsRefusal (text : List ℕ) (r : Refusal) : Type 0 where
+    pub none : HasNoFront read text
+    pub place : IsRefusedAt read text r.start r.end r.expected
+    pub part : IsPart text r.start r.end
+    pub message : IsRefusedWith read text r.message
+    pub table : IsReportedAt read text r.start r.end r.expected r.message
+
+  -- Why a text isn't accepted.
+  abbrev pub IsProblem : Bool → List ℕ → Problem → Type 0
+  IsProblem whole text (Refused r) = IsRefusal text r
+  IsProblem whole text (Rest at) = (whole ≡ true) × HasRest text at

@@ -1,0 +1,42 @@
+//! Whether a text is accepted, and what follows its geometry.
+ghost use Rattle.std.specs.Prelude.{MatchResult};
+ghost use Rattle.wkt_explain.specs.Problems.{IsAccepted, IsProblem};
+
+use crate::api::{past_white, walked};
+use crate::explanation::Refusal;
+use wkt_num::WktNum;
+
+/// Why a text isn't accepted.
+#[derive(Clone, Copy, PartialEq, Eq, Debug)]
+pub enum Problem {
+    /// It begins with no geometry.
+    Refused(Refusal),
+    /// More than white space follows its geometry, from this byte on.
+    Rest(usize),
+}
+
+/// Where the geometry ends that the text begins with, in bytes. It takes no memory, and no stack for nesting.
+///
+/// ```text
+/// check::<Decimal<6>>("POINT(1 2) and more", false) // Ok(10)
+/// check::<Decimal<6>>("POINT(1 2) and more", true) // Err(Problem::Rest(11))
+/// ```
+///
+/// # Errors
+/// The text begins with no geometry: what `refusal` says. Or, where a whole text is asked for, more than white space follows
+/// its geometry.
+pub fn check<T: WktNum>(text: &str, whole: bool) -> Result<usize, Problem>
+    ensures { MatchResult result (IsAccepted T.read whole text.now) (IsProblem T.read whole text.now) }
+{
+    let end = match walked::<T>(text) {
+        Ok(end) => end,
+        Err(why) => return Err(Problem::Refused(why)),
+    };
+    if whole {
+        let rest = past_white(text.as_bytes(), end);
+        if rest < text.len() {
+            return Err(Problem::Rest(rest));
+        }
+    }
+    Ok(end)
+}
