@@ -1,6 +1,8 @@
 /* The type wkt. Its bytes are those of a canonical text, and its modifier is the places. */
 #include "wkt_pg.h"
 
+#include <ctype.h>
+
 #include "common/hashfn.h"
 #include "libpq/pqformat.h"
 #include "utils/array.h"
@@ -11,21 +13,45 @@
 #define CONTEXT(fcinfo) NULL
 #endif
 
+/* The places of a modifier; -1 is none. */
 static uint32_t places_of_modifier(int32 modifier) {
-    return modifier < 0 ? MOST_PLACES : (uint32_t)modifier;
+    return modifier < 0 ? MOST_PLACES : places_of(modifier);
 }
 
-static Datum value_of(Node *context, Question asked) {
+/* Whether some number of a canonical text has so many digits in a row that it may not fit with 18 places. */
+#define MANY_DIGITS 21
+static bool has_long_number(const char *at, size_t length) {
+    size_t last = MANY_DIGITS - 1;
+    while (last < length) {
+        size_t back = 0;
+        while (back < MANY_DIGITS && isdigit((unsigned char)at[last - back])) back++;
+        if (back == MANY_DIGITS) return true;
+        last += MANY_DIGITS - back;
+    }
+    return false;
+}
+
+/* The value of a text under a modifier. Each value of wkt(n) is one of wkt too, so that a column of either takes what the
+ * other holds, as when a dump is restored: its numbers fit with 18 places. */
+static bool has_value(Question *asked, int32 modifier, text **answer, Refusal *why) {
+    asked->places = places_of_modifier(modifier);
+    if (!canonical_of(asked, answer, why)) return false;
+    if (asked->places == MOST_PLACES || !has_long_number(VARDATA(*answer), VARSIZE(*answer) - VARHDRSZ)) return true;
+    asked->places = MOST_PLACES;
+    return canonical_of(asked, NULL, why);
+}
+
+static Datum value_of(Node *context, Question asked, int32 modifier) {
     text *answer;
     Refusal why;
-    if (!canonical_of(&asked, &answer, &why)) return refuse(context, &asked, &why);
+    if (!has_value(&asked, modifier, &answer, &why)) return refuse(context, &asked, &why);
     PG_RETURN_TEXT_P(answer);
 }
 
 PG_FUNCTION_INFO_V1(pg_wkt_in);
 Datum pg_wkt_in(PG_FUNCTION_ARGS) {
     char *given = PG_GETARG_CSTRING(0);
-    return value_of(CONTEXT(fcinfo), question_of(given, strlen(given), places_of_modifier(PG_GETARG_INT32(2))));
+    return value_of(CONTEXT(fcinfo), question_of(given, strlen(given), MOST_PLACES), PG_GETARG_INT32(2));
 }
 
 PG_FUNCTION_INFO_V1(pg_wkt_out);
@@ -38,7 +64,7 @@ Datum pg_wkt_recv(PG_FUNCTION_ARGS) {
     StringInfo message = (StringInfo)PG_GETARG_POINTER(0);
     int length;
     char *given = pq_getmsgtext(message, message->len - message->cursor, &length);
-    return value_of(NULL, question_of(given, length, places_of_modifier(PG_GETARG_INT32(2))));
+    return value_of(NULL, question_of(given, length, MOST_PLACES), PG_GETARG_INT32(2));
 }
 
 PG_FUNCTION_INFO_V1(pg_wkt_send);
@@ -67,7 +93,7 @@ Datum pg_wkt_typmod_out(PG_FUNCTION_ARGS) {
 /* A text as a wkt, or a wkt under another modifier: more digits than that has places for are refused. */
 PG_FUNCTION_INFO_V1(pg_wkt_cast);
 Datum pg_wkt_cast(PG_FUNCTION_ARGS) {
-    return value_of(NULL, question_of_text(PG_GETARG_TEXT_PP(0), places_of_modifier(PG_GETARG_INT32(1))));
+    return value_of(NULL, question_of_text(PG_GETARG_TEXT_PP(0), MOST_PLACES), PG_GETARG_INT32(1));
 }
 
 /* The order is that of the bytes: there is no collation, so no index that a new C library makes wrong. */
