@@ -45,7 +45,7 @@ as make -s installcheck PG_CONFIG="$config" WKT_LIB_DIR="$wkt" > regress.log 2>&
 
 . "$here/tests/keys.sh"
 . "$here/tests/cancel.sh"
-. "$here/tests/versions.sh"
+. "$here/tests/updates.sh"
 . "$here/tests/dump.sh"
 . "$here/tests/roles.sh"
 [ $status = 0 ] && echo "PostgreSQL $("$bin/postgres" --version | sed 's/[^0-9.]* //;s/ .*//'): all as expected"

@@ -3,7 +3,6 @@
 
 #include <ctype.h>
 
-#include "common/hashfn.h"
 #include "libpq/pqformat.h"
 #include "utils/array.h"
 #include "utils/builtins.h"
@@ -94,43 +93,4 @@ Datum pg_wkt_typmod_out(PG_FUNCTION_ARGS) {
 PG_FUNCTION_INFO_V1(pg_wkt_cast);
 Datum pg_wkt_cast(PG_FUNCTION_ARGS) {
     return value_of(NULL, question_of_text(PG_GETARG_TEXT_PP(0), MOST_PLACES), PG_GETARG_INT32(1));
-}
-
-/* The order is that of the bytes: there is no collation, so no index that a new C library makes wrong. */
-static int compare(FunctionCallInfo fcinfo) {
-    text *a = PG_GETARG_TEXT_PP(0), *b = PG_GETARG_TEXT_PP(1);
-    int n = VARSIZE_ANY_EXHDR(a), m = VARSIZE_ANY_EXHDR(b);
-    int order = memcmp(VARDATA_ANY(a), VARDATA_ANY(b), Min(n, m));
-    PG_FREE_IF_COPY(a, 0);
-    PG_FREE_IF_COPY(b, 1);
-    return order ? order : n < m ? -1 : n > m;
-}
-
-#define COMPARISON(name, answer)   \
-    PG_FUNCTION_INFO_V1(name);     \
-    Datum name(PG_FUNCTION_ARGS) { \
-        answer;                    \
-    }
-COMPARISON(pg_wkt_cmp, PG_RETURN_INT32(compare(fcinfo)))
-COMPARISON(pg_wkt_eq, PG_RETURN_BOOL(compare(fcinfo) == 0))
-COMPARISON(pg_wkt_ne, PG_RETURN_BOOL(compare(fcinfo) != 0))
-COMPARISON(pg_wkt_lt, PG_RETURN_BOOL(compare(fcinfo) < 0))
-COMPARISON(pg_wkt_le, PG_RETURN_BOOL(compare(fcinfo) <= 0))
-COMPARISON(pg_wkt_gt, PG_RETURN_BOOL(compare(fcinfo) > 0))
-COMPARISON(pg_wkt_ge, PG_RETURN_BOOL(compare(fcinfo) >= 0))
-
-PG_FUNCTION_INFO_V1(pg_wkt_hash);
-Datum pg_wkt_hash(PG_FUNCTION_ARGS) {
-    text *held = PG_GETARG_TEXT_PP(0);
-    Datum hash = hash_any((unsigned char *)VARDATA_ANY(held), VARSIZE_ANY_EXHDR(held));
-    PG_FREE_IF_COPY(held, 0);
-    return hash;
-}
-
-PG_FUNCTION_INFO_V1(pg_wkt_hash_extended);
-Datum pg_wkt_hash_extended(PG_FUNCTION_ARGS) {
-    text *held = PG_GETARG_TEXT_PP(0);
-    Datum hash = hash_any_extended((unsigned char *)VARDATA_ANY(held), VARSIZE_ANY_EXHDR(held), PG_GETARG_INT64(1));
-    PG_FREE_IF_COPY(held, 0);
-    return hash;
 }
