@@ -34,6 +34,7 @@ fails() {
 objects="select string_agg(pg_describe_object(classid, objid, objsubid), ',' order by pg_describe_object(classid, objid, objsubid))
     from pg_depend d join pg_extension e on refobjid = e.oid and refclassid = 'pg_extension'::regclass where extname = 'wkt'"
 
+is "version: that of the header" "$(sed -n 's/^#define WKT_VERSION "\(.*\)"/\1/p' "$wkt/wkt.h")" "$(ask postgres "create extension wkt" "select wkt_version()" "drop extension wkt")"
 . "$here/tests/private.sh"
 . "$here/tests/build.sh"
 # The statements of sql/, whose answers are in expected/, as `make installcheck` runs them on any server.

@@ -23,6 +23,31 @@ CREATE OR REPLACE FUNCTION wkt_hash_extended(wkt, int8) RETURNS int8
 ALTER OPERATOR FAMILY wkt_ops USING btree ADD
     FUNCTION 2 (wkt, wkt) bytea_sortsupport(internal), FUNCTION 4 (wkt, wkt) btequalimage(oid);
 
+-- The first and the last in that order.
+CREATE FUNCTION wkt_smaller(wkt, wkt) RETURNS wkt
+    AS 'MODULE_PATHNAME', 'pg_wkt_smaller' LANGUAGE C IMMUTABLE STRICT PARALLEL SAFE;
+CREATE FUNCTION wkt_larger(wkt, wkt) RETURNS wkt
+    AS 'MODULE_PATHNAME', 'pg_wkt_larger' LANGUAGE C IMMUTABLE STRICT PARALLEL SAFE;
+CREATE AGGREGATE min(wkt) (SFUNC = wkt_smaller, STYPE = wkt, SORTOP = <, COMBINEFUNC = wkt_smaller, PARALLEL = SAFE);
+CREATE AGGREGATE max(wkt) (SFUNC = wkt_larger, STYPE = wkt, SORTOP = >, COMBINEFUNC = wkt_larger, PARALLEL = SAFE);
+
+CREATE FUNCTION wkt_or_null(text, places int DEFAULT 18) RETURNS wkt
+    AS 'MODULE_PATHNAME', 'pg_wkt_or_null' LANGUAGE C IMMUTABLE STRICT PARALLEL SAFE COST 10;
+COMMENT ON FUNCTION wkt_or_null(text, int) IS 'the value of a text; null where it is refused';
+CREATE FUNCTION length(wkt) RETURNS int4
+    AS 'byteaoctetlen' LANGUAGE internal IMMUTABLE STRICT PARALLEL SAFE;
+COMMENT ON FUNCTION length(wkt) IS 'the number of characters, which are ASCII';
+CREATE FUNCTION wkt_version() RETURNS text
+    AS 'MODULE_PATHNAME', 'pg_wkt_version' LANGUAGE C STABLE STRICT PARALLEL SAFE;
+COMMENT ON FUNCTION wkt_version() IS 'the version of the library that answers';
+
+-- A wkt may be assigned to a text, and a wider modifier rewrites no table.
+DROP CAST (wkt AS text);
+CREATE CAST (wkt AS text) WITHOUT FUNCTION AS ASSIGNMENT;
+CREATE FUNCTION wkt_support(internal) RETURNS internal
+    AS 'MODULE_PATHNAME', 'pg_wkt_support' LANGUAGE C IMMUTABLE STRICT PARALLEL SAFE;
+ALTER FUNCTION wkt(wkt, int4, bool) SUPPORT wkt_support;
+
 -- A value of wkt(n) is one of wkt from now on, so that a dump can be restored. Columns that hold others are named.
 DO $$
 DECLARE

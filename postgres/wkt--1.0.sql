@@ -16,6 +16,9 @@ COMMENT ON FUNCTION wkt_explain(text, int) IS 'where a text is refused, and what
 CREATE FUNCTION wkt_kind(text) RETURNS text
     AS 'MODULE_PATHNAME', 'pg_wkt_kind' LANGUAGE C IMMUTABLE STRICT PARALLEL SAFE;
 COMMENT ON FUNCTION wkt_kind(text) IS 'the kind and dimension that the header of a text names';
+CREATE FUNCTION wkt_version() RETURNS text
+    AS 'MODULE_PATHNAME', 'pg_wkt_version' LANGUAGE C STABLE STRICT PARALLEL SAFE;
+COMMENT ON FUNCTION wkt_version() IS 'the version of the library that answers';
 
 -- The type: a value is a canonical text, so equal values are one geometry. wkt(6): numbers of at most six places.
 CREATE TYPE wkt;
@@ -39,13 +42,22 @@ CREATE TYPE wkt (
 );
 CREATE FUNCTION wkt(text, int4, bool) RETURNS wkt
     AS 'MODULE_PATHNAME', 'pg_wkt_cast' LANGUAGE C IMMUTABLE STRICT PARALLEL SAFE;
+CREATE FUNCTION wkt_support(internal) RETURNS internal
+    AS 'MODULE_PATHNAME', 'pg_wkt_support' LANGUAGE C IMMUTABLE STRICT PARALLEL SAFE;
 CREATE FUNCTION wkt(wkt, int4, bool) RETURNS wkt
-    AS 'MODULE_PATHNAME', 'pg_wkt_cast' LANGUAGE C IMMUTABLE STRICT PARALLEL SAFE;
--- Casts between wkt and text are explicit: else wkt = text would compare the bytes of a text that isn't canonical. The
--- third applies the modifier of a column, with no word of the caller's, as that of varchar does.
+    AS 'MODULE_PATHNAME', 'pg_wkt_cast' LANGUAGE C IMMUTABLE STRICT PARALLEL SAFE SUPPORT wkt_support;
+-- A text is cast explicitly: else wkt = text would compare the bytes of a text that isn't canonical. A wkt may be assigned
+-- to a text. The third cast applies the modifier of a column, as that of varchar does, and rewrites no table where the
+-- modifier is wider.
 CREATE CAST (text AS wkt) WITH FUNCTION wkt(text, int4, bool);
-CREATE CAST (wkt AS text) WITHOUT FUNCTION;
+CREATE CAST (wkt AS text) WITHOUT FUNCTION AS ASSIGNMENT;
 CREATE CAST (wkt AS wkt) WITH FUNCTION wkt(wkt, int4, bool) AS IMPLICIT;
+CREATE FUNCTION wkt_or_null(text, places int DEFAULT 18) RETURNS wkt
+    AS 'MODULE_PATHNAME', 'pg_wkt_or_null' LANGUAGE C IMMUTABLE STRICT PARALLEL SAFE COST 10;
+COMMENT ON FUNCTION wkt_or_null(text, int) IS 'the value of a text; null where it is refused';
+CREATE FUNCTION length(wkt) RETURNS int4
+    AS 'byteaoctetlen' LANGUAGE internal IMMUTABLE STRICT PARALLEL SAFE;
+COMMENT ON FUNCTION length(wkt) IS 'the number of characters, which are ASCII';
 CREATE FUNCTION wkt_kind(wkt) RETURNS text
     AS 'MODULE_PATHNAME', 'pg_wkt_kind' LANGUAGE C IMMUTABLE STRICT PARALLEL SAFE;
 
@@ -86,3 +98,11 @@ CREATE OPERATOR CLASS wkt_ops DEFAULT FOR TYPE wkt USING btree AS
     FUNCTION 1 wkt_cmp(wkt, wkt), FUNCTION 2 bytea_sortsupport(internal), FUNCTION 4 btequalimage(oid);
 CREATE OPERATOR CLASS wkt_ops DEFAULT FOR TYPE wkt USING hash AS
     OPERATOR 1 =, FUNCTION 1 wkt_hash(wkt), FUNCTION 2 wkt_hash_extended(wkt, int8);
+
+-- The first and the last in that order.
+CREATE FUNCTION wkt_smaller(wkt, wkt) RETURNS wkt
+    AS 'MODULE_PATHNAME', 'pg_wkt_smaller' LANGUAGE C IMMUTABLE STRICT PARALLEL SAFE;
+CREATE FUNCTION wkt_larger(wkt, wkt) RETURNS wkt
+    AS 'MODULE_PATHNAME', 'pg_wkt_larger' LANGUAGE C IMMUTABLE STRICT PARALLEL SAFE;
+CREATE AGGREGATE min(wkt) (SFUNC = wkt_smaller, STYPE = wkt, SORTOP = <, COMBINEFUNC = wkt_smaller, PARALLEL = SAFE);
+CREATE AGGREGATE max(wkt) (SFUNC = wkt_larger, STYPE = wkt, SORTOP = >, COMBINEFUNC = wkt_larger, PARALLEL = SAFE);

@@ -4,8 +4,11 @@
 #include <ctype.h>
 
 #include "libpq/pqformat.h"
+#include "nodes/nodeFuncs.h"
+#include "nodes/supportnodes.h"
 #include "utils/array.h"
 #include "utils/builtins.h"
+#include "utils/fmgrprotos.h"
 #if PG_VERSION_NUM >= 160000
 #define CONTEXT(fcinfo) ((fcinfo)->context)
 #else
@@ -93,4 +96,42 @@ Datum pg_wkt_typmod_out(PG_FUNCTION_ARGS) {
 PG_FUNCTION_INFO_V1(pg_wkt_cast);
 Datum pg_wkt_cast(PG_FUNCTION_ARGS) {
     return value_of(NULL, question_of_text(PG_GETARG_TEXT_PP(0), MOST_PLACES), PG_GETARG_INT32(1));
+}
+
+/* The value of a text; null where it is refused. */
+PG_FUNCTION_INFO_V1(pg_wkt_or_null);
+Datum pg_wkt_or_null(PG_FUNCTION_ARGS) {
+    Question asked = question_of_text(PG_GETARG_TEXT_PP(0), MOST_PLACES);
+    text *answer;
+    Refusal why;
+    if (!has_value(&asked, (int32)places_of(PG_GETARG_INT32(1)), &answer, &why)) PG_RETURN_NULL();
+    PG_RETURN_TEXT_P(answer);
+}
+
+/* A cast to places that each value of its operand has is that operand, under another modifier. */
+PG_FUNCTION_INFO_V1(pg_wkt_support);
+Datum pg_wkt_support(PG_FUNCTION_ARGS) {
+    Node *request = (Node *)PG_GETARG_POINTER(0), *answer = NULL;
+
+    if (IsA(request, SupportRequestSimplify)) {
+        List *given = ((SupportRequestSimplify *)request)->fcall->args;
+        Node *value = linitial(given), *modifier = lsecond(given);
+        if (IsA(modifier, Const) && !((Const *)modifier)->constisnull) {
+            int32 from = exprTypmod(value), to = DatumGetInt32(((Const *)modifier)->constvalue);
+            if (to == MOST_PLACES || (from >= 0 && from <= to && to < MOST_PLACES)) answer = relabel_to_typmod(value, to);
+        }
+    }
+    PG_RETURN_POINTER(answer);
+}
+
+PG_FUNCTION_INFO_V1(pg_wkt_smaller);
+Datum pg_wkt_smaller(PG_FUNCTION_ARGS) {
+    Datum one = PG_GETARG_DATUM(0), other = PG_GETARG_DATUM(1);
+    PG_RETURN_DATUM(DatumGetInt32(DirectFunctionCall2(byteacmp, one, other)) <= 0 ? one : other);
+}
+
+PG_FUNCTION_INFO_V1(pg_wkt_larger);
+Datum pg_wkt_larger(PG_FUNCTION_ARGS) {
+    Datum one = PG_GETARG_DATUM(0), other = PG_GETARG_DATUM(1);
+    PG_RETURN_DATUM(DatumGetInt32(DirectFunctionCall2(byteacmp, one, other)) >= 0 ? one : other);
 }

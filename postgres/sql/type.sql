@@ -13,7 +13,7 @@ SELECT ('LINESTRING(' || repeat('12345678901234567890 1234567890.123456, ', 100)
 SELECT wkt_in('POINT(1 2)', 0, 300);
 SELECT wkt_in('POINT(1 2)', 0, 261);
 SELECT wkt('POINT(1 2)'::text, 19, false);
--- Casts between the type and text are explicit
+-- A text is cast to the type explicitly, and the type may be assigned to a text
 SELECT 'POINT(1 2)'::wkt = 'POINT(1 2)'::text;
 SELECT ('point(1 2)'::text)::wkt, ('point(1 2)'::wkt)::text, CAST('point(1.5 2)'::text AS wkt(1));
 CREATE TABLE places (id int, at wkt(6) PRIMARY KEY);
