@@ -46,6 +46,7 @@ as make -s installcheck PG_CONFIG="$config" WKT_LIB_DIR="$wkt" > regress.log 2>&
 
 . "$here/tests/keys.sh"
 . "$here/tests/cancel.sh"
+. "$here/tests/same.sh"
 . "$here/tests/updates.sh"
 . "$here/tests/dump.sh"
 . "$here/tests/roles.sh"
