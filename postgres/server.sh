@@ -1,9 +1,16 @@
-# Sourced: start_server [FLAG..] builds the extension over $wkt, and starts a server of its own that has it.
+# Sourced: start_server [FLAG..] starts a PostgreSQL server of its own, and `library` before it gives it the extension.
 #
 # Nothing outside a temporary folder is written, and no root is needed: the server's programs are copied there, and find
-# their share folder, and so the extension, relative to themselves. The one socket is in that folder; there is no port.
-# As root the server runs as the user postgres. It sets dir, bin, from, PGHOST, PGUSER and PGDATABASE, and stops the
-# server when the shell ends. Run psql as "$bin/psql", the client's other programs as "$from/pg_dump".
+# their share folder, and so the extension, relative to themselves. The one socket is in that folder, there is no port,
+# and no other user can reach the folder, since whoever connects is superuser. As root the server runs as the user
+# postgres. It sets dir, bin, from, PGHOST, PGUSER and PGDATABASE. When the shell ends the server is stopped, and its
+# folder and those that the caller put into `removed` are removed. Run psql as "$bin/psql", the client's other programs
+# as "$from/pg_dump".
+removed=()
+ended() {
+    [ -z "${started:-}" ] || as "$bin/pg_ctl" -D "$dir/base/data" -m immediate stop > /dev/null
+    rm -rf "${removed[@]}"
+}
 
 # The folder of wkt.h and libwkt.a: the argument, or WKT_LIB_DIR, or capi/out.
 library() {
@@ -17,16 +24,15 @@ if [ "$(id -u)" = 0 ]; then
     as() { setpriv --reuid postgres --regid postgres --clear-groups "$@"; }
 fi
 
-# Where the server is; the script fails where there is none (LACKING=0: it ends well).
+# Where a server is; the status is 1 where there is none.
 find_server() {
     config=${PG_CONFIG:-$(command -v pg_config || ls /usr/lib/postgresql/*/bin/pg_config 2> /dev/null | tail -n 1)}
-    [ -n "$config" ] || { echo "no pg_config: not run"; exit "${LACKING:-1}"; }
-    from=$("$config" --bindir) share=$("$config" --sharedir) lib=$("$config" --pkglibdir) pgxs=$("$config" --pgxs)
-    [ -f "$pgxs" ] && [ -x "$from/initdb" ] || { echo "no PostgreSQL server, or no headers of it: not run"; exit "${LACKING:-1}"; }
-    regress=$(dirname "$pgxs")/../test/regress/pg_regress
+    [ -n "$config" ] || return 1
+    from=$("$config" --bindir) share=$("$config" --sharedir) lib=$("$config" --pkglibdir)
+    [ -x "$from/initdb" ]
 }
 
-# The server's folders below $dir, at their own paths; the extension's files among them.
+# The server's folders below $dir, at their own paths.
 copy_server() {
     local it
     mkdir -p "$bin" "$dir$share/extension" "$dir$lib" "$dir/work" "$dir/base"
@@ -34,10 +40,12 @@ copy_server() {
     for it in "$share"/*; do [ "$it" = "$share/extension" ] || ln -s "$it" "$dir$share/"; done
     for it in "$share"/extension/*; do ln -s "$it" "$dir$share/extension/"; done
     for it in "$lib"/*; do ln -s "$it" "$dir$lib/"; done
-    rm -f "$dir$lib/wkt.so" "$dir$share"/extension/wkt{.control,--*.sql} # of an extension that is installed
 }
 
+# The extension over the library in $wkt, among those folders; none that is installed.
 build_extension() {
+    rm -f "$dir$lib/wkt.so" "$dir$share"/extension/wkt{.control,--*.sql}
+    [ -f "$("$config" --pgxs)" ] || { echo "no headers of the PostgreSQL server: not run"; exit "${LACKING:-1}"; }
     cp -r "$(dirname "${BASH_SOURCE[0]}")"/* "$dir/work"
     make -s -C "$dir/work" PG_CONFIG="$config" WKT_LIB_DIR="$wkt" PG_CFLAGS="-Wall -Wextra -Wno-unused-parameter -Wno-sign-compare -Werror ${CFLAGS_MORE:-}" > "$dir/make.log" 2>&1 ||
         { cat "$dir/make.log"; exit 1; }
@@ -46,18 +54,18 @@ build_extension() {
 }
 
 start_server() {
-    find_server
-    # A short name: the path of a socket has at most 107 bytes.
+    find_server || { echo "no PostgreSQL server: not run"; exit "${LACKING:-1}"; }
+    # A short name: the path of a socket has at most 107 bytes. mktemp gives it mode 0700.
     dir=$(mktemp -d /tmp/wktpg.XXXXXX)
-    trap 'rm -rf "$dir"' EXIT
+    removed+=("$dir")
+    trap ended EXIT
     bin=$dir$from
     copy_server
-    build_extension
-    chmod 755 "$dir"
+    [ -z "${wkt:-}" ] || build_extension
     [ "$(id -u)" != 0 ] || chown -R postgres "$dir"
     export PGHOST=$dir/base PGUSER=wkt PGDATABASE=postgres
     cd "$dir/base"
     as "$bin/initdb" -D data -A trust -U wkt -E UTF8 --locale C.UTF-8 --no-sync > init.log 2>&1 || { cat init.log; exit 1; }
     as "$bin/pg_ctl" -D data -w -o "-k $PGHOST -h '' -F $*" -l log start > /dev/null || { cat log; exit 1; }
-    trap 'as "$bin/pg_ctl" -D "$dir/base/data" -m immediate stop > /dev/null; rm -rf "$dir"' EXIT
+    started=yes
 }

@@ -34,19 +34,21 @@ fails() {
 objects="select string_agg(pg_describe_object(classid, objid, objsubid), ',' order by pg_describe_object(classid, objid, objsubid))
     from pg_depend d join pg_extension e on refobjid = e.oid and refclassid = 'pg_extension'::regclass where extname = 'wkt'"
 
-# The statements of sql/, whose answers are in expected/.
+is "version: that of the header" "$(sed -n 's/^#define WKT_VERSION "\(.*\)"/\1/p' "$wkt/wkt.h")" "$(ask postgres "create extension wkt" "select wkt_version()" "drop extension wkt")"
+. "$here/tests/private.sh"
+. "$here/tests/build.sh"
+# The statements of sql/, whose answers are in expected/, as `make installcheck` runs them on any server.
 cd "$dir/work"
-# Over a library that takes stack for nesting, deep texts are refused.
-if grep -q WKT_NO_STACK "$wkt/wkt.h"; then rm expected/nested_1.out; else mv expected/nested_1.out expected/nested.out; fi
-tests=$(cd sql && printf '%s\n' *.sql | sed 's/\.sql$//')
-as "$regress" --inputdir=. --outputdir=. --bindir="$bin" --host="$PGHOST" --user=wkt --dbname=contrib_regression $tests \
-    > regress.log 2>&1 || { status=1; cat regress.log regression.diffs; }
+as make -s installcheck PG_CONFIG="$config" WKT_LIB_DIR="$wkt" > regress.log 2>&1 &&
+    grep -q "All [0-9]* tests passed" regress.log || { wrong "installcheck"; cat regress.log regression.diffs; }
 [ -z "${RESULTS:-}" ] || cp results/*.out "$RESULTS"
 [ $status != 0 ] || echo "statements: $(cat sql/*.sql | grep -c ';') lines of SQL as expected"
 
 . "$here/tests/keys.sh"
 . "$here/tests/cancel.sh"
-. "$here/tests/versions.sh"
+. "$here/tests/same.sh"
+. "$here/tests/updates.sh"
+. "$here/tests/dump.sh"
 . "$here/tests/roles.sh"
 [ $status = 0 ] && echo "PostgreSQL $("$bin/postgres" --version | sed 's/[^0-9.]* //;s/ .*//'): all as expected"
 exit $status

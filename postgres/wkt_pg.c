@@ -31,23 +31,15 @@ Datum pg_wkt_explain(PG_FUNCTION_ARGS) {
     PG_RETURN_TEXT_P(explained(&asked, &why));
 }
 
-PG_FUNCTION_INFO_V1(pg_wkt_same);
-Datum pg_wkt_same(PG_FUNCTION_ARGS) {
-    uint32_t places = places_of(PG_GETARG_INT32(2));
-    Question asked[2] = {question_of_text(PG_GETARG_TEXT_PP(0), places), question_of_text(PG_GETARG_TEXT_PP(1), places)};
-    Refusal why;
-    bool same;
-    if (are_same(asked, &same)) PG_RETURN_BOOL(same);
-    /* One of both is refused. */
-    for (int i = 0; i < 2; i++)
-        if (!canonical_of(&asked[i], NULL, &why)) return refuse(NULL, &asked[i], &why);
-    PG_RETURN_NULL();
-}
-
 PG_FUNCTION_INFO_V1(pg_wkt_kind);
 Datum pg_wkt_kind(PG_FUNCTION_ARGS) {
     Question asked = question_of_text(PG_GETARG_TEXT_PP(0), MOST_PLACES);
     text *kind = kind_of(&asked);
     if (kind == NULL) PG_RETURN_NULL();
     PG_RETURN_TEXT_P(kind);
+}
+
+PG_FUNCTION_INFO_V1(pg_wkt_version);
+Datum pg_wkt_version(PG_FUNCTION_ARGS) {
+    PG_RETURN_TEXT_P(cstring_to_text(wkt_version()));
 }

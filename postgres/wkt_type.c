@@ -1,31 +1,59 @@
 /* The type wkt. Its bytes are those of a canonical text, and its modifier is the places. */
 #include "wkt_pg.h"
 
-#include "common/hashfn.h"
+#include <ctype.h>
+
 #include "libpq/pqformat.h"
+#include "nodes/nodeFuncs.h"
+#include "nodes/supportnodes.h"
 #include "utils/array.h"
 #include "utils/builtins.h"
+#include "utils/fmgrprotos.h"
 #if PG_VERSION_NUM >= 160000
 #define CONTEXT(fcinfo) ((fcinfo)->context)
 #else
 #define CONTEXT(fcinfo) NULL
 #endif
 
+/* The places of a modifier; -1 is none. */
 static uint32_t places_of_modifier(int32 modifier) {
-    return modifier < 0 ? MOST_PLACES : (uint32_t)modifier;
+    return modifier < 0 ? MOST_PLACES : places_of(modifier);
 }
 
-static Datum value_of(Node *context, Question asked) {
+/* Whether some number of a canonical text has so many digits in a row that it may not fit with 18 places. */
+#define MANY_DIGITS 21
+static bool has_long_number(const char *at, size_t length) {
+    size_t last = MANY_DIGITS - 1;
+    while (last < length) {
+        size_t back = 0;
+        while (back < MANY_DIGITS && isdigit((unsigned char)at[last - back])) back++;
+        if (back == MANY_DIGITS) return true;
+        last += MANY_DIGITS - back;
+    }
+    return false;
+}
+
+/* The value of a text under a modifier. Each value of wkt(n) is one of wkt too, so that a column of either takes what the
+ * other holds, as when a dump is restored: its numbers fit with 18 places. */
+static bool has_value(Question *asked, int32 modifier, text **answer, Refusal *why) {
+    asked->places = places_of_modifier(modifier);
+    if (!canonical_of(asked, answer, why)) return false;
+    if (asked->places == MOST_PLACES || !has_long_number(VARDATA(*answer), VARSIZE(*answer) - VARHDRSZ)) return true;
+    asked->places = MOST_PLACES;
+    return canonical_of(asked, NULL, why);
+}
+
+static Datum value_of(Node *context, Question asked, int32 modifier) {
     text *answer;
     Refusal why;
-    if (!canonical_of(&asked, &answer, &why)) return refuse(context, &asked, &why);
+    if (!has_value(&asked, modifier, &answer, &why)) return refuse(context, &asked, &why);
     PG_RETURN_TEXT_P(answer);
 }
 
 PG_FUNCTION_INFO_V1(pg_wkt_in);
 Datum pg_wkt_in(PG_FUNCTION_ARGS) {
     char *given = PG_GETARG_CSTRING(0);
-    return value_of(CONTEXT(fcinfo), question_of(given, strlen(given), places_of_modifier(PG_GETARG_INT32(2))));
+    return value_of(CONTEXT(fcinfo), question_of(given, strlen(given), MOST_PLACES), PG_GETARG_INT32(2));
 }
 
 PG_FUNCTION_INFO_V1(pg_wkt_out);
@@ -38,7 +66,7 @@ Datum pg_wkt_recv(PG_FUNCTION_ARGS) {
     StringInfo message = (StringInfo)PG_GETARG_POINTER(0);
     int length;
     char *given = pq_getmsgtext(message, message->len - message->cursor, &length);
-    return value_of(NULL, question_of(given, length, places_of_modifier(PG_GETARG_INT32(2))));
+    return value_of(NULL, question_of(given, length, MOST_PLACES), PG_GETARG_INT32(2));
 }
 
 PG_FUNCTION_INFO_V1(pg_wkt_send);
@@ -67,44 +95,43 @@ Datum pg_wkt_typmod_out(PG_FUNCTION_ARGS) {
 /* A text as a wkt, or a wkt under another modifier: more digits than that has places for are refused. */
 PG_FUNCTION_INFO_V1(pg_wkt_cast);
 Datum pg_wkt_cast(PG_FUNCTION_ARGS) {
-    return value_of(NULL, question_of_text(PG_GETARG_TEXT_PP(0), places_of_modifier(PG_GETARG_INT32(1))));
+    return value_of(NULL, question_of_text(PG_GETARG_TEXT_PP(0), MOST_PLACES), PG_GETARG_INT32(1));
 }
 
-/* The order is that of the bytes: there is no collation, so no index that a new C library makes wrong. */
-static int compare(FunctionCallInfo fcinfo) {
-    text *a = PG_GETARG_TEXT_PP(0), *b = PG_GETARG_TEXT_PP(1);
-    int n = VARSIZE_ANY_EXHDR(a), m = VARSIZE_ANY_EXHDR(b);
-    int order = memcmp(VARDATA_ANY(a), VARDATA_ANY(b), Min(n, m));
-    PG_FREE_IF_COPY(a, 0);
-    PG_FREE_IF_COPY(b, 1);
-    return order ? order : n < m ? -1 : n > m;
+/* The value of a text; null where it is refused. */
+PG_FUNCTION_INFO_V1(pg_wkt_or_null);
+Datum pg_wkt_or_null(PG_FUNCTION_ARGS) {
+    Question asked = question_of_text(PG_GETARG_TEXT_PP(0), MOST_PLACES);
+    text *answer;
+    Refusal why;
+    if (!has_value(&asked, (int32)places_of(PG_GETARG_INT32(1)), &answer, &why)) PG_RETURN_NULL();
+    PG_RETURN_TEXT_P(answer);
 }
 
-#define COMPARISON(name, answer)   \
-    PG_FUNCTION_INFO_V1(name);     \
-    Datum name(PG_FUNCTION_ARGS) { \
-        answer;                    \
+/* A cast to places that each value of its operand has is that operand, under another modifier. */
+PG_FUNCTION_INFO_V1(pg_wkt_support);
+Datum pg_wkt_support(PG_FUNCTION_ARGS) {
+    Node *request = (Node *)PG_GETARG_POINTER(0), *answer = NULL;
+
+    if (IsA(request, SupportRequestSimplify)) {
+        List *given = ((SupportRequestSimplify *)request)->fcall->args;
+        Node *value = linitial(given), *modifier = lsecond(given);
+        if (IsA(modifier, Const) && !((Const *)modifier)->constisnull) {
+            int32 from = exprTypmod(value), to = DatumGetInt32(((Const *)modifier)->constvalue);
+            if (to == MOST_PLACES || (from >= 0 && from <= to && to < MOST_PLACES)) answer = relabel_to_typmod(value, to);
+        }
     }
-COMPARISON(pg_wkt_cmp, PG_RETURN_INT32(compare(fcinfo)))
-COMPARISON(pg_wkt_eq, PG_RETURN_BOOL(compare(fcinfo) == 0))
-COMPARISON(pg_wkt_ne, PG_RETURN_BOOL(compare(fcinfo) != 0))
-COMPARISON(pg_wkt_lt, PG_RETURN_BOOL(compare(fcinfo) < 0))
-COMPARISON(pg_wkt_le, PG_RETURN_BOOL(compare(fcinfo) <= 0))
-COMPARISON(pg_wkt_gt, PG_RETURN_BOOL(compare(fcinfo) > 0))
-COMPARISON(pg_wkt_ge, PG_RETURN_BOOL(compare(fcinfo) >= 0))
-
-PG_FUNCTION_INFO_V1(pg_wkt_hash);
-Datum pg_wkt_hash(PG_FUNCTION_ARGS) {
-    text *held = PG_GETARG_TEXT_PP(0);
-    Datum hash = hash_any((unsigned char *)VARDATA_ANY(held), VARSIZE_ANY_EXHDR(held));
-    PG_FREE_IF_COPY(held, 0);
-    return hash;
+    PG_RETURN_POINTER(answer);
 }
 
-PG_FUNCTION_INFO_V1(pg_wkt_hash_extended);
-Datum pg_wkt_hash_extended(PG_FUNCTION_ARGS) {
-    text *held = PG_GETARG_TEXT_PP(0);
-    Datum hash = hash_any_extended((unsigned char *)VARDATA_ANY(held), VARSIZE_ANY_EXHDR(held), PG_GETARG_INT64(1));
-    PG_FREE_IF_COPY(held, 0);
-    return hash;
+PG_FUNCTION_INFO_V1(pg_wkt_smaller);
+Datum pg_wkt_smaller(PG_FUNCTION_ARGS) {
+    Datum one = PG_GETARG_DATUM(0), other = PG_GETARG_DATUM(1);
+    PG_RETURN_DATUM(DatumGetInt32(DirectFunctionCall2(byteacmp, one, other)) <= 0 ? one : other);
+}
+
+PG_FUNCTION_INFO_V1(pg_wkt_larger);
+Datum pg_wkt_larger(PG_FUNCTION_ARGS) {
+    Datum one = PG_GETARG_DATUM(0), other = PG_GETARG_DATUM(1);
+    PG_RETURN_DATUM(DatumGetInt32(DirectFunctionCall2(byteacmp, one, other)) >= 0 ? one : other);
 }

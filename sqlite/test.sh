@@ -14,11 +14,23 @@ trap 'rm -rf "$dir"' EXIT
 cp "$here"/{Makefile,wkt_sqlite.c,test.sql,test.py} "$dir"
 make -s -C "$dir" WKT_LIB_DIR="$wkt" CFLAGS="-O2 -Werror"
 cd "$dir"
-# The shell's own words around an error differ from version to version.
-{ sqlite3 :memory: < test.sql 2>&1 || true; } | sed 's/^.*[Ee]rror[^:]* near line \([0-9]*\): /\1: /; s/ ([0-9]*)$//' > said
+[[ $(readelf -d mod_wkt.so) == *BIND_NOW* ]] && [[ $(nm -D mod_wkt.so) == *__stack_chk_fail* ]] || { echo "mod_wkt.so isn't hardened"; exit 1; }
+[ "$(nm -D --defined-only mod_wkt.so | sed 's/.* T //' | paste -sd ' ')" = "sqlite3_modwkt_init sqlite3_wkt_init" ] || { echo "mod_wkt.so has other names"; exit 1; }
+# asked [VARIABLE=..]: the answers of the statements of test.sql. The shell's own words around an error differ from version
+# to version.
+asked() { { env "$@" sqlite3 :memory: < test.sql 2>&1 || true; } | sed 's/^.*[Ee]rror[^:]* near line \([0-9]*\): /\1: /; s/ ([0-9]*)$//'; }
+asked > said
 [ -z "${RESULTS:-}" ] || cp said "$RESULTS"
 diff "$here/expected" said || { echo "sqlite3: other answers"; exit 1; }
 echo "sqlite3: $(grep -c ';$' test.sql) statements as expected"
+# The same by an extension that looks for errors of memory and of arithmetic.
+mkdir checked
+mv mod_wkt.so checked
+make -s WKT_LIB_DIR="$wkt" CFLAGS="-O1 -g -Werror -fsanitize=address,undefined -fno-sanitize-recover=all"
+asked LD_PRELOAD="$(gcc -print-file-name=libasan.so) $(gcc -print-file-name=libubsan.so)" > said
+diff "$here/expected" said || { echo "sqlite3: other answers under the sanitizers"; exit 1; }
+mv checked/mod_wkt.so .
+echo "sqlite3: no complaint of ASan or UBSan"
 for python in /usr/bin/python3 python3 none; do
     "$python" -c 'import sqlite3; sqlite3.connect(":memory:").enable_load_extension(True)' 2> /dev/null && break
 done

@@ -14,8 +14,13 @@ SQLITE_EXTENSION_INIT1
 #define DEEPEST 1000
 #endif
 
-int sqlite3_wkt_init(sqlite3 *db, char **error, const sqlite3_api_routines *api);
-int sqlite3_modwkt_init(sqlite3 *db, char **error, const sqlite3_api_routines *api);
+#ifdef _WIN32
+#define EXPORTED __declspec(dllexport)
+#else
+#define EXPORTED __attribute__((visibility("default")))
+#endif
+EXPORTED int sqlite3_wkt_init(sqlite3 *db, char **error, const sqlite3_api_routines *api);
+EXPORTED int sqlite3_modwkt_init(sqlite3 *db, char **error, const sqlite3_api_routines *api);
 
 static const char *const kinds[] = WKT_KIND_WORDS;
 static const char *const dimensions[] = WKT_DIMENSION_WORDS;
@@ -156,6 +161,20 @@ static void canonical(sqlite3_context *context, int count, sqlite3_value **value
         refuse(context, &asked, status);
 }
 
+/* The canonical text; null where the text is refused. */
+static void or_null(sqlite3_context *context, int count, sqlite3_value **values) {
+    Question asked;
+    char *out;
+    size_t length;
+    wkt_status status;
+    if (some_null(count, values)) return;
+    status = canonical_of(values[0], places_of(count, values, 1), &asked, &out, &length);
+    if (status == WKT_OK)
+        sqlite3_result_text64(context, out, length, sqlite3_free, SQLITE_UTF8);
+    else
+        is_limit(context, status);
+}
+
 static void reads(sqlite3_context *context, int count, sqlite3_value **values) {
     Question asked;
     size_t length;
@@ -165,25 +184,51 @@ static void reads(sqlite3_context *context, int count, sqlite3_value **values) {
     if (!is_limit(context, status)) sqlite3_result_int(context, status == WKT_OK);
 }
 
-static void same(sqlite3_context *context, int count, sqlite3_value **values) {
-    Question asked[2];
-    uint32_t answer, places = places_of(count, values, 2);
+/* The canonical text of an argument of wkt_same. SQLite keeps that of a constant from row to row. */
+typedef struct Key {
+    uint32_t places;
     size_t length;
+    char *text;
+} Key;
+
+static void free_key(void *key) {
+    if (key) sqlite3_free(((Key *)key)->text);
+    sqlite3_free(key);
+}
+
+static wkt_status key_of(sqlite3_value *value, uint32_t places, Question *asked, Key **made) {
+    Key *key = sqlite3_malloc64(sizeof *key);
+    wkt_status status;
+    if (!key) return WKT_NO_MEMORY;
+    key->places = places;
+    status = canonical_of(value, places, asked, &key->text, &key->length);
+    if (status != WKT_OK) {
+        sqlite3_free(key);
+        return status;
+    }
+    *made = key;
+    return WKT_OK;
+}
+
+static void same(sqlite3_context *context, int count, sqlite3_value **values) {
+    uint32_t places = places_of(count, values, 2);
+    Key *keys[2] = {NULL, NULL}, *made[2] = {NULL, NULL};
+    Question asked;
     wkt_status status = WKT_OK;
     if (some_null(count, values)) return;
-    for (int i = 0; i < 2 && status == WKT_OK; i++) status = question_of(values[i], places, &asked[i]);
+    for (int i = 0; i < 2 && status == WKT_OK; i++) {
+        keys[i] = sqlite3_get_auxdata(context, i);
+        if (keys[i] && keys[i]->places == places) continue;
+        status = key_of(values[i], places, &asked, &made[i]);
+        keys[i] = made[i];
+    }
     if (status == WKT_OK)
-        status = wkt_same(asked[0].text, asked[0].length, asked[1].text, asked[1].length, places | WKT_WHOLE, &answer);
-    if (status == WKT_OK)
-        sqlite3_result_int(context, (int)answer);
-    else if (!is_limit(context, status))
-        for (int i = 0; i < 2; i++) { /* one of both is refused */
-            status = canonical_of(values[i], places, &asked[i], NULL, &length);
-            if (status != WKT_OK) {
-                refuse(context, &asked[i], status);
-                return;
-            }
-        }
+        sqlite3_result_int(context, keys[0]->length == keys[1]->length && memcmp(keys[0]->text, keys[1]->text, keys[0]->length) == 0);
+    else
+        refuse(context, &asked, status);
+    /* At last, since one that isn't kept is freed here. */
+    for (int i = 0; i < 2; i++)
+        if (made[i]) sqlite3_set_auxdata(context, i, made[i], free_key);
 }
 
 static void kind(sqlite3_context *context, int count, sqlite3_value **values) {
@@ -200,6 +245,11 @@ static void kind(sqlite3_context *context, int count, sqlite3_value **values) {
         sqlite3_result_text(context, said, -1, sqlite3_free);
     else
         sqlite3_result_error_nomem(context);
+}
+
+static void version(sqlite3_context *context, int count, sqlite3_value **values) {
+    (void)count, (void)values;
+    sqlite3_result_text(context, wkt_version(), -1, SQLITE_STATIC);
 }
 
 /* From the place back, and on, so many characters at most, and not past the line. */
@@ -251,9 +301,6 @@ static void explain(sqlite3_context *context, int count, sqlite3_value **values)
     }
 }
 
-#ifdef _WIN32
-__declspec(dllexport)
-#endif
 int sqlite3_wkt_init(sqlite3 *db, char **error, const sqlite3_api_routines *api) {
     static const struct {
         const char *name;
@@ -261,7 +308,8 @@ int sqlite3_wkt_init(sqlite3 *db, char **error, const sqlite3_api_routines *api)
         void (*call)(sqlite3_context *, int, sqlite3_value **);
     } functions[] = {{"wkt_canonical", 1, canonical}, {"wkt_canonical", 2, canonical}, {"wkt_same", 2, same},
                      {"wkt_same", 3, same},           {"wkt_reads", 1, reads},         {"wkt_reads", 2, reads},
-                     {"wkt_explain", 1, explain},     {"wkt_explain", 2, explain},     {"wkt_kind", 1, kind}};
+                     {"wkt_explain", 1, explain},     {"wkt_explain", 2, explain},     {"wkt_or_null", 1, or_null},
+                     {"wkt_or_null", 2, or_null},     {"wkt_kind", 1, kind},           {"wkt_version", 0, version}};
     int status = SQLITE_OK;
     SQLITE_EXTENSION_INIT2(api);
     (void)error;
@@ -273,9 +321,6 @@ int sqlite3_wkt_init(sqlite3 *db, char **error, const sqlite3_api_routines *api)
 }
 
 /* The name under which SQLite looks where the file is mod_wkt.so, as a package of a system has it. */
-#ifdef _WIN32
-__declspec(dllexport)
-#endif
 int sqlite3_modwkt_init(sqlite3 *db, char **error, const sqlite3_api_routines *api) {
     return sqlite3_wkt_init(db, error, api);
 }

@@ -5,11 +5,12 @@
 # It needs PostgreSQL with PostGIS, and python3 (as the user postgres if it runs as root), and is no part of the gate.
 set -eu
 cd "$(dirname "$0")/.."
-. tests/server.sh
-dir=$(mktemp -d)
-trap 'rm -rf "$dir"' EXIT
+. postgres/server.sh
+work=$(mktemp -d)
+removed+=("$work")
+trap 'rm -rf "$work"' EXIT
 # Rows that are read, as hexadecimal digits: a canonical text begins with two capitals, and no message does.
-python3 - crates/wkt_conformance/stdin > "$dir/rows" <<'PY'
+python3 - crates/wkt_conformance/stdin > "$work/rows" <<'PY'
 import re
 import sys
 
@@ -20,16 +21,16 @@ with open(sys.argv[1], encoding="utf-8", newline="\n") as table:
             print(text.encode().hex(), canonical.encode().hex())
 PY
 
-find_server
-start_server "$dir" -E UTF8 --locale C.UTF-8
-ask > "$dir/output" <<SQL
+chmod 755 "$work" # the server reads the rows there
+start_server
+"$bin/psql" -X -q -v ON_ERROR_STOP=1 > "$work/output" <<SQL
 create extension postgis;
 create function taken(t text) returns geometry language plpgsql as
     \$\$ begin return ST_GeomFromText(t); exception when others then return null; end \$\$;
 create function no_minus_zero(g geometry) returns text language sql as
     \$\$ select regexp_replace(ST_AsEWKT(g, 15), '-0([ ,)])', '0\\1', 'g') \$\$;
 create table rows (text_hex text, canonical_hex text);
-copy rows from '$dir/rows' (format text, delimiter ' ');
+copy rows from '$work/rows' (format text, delimiter ' ');
 create table both_ways as
     select text, canonical, taken(text) as one, taken(canonical) as other
     from (select convert_from(decode(text_hex, 'hex'), 'UTF8') as text,
@@ -48,7 +49,7 @@ from both_ways group by how order by count(*) desc;
 select 'wrong:', text, '=>', canonical from both_ways
 where one is not null and (other is null or no_minus_zero(one) <> no_minus_zero(other)) limit 20;
 SQL
-cat "$dir/output"
-if grep -q wrong: "$dir/output" || ! grep -q "the same bytes" "$dir/output"; then
+cat "$work/output"
+if grep -q wrong: "$work/output" || ! grep -q "the same bytes" "$work/output"; then
     exit 1
 fi

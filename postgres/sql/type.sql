@@ -3,10 +3,17 @@ CREATE EXTENSION wkt;
 SELECT 'point ( 1.0 2 )'::wkt, 'POINT(1 2)'::wkt = 'point(1 2.0)', wkt_kind('POINT Z(1 2 3)'::wkt);
 SELECT 'POINT(1.1234560 2)'::wkt(6), pg_typeof('POINT(1 2)'::wkt), pg_column_size('POINT(1 2)'::wkt);
 SELECT format_type('wkt'::regtype, 6), format_type('wkt'::regtype, -1);
--- A literal is read with 18 places before the modifier applies, a text with those of the modifier
+-- A value of wkt(6) is one of wkt: what doesn't fit with 18 places is refused, as a literal, as a text and of a function
 SELECT 'POINT(200000000000000000000 2)'::wkt(6);
 SELECT ('point(200000000000000000000.0 2)'::text)::wkt(6);
--- Casts between the type and text are explicit
+SELECT ('point(170141183460469231731.687303 2)'::text)::wkt(6);
+SELECT wkt_canonical('point(200000000000000000000.0 2)', 6);
+SELECT ('LINESTRING(' || repeat('12345678901234567890 1234567890.123456, ', 100) || '200000000000000000000 2)')::wkt(6);
+-- Modifiers that a declaration doesn't take
+SELECT wkt_in('POINT(1 2)', 0, 300);
+SELECT wkt_in('POINT(1 2)', 0, 261);
+SELECT wkt('POINT(1 2)'::text, 19, false);
+-- A text is cast to the type explicitly, and the type may be assigned to a text
 SELECT 'POINT(1 2)'::wkt = 'POINT(1 2)'::text;
 SELECT ('point(1 2)'::text)::wkt, ('point(1 2)'::wkt)::text, CAST('point(1.5 2)'::text AS wkt(1));
 CREATE TABLE places (id int, at wkt(6) PRIMARY KEY);
