@@ -2,7 +2,7 @@
 #![allow(dead_code)]
 // names.py: rust (tests/names.py --write makes this of docs/names.tsv)
 /// The words of a status, at its number.
-pub const MESSAGES: [&str; 32] = [
+pub const MESSAGES: [&str; 34] = [
     "",
     "Invalid WKT format",
     "Encountered non-ascii word",
@@ -35,6 +35,8 @@ pub const MESSAGES: [&str; 32] = [
     "The text is not refused",
     "More than white space follows the geometry",
     "A pointer is NULL",
+    "The processor is not supported",
+    "A size is more than PTRDIFF_MAX",
 ];
 /// The words of the statuses 1 to 3 of wkt_infer.
 pub const HEADER_MESSAGES: [&str; 4] = [
@@ -81,6 +83,21 @@ pub const EXPECTED: [&str; 11] = [
     "`,` or `)`",
     "`)`",
 ];
+/// Why a text is refused, at the number of the hint; %u is the number of places.
+pub const HINTS: [&str; 12] = [
+    "",
+    "the text begins with a byte order mark",
+    "WKB in hexadecimal is not read; ST_AsText gives its text",
+    "SRID=..; of EWKT is not read; ST_AsText leaves it out",
+    "curves are not read; ST_CurveToLine gives lines",
+    "triangles and surfaces are not read; polygons are",
+    "exponents are not read; write 0.0000001 for 1e-7",
+    "NaN and infinity are no decimals; EMPTY says that there is no point",
+    "numbers have at most %u places here",
+    "the number is too large",
+    "a third number needs Z or M, as in POINT Z(1 2 3), and a fourth ZM",
+    "what holds nothing is written EMPTY, without parentheses",
+];
 /// Done.
 pub const OK: u32 = 0;
 /// Refused.
@@ -109,4 +126,8 @@ pub const ACCEPTED: u32 = 29;
 pub const NOT_WHOLE: u32 = 30;
 /// A pointer is NULL.
 pub const NULL_POINTER: u32 = 31;
+/// The processor is not supported.
+pub const NOT_SUPPORTED: u32 = 32;
+/// A size is more than PTRDIFF_MAX.
+pub const TOO_LONG: u32 = 33;
 // names.py: end
