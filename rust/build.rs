@@ -6,6 +6,11 @@ use std::process::Command;
 
 fn main() {
     println!("cargo:rerun-if-env-changed=WKT_LIB_DIR");
+    println!("cargo:rerun-if-env-changed=DOCS_RS");
+    // The documentation is built where there is no library.
+    if env::var_os("DOCS_RS").is_some() {
+        return;
+    }
     let clone = format!("{}/..", env!("CARGO_MANIFEST_DIR"));
     match env::var("WKT_LIB_DIR") {
         Ok(folder) if Path::new(&folder).join("libwkt.a").exists() => link_static(&folder),

@@ -1,9 +1,9 @@
 #!/usr/bin/env bash
-# Builds the library for C by tests/c_library.sh, which says what that needs, and runs its callers in C, C++, Python and
-# Rust, and compares the keys of tests/keys.tsv. With WKT_C_BUILT=1 the library in capi/out is taken as it is.
+# Builds the library for C by tests/c_library.sh, which says what that needs, and runs its callers in C, C++ and
+# Python, and compares the keys of tests/keys.tsv. With WKT_C_BUILT=1 the library in capi/out is taken as it is.
 #
-# What a machine lacks fails (tests/needs.sh installs it), unless SKIP names it: SKIP=python,rust tests/c_callers.sh.
-# Names: valgrind, c++, python, numpy, rust. The last line says what was skipped.
+# What a machine lacks fails (tests/needs.sh installs it), unless SKIP names it: SKIP=python,numpy tests/c_callers.sh.
+# Names: valgrind, c++, python, numpy. The last line says what was skipped.
 set -u
 cd "$(dirname "$0")/.."
 fail() { echo "$*"; exit 1; }
@@ -15,14 +15,13 @@ has_numpy() { "$1" -c 'import numpy' 2> /dev/null; }
 
 skip=${SKIP:-}
 for name in ${skip//,/ }; do
-    case $name in valgrind | c++ | python | numpy | rust) ;; *) echo "SKIP: $name is skipped by other scripts, or no name" ;; esac
+    case $name in valgrind | c++ | python | numpy) ;; *) echo "SKIP: $name is skipped by other scripts, or no name" ;; esac
 done
 cc=${CC:-$(command -v gcc || command -v clang || command -v cc)}
 [ -n "$cc" ] || fail "no C compiler: tests/needs.sh installs one"
 needs valgrind valgrind
 needs c++ g++
 needs python python3
-needs rust cargo
 # The tests run by python3, and where that has no NumPy, by the system's, if that has it.
 pythons=()
 if ! skips python; then
@@ -99,9 +98,4 @@ for python in "${pythons[@]}"; do
     with=$(has_numpy "$python" && echo with || echo without)
     echo "Python ($python, $with NumPy): $(grep '^Ran' "$dir/said"), $(tail -n 1 "$dir/said")"
 done
-if ! skips rust; then
-    WKT_LIB_DIR=$out CARGO_TARGET_DIR=$dir/target cargo test --offline -q --manifest-path rust/Cargo.toml > "$dir/said" 2>&1 ||
-        { cat "$dir/said"; fail "Rust: the tests fail"; }
-    echo "Rust: $(grep -m 1 '^test result: ok. [1-9]' "$dir/said")"
-fi
 echo "callers of the library for C: all passed; skipped: ${SKIP:-nothing}"

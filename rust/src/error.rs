@@ -1,0 +1,304 @@
+//! Why a call has no answer.
+use crate::excerpt::Excerpt;
+use crate::names::{self, EXPECTED, HEADER_MESSAGES, HINTS, MESSAGES};
+use std::fmt;
+
+/// Why a call has no answer.
+#[derive(Debug, Clone, Copy, PartialEq, Eq)]
+#[non_exhaustive]
+pub enum Error {
+    /// The text is refused: where, and why.
+    Refused(Refusal),
+    /// Bytes that are given as a text are no UTF-8.
+    NotUtf8,
+    /// Out of memory.
+    NoMemory,
+    /// `places` is more than 18.
+    NoPlaces,
+    /// A collection has no flat arrays.
+    Collection,
+    /// A number has more units than 64 bits hold.
+    TooLarge,
+    /// The arrays are of no geometry.
+    NotArrays,
+    /// The offsets, the bits or the sizes are of no column.
+    NotColumn,
+    /// An input is longer than a pointer's offset can be.
+    TooLong,
+    /// The library is built for another processor ([`is_supported`](crate::is_supported)).
+    NotSupported,
+    /// The geometry has no form in the types of another crate; the words say why.
+    NoForm(&'static str),
+}
+
+/// The words of a status of `include/wkt.h`, as in the lists of statuses of a column; empty where it is none.
+pub fn message(status: u32) -> &'static str {
+    MESSAGES.get(status as usize).copied().unwrap_or("")
+}
+
+impl Error {
+    /// The error of a status that isn't about a text.
+    pub(crate) fn of_status(status: u32) -> Error {
+        match status {
+            names::NOT_UTF8 => Error::NotUtf8,
+            names::NO_PLACES => Error::NoPlaces,
+            names::COLLECTION => Error::Collection,
+            names::TOO_LARGE => Error::TooLarge,
+            names::NOT_ARRAYS => Error::NotArrays,
+            names::NOT_COLUMN => Error::NotColumn,
+            names::TOO_LONG => Error::TooLong,
+            names::NOT_SUPPORTED => Error::NotSupported,
+            _ => Error::NoMemory,
+        }
+    }
+
+    /// The refusal, if a text is refused.
+    pub fn refusal(&self) -> Option<&Refusal> {
+        match self {
+            Error::Refused(refusal) => Some(refusal),
+            _ => None,
+        }
+    }
+}
+
+impl fmt::Display for Error {
+    fn fmt(&self, f: &mut fmt::Formatter<'_>) -> fmt::Result {
+        let status = match self {
+            Error::Refused(refusal) => return refusal.fmt(f),
+            Error::NoForm(words) => return f.write_str(words),
+            Error::NotUtf8 => names::NOT_UTF8,
+            Error::NoMemory => names::NO_MEMORY,
+            Error::NoPlaces => names::NO_PLACES,
+            Error::Collection => names::COLLECTION,
+            Error::TooLarge => names::TOO_LARGE,
+            Error::NotArrays => names::NOT_ARRAYS,
+            Error::NotColumn => names::NOT_COLUMN,
+            Error::TooLong => names::TOO_LONG,
+            Error::NotSupported => names::NOT_SUPPORTED,
+        };
+        f.write_str(message(status))
+    }
+}
+
+impl std::error::Error for Error {}
+
+impl From<Error> for std::io::Error {
+    fn from(error: Error) -> std::io::Error {
+        let kind = match error {
+            Error::NoMemory => std::io::ErrorKind::OutOfMemory,
+            Error::NoPlaces => std::io::ErrorKind::InvalidInput,
+            Error::NotSupported => std::io::ErrorKind::Unsupported,
+            _ => std::io::ErrorKind::InvalidData,
+        };
+        std::io::Error::new(kind, error)
+    }
+}
+
+/// Where and why a text is refused. It is shown as the command `wkt` shows it: `1:8: a second number was expected`, and
+/// the hint in parentheses.
+#[derive(Debug, Clone, Copy, PartialEq, Eq)]
+#[non_exhaustive]
+pub struct Refusal {
+    /// Where the first lexeme that can't stand there begins, in bytes.
+    pub start: usize,
+    /// Where it ends; `start` where the text ends too early.
+    pub stop: usize,
+    /// The line of `start`, from 1.
+    pub line: u64,
+    /// The column of `start` in its line, in characters from 1.
+    pub column: usize,
+    /// What could stand there.
+    pub expected: Expected,
+    /// What the text may come from, where that is known.
+    pub hint: Option<Hint>,
+    /// The message of the Rust crate `wkt`.
+    pub message: &'static str,
+    /// Its status in `include/wkt.h`.
+    pub status: u32,
+}
+
+impl Refusal {
+    /// The line of the text where it is refused, up to 60 characters, and below it a mark, as the command `wkt check`
+    /// prints them. The text is the one that was refused.
+    ///
+    /// ```
+    /// let text = "POINT(1)";
+    /// let why = wkt_proved::explain(text, 6)?.unwrap();
+    /// assert_eq!(why.mark(text), "    POINT(1)\n           ^\n");
+    /// # Ok::<(), wkt_proved::Error>(())
+    /// ```
+    pub fn mark(&self, text: &str) -> String {
+        let stop = match self.expected {
+            Expected::End => self.start,
+            _ => self.stop,
+        };
+        Excerpt::around(text, self.start, stop).to_string()
+    }
+}
+
+impl fmt::Display for Refusal {
+    fn fmt(&self, f: &mut fmt::Formatter<'_>) -> fmt::Result {
+        write!(f, "{}:{}: ", self.line, self.column)?;
+        match self.expected {
+            Expected::End => f.write_str("more follows the geometry")?,
+            expected => write!(f, "{expected} was expected")?,
+        }
+        match self.hint {
+            Some(hint) => write!(f, " ({hint})"),
+            None => Ok(()),
+        }
+    }
+}
+
+/// What could stand where a text is refused.
+#[derive(Debug, Clone, Copy, PartialEq, Eq)]
+pub enum Expected {
+    /// A kind word, with which a geometry begins.
+    Kind,
+    /// A kind word, with which a member of a collection begins.
+    Member,
+    /// What stands after a kind word alone: `Z`, `M`, `ZM`, `(` or EMPTY.
+    Dimension,
+    /// `(` or EMPTY.
+    Opening,
+    /// A member of a multipoint: a number, `(` or EMPTY.
+    Point,
+    /// The number x.
+    X,
+    /// The number y.
+    Y,
+    /// The number z.
+    Z,
+    /// The number m.
+    M,
+    /// `,` or `)`.
+    More,
+    /// `)`.
+    Closing,
+    /// The end of the text: more than white space follows the geometry.
+    End,
+}
+
+impl Expected {
+    pub(crate) const ALL: [Expected; 11] = [
+        Expected::Kind,
+        Expected::Member,
+        Expected::Dimension,
+        Expected::Opening,
+        Expected::Point,
+        Expected::X,
+        Expected::Y,
+        Expected::Z,
+        Expected::M,
+        Expected::More,
+        Expected::Closing,
+    ];
+}
+
+impl fmt::Display for Expected {
+    fn fmt(&self, f: &mut fmt::Formatter<'_>) -> fmt::Result {
+        let words = EXPECTED.get(*self as usize).copied();
+        f.write_str(words.unwrap_or("the end of the text"))
+    }
+}
+
+/// What a text that is refused may come from: spellings of other tools, and numbers that don't fit.
+#[derive(Debug, Clone, Copy, PartialEq, Eq)]
+#[non_exhaustive]
+pub enum Hint {
+    /// A byte order mark.
+    ByteOrderMark,
+    /// Well-known binary in hexadecimal.
+    Hexadecimal,
+    /// `SRID=..;` of EWKT.
+    Srid,
+    /// A kind with curves.
+    Curve,
+    /// A kind of surface.
+    Surface,
+    /// A number with an exponent.
+    Exponent,
+    /// NaN or infinity.
+    NoNumber,
+    /// A number with more than so many places.
+    Places(u32),
+    /// A number with too many units.
+    Large,
+    /// A third number without Z or M, or a fourth without ZM.
+    Dimension,
+    /// `()`, which is written EMPTY.
+    Empty,
+}
+
+impl Hint {
+    /// The hint of a number of `include/wkt.h`, where a text was read at so many places.
+    pub(crate) fn of_number(number: u32, places: u32) -> Option<Hint> {
+        Some(match number {
+            1 => Hint::ByteOrderMark,
+            2 => Hint::Hexadecimal,
+            3 => Hint::Srid,
+            4 => Hint::Curve,
+            5 => Hint::Surface,
+            6 => Hint::Exponent,
+            7 => Hint::NoNumber,
+            8 => Hint::Places(places),
+            9 => Hint::Large,
+            10 => Hint::Dimension,
+            11 => Hint::Empty,
+            _ => return None,
+        })
+    }
+
+    fn number(self) -> usize {
+        match self {
+            Hint::ByteOrderMark => 1,
+            Hint::Hexadecimal => 2,
+            Hint::Srid => 3,
+            Hint::Curve => 4,
+            Hint::Surface => 5,
+            Hint::Exponent => 6,
+            Hint::NoNumber => 7,
+            Hint::Places(_) => 8,
+            Hint::Large => 9,
+            Hint::Dimension => 10,
+            Hint::Empty => 11,
+        }
+    }
+}
+
+impl fmt::Display for Hint {
+    fn fmt(&self, f: &mut fmt::Formatter<'_>) -> fmt::Result {
+        let words = HINTS[self.number()];
+        match (self, words.split_once("%u")) {
+            (Hint::Places(places), Some((before, after))) => write!(f, "{before}{places}{after}"),
+            _ => f.write_str(words),
+        }
+    }
+}
+
+/// Why the header of a text names no kind.
+#[derive(Debug, Clone, Copy, PartialEq, Eq)]
+#[non_exhaustive]
+pub enum InferError {
+    /// The text begins with no kind word.
+    NoKind,
+    /// EMPTY comes first, with no space before it.
+    NoSpace,
+    /// There is neither a parenthesis nor EMPTY.
+    NoParen,
+    /// Not about the text: out of memory, or another processor.
+    Call(Error),
+}
+
+impl fmt::Display for InferError {
+    fn fmt(&self, f: &mut fmt::Formatter<'_>) -> fmt::Result {
+        f.write_str(match self {
+            InferError::NoKind => HEADER_MESSAGES[1],
+            InferError::NoSpace => HEADER_MESSAGES[2],
+            InferError::NoParen => HEADER_MESSAGES[3],
+            InferError::Call(error) => return error.fmt(f),
+        })
+    }
+}
+
+impl std::error::Error for InferError {}

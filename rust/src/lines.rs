@@ -1,0 +1,151 @@
+//! Inputs line by line.
+use crate::error::Error;
+use crate::text::{canonical, known, written};
+use crate::{ffi, names};
+use std::io::{self, BufRead, Read, Write};
+
+/// For each line the canonical text of the geometry that it begins with, or `refused`, and a line feed: what the program
+/// `wktstream` writes, if `places` is 18.
+///
+/// # Errors
+/// `NoPlaces`, `NoMemory`.
+pub fn lines(input: &[u8], places: u32) -> Result<String, Error> {
+    let places = known(places)?;
+    let likely = input.len() + input.len() / 4 + 64;
+    // SAFETY: each pointer goes with the length of its slice, and nothing that is written is borrowed elsewhere.
+    written(likely, |out, needed| unsafe {
+        ffi::wkt_lines(
+            input.as_ptr(),
+            input.len(),
+            places,
+            out.as_mut_ptr(),
+            out.len(),
+            needed,
+        )
+    })
+    .map_err(Error::of_status)
+}
+
+// How much of an input is read and written at once, where its lines are shorter.
+const BLOCK: usize = 128 * 1024;
+
+/// Copies an input to an output, each line as [`lines`] has it, in buffers of 128 KiB, or as the longest line needs.
+///
+/// # Errors
+/// Those of the input and the output. What the library refuses, as `NoPlaces`, is the source of an error.
+pub fn stream(mut input: impl Read, mut output: impl Write, places: u32) -> io::Result<()> {
+    let places = known(places)?;
+    let (mut block, mut answers) = (vec![0; BLOCK], vec![0; BLOCK]);
+    let (mut held, mut is_last) = (0, false);
+    while !is_last || held > 0 {
+        if !is_last && held < block.len() {
+            match input.read(&mut block[held..]) {
+                Ok(0) => is_last = true,
+                Ok(came) => held += came,
+                Err(error) if error.kind() == io::ErrorKind::Interrupted => continue,
+                Err(error) => return Err(error),
+            }
+        }
+        let (taken, made) = match some_lines(&block[..held], places, is_last, &mut answers) {
+            Ok(done) => done,
+            Err(names::TOO_SMALL) => {
+                answers.resize(2 * answers.len(), 0);
+                continue;
+            }
+            Err(status) => return Err(Error::of_status(status).into()),
+        };
+        output.write_all(&answers[..made])?;
+        block.copy_within(taken..held, 0);
+        held -= taken;
+        if taken == 0 && held == block.len() {
+            block.resize(2 * held, 0);
+        }
+    }
+    output.flush()
+}
+
+/// Answers as many whole lines as fit: how many bytes they are, and how many their answers.
+fn some_lines(
+    input: &[u8],
+    places: u32,
+    is_last: bool,
+    out: &mut [u8],
+) -> Result<(usize, usize), u32> {
+    let (mut taken, mut made) = (0, 0);
+    // SAFETY: each pointer goes with the length of its slice, and nothing that is written is borrowed elsewhere.
+    let status = unsafe {
+        ffi::wkt_lines_some(
+            input.as_ptr(),
+            input.len(),
+            places,
+            u32::from(is_last),
+            out.as_mut_ptr(),
+            out.len(),
+            &mut taken,
+            &mut made,
+        )
+    };
+    match status {
+        names::OK => Ok((taken, made)),
+        status => Err(status),
+    }
+}
+
+/// The canonical text of each line of a reader. Made by [`read_lines`].
+#[derive(Debug)]
+pub struct Lines<R> {
+    reader: R,
+    places: u32,
+    number: u64,
+    line: Vec<u8>,
+}
+
+/// The canonical text of each line of a reader, each line a text as a whole; or why it has none. The line of a refusal is
+/// that of the input.
+///
+/// ```
+/// let input = b"point(1 2.50)\nPOINT(1)\n";
+/// let mut lines = wkt_proved::read_lines(&input[..], 6);
+/// assert_eq!(lines.next().unwrap()?, Ok("POINT(1 2.5)".to_string()));
+/// let why = lines.next().unwrap()?.unwrap_err();
+/// assert_eq!(why.to_string(), "2:8: a second number was expected");
+/// assert!(lines.next().is_none());
+/// # Ok::<(), std::io::Error>(())
+/// ```
+///
+/// Its items are `Err` where the reader fails.
+pub fn read_lines<R: BufRead>(reader: R, places: u32) -> Lines<R> {
+    Lines {
+        reader,
+        places,
+        number: 0,
+        line: Vec::new(),
+    }
+}
+
+impl<R: BufRead> Iterator for Lines<R> {
+    type Item = io::Result<Result<String, Error>>;
+
+    fn next(&mut self) -> Option<Self::Item> {
+        self.line.clear();
+        match self.reader.read_until(b'\n', &mut self.line) {
+            Ok(0) => return None,
+            Ok(_) => self.number += 1,
+            Err(error) => return Some(Err(error)),
+        }
+        if self.line.last() == Some(&b'\n') {
+            self.line.pop();
+        }
+        let answer = match std::str::from_utf8(&self.line) {
+            Ok(text) => canonical(text, self.places),
+            Err(_) => Err(Error::NotUtf8),
+        };
+        Some(Ok(answer.map_err(|error| match error {
+            Error::Refused(mut refusal) => {
+                refusal.line = self.number;
+                Error::Refused(refusal)
+            }
+            error => error,
+        })))
+    }
+}

@@ -1,0 +1,35 @@
+#!/usr/bin/env bash
+# Tests the Rust crate over the library in capi/out: by the cargo that is found, and with the feature geo-types by Debian's
+# cargo and rustc, the oldest that the crate promises; its documentation without a library; and clippy and rustfmt, where
+# the cargo that is found has them. The crates come from Debian's registry (librust-geo-types-dev), so no network is needed.
+set -u
+cd "$(dirname "$0")" || exit 1
+fail() { echo "rust: $*"; exit 1; }
+dir=$(mktemp -d)
+trap 'rm -rf "$dir"' EXIT
+mkdir "$dir/home"
+registry=/usr/share/cargo/registry
+[ -d $registry/geo-types-* ] || fail "no Debian registry with geo-types: tests/needs.sh installs it"
+printf '[source.crates-io]\nreplace-with = "debian"\n[source.debian]\ndirectory = "%s"\n' $registry > "$dir/home/config.toml"
+export CARGO_HOME=$dir/home WKT_LIB_DIR=${WKT_LIB_DIR:-$PWD/../capi/out}
+
+# run WORDS COMMAND..: says the words, and how many tests passed
+run() {
+    local words=$1
+    shift
+    "$@" > "$dir/said" 2>&1 || { cat "$dir/said"; fail "$words: fails"; }
+    echo "rust: $words: $(sed -n 's/^test result: ok. \([0-9]*\) passed.*/\1/p' "$dir/said" | paste -sd+ | bc) tests"
+}
+run "$(cargo --version)" cargo test --offline --target-dir "$dir/found"
+[ -x /usr/bin/cargo ] || fail "no Debian cargo: tests/needs.sh installs it"
+run "$(/usr/bin/cargo --version), geo-types" env PATH="/usr/bin:$PATH" cargo test --offline --all-features --target-dir "$dir/debian"
+
+# As docs.rs builds it: the crate alone, and no library.
+cp -r Cargo.toml README.md build.rs src examples "$dir"
+(cd "$dir" && env -u WKT_LIB_DIR DOCS_RS=1 RUSTDOCFLAGS='-D warnings' cargo doc --offline --no-deps -q) || fail "its documentation"
+echo "rust: its documentation is built without a library"
+if cargo clippy --version > /dev/null 2>&1; then
+    cargo clippy --offline -q --all-targets --target-dir "$dir/found" -- -D warnings || fail "clippy"
+    cargo fmt --check || fail "rustfmt"
+    echo "rust: no word of clippy and rustfmt"
+fi

@@ -1,0 +1,130 @@
+//! Conversions from and to geo-types, with values worked by hand.
+#![cfg(feature = "geo-types")]
+use geo_types::{
+    coord, line_string, point, polygon, Geometry, GeometryCollection, Line, LineString,
+    MultiLineString, MultiPoint, MultiPolygon, Polygon, Rect, Triangle,
+};
+use wkt_proved::geo::{from_text, to_text};
+use wkt_proved::{Error, Hint};
+
+fn each() -> Vec<(Geometry<f64>, &'static str)> {
+    let square = polygon![
+        exterior: [(x: 0., y: 0.), (x: 4., y: 0.), (x: 4., y: 4.), (x: 0., y: 0.)],
+        interiors: [[(x: 1., y: 1.), (x: 2., y: 1.), (x: 2., y: 2.), (x: 1., y: 1.)]],
+    ];
+    let line = line_string![(x: 1., y: 2.5), (x: 0.1, y: -3.)];
+    let empty = LineString::<f64>(Vec::new());
+    let points = MultiPoint(vec![point!(x: 1., y: 2.), point!(x: 3., y: 4.)]);
+    vec![
+        (point!(x: 1., y: 2.5).into(), "POINT(1 2.5)"),
+        (line.clone().into(), "LINESTRING(1 2.5,0.1 -3)"),
+        (empty.clone().into(), "LINESTRING EMPTY"),
+        (
+            square.clone().into(),
+            "POLYGON((0 0,4 0,4 4,0 0),(1 1,2 1,2 2,1 1))",
+        ),
+        (Polygon::new(empty.clone(), vec![]).into(), "POLYGON EMPTY"),
+        (points.clone().into(), "MULTIPOINT((1 2),(3 4))"),
+        (
+            MultiLineString(vec![line, empty]).into(),
+            "MULTILINESTRING((1 2.5,0.1 -3),EMPTY)",
+        ),
+        (
+            MultiPolygon(vec![square]).into(),
+            "MULTIPOLYGON(((0 0,4 0,4 4,0 0),(1 1,2 1,2 2,1 1)))",
+        ),
+        (
+            Geometry::GeometryCollection(GeometryCollection(vec![
+                points.into(),
+                Geometry::GeometryCollection(GeometryCollection(vec![])),
+                point!(x: 7., y: 8.).into(),
+            ])),
+            "GEOMETRYCOLLECTION(MULTIPOINT((1 2),(3 4)),GEOMETRYCOLLECTION EMPTY,POINT(7 8))",
+        ),
+    ]
+}
+
+#[test]
+fn both_ways() {
+    for (geometry, text) in each() {
+        assert_eq!(to_text(&geometry, 6).as_deref(), Ok(text));
+        assert_eq!(from_text(text, 6), Ok(geometry), "{text}");
+    }
+}
+
+#[test]
+fn other_kinds_are_written() {
+    let line = Line::new(coord! { x: 0., y: 1. }, coord! { x: 2., y: 3. });
+    assert_eq!(
+        to_text(&line.into(), 6).as_deref(),
+        Ok("LINESTRING(0 1,2 3)")
+    );
+    let triangle = Triangle(
+        coord! { x: 0., y: 0. },
+        coord! { x: 4., y: 0. },
+        coord! { x: 2., y: 4. },
+    );
+    let text = to_text(&triangle.into(), 6).unwrap();
+    assert_eq!(text, "POLYGON((0 0,4 0,2 4,0 0))");
+    let rect = Rect::new(coord! { x: 0., y: 0. }, coord! { x: 2., y: 1. });
+    let back = from_text(&to_text(&rect.into(), 6).unwrap(), 6);
+    assert_eq!(back, Ok(rect.to_polygon().into()));
+}
+
+#[test]
+fn numbers() {
+    // The nearest number, also of more digits than it has.
+    let got = from_text("POINT(0.100000000000000005 123456789.012345678)", 18);
+    assert_eq!(got, Ok(point!(x: 0.1, y: 123456789.01234567).into()));
+    for (x, hint) in [
+        (0.1234567, Hint::Places(6)),
+        (f64::NAN, Hint::NoNumber),
+        (f64::NEG_INFINITY, Hint::NoNumber),
+        (1e300, Hint::Large),
+    ] {
+        let error = to_text(&point!(x: x, y: 0.).into(), 6).unwrap_err();
+        assert_eq!(error.refusal().unwrap().hint, Some(hint), "{x}");
+    }
+    // -0 is 0.
+    assert_eq!(
+        to_text(&point!(x: -0., y: 0.).into(), 6).as_deref(),
+        Ok("POINT(0 0)")
+    );
+    // z and m are left out.
+    let flat = Ok(point!(x: 1., y: 2.).into());
+    assert_eq!(from_text("POINT ZM(1 2 3 4)", 6), flat);
+}
+
+#[test]
+fn what_has_no_form() {
+    for text in [
+        "POINT EMPTY",
+        "POINT Z EMPTY",
+        "MULTIPOINT(EMPTY)",
+        "GEOMETRYCOLLECTION(POINT EMPTY)",
+    ] {
+        assert!(
+            matches!(from_text(text, 6), Err(Error::NoForm(_))),
+            "{text}"
+        );
+    }
+    let error = from_text("POINT(1)", 6).unwrap_err();
+    assert_eq!(error.to_string(), "1:8: a second number was expected");
+}
+
+#[test]
+fn collections_in_one_another() {
+    let nested = |levels: usize| {
+        let (open, close) = ("GEOMETRYCOLLECTION(", ")");
+        format!("{}POINT(1 2){}", open.repeat(levels), close.repeat(levels))
+    };
+    let deep = from_text(&nested(200), 6).unwrap();
+    assert_eq!(to_text(&deep, 6), Ok(nested(200)));
+    let deeper = Geometry::GeometryCollection(GeometryCollection(vec![deep]));
+    assert!(matches!(to_text(&deeper, 6), Err(Error::NoForm(_))));
+    assert!(matches!(from_text(&nested(201), 6), Err(Error::NoForm(_))));
+    assert!(matches!(
+        from_text(&nested(100_000), 6),
+        Err(Error::NoForm(_))
+    ));
+}

@@ -1,0 +1,141 @@
+//! Inputs line by line, and what the command `wkt` prints of refusals.
+use std::io::{self, Read, Write};
+use std::path::Path;
+use wkt_proved::{explain, lines, read_lines, stream, Error};
+
+#[test]
+fn many_lines() {
+    assert_eq!(
+        lines(b"point(1 2.50)\nnonsense\n", 18).as_deref(),
+        Ok("POINT(1 2.5)\nrefused\n")
+    );
+    assert_eq!(lines(b"", 18).as_deref(), Ok(""));
+    assert_eq!(lines(b"", 19), Err(Error::NoPlaces));
+}
+
+/// Gives so many bytes a call, each call interrupted once.
+struct Slow<'a>(&'a [u8], usize, bool);
+
+impl Read for Slow<'_> {
+    fn read(&mut self, to: &mut [u8]) -> io::Result<usize> {
+        self.2 = !self.2;
+        if self.2 {
+            return Err(io::ErrorKind::Interrupted.into());
+        }
+        let count = self.1.min(to.len());
+        self.0.read(&mut to[..count])
+    }
+}
+
+/// A short line, a line that no buffer holds at first, and a last line without its end.
+fn long_input() -> (Vec<u8>, Vec<u8>) {
+    let many = ".1 .1,".repeat(60_000);
+    let input = format!("point(1 2.50) x\nLINESTRING({many}1 1)\nno\nPOINT EMPTY");
+    let written = "0.1 0.1,".repeat(60_000);
+    let output = format!("POINT(1 2.5)\nLINESTRING({written}1 1)\nrefused\nPOINT EMPTY\n");
+    (input.into_bytes(), output.into_bytes())
+}
+
+#[test]
+fn streams() {
+    let (input, want) = long_input();
+    for piece in [7, 4096, 1 << 20] {
+        let mut output = Vec::new();
+        stream(Slow(&input, piece, false), &mut output, 18).unwrap();
+        assert!(output == want, "{piece} bytes a call");
+    }
+    let mut output = Vec::new();
+    stream(io::empty(), &mut output, 18).unwrap();
+    assert!(output.is_empty());
+    let error = stream(io::empty(), &mut output, 19).unwrap_err();
+    assert_eq!(error.kind(), io::ErrorKind::InvalidInput);
+}
+
+/// Fails once so many bytes are out.
+struct Full(usize);
+
+impl Write for Full {
+    fn write(&mut self, bytes: &[u8]) -> io::Result<usize> {
+        let count = bytes.len().min(self.0);
+        self.0 -= count;
+        if count == 0 {
+            return Err(io::ErrorKind::BrokenPipe.into());
+        }
+        Ok(count)
+    }
+
+    fn flush(&mut self) -> io::Result<()> {
+        Ok(())
+    }
+}
+
+#[test]
+fn failing_ends() {
+    let (input, _) = long_input();
+    let error = stream(&input[..], Full(100), 18).unwrap_err();
+    assert_eq!(error.kind(), io::ErrorKind::BrokenPipe);
+    struct Broken;
+    impl Read for Broken {
+        fn read(&mut self, _: &mut [u8]) -> io::Result<usize> {
+            Err(io::ErrorKind::ConnectionReset.into())
+        }
+    }
+    let error = stream(Broken, io::sink(), 18).unwrap_err();
+    assert_eq!(error.kind(), io::ErrorKind::ConnectionReset);
+    let mut lines = read_lines(io::BufReader::new(Broken), 18);
+    let error = lines.next().unwrap().unwrap_err();
+    assert_eq!(error.kind(), io::ErrorKind::ConnectionReset);
+}
+
+#[test]
+fn lines_of_a_reader() {
+    let input = b"point(1 2.50)\r\n\xff\n\nPOINT(1 2) x\nPOINT EMPTY";
+    let got: Vec<_> = read_lines(&input[..], 18)
+        .map(|line| line.unwrap())
+        .collect();
+    assert_eq!(got[0].as_deref(), Ok("POINT(1 2.5)"));
+    assert_eq!(got[1], Err(Error::NotUtf8));
+    let shown = |row: usize| got[row].as_ref().unwrap_err().to_string();
+    assert_eq!(
+        shown(2),
+        "3:1: a kind of geometry, such as POINT, was expected"
+    );
+    assert_eq!(shown(3), "4:12: more follows the geometry");
+    assert_eq!(got[4].as_deref(), Ok("POINT EMPTY"));
+    assert_eq!(got.len(), 5);
+}
+
+/// What `wkt check` prints of a stored case, by [`explain`] of each line.
+fn printed(name: &str, input: &str, places: u32) -> String {
+    let (mut out, mut refused, mut count) = (String::new(), 0, 0);
+    for (at, line) in input.lines().enumerate() {
+        count += 1;
+        if let Some(why) = explain(line, places).unwrap() {
+            let shown = why.to_string();
+            let shown = shown.strip_prefix("1:").unwrap();
+            out += &format!("{name}:{}:{shown}\n{}", at + 1, why.mark(line));
+            refused += 1;
+        }
+    }
+    let lines = if count == 1 { "line" } else { "lines" };
+    out + &format!("{refused} of {count} {lines} refused\n")
+}
+
+#[test]
+fn as_the_command_shows_it() {
+    let cases = Path::new(env!("CARGO_MANIFEST_DIR")).join("../tests/command");
+    for (case, name, input, places) in [
+        ("check-columns", "standard input", "stdin", 18),
+        ("check-control", "standard input", "stdin", 18),
+        ("check-long", "standard input", "stdin", 18),
+        ("check-places", "standard input", "stdin", 1),
+        ("check-hints", "hints.wkt", "data/hints.wkt", 18),
+    ] {
+        let read = |file: &str| std::fs::read_to_string(cases.join(case).join(file)).unwrap();
+        assert_eq!(
+            printed(name, &read(input), places),
+            read("stdout"),
+            "{case}"
+        );
+    }
+}
