@@ -1,5 +1,5 @@
 //! The canonical text of a text, as a string.
-ghost use Rattle.std.specs.Prelude.{◌≡◌, ◌+◌, ◌*◌, ◌≤◌, IfOk, OnOk, length, string_bytes, vec_len};
+ghost use Rattle.std.specs.Prelude.{◌≡◌, ◌+◌, ◌*◌, ◌≤◌, IfOk, OnOk, IsUtf8, length, string_bytes, vec_len};
 ghost use Rattle.wkt_read.specs.Answered.{HasBadNumber, OnText, OnMessage};
 ghost use Rattle.wkt_read.specs.Front.{HasNoFront};
 ghost use Rattle.wkt_read.specs.Items.{bad_number};
@@ -11,6 +11,11 @@ use wkt_events::{NoRoom, TextWritten, canonical_into};
 use wkt_explain::refusal;
 use wkt_num::WktNum;
 use wkt_read::{Message, ReadError};
+
+// Shorter texts are written to an array first: room for twice the text would be allocated, cut and freed.
+const SHORT: usize = 64;
+
+const SHORT_ROOM: usize = 2 * SHORT + 65;
 
 /// Room for what a text of so many bytes is written as, unless a number's text is very long.
 fn room_for(alloc: Global, n: usize) -> Result<Vec<u8>, AllocError>
@@ -25,6 +30,16 @@ fn room_for(alloc: Global, n: usize) -> Result<Vec<u8>, AllocError>
     };
     bytes.resize(room, 0)?;
     Ok(bytes)
+}
+
+/// These bytes as a string, in one allocation of their length.
+fn string_of(alloc: Global, bytes: &[u8]) -> Result<String, AllocError>
+    requires { IsUtf8 bytes.now }
+    ensures { IfOk result (λ s. string_bytes s ≡ bytes.now) }
+{
+    let mut copied = Vec::with_capacity(alloc, bytes.len())?;
+    copied.extend_from_slice(bytes)?;
+    Ok(unsafe { String::from_utf8_unchecked(copied) })
 }
 
 /// Makes twice the room.
@@ -68,6 +83,14 @@ pub fn canonical_text<T: WktNum>(alloc: Global, text: &str) -> Result<String, Re
     ensures bad { OnMessage result bad_number (HasBadNumber T.read text.now) }
     ensures refusal { IfText result (λ said. IsTextRefused T.read text.now said) }
 {
+    if text.len() <= SHORT {
+        let mut near = [0u8; SHORT_ROOM];
+        match canonical_into::<T>(text, &mut near) {
+            Ok(Some(TextWritten { end: _, len })) => return Ok(string_of(alloc, &near[..len])?),
+            Ok(None) => return Err(ReadError::Text(message_of::<T>(text).text())),
+            Err(NoRoom) => {}
+        }
+    }
     let mut bytes = room_for(alloc, text.len())?;
     'room: loop {
         match canonical_into::<T>(text, bytes.as_mut_slice()) {

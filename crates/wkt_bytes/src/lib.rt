@@ -4,11 +4,13 @@
 #![tactic(auto)]
 
 mod error;
+mod gathered;
 mod read;
 mod sinks;
 mod wrapper;
 
 pub use error::error_of;
+pub use gathered::GatheredText;
 pub use read::{ReadAllError, read_all};
 pub use sinks::{ByteSink, ByteSource, Counted};
 pub use wrapper::{WriterWrapper, copy_piece, put_all};

@@ -3,20 +3,35 @@ ghost use Rattle.std.specs.Prelude.{◌≡◌, IfOk, IfErr, OnOk, None, string_b
 ghost use Rattle.wkt_access.specs.Texts.{shape_text};
 ghost use Rattle.wkt_access.specs.Faults.{fault};
 ghost use Rattle.wkt_access.specs.Lawful.{IsLawful};
-ghost use Rattle.wkt_write.specs.Writes.{Pushes};
+ghost use Rattle.wkt_write.specs.Writes.{Writes, Pushes};
 ghost use Rattle.wkt_convert.specs.Sent.{IsRefusal};
 
 use crate::send::Written;
 use std::alloc::{AllocError, Global};
 use wkt_access::Error;
-use wkt_num::CountedText;
+use wkt_bytes::GatheredText;
+use wkt_num::{CountedText, TextSink, WktNum};
+
+// Writes the text of a geometry gathered: a string that it goes to grows once for many numbers.
+fn write_gathered<S: TextSink, G: Written>(sink: S, g: &G) -> (S, Result<(), Error>)
+    ensures { Writes S.sink G.T.is_value G.T.num sink (G.shape g.now) result.0 result.1 }
+{
+    let mut gathered = GatheredText::new(sink);
+    match g.write_text(&mut gathered) {
+        Ok(()) => match gathered.finish() {
+            Ok(()) => (gathered.into_sink(), Ok(())),
+            Err(e) => (gathered.into_sink(), Err(Error::FmtError(e))),
+        },
+        Err(e) => (gathered.into_sink(), Err(e)),
+    }
+}
 
 /// Adds the text of a geometry to a string. A piece that there is no memory for is no part of it.
 fn push_text<G: Written>(out: &mut String, g: &G) -> Result<(), Error>
     ensures { Pushes G.T.is_value G.T.num (string_bytes out.old) (G.shape g.now) (string_bytes out.new) result }
 {
-    let mut sink = CountedText::new(out);
-    let result = g.write_text(&mut sink);
+    let counted = CountedText::new(out);
+    let (sink, result) = write_gathered(counted, g);
     sink.into_writer();
     result
 }

@@ -1,8 +1,9 @@
 -- What a geometry is displayed as.
-use Rattle.std.specs.Prelude.{◌≡◌, ◌≢◌, ℕ, List, Option, Some, None, Result, IsErr}
+use Rattle.std.specs.Prelude.{◌≡◌, ◌≢◌, ℕ, List, Option, Some, None, Result, IsErr, OnOk}
 use Rattle.std.specs.Fmt.{DisplaysOnOk, DisplaysStyledOnOk}
 use Rattle.std.specs.declared.fmt.Error as fmt
 use Rattle.std.specs.declared.fmt.Formatter.{Formatter}
+use Rattle.wkt_num.specs.Sink.{Sink}
 use Rattle.wkt_access.specs.declared.error.Error.{Error}
 use Rattle.wkt_access.specs.Shapes.{Shape}
 use Rattle.wkt_access.specs.Texts.{shape_text}
@@ -31,3 +32,9 @@ pub record Shows {W N : Type 0} (gives : W → List ℕ → W → Type 0) (num :
   pub refused : IsUnwritable s → IsErr result
   -- Nothing of it is written.
   pub untouched : IsUnwritable s → t ≡ f
+
+-- What a sink was given of a shape, before and after: its text, or nothing where it can't be written.
+pub record Sends {S N : Type 0} (sink : Sink S) (num : N → List ℕ) (shape : Shape N) (s : S) (result : Result (Unit {0}) fmt.Error) (t : S) : Type 0 where
+  pub sent : OnOk result (sink.gives s (shape_text num shape) t)
+  pub sound : OnOk result (fault shape ≡ None)
+  pub untouched : IsUnwritable shape → t ≡ s
