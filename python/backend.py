@@ -22,7 +22,7 @@ import tempfile
 import time
 import zipfile
 
-NAME, VERSION = "wkt_proved", "0.14.0"
+NAME, VERSION = "wkt_proved", "1.0.0"
 SUMMARY = "Well-known text by a proved library: canonical texts, comparison, columns, arrays"
 here = os.path.dirname(os.path.abspath(__file__))
 

@@ -20,7 +20,6 @@ PLACES = [
     ("python/backend.py", rf'^NAME, VERSION = "wkt_proved", "({WHOLE})"$'),
     ("python/wkt/__init__.py", rf'^__version__ = "({WHOLE})"$'),
     ("rust/Cargo.toml", rf'^version = "({WHOLE})"$'),
-    ("rust/Cargo.lock", rf'^name = "wkt_proved"\nversion = "({WHOLE})"$'),
     ("postgres/wkt.control", r"^default_version = '(\d+\.\d+)'$"),
     ("postgres/Makefile", r"^DATA = .*\bwkt--(\d+\.\d+)\.sql\b"),
 ]

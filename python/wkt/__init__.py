@@ -19,7 +19,7 @@ from ._geoarrow import GeoArrow
 from ._names import DIMENSIONS, KINDS
 from ._stream import stream
 
-__version__ = "0.14.0"
+__version__ = "1.0.0"
 
 __all__ = [
     "DIMENSIONS",

@@ -1,7 +1,7 @@
 //! What `--help` and `--version` print.
 
 /// What `--version` prints.
-pub const VERSION: &str = "wkt 0.14.0\n";
+pub const VERSION: &str = "wkt 1.0.0\n";
 
 /// How the program is called, in a line.
 pub const USAGE: &str =
