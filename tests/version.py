@@ -21,7 +21,7 @@ PLACES = [
     ("python/wkt/__init__.py", rf'^__version__ = "({WHOLE})"$'),
     ("rust/Cargo.toml", rf'^version = "({WHOLE})"$'),
     ("postgres/wkt.control", r"^default_version = '(\d+\.\d+)'$"),
-    ("postgres/Makefile", r"^DATA = .*\bwkt--(\d+\.\d+)\.sql\b"),
+    ("postgres/Makefile", r"^DATA = wkt--(\d+\.\d+)\.sql\b"),
 ]
 
 
