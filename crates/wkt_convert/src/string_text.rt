@@ -9,15 +9,15 @@ ghost use Rattle.wkt_convert.specs.Sent.{IsRefusal};
 use crate::send::Written;
 use std::alloc::{AllocError, Global};
 use wkt_access::Error;
-use wkt_num::CountedText;
+use wkt_num::StringText;
 
 /// Adds the text of a geometry to a string. A piece that there is no memory for is no part of it.
 fn push_text<G: Written>(out: &mut String, g: &G) -> Result<(), Error>
     ensures { Pushes G.T.is_value G.T.num (string_bytes out.old) (G.shape g.now) (string_bytes out.new) result }
 {
-    let mut sink = CountedText::new(out);
+    let mut sink = StringText::new(out);
     let result = g.write_text(&mut sink);
-    sink.into_writer();
+    sink.into_string();
     result
 }
 

@@ -55,7 +55,7 @@ unwritten sink is_value num s t shape (Err (FmtError e)) w h = absurd (h w.sound
 unwritten sink is_value num s t shape (Err RectUnsupportedDimension) w h = w.same
 unwritten sink is_value num s t shape (Err UnknownDimension) w h = w.same
 unwritten sink is_value num s t shape (Err TooFewNumbers) w h = w.same
-unwritten sink is_value num s t shape (Err (Memory e)) w h = w.same
+unwritten sink is_value num s t shape (Err (Memory e)) w h = absurd w
 
 -- what a reference reaches is as it was where a sink over it is
 pub untouched : {W : Type 0} (s t b e : MutBor W) (v : W) → s ≡ b → e ≡ t → (e.ghost_name ≡ b.ghost_name → v ≡ e.now) → t ≡ s → v ≡ b.now
