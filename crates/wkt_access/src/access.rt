@@ -20,8 +20,12 @@ pub trait CoordTrait {
     /// Its numbers in their order.
     ghost numbers: { Self → List Self.T };
 
+    /// Which numbers they are.
+    ghost dimension: { Self → Dimensions };
+
     /// Which numbers it has: its size is their count, which is at least two.
     fn dim(&self) -> Dimensions
+        ensures which { result ≡ dimension self.now }
         ensures count { length (numbers self.now) ≡ size_of result }
         ensures two { 2 ≤ length (numbers self.now) };
 

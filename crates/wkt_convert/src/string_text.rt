@@ -10,7 +10,7 @@ use crate::send::Written;
 use std::alloc::{AllocError, Global};
 use wkt_access::Error;
 use wkt_bytes::GatheredText;
-use wkt_num::{CountedText, TextSink, WktNum};
+use wkt_num::{StringText, TextSink, WktNum};
 
 // Writes the text of a geometry gathered: a string that it goes to grows once for many numbers.
 fn write_gathered<S: TextSink, G: Written>(sink: S, g: &G) -> (S, Result<(), Error>)
@@ -30,9 +30,9 @@ fn write_gathered<S: TextSink, G: Written>(sink: S, g: &G) -> (S, Result<(), Err
 fn push_text<G: Written>(out: &mut String, g: &G) -> Result<(), Error>
     ensures { Pushes G.T.is_value G.T.num (string_bytes out.old) (G.shape g.now) (string_bytes out.new) result }
 {
-    let counted = CountedText::new(out);
-    let (sink, result) = write_gathered(counted, g);
-    sink.into_writer();
+    let into = StringText::new(out);
+    let (sink, result) = write_gathered(into, g);
+    sink.into_string();
     result
 }
 

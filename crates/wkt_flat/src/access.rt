@@ -26,6 +26,8 @@ impl<T: WktNum> CoordTrait for Coord<T> {
 
     ghost numbers = { flat_numbers };
 
+    ghost dimension = { λ _. Xy };
+
     fn dim(&self) -> Dimensions {
         Dimensions::Xy
     }

@@ -2,7 +2,7 @@
 ghost use Rattle.std.specs.Prelude.{map};
 ghost use Rattle.wkt_access.specs.Parts.{members_of};
 ghost use Rattle.wkt_access.specs.Shapes.{header_of, polygon_of};
-ghost use Rattle.wkt_types.specs.Coords.{numbers_of};
+ghost use Rattle.wkt_types.specs.Coords.{coord_dim, numbers_of};
 ghost use Rattle.wkt_types.specs.Tree.{collection_tree, tree_dim};
 ghost use Rattle.wkt_types.specs.Values.{point_numbers, line_string_numbers, polygon_numbers, tree_shape};
 
@@ -24,6 +24,8 @@ impl<T: WktNum> CoordTrait for Coord<T> {
     type T = T;
 
     ghost numbers = { numbers_of };
+
+    ghost dimension = { λ c. header_of (coord_dim c) };
 
     fn dim(&self) -> Dimensions {
         match (&self.z, &self.m) {

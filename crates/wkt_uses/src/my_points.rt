@@ -31,6 +31,8 @@ impl CoordTrait for Spot {
 
     ghost numbers = { λ s. s.numbers.items };
 
+    ghost dimension = { λ s. Unknown (vec_len s.numbers) };
+
     fn dim(&self) -> Dimensions {
         Dimensions::Unknown(self.numbers.len())
     }

@@ -1,4 +1,4 @@
--- The error of a shape is never that of the sink.
+-- The error of a shape is never that of the sink or of memory.
 use Rattle.std.proofs.Common.{◌≡◌, ℕ, List, [], ◌∷◌, length, Bool, true, false, cond, nat_lt, Option, Some, None, refl}
 use Rattle.std.specs.Prelude.{option_to_list}
 use Rattle.std.specs.Option.{option_or}
@@ -16,7 +16,7 @@ IsOwn (FmtError e) = ⊥
 IsOwn RectUnsupportedDimension = Unit {0}
 IsOwn UnknownDimension = Unit {0}
 IsOwn TooFewNumbers = Unit {0}
-IsOwn (Memory e) = Unit {0}
+IsOwn (Memory e) = ⊥
 
 abbrev IsOwnIfAny : Option Error → Type 0
 IsOwnIfAny None = Unit {0}
@@ -80,7 +80,7 @@ module _ {S N : Type 0} (sink : Sink S) (num : N → List ℕ) (s : S) (shape : 
   own_refusal RectUnsupportedDimension h w = record { found = w; same = refl }
   own_refusal UnknownDimension h w = record { found = w; same = refl }
   own_refusal TooFewNumbers h w = record { found = w; same = refl }
-  own_refusal (Memory x) h w = record { found = w; same = refl }
+  own_refusal (Memory x) h w = absurd (rw w at h)
 
   pub refusal : (e : Error) → fault shape ≡ Some e → Fails sink num s shape s e
   refusal e w = own_refusal e (fault_own shape) w

@@ -1,6 +1,6 @@
 -- What a writer of a shape returns, and leaves in the sink: `s` is the sink before, and `t` after.
 use Rattle.std.specs.Prelude.{◌≡◌, ℕ, List, ◌++◌, Some, None, Result, Ok, Err, OnOk}
-use Rattle.wkt_num.specs.Sink.{Sink, Adds, Breaks}
+use Rattle.wkt_num.specs.Sink.{Sink, Adds, Breaks, GrewBy}
 use Rattle.wkt_access.specs.declared.error.Error.{Error}
 use Rattle.wkt_access.specs.declared.error.Error.TheVariants.{FmtError, RectUnsupportedDimension, UnknownDimension, TooFewNumbers, Memory}
 use Rattle.wkt_access.specs.Shapes.{Shape}
@@ -25,27 +25,27 @@ pub record Refused {S N : Type 0} (s : S) (shape : Shape N) (t : S) (e : Error) 
   pub found : fault shape ≡ Some e
   pub same : t ≡ s
 
--- `FmtError` is the sink's, and any other error is the error of the shape.
+-- `FmtError` is the sink's, any other error is the error of the shape, and `Memory` never comes.
 abbrev pub Fails : {S N : Type 0} → Sink S → (N → List ℕ) → S → Shape N → S → Error → Type 0
 Fails sink num s shape t (FmtError e) = BrokenOff sink num s shape t
 Fails sink num s shape t RectUnsupportedDimension = Refused s shape t RectUnsupportedDimension
 Fails sink num s shape t UnknownDimension = Refused s shape t UnknownDimension
 Fails sink num s shape t TooFewNumbers = Refused s shape t TooFewNumbers
-Fails sink num s shape t (Memory e) = Refused s shape t (Memory e)
+Fails sink num s shape t (Memory e) = ⊥
 
 -- What a writer returns: the text was written, or it wasn't for this error.
 abbrev pub Writes : {S T N : Type 0} → Sink S → (N → Type 0) → (N → List ℕ) → S → Shape N → S → Result T Error → Type 0
 Writes sink is_value num s shape t (Ok x) = Written sink is_value num s shape t
 Writes sink is_value num s shape t (Err e) = Fails sink num s shape t e
 
--- The fact is claimed of an error that is an error of the shape, and not of the sink.
+-- The fact is claimed of an error that is an error of the shape, and not of the sink; `Memory` never comes.
 abbrev pub IfFault : {T : Type 0} → Result T Error → (Error → Type 0) → Type 0
 IfFault (Ok x) P = Unit {0}
 IfFault (Err (FmtError e)) P = Unit {0}
 IfFault (Err RectUnsupportedDimension) P = P RectUnsupportedDimension
 IfFault (Err UnknownDimension) P = P UnknownDimension
 IfFault (Err TooFewNumbers) P = P TooFewNumbers
-IfFault (Err (Memory e)) P = P (Memory e)
+IfFault (Err (Memory e)) P = ⊥
 
 -- The fact is claimed where the sink failed.
 abbrev pub OnFmtError : {T : Type 0} → Result T Error → Type 0 → Type 0
@@ -64,3 +64,4 @@ pub record Pushes {T N : Type 0} (is_value : N → Type 0) (num : N → List ℕ
   pub fault : IfFault r (λ e. faults.fault shape ≡ Some e)
   pub untouched : IfFault r (λ e. t ≡ s)
   pub memory : OnFmtError r (faults.fault shape ≡ None)
+  pub grew : OnFmtError r (GrewBy s (shape_text num shape) t)

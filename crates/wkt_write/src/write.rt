@@ -17,7 +17,7 @@ use wkt_access::{
     MultiLineStringTrait, MultiPointTrait, MultiPolygonTrait, PointTrait, PolygonTrait, RectTrait,
     TriangleTrait,
 };
-use wkt_num::{CountedText, TextSink, WktNum};
+use wkt_num::{StringText, TextSink, WktNum};
 
 /// Writes a geometry of one kind, if its check finds no error.
 #[inline(always)]
@@ -34,9 +34,9 @@ fn write_kind<W: TextSink, K: Kind>(f: &mut W, g: &K) -> Result<(), Error>
 fn push_kind<K: Kind>(out: &mut String, g: &K) -> Result<(), Error>
     ensures { Pushes K.T.is_value K.T.num (string_bytes out.old) (K.shape g.now) (string_bytes out.new) result }
 {
-    let mut sink = CountedText::new(out);
+    let mut sink = StringText::new(out);
     let result = write_kind(&mut sink, g);
-    sink.into_writer();
+    sink.into_string();
     result
 }
 
@@ -62,7 +62,8 @@ pub fn write_point<W: TextSink, P: PointTrait>(f: &mut W, g: &P) -> Result<(), E
 ///
 /// # Errors
 /// As of [`write_point`]: the first error in the order of the text, and then the string is as it was;
-/// [`Error::FmtError`] where the string has no memory to grow into; then the shape has no error.
+/// [`Error::FmtError`] where the string has no memory to grow into; then the shape has no error, and
+/// the string holds what it held and a beginning of the text.
 pub fn push_point<P: PointTrait>(out: &mut String, g: &P) -> Result<(), Error>
     ensures { Pushes P.T.is_value P.T.num (string_bytes out.old)
         (Shape.point (P.dimension g.now) (P.coordinate g.now))
@@ -226,7 +227,8 @@ pub fn write_geometry<W: TextSink, G: GeometryTrait>(f: &mut W, g: &G) -> Result
 ///
 /// # Errors
 /// As [`write_geometry`]: the geometry's first error in the order of its text, and then the string is as it was;
-/// [`Error::FmtError`] where the string has no memory to grow into; then the geometry has no error.
+/// [`Error::FmtError`] where the string has no memory to grow into; then the geometry has no error,
+/// and the string holds what it held and a beginning of the text.
 pub fn push_geometry<G: GeometryTrait>(out: &mut String, g: &G) -> Result<(), Error>
     ensures { Pushes G.T.is_value G.T.num (string_bytes out.old) (G.shape g.now) (string_bytes out.new) result }
 {

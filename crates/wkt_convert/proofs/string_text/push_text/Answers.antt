@@ -4,4 +4,4 @@ use Rattle.wkt_write.proofs.Strings.{pushed}
 use Rattle.wkt_convert.proofs.string_text.push_text.Goals as goal
 
 pub returns : goal.returns
-returns g c = pushed _ _ _ _ _ _ _ _ c.new-counted.ensures.writer c.into_writer.ensures (λ same. search (rules, same)) _ c.write_gathered-sink.ensures
+returns g c = pushed _ _ _ _ _ _ _ _ c.new-into.ensures.string c.into_string.ensures (λ same. search (rules, same)) _ c.write_gathered-sink.ensures

@@ -4,4 +4,4 @@ use Rattle.wkt_write.proofs.Strings.{pushed}
 use Rattle.wkt_write.proofs.write.push_kind.Goals as goal
 
 pub returns : goal.returns
-returns g c = pushed _ _ _ _ _ _ _ _ c.new-sink.ensures.writer c.into_writer.ensures (λ same. search (rules, same)) _ c.write_kind-result.ensures
+returns g c = pushed _ _ _ _ _ _ _ _ c.new-sink.ensures.string c.into_string.ensures (λ same. search (rules, same)) _ c.write_kind-result.ensures
