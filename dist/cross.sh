@@ -1,6 +1,6 @@
 #!/usr/bin/env bash
 # The library and the programs for another processor, by qemu-user: the tests in C, the keys, the command's cases, nesting and
-# threads, the examples, and what `make install` leaves.
+# threads, the examples, the answers to stored texts, and what `make install` leaves.
 #
 # cross.sh [PROCESSOR]: aarch64 where none is named. It needs PROCESSOR-linux-gnu-gcc with its C library (on Debian
 # gcc-aarch64-linux-gnu, libc6-dev-arm64-cross) and qemu-PROCESSOR-static (qemu-user-static).
@@ -22,5 +22,13 @@ for example in lines stream; do $RUN "$out/$example" < crates/wktline/stdin | cm
 # The shared library, too.
 $CC -O2 -I"$out" -o "$out/shared" tests/keys.c -L"$out" -lwkt
 $RUN -E LD_LIBRARY_PATH="$out" "$out/shared" < tests/keys.tsv
+# The command answers the stored texts as that of this machine does.
+make -s -C dist O="$out/here" CC=cc
+cut -f 1 crates/wkt_conformance/stdin | cat - tests/fuzz/corpus.txt > "$out/texts"
+for call in "check -n 0" "check -n 0 -p 6" "canon" "canon -p 6 --front" "kind" "dups"; do
+    "$out/here/wkt" $call "$out/texts" > "$out/wanted" 2>&1 || true
+    $RUN "$out/wkt" $call "$out/texts" 2>&1 | cmp - "$out/wanted"
+done
+echo "$(wc -l < "$out/texts") lines, by six calls of the command: as on $(uname -m)"
 tests/c_install.sh
 echo "$processor: all passed"

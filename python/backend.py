@@ -107,8 +107,9 @@ def _compiled(folder):
 
 
 def _licences():
-    """Those of the clone; pip before 21.3 builds in a copy of this folder, where there is none."""
-    return sorted(glob.glob(os.path.join(here, os.pardir, "LICENSE-*")))
+    """Those of the clone, and whose code is in the library; pip before 21.3 builds in a copy of this folder, where there is none."""
+    clone = os.path.join(here, os.pardir)
+    return sorted(glob.glob(os.path.join(clone, "LICENSE-*"))) + glob.glob(os.path.join(clone, "dist", "NOTICE"))
 
 
 def _about():
