@@ -7,10 +7,7 @@ cd "$(dirname "$0")" || exit 1
 fail() { echo "rust: $*"; exit 1; }
 dir=$(mktemp -d)
 trap 'rm -rf "$dir"' EXIT
-mkdir "$dir/home"
-registry=/usr/share/cargo/registry
-[ -d $registry/geo-types-* ] || fail "no Debian registry with geo-types: tests/needs.sh installs it"
-printf '[source.crates-io]\nreplace-with = "debian"\n[source.debian]\ndirectory = "%s"\n' $registry > "$dir/home/config.toml"
+../tests/cargo_home.sh "$dir/home" || fail "no crates"
 export CARGO_HOME=$dir/home WKT_LIB_DIR=${WKT_LIB_DIR:-$PWD/../capi/out}
 
 # run WORDS COMMAND..: says the words, and how many tests passed
