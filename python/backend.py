@@ -22,9 +22,11 @@ import tempfile
 import time
 import zipfile
 
-NAME, VERSION = "wkt_proved", "1.0.0"
-SUMMARY = "Well-known text by a proved library: canonical texts, comparison, columns, arrays"
 here = os.path.dirname(os.path.abspath(__file__))
+NAME = "wkt_proved"
+SUMMARY = "Well-known text by a proved library: canonical texts, comparison, columns, arrays"
+with open(os.path.join(here, "wkt", "_version.py"), encoding="utf-8") as file:
+    VERSION = re.search('"(.*)"', file.read()).group(1)
 
 
 def _library(folder):
@@ -101,7 +103,7 @@ def _compiled(folder):
     if lacks:
         return None
     made = os.path.join(folder, "_fast.abi3.so")
-    words = ["-O2", "-shared", "-fPIC", "-fstack-protector-strong", "-Wl,-z,relro,-z,now", "-I", headers, os.path.join(here, "src", "_fast.c"), "-o", made]
+    words = ["-O2", "-shared", "-fPIC", "-fstack-protector-strong", "-Wl,-z,relro,-z,now", "-fvisibility=hidden", "-I", headers, *sorted(glob.glob(os.path.join(here, "src", "*.c"))), "-o", made]
     subprocess.run(compiler + words, check=True)
     return made
 

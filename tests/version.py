@@ -17,11 +17,10 @@ PLACES = [
     (HEADER, rf'^#define WKT_VERSION "({WHOLE})"$'),
     ("crates/wkt_command/src/help.rt", rf'VERSION: &str = "wkt ({WHOLE})\\n"'),
     ("tests/command/version/stdout", rf"^wkt ({WHOLE})$"),
-    ("python/backend.py", rf'^NAME, VERSION = "wkt_proved", "({WHOLE})"$'),
-    ("python/wkt/__init__.py", rf'^__version__ = "({WHOLE})"$'),
+    ("python/wkt/_version.py", rf'^__version__ = "({WHOLE})"$'),
     ("rust/Cargo.toml", rf'^version = "({WHOLE})"$'),
     ("postgres/wkt.control", r"^default_version = '(\d+\.\d+)'$"),
-    ("postgres/Makefile", r"^DATA = wkt--(\d+\.\d+)\.sql\b"),
+    ("postgres/Makefile", r"^DATA = .*\bwkt--(\d+\.\d+)\.sql\b"),
 ]
 
 

@@ -1,11 +1,9 @@
-/* wkt._fast: the buffers of a column of Python texts, and texts of buffers, without an object for a row in between.
+/* wkt._fast: the buffers of a column of Python texts, and texts of buffers, without an object for a row in between; and
+ * columns that are lent by Arrow's C interfaces (arrow_in.c, arrow_texts.c, arrow_out.c).
  *
  * It calls no library: the package calls libwkt in between. Of Python it needs the limited API of 3.11 alone, so one
  * wheel serves that version and each later one. Where it isn't built, wkt/_blocks.py does the same in Python. */
-#define PY_SSIZE_T_CLEAN
-#define Py_LIMITED_API 0x030b0000
-#include <Python.h>
-#include <stdint.h>
+#include "arrow.h"
 #include <string.h>
 
 enum { TEXT, EMPTY_ROW, OTHER, FAILED };
@@ -92,7 +90,9 @@ static PyObject *pack(PyObject *self, PyObject *given) {
     Py_ssize_t count;
     (void)self;
     if (!PyList_Check(given) && !PyTuple_Check(given)) Py_RETURN_NONE;
-    count = PySequence_Size(given);
+    /* Not by a len() of a class of their own: it is code of Python, and may say anything. */
+    count = PyList_Check(given) ? PyList_Size(given) : PyTuple_Size(given);
+    if (count < 0) return NULL;
     rows.texts = PyMem_Malloc((size_t)(count + 1) * sizeof *rows.texts);
     offsets = PyBytes_FromStringAndSize(NULL, (count + 1) * (Py_ssize_t)sizeof(int64_t));
     bits = PyBytes_FromStringAndSize(NULL, (count + 7) / 8);
@@ -183,8 +183,15 @@ static PyMethodDef methods[] = {
      "pack(rows) -> (bytes of all rows, int64 offsets, bits or b''), or None where a row is left to Python"},
     {"unpack", unpack, METH_VARARGS,
      "unpack(bytes, int64 offsets, uint32 statuses, rows=None) -> list of str, and of None where a status isn't 0"},
+    {"arrow_array", arrow_array, METH_VARARGS,
+     "arrow_array(schema, array) -> ((is of UTF-8, metadata), (data, int64 offsets, bits or b'', rows))"},
+    {"arrow_stream", arrow_stream, METH_O, "arrow_stream(stream) -> (what arrow_next takes, (is of UTF-8, metadata))"},
+    {"arrow_next", arrow_next, METH_O, "arrow_next(stream) -> (data, int64 offsets, bits or b'', rows), or None at the end"},
+    {"export", arrow_export, METH_O, "export((format, name, metadata, flags, length, nulls, buffers, columns)) -> (schema, array)"},
+    {"export_schema", arrow_export_schema, METH_O, "export_schema(such a tuple) -> schema"},
+    {"export_stream", arrow_export_stream, METH_VARARGS, "export_stream(such a tuple, iterator of such tuples) -> stream"},
     {NULL, NULL, 0, NULL}};
 
 static struct PyModuleDef module = {PyModuleDef_HEAD_INIT, "wkt._fast", NULL, 0, methods, NULL, NULL, NULL, NULL};
 
-PyMODINIT_FUNC PyInit__fast(void) { return PyModule_Create(&module); }
+PyMODINIT_FUNC PyInit__fast(void) { return arrow_ready() < 0 ? NULL : PyModule_Create(&module); }

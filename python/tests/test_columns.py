@@ -9,6 +9,7 @@ import unittest
 import unittest.mock
 
 import wkt
+from wkt._blocks import _fast as compiled
 
 try:
     import numpy
@@ -36,27 +37,6 @@ def arrow(texts, first=0):
     offsets = numpy.cumsum([0] + list(map(len, held))).astype(numpy.int64)
     statuses = numpy.array([0 if text is not None else 28 for text in texts], numpy.uint32)
     return wkt.ArrowTexts(numpy.frombuffer(b"".join(held), numpy.uint8), offsets, statuses)
-
-
-class Lent:
-    """An Arrow column of another producer: utf8 with offsets of 32 bits, from a row on."""
-
-    def __init__(self, texts, first, format=b"u"):
-        from wkt import _arrow as api
-
-        self.whole, self.first, self.format, self.api = arrow(texts), first, format, api
-
-    def __arrow_c_array__(self, requested_schema=None):
-        capsules = self.whole.__arrow_c_array__()
-        api = self.api
-        schema = api._Schema.from_address(api._api.PyCapsule_GetPointer(capsules[0], b"arrow_schema"))
-        lent = api._Array.from_address(api._api.PyCapsule_GetPointer(capsules[1], b"arrow_array"))
-        schema.format = self.format
-        if self.format in (b"u", b"z"):
-            self.offsets = self.whole.offsets.astype(numpy.int32)
-            lent.buffers[1] = self.offsets.ctypes.data
-        lent.length, lent.offset = len(self.whole) - self.first, self.first
-        return capsules
 
 
 class Kinds(unittest.TestCase):
@@ -115,7 +95,66 @@ class Kinds(unittest.TestCase):
         frame = pandas.DataFrame({"g": TEXTS})
         self.assertEqual(frame[wkt.reads(frame.g)].g.tolist(), [TEXTS[0], TEXTS[2], TEXTS[4]])
 
-    @unittest.skipIf(numpy is None, "no NumPy")
+    @unittest.skipIf(pandas is None, "no pandas")
+    def test_answers_of_series(self):
+        """Answers that are no texts have the index and the name of their Series too."""
+        index = [7, 5, 3, 1, 9]
+        series = pandas.Series(TEXTS, index, name="geometry", dtype=object)
+        same, kinds, why = wkt.same(series, TEXTS[0], invalid="null"), wkt.infer(series, invalid="null"), wkt.explain(series)
+        for answers in (same, kinds, why, wkt.lines(series), wkt.reads(series), wkt.same(TEXTS[0], series, invalid="null")):
+            self.assertIsInstance(answers, pandas.Series)
+            self.assertEqual((answers.index.tolist(), answers.name), (index, "geometry"))
+        self.assertEqual([None if it is pandas.NA else it for it in same], [True, None, False, None, False])
+        self.assertEqual(series[same.fillna(False)].tolist(), [TEXTS[0]])
+        self.assertEqual(kinds.tolist(), [("Point", "XY"), None, ("Point", "XY"), None, ("MultiPoint", "XY")])
+        self.assertEqual([it and it.start for it in why], [None, None, None, 0, None])
+        self.assertEqual(wkt.same(series, TEXTS, invalid="null").index.tolist(), index)
+        with self.assertRaises(ValueError):
+            wkt.same(series, series.reset_index(drop=True), invalid="null")
+        empty = wkt.same(series[:0], series[:0])
+        self.assertEqual((len(empty), empty.name), (0, "geometry"))
+
+    @unittest.skipIf(pandas is None, "no pandas")
+    def test_indexes(self):
+        answers = wkt.canonical(pandas.Index(GOOD, name="geometry"))
+        self.assertIsInstance(answers, pandas.Index)
+        self.assertEqual((answers.tolist(), answers.name), (GOOD_ANSWERS, "geometry"))
+        self.assertEqual(wkt.reads(pandas.Index(TEXTS)).tolist(), [True, False, True, False, True])
+
+    @unittest.skipIf(pandas is None, "no pandas")
+    def test_strings_of_pandas(self):
+        """They are known by their class: in pandas 3 its name is another."""
+        with unittest.mock.patch.object(pandas.StringDtype, "name", "str"):
+            series = pandas.Series(TEXTS, dtype=pandas.StringDtype())
+            answers = wkt.canonical(series, invalid="null")
+            self.assertIsInstance(answers.dtype, pandas.StringDtype)
+        self.assertTrue(answers[3] is pandas.NA)
+
+    def test_geometries(self):
+        """What is no text: the error names the call that gives texts."""
+        class Point:
+            geom_type = "Point"
+
+        for given in (Point(), ["POINT(1 2)", Point()]):
+            with self.assertRaises(TypeError) as raised:
+                wkt.canonical(given)
+            self.assertIn("to_wkt(", str(raised.exception))
+
+    def test_refused_texts(self):
+        """What `invalid` makes of one text."""
+        for text in ("PINT(1 2)", b"\xff", "POINT(1 2) x"):
+            self.assertIsNone(wkt.canonical(text, invalid="null"))
+            self.assertEqual(wkt.canonical(text, invalid="keep"), text)
+            self.assertIsNone(wkt.to_arrays(text, invalid="null"))
+            self.assertIsNone(wkt.same(text, "POINT(1 2)", invalid="null"))
+        self.assertIsNone(wkt.infer("PINT(", invalid="null"))
+        self.assertEqual(wkt.infer(["PINT(", "POINT(", None], invalid="null"), [None, ("Point", "XY"), None])
+        self.assertIsNone(wkt.to_arrays("GEOMETRYCOLLECTION EMPTY", invalid="null"))
+        for call in (wkt.infer, wkt.to_arrays):
+            with self.assertRaises(ValueError):
+                call("POINT(1 2)", invalid="keep")
+
+    @unittest.skipIf(compiled is None, "no fast module")
     def test_arrow(self):
         texts = TEXTS * 50 + ["pÖint(1 2)"]
         answers, statuses = wkt.canonical_column(texts)
@@ -135,36 +174,9 @@ class Kinds(unittest.TestCase):
             wkt.canonical(given)
         self.assertEqual((raised.exception.row, raised.exception.status), (3, 3))
         self.assertEqual(raised.exception.explanation, wkt.explain("PINT(5 6)"))
-        for first in (0, 1, 7, 8, 13):
-            for format in (b"u", b"z", b"U", b"Z"):
-                made = wkt.canonical(Lent(texts, first, format), invalid="null")
-                self.assertEqual(made.to_pylist(), answers[first:])
-        with self.assertRaises(TypeError):
-            wkt.canonical(Lent(texts, 0, b"l"))
         self.assertEqual(wkt.canonical(arrow([])).to_pylist(), [])
         many = ["MULTIPOINT(" + ",".join(["EMPTY"] * 50) + ")", "MULTIPOINT(" + ",".join(["1 2"] * 50) + ")"]
         self.assertEqual(wkt.canonical(arrow(many)).to_pylist(), wkt.canonical(many))
-
-    @unittest.skipIf(numpy is None, "no NumPy")
-    def test_arrow_releases(self):
-        """What is lent lives until its release is called, moved or not, and until its capsule is gone."""
-        from wkt import _arrow as api
-
-        for moved in (False, True):
-            capsules = arrow(TEXTS).__arrow_c_array__()
-            gc.collect()
-            self.assertEqual(len(api._alive), 2)
-            if moved:  # as the interface has a consumer do it
-                for name, kind, capsule in zip((b"arrow_schema", b"arrow_array"), (api._Schema, api._Array), capsules):
-                    there = kind.from_address(api._api.PyCapsule_GetPointer(capsule, name))
-                    mine = kind()
-                    api.ctypes.memmove(api.ctypes.addressof(mine), api.ctypes.addressof(there), api.ctypes.sizeof(kind))
-                    there.release = type(there.release)()
-                    mine.release(api.ctypes.byref(mine))
-                self.assertEqual(len(api._alive), 0)
-            capsules = capsule = None
-            gc.collect()
-            self.assertEqual((api._alive, api._structures), ({}, {}))
 
     def test_long_columns(self):
         """More rows than a block has."""
@@ -186,9 +198,10 @@ class Kinds(unittest.TestCase):
             with self.assertRaises(wkt.WktError) as raised:
                 call(texts)
             self.assertEqual(raised.exception.row, 140_000)
-        if numpy is not None:
+        if compiled is not None:
             made = wkt.canonical(arrow(texts), invalid="null")
             self.assertEqual(made.to_pylist(), wkt.canonical(texts, invalid="null"))
+        if numpy is not None:
             twice = wkt.to_arrays_column(texts + texts)
             self.assertEqual(wkt.from_arrays_column(twice)[0][rows + 5], answers[5])
             for name in ("number_offsets", "ring_offsets", "polygon_offsets"):
@@ -255,7 +268,31 @@ class Whole(unittest.TestCase):
         with self.assertRaises(wkt.WktError) as raised:
             wkt.canonical(texts, whole=True)
         self.assertEqual((raised.exception.row, raised.exception.status), (2, 30))
-        self.assertIsNone(raised.exception.explanation)
+        self.assertEqual(str(raised.exception), "row 2: at 12: the end of the text was expected, and not x")
+        self.assertEqual([it and it.status for it in wkt.explain(texts)], [None, None, 30, 3])
+
+    def test_whole_is_the_default(self):
+        text, column = "POINT(1 2) junk", ["POINT(1 2) junk"]
+        for call in (wkt.canonical, wkt.to_arrays, lambda it, **more: wkt.same(it, it, **more)):
+            for given in (text, column):
+                with self.assertRaises(wkt.WktError) as raised:
+                    call(given)
+                self.assertEqual(raised.exception.status, 30)
+                call(given, whole=False)
+        self.assertEqual((wkt.reads(text), wkt.reads(text, whole=False)), (False, True))
+        self.assertEqual(wkt.canonical_column(column), ([None], [30]))
+        self.assertEqual(list(wkt.to_arrays_column(column).statuses), [30])
+        found = wkt.explain("pöint(1 2)")
+        self.assertEqual((found.start, found.stop), (0, 5))
+        for given, at in ((text, (11, 15)), ("POINT(1 2)  \n \u00e4\u00f6", (14, 16)), ("POINT(1 2)  \n \u00e4".encode(), (14, 16))):
+            found = wkt.explain(given)
+            self.assertEqual((found.status, found.message), (30, "More than white space follows the geometry"))
+            self.assertEqual(((found.start, found.stop), found.expected), (at, "the end of the text"))
+            self.assertIsNone(wkt.explain(given, whole=False))
+        # Lines are answered by their fronts, as by the program wktstream.
+        sink = io.BytesIO()
+        wkt.stream(io.BytesIO(text.encode()), sink)
+        self.assertEqual((sink.getvalue(), wkt.lines(text), wkt.lines(column)), (b"POINT(1 2)\n", b"POINT(1 2)\n", ["POINT(1 2)"]))
 
 
 class Words(unittest.TestCase):
@@ -264,7 +301,7 @@ class Words(unittest.TestCase):
         self.assertEqual((found.start, found.stop, found.expected), (17, 18, "a second number"))
         self.assertEqual((found.line, found.column), (1, 18))
         self.assertEqual(str(found), "LINESTRING(1 2,3 x)\n                 ^ a second number was expected")
-        self.assertIsNone(wkt.explain("POINT(1 2) and more"))
+        self.assertIsNone(wkt.explain("POINT(1 2) and more", whole=False))
         self.assertEqual(wkt.explain("POINT(1 2.55)", places=1).message, "Unable to parse input number as the desired output type")
         found = wkt.explain("POINT(\n\t1.x")
         self.assertEqual((found.line, found.column), (2, 2))
@@ -293,8 +330,38 @@ class Words(unittest.TestCase):
             wkt.canonical(["POINT(1 2)", "LINESTRING(1 2,3 x)"])
         error = raised.exception
         self.assertEqual((error.row, error.explanation.start, error.explanation.expected), (1, 17, "a second number"))
-        for words in ("row 1", "17", "a second number was expected", error.message):
-            self.assertIn(words, str(error))
+        self.assertEqual(error.message, "Expected a number for the Y coordinate")
+        self.assertEqual(str(error), "row 1: at 18: a second number was expected, and not x")
+        cases = [
+            ("POINT(1", "at 8: a second number was expected, but the text ends"),
+            ("POINT(\n1 x)", "at line 2, column 3: a second number was expected, and not x"),
+            ("PINT" * 100, "at 1: a kind of geometry, such as POINT, was expected, and not " + "PINT" * 9 + "P..."),
+        ]
+        for text, words in cases:
+            with self.assertRaises(wkt.WktError) as raised:
+                wkt.canonical(text)
+            self.assertEqual(str(raised.exception), words)
+
+    def test_errors_say_why(self):
+        """The cause comes first, where it is known; the message of the Rust crate is an attribute."""
+        cases = [
+            ("POINT(1.1234567 2)", "at 7: 1.1234567 has 7 places, at most 6 are allowed", 7),
+            ("POINT(1 -1.123456700)", "at 9: -1.123456700 has 7 places, at most 6 are allowed", 13),
+            ("POINT(1e-7 2)", "at 7: exponents are not read; write 0.0000001 for 1e-7", 7),
+            ("SRID=4326;POINT(1 2)", "at 1: SRID=..; of EWKT is not read; ST_AsText leaves it out", 3),
+            ("CIRCULARSTRING(1 2,3 4,5 6)", "at 1: curves are not read; ST_CurveToLine gives lines", 3),
+            ("POINT(1 2 3)", "at 11: a third number needs Z or M, as in POINT Z(1 2 3), and a fourth ZM", 7),
+            ("POINT(%s 2)" % ("9" * 50), "at 7: the number is too large", 7),
+        ]
+        if not wkt._library.wkt_hint:
+            return
+        for text, words, status in cases:
+            for call in (wkt.canonical, wkt.to_arrays, lambda it, places: wkt.same(it, it, places)):
+                with self.assertRaises(wkt.WktError) as raised:
+                    call(text, 6)
+                self.assertEqual((str(raised.exception), raised.exception.status), (words, status))
+            self.assertTrue(words.endswith(wkt.explain(text, 6).hint))
+            self.assertIn("(%s)" % wkt.explain(text, 6).hint, str(wkt.explain(text, 6)))
 
     def test_reads(self):
         self.assertIs(wkt.reads("POINT(1 2)"), True)
@@ -307,8 +374,8 @@ class Words(unittest.TestCase):
             self.assertEqual((made.dtype, made.tolist()), (numpy.dtype(bool), [True, False, True, False, True]))
 
     def test_version(self):
-        with open(os.path.join(os.path.dirname(os.path.abspath(__file__)), os.pardir, "backend.py"), encoding="utf-8") as file:
-            self.assertIn('"%s"' % wkt.__version__, file.read())
+        with open(os.path.join(os.path.dirname(os.path.abspath(__file__)), os.pardir, os.pardir, "include", "wkt.h"), encoding="utf-8") as file:
+            self.assertIn('#define WKT_VERSION "%s"' % wkt.__version__, file.read())
 
     def test_documented(self):
         for name in wkt.__all__:
@@ -361,6 +428,48 @@ class Streams(unittest.TestCase):
         self.assertEqual(wkt.stream(io.BytesIO(data), sink, progress=seen.append), 300_000)
         self.assertEqual(sink.held, b"POINT(1 2.5)\n" * 300_000)
         self.assertEqual((seen[-1], sorted(seen), len(seen) > 3), (len(data), seen, True))
+
+    def test_what_a_sink_keeps(self):
+        """What was written stays as it was, also where the sink keeps it."""
+
+        class Keeps:
+            def __init__(self):
+                self.held = []
+
+            def write(self, data):
+                self.held.append(data)
+                return len(data)
+
+        sink = Keeps()
+        data = b"".join(b"point ( %d 2.50 )\n" % i for i in range(200_000))
+        wkt.stream(io.BytesIO(data), sink)
+        self.assertGreater(len(sink.held), 2)
+        self.assertEqual(b"".join(sink.held), wkt.lines(data))
+
+    def test_sinks_that_do_not_block(self):
+        class Full(io.RawIOBase):
+            held = b""
+
+            def writable(self):
+                return True
+
+            def write(self, data):
+                if len(self.held) > 1000:
+                    return None
+                self.held += bytes(data[:600])
+                return min(len(data), 600)
+
+        sink = Full()
+        with self.assertRaises(BlockingIOError) as raised:
+            wkt.stream(io.BytesIO(b"point ( 1 2.50 )\n" * 1000), sink)
+        self.assertEqual((raised.exception.characters_written, len(sink.held)), (1200, 1200))
+        reader, writer = os.pipe()
+        os.set_blocking(writer, False)
+        with open(writer, "wb", 0) as full, open(reader, "rb", 0) as rest:
+            with self.assertRaises(BlockingIOError):
+                wkt.stream(io.BytesIO(b"point ( 1 2.50 )\n" * 100_000), full)
+            full.close()
+            self.assertEqual(set(rest.read().split(b"\n")[:-1]), {b"POINT(1 2.5)"})
 
     def test_long_line(self):
         line = b"LINESTRING(" + b",".join([b"1 2.50"] * 500_000) + b")\n"

@@ -93,6 +93,17 @@ class GeoArrow(unittest.TestCase):
         self.assertEqual(made.coordinates[0].tolist(), [1, 2])
         self.assertEqual(wkt.to_arrays_column([]).geoarrow().extension, "geoarrow.point")
 
+    def test_offsets_that_are_too_large(self):
+        """Offsets of 32 bits are those that were counted, or an error."""
+        nothing = numpy.broadcast_to(numpy.int64(0), (2**33 + 2,))  # it takes no memory
+        one = numpy.array([0, 1], numpy.uint64)
+        for last in (2**32, 2**32 + 2, 2**33 + 2):
+            held = wkt.ColumnArrays(numpy.array([1], numpy.uint32), numpy.zeros(1, numpy.uint32), nothing[:last], numpy.array([0, last]),
+                                    one, numpy.array([0, 2]), one, numpy.array([0, 2]), numpy.zeros(1, numpy.uint32))  # fmt: skip
+            for kind in (1, 2, 3, 4, 5):
+                with self.assertRaises(OverflowError):
+                    held._replace(kinds=numpy.array([kind], numpy.uint32)).geoarrow()
+
     def test_halves(self):
         """The doubles are the nearest ones."""
         texts = ["POINT(%s %s)" % (a, b) for a, b in (("0.1", "0.3"), ("2.675", "-1.005"), ("9007199254.740991", "0.000001"))]

@@ -21,6 +21,10 @@ assert_type(wkt.explain(text), Optional[wkt.Explanation])
 assert_type(wkt.explain([text]), List[Optional[wkt.Explanation]])
 assert_type(wkt.lines(b"POINT(1 2)\n"), bytes)
 assert_type(wkt.stream(io.BytesIO(b"POINT(1 2)\n"), io.BytesIO(), progress=print), int)
+assert_type(wkt.infer([text], invalid="null"), List[Optional[Tuple[str, str]]])
+assert_type(wkt.infer(text, invalid="null"), Optional[Tuple[str, str]])
+assert_type(wkt.same(text, text, invalid="null"), Optional[bool])
+assert_type(wkt.explain(text, whole=False), Optional[wkt.Explanation])
 arrays = wkt.to_arrays(text)
 assert_type(arrays, wkt.Arrays)
 assert_type(wkt.from_arrays(arrays), str)
@@ -29,6 +33,16 @@ column = wkt.to_arrays_column([text, None])
 assert_type(column, wkt.ColumnArrays)
 assert_type(column.row(-2), wkt.Arrays)
 assert_type(column.geoarrow(6), wkt.GeoArrow)
+
+
+def of_arrow(texts: wkt.ArrowTexts) -> None:
+    assert_type(wkt.canonical(texts), wkt.ArrowTexts)
+    batches = wkt.batches(texts)
+    assert_type(next(batches)[0], Optional[str])
+    assert_type(wkt.canonical(batches), wkt.ArrowTexts)
+    assert_type(wkt.infer(texts), List[Optional[Tuple[str, str]]])
+
+
 try:
     wkt.canonical("POINT(1")
 except wkt.WktError as error:

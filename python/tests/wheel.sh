@@ -1,7 +1,7 @@
 #!/usr/bin/env bash
 # wheel.sh WKT: builds the wheel of the library in the folder WKT (wkt.h, libwkt.so), with the fast module, and the one
-# without it, and runs the same tests over both; without a wheel too, over ctypes alone. Then the stored cases of the command
-# by `python -m wkt`, the example, and mypy over the stubs. WKT is capi/out where none is named. It needs Python 3.11 or
+# without it, and runs the same tests over both; without a wheel too, over ctypes alone. Then the fast module under
+# sanitizers, libraries that don't suit, the stored cases of the command by `python -m wkt`, the example, and mypy over the stubs. WKT is capi/out where none is named. It needs Python 3.11 or
 # later with its headers, pip, NumPy, pandas, Shapely, tqdm, matplotlib and mypy (tests/needs.sh): what is lacking fails.
 # PYTHON names another Python.
 set -eu
@@ -13,25 +13,33 @@ trap 'rm -rf "$work"' EXIT
 export PYTHONDONTWRITEBYTECODE=1
 "$python" -c 'import matplotlib, numpy, pandas, shapely, tqdm' || { echo "wheel.sh: $python lacks what it needs"; exit 1; }
 
-# each NAME FOLDER [VARIABLE=VALUE..]: the tests with the package of that folder; nothing is skipped but what needs pyarrow.
+# each NAME FOLDER [VARIABLE=VALUE..]: the tests with the package of that folder. Without the fast module those of Arrow are
+# skipped; with it those alone that need sanitizers.
 each() {
-    local name=$1 folder=$2
+    local name=$1 folder=$2 skipped
     shift 2
-    (cd "$work" && env "$@" PYTHONPATH="$folder:$here" "$python" -W error -m unittest -v test_wkt test_arguments \
-        test_columns test_geoarrow) > "$work/said" 2>&1 || { cat "$work/said"; echo "$name: the tests fail"; exit 1; }
-    ! grep -E "skipped" "$work/said" || { echo "$name: a test was skipped"; exit 1; }
+    skipped='no fast module|only under sanitizers|the fast module isn.t tried'
+    [ ! -e "$folder/wkt/_fast.abi3.so" ] || skipped='only under sanitizers'
+    (cd "$work" && env "$@" PYTHONPATH="$folder:$here:$work/peer" "$python" -W error -m unittest -v test_wkt test_arguments \
+        test_columns test_geoarrow test_pack test_arrow) > "$work/said" 2>&1 || { cat "$work/said"; echo "$name: the tests fail"; exit 1; }
+    ! grep "skipped '" "$work/said" | grep -vE "$skipped" || { echo "$name: a test was skipped"; exit 1; }
     echo "$name: $(grep '^Ran' "$work/said"), $(tail -n 1 "$work/said")"
 }
 
 each "over ctypes alone" "$here/.." WKT_LIB="$WKT/libwkt.so"
+mkdir "$work/peer"
+gcc -Wall -Wextra -Werror -O1 -fPIC -shared -I"$("$python" -c 'import sysconfig; print(sysconfig.get_paths()["include"])')" \
+    "$here/arrow_peer.c" -o "$work/peer/arrow_peer.so"
 for fast in 1 0; do
     WKT_LIB_DIR=$WKT WKT_FAST=$fast "$python" -m pip wheel -q --no-build-isolation --no-deps --no-index -w "$work/wheels$fast" "$here/.."
     wheel=$(echo "$work/wheels$fast"/*.whl)
     "$python" -m pip install -q --root-user-action=ignore --no-index --no-deps --target "$work/installed$fast" "$wheel"
     [ $fast = 0 ] || "$python" -c "import sys; sys.path.insert(0, '$work/installed1'); import wkt._fast"
     [ $fast = 1 ] || ! ls "$work/installed0/wkt/"*_fast*.so 2> /dev/null || { echo "a wheel without the fast module has it"; exit 1; }
+    [ $fast = 1 ] || rm "$work/peer/arrow_peer.so"
     each "$(basename "$wheel")" "$work/installed$fast"
 done
+PYTHON=$python "$here/sanitized.sh" "$WKT/libwkt.so"
 
 # Without a library of its own it finds the system's, and where there is none it says so.
 cp -r "$work/installed0" "$work/bare" && rm "$work/bare/wkt/libwkt.so"
@@ -39,6 +47,19 @@ found() { (cd "$work" && env -u WKT_LIB "$@" PYTHONPATH="$work/bare" "$python" -
 [[ "$(found LD_LIBRARY_PATH="$WKT")" = "POINT(1 2) libwkt.so"* ]] || { found LD_LIBRARY_PATH="$WKT"; echo "the system's library isn't found"; exit 1; }
 /sbin/ldconfig -p | grep -q libwkt || found A=1 | grep -q 'ImportError: libwkt.so is missing' || { echo "a missing library isn't named"; exit 1; }
 echo "the system's libwkt.so is found"
+# refused WORDS VARIABLE=VALUE..: importing it is an error with these words.
+refused() {
+    local words=$1
+    shift
+    found "$@" | grep -q "^ImportError: .*$words" || { found "$@"; echo "import with $*: not refused by: $words"; exit 1; }
+}
+refused 'WKT_LIB names .*nothing.so, which' WKT_LIB="$work/nothing.so"
+refused 'WKT_LIB_DIR names .*nothing/libwkt.so, which' WKT_LIB_DIR="$work/nothing"
+echo 'const char *wkt_version(void) { return "0.9.10"; }' | gcc -shared -fPIC -x c - -o "$work/older.so"
+refused 'is of version 0.9.10, and this package' WKT_LIB="$work/older.so"
+echo 'const char *wkt_version(void) { return "99.0.0"; } int wkt_supported(void) { return 0; }' | gcc -shared -fPIC -x c - -o "$work/other.so"
+refused 'needs another processor' WKT_LIB="$work/other.so"
+echo "libraries that don't suit are refused"
 
 export PYTHONPATH=$work/installed1
 if [ -d "$here/../../tests/command" ]; then

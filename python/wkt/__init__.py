@@ -2,7 +2,8 @@
 
 Numbers are decimals of `places` digits after the point, 0 to 18: nothing is rounded, and a text with more digits is
 refused. Most functions take one text, or a column of them: a list, a NumPy array, a Series of pandas, or what lends its
-buffers by Arrow's C data interface. A null row stays null. A text that has no answer is a `WktError`.
+buffers by Arrow's C interfaces. A null row stays null. A text that has no answer is a `WktError`. A text is one geometry:
+only white space may follow it, or anything with `whole=False`.
 
     >>> import wkt
     >>> wkt.canonical("point ( 1.0 2 )")
@@ -11,26 +12,27 @@ buffers by Arrow's C data interface. A null row stays null. A text that has no a
     ['POINT(1 2)', None, None]
 """
 from ._arrays import Arrays, ColumnArrays, from_arrays, from_arrays_column, to_arrays, to_arrays_column
-from ._arrow import ArrowTexts
-from ._calls import canonical, canonical_column, explain, infer, lines, reads, same
+from ._arrow import ArrowTexts, Batches
+from ._calls import batches, canonical, canonical_column, explain, infer, lines, reads, same
 from ._errors import WktError
 from ._explain import Explanation
 from ._geoarrow import GeoArrow
 from ._names import DIMENSIONS, KINDS
 from ._stream import stream
-
-__version__ = "1.0.0"
+from ._version import __version__
 
 __all__ = [
     "DIMENSIONS",
     "KINDS",
     "Arrays",
     "ArrowTexts",
+    "Batches",
     "ColumnArrays",
     "Explanation",
     "GeoArrow",
     "WktError",
     "__version__",
+    "batches",
     "canonical",
     "canonical_column",
     "explain",

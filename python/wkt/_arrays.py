@@ -4,13 +4,13 @@ import itertools
 import operator
 from typing import Any, Callable, Iterator, List, NamedTuple, Optional, Tuple
 
-from . import _arrow, _library
+from . import _arrow, _buffers, _library
 from ._blocks import Progress, Packed, Room, pack, parts, pointer, shown, unpacked
-from ._columns import check_invalid, column_of, is_column, refused_of, rows_of
+from ._columns import check_invalid, column_of, is_column, or_null, refused_of, rows_of
 from ._errors import WktError, check, words_of
 from ._explain import refusal
-from ._names import DIMENSIONS, KINDS, NOT_COLUMN, TOO_SMALL
-from ._values import Ints, Text, encoded, integers, is_null, numpy, places_of, zeros
+from ._names import DIMENSIONS, KINDS, NOT_COLUMN, NOT_WHOLE, TOO_SMALL
+from ._values import WHOLE, Ints, Text, encoded, integers, is_null, numpy, places_of, zeros
 
 # Rows that a call takes: few enough that its buffers stay near the processor, and a signal or a callback gets its turn.
 BLOCK = 1 << 16
@@ -29,6 +29,7 @@ class Arrays(NamedTuple):
     string, a line and a point count as a ring.
     polygons: shape (polygons + 1,), uint64: where each polygon begins among the rings, and the end of the last. The
     rings of each kind but MultiPolygon count as one polygon.
+    places: digits after the point that `numbers` have; None where that isn't said.
 
     They are NumPy arrays where NumPy is installed, and else of Python's `array`.
     """
@@ -38,6 +39,7 @@ class Arrays(NamedTuple):
     numbers: Any
     rings: Any
     polygons: Any
+    places: Optional[int] = None
 
 
 class ColumnArrays(NamedTuple):
@@ -48,6 +50,7 @@ class ColumnArrays(NamedTuple):
     number_offsets, ring_offsets, polygon_offsets: shape (rows + 1,), int64: where each row's begin in these three, and
     the end of the last.
     statuses: shape (rows,), uint32: 0 of a row that has arrays, 28 of a null one, and else why the row has none.
+    places: digits after the point that `numbers` have; None where that isn't said.
 
     They are NumPy arrays where NumPy is installed, and else of Python's `array`.
     """
@@ -61,6 +64,7 @@ class ColumnArrays(NamedTuple):
     polygons: Any
     polygon_offsets: Any
     statuses: Any
+    places: Optional[int] = None
 
     def row(self, i: int) -> Arrays:
         """The arrays of a row, which are parts of the column's. Indices are those of a list: -1 is the last row.
@@ -75,13 +79,32 @@ class ColumnArrays(NamedTuple):
         numbers, rings, polygons = (
             values[offsets[i] : offsets[i + 1]] for values, offsets in zip(self[2:8:2], self[3:8:2])
         )
-        return Arrays(KINDS[self.kinds[i]], DIMENSIONS[self.dimensions[i]], numbers, rings, polygons)
+        return Arrays(KINDS[self.kinds[i]], DIMENSIONS[self.dimensions[i]], numbers, rings, polygons, self.places)
 
-    def geoarrow(self, places: int = 6) -> Any:
-        """The rows as GeoArrow has them, with coordinates as doubles: see `wkt.GeoArrow`."""
+    def geoarrow(self, places: Optional[int] = None) -> Any:
+        """The rows as GeoArrow has them, with coordinates as doubles: see `wkt.GeoArrow`. places: as of `from_arrays`."""
         from ._geoarrow import geoarrow
 
-        return geoarrow(self, places_of(places))
+        return geoarrow(self, _places_in(self, places))
+
+
+def _places_in(arrays: Any, asked: Optional[int]) -> int:
+    """The places that the numbers of arrays have. A ValueError where the places that are asked for don't hold them."""
+    has: Any = getattr(arrays, "places", None)
+    if has is None:
+        return places_of(6 if asked is None else asked)
+    has = places_of(has)
+    if asked is not None and places_of(asked) < has:
+        unit = 10 ** (has - asked)
+        numbers = arrays.numbers
+        exact = not (numbers % numpy.int64(unit)).any() if _is_ints(numbers) else not any(it % unit for it in numbers)
+        if not exact:
+            raise ValueError("the numbers have %d places, and %d don't hold them" % (has, asked))
+    return int(has)
+
+
+def _is_ints(numbers: Any) -> bool:
+    return numpy is not None and isinstance(numbers, numpy.ndarray) and numbers.dtype == "int64"
 
 
 def _parts(*held: Any) -> Any:
@@ -108,31 +131,32 @@ def _text_arrays(text: Text, places: int) -> Arrays:
 
     def call(*three: Any) -> int:
         status: int = _library.wkt_arrays(data, len(data), places, ctypes.byref(sizes), *three)
-        if status and status != TOO_SMALL and status < 20:
+        if status and status != TOO_SMALL and (status < 20 or status == NOT_WHOLE):
             raise refusal(status, text, places)
         return status
 
     three = _three(sizes, len(data) // 2 + 4, call)
-    return Arrays(KINDS[sizes.kind], DIMENSIONS[sizes.dimension], *three)
+    return Arrays(KINDS[sizes.kind], DIMENSIONS[sizes.dimension], *three, places=places % WHOLE)
 
 
 def to_arrays(
-    text: Any, places: int = 6, invalid: str = "raise", progress: Progress = None, whole: bool = False
+    text: Any, places: int = 6, invalid: str = "raise", progress: Progress = None, whole: bool = True
 ) -> Any:
-    """The geometry that a text begins with as `Arrays`; of a column a list of them, with None of a null row.
+    """The geometry that a text names as `Arrays`; of a column a list of them, with None of a null row.
 
     places: digits after the point, 0 to 18; a number is whole units of ten to the minus `places`.
-    invalid: of a column, "raise" or "null": None of a row that has no arrays. progress, whole: as of `canonical`.
+    invalid: "raise" or "null": None of a text that has no arrays. progress, whole: as of `canonical`.
     WktError: the text is refused (1 to 14, 20, 30), is a collection (24), or has a number that 64 bits don't hold (25).
     """
     places = places_of(places, whole)
     check_invalid(invalid, ("raise", "null"))
     if not is_column(text):
-        return _text_arrays(text, places)
-    held = _column_arrays(text, places, progress)
+        return or_null(invalid, None, lambda: _text_arrays(text, places))
+    rows: Any = text if _arrow.is_texts(text) and invalid == "null" else column_of(text)
+    held = _column_arrays(rows, places, progress)
     if invalid == "raise":
         for row in refused_of(held.statuses)[:1]:
-            raise refusal(int(held.statuses[row]), column_of(text)[row], places, row)
+            raise refusal(int(held.statuses[row]), rows[row], places, row)
     return list(_rows(held))
 
 
@@ -145,8 +169,8 @@ def _rows(held: ColumnArrays) -> Iterator[Optional[Arrays]]:
 
     words = zip(held.statuses.tolist(), held.kinds.tolist(), held.dimensions.tolist())
     lists = zip(*(cut(values, offsets) for values, offsets in zip(held[2:8:2], held[3:8:2])))
-    for (status, kind, dimension), three in zip(words, lists):
-        yield None if status else Arrays(KINDS[kind], DIMENSIONS[dimension], *three)
+    for (status, kind, dimension), (numbers, rings, polygons) in zip(words, lists):
+        yield None if status else Arrays(KINDS[kind], DIMENSIONS[dimension], numbers, rings, polygons, held.places)
 
 
 def _column_call(held: Packed, places: int, words: Any, ends: Any, three: Any) -> Tuple[int, Any]:
@@ -206,14 +230,14 @@ class _Filling:
                 ends[i] += self.used[i]
             self.used[i] += size
 
-    def made(self) -> ColumnArrays:
-        """All of it."""
+    def made(self, places: int) -> ColumnArrays:
+        """All of it, with numbers of so many places."""
         three = [values[:used] for values, used in zip(self.three, self.used)]
         kinds, dimensions, statuses = self.words
-        return ColumnArrays(*[kinds, dimensions, *itertools.chain.from_iterable(zip(three, self.ends)), statuses])
+        return ColumnArrays(*[kinds, dimensions, *itertools.chain.from_iterable(zip(three, self.ends)), statuses, places])
 
 
-def to_arrays_column(texts: Any, places: int = 6, progress: Progress = None, whole: bool = False) -> ColumnArrays:
+def to_arrays_column(texts: Any, places: int = 6, progress: Progress = None, whole: bool = True) -> ColumnArrays:
     """The flat arrays of a column of texts and the status of each row, as `ColumnArrays`: no row raises.
 
     texts: a list, a tuple, a NumPy array, a Series, or an Arrow column. places: as of `to_arrays`.
@@ -223,20 +247,18 @@ def to_arrays_column(texts: Any, places: int = 6, progress: Progress = None, who
 
 
 def _column_arrays(texts: Any, places: int, progress: Progress) -> ColumnArrays:
-    arrow = _arrow.is_texts(texts)
-    held, kept = _arrow.packed(texts) if arrow else (None, None)
-    rows = () if arrow else column_of(texts)
+    held = _buffers.whole(_arrow.taken(texts)) if _arrow.is_texts(texts) else None
+    rows = () if held is not None else column_of(texts)
     count = held.rows if held is not None else len(rows)
     filling = _Filling(count)
     # Without NumPy one call takes all rows, since no other shares its arrays.
     step = BLOCK if numpy is not None else max(count, 1)
     with shown(progress, count) as report:
         for first in range(0, max(count, 1), step):
-            part = pack(rows[first : first + step], first) if held is None else _arrow.part(held, first, step)
+            part = pack(rows[first : first + step], first) if held is None else _buffers.part(held, first, step)
             filling.add(first, part, places)
             report(first + part.rows)
-    del kept
-    return filling.made()
+    return filling.made(places % WHOLE)
 
 
 def _index(names: Tuple[str, ...], name: Any, what: str) -> int:
@@ -247,8 +269,9 @@ def _index(names: Tuple[str, ...], name: Any, what: str) -> int:
     return names.index(name)
 
 
-def _arrays_text(arrays: Any, places: int, row: Optional[int] = None) -> str:
-    kind, dimension, *rest = arrays
+def _arrays_text(arrays: Any, asked: Optional[int], row: Optional[int] = None) -> str:
+    kind, dimension, *rest = arrays[:5]
+    places = _places_in(arrays, asked)
     at, width = _index(KINDS, kind, "kind"), _index(DIMENSIONS, dimension, "dimension")
     three = [integers(c, values, what) for c, values, what in zip("qQQ", rest, ("numbers", "rings", "polygons"))]
     held = [part for values in three for part in (pointer(values.data), values.length)]
@@ -262,33 +285,35 @@ def _arrays_text(arrays: Any, places: int, row: Optional[int] = None) -> str:
     return Room(16 * three[0].length + 32).text(call)
 
 
-def from_arrays(arrays: Any, places: int = 6) -> Any:
+def from_arrays(arrays: Any, places: Optional[int] = None) -> Any:
     """The canonical text of the geometry of `Arrays`; of a list of them a list, with None of a None.
 
     Each of the numbers, rings and polygons is an int: a list of int or an array of integers. They are copied before
-    they are looked at. places: as of `to_arrays`.
+    they are looked at. places: digits after the point that the text may have, and that the numbers have where the arrays
+    don't say it (None: those of the arrays, or 6).
+    ValueError: the arrays have more places, and a number needs them.
     TypeError: one is a float, a bool or another type. OverflowError: one is out of the range of its 64 bits.
     WktError: the arrays are of no geometry (26); in a list it names the row.
     """
-    places = places_of(places)
     # A tuple is one geometry: Arrays is one, and so is what is given in its place.
     if isinstance(arrays, tuple):
         return _arrays_text(arrays, places)
+    if places is not None:
+        places_of(places)
     rows = rows_of(arrays)
     if rows is None:
         raise TypeError("arrays are wkt.Arrays or a list of them, and not %s" % type(arrays).__name__)
     return [None if is_null(each) else _arrays_text(each, places, row) for row, each in enumerate(rows)]
 
 
-def from_arrays_column(arrays: ColumnArrays, places: int = 6) -> Tuple[List[Optional[str]], List[int]]:
+def from_arrays_column(arrays: ColumnArrays, places: Optional[int] = None) -> Tuple[List[Optional[str]], List[int]]:
     """The canonical texts of `ColumnArrays`, and the status of each row, by one call.
 
     A status is 0, 28 of a row whose status in `arrays` isn't 0, or 26 where a row's arrays are of no geometry; where it
     isn't 0 there is None for a text. All arrays are copied before they are looked at.
-    TypeError, OverflowError: as of `from_arrays`. WktError: the offsets are of no column (27).
+    places, ValueError, TypeError, OverflowError: as of `from_arrays`. WktError: the offsets are of no column (27).
     """
-    places = places_of(places)
-    out, needed, ends, statuses = _column_texts(arrays, places)
+    out, needed, ends, statuses = _column_texts(arrays, _places_in(arrays, places))
     return unpacked(out, needed, ends, statuses), statuses.tolist()
 
 

@@ -11,10 +11,10 @@ from ._names import TOO_SMALL
 from ._values import address, encoded, is_null, zeros
 
 try:
-    from . import _fast as compiled
+    from . import _fast as _compiled
 except ImportError:  # The package then needs no compiler, and makes the buffers in Python.
-    compiled = None  # type: ignore[assignment]
-_fast: Any = compiled
+    _compiled = None  # type: ignore[assignment]
+_fast: Any = _compiled
 
 BLOCK = 1 << 16
 Progress = Union[None, bool, Callable[[int], Any]]

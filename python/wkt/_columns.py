@@ -1,8 +1,10 @@
 """What counts as a column, and how its answers come back in the same kind."""
+import sys
 from typing import Any, List, Optional, Sequence, Tuple
 
 from . import _arrow
 from ._blocks import Progress, canonical_blocks
+from ._errors import WktError
 from ._explain import refusal
 from ._names import NULL
 from ._values import TEXTS, numpy, zeros
@@ -10,9 +12,23 @@ from ._values import TEXTS, numpy, zeros
 INVALID = ("raise", "null", "keep")
 
 
+def _pandas(name: str) -> Any:
+    """A class of pandas; an empty tuple where pandas isn't imported, or has none of this name."""
+    return getattr(sys.modules.get("pandas"), name, ())
+
+
 def is_series(values: Any) -> bool:
     """Whether it is a Series of pandas, or what works as one."""
     return all(hasattr(values, name) for name in ("to_numpy", "index", "name", "dtype"))
+
+
+def is_index(values: Any) -> bool:
+    """Whether it is an Index of pandas."""
+    return isinstance(values, _pandas("Index"))
+
+
+def is_masked(values: Any) -> bool:
+    return numpy is not None and isinstance(values, numpy.ma.MaskedArray)
 
 
 _LISTS = ("to_pylist", "tolist", "to_list")
@@ -26,7 +42,7 @@ def is_column(values: Any) -> bool:
         return True
     if numpy is not None and isinstance(values, numpy.ndarray):
         return bool(values.ndim > 0)
-    return _arrow.is_texts(values) or any(hasattr(values, method) for method in _LISTS)
+    return _arrow.lends(values) or any(hasattr(values, method) for method in _LISTS)
 
 
 def rows_of(values: Any) -> Optional[Sequence[Any]]:
@@ -40,10 +56,14 @@ def rows_of(values: Any) -> Optional[Sequence[Any]]:
             return None
         rows: List[Any] = values.reshape(-1).tolist()
         return rows
+    if _arrow.is_texts(values):
+        return _arrow.rows_of(values)
     for method in _LISTS:
         if hasattr(values, method):
             several = getattr(values, method)()
             return several if isinstance(several, list) else None
+    if _arrow.lends(values):
+        raise TypeError(_arrow.LACKING)
     return None
 
 
@@ -67,20 +87,40 @@ def _array(answers: List[Any], kind: Any) -> Any:
         return made
 
 
+def _texts_type(values: Any) -> Any:
+    """The type of a Series or an Index of pandas' own strings, by its class: its name is `string`, or `str` in pandas 3."""
+    return values.dtype if isinstance(values.dtype, _pandas("StringDtype")) else None
+
+
+def series_like(values: Any, answers: List[Any], kind: Any = None) -> Any:
+    """Answers that are no texts: a Series with the index and the name of what was given, if that is one, and else a list."""
+    if not is_series(values):
+        return answers
+    held = answers if kind else _array(answers, None)
+    return _pandas("Series")(held, index=values.index, name=values.name, dtype=kind or object)
+
+
 def like(values: Any, answers: List[Any], kind: Any = None) -> Any:
     """Answers in the kind of what was given: a Series with its index and name, an array of its shape, or a list."""
     if is_series(values):
-        text = kind is None and str(values.dtype).startswith("string")
-        dtype = values.dtype if text else kind or "object"
+        dtype = kind or _texts_type(values) or object
         return type(values)(_array(answers, kind), index=values.index, name=values.name, dtype=dtype)
+    if is_index(values):
+        dtype = kind or _texts_type(values) or object
+        return _pandas("Index")(_array(answers, kind), name=values.name, dtype=dtype)
     if numpy is None or not isinstance(values, numpy.ndarray):
         return answers
+    nulls = [answer is None for answer in answers]
     if kind is None and values.dtype.kind in "SUT":
         # Arrays of a fixed width have no null: its place is an empty text. Those of StringDType may have one.
         null = getattr(values.dtype, "na_object", "")
         answers = [null if answer is None else answer for answer in answers]
         kind = values.dtype if values.dtype.kind == "T" else values.dtype.kind
-    return _array(answers, kind).reshape(values.shape)
+    made = _array(answers, kind).reshape(values.shape)
+    if is_masked(values):
+        mask = numpy.ma.getmaskarray(values) | numpy.array(nulls, bool).reshape(values.shape)
+        made = numpy.ma.MaskedArray(made, mask)
+    return made
 
 
 def refused_of(statuses: Any) -> Any:
@@ -94,6 +134,16 @@ def check_invalid(invalid: Any, known: Sequence[str] = INVALID) -> None:
     """A ValueError unless it is one of these words."""
     if invalid not in known:
         raise ValueError("invalid is %s, and not %r" % (" or ".join(map(repr, known)), invalid))
+
+
+def or_null(invalid: str, text: Any, call: Any) -> Any:
+    """What a call answers of one text; where it is refused, what `invalid` names: None, or the text."""
+    try:
+        return call()
+    except WktError:
+        if invalid == "raise":
+            raise
+        return text if invalid == "keep" else None
 
 
 def canonical_rows(rows: Sequence[Any], places: int, invalid: str, progress: Progress) -> Tuple[List[Any], Any]:

@@ -10,9 +10,9 @@ if TYPE_CHECKING:
 class WktError(ValueError):
     """A text, or arrays, without an answer.
 
-    `status` is the number of the reason, as include/wkt.h has it, and `message` its words. `row` is the row of a
-    column in which it stands, from 0 on, and None of one text. `explanation` says where the text is refused and what
-    could stand there, where that is known (`wkt.explain` gives it).
+    `str()` says where the text is refused, and why. `status` is the number of the reason, as include/wkt.h has it, and
+    `message` its words, which are those of the Rust crate wkt. `row` is the row of a column in which it stands, from 0
+    on, and None of one text. `explanation` says what could stand there, where that is known (`wkt.explain` gives it).
     """
 
     def __init__(
@@ -29,10 +29,8 @@ class WktError(ValueError):
         return type(self), (self.status, self.message, self.row, self.explanation), self.__dict__
 
     def __str__(self) -> str:
-        words = self.message if self.row is None else "row %d: %s" % (self.row, self.message)
-        if self.explanation is None:
-            return words
-        return "%s; at %d %s was expected" % (words, self.explanation.start, self.explanation.expected)
+        words = self.message if self.explanation is None else self.explanation.cause
+        return words if self.row is None else "row %d: %s" % (self.row, words)
 
 
 def words_of(status: int, messages: Sequence[str] = MESSAGES) -> str:

@@ -1,22 +1,29 @@
-"""Where a text is refused, and what could stand there."""
+"""Where a text is refused, why, and what could stand there."""
 import ctypes
 from typing import NamedTuple, Optional, Tuple, Union
 
-from . import _library
+from . import _library, _names
 from ._errors import WktError, check, words_of
 from ._library import size, u32
-from ._names import ACCEPTED, EXPECTED, MESSAGES
+from ._names import ACCEPTED, EXPECTED, MESSAGES, NOT_WHOLE, OK
 from ._values import WHOLE, Text, encoded
 
 _WIDTH = 72
+_END = "the end of the text"
+HINTS = getattr(_names, "HINTS", ("",))
+
+
+def _short(word: str) -> str:
+    return word if len(word) < 40 else word[:37] + "..."
 
 
 class Explanation(NamedTuple):
     """Why a text is refused, and where.
 
     `start` to `stop` is what can't stand there; where the text ends too early, it is empty. Both count the characters
-    of a str and the bytes of bytes, from 0 on. `expected` says what could stand there, `message` is that of the
-    `WktError`, and `status` its number. `str()` shows the line of the text with a mark below the place.
+    of a str and the bytes of bytes, from 0 on, as slices do. `expected` says what could stand there, `hint` why the text
+    is refused, where that is known ("" where not), `message` is that of the `WktError`, and `status` its number. `cause`
+    is one line, with the place, which counts from 1. `str()` shows the line of the text with a mark below the place.
     """
 
     text: Union[str, bytes]
@@ -25,6 +32,7 @@ class Explanation(NamedTuple):
     start: int
     stop: int
     expected: str
+    hint: str = ""
 
     def _characters(self) -> Tuple[str, int, int]:
         """The text as str, and the place counted in its characters."""
@@ -45,6 +53,16 @@ class Explanation(NamedTuple):
         text, start, _ = self._characters()
         return start - text.rfind("\n", 0, start)
 
+    @property
+    def cause(self) -> str:
+        """The place, and why the text is refused there, in one line."""
+        text, start, stop = self._characters()
+        place = "at line %d, column %d" % (self.line, self.column) if "\n" in text[:start] else "at %d" % self.column
+        word = _short(" ".join(text[start : min(stop, start + 200)].split()))
+        if self.hint:
+            return "%s: %s" % (place, self.hint)
+        return "%s: %s was expected, %s" % (place, self.expected, "and not " + word if word else "but the text ends")
+
     def __str__(self) -> str:
         text, start, stop = self._characters()
         first = text.rfind("\n", 0, start) + 1
@@ -55,30 +73,65 @@ class Explanation(NamedTuple):
             line, at = ("..." if cut else "") + line[cut : cut + _WIDTH], at - cut + (3 if cut else 0)
         under = "".join("\t" if c == "\t" else " " for c in line[:at])
         marks = "^" * max(1, min(stop - start, len(line) - at))
-        return "%s\n%s%s %s was expected" % (line, under, marks, self.expected)
+        more = " (%s)" % self.hint if self.hint else ""
+        return "%s\n%s%s %s was expected%s" % (line, under, marks, self.expected, more)
+
+
+def _too_many(number: str, most: int) -> str:
+    places = len(number.partition(".")[2].rstrip("0"))
+    return "%s has %d places, at most %d are allowed" % (_short(number), places, most)
+
+
+def _hint(data: bytes, word: bytes, places: int) -> str:
+    """Why a text is refused at a word, for a user; "" where it isn't known."""
+    hint = u32()
+    if not _library.wkt_hint or _library.wkt_hint(data, len(data), places, ctypes.byref(hint)) not in (OK, NOT_WHOLE):
+        return ""
+    words = HINTS[hint.value] if hint.value < len(HINTS) else ""  # a later library may know more
+    # The one with a number is of a number with too many places: here it says which.
+    return _too_many(word.decode("ascii", "replace"), places % WHOLE) if "%u" in words else words
+
+
+def _end(data: bytes, places: int) -> int:
+    """Where what follows a geometry begins, behind white space."""
+    needed, end = size(), size()
+    _library.wkt_canonical(data, len(data), places % WHOLE, None, 0, ctypes.byref(needed), ctypes.byref(end))
+    return len(data) - len(data[end.value :].lstrip(b" \t\r\n"))
+
+
+def _asked(data: bytes, places: int) -> Tuple[int, int, int, int, int]:
+    """The status of wkt_explain, and what it says."""
+    message, start, stop, expected = u32(), size(), size(), u32()
+    # A library without wkt_hint doesn't know of whole texts here.
+    asked = places if _library.wkt_hint else places % WHOLE
+    status = _library.wkt_explain(data, len(data), asked, *map(ctypes.byref, (message, start, stop, expected)))
+    if asked != places and status == ACCEPTED and _end(data, places) < len(data):
+        return NOT_WHOLE, 0, _end(data, places), len(data), 0
+    return status, message.value, start.value, stop.value, expected.value
 
 
 def explained(text: Text, places: int) -> Optional[Explanation]:
-    """Where and why a text is refused; None where it begins with a geometry."""
-    if not _library.wkt_explain:
-        raise NotImplementedError("this libwkt.so has no wkt_explain")
+    """Where and why a text is refused; None where it is read."""
     data = encoded(text)
-    message, start, stop, expected = u32(), size(), size(), u32()
-    status = _library.wkt_explain(data, len(data), places % WHOLE, *map(ctypes.byref, (message, start, stop, expected)))
+    status, message, start, stop, expected = _asked(data, places)
     if status == ACCEPTED:
         return None
-    check(status)
+    if status != NOT_WHOLE:
+        check(status)
     shown: Union[str, bytes] = data
-    first, last = start.value, stop.value
+    first, last = start, stop
     if isinstance(text, str):
-        shown, first, last = text, len(data[:first].decode("utf-8")), len(data[:last].decode("utf-8"))
-    return Explanation(shown, message.value, MESSAGES[message.value], first, last, EXPECTED[expected.value])
+        shown, first, last = text, len(data[:start].decode("utf-8")), len(data[:stop].decode("utf-8"))
+    if status == NOT_WHOLE:
+        return Explanation(shown, status, MESSAGES[status], first, last, _END)
+    hint = _hint(data, data[start:stop], places)
+    return Explanation(shown, message, MESSAGES[message], first, last, EXPECTED[expected], hint)
 
 
 def refusal(status: int, text: Text, places: int, row: Optional[int] = None) -> WktError:
     """The error of a text that a call refuses with a status."""
     try:
         explanation = explained(text, places)
-    except (WktError, MemoryError, NotImplementedError):
+    except (WktError, MemoryError):
         explanation = None
     return WktError(status, words_of(status), row, explanation)

@@ -1,12 +1,25 @@
 """Arrays of a column as GeoArrow has them."""
 from typing import Any, NamedTuple, Tuple
 
+from . import _arrow
+from ._blocks import _fast
 from ._names import DIMENSIONS, KINDS
 from ._values import numpy
 
+# The names of the lists of each kind, from the outermost on, as GeoArrow has them.
+_LISTS = {
+    "point": (),
+    "linestring": ("vertices",),
+    "multipoint": ("points",),
+    "polygon": ("rings", "vertices"),
+    "multilinestring": ("linestrings", "vertices"),
+    "multipolygon": ("polygons", "rings", "vertices"),
+}
+_NULLABLE = 2
+
 
 class GeoArrow(NamedTuple):
-    """The buffers of a GeoArrow array with interleaved coordinates, as NumPy arrays.
+    """The buffers of a GeoArrow array with interleaved coordinates, as NumPy arrays. It has `__arrow_c_array__`.
 
     extension: its name, such as "geoarrow.polygon". dimension: one of DIMENSIONS.
     coordinates: shape (coordinates, width), float64: each the nearest to the decimal, where that has less than 2^53
@@ -22,6 +35,39 @@ class GeoArrow(NamedTuple):
     offsets: Tuple[Any, ...]
     valid: Any
 
+    def _tree(self) -> Tuple[Any, ...]:
+        """The array as wkt._fast lends it: lists of fixed lists of doubles."""
+        coordinates = numpy.ascontiguousarray(self.coordinates, numpy.float64)
+        number = ("g", self.dimension.lower(), b"", 0, coordinates.size, 0, (None, coordinates), ())
+        tree: Tuple[Any, ...] = ("+w:%d" % len(self.dimension), "", b"", 0, len(coordinates), 0, (None,), (number,))
+        names = _LISTS[self.extension.partition(".")[2]]
+        for name, offsets in reversed(list(zip(names, self.offsets))):
+            child = (tree[0], name) + tree[2:]
+            tree = ("+l", "", b"", 0, len(offsets) - 1, 0, (None, offsets), (child,))
+        bits = numpy.packbits(self.valid, bitorder="little")
+        metadata = _arrow.metadata_of({"ARROW:extension:name": self.extension})
+        nulls = len(self.valid) - int(numpy.count_nonzero(self.valid))
+        return tree[:2] + (metadata, _NULLABLE, tree[4], nulls, (bits,) + tree[6][1:], tree[7])
+
+    def _lent_by(self) -> Any:
+        if _fast is None:
+            raise ImportError(_arrow.LACKING)
+        return _fast
+
+    def __arrow_c_schema__(self) -> Any:
+        return self._lent_by().export_schema(self._tree())
+
+    def __arrow_c_array__(self, requested_schema: Any = None) -> Tuple[Any, Any]:
+        lent: Tuple[Any, Any] = self._lent_by().export(self._tree())
+        return lent
+
+
+def _int32(values: Any) -> Any:
+    """Offsets as GeoArrow has them. An OverflowError where one is too large."""
+    if len(values) and int(values[-1]) > 2**31 - 1:
+        raise OverflowError("GeoArrow's offsets are of 0 to 2147483647, and not %d: give it fewer rows at once" % int(values[-1]))
+    return values.astype(numpy.int32)
+
 
 def _joined(values: Any, offsets: Any, before: Any) -> Any:
     """One list of offsets of many: each row's but its first, plus what the rows before it have."""
@@ -29,7 +75,7 @@ def _joined(values: Any, offsets: Any, before: Any) -> Any:
     rows = numpy.repeat(numpy.arange(len(counts)), counts)
     kept = numpy.ones(len(values), bool)
     kept[offsets[:-1][counts > 0]] = False
-    return numpy.concatenate([[0], (values.astype(numpy.int64) + before[rows])[kept]]).astype(numpy.int32)
+    return _int32(numpy.concatenate([[0], (values.astype(numpy.int64) + before[rows])[kept]]))
 
 
 def _counted(offsets: Any) -> Any:
@@ -45,28 +91,32 @@ def _one(values: Any, what: str) -> int:
     return int(found[0]) if len(found) else 0
 
 
-def geoarrow(held: Any, places: int) -> GeoArrow:
-    """`ColumnArrays` of rows of one kind and one dimension as GeoArrow.
+def _offsets(held: Any, kind: int, rows: Any) -> Tuple[Any, ...]:
+    """The offsets of a kind, from the outermost on. `wkt_column_arrays` counts those of each row from 0 on."""
+    if kind == 0:
+        return ()
+    if kind in (1, 3):
+        return (_int32(rows),)
+    _int32(rows)
+    rings, ring_rows = _joined(held.rings, held.ring_offsets, rows[:-1]), _counted(held.ring_offsets)
+    if kind in (2, 4):
+        return (_int32(ring_rows), rings)
+    polygons = _joined(held.polygons, held.polygon_offsets, ring_rows[:-1])
+    return (_int32(_counted(held.polygon_offsets)), polygons, rings)
 
-    `wkt_column_arrays` counts the rings of each row from 0, and GeoArrow those of the column.
-    """
+
+def geoarrow(held: Any, places: int) -> GeoArrow:
+    """`ColumnArrays` of rows of one kind and one dimension as GeoArrow."""
     if numpy is None:
         raise ImportError("GeoArrow needs NumPy")
     valid = numpy.asarray(held.statuses) == 0
     kind, at = _one(held.kinds[valid], "kind"), _one(held.dimensions[valid], "dimension")
     width = len(DIMENSIONS[at])
-    coordinates = (held.numbers / 10.0**places).reshape(-1, width)
     rows = held.number_offsets // width
-    name = "geoarrow." + KINDS[kind].lower()
+    offsets = _offsets(held, kind, rows)  # before the coordinates, since these take memory
+    coordinates = (held.numbers / 10.0**places).reshape(-1, width)
     if kind == 0:
         full = numpy.full((len(valid), width), numpy.nan)
         full[numpy.diff(rows) == 1] = coordinates
-        return GeoArrow(name, DIMENSIONS[at], full, (), valid)
-    if kind in (1, 3):
-        return GeoArrow(name, DIMENSIONS[at], coordinates, (rows.astype(numpy.int32),), valid)
-    rings, ring_rows = _joined(held.rings, held.ring_offsets, rows[:-1]), _counted(held.ring_offsets)
-    if kind in (2, 4):
-        return GeoArrow(name, DIMENSIONS[at], coordinates, (ring_rows.astype(numpy.int32), rings), valid)
-    polygons = _joined(held.polygons, held.polygon_offsets, ring_rows[:-1])
-    outermost = _counted(held.polygon_offsets).astype(numpy.int32)
-    return GeoArrow(name, DIMENSIONS[at], coordinates, (outermost, polygons, rings), valid)
+        coordinates = full
+    return GeoArrow("geoarrow." + KINDS[kind].lower(), DIMENSIONS[at], coordinates, offsets, valid)

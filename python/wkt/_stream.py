@@ -1,4 +1,6 @@
 """Lines from one file to another, in bounded memory."""
+import errno
+import io
 from typing import Any, Callable, Iterator, List
 
 from . import _library
@@ -21,12 +23,17 @@ def _pieces(source: Any, report: Callable[[int], None]) -> Iterator[bytes]:
         report(done)
 
 
-def _write(sink: Any, data: Any) -> None:
-    """Writes all of it: a file without a buffer may take a part."""
-    view = memoryview(data)
-    while view:
-        taken = sink.write(view)
-        view = view[len(view) if taken is None else taken :]
+def _write(sink: Any, data: bytes) -> None:
+    """Writes all of it: a file without a buffer may take a part. What the sink gets never changes, so it may keep it."""
+    rest: Any = data
+    while rest:
+        taken = sink.write(rest)
+        if taken is None:
+            # The interface of raw files: nothing is taken, and the file would have to be waited for.
+            if isinstance(sink, io.RawIOBase):
+                raise BlockingIOError(errno.EAGAIN, "the sink takes no more now", len(data) - len(rest))
+            return
+        rest = memoryview(rest)[taken:]
 
 
 def _whole_lines(source: Any, report: Callable[[int], None]) -> Iterator[bytes]:
@@ -44,12 +51,15 @@ def _whole_lines(source: Any, report: Callable[[int], None]) -> Iterator[bytes]:
 
 
 def stream(source: Any, sink: Any, places: int = 18, progress: Progress = None) -> int:
-    """Writes to a sink, for each line of a source, the canonical text of its geometry, or `refused`, and a line feed.
+    """Writes to a sink, for each line of a source, the canonical text of the geometry that it begins with, or `refused`.
+
+    Each answer ends with a line feed. What follows a geometry in its line isn't looked at.
 
     source: a file of bytes, or what has `read(size)`. sink: a file of bytes, or what has `write(bytes)`. The memory
     that is used doesn't grow with the input, but with its longest line. places: as of `canonical`.
     progress: a function that is called with how many bytes are read, or True for tqdm's bar.
     Returns the number of lines. What source and sink raise passes through; what was written by then stays.
+    BlockingIOError: a raw file that doesn't block takes no more.
     """
     places = places_of(places)
     count, room = 0, Room(1)
@@ -62,6 +72,6 @@ def stream(source: Any, sink: Any, places: int = 18, progress: Progress = None) 
                 return status
 
             length = room.call(call)
-            _write(sink, memoryview(room.out)[:length])
+            _write(sink, bytes(memoryview(room.out)[:length]))
             count += data.count(b"\n") + (not data.endswith(b"\n"))
     return count

@@ -31,7 +31,10 @@ def encoded(text: Any, row: Optional[int] = None) -> bytes:
     if isinstance(text, (bytearray, memoryview)):
         return bytes(text)
     where = "" if row is None else "row %d: " % row
-    raise TypeError("%sa text is a str or bytes, and not %s" % (where, type(text).__name__))
+    more = ""
+    if hasattr(text, "geom_type"):
+        more = "; shapely.to_wkt(geometries, rounding_precision=6) gives texts, and GeoSeries.to_wkt of GeoPandas"
+    raise TypeError("%sa text is a str or bytes, and not %s%s" % (where, type(text).__name__, more))
 
 
 def is_null(row: Any) -> bool:
@@ -60,8 +63,8 @@ def places_of(places: Any, whole: Any = False) -> int:
 
     `whole` is added as a bit: each text is to be one geometry as a whole.
     """
-    if type(places) is int and 0 <= places <= 18 and whole is False:
-        return places
+    if type(places) is int and 0 <= places <= 18 and (whole is True or whole is False):
+        return places | WHOLE if whole else places
     if not isinstance(whole, bool):
         raise TypeError("whole is a bool, and not %s" % type(whole).__name__)
     places = integer(places, "places")

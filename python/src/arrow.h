@@ -1,0 +1,51 @@
+/* The structures of Arrow's C data interface and C stream interface, as its specification declares them, and what of
+ * wkt._fast takes and lends them. */
+#ifndef WKT_ARROW_H
+#define WKT_ARROW_H
+#define PY_SSIZE_T_CLEAN
+#define Py_LIMITED_API 0x030b0000
+#include <Python.h>
+#include <stdint.h>
+
+struct ArrowSchema {
+    const char *format, *name, *metadata;
+    int64_t flags, n_children;
+    struct ArrowSchema **children, *dictionary;
+    void (*release)(struct ArrowSchema *);
+    void *private_data;
+};
+
+struct ArrowArray {
+    int64_t length, null_count, offset, n_buffers, n_children;
+    const void **buffers;
+    struct ArrowArray **children, *dictionary;
+    void (*release)(struct ArrowArray *);
+    void *private_data;
+};
+
+struct ArrowArrayStream {
+    int (*get_schema)(struct ArrowArrayStream *, struct ArrowSchema *out);
+    int (*get_next)(struct ArrowArrayStream *, struct ArrowArray *out);
+    const char *(*get_last_error)(struct ArrowArrayStream *);
+    void (*release)(struct ArrowArrayStream *);
+    void *private_data;
+};
+
+/* arrow_in.c: what others lend */
+PyObject *arrow_array(PyObject *self, PyObject *args);
+PyObject *arrow_stream(PyObject *self, PyObject *capsule);
+PyObject *arrow_next(PyObject *self, PyObject *stream);
+int arrow_ready(void);
+/* arrow_texts.c: the texts of an array, once its type is known */
+typedef struct {
+    const struct ArrowSchema *texts; /* the type of the texts: that of the dictionary, if there is one */
+    int nested, index;               /* a struct of one column; the size of a dictionary's indices, or 0 */
+    int is_signed;                   /* those */
+} Type;
+PyObject *arrow_texts(const Type *type, const struct ArrowArray *array, PyObject *owner);
+PyObject *arrow_lent(const void *data, Py_ssize_t length, PyObject *owner);
+/* arrow_out.c: what this module lends */
+PyObject *arrow_export(PyObject *self, PyObject *tree);
+PyObject *arrow_export_schema(PyObject *self, PyObject *tree);
+PyObject *arrow_export_stream(PyObject *self, PyObject *args);
+#endif
