@@ -1,5 +1,5 @@
 //! Readers of geometries with their headers.
-ghost use Rattle.std.specs.Prelude.{◌≡◌, map, option_map};
+ghost use Rattle.std.specs.Prelude.{◌≡◌, ◌++◌, ◌∷◌, [], OnOk, map, option_map};
 ghost use Rattle.std.specs.List.{AllByRecursion};
 ghost use Rattle.wkt_access.specs.Values.{Value};
 ghost use Rattle.wkt_types.specs.Coords.{numbers_of};
@@ -17,7 +17,7 @@ use crate::parser::coordinates::{close, opening, point};
 use crate::parser::lists::list;
 use crate::tokenizer::peekable::PeekableTokens;
 use crate::tokenizer::tokens::Lexeme;
-use std::alloc::Global;
+use std::alloc::{AllocError, Global};
 use wkt_access::Dimension;
 use wkt_num::WktNum;
 use wkt_types::{
@@ -277,6 +277,16 @@ fn shut<T: WktNum>(
     Ok(Start::Whole(collection_of(members, dim)))
 }
 
+// Adds the last member, and takes no more room than for it: a collection in others mostly has it alone.
+#[inline(always)]
+fn push_last<T: WktNum>(geometry: Wkt<T>, members: &mut Vec<Wkt<T>>) -> Result<(), AllocError>
+    ensures { OnOk result (members.new.items ≡ members.old.items ++ geometry ∷ []) }
+{
+    members.reserve_exact(1)?;
+    members.push(geometry)?;
+    Ok(())
+}
+
 // A collection after its header, with all that is nested in it. Open collections are kept in a list, so that
 // nesting takes no stack.
 #[inline(never)]
@@ -301,11 +311,12 @@ fn read_collection<T: WktNum>(
             Ok(Start::Whole(geometry)) => match open.pop() {
                 None => return Ok(geometry),
                 Some(Frame { mut members, dim }) => {
-                    members.push(geometry)?;
                     if tokens.take_comma() {
+                        members.push(geometry)?;
                         open.push(Frame { members, dim })?;
                         begin(alloc, tokens, true)
                     } else {
+                        push_last(geometry, &mut members)?;
                         shut(tokens, Ok(members), dim)
                     }
                 }

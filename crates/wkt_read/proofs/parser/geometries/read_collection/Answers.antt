@@ -1,9 +1,13 @@
 -- The open collections and the tokens that are left make the outcome of the whole at each step, and the loop ends.
-use Rattle.std.proofs.Common.{◌≡◌, ◌∷◌, [], ap, sym, refl, subst, ◌∙◌, arith, length, length-append, Ok}
+use Rattle.std.proofs.Common.{◌≡◌, ◌∷◌, [], ap, sym, refl, subst, ◌∙◌, arith, length, length-append, Result, Ok, Err}
 use Rattle.std.proofs.lemmas.List.{nil_from_length}
 use Rattle.std.specs.Prelude.{Vec}
+use Rattle.std.specs.Result.{IsErrAnd}
 use Rattle.std.specs.List.{AllByRecursion}
 use Rattle.std.specs.declared.alloc.Global.{Global}
+use Rattle.std.specs.declared.alloc.AllocError.{AllocError}
+use Rattle.wkt_read.specs.declared.error.ReadError.{ReadError}
+use Rattle.wkt_read.specs.declared.error.ReadError.TheVariants.{Memory}
 use Rattle.wkt_types.specs.declared.geometry.Wkt.{Wkt}
 use Rattle.wkt_types.specs.declared.geometry_type.GeometryType.TheVariants.{GeometryCollection}
 use Rattle.wkt_read.specs.declared.parser.geometries.Start.{Start}
@@ -16,6 +20,11 @@ use Rattle.wkt_read.specs.Parser.Frames.{Wants, IfWhole, OnWhole, Nested, weight
 use Rattle.wkt_read.proofs.ParserLemmas.Many.{all-push, goes-then, part-memory}
 use Rattle.wkt_read.proofs.ParserLemmas.Frames.{IfAny, weight-most, any, any-last, all-pop, wants, wants-error, light, start-uniform, shut-uniform, opened-next, comma-next, shut-next, error-next, done, error-now}
 use Rattle.wkt_read.proofs.parser.geometries.read_collection.Goals as goal
+
+-- the error of a list that couldn't grow, as the reader's
+memory-of : {X : Type 0} (e : AllocError) (r : Result X ReadError) → IsErrAnd r (λ y. y ≡ Memory e) → IsErrAnd r (λ y. (f : AllocError) × (y ≡ Memory f))
+memory-of e (Ok x) h = absurd h
+memory-of e (Err y) h = (e, h)
 
 pub levels-init : goal.levels-init
 levels-init g c = record {
@@ -67,12 +76,20 @@ pub returns-in_err-push-in-Some : goal.returns-in_err-push-in-Some
 returns-in_err-push-in-Some g c =
     let Needs : Type 0 = IsOpened g.T.WktNum.read (rest c.args.tokens.now) in
     part-memory wkt_value UniformWkt Needs _ _ _ c.from_residual-in_err-push-in-Some.result c.from_residual-in_err-push-in-Some.ensures.1
-    (any-last c.pop.new.self.items c.in-Some.field-0 Needs (subst (λ l. IfAny l Needs) c.in-Some.ensures.items c.levels.invariant.opened)) c.levels.invariant.goes_on
+    (any-last c.pop.new.self.items c.in-Some.field-0 Needs (subst (λ l. IfAny l Needs) c.in-Some.ensures.items c.levels.invariant.opened))
+    (goes-then c.levels.invariant.goes_on c.take_comma.ensures.goes_on)
+
+pub returns-in_err-push_last-in-Some : goal.returns-in_err-push_last-in-Some
+returns-in_err-push_last-in-Some g c =
+    let Needs : Type 0 = IsOpened g.T.WktNum.read (rest c.args.tokens.now) in
+    part-memory wkt_value UniformWkt Needs _ _ _ c.from_residual-in_err-push_last-in-Some.result (memory-of _ c.from_residual-in_err-push_last-in-Some.result c.from_residual-in_err-push_last-in-Some.ensures.1)
+    (any-last c.pop.new.self.items c.in-Some.field-0 Needs (subst (λ l. IfAny l Needs) c.in-Some.ensures.items c.levels.invariant.opened))
+    (goes-then c.levels.invariant.goes_on c.take_comma.ensures.goes_on)
 
 pub levels-smaller-in_ok-push-in-Some-2 : goal.levels-smaller-in_ok-push-in-Some-2
 levels-smaller-in_ok-push-in-Some-2 g c =
     let was : weight c.levels.now ≡ 1 = ap weight (c.in-Ok-Whole.is ∙ ap (λ f. Ok f) c.in-Ok-Whole.field-0-is) in
-    omega (arith, was, weight-most c.begin-then-take_comma.result, ap length c.in-Some.ensures.items, length-append c.pop.new.self.items (c.in-Some.field-0 ∷ []), ap length c.in_ok-push-in-Some-2.ensures.items, length-append c.pop.new.self.items (record { members = c.push-in-Some.new.self; dim = c.in-Some.field-0.dim } ∷ []), ap length c.if-take_comma.ensures.takes, c.begin-then-take_comma.ensures.goes_on.fewer)
+    omega (arith, was, weight-most c.begin-then-take_comma.result, ap length c.in-Some.ensures.items, length-append c.pop.new.self.items (c.in-Some.field-0 ∷ []), ap length c.in_ok-push-in-Some-2.ensures.items, length-append c.pop.new.self.items (record { members = c.push-then-take_comma.new.self; dim = c.in-Some.field-0.dim } ∷ []), ap length c.if-take_comma.ensures.takes, c.begin-then-take_comma.ensures.goes_on.fewer)
 
 pub levels-preserved-in_ok-push-in-Some-2 : goal.levels-preserved-in_ok-push-in-Some-2
 levels-preserved-in_ok-push-in-Some-2 g c =
@@ -91,21 +108,21 @@ levels-preserved-in_ok-push-in-Some-2 g c =
       exact = λ fuel h. comma-next g.T.WktNum.read _ _ _ c.in-Some.field-0 _ _ _ _ _ _ _ _ _ (c.levels.invariant.exact fuel h) c.in-Ok-Whole.is c.in-Ok-Whole.field-0-is c.in-Some.ensures.items c.if-take_comma.ensures.takes c.in_ok-push-in-Some.ensures.items refl c.in_ok-push-in-Some-2.ensures.items c.begin-then-take_comma.ensures.goes_on.fewer c.begin-then-take_comma.ensures.exact;
     }
 
-pub levels-preserved-else-take_comma : goal.levels-preserved-else-take_comma
-levels-preserved-else-take_comma g c =
+pub levels-preserved-in_ok-push_last-in-Some : goal.levels-preserved-in_ok-push_last-in-Some
+levels-preserved-in_ok-push_last-in-Some g c =
     let Needs : Type 0 = IsOpened g.T.WktNum.read (rest c.args.tokens.now) in
     let was : Needs = any-last c.pop.new.self.items c.in-Some.field-0 Needs (subst (λ l. IfAny l Needs) c.in-Some.ensures.items c.levels.invariant.opened) in
     let (others, last) = all-pop (λ (o : Frame g.row.T.Denot). AllByRecursion UniformWkt o.members.items) c.pop.new.self.items c.in-Some.field-0 (subst (AllByRecursion (λ o. AllByRecursion UniformWkt o.members.items)) c.in-Some.ensures.items c.levels.invariant.members) in
     let one : UniformWkt c.in-Ok-Whole.geometry = subst (λ s. IfWhole s UniformWkt) (c.in-Ok-Whole.is ∙ ap (λ f. Ok f) c.in-Ok-Whole.field-0-is) c.levels.invariant.uniform in
-    let members : AllByRecursion UniformWkt c.push-in-Some.new.self.items = subst (AllByRecursion UniformWkt) (sym c.in_ok-push-in-Some.ensures.items) (all-push UniformWkt c.in-Some.field-0.members.items c.in-Ok-Whole.geometry last one) in
+    let members : AllByRecursion UniformWkt c.push_last.new.members.items = subst (AllByRecursion UniformWkt) (sym c.in_ok-push_last-in-Some.ensures) (all-push UniformWkt c.in-Some.field-0.members.items c.in-Ok-Whole.geometry last one) in
     record {
       goes_on = goes-then (goes-then c.levels.invariant.goes_on c.take_comma.ensures.goes_on) c.shut.ensures.goes_on;
       members = others;
-      uniform = shut-uniform g.T.WktNum.read _ c.push-in-Some.new.self _ _ c.shut.result c.shut.ensures members;
+      uniform = shut-uniform g.T.WktNum.read _ c.push_last.new.members _ _ c.shut.result c.shut.ensures members;
       opened = any _ _ was;
       memory = wants _ _ was;
       near = c.shut.ensures.near;
-      exact = λ fuel h. shut-next g.T.WktNum.read _ _ c.in-Some.field-0 _ c.push-in-Some.new.self.items _ _ _ _ _ _ _ (c.levels.invariant.exact fuel h) c.in-Ok-Whole.is c.in-Ok-Whole.field-0-is c.in-Some.ensures.items c.if-take_comma.ensures.none c.if-take_comma.ensures.takes c.in_ok-push-in-Some.ensures.items c.shut.ensures.goes_on.fewer (λ body e. c.shut.ensures.exact body (e, members));
+      exact = λ fuel h. shut-next g.T.WktNum.read _ _ c.in-Some.field-0 _ c.push_last.new.members.items _ _ _ _ _ _ _ (c.levels.invariant.exact fuel h) c.in-Ok-Whole.is c.in-Ok-Whole.field-0-is c.in-Some.ensures.items c.if-take_comma.ensures.none c.if-take_comma.ensures.takes c.in_ok-push_last-in-Some.ensures c.shut.ensures.goes_on.fewer (λ body e. c.shut.ensures.exact body (e, members));
     }
 
 pub levels-smaller : goal.levels-smaller
