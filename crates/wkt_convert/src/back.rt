@@ -6,7 +6,7 @@ ghost use Rattle.wkt_convert.specs.Pieces.{IsPieceBack};
 ghost use Rattle.wkt_convert.specs.Back.{flat_xy, point_back, line_string_back, polygon_back, back, all_back};
 
 use crate::flat_values::FlatValue;
-use crate::parts::{Open, Piece, Turn, turn_after, turn_all};
+use crate::parts::{Open, Piece, Turn, turn_after};
 use std::alloc::{AllocError, Global};
 use wkt_flat as flat;
 use wkt_flat::Geometry;
@@ -32,13 +32,20 @@ pub(crate) fn point<T: Copy>(p: flat::Point<T>) -> Point<T>
     Point::new(Some(coord(p.0)), Dimension::XY)
 }
 
-/// Without z and m.
-impl<T: Copy + Drop> Turn<Coord<T>> for flat::Coord<T> {
-    ghost turned = { flat_xy };
-
-    fn turn(&self, _alloc: Global) -> Result<Coord<T>, AllocError> {
-        Ok(coord(*self))
+/// The coordinates without z and m. Each is made where it is to stand, with no result between.
+fn coords<T: Copy + Drop>(alloc: Global, cs: &[flat::Coord<T>]) -> Result<Vec<Coord<T>>, AllocError>
+    ensures { IfOk result (λ r. r.items ≡ map flat_xy cs.now) }
+{
+    let mut all = Vec::with_capacity(alloc, cs.len())?;
+    for c in cs {
+        all.push(Coord {
+            x: c.x,
+            y: c.y,
+            z: None,
+            m: None,
+        })?;
     }
+    Ok(all)
 }
 
 impl<T: Copy + Drop> Turn<Point<T>> for flat::Point<T> {
@@ -53,7 +60,7 @@ impl<T: Copy + Drop> Turn<LineString<T>> for flat::LineString<T> {
     ghost turned = { line_string_back };
 
     fn turn(&self, alloc: Global) -> Result<LineString<T>, AllocError> {
-        Ok(LineString::new(turn_all(alloc, &self.0)?, Dimension::XY))
+        Ok(LineString::new(coords(alloc, &self.0)?, Dimension::XY))
     }
 }
 
@@ -66,7 +73,7 @@ impl<T: Copy + Drop> Turn<Polygon<T>> for flat::Polygon<T> {
         if exterior.0.is_empty() {
             return Ok(Polygon::empty(alloc, Dimension::XY));
         }
-        let mut all = Vec::new(alloc);
+        let mut all = Vec::with_capacity(alloc, self.interiors().len().saturating_add(1))?;
         all.push(exterior.turn(alloc)?)?;
         Ok(Polygon::new(turn_after(alloc, self.interiors(), all)?, Dimension::XY))
     }
