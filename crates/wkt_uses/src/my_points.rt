@@ -1,6 +1,7 @@
 //! A custom representation over whole numbers, by the access traits: coordinates and points.
 //! `my_map` has the other kinds.
 ghost use Rattle.std.specs.Prelude.{◌≤◌, map, vec_len};
+ghost use Rattle.wkt.specs.Dimensions.TheVariants.{Unknown};
 
 use wkt::geo_traits::{CoordTrait, Dimensions, MultiPointTrait, PointTrait};
 
