@@ -35,5 +35,15 @@ for python in /usr/bin/python3 python3 none; do
     "$python" -c 'import sqlite3; sqlite3.connect(":memory:").enable_load_extension(True)' 2> /dev/null && break
 done
 [ "$python" != none ] || { echo "no Python that loads extensions: not run from Python"; exit 1; }
+# On a processor that the library isn't built for.
+mkdir library
+cp "$wkt"/{wkt.h,libwkt.a} library
+printf 'int wkt_supported(void);\nint wkt_supported(void) { return 0; }\n' > unsupported.c
+gcc -fPIC -c unsupported.c
+objcopy --redefine-sym wkt_supported=is_supported library/libwkt.a
+ar r library/libwkt.a unsupported.o
+cp Makefile wkt_sqlite.c library
+make -s -C library WKT_LIB_DIR="$PWD/library"
+[[ $(sqlite3 :memory: ".load library/mod_wkt" 2>&1) == *"wkt: the processor is not supported"* ]] || { echo "loaded on a processor that isn't supported"; exit 1; }
 "$python" test.py "$dir" "$wkt" "$here/.."
 echo "SQLite $(sqlite3 --version | cut -d ' ' -f 1): all as expected"
