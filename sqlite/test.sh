@@ -23,7 +23,13 @@ asked > said
 [ -z "${RESULTS:-}" ] || cp said "$RESULTS"
 diff "$here/expected" said || { echo "sqlite3: other answers"; exit 1; }
 echo "sqlite3: $(grep -c ';$' test.sql) statements as expected"
-# The same by an extension that looks for errors of memory and of arithmetic.
+# What README.md shows, as it stands there.
+sed -n '/^```sql$/,/^```$/p' "$here/README.md" | grep -v '^```' > page.sql
+[ "$(grep -c ';$' page.sql)" -gt 2 ]
+sqlite3 -bail -cmd '.load ./mod_wkt' :memory: < page.sql || { echo "README.md: its statements fail"; exit 1; }
+sed -n 's/^sqlite> //p' "$here/README.md" | { sqlite3 -cmd '.load ./mod_wkt' :memory: 2>&1 || true; } > said
+grep -qF "$(sed -n '/^sqlite> /{n;p}' "$here/README.md")" said || { echo "README.md: another error"; cat said; exit 1; }
+# The statements of test.sql by an extension that looks for errors of memory and of arithmetic.
 mkdir checked
 mv mod_wkt.so checked
 make -s WKT_LIB_DIR="$wkt" CFLAGS="-O1 -g -Werror -fsanitize=address,undefined -fno-sanitize-recover=all"
