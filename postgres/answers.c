@@ -6,12 +6,6 @@
 #include "utils/builtins.h"
 #include "utils/memutils.h"
 
-/* How deep collections may nest where the library takes stack for each level: some 150 bytes of the 2 MB that
- * max_stack_depth allows by default. Without the bound a text could end the server. */
-#ifndef DEEPEST
-#define DEEPEST 4000
-#endif
-
 static const char *const kinds[] = WKT_KIND_WORDS;
 static const char *const dimensions[] = WKT_DIMENSION_WORDS;
 
@@ -43,20 +37,15 @@ Question question_of_text(text *given, uint32_t places) {
     return question_of(VARDATA_ANY(given), VARSIZE_ANY_EXHDR(given), places);
 }
 
-static void check_depth(const Question *asked) {
-#ifndef WKT_NO_STACK
-    size_t depth = 0;
-    for (size_t i = 0; i < asked->length; i++) {
-        if (asked->utf8[i] == '(' && ++depth > DEEPEST)
-            ereport(ERROR, (errcode(ERRCODE_STATEMENT_TOO_COMPLEX),
-                            errmsg("well-known text nests more than %d deep", DEEPEST)));
-        if (asked->utf8[i] == ')' && depth > 0) depth--;
-    }
-#endif
+/* What no text brings about: no memory, say. */
+static void fail_with(wkt_status status) {
+    if (status == WKT_NO_MEMORY) ereport(ERROR, (errcode(ERRCODE_OUT_OF_MEMORY), errmsg("out of memory")));
+    ereport(ERROR, (errcode(ERRCODE_INTERNAL_ERROR), errmsg("wkt: %s", wkt_message(status))));
 }
 
-static void out_of_memory(void) {
-    ereport(ERROR, (errcode(ERRCODE_OUT_OF_MEMORY), errmsg("out of memory")));
+/* Whether a status says that a text has no answer. */
+static bool is_refusal(wkt_status status) {
+    return (status != WKT_OK && status <= WKT_LAST_REFUSAL) || status == WKT_NOT_UTF8 || status == WKT_NOT_WHOLE;
 }
 
 /* Room in which nearly every answer fits: a text of n bytes is answered in some 2n + 8. Room that isn't filled costs
@@ -65,40 +54,38 @@ static size_t room_for(size_t length) {
     return Min(2 * length + 16, MaxAllocSize - VARHDRSZ);
 }
 
-/* The canonical text of a whole text, if `answer` is asked for; or why there is none. */
-bool canonical_of(const Question *asked, text **answer, Refusal *why) {
-    size_t needed = 0, room = answer ? room_for(asked->length) : 0;
+/* The canonical text of a whole text, if `answer` is asked for; false where it is refused. */
+bool canonical_of(const Question *asked, text **answer) {
+    size_t needed = 0, end, room = answer ? room_for(asked->length) : 0;
     text *made = answer ? palloc(VARHDRSZ + room) : NULL;
+    wkt_status status;
 
     CHECK_FOR_INTERRUPTS();
-    check_depth(asked);
-    why->status = wkt_canonical(asked->utf8, asked->length, asked->places | WKT_WHOLE,
-                                made ? (uint8_t *)VARDATA(made) : NULL, room, &needed, &why->at);
+    status = wkt_canonical(asked->utf8, asked->length, asked->places | WKT_WHOLE, made ? (uint8_t *)VARDATA(made) : NULL,
+                           room, &needed, &end);
     CHECK_FOR_INTERRUPTS(); /* what came during the call, which looks for none */
-    if (why->status == WKT_TOO_SMALL && answer)
+    if (status == WKT_TOO_SMALL && answer)
         ereport(ERROR, (errcode(ERRCODE_PROGRAM_LIMIT_EXCEEDED),
                         errmsg("the canonical text is too long: it has %zu bytes", needed)));
-    if (why->status == WKT_TOO_SMALL) why->status = WKT_OK;
-    if (why->status == WKT_NO_MEMORY) out_of_memory();
-    if (why->status == WKT_OK && answer) {
+    if (status == WKT_OK && answer) {
         SET_VARSIZE(made, VARHDRSZ + needed);
         *answer = made;
     } else if (made)
         pfree(made);
-    return why->status == WKT_OK;
+    if (status == WKT_OK || status == WKT_TOO_SMALL) return true;
+    if (!is_refusal(status)) fail_with(status);
+    return false;
 }
 
-/* Whether two whole texts have one canonical text; false where one of them has none. */
+/* Whether two whole texts have one canonical text; false where one of them is refused. */
 bool are_same(const Question asked[2], bool *same) {
     uint32_t answer = 0;
     wkt_status status;
 
     CHECK_FOR_INTERRUPTS();
-    check_depth(&asked[0]);
-    check_depth(&asked[1]);
     status = wkt_same(asked[0].utf8, asked[0].length, asked[1].utf8, asked[1].length, asked[0].places | WKT_WHOLE, &answer);
     CHECK_FOR_INTERRUPTS();
-    if (status == WKT_NO_MEMORY) out_of_memory();
+    if (status != WKT_OK && !is_refusal(status)) fail_with(status);
     *same = answer;
     return status == WKT_OK;
 }
@@ -107,6 +94,6 @@ bool are_same(const Question asked[2], bool *same) {
 text *kind_of(const Question *asked) {
     uint32_t kind = 0, dimension = 0;
     wkt_status status = wkt_infer(asked->utf8, asked->length, &kind, &dimension);
-    if (status == WKT_NO_MEMORY) out_of_memory();
+    if (status == WKT_NO_MEMORY) fail_with(status);
     return status == WKT_OK ? cstring_to_text(psprintf("%s%s%s", kinds[kind], dimension ? " " : "", dimensions[dimension])) : NULL;
 }

@@ -43,12 +43,12 @@ static void keep(Known *known, MemoryContext where, const Question *asked, const
 
 /* The canonical text of an argument; NULL where it is refused. What is known is compared byte by byte: a parameter may
  * change between calls. */
-static text *key_of(Known *known, MemoryContext where, const Question *asked, Refusal *why) {
+static text *key_of(Known *known, MemoryContext where, const Question *asked) {
     text *key;
     if (known->key && known->places == asked->places && known->length == asked->given_length &&
         memcmp(known->given, asked->given, asked->given_length) == 0)
         return known->key;
-    if (!canonical_of(asked, &key, why)) return NULL;
+    if (!canonical_of(asked, &key)) return NULL;
     if (known->is_fixed) keep(known, where, asked, key);
     return key;
 }
@@ -64,9 +64,8 @@ Datum pg_wkt_same(PG_FUNCTION_ARGS) {
     for (int i = 0; i < 2; i++) keeps = keeps || (known[i].is_fixed && asked[i].length >= LONG_TEXT);
     if (!keeps && are_same(asked, &same)) PG_RETURN_BOOL(same);
     for (int i = 0; i < 2; i++) {
-        Refusal why;
-        keys[i] = key_of(&known[i], fcinfo->flinfo->fn_mcxt, &asked[i], &why);
-        if (keys[i] == NULL) return refuse(NULL, &asked[i], &why);
+        keys[i] = key_of(&known[i], fcinfo->flinfo->fn_mcxt, &asked[i]);
+        if (keys[i] == NULL) return refuse(NULL, &asked[i]);
     }
     PG_RETURN_BOOL(VARSIZE(keys[0]) == VARSIZE(keys[1]) && memcmp(keys[0], keys[1], VARSIZE(keys[0])) == 0);
 }

@@ -44,13 +44,13 @@ copy_server() {
 
 # The extension over the library in $wkt, among those folders; none that is installed.
 build_extension() {
-    rm -f "$dir$lib/wkt.so" "$dir$share"/extension/wkt{.control,--*.sql}
+    rm -f "$dir$lib/wkt.so" "$dir$share"/extension/wkt{,_postgis}{.control,--*.sql}
     [ -f "$("$config" --pgxs)" ] || { echo "no headers of the PostgreSQL server: not run"; exit "${LACKING:-1}"; }
     cp -r "$(dirname "${BASH_SOURCE[0]}")"/* "$dir/work"
     make -s -C "$dir/work" PG_CONFIG="$config" WKT_LIB_DIR="$wkt" PG_CFLAGS="-Wall -Wextra -Wno-unused-parameter -Wno-sign-compare -Werror ${CFLAGS_MORE:-}" > "$dir/make.log" 2>&1 ||
         { cat "$dir/make.log"; exit 1; }
     cp "$dir/work/wkt.so" "$dir$lib/"
-    cp "$dir"/work/wkt.control "$dir"/work/wkt--*.sql "$dir$share/extension/"
+    cp "$dir"/work/*.control "$dir"/work/wkt*--*.sql "$dir$share/extension/"
 }
 
 start_server() {

@@ -9,27 +9,7 @@ set -eu
 library "${1:-}"
 here=$(cd "$(dirname "$0")" && pwd)
 start_server
-status=0
-# ask DATABASE SQL..: what the statements answer
-ask() {
-    local base=$1 sql said=()
-    shift
-    for sql in "$@"; do said+=(-c "$sql"); done
-    "$bin/psql" -X -q -At -v ON_ERROR_STOP=1 -d "$base" "${said[@]}"
-}
-wrong() {
-    echo "wrong: $*"
-    status=1
-}
-# is NAME EXPECTED ANSWER
-is() {
-    [ "$2" = "$3" ] || wrong "$1: $3, not $2"
-}
-# fails DATABASE SQL ERROR: the statement's error has these words
-fails() {
-    local said
-    if said=$(ask "$1" "$2" 2>&1); then wrong "$2: no error"; else [[ $said == *"$3"* ]] || wrong "$2: $said"; fi
-}
+. "$here/tests/asked.sh"
 # What an extension consists of.
 objects="select string_agg(pg_describe_object(classid, objid, objsubid), ',' order by pg_describe_object(classid, objid, objsubid))
     from pg_depend d join pg_extension e on refobjid = e.oid and refclassid = 'pg_extension'::regclass where extname = 'wkt'"
@@ -47,6 +27,7 @@ as make -s installcheck PG_CONFIG="$config" WKT_LIB_DIR="$wkt" > regress.log 2>&
 . "$here/tests/keys.sh"
 . "$here/tests/cancel.sh"
 . "$here/tests/same.sh"
+. "$here/tests/page.sh"
 . "$here/tests/updates.sh"
 . "$here/tests/dump.sh"
 . "$here/tests/roles.sh"

@@ -1,5 +1,5 @@
 #!/usr/bin/env bash
-# Runs test.sh on PostgreSQL 17, in a Debian 13 that debootstrap unpacks: versions.sh [FOLDER]
+# Runs test.sh, postgis.sh and recipes.sh on PostgreSQL 17, in a Debian 13 that debootstrap unpacks: versions.sh [FOLDER]
 #
 # FOLDER as test.sh has it. It is run by hand: it needs root, debootstrap and Debian's archive (DEBIAN_MIRROR), and takes
 # some three minutes. DEBIAN=PLACE unpacks there and leaves it, so that the next run finds it.
@@ -10,7 +10,7 @@ library "${1:-}"
 dir=$(mktemp -d)
 trap 'rm -rf "$dir"' EXIT
 root=${DEBIAN:-$dir/debian}
-packages=gcc,libc6-dev,make,postgresql-17,postgresql-server-dev-17
+packages=gcc,libc6-dev,make,postgresql-17,postgresql-server-dev-17,postgresql-17-postgis-3,python3-psycopg,python3-asyncpg,python3-sqlalchemy
 if [ ! -x "$root/usr/lib/postgresql/17/bin/postgres" ]; then
     debootstrap --variant=minbase --include=$packages trixie "$root" "${DEBIAN_MIRROR:-http://deb.debian.org/debian}" \
         > "$dir/log" 2>&1 || { tail -n 20 "$dir/log"; exit 1; }
@@ -26,3 +26,5 @@ inside() {
         mount -t tmpfs tmpfs "$root/dev/shm"; exec chroot "$root" env -i PATH="$PATH" "$@"' sh "$root" "$@"
 }
 inside /wkt/postgres/test.sh /wkt/library
+inside /wkt/postgres/postgis.sh /wkt/library
+inside /wkt/postgres/recipes.sh /wkt/library

@@ -7,28 +7,33 @@
 
 PG_MODULE_MAGIC;
 
+/* On another processor than the library is built for the module isn't loaded, and the session goes on. */
+void _PG_init(void);
+void _PG_init(void) {
+    if (!wkt_supported())
+        ereport(ERROR, (errcode(ERRCODE_FEATURE_NOT_SUPPORTED), errmsg("wkt: the processor is not supported"),
+                        errdetail("The library is built for x86-64 processors with SSE4.2 and POPCNT.")));
+}
+
 PG_FUNCTION_INFO_V1(pg_wkt_canonical);
 Datum pg_wkt_canonical(PG_FUNCTION_ARGS) {
     Question asked = question_of_text(PG_GETARG_TEXT_PP(0), places_of(PG_GETARG_INT32(1)));
     text *answer;
-    Refusal why;
-    if (!canonical_of(&asked, &answer, &why)) return refuse(NULL, &asked, &why);
+    if (!canonical_of(&asked, &answer)) return refuse(NULL, &asked);
     PG_RETURN_TEXT_P(answer);
 }
 
 PG_FUNCTION_INFO_V1(pg_wkt_reads);
 Datum pg_wkt_reads(PG_FUNCTION_ARGS) {
     Question asked = question_of_text(PG_GETARG_TEXT_PP(0), places_of(PG_GETARG_INT32(1)));
-    Refusal why;
-    PG_RETURN_BOOL(canonical_of(&asked, NULL, &why));
+    PG_RETURN_BOOL(canonical_of(&asked, NULL));
 }
 
 PG_FUNCTION_INFO_V1(pg_wkt_explain);
 Datum pg_wkt_explain(PG_FUNCTION_ARGS) {
     Question asked = question_of_text(PG_GETARG_TEXT_PP(0), places_of(PG_GETARG_INT32(1)));
-    Refusal why;
-    if (canonical_of(&asked, NULL, &why)) PG_RETURN_NULL();
-    PG_RETURN_TEXT_P(explained(&asked, &why));
+    if (canonical_of(&asked, NULL)) PG_RETURN_NULL();
+    PG_RETURN_TEXT_P(explained(&asked));
 }
 
 PG_FUNCTION_INFO_V1(pg_wkt_kind);

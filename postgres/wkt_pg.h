@@ -24,22 +24,16 @@ typedef struct Question {
     uint32_t places;
 } Question;
 
-/* Why a whole text has no answer; `at` is where its geometry ends in `utf8`, for WKT_NOT_WHOLE alone. */
-typedef struct Refusal {
-    wkt_status status;
-    size_t at;
-} Refusal;
-
 /* answers.c */
 extern uint32_t places_of(int32 places);
 extern Question question_of(const char *given, size_t length, uint32_t places);
 extern Question question_of_text(text *given, uint32_t places);
-extern bool canonical_of(const Question *asked, text **answer, Refusal *why);
+extern bool canonical_of(const Question *asked, text **answer);
 extern bool are_same(const Question asked[2], bool *same);
 extern text *kind_of(const Question *asked);
 
 /* refusals.c */
-extern Datum refuse(Node *context, const Question *asked, const Refusal *why);
-extern text *explained(const Question *asked, const Refusal *why);
+extern Datum refuse(Node *context, const Question *asked);
+extern text *explained(const Question *asked);
 
 #endif

@@ -35,18 +35,17 @@ static bool has_long_number(const char *at, size_t length) {
 
 /* The value of a text under a modifier. Each value of wkt(n) is one of wkt too, so that a column of either takes what the
  * other holds, as when a dump is restored: its numbers fit with 18 places. */
-static bool has_value(Question *asked, int32 modifier, text **answer, Refusal *why) {
+static bool has_value(Question *asked, int32 modifier, text **answer) {
     asked->places = places_of_modifier(modifier);
-    if (!canonical_of(asked, answer, why)) return false;
+    if (!canonical_of(asked, answer)) return false;
     if (asked->places == MOST_PLACES || !has_long_number(VARDATA(*answer), VARSIZE(*answer) - VARHDRSZ)) return true;
     asked->places = MOST_PLACES;
-    return canonical_of(asked, NULL, why);
+    return canonical_of(asked, NULL);
 }
 
 static Datum value_of(Node *context, Question asked, int32 modifier) {
     text *answer;
-    Refusal why;
-    if (!has_value(&asked, modifier, &answer, &why)) return refuse(context, &asked, &why);
+    if (!has_value(&asked, modifier, &answer)) return refuse(context, &asked);
     PG_RETURN_TEXT_P(answer);
 }
 
@@ -103,8 +102,7 @@ PG_FUNCTION_INFO_V1(pg_wkt_or_null);
 Datum pg_wkt_or_null(PG_FUNCTION_ARGS) {
     Question asked = question_of_text(PG_GETARG_TEXT_PP(0), MOST_PLACES);
     text *answer;
-    Refusal why;
-    if (!has_value(&asked, (int32)places_of(PG_GETARG_INT32(1)), &answer, &why)) PG_RETURN_NULL();
+    if (!has_value(&asked, (int32)places_of(PG_GETARG_INT32(1)), &answer)) PG_RETURN_NULL();
     PG_RETURN_TEXT_P(answer);
 }
 

@@ -61,7 +61,7 @@ same(db.execute("select count(*) from short a, short b where a.i < 10 and wkt_sa
 same(ask(db, "group_concat(wkt_same('POINT(1.5 2)', 'POINT(1.50 2)', 3 - i), '') from short where i < 3"), "111")
 for order in "i", "-i":
     same(ask(db, "max(wkt_same('POINT(1.5 2)', 'POINT(1.50 2)', i)) from (select i from short where i < 3 order by %s)" % order),
-         "error: invalid well-known text: at character 7: a first number was expected")
+         "error: invalid well-known text: at character 7: a first number was expected (numbers have at most 0 places here)")
 same(ask(db, "max(wkt_same(t, 'POINT(1')) from short"), "error: invalid well-known text: at character 8: a second number was expected")
 long = "LINESTRING(" + "12.345678 34.567891," * 100_000 + "0 0)"
 
@@ -126,8 +126,6 @@ print("Python:", rows, "keys")
 line = "LINESTRING(" + "12.345678 34.567891, " * 5_000_000 + "0 0)"
 same(ask(db, "wkt_canonical(?)", line), line.replace(", ", ","))
 same(ask(db, "wkt_reads(?)", line + ","), 0)
-with open(library + "/wkt.h", encoding="utf-8") as header:
-    no_stack = "WKT_NO_STACK" in header.read()
 deep = "GEOMETRYCOLLECTION(" * 1_000_000 + "point(1 2.0)" + ")" * 1_000_000
 
 
@@ -146,8 +144,7 @@ for stack in (0, 262144):
     thread = threading.Thread(target=nested)
     thread.start()
     thread.join()
-    bound = "error: well-known text nests more than 1000 deep"
-    same(answers[:4], [deep.replace("point(1 2.0)", "POINT(1 2)"), 1, 0, 0] if no_stack else [bound] * 4)
+    same(answers[:4], [deep.replace("point(1 2.0)", "POINT(1 2)"), 1, 0, 0])
     same(answers[4], "GEOMETRYCOLLECTION")
 same(ask(db, "wkt_reads(?)", "GEOMETRYCOLLECTION(" * 999 + "POINT(1 2)" + ")" * 999), 1)
-print("Python: a million nested collections are", "answered" if no_stack else "refused, since the library takes stack")
+print("Python: a million nested collections are answered")

@@ -23,7 +23,13 @@ asked > said
 [ -z "${RESULTS:-}" ] || cp said "$RESULTS"
 diff "$here/expected" said || { echo "sqlite3: other answers"; exit 1; }
 echo "sqlite3: $(grep -c ';$' test.sql) statements as expected"
-# The same by an extension that looks for errors of memory and of arithmetic.
+# What README.md shows, as it stands there.
+sed -n '/^```sql$/,/^```$/p' "$here/README.md" | grep -v '^```' > page.sql
+[ "$(grep -c ';$' page.sql)" -gt 2 ]
+sqlite3 -bail -cmd '.load ./mod_wkt' :memory: < page.sql || { echo "README.md: its statements fail"; exit 1; }
+sed -n 's/^sqlite> //p' "$here/README.md" | { sqlite3 -cmd '.load ./mod_wkt' :memory: 2>&1 || true; } > said
+grep -qF "$(sed -n '/^sqlite> /{n;p}' "$here/README.md")" said || { echo "README.md: another error"; cat said; exit 1; }
+# The statements of test.sql by an extension that looks for errors of memory and of arithmetic.
 mkdir checked
 mv mod_wkt.so checked
 make -s WKT_LIB_DIR="$wkt" CFLAGS="-O1 -g -Werror -fsanitize=address,undefined -fno-sanitize-recover=all"
@@ -35,5 +41,15 @@ for python in /usr/bin/python3 python3 none; do
     "$python" -c 'import sqlite3; sqlite3.connect(":memory:").enable_load_extension(True)' 2> /dev/null && break
 done
 [ "$python" != none ] || { echo "no Python that loads extensions: not run from Python"; exit 1; }
+# On a processor that the library isn't built for.
+mkdir library
+cp "$wkt"/{wkt.h,libwkt.a} library
+printf 'int wkt_supported(void);\nint wkt_supported(void) { return 0; }\n' > unsupported.c
+gcc -fPIC -c unsupported.c
+objcopy --redefine-sym wkt_supported=is_supported library/libwkt.a
+ar r library/libwkt.a unsupported.o
+cp Makefile wkt_sqlite.c library
+make -s -C library WKT_LIB_DIR="$PWD/library"
+[[ $(sqlite3 :memory: ".load library/mod_wkt" 2>&1) == *"wkt: the processor is not supported"* ]] || { echo "loaded on a processor that isn't supported"; exit 1; }
 "$python" test.py "$dir" "$wkt" "$here/.."
 echo "SQLite $(sqlite3 --version | cut -d ' ' -f 1): all as expected"

@@ -24,6 +24,12 @@ select wkt_canonical('POINT(1 2)', 19);
 select wkt_reads('POINT(1 2)', 'six');
 select wkt_same('POINT(1 2)', 'POINT(1 2)', 1.5);
 select wkt_explain('POINT(1 2)', 4294967296);
+-- Hints
+select wkt_canonical('POINT(1.1234567 2)', 6);
+select wkt_canonical('POINT(200000000000000000000 2)');
+select wkt_canonical('SRID=4326;POINT(1 2)');
+select wkt_canonical('POINT(1 2 3)');
+select wkt_same('POINT(1 2)', 'POINT()');
 -- The line of the text, and a caret at the place
 select wkt_explain('POINT(1 2)');
 select wkt_explain('POINT(1)');

@@ -9,10 +9,6 @@ SQLITE_EXTENSION_INIT1
 #include <wkt.h>
 
 #define MOST_PLACES 18
-/* How deep collections may nest where the library takes stack for each level, some 150 bytes: a thread may have little. */
-#ifndef DEEPEST
-#define DEEPEST 1000
-#endif
 
 #ifdef _WIN32
 #define EXPORTED __declspec(dllexport)
@@ -25,12 +21,9 @@ EXPORTED int sqlite3_modwkt_init(sqlite3 *db, char **error, const sqlite3_api_ro
 static const char *const kinds[] = WKT_KIND_WORDS;
 static const char *const dimensions[] = WKT_DIMENSION_WORDS;
 
-/* A status of this file, beside those of wkt.h. */
-#define TOO_DEEP 101
-
 typedef struct Question {
     const uint8_t *text;
-    size_t length, end;
+    size_t length;
     uint32_t places;
 } Question;
 
@@ -48,64 +41,35 @@ static uint32_t places_of(int count, sqlite3_value **values, int at) {
     return places < 0 || places > MOST_PLACES ? MOST_PLACES + 1 : (uint32_t)places;
 }
 
-static int is_too_deep(const Question *asked) {
-#ifndef WKT_NO_STACK
-    size_t depth = 0;
-    for (size_t i = 0; i < asked->length; i++) {
-        if (asked->text[i] == '(' && ++depth > DEEPEST) return 1;
-        if (asked->text[i] == ')' && depth > 0) depth--;
-    }
-#else
-    (void)asked;
-#endif
-    return 0;
-}
-
 static wkt_status question_of(sqlite3_value *value, uint32_t places, Question *asked) {
     asked->text = sqlite3_value_text(value);
     asked->length = (size_t)sqlite3_value_bytes(value);
     asked->places = places;
     if (asked->text == NULL) return WKT_NO_MEMORY;
-    return is_too_deep(asked) ? TOO_DEEP : WKT_OK;
+    return WKT_OK;
 }
 
 /* The canonical text of a value, in memory of SQLite's, if `out` is asked for; or why there is none. A text of n bytes
  * is answered in at most some 2n + 8. */
 static wkt_status canonical_of(sqlite3_value *value, uint32_t places, Question *asked, char **out, size_t *length) {
-    size_t room;
+    size_t room, end;
     wkt_status status = question_of(value, places, asked);
     if (status != WKT_OK) return status;
     room = out ? 2 * asked->length + 16 : 0;
     if (out && (*out = sqlite3_malloc64(room)) == NULL) return WKT_NO_MEMORY;
-    status = wkt_canonical(asked->text, asked->length, places | WKT_WHOLE, out ? (uint8_t *)*out : NULL, room, length, &asked->end);
+    status = wkt_canonical(asked->text, asked->length, places | WKT_WHOLE, out ? (uint8_t *)*out : NULL, room, length, &end);
     if (status == WKT_TOO_SMALL && !out) status = WKT_OK;
     if (status != WKT_OK && out) sqlite3_free(*out);
     return status;
 }
 
-/* The lexeme that is too much begins at *start, and what could stand there; NULL where the library can't say. */
-static const char *expected_of(const Question *asked, wkt_status status, size_t *start) {
-    if (status == WKT_NOT_WHOLE) {
-        *start = asked->end;
-        while (*start < asked->length && asked->text[*start] && strchr(" \t\r\n", asked->text[*start])) ++*start;
-        return "the end of the text";
-    }
-#ifdef WKT_HAS_EXPLAIN
-    if (status <= WKT_LAST_REFUSAL) {
-        static const char *const expected[] = WKT_EXPECTED;
-        uint32_t message, what;
-        size_t stop;
-        if (wkt_explain(asked->text, asked->length, asked->places, &message, start, &stop, &what) == WKT_OK)
-            return expected[what];
-    }
-#endif
-    return NULL;
-}
-
-static const char *message_of(wkt_status status) {
-    static const char *const messages[] = WKT_MESSAGES;
-    if (status == WKT_NOT_UTF8) return "The text is not UTF-8";
-    return status <= WKT_LAST_REFUSAL ? messages[status] : "No answer";
+/* Where a whole text is refused, and what could stand there; NULL where no place is known. */
+static const char *expected_of(const Question *asked, size_t *start) {
+    static const char *const expected[] = WKT_EXPECTED;
+    uint32_t message, what;
+    size_t stop;
+    wkt_status status = wkt_explain(asked->text, asked->length, asked->places | WKT_WHOLE, &message, start, &stop, &what);
+    return status == WKT_OK ? expected[what] : status == WKT_NOT_WHOLE ? "the end of the text" : NULL;
 }
 
 static size_t characters(const uint8_t *text, size_t length) {
@@ -122,30 +86,38 @@ static void fail_with(sqlite3_context *context, char *said) {
     sqlite3_free(said);
 }
 
-/* What no function answers: an error. */
+/* What no text brings about: an error. */
 static int is_limit(sqlite3_context *context, wkt_status status) {
+    if (status <= WKT_LAST_REFUSAL || status == WKT_NOT_UTF8 || status == WKT_NOT_WHOLE) return 0;
     if (status == WKT_NO_MEMORY)
         sqlite3_result_error_nomem(context);
     else if (status == WKT_NO_PLACES)
         fail_with(context, sqlite3_mprintf("places must be between 0 and %d", MOST_PLACES));
-    else if (status == TOO_DEEP)
-        fail_with(context, sqlite3_mprintf("well-known text nests more than %d deep", DEEPEST));
     else if (status == WKT_TOO_SMALL)
         sqlite3_result_error_toobig(context);
     else
-        return 0;
+        fail_with(context, sqlite3_mprintf("wkt: %s", wkt_message(status)));
     return 1;
 }
 
 static void refuse(sqlite3_context *context, const Question *asked, wkt_status status) {
+    static const char *const hints[] = WKT_HINTS;
+    uint32_t hint = WKT_HINT_NONE;
     size_t start;
-    const char *expected = expected_of(asked, status, &start);
+    const char *expected;
+    char *why;
     if (is_limit(context, status)) return;
-    if (expected)
-        fail_with(context, sqlite3_mprintf("invalid well-known text: at character %llu: %s was expected",
-                                           (sqlite3_uint64)characters(asked->text, start) + 1, expected));
-    else
-        fail_with(context, sqlite3_mprintf("invalid well-known text: %s", message_of(status)));
+    if (!(expected = expected_of(asked, &start))) {
+        fail_with(context, sqlite3_mprintf("invalid well-known text: %s", wkt_message(status)));
+        return;
+    }
+    if (wkt_hint(asked->text, asked->length, asked->places, &hint) != WKT_OK) hint = WKT_HINT_NONE;
+    why = sqlite3_mprintf(hints[hint], asked->places);
+    fail_with(context, why ? sqlite3_mprintf(hint ? "invalid well-known text: at character %llu: %s was expected (%s)" :
+                                                    "invalid well-known text: at character %llu: %s was expected",
+                                             (sqlite3_uint64)characters(asked->text, start) + 1, expected, why)
+                           : NULL);
+    sqlite3_free(why);
 }
 
 static void canonical(sqlite3_context *context, int count, sqlite3_value **values) {
@@ -277,9 +249,9 @@ static void explain(sqlite3_context *context, int count, sqlite3_value **values)
     if (some_null(count, values)) return;
     status = canonical_of(values[0], places_of(count, values, 1), &asked, NULL, &length);
     if (status == WKT_OK || is_limit(context, status)) return;
-    expected = expected_of(&asked, status, &start);
+    expected = expected_of(&asked, &start);
     if (!expected) {
-        sqlite3_result_text(context, message_of(status), -1, SQLITE_STATIC);
+        sqlite3_result_text(context, wkt_message(status), -1, SQLITE_STATIC);
         return;
     }
     from = back_from(asked.text, start);
@@ -312,7 +284,10 @@ int sqlite3_wkt_init(sqlite3 *db, char **error, const sqlite3_api_routines *api)
                      {"wkt_or_null", 2, or_null},     {"wkt_kind", 1, kind},           {"wkt_version", 0, version}};
     int status = SQLITE_OK;
     SQLITE_EXTENSION_INIT2(api);
-    (void)error;
+    if (!wkt_supported()) {
+        if (error) *error = sqlite3_mprintf("wkt: the processor is not supported: the library is built for x86-64 processors with SSE4.2 and POPCNT");
+        return SQLITE_ERROR;
+    }
     for (size_t i = 0; status == SQLITE_OK && i < sizeof functions / sizeof *functions; i++)
         status = sqlite3_create_function_v2(db, functions[i].name, functions[i].count,
                                             SQLITE_UTF8 | SQLITE_DETERMINISTIC | SQLITE_INNOCUOUS, NULL,

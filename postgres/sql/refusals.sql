@@ -20,6 +20,7 @@ SELECT wkt_canonical('0101000000000000000000F03F0000000000000040');
 SELECT wkt_canonical('TRIANGLE((0 0,1 0,0 1,0 0))');
 SELECT wkt_canonical('CIRCULARSTRING(0 0,1 1,2 0)');
 SELECT wkt_canonical(U&'P\00D6INT(1 2)');
+SELECT wkt_canonical(U&'\FEFFPOINT(1 2)');
 SELECT wkt_same('POINT(1 2)', 'POINT(1)');
 SELECT wkt_canonical('LINESTRING(' || repeat('1 2,', 1000) || '3)');
 -- Places

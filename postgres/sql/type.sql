@@ -7,6 +7,7 @@ SELECT format_type('wkt'::regtype, 6), format_type('wkt'::regtype, -1);
 SELECT 'POINT(200000000000000000000 2)'::wkt(6);
 SELECT ('point(200000000000000000000.0 2)'::text)::wkt(6);
 SELECT ('point(170141183460469231731.687303 2)'::text)::wkt(6);
+SELECT ('point(170141183460469231731.687304 2)'::text)::wkt(6);
 SELECT wkt_canonical('point(200000000000000000000.0 2)', 6);
 SELECT ('LINESTRING(' || repeat('12345678901234567890 1234567890.123456, ', 100) || '200000000000000000000 2)')::wkt(6);
 -- Modifiers that a declaration doesn't take

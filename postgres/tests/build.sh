@@ -17,7 +17,17 @@ for file in library/wkt.h library/libwkt.a built/wkt_pg.h built/wkt_type.c; do
 done
 [[ $(readelf -d "$dir/built/wkt.so") == *BIND_NOW* ]] || wrong "build: wkt.so isn't linked with -z now"
 [[ $(nm -D "$dir/built/wkt.so") == *__stack_chk_fail* ]] || wrong "build: wkt.so has no stack protector"
-is "build: names of wkt.so" "Pg_magic_func" "$(nm -D --defined-only "$dir/built/wkt.so" | sed -n 's/.* T //p' | grep -v pg_ | sort | paste -sd ' ')"
+is "build: names of wkt.so" "Pg_magic_func _PG_init" "$(nm -D --defined-only "$dir/built/wkt.so" | sed -n 's/.* T //p' | grep -v pg_ | sort | paste -sd ' ')"
 make -s -C "$dir/built" PG_CONFIG="$config" WKT_LIB_DIR="$dir/library" DESTDIR="$dir/installed" install > "$dir/make.log" 2>&1 || { wrong "build: make install fails"; cat "$dir/make.log"; }
 is "build: what is installed" "$(cd "$here" && printf '%s\n' wkt*.control wkt*.sql wkt.so | sort)" "$(cd "$dir/installed" && find . -type f -printf '%f\n' | sort)"
+
+# On a processor that the library isn't built for.
+printf 'int wkt_supported(void);\nint wkt_supported(void) { return 0; }\n' > "$dir/unsupported.c"
+gcc -fPIC -c "$dir/unsupported.c" -o "$dir/unsupported.o"
+objcopy --redefine-sym wkt_supported=is_supported "$dir/library/libwkt.a"
+ar r "$dir/library/libwkt.a" "$dir/unsupported.o"
+made > "$dir/said"
+is "build: an unsupported processor" "ERROR:  wkt: the processor is not supported
+DETAIL:  The library is built for x86-64 processors with SSE4.2 and POPCNT.
+the session goes on" "$("$bin/psql" -X -q -At -c "load '$dir/built/wkt.so'" -c "select 'the session goes on'" 2>&1)"
 echo "build: as expected"
