@@ -6,6 +6,7 @@
 # architecture, crossbuild-essential-ARCHITECTURE. The packages of another one are made without their tests (dist/cross.sh),
 # and their Build-Depends aren't looked at: the headers of libpython3-dev:ARCHITECTURE are enough.
 set -eu
+unset WKT_C_LIB WKT_LIB_DIR
 here=$(cd "$(dirname "$0")" && pwd)
 out=$(cd "${1:-$here/out}" && pwd)
 shift || true

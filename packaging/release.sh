@@ -6,6 +6,7 @@
 # extensions, the Python package, the Rust crate; and the wheel of the Python package. It runs `make check` in the release.
 # VERSION is that of include/wkt.h. All times are the date of that version in CHANGELOG.md, or of the commit while it has none.
 set -eu
+unset WKT_C_LIB WKT_LIB_DIR # which would put another library in the place of its own
 here=$(cd "$(dirname "$0")" && pwd)
 root=$(dirname "$here")
 version=$(sed -n 's/^#define WKT_VERSION "\(.*\)"/\1/p' "$root/include/wkt.h")
@@ -38,5 +39,5 @@ tar -C "$out" --format=gnu --sort=name --owner=0 --group=0 --numeric-owner --mod
 
 make -s -C "$to" check
 make -s -C "$to" clean
-SOURCE_DATE_EPOCH=$when WKT_LIB_DIR='' WKT_C_LIB=dist "${PYTHON:-/usr/bin/python3}" -m pip wheel -q --no-build-isolation --no-deps --no-index -w "$out" "$to/python"
+SOURCE_DATE_EPOCH=$when "${PYTHON:-/usr/bin/python3}" -m pip wheel -q --no-build-isolation --no-deps --no-index -w "$out" "$to/python"
 (cd "$out" && ls -l ./*.tar.gz ./*.whl)

@@ -1,13 +1,15 @@
 #!/usr/bin/env bash
 # `make -C dist` and `make install` as a user calls them, and what is said where the library isn't there.
 #
-# It needs gcc, binutils, make and pkg-config. CC=aarch64-linux-gnu-gcc looks at what is made for another processor.
+# It needs gcc, binutils, make and pkg-config; PostgreSQL's headers, and cargo, where SKIP=postgres,rust doesn't name them.
+# CC=aarch64-linux-gnu-gcc looks at what is made for another processor.
 set -u
 cd "$(dirname "$0")/.."
 dir=$(mktemp -d)
 trap 'rm -rf "$dir"' EXIT
 export LC_ALL=C
 failed=0
+skips() { case ",${SKIP:-}," in *",$1,"*) true ;; *) false ;; esac; }
 wrong() { echo "wrong: $*"; failed=1; }
 make_dist() { make -s -C dist O="$dir/out" "$@" > "$dir/said" 2>&1 || { tail -n 20 "$dir/said"; wrong "make $*"; }; }
 
@@ -45,7 +47,7 @@ says() {
 cp -r sqlite postgres "$dir"
 rm -f "$dir"/{sqlite,postgres}/*.{o,so}
 for folder in sqlite postgres; do
-    [ $folder = sqlite ] || command -v pg_config > /dev/null || continue
+    ! skips $folder || continue
     says 'capi/build.sh in a clone of wkt makes it' make -C "$dir/$folder" WKT_LIB_DIR=/nowhere
     says 'capi/build.sh in a clone of wkt makes it' env PKG_CONFIG_LIBDIR=/nowhere make -C "$dir/$folder"
 done
@@ -53,7 +55,7 @@ says 'install gcc.*then run capi/build.sh again' env CC=nowhere-gcc capi/build.s
 printf '#!/bin/sh\necho riscv64-linux-gnu\n' > "$dir/cc" && chmod 755 "$dir/cc"
 says 'dist/refresh.sh riscv64 proves and builds them' env CC="$dir/cc" WKT_C_LIB=dist capi/build.sh "$dir/none"
 says 'capi/build.sh in a clone of wkt makes it' env WKT_LIB_DIR=/nowhere python3 -c 'import sys; sys.path.insert(0, "python"); import backend; backend.build_wheel(sys.argv[1])' "$dir"
-if command -v cargo > /dev/null; then
+if ! skips rust; then
     tests/cargo_home.sh "$dir/cargo" || failed=1
     says 'capi/build.sh in a clone of wkt makes it' env WKT_LIB_DIR=/nowhere CARGO_HOME="$dir/cargo" CARGO_TARGET_DIR="$dir/target" \
         cargo build -q --offline --manifest-path rust/Cargo.toml
