@@ -352,9 +352,10 @@ class Words(unittest.TestCase):
             ("CIRCULARSTRING(1 2,3 4,5 6)", "at 1: curves are not read; ST_CurveToLine gives lines", 3),
             ("POINT(1 2 3)", "at 11: a third number needs Z or M, as in POINT Z(1 2 3), and a fourth ZM", 7),
             ("POINT(%s 2)" % ("9" * 50), "at 7: the number is too large", 7),
+            ("POINT(nan nan)", "at 7: NaN and infinity are no decimals; EMPTY says that there is no point", 7),
+            ("POINT()", "at 7: what holds nothing is written EMPTY, without parentheses", 7),
+            ("\ufeffPOINT(1 2)", "at 1: the text begins with a byte order mark", 2),
         ]
-        if not wkt._library.wkt_hint:
-            return
         for text, words, status in cases:
             for call in (wkt.canonical, wkt.to_arrays, lambda it, places: wkt.same(it, it, places)):
                 with self.assertRaises(wkt.WktError) as raised:
