@@ -122,6 +122,20 @@ class Kinds(unittest.TestCase):
         self.assertEqual(wkt.reads(pandas.Index(TEXTS)).tolist(), [True, False, True, False, True])
 
     @unittest.skipIf(pandas is None, "no pandas")
+    def test_accessor(self):
+        import wkt.pandas  # noqa: F401
+
+        series = pandas.Series(TEXTS, [7, 5, 3, 1, 9], name="geometry", dtype=object)
+        self.assertEqual(series.wkt.canonical(invalid="null").tolist(), ANSWERS)
+        for name, more in (("canonical", ("null",)), ("same", ("POINT(3 4)", 18, "null")), ("reads", ()), ("explain", ()), ("infer", ("null",))):
+            given = (18, *more) if name == "canonical" else more
+            made, wanted = getattr(series.wkt, name)(*given), getattr(wkt, name)(series, *given)
+            pandas.testing.assert_series_equal(made, wanted)
+        self.assertEqual(series.wkt.to_arrays_column(1).places, 1)
+        self.assertFalse(series.wkt.reads(places=0)[7])
+        self.assertEqual(pandas.Index(GOOD).wkt.canonical().tolist(), GOOD_ANSWERS)
+
+    @unittest.skipIf(pandas is None, "no pandas")
     def test_strings_of_pandas(self):
         """They are known by their class: in pandas 3 its name is another."""
         with unittest.mock.patch.object(pandas.StringDtype, "name", "str"):
