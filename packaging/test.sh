@@ -77,7 +77,7 @@ wheel() {
     "$dir/venv/bin/pip" install -q --no-index "$out"/wkt_proved-*.whl || fail "pip install"
     local took=$((SECONDS - start))
     (cd / && "$dir/venv/bin/python" -c "import wkt; assert wkt.canonical('$text') == '$answer', wkt.canonical('$text')") || fail "import wkt"
-    [ ! -e "$dir/venv/bin/wkt" ] || fail "the wheel installs a program wkt"
+    [ "$(echo "$text" | "$dir/venv/bin/wkt" canon)" = "$answer" ] || fail "the wheel's program wkt"
     echo "wheel: installed in $took s, called"
 }
 

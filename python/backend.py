@@ -1,15 +1,19 @@
-"""Builds the package with nothing but Python and, for the fast columns, a C compiler: pip calls `build_wheel`.
+"""Builds the package with nothing but Python and a C compiler: PEP 517's build_wheel and build_sdist, PEP 660's build_editable.
 
-The wheel has wkt/, the shared library, and `wkt/_fast.abi3.so` where the Python that builds is 3.11 or later and has its
-headers: it then serves 3.11 and each later Python. WKT_FAST=0 makes one for Python 3.8 on, which calls the library by
-ctypes alone; WKT_FAST=1 fails where the fast module can't be compiled. WKT_LIB_DIR names the folder with libwkt.so; without
-it capi/build.sh makes the library for this wheel, in a second and without the prover. CC names the C compiler.
+A wheel has wkt/, the shared library, the command `wkt`, and `wkt/_fast.abi3.so` where the Python that builds is 3.11 or later
+and has its headers: it then serves 3.11 and each later Python. WKT_FAST=0 makes one for Python 3.8 on, which calls the library
+by ctypes alone; WKT_FAST=1 fails where the fast module can't be compiled. WKT_LIB_DIR names the folder with libwkt.so, and
+with the command `wkt` if it has one; without it capi/build.sh and dist/Makefile make both of the proved objects, in a second
+and without the prover. CC names the C compiler; CFLAGS and LDFLAGS are those of the fast module and of the command.
 
-A wheel's bytes depend on its files alone; its times are SOURCE_DATE_EPOCH, or 1980.
+A source package has the proved objects and the C files in native/, so it needs neither a clone nor the prover.
+The bytes of a package depend on its files alone; its times are SOURCE_DATE_EPOCH, or 1980.
 """
 import base64
 import glob
+import gzip
 import hashlib
+import io
 import json
 import os
 import re
@@ -18,21 +22,45 @@ import shutil
 import subprocess
 import sys
 import sysconfig
+import tarfile
 import tempfile
 import time
 import zipfile
 
 here = os.path.dirname(os.path.abspath(__file__))
+# Where capi/, dist/ and include/ are: in a source package, or in a clone. pip before 21.3 builds in a copy of this folder.
+top = os.path.join(here, "native")
+if not os.path.exists(top):
+    top = os.path.join(here, os.pardir)
 NAME = "wkt_proved"
 SUMMARY = "Well-known text by a proved library: canonical texts, comparison, columns, arrays"
 with open(os.path.join(here, "wkt", "_version.py"), encoding="utf-8") as file:
     VERSION = re.search('"(.*)"', file.read()).group(1)
+INFO = "%s-%s.dist-info/" % (NAME, VERSION)
+# What a source package has of the rest of a clone.
+NATIVE = ("include/wkt.h", "capi/build.sh", "capi/*.c", "capi/*.h", "dist/Makefile", "dist/NOTICE", "dist/objects.sh", "dist/system.c",
+          "dist/*/*.xz", "dist/*/PROVENANCE", "LICENSE-*")  # fmt: skip
+OWN = ("pyproject.toml", "backend.py", "README.md", "DASK.md", "show.py", "wkt/*.py", "wkt/*.pyi", "wkt/py.typed", "src/*.[ch]",
+       "examples/*.py", "tests/*.py", "tests/*.[ch]", "tests/*.sh")  # fmt: skip
+# The command, as pip puts it beside Python: it becomes the proved program.
+SCRIPT = b'''#!python
+"""The command wkt: the proved program of the package wkt."""
+import importlib.util
+import os
+import sys
+
+package = importlib.util.find_spec("wkt")
+if package is None or package.origin is None:
+    sys.exit("wkt: the package wkt isn't installed for this Python")
+program = os.path.join(os.path.dirname(package.origin), "_command")
+os.execv(program, ["wkt"] + sys.argv[1:])
+'''
 
 
 def _library(folder):
     """The folder with libwkt.so: WKT_LIB_DIR, or the one that is given, in which capi/build.sh makes it."""
     named = os.environ.get("WKT_LIB_DIR")
-    build = os.path.join(here, os.pardir, "capi", "build.sh")
+    build = os.path.join(top, "capi", "build.sh")
     if named:
         if os.path.exists(os.path.join(named, "libwkt.so")):
             return named
@@ -46,42 +74,22 @@ def _library(folder):
     return folder
 
 
-def _files(library):
-    names = glob.glob(os.path.join(here, "wkt", "*.py")) + glob.glob(os.path.join(here, "wkt", "*.pyi"))
-    for path in sorted(names) + [os.path.join(here, "wkt", "py.typed")]:
-        yield "wkt/" + os.path.basename(path), path
-    yield "wkt/libwkt.so", os.path.join(library, "libwkt.so")
+def _command(folder, library):
+    """The proved command: that beside the library, or linked of its proved object."""
+    made = os.path.join(library, "wkt")
+    if os.path.exists(made):
+        return made
+    if not os.path.exists(os.path.join(top, "dist", "Makefile")):
+        raise SystemExit("this package needs the command wkt: make -C dist in a clone of wkt makes it, in the folder that WKT_LIB_DIR names")
+    out = os.path.join(folder, "command")
+    made = os.path.join(out, "wkt")
+    if subprocess.run(["make", "-s", "-C", os.path.join(top, "dist"), "O=" + out, made], check=False).returncode:
+        raise SystemExit("make -C dist fails, which makes the command wkt of this package")
+    return made
 
 
-def _platform(files):
-    """The wheel's platform: manylinux of the newest glibc whose names the libraries of these files ask for, from 2.17 on.
-
-    So a wheel that was built here runs wherever such a glibc is. WKT_PLATFORM names another.
-    """
-    platform = sysconfig.get_platform().replace("-", "_").replace(".", "_")
-    asked = set()
-    for _, data in files:
-        if data[:4] == b"\x7fELF":
-            asked.update(int(it) for it in re.findall(rb"\0GLIBC_2\.(\d+)(?:\.\d+)?(?=\0)", data))
-    named = os.environ.get("WKT_PLATFORM")
-    if named or not asked or not platform.startswith("linux_"):
-        return named or platform
-    return "manylinux_2_%d_%s" % (max(17, *asked), platform[len("linux_"):])
-
-
-def _parts(library):
-    """What the library was made of, for whoever lists what they install (CycloneDX, PEP 770)."""
-    made_of = "?"
-    if os.path.exists(os.path.join(library, "FROM")):
-        with open(os.path.join(library, "FROM"), encoding="utf-8") as file:
-            made_of = file.read().strip()
-    with open(os.path.join(library, "libwkt.so"), "rb") as file:
-        digest = hashlib.sha256(file.read()).hexdigest()
-    licence = [{"expression": "MIT OR Apache-2.0"}]
-    part = {"type": "library", "name": "libwkt", "version": VERSION, "licenses": licence,
-            "hashes": [{"alg": "SHA-256", "content": digest}], "properties": [{"name": "wkt:from", "value": made_of}]}
-    whole = {"type": "library", "name": "wkt-proved", "version": VERSION, "licenses": licence}
-    return json.dumps({"bomFormat": "CycloneDX", "specVersion": "1.5", "metadata": {"component": whole}, "components": [part]}, indent=1)
+def _flags(name):
+    return shlex.split(os.environ.get(name, ""))
 
 
 def _compiled(folder):
@@ -103,62 +111,146 @@ def _compiled(folder):
     if lacks:
         return None
     made = os.path.join(folder, "_fast.abi3.so")
-    words = ["-O2", "-shared", "-fPIC", "-fstack-protector-strong", "-Wl,-z,relro,-z,now", "-fvisibility=hidden", "-I", headers, *sorted(glob.glob(os.path.join(here, "src", "*.c"))), "-o", made]
-    subprocess.run(compiler + words, check=True)
+    words = ["-O2", "-fPIC", "-fvisibility=hidden", "-fstack-protector-strong", *_flags("CFLAGS"), "-I", headers]
+    sources = sorted(glob.glob(os.path.join(here, "src", "*.c")))
+    subprocess.run([*compiler, *words, *sources, "-shared", "-Wl,-z,relro,-z,now", *_flags("LDFLAGS"), "-o", made], check=True)
     return made
 
 
+def _built(folder):
+    """What is compiled for the package, by its name in it, and the folder of the library."""
+    library = _library(folder)
+    built = {"libwkt.so": os.path.join(library, "libwkt.so"), "_command": _command(folder, library)}
+    fast = _compiled(folder)
+    if fast:
+        built["_fast.abi3.so"] = fast
+    return built, library
+
+
+def _bytes(path):
+    with open(path, "rb") as file:
+        return file.read()
+
+
+def _platform(built):
+    """The wheel's platform: manylinux of the newest glibc whose names these files ask for, from 2.17 on.
+
+    So a wheel that was built here runs wherever such a glibc is. WKT_PLATFORM names another.
+    """
+    platform = sysconfig.get_platform().replace("-", "_").replace(".", "_")
+    asked = set()
+    for path in built.values():
+        asked.update(int(it) for it in re.findall(rb"\0GLIBC_2\.(\d+)(?:\.\d+)?(?=\0)", _bytes(path)))
+    named = os.environ.get("WKT_PLATFORM")
+    if named or not asked or not platform.startswith("linux_"):
+        return named or platform
+    return "manylinux_2_%d_%s" % (max(17, *asked), platform[len("linux_"):])
+
+
+def _parts(built, library):
+    """What is compiled and what it was made of, for whoever lists what they install (CycloneDX, PEP 770)."""
+    made_of = "?"
+    if os.path.exists(os.path.join(library, "FROM")):
+        made_of = _bytes(os.path.join(library, "FROM")).decode().strip()
+    licence = [{"expression": "MIT OR Apache-2.0"}]
+    parts = []
+    for name, path in sorted(built.items()):
+        part = {"type": "application" if name == "_command" else "library", "name": name, "version": VERSION, "licenses": licence,
+                "hashes": [{"alg": "SHA-256", "content": hashlib.sha256(_bytes(path)).hexdigest()}]}
+        if name == "libwkt.so":
+            part["properties"] = [{"name": "wkt:from", "value": made_of}]
+        parts.append(part)
+    whole = {"type": "library", "name": "wkt-proved", "version": VERSION, "licenses": licence}
+    return json.dumps({"bomFormat": "CycloneDX", "specVersion": "1.5", "metadata": {"component": whole}, "components": parts}, indent=1)
+
+
 def _licences():
-    """Those of the clone, and whose code is in the library; pip before 21.3 builds in a copy of this folder, where there is none."""
-    clone = os.path.join(here, os.pardir)
-    return sorted(glob.glob(os.path.join(clone, "LICENSE-*"))) + glob.glob(os.path.join(clone, "dist", "NOTICE"))
+    """The licences, and whose code is in the proved objects."""
+    return sorted(glob.glob(os.path.join(top, "LICENSE-*"))) + sorted(glob.glob(os.path.join(top, "dist", "NOTICE")))
 
 
 def _about():
-    with open(os.path.join(here, "README.md"), encoding="utf-8") as page:
-        words = page.read()
     head = "Metadata-Version: 2.4\nName: wkt-proved\nVersion: %s\nSummary: %s\nLicense-Expression: MIT OR Apache-2.0\n" % (VERSION, SUMMARY)
     head += "".join("License-File: %s\n" % os.path.basename(it) for it in _licences())
     head += "Requires-Python: >=3.8\nClassifier: Typing :: Typed\nClassifier: Operating System :: POSIX :: Linux\n"
     head += "Provides-Extra: columns\nRequires-Dist: numpy; extra == 'columns'\n"
-    return (head + "Description-Content-Type: text/markdown\n\n" + words).encode()
+    head += "Description-Content-Type: text/markdown\n\n"
+    return head.encode() + _bytes(os.path.join(here, "README.md"))
 
 
-def _archive(to, held):
-    """Writes the files, in their order, with one time, and no word of who made it."""
-    when = time.gmtime(max(int(os.environ.get("SOURCE_DATE_EPOCH", "0")), 315532800))[:6]
-    with zipfile.ZipFile(to, "w", zipfile.ZIP_DEFLATED) as archive:
-        for name, data in held:
-            entry = zipfile.ZipInfo(name, when)
-            entry.compress_type, entry.create_system, entry.external_attr = zipfile.ZIP_DEFLATED, 3, 0o100644 << 16
-            archive.writestr(entry, data, compresslevel=9)
+def _when():
+    return max(int(os.environ.get("SOURCE_DATE_EPOCH", "0")), 315532800)
 
 
-def build_wheel(wheel_directory, config_settings=None, metadata_directory=None):
-    info = "%s-%s.dist-info/" % (NAME, VERSION)
-    with tempfile.TemporaryDirectory() as folder:
-        library = _library(folder)
-        files = list(_files(library))
-        fast = _compiled(folder)
-        if fast:
-            files.append(("wkt/_fast.abi3.so", fast))
-        held = []
-        for name, path in files:
-            with open(path, "rb") as file:
-                held.append((name, file.read()))
-        tag = ("cp311-abi3-" if fast else "py3-none-") + _platform(held)
-        held.append((info + "METADATA", _about()))
-        wheel = "Wheel-Version: 1.0\nGenerator: wkt\nRoot-Is-Purelib: false\nTag: %s\n" % tag
-        held.append((info + "WHEEL", wheel.encode()))
-        held.append((info + "sboms/wkt.cdx.json", _parts(library).encode()))
-    for path in _licences():
-        with open(path, "rb") as file:
-            held.append((info + "licenses/" + os.path.basename(path), file.read()))
+def _wheel(folder, held, built, library):
+    """Writes a wheel of files, by their names and bytes; those of its dist-info come behind them. Its name."""
+    tag = ("cp311-abi3-" if "_fast.abi3.so" in built else "py3-none-") + _platform(built)
+    held = held + [
+        ("%s-%s.data/scripts/wkt" % (NAME, VERSION), SCRIPT),
+        (INFO + "METADATA", _about()),
+        (INFO + "WHEEL", ("Wheel-Version: 1.0\nGenerator: wkt\nRoot-Is-Purelib: false\nTag: %s\n" % tag).encode()),
+        (INFO + "sboms/wkt.cdx.json", _parts(built, library).encode()),
+        *((INFO + "licenses/" + os.path.basename(path), _bytes(path)) for path in _licences()),
+    ]
     record = ""
     for name, data in held:
         digest = base64.urlsafe_b64encode(hashlib.sha256(data).digest()).rstrip(b"=").decode()
         record += "%s,sha256=%s,%d\n" % (name, digest, len(data))
-    held.append((info + "RECORD", (record + info + "RECORD,,\n").encode()))
-    file = "%s-%s-%s.whl" % (NAME, VERSION, tag)
-    _archive(os.path.join(wheel_directory, file), held)
-    return file
+    held.append((INFO + "RECORD", (record + INFO + "RECORD,,\n").encode()))
+    name = "%s-%s-%s.whl" % (NAME, VERSION, tag)
+    # In their order, with one time, and no word of who made it.
+    with zipfile.ZipFile(os.path.join(folder, name), "w", zipfile.ZIP_DEFLATED) as archive:
+        for path, data in held:
+            entry = zipfile.ZipInfo(path, time.gmtime(_when())[:6])
+            mode = 0o100755 if path.endswith(("/_command", "/scripts/wkt")) else 0o100644
+            entry.compress_type, entry.create_system, entry.external_attr = zipfile.ZIP_DEFLATED, 3, mode << 16
+            archive.writestr(entry, data, compresslevel=9)
+    return name
+
+
+def build_wheel(wheel_directory, config_settings=None, metadata_directory=None):
+    with tempfile.TemporaryDirectory() as folder:
+        built, library = _built(folder)
+        held = [(os.path.relpath(path, here), _bytes(path)) for path in _own("wkt/")]
+        held += [("wkt/" + name, _bytes(path)) for name, path in built.items()]
+        return _wheel(wheel_directory, held, built, library)
+
+
+def build_editable(wheel_directory, config_settings=None, metadata_directory=None):
+    """A wheel that names this folder. What is compiled is put beside the sources: after an edit of them, install it again."""
+    with tempfile.TemporaryDirectory() as folder:
+        built, library = _built(folder)
+        for name, path in built.items():
+            there = os.path.join(here, "wkt", name)
+            shutil.copyfile(path, there + ".new")
+            os.chmod(there + ".new", 0o755)
+            os.replace(there + ".new", there)  # whoever runs the old one goes on
+        return _wheel(wheel_directory, [("__editable__.%s.pth" % NAME, (here + "\n").encode())], built, library)
+
+
+def _own(front=""):
+    """The files of this folder that a source package has."""
+    return [path for pattern in OWN if pattern.startswith(front) for path in sorted(glob.glob(os.path.join(here, pattern)))]
+
+
+def build_sdist(sdist_directory, config_settings=None):
+    root = "%s-%s" % (NAME, VERSION)
+    files = [("%s/%s" % (root, os.path.relpath(path, here)), path) for path in _own()]
+    for pattern in NATIVE:
+        for path in sorted(glob.glob(os.path.join(top, pattern))):
+            files.append(("%s/native/%s" % (root, os.path.relpath(path, top)), path))
+    written = io.BytesIO()
+    with tarfile.open(fileobj=written, mode="w", format=tarfile.PAX_FORMAT) as archive:
+
+        def add(name, data, executable):
+            entry = tarfile.TarInfo(name)
+            entry.size, entry.mtime, entry.mode = len(data), _when(), 0o755 if executable else 0o644
+            archive.addfile(entry, io.BytesIO(data))
+
+        add(root + "/PKG-INFO", _about(), False)
+        for name, path in files:
+            add(name, _bytes(path), os.access(path, os.X_OK))
+    with open(os.path.join(sdist_directory, root + ".tar.gz"), "wb") as file:
+        with gzip.GzipFile("", "wb", fileobj=file, mtime=_when()) as packed:
+            packed.write(written.getvalue())
+    return root + ".tar.gz"

@@ -11,7 +11,7 @@ there() {
         valgrind) command -v valgrind ;;
         rust) command -v cargo && [ -x /usr/bin/cargo ] && ls -d /usr/share/cargo/registry/geo-types-* ;;
         python) command -v python3 ;;
-        numpy | pandas | shapely | mypy | tqdm | matplotlib) module "$1" ;;
+        numpy | pandas | shapely | mypy | tqdm | matplotlib | build) module "$1" ;;
         dask) module dask && module distributed ;;
         wheel) module setuptools && module wheel && module pip && module venv && [ -e "$(headers)/Python.h" ] ;;
         postgres) command -v pg_config && [ -e "$(pg_config --includedir-server)/postgres.h" ] && [ -x "$(pg_config --bindir)/initdb" ] ;;
@@ -35,6 +35,7 @@ packages=(
     "mypy mypy"
     "tqdm python3-tqdm"
     "matplotlib python3-matplotlib"
+    "build python3-build git"
     "dask python3-dask python3-distributed"
     "wheel python3-setuptools python3-wheel python3-pip python3-venv python3-dev"
     "postgres postgresql postgresql-server-dev-all"

@@ -122,6 +122,20 @@ class Kinds(unittest.TestCase):
         self.assertEqual(wkt.reads(pandas.Index(TEXTS)).tolist(), [True, False, True, False, True])
 
     @unittest.skipIf(pandas is None, "no pandas")
+    def test_accessor(self):
+        import wkt.pandas  # noqa: F401
+
+        series = pandas.Series(TEXTS, [7, 5, 3, 1, 9], name="geometry", dtype=object)
+        self.assertEqual(series.wkt.canonical(invalid="null").tolist(), ANSWERS)
+        for name, more in (("canonical", ("null",)), ("same", ("POINT(3 4)", 18, "null")), ("reads", ()), ("explain", ()), ("infer", ("null",))):
+            given = (18, *more) if name == "canonical" else more
+            made, wanted = getattr(series.wkt, name)(*given), getattr(wkt, name)(series, *given)
+            pandas.testing.assert_series_equal(made, wanted)
+        self.assertEqual(series.wkt.to_arrays_column(1).places, 1)
+        self.assertFalse(series.wkt.reads(places=0)[7])
+        self.assertEqual(pandas.Index(GOOD).wkt.canonical().tolist(), GOOD_ANSWERS)
+
+    @unittest.skipIf(pandas is None, "no pandas")
     def test_strings_of_pandas(self):
         """They are known by their class: in pandas 3 its name is another."""
         with unittest.mock.patch.object(pandas.StringDtype, "name", "str"):
@@ -352,9 +366,10 @@ class Words(unittest.TestCase):
             ("CIRCULARSTRING(1 2,3 4,5 6)", "at 1: curves are not read; ST_CurveToLine gives lines", 3),
             ("POINT(1 2 3)", "at 11: a third number needs Z or M, as in POINT Z(1 2 3), and a fourth ZM", 7),
             ("POINT(%s 2)" % ("9" * 50), "at 7: the number is too large", 7),
+            ("POINT(nan nan)", "at 7: NaN and infinity are no decimals; EMPTY says that there is no point", 7),
+            ("POINT()", "at 7: what holds nothing is written EMPTY, without parentheses", 7),
+            ("\ufeffPOINT(1 2)", "at 1: the text begins with a byte order mark", 2),
         ]
-        if not wkt._library.wkt_hint:
-            return
         for text, words, status in cases:
             for call in (wkt.canonical, wkt.to_arrays, lambda it, places: wkt.same(it, it, places)):
                 with self.assertRaises(wkt.WktError) as raised:

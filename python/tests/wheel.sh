@@ -26,7 +26,9 @@ each() {
     echo "$name: $(grep '^Ran' "$work/said"), $(tail -n 1 "$work/said")"
 }
 
-each "over ctypes alone" "$here/.." WKT_LIB="$WKT/libwkt.so"
+# Of the sources alone: pip install -e leaves what it compiles beside them.
+mkdir -p "$work/alone/wkt" && cp "$here"/../wkt/*.py "$work/alone/wkt"
+each "over ctypes alone" "$work/alone" WKT_LIB="$WKT/libwkt.so"
 mkdir "$work/peer"
 gcc -Wall -Wextra -Werror -O1 -fPIC -shared -I"$("$python" -c 'import sysconfig; print(sysconfig.get_paths()["include"])')" \
     "$here/arrow_peer.c" -o "$work/peer/arrow_peer.so"
@@ -62,11 +64,16 @@ refused 'needs another processor' WKT_LIB="$work/other.so"
 echo "libraries that don't suit are refused"
 
 export PYTHONPATH=$work/installed1
+# The wheel carries the proved program.
 if [ -d "$here/../../tests/command" ]; then
-    REST=no "$here/../../tests/command.sh" "$python" -m wkt > "$work/said" 2>&1 || { cat "$work/said"; echo "python -m wkt: other answers"; exit 1; }
+    "$here/../../tests/command.sh" "$python" -m wkt > "$work/said" 2>&1 || { cat "$work/said"; echo "python -m wkt: other answers"; exit 1; }
     echo "python -m wkt: $(tail -n 1 "$work/said")"
 fi
+rm "$work/bare/wkt/_command"
+(cd "$work" && ! PATH=$work PYTHONPATH="$work/bare" WKT_LIB="$WKT/libwkt.so" "$python" -m wkt --version 2>&1) | grep -q '^wkt: this package is without the program wkt' || { echo "a missing program isn't named"; exit 1; }
 (cd "$work" && "$python" "$here/../examples/same_geometries.py" > said 2>&1 && [ -s same_geometries.png ]) || { cat "$work/said"; echo "the example fails"; exit 1; }
 grep -q '^POINT(10.0067 53.553) * 3 * 3 ' "$work/said" || { cat "$work/said"; echo "the example: other counts"; exit 1; }
 echo "the example: $(head -n 1 <(grep geometries "$work/said"))"
 (cd "$work" && MYPYPATH=$here/.. mypy --strict "$here/typed.py" "$here/../wkt") || { echo "mypy: the stubs are wrong"; exit 1; }
+# How it is built and installed, in a clone; SKIP=build where python3-build is lacking.
+case ",${SKIP:-}," in *",build,"*) ;; *) PYTHON=$python "$here/build.sh" ;; esac

@@ -2,15 +2,14 @@
 import ctypes
 from typing import NamedTuple, Optional, Tuple, Union
 
-from . import _library, _names
+from . import _library
 from ._errors import WktError, check, words_of
 from ._library import size, u32
-from ._names import ACCEPTED, EXPECTED, MESSAGES, NOT_WHOLE, OK
+from ._names import ACCEPTED, EXPECTED, HINTS, MESSAGES, NOT_WHOLE, OK
 from ._values import WHOLE, Text, encoded
 
 _WIDTH = 72
 _END = "the end of the text"
-HINTS = getattr(_names, "HINTS", ("",))
 
 
 def _short(word: str) -> str:
@@ -85,47 +84,30 @@ def _too_many(number: str, most: int) -> str:
 def _hint(data: bytes, word: bytes, places: int) -> str:
     """Why a text is refused at a word, for a user; "" where it isn't known."""
     hint = u32()
-    if not _library.wkt_hint or _library.wkt_hint(data, len(data), places, ctypes.byref(hint)) not in (OK, NOT_WHOLE):
+    if _library.wkt_hint(data, len(data), places, ctypes.byref(hint)) != OK:
         return ""
     words = HINTS[hint.value] if hint.value < len(HINTS) else ""  # a later library may know more
     # The one with a number is of a number with too many places: here it says which.
     return _too_many(word.decode("ascii", "replace"), places % WHOLE) if "%u" in words else words
 
 
-def _end(data: bytes, places: int) -> int:
-    """Where what follows a geometry begins, behind white space."""
-    needed, end = size(), size()
-    _library.wkt_canonical(data, len(data), places % WHOLE, None, 0, ctypes.byref(needed), ctypes.byref(end))
-    return len(data) - len(data[end.value :].lstrip(b" \t\r\n"))
-
-
-def _asked(data: bytes, places: int) -> Tuple[int, int, int, int, int]:
-    """The status of wkt_explain, and what it says."""
-    message, start, stop, expected = u32(), size(), size(), u32()
-    # A library without wkt_hint doesn't know of whole texts here.
-    asked = places if _library.wkt_hint else places % WHOLE
-    status = _library.wkt_explain(data, len(data), asked, *map(ctypes.byref, (message, start, stop, expected)))
-    if asked != places and status == ACCEPTED and _end(data, places) < len(data):
-        return NOT_WHOLE, 0, _end(data, places), len(data), 0
-    return status, message.value, start.value, stop.value, expected.value
-
-
 def explained(text: Text, places: int) -> Optional[Explanation]:
     """Where and why a text is refused; None where it is read."""
     data = encoded(text)
-    status, message, start, stop, expected = _asked(data, places)
+    message, start, stop, expected = u32(), size(), size(), u32()
+    status = _library.wkt_explain(data, len(data), places, *map(ctypes.byref, (message, start, stop, expected)))
     if status == ACCEPTED:
         return None
     if status != NOT_WHOLE:
         check(status)
     shown: Union[str, bytes] = data
-    first, last = start, stop
+    first, last = start.value, stop.value
+    hint = _hint(data, data[first:last], places) if status == OK else ""
     if isinstance(text, str):
-        shown, first, last = text, len(data[:start].decode("utf-8")), len(data[:stop].decode("utf-8"))
+        shown, first, last = text, len(data[:first].decode("utf-8")), len(data[:last].decode("utf-8"))
     if status == NOT_WHOLE:
         return Explanation(shown, status, MESSAGES[status], first, last, _END)
-    hint = _hint(data, data[start:stop], places)
-    return Explanation(shown, message, MESSAGES[message], first, last, EXPECTED[expected], hint)
+    return Explanation(shown, message.value, MESSAGES[message.value], first, last, EXPECTED[expected.value], hint)
 
 
 def refusal(status: int, text: Text, places: int, row: Optional[int] = None) -> WktError:

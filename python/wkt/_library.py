@@ -69,7 +69,7 @@ def _suits() -> None:
     version = _library.wkt_version().decode()
     if _numbers(version) < _numbers(__version__):
         raise ImportError("%s is of version %s, and this package of %s" % (_library._name, version, __version__))
-    if hasattr(_library, "wkt_supported") and not _library.wkt_supported():
+    if not _library.wkt_supported():
         raise ImportError("libwkt.so needs another processor: x86-64 with SSE4.2 and POPCNT (x86-64-v2)")
 
 
@@ -89,7 +89,7 @@ wkt_canonical = _declared("wkt_canonical", *_slice, u32, *_slice, _pointer, _poi
 wkt_same = _declared("wkt_same", *_slice, *_slice, u32, _pointer)
 wkt_infer = _declared("wkt_infer", *_slice, _pointer, _pointer)
 wkt_explain = _declared("wkt_explain", *_slice, u32, *4 * [_pointer])
-wkt_hint = hasattr(_library, "wkt_hint") and _declared("wkt_hint", *_slice, u32, _pointer)
+wkt_hint = _declared("wkt_hint", *_slice, u32, _pointer)
 wkt_lines = _declared("wkt_lines", *_slice, u32, *_slice, _pointer)
 wkt_column_canonical = _declared("wkt_column_canonical", *3 * _slice, u32, *3 * _slice, _pointer)
 wkt_column_arrays = _declared("wkt_column_arrays", *3 * _slice, u32, _pointer, *9 * _slice)
