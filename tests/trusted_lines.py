@@ -2,6 +2,7 @@
 """Prints what has to be believed to believe the statement `Headline`: each definition that it rests on, by file and lines.
 
     tests/trusted_lines.py           a line a file, and the sum
+    tests/trusted_lines.py --reading the same with the clauses of `Wkt::from_str` and of the writers
     tests/trusted_lines.py --calls   the same for the calls that people make: reading, writing, decimals, canonical text, lines
     tests/trusted_lines.py -v        each definition
 
@@ -15,6 +16,12 @@ import sys
 
 ROOT = os.path.join(os.path.dirname(os.path.abspath(__file__)), os.pardir)
 HEADLINE = ("wkt_read.specs.Headline", "Headline")
+READING = [
+    HEADLINE,
+    ("wkt_read.specs.Answered", "IsFront"),
+    ("wkt_read.specs.Front", "HasNoFront"),
+    ("wkt_write.specs.Writes", "Writes"),
+]
 CALLS = [
     ("wkt_read.specs.Answered", "IsFront"),
     ("wkt_read.specs.Front", "HasNoFront"),
@@ -84,7 +91,7 @@ class File:
 
 
 def main():
-    files, seen, todo = {}, {}, CALLS[:] if "--calls" in sys.argv else [HEADLINE]
+    files, seen, todo = {}, {}, CALLS[:] if "--calls" in sys.argv else READING[:] if "--reading" in sys.argv else [HEADLINE]
     while todo:
         module, name = todo.pop()
         if ".declared." in module or not os.path.exists(path_of(module)):
