@@ -1,10 +1,11 @@
 #!/usr/bin/env bash
-# Puts what the gate proved and built into dist/, with a PROVENANCE. Run it after .ci/run has passed, in that checkout.
+# Puts what the gate proved and built into dist/, with a PROVENANCE. Run it after .ci/run, in that checkout: its proofs have to
+# have passed, and not its steps over an older dist/.
 #
 # refresh.sh [--incremental] [PROCESSOR..]: x86_64 alone where none is named. It takes crates/wkt_c/out/libwkt_c.a (WKT_C_LIB
 # names another archive) and crates/NAME/out/NAME.o. Those of another processor the gate doesn't make: they are proved once
 # more and built here, all at once, in some 20 minutes of one processor. --incremental begins with what `rt check` left of a
-# crate, in a third of that; PROVENANCE says so. BUILT names a folder PROCESSOR/NAME.o of what is built already.
+# crate, in a third of that; PROVENANCE says so. BUILT names a folder in which PROCESSOR/NAME.o may be built already.
 # Nothing in dist/ changes before all of it is there and its sums, its kit and its tests are right. RUN=qemu-aarch64-static
 # runs the tests of another processor, by the compiler PROCESSOR-linux-gnu-gcc; without RUN they aren't run.
 set -eu
@@ -25,7 +26,7 @@ trap 'rm -rf "$work"' EXIT
 gathered() {
     local name to=$work/new/$1 running=()
     mkdir -p "$to"
-    if [ -n "${BUILT:-}" ]; then
+    if [ -d "${BUILT:-/nowhere}/$1" ]; then
         for name in "${names[@]}"; do cp "$BUILT/$1/$name.o" "$to"; done
     elif [ "$1" = x86_64 ]; then
         [ -n "${WKT_C_LIB:-}" ] || [ "$(cat crates/wkt_c/out/OF 2> /dev/null)" = "$tree" ] || stop "no gate has passed here for these sources: .ci/run"

@@ -2,9 +2,9 @@
 # Makes the Debian packages libwkt0, libwkt-dev, python3-wkt and wkt-tools of the release that release.sh has made.
 #
 # debs.sh [OUT [ARCHITECTURE..]]: in OUT (packaging/out) is the release, and there the packages go; those of this machine's
-# architecture where none is named (amd64, arm64). It needs debhelper and dh-python; libpython3-dev and, of another
-# architecture, crossbuild-essential-ARCHITECTURE. The packages of another one are made without their tests (dist/cross.sh),
-# and their Build-Depends aren't looked at: the headers of libpython3-dev:ARCHITECTURE are enough.
+# architecture where none is named (amd64, arm64). It needs debhelper, dh-python and libpython3-dev, and for another
+# architecture crossbuild-essential-ARCHITECTURE and libpython3-dev:ARCHITECTURE: those packages are made without their tests
+# (dist/cross.sh), and nothing looks whether what they need is installed. Where lintian is there, it has to be content.
 set -eu
 unset WKT_C_LIB WKT_LIB_DIR
 here=$(cd "$(dirname "$0")" && pwd)
@@ -27,4 +27,5 @@ for architecture; do
     ) || { tail -n 40 "$work/log"; exit 1; }
     cp "$work/$architecture"/*.deb "$out"
 done
+! command -v lintian > /dev/null || lintian --allow-root --fail-on error,warning "$out"/*.deb
 (cd "$out" && ls -l ./*.deb)

@@ -13,8 +13,17 @@ skips() { case ",${SKIP:-}," in *",$1,"*) true ;; *) false ;; esac; }
 wrong() { echo "wrong: $*"; failed=1; }
 make_dist() { make -s -C dist O="$dir/out" "$@" > "$dir/said" 2>&1 || { tail -n 20 "$dir/said"; wrong "make $*"; }; }
 
-# The prefix may come with `install` alone: then the pkg-config file has it, too.
+# What is right stays as it is, and what was made of other objects is made anew.
+made() { stat -c %y "$dir/out/libwkt.a" "$dir/out/libwkt.so.0" "$dir/out/wkt"; }
 make_dist
+before=$(made)
+make_dist
+[ "$(made)" = "$before" ] || wrong "make makes anew what is right"
+echo "of other objects" > "$dir/out/FROM"
+make_dist
+[ "$(made | sort - <(echo "$before") | uniq -d)" = "" ] || wrong "make leaves what was made of other objects"
+
+# The prefix may come with `install` alone: then the pkg-config file has it, too.
 make_dist install prefix="$dir/there"
 for name in prefix libdir includedir; do
     case $name in prefix) want=$dir/there ;; libdir) want=$dir/there/lib ;; *) want=$dir/there/include ;; esac
