@@ -1,8 +1,5 @@
-"""Columns of each kind, what becomes of refused rows, explanations, streams and Arrow."""
-import gc
+"""Columns of each kind, and what becomes of refused rows."""
 import io
-import os
-import pickle
 import threading
 import time
 import unittest
@@ -27,7 +24,6 @@ except ImportError:
 TEXTS = ["point ( 1 2.50 )", None, "POINT(3 4)", "PINT(5 6)", "MultiPoint(1 2)"]
 ANSWERS = ["POINT(1 2.5)", None, "POINT(3 4)", None, "MULTIPOINT((1 2))"]
 KEPT = ["POINT(1 2.5)", None, "POINT(3 4)", "PINT(5 6)", "MULTIPOINT((1 2))"]
-STATUSES = [0, 28, 0, 3, 0]
 GOOD, GOOD_ANSWERS = [TEXTS[0], TEXTS[2], TEXTS[4]], [ANSWERS[0], ANSWERS[2], ANSWERS[4]]
 
 
@@ -144,6 +140,41 @@ class Kinds(unittest.TestCase):
             self.assertIsInstance(answers.dtype, pandas.StringDtype)
         self.assertTrue(answers[3] is pandas.NA)
 
+    @unittest.skipIf(pandas is None, "no pandas")
+    def test_every_call_takes_every_column(self):
+        good = ["point(1 2)", None, "POINT(3 4)"]
+        columns = [good, tuple(good), numpy.array(good, object), numpy.ma.array(["point(1 2)", "x", "POINT(3 4)"], object, mask=[0, 1, 0]),
+                   numpy.ma.array(numpy.array(["point(1 2)", "x", "POINT(3 4)"], "S"), mask=[0, 1, 0]), pandas.Series(good),
+                   pandas.Series(good, dtype="string"), pandas.Index(good), pandas.Series(good, dtype="category")]  # fmt: skip
+        if hasattr(numpy.dtypes if hasattr(numpy, "dtypes") else None, "StringDType"):
+            columns.append(numpy.array(good, numpy.dtypes.StringDType(na_object=None)))
+        if compiled is not None:
+            columns.append(arrow(good))
+
+        def plain(arrays):
+            return [row and [row.kind, row.dimension, list(row.numbers), row.places] for row in arrays]
+
+        def texts(it):
+            rows = it.tolist() if hasattr(it, "tolist") else it
+            return [row.decode() if isinstance(row, bytes) else None if row is pandas.NA or row != row else row for row in rows]
+
+        answers = [
+            (lambda it: texts(wkt.canonical(it)), ["POINT(1 2)", None, "POINT(3 4)"]),
+            (wkt.canonical_column, (["POINT(1 2)", None, "POINT(3 4)"], [0, 28, 0])),
+            (lambda it: texts(wkt.same(it, "POINT(1 2)")), [True, None, False]),
+            (lambda it: texts(wkt.same(it, it)), [True, None, True]),
+            (lambda it: [bool(each) for each in texts(wkt.reads(it))], [True, False, True]),
+            (lambda it: texts(wkt.infer(it)), [("Point", "XY"), None, ("Point", "XY")]),
+            (lambda it: texts(wkt.explain(it)), [None, None, None]),
+            (lambda it: texts(wkt.lines(it)), ["POINT(1 2)", None, "POINT(3 4)"]),
+            (lambda it: plain(wkt.to_arrays(it, 1)), [["Point", "XY", [10, 20], 1], None, ["Point", "XY", [30, 40], 1]]),
+            (lambda it: list(wkt.to_arrays_column(it).statuses), [0, 28, 0]),
+        ]
+        for column in columns:
+            for call, wanted in answers:
+                with self.subTest(type(column)):
+                    self.assertEqual(call(column), wanted)
+
     def test_geometries(self):
         """What is no text: the error names the call that gives texts."""
         class Point:
@@ -254,276 +285,6 @@ class Kinds(unittest.TestCase):
         self.assertEqual([row and row.kind for row in made], ["Point", None, "Point", None, "MultiPoint"])
         with self.assertRaises(ValueError):
             wkt.to_arrays(TEXTS, invalid="keep")
-
-
-class Whole(unittest.TestCase):
-    def test_texts(self):
-        for text in ("POINT(1 2)", "point(1 2) \r\n\t", b"point(1 2)\n"):
-            self.assertEqual(wkt.canonical(text, whole=True), "POINT(1 2)")
-            self.assertIs(wkt.reads(text, whole=True), True)
-        for text in ("POINT(1 2) x", "POINT(1 2)POINT(3 4)", b"POINT(1 2)\0"):
-            for call in (wkt.canonical, wkt.to_arrays, lambda it, whole: wkt.same("POINT(1 2)", it, whole=whole)):
-                call(text, whole=False)
-                with self.assertRaises(wkt.WktError) as raised:
-                    call(text, whole=True)
-                self.assertEqual(raised.exception.status, 30)
-            self.assertIs(wkt.reads(text, whole=True), False)
-        with self.assertRaises(TypeError):
-            wkt.canonical("POINT(1 2)", whole=1)
-
-    def test_columns(self):
-        texts = ["point(1 2) ", None, "POINT(1 2) x", "x"]
-        answers, statuses = wkt.canonical_column(texts, whole=True)
-        self.assertEqual((answers, statuses), (["POINT(1 2)", None, None, None], [0, 28, 30, 3]))
-        self.assertEqual(wkt.reads(texts, whole=True), [True, False, False, False])
-        self.assertEqual(wkt.canonical(texts, invalid="keep", whole=True), ["POINT(1 2)", None, "POINT(1 2) x", "x"])
-        self.assertEqual(list(wkt.to_arrays_column(texts, whole=True).statuses), [0, 28, 30, 3])
-        self.assertEqual(wkt.same(texts, texts, invalid="null", whole=True), [True, None, None, None])
-        with self.assertRaises(wkt.WktError) as raised:
-            wkt.canonical(texts, whole=True)
-        self.assertEqual((raised.exception.row, raised.exception.status), (2, 30))
-        self.assertEqual(str(raised.exception), "row 2: at 12: the end of the text was expected, and not x")
-        self.assertEqual([it and it.status for it in wkt.explain(texts)], [None, None, 30, 3])
-
-    def test_whole_is_the_default(self):
-        text, column = "POINT(1 2) junk", ["POINT(1 2) junk"]
-        for call in (wkt.canonical, wkt.to_arrays, lambda it, **more: wkt.same(it, it, **more)):
-            for given in (text, column):
-                with self.assertRaises(wkt.WktError) as raised:
-                    call(given)
-                self.assertEqual(raised.exception.status, 30)
-                call(given, whole=False)
-        self.assertEqual((wkt.reads(text), wkt.reads(text, whole=False)), (False, True))
-        self.assertEqual(wkt.canonical_column(column), ([None], [30]))
-        self.assertEqual(list(wkt.to_arrays_column(column).statuses), [30])
-        found = wkt.explain("pöint(1 2)")
-        self.assertEqual((found.start, found.stop), (0, 5))
-        for given, at in ((text, (11, 15)), ("POINT(1 2)  \n \u00e4\u00f6", (14, 16)), ("POINT(1 2)  \n \u00e4".encode(), (14, 16))):
-            found = wkt.explain(given)
-            self.assertEqual((found.status, found.message), (30, "More than white space follows the geometry"))
-            self.assertEqual(((found.start, found.stop), found.expected), (at, "the end of the text"))
-            self.assertIsNone(wkt.explain(given, whole=False))
-        # Lines are answered by their fronts, as by the program wktstream.
-        sink = io.BytesIO()
-        wkt.stream(io.BytesIO(text.encode()), sink)
-        self.assertEqual((sink.getvalue(), wkt.lines(text), wkt.lines(column)), (b"POINT(1 2)\n", b"POINT(1 2)\n", ["POINT(1 2)"]))
-
-
-class Words(unittest.TestCase):
-    def test_explanations(self):
-        found = wkt.explain("LINESTRING(1 2,3 x)")
-        self.assertEqual((found.start, found.stop, found.expected), (17, 18, "a second number"))
-        self.assertEqual((found.line, found.column), (1, 18))
-        self.assertEqual(str(found), "LINESTRING(1 2,3 x)\n                 ^ a second number was expected")
-        self.assertIsNone(wkt.explain("POINT(1 2) and more", whole=False))
-        self.assertEqual(wkt.explain("POINT(1 2.55)", places=1).message, "Unable to parse input number as the desired output type")
-        found = wkt.explain("POINT(\n\t1.x")
-        self.assertEqual((found.line, found.column), (2, 2))
-        self.assertEqual(str(found).split("\n")[1], "\t^^^ a first number was expected")
-        # Characters of a str, and bytes of bytes.
-        text = "PÖINT"
-        self.assertEqual((wkt.explain(text).stop, wkt.explain(text.encode()).stop), (5, 6))
-        self.assertEqual(str(wkt.explain(text)), str(wkt.explain(text.encode())))
-        self.assertEqual(pickle.loads(pickle.dumps(found)), found)
-        with self.assertRaises(wkt.WktError) as raised:
-            wkt.explain(b"\xff")
-        self.assertEqual(raised.exception.status, 20)
-
-    def test_long_lines(self):
-        text = "LINESTRING(" + ",".join(["1 2"] * 1000) + ",3 x," + ",".join(["1 2"] * 1000) + ")"
-        line, marks = str(wkt.explain(text)).split("\n")
-        self.assertLess(len(line), 90)
-        self.assertEqual(line[marks.index("^")], "x")
-
-    def test_columns_of_explanations(self):
-        found = wkt.explain(TEXTS + [b"\xff"])
-        self.assertEqual([it and it.expected for it in found], [None, None, None, "a kind of geometry, such as POINT,", None, None])
-
-    def test_errors_say_where(self):
-        with self.assertRaises(wkt.WktError) as raised:
-            wkt.canonical(["POINT(1 2)", "LINESTRING(1 2,3 x)"])
-        error = raised.exception
-        self.assertEqual((error.row, error.explanation.start, error.explanation.expected), (1, 17, "a second number"))
-        self.assertEqual(error.message, "Expected a number for the Y coordinate")
-        self.assertEqual(str(error), "row 1: at 18: a second number was expected, and not x")
-        cases = [
-            ("POINT(1", "at 8: a second number was expected, but the text ends"),
-            ("POINT(\n1 x)", "at line 2, column 3: a second number was expected, and not x"),
-            ("PINT" * 100, "at 1: a kind of geometry, such as POINT, was expected, and not " + "PINT" * 9 + "P..."),
-        ]
-        for text, words in cases:
-            with self.assertRaises(wkt.WktError) as raised:
-                wkt.canonical(text)
-            self.assertEqual(str(raised.exception), words)
-
-    def test_errors_say_why(self):
-        """The cause comes first, where it is known; the message of the Rust crate is an attribute."""
-        cases = [
-            ("POINT(1.1234567 2)", "at 7: 1.1234567 has 7 places, at most 6 are allowed", 7),
-            ("POINT(1 -1.123456700)", "at 9: -1.123456700 has 7 places, at most 6 are allowed", 13),
-            ("POINT(1e-7 2)", "at 7: exponents are not read; write 0.0000001 for 1e-7", 7),
-            ("SRID=4326;POINT(1 2)", "at 1: SRID=..; of EWKT is not read; ST_AsText leaves it out", 3),
-            ("CIRCULARSTRING(1 2,3 4,5 6)", "at 1: curves are not read; ST_CurveToLine gives lines", 3),
-            ("POINT(1 2 3)", "at 11: a third number needs Z or M, as in POINT Z(1 2 3), and a fourth ZM", 7),
-            ("POINT(%s 2)" % ("9" * 50), "at 7: the number is too large", 7),
-            ("POINT(nan nan)", "at 7: NaN and infinity are no decimals; EMPTY says that there is no point", 7),
-            ("POINT()", "at 7: what holds nothing is written EMPTY, without parentheses", 7),
-            ("\ufeffPOINT(1 2)", "at 1: the text begins with a byte order mark", 2),
-        ]
-        for text, words, status in cases:
-            for call in (wkt.canonical, wkt.to_arrays, lambda it, places: wkt.same(it, it, places)):
-                with self.assertRaises(wkt.WktError) as raised:
-                    call(text, 6)
-                self.assertEqual((str(raised.exception), raised.exception.status), (words, status))
-            self.assertTrue(words.endswith(wkt.explain(text, 6).hint))
-            self.assertIn("(%s)" % wkt.explain(text, 6).hint, str(wkt.explain(text, 6)))
-
-    def test_reads(self):
-        self.assertIs(wkt.reads("POINT(1 2)"), True)
-        self.assertIs(wkt.reads("POINT(1 2.55)", places=1), False)
-        self.assertIs(wkt.reads(b"\xff"), False)
-        self.assertEqual(wkt.reads(TEXTS), [True, False, True, False, True])
-        self.assertFalse(hasattr(wkt, "is_valid"))
-        if numpy is not None:
-            made = wkt.reads(numpy.array(TEXTS, object))
-            self.assertEqual((made.dtype, made.tolist()), (numpy.dtype(bool), [True, False, True, False, True]))
-
-    def test_version(self):
-        with open(os.path.join(os.path.dirname(os.path.abspath(__file__)), os.pardir, os.pardir, "include", "wkt.h"), encoding="utf-8") as file:
-            self.assertIn('#define WKT_VERSION "%s"' % wkt.__version__, file.read())
-
-    def test_documented(self):
-        for name in wkt.__all__:
-            if not name.startswith("__") and name.islower():
-                self.assertGreater(len(getattr(wkt, name).__doc__), 80, name)
-
-
-class Few:
-    """A source that gives few bytes at once."""
-
-    def __init__(self, data, most):
-        self.file, self.most, self.largest = io.BytesIO(data), most, 0
-
-    def read(self, size):
-        self.largest = max(self.largest, size)
-        return self.file.read(min(size, self.most))
-
-
-class Partial(io.RawIOBase):
-    """A sink that takes a part of what it is given."""
-
-    def __init__(self):
-        super().__init__()
-        self.held = b""
-
-    def writable(self):
-        return True
-
-    def write(self, data):
-        self.held += bytes(data[:1000])
-        return min(len(data), 1000)
-
-
-class Streams(unittest.TestCase):
-    def test_lines(self):
-        for data in (b"", b"\n", b"point(1 2.50)\nnonsense\n", b"point(1 2.50)\nnonsense", b"POINT(1 2)\r\n\xff\n\n"):
-            for most in (1, 3, 1 << 20):
-                sink = io.BytesIO()
-                lines = wkt.stream(Few(data, most), sink)
-                self.assertEqual(sink.getvalue(), wkt.lines(data))
-                self.assertEqual(lines, sink.getvalue().count(b"\n"))
-
-    def test_places(self):
-        sink = io.BytesIO()
-        wkt.stream(io.BytesIO(b"point(1 2.5)\n"), sink, places=0)
-        self.assertEqual(sink.getvalue(), b"refused\n")
-
-    def test_partial_writes_and_progress(self):
-        data, seen, sink = b"point ( 1 2.50 )\n" * 300_000, [], Partial()
-        self.assertEqual(wkt.stream(io.BytesIO(data), sink, progress=seen.append), 300_000)
-        self.assertEqual(sink.held, b"POINT(1 2.5)\n" * 300_000)
-        self.assertEqual((seen[-1], sorted(seen), len(seen) > 3), (len(data), seen, True))
-
-    def test_what_a_sink_keeps(self):
-        """What was written stays as it was, also where the sink keeps it."""
-
-        class Keeps:
-            def __init__(self):
-                self.held = []
-
-            def write(self, data):
-                self.held.append(data)
-                return len(data)
-
-        sink = Keeps()
-        data = b"".join(b"point ( %d 2.50 )\n" % i for i in range(200_000))
-        wkt.stream(io.BytesIO(data), sink)
-        self.assertGreater(len(sink.held), 2)
-        self.assertEqual(b"".join(sink.held), wkt.lines(data))
-
-    def test_sinks_that_do_not_block(self):
-        class Full(io.RawIOBase):
-            held = b""
-
-            def writable(self):
-                return True
-
-            def write(self, data):
-                if len(self.held) > 1000:
-                    return None
-                self.held += bytes(data[:600])
-                return min(len(data), 600)
-
-        sink = Full()
-        with self.assertRaises(BlockingIOError) as raised:
-            wkt.stream(io.BytesIO(b"point ( 1 2.50 )\n" * 1000), sink)
-        self.assertEqual((raised.exception.characters_written, len(sink.held)), (1200, 1200))
-        reader, writer = os.pipe()
-        os.set_blocking(writer, False)
-        with open(writer, "wb", 0) as full, open(reader, "rb", 0) as rest:
-            with self.assertRaises(BlockingIOError):
-                wkt.stream(io.BytesIO(b"point ( 1 2.50 )\n" * 100_000), full)
-            full.close()
-            self.assertEqual(set(rest.read().split(b"\n")[:-1]), {b"POINT(1 2.5)"})
-
-    def test_long_line(self):
-        line = b"LINESTRING(" + b",".join([b"1 2.50"] * 500_000) + b")\n"
-        sink = io.BytesIO()
-        self.assertEqual(wkt.stream(io.BytesIO(line + b"point(1 2)"), sink), 2)
-        self.assertEqual(sink.getvalue(), line.replace(b".50", b".5") + b"POINT(1 2)\n")
-
-    def test_memory(self):
-        """It doesn't grow with the input."""
-        import tracemalloc
-
-        class Endless:
-            left = 40
-
-            def read(self, size):
-                self.left -= 1
-                return b"point ( 1 2.50 )\n" * 50_000 if self.left >= 0 else b""
-
-        class Nowhere:
-            def write(self, data):
-                return None
-
-        tracemalloc.start()
-        try:
-            self.assertEqual(wkt.stream(Endless(), Nowhere()), 2_000_000)
-            self.assertLess(tracemalloc.get_traced_memory()[1], 12 << 20)
-        finally:
-            tracemalloc.stop()
-
-    def test_what_is_refused(self):
-        with self.assertRaises(TypeError):
-            wkt.stream(io.StringIO("POINT(1 2)"), io.BytesIO())
-
-        class Full:
-            def write(self, data):
-                raise OSError("full")
-
-        with self.assertRaises(OSError):
-            wkt.stream(io.BytesIO(b"POINT(1 2)"), Full())
 
 
 class Long(unittest.TestCase):

@@ -1,7 +1,8 @@
 #!/usr/bin/env bash
 # wheel.sh WKT: builds the wheel of the library in the folder WKT (wkt.h, libwkt.so), with the fast module, and the one
 # without it, and runs the same tests over both; without a wheel too, over ctypes alone. Then the fast module under
-# sanitizers, libraries that don't suit, the stored cases of the command by `python -m wkt`, the example, and mypy over the stubs. WKT is capi/out where none is named. It needs Python 3.11 or
+# sanitizers, libraries that don't suit, the stored cases of the command by `python -m wkt`, the example, the pages, mypy over
+# the stubs, and how it is built (build.sh). WKT is capi/out where none is named. It needs Python 3.11 or
 # later with its headers, pip, NumPy, pandas, Shapely, tqdm, matplotlib and mypy (tests/needs.sh): what is lacking fails.
 # PYTHON names another Python.
 set -eu
@@ -21,7 +22,7 @@ each() {
     skipped='no fast module|only under sanitizers|the fast module isn.t tried'
     [ ! -e "$folder/wkt/_fast.abi3.so" ] || skipped='only under sanitizers'
     (cd "$work" && env "$@" PYTHONPATH="$folder:$here:$work/peer" "$python" -W error -m unittest -v test_wkt test_arguments \
-        test_columns test_geoarrow test_pack test_arrow) > "$work/said" 2>&1 || { cat "$work/said"; echo "$name: the tests fail"; exit 1; }
+        test_columns test_words test_streams test_geoarrow test_pack test_arrow) > "$work/said" 2>&1 || { cat "$work/said"; echo "$name: the tests fail"; exit 1; }
     ! grep "skipped '" "$work/said" | grep -vE "$skipped" || { echo "$name: a test was skipped"; exit 1; }
     echo "$name: $(grep '^Ran' "$work/said"), $(tail -n 1 "$work/said")"
 }
@@ -74,6 +75,12 @@ rm "$work/bare/wkt/_command"
 (cd "$work" && "$python" "$here/../examples/same_geometries.py" > said 2>&1 && [ -s same_geometries.png ]) || { cat "$work/said"; echo "the example fails"; exit 1; }
 grep -q '^POINT(10.0067 53.553) * 3 * 3 ' "$work/said" || { cat "$work/said"; echo "the example: other counts"; exit 1; }
 echo "the example: $(head -n 1 <(grep geometries "$work/said"))"
+# The pages' sessions, as they are pasted. That of Dask over the files that it names.
+"$python" "$here/pages.py" "$here/../README.md" numpy || { echo "README.md: other answers"; exit 1; }
+if "$python" -c 'import dask.dataframe' 2> /dev/null; then
+    (cd "$work" && printf 'id\tgeometry\na\tPOINT(1 2)\nb\tPOINT(3 4)\nc\tPOINT(1 2) x\nd\t\n' > table-1.tsv && printf 'id\tgeometry\ne\tpoint(1.0 2)\n' > table-2.tsv &&
+        "$python" "$here/pages.py" "$here/../DASK.md") || { echo "DASK.md: other answers"; exit 1; }
+fi
 (cd "$work" && MYPYPATH=$here/.. mypy --strict "$here/typed.py" "$here/../wkt") || { echo "mypy: the stubs are wrong"; exit 1; }
 # How it is built and installed, in a clone; SKIP=build where python3-build is lacking.
 case ",${SKIP:-}," in *",build,"*) ;; *) PYTHON=$python "$here/build.sh" ;; esac

@@ -1,6 +1,7 @@
 """Columns go through the library by blocks of rows, each by one call over buffers, without the interpreter's lock."""
 import array
 import ctypes
+import importlib
 import itertools
 from typing import Any, Callable, Iterator, List, NamedTuple, Optional, Sequence, Tuple, Union
 
@@ -145,8 +146,7 @@ class shown:
         if progress not in (None, False, True) and self.report is None:
             raise TypeError("progress is a function or a bool, and not %s" % type(progress).__name__)
         if progress is True:
-            import tqdm  # type: ignore[import]
-
+            tqdm: Any = importlib.import_module("tqdm")
             if total is None or total > above:
                 self.bar = tqdm.tqdm(total=total, unit=unit, unit_scale=True)
 

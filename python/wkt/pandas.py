@@ -5,12 +5,13 @@
     0    POINT(1 2)
     dtype: object
 """
+import importlib
 from typing import Any
-
-import pandas  # type: ignore[import]
 
 from . import _calls
 from ._arrays import to_arrays_column
+
+pandas: Any = importlib.import_module("pandas")
 
 
 @pandas.api.extensions.register_series_accessor("wkt")
