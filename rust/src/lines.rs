@@ -29,7 +29,7 @@ pub fn lines(input: &[u8], places: u32) -> Result<String, Error> {
 // How much of an input is read and written at once, where its lines are shorter.
 const BLOCK: usize = 128 * 1024;
 
-/// Copies an input to an output, each line as [`lines`] has it, in buffers of 128 KiB, or as the longest line needs.
+/// Copies an input to an output, each line answered as by [`lines`], in buffers of 128 KiB, or as the longest line needs.
 ///
 /// # Errors
 /// Those of the input and the output. What the library refuses, as `NoPlaces`, is the source of an error.
