@@ -15,7 +15,7 @@ run() {
     local words=$1
     shift
     "$@" > "$dir/said" 2>&1 || { cat "$dir/said"; fail "$words: fails"; }
-    echo "rust: $words: $(sed -n 's/^test result: ok. \([0-9]*\) passed.*/\1/p' "$dir/said" | paste -sd+ | bc) tests"
+    echo "rust: $words: $(awk '/^test result: ok/ { n += $4 } END { print n + 0 }' "$dir/said") tests"
 }
 run "$(cargo --version)" cargo test --offline --target-dir "$dir/found"
 [ -x /usr/bin/cargo ] || fail "no Debian cargo: tests/needs.sh installs it"
