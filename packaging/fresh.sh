@@ -30,10 +30,10 @@ row() {
         in_root sh -c "apt-get update -q && apt-get install -qy --no-install-recommends $packages" > "$dir/log" 2>&1 || { tail -n 5 "$dir/log"; failed=1; }
         installed="; its packages $((SECONDS - start)) s"
     fi
-    printf '%s\n' 'set -eu' 'sudo() { "$@"; }' 'rm -rf /clone && git clone -q /repo.git /clone && cd /clone' 'start=$(date +%s%N)' \
-        "$3" 'echo "took $((($(date +%s%N) - start) / 1000000)) ms"' > "$debian/row.sh"
+    printf '%s\n' 'set -eu' 'sudo() { "$@"; }' 'rm -rf /clone && git clone -q /repo.git /clone && cd /clone' \
+        "TIMEFORMAT='took %1R s, and %1U s of a processor'" 'time {' "$3" '}' > "$debian/row.sh"
     if in_root bash /row.sh > "$dir/said" 2>&1; then
-        echo "$name: $(sed -n 's/^took //p' "$dir/said")$installed"
+        echo "$name: $(sed -n 's/.*took //p' "$dir/said")$installed"
     else
         tail -n 20 "$dir/said"
         echo "$name: FAILED"
