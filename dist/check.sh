@@ -23,14 +23,9 @@ unpacked() {
     ARCH=$1 dist/objects.sh "$work/dist/$1" "${names[@]}" || exit 1
 }
 
-# noticed PROCESSOR: of each object NOTICE names the crates that aren't of this repository
+# noticed PROCESSOR: NOTICE names the crates whose code is in its objects
 noticed() {
-    local name ours crates
-    ours=$(sed -n 's/^\([a-z_]*\).*:.*/\1/p' crates.txt)
-    for name in "${names[@]}"; do
-        crates=$(readelf -W -S "$work/dist/$1/$name.o" | sed -n 's/.* \.text\.\(unlikely\.\|hot\.\)\?\([a-z_]*\)::.*/\2/p' | LC_ALL=C sort -u | grep -vxF "$ours")
-        grep -qx "    $name: $(echo $crates)" dist/NOTICE || fail "NOTICE: $1/$name.o holds code of: $(echo $crates)"
-    done
+    diff <(grep '^    wkt' dist/NOTICE) <(dist/crates_of.sh "$work/dist/$1") || fail "$1: NOTICE says another crate than the objects"
 }
 
 # What was built here: of x86_64 by the gate, of others where BUILT names it, as for refresh.sh.

@@ -95,4 +95,6 @@ for processor; do
     mkdir -p "dist/$processor"
     cp "$work/top/dist/$processor"/* "dist/$processor/"
 done
+{ sed '/^    wkt/,$d' dist/NOTICE; dist/crates_of.sh "$work/new/$1"; sed '1,/^    wktstream/d' dist/NOTICE; } > "$work/NOTICE"
+cp "$work/NOTICE" dist/NOTICE
 dist/check.sh
