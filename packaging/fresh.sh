@@ -10,7 +10,7 @@ root=$(dirname "$here")
 suite=$1
 dir=$(mktemp -d)
 debian=${2:-$dir/debian}
-trap 'umount "$debian/proc" 2> /dev/null; rm -rf "$dir"' EXIT
+trap 'umount "$debian/proc" 2> /dev/null; rm -rf --one-file-system "$dir"' EXIT
 failed=0
 in_root() { chroot "$debian" env -i PATH=/usr/local/bin:/usr/sbin:/usr/bin:/sbin:/bin HOME=/root DEBIAN_FRONTEND=noninteractive LC_ALL=C.UTF-8 "$@"; }
 
