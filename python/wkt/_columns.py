@@ -110,7 +110,7 @@ def like(values: Any, answers: List[Any], kind: Any = None) -> Any:
         return _pandas("Index")(_array(answers, kind), name=values.name, dtype=dtype)
     if numpy is None or not isinstance(values, numpy.ndarray):
         return answers
-    nulls = [answer is None for answer in answers]
+    nulls = [answer is None for answer in answers] if is_masked(values) else []
     if kind is None and values.dtype.kind in "SUT":
         # Arrays of a fixed width have no null: its place is an empty text. Those of StringDType may have one.
         null = getattr(values.dtype, "na_object", "")
