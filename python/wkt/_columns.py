@@ -50,7 +50,8 @@ def rows_of(values: Any) -> Optional[Sequence[Any]]:
     if isinstance(values, TEXTS):
         return None
     if isinstance(values, (list, tuple)):
-        return values
+        # A class of their own may say another length, and other parts, than it has.
+        return values if type(values) in (list, tuple) else list(values)
     if numpy is not None and isinstance(values, numpy.ndarray):
         if values.ndim == 0:
             return None
