@@ -9,7 +9,7 @@ python=${PYTHON:-/usr/bin/python3}
 work=$(mktemp -d)
 trap 'rm -rf "$work"' EXIT
 fail() { echo "build.sh: $*"; exit 1; }
-unset WKT_LIB WKT_LIB_DIR WKT_FAST SOURCE_DATE_EPOCH
+unset PYTHONPATH WKT_LIB WKT_LIB_DIR WKT_FAST SOURCE_DATE_EPOCH
 export WKT_C_LIB=${WKT_C_LIB:-dist}
 
 # A clone that has nothing built, with what isn't committed yet.

@@ -2,6 +2,7 @@
 import subprocess
 import sys
 import unittest
+import unittest.mock
 
 import wkt
 
@@ -349,6 +350,29 @@ class Given(Arrow):
             self.assertEqual((format, name, got[: len(numbers)], length), ("g", "xy", numbers, len(numbers) + (0 if lists else 2)))
         taken = arrow_peer.take(*wkt.to_arrays_column(["POINT ZM(1 2 3 4)"]).geoarrow().__arrow_c_array__())
         self.assertEqual((taken[0], taken[7][0][1]), ("+w:4", "xyzm"))
+
+
+class Without(unittest.TestCase):
+    """Without the module in C Arrow isn't offered, and the error says so; what gives a list is taken as one."""
+
+    class Lends:
+        def __arrow_c_array__(self, requested_schema=None):
+            raise AssertionError
+
+    class Lists(Lends):
+        def to_pylist(self):
+            return ["point(1 2)", None]
+
+    def test_errors(self):
+        with unittest.mock.patch("wkt._arrow._fast", None):
+            for call in (wkt.canonical, wkt.same, wkt.reads, wkt.explain, wkt.infer, wkt.lines, wkt.to_arrays, wkt.to_arrays_column, wkt.batches):
+                given = (self.Lends(), "POINT(1 2)") if call is wkt.same else (self.Lends(),)
+                with self.assertRaises(TypeError) as raised:
+                    call(*given)
+                self.assertIn("Arrow columns need NumPy and wkt._fast", str(raised.exception))
+            self.assertEqual(wkt.canonical(self.Lists()), ["POINT(1 2)", None])
+            with self.assertRaises(ImportError):
+                wkt.ArrowTexts(None, None, None)
 
 
 @unittest.skipIf(refuse is None, "only under sanitizers")

@@ -39,6 +39,15 @@ class Pack(unittest.TestCase):
             data, offsets, bits = _blocks._fast.pack(rows)
             self.assertEqual((data, len(offsets), bits[0] & 7), (b"abc", 32, 5))
 
+        class Itself(Longer):
+            """A list of which each part is the list itself, with the length that it says."""
+
+            def __getitem__(self, index):
+                return self
+
+        for said in (1, 1000):
+            self.assertEqual(wkt.canonical(Itself(["point(1 2)", None, "POINT(3 4)"], said)), ["POINT(1 2)", None, "POINT(3 4)"])
+
     def test_offsets_that_are_wrong(self):
         if _blocks._fast is None:
             return

@@ -43,7 +43,8 @@ def pack(rows: Sequence[Any], first: int = 0) -> Packed:
     made = None if _fast is None else _fast.pack(rows)
     if made is not None:
         data, offsets, bits = made
-        return Packed(data, offsets, bits, len(rows))
+        # Not by a len() of a class of their own, which may say anything.
+        return Packed(data, offsets, bits, len(offsets) // 8 - 1)
     try:
         joined = "".join(rows)
     except TypeError:

@@ -50,7 +50,8 @@ def rows_of(values: Any) -> Optional[Sequence[Any]]:
     if isinstance(values, TEXTS):
         return None
     if isinstance(values, (list, tuple)):
-        return values
+        # A class of their own may say another length, and other parts, than it has.
+        return values if type(values) in (list, tuple) else list(values)
     if numpy is not None and isinstance(values, numpy.ndarray):
         if values.ndim == 0:
             return None
@@ -110,7 +111,7 @@ def like(values: Any, answers: List[Any], kind: Any = None) -> Any:
         return _pandas("Index")(_array(answers, kind), name=values.name, dtype=dtype)
     if numpy is None or not isinstance(values, numpy.ndarray):
         return answers
-    nulls = [answer is None for answer in answers]
+    nulls = [answer is None for answer in answers] if is_masked(values) else []
     if kind is None and values.dtype.kind in "SUT":
         # Arrays of a fixed width have no null: its place is an empty text. Those of StringDType may have one.
         null = getattr(values.dtype, "na_object", "")
