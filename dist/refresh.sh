@@ -53,7 +53,7 @@ packed() {
         readelf -p .comment "$object" | grep -q "rattle logic=$(rt version | sed 's/.* logic //')" || stop "$object is of another kit"
         # What is there already isn't packed anew: another xz might give other bytes.
         if ARCH=$1 dist/objects.sh "$work/old" "$name" 2> /dev/null; then
-            echo "$1/$name.o: $(dist/functions.py "$work/old/$name.o" "$object" | head -n 1)"
+            echo "$1/$name.o: $(dist/functions.py "$work/old/$name.o" "$object" | sed -n 1p)"
             ! cmp -s "$work/old/$name.o" "$object" || continue
         fi
         xz -9e -T1 -c "$object" > "$to/$name.o.xz"
@@ -64,7 +64,7 @@ packed() {
         echo "crates.txt ${tree#* }"
         echo "kit        $(rt version)"
         echo "kit's sum  $(sed -n 's/^archive //p' "$kit/WHAT" 2> /dev/null)"
-        echo "clang      $(sha256sum < "$kit/toolchain/bin/clang" | cut -d ' ' -f 1), $("$kit/toolchain/bin/clang" --version | head -n 1)"
+        echo "clang      $(sha256sum < "$kit/toolchain/bin/clang" | cut -d ' ' -f 1), $("$kit/toolchain/bin/clang" --version | sed -n 1p)"
         echo "by         rattle build --backend llvm --target $1-unknown-linux-gnu${incremental:+ --incremental}; of wkt_c with --crate-type staticlib, then ar p"
         (cd "$work/new/$1" && sha256sum "${names[@]/%/.o}")
     } > "$to/PROVENANCE"
