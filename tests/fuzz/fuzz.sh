@@ -24,7 +24,7 @@ build() {
     echo 'wkt_fuzz: wkt wkt_bytes wkt_lines wkt_c wkt_test_support serde_json' >> "$WORK/wkt/crates.txt"
     # There the functions for C are called like any other, over 0, 6 and 18 places: all nineteen take long to build.
     sed -i 's/^wkt_c staticlib:/wkt_c:/' "$WORK/wkt/crates.txt"
-    sed -i -E 's/^mod (exports|exports_arrays|sizes);/pub mod \1;/' "$WORK/wkt/crates/wkt_c/src/lib.rt"
+    sed -i -E 's/^mod (exports|exports_arrays|exports_explain|sizes);/pub mod \1;/' "$WORK/wkt/crates/wkt_c/src/lib.rt"
     sed -i -E '/^ +([1-57-9]|1[0-7]) => \$call::</d' "$WORK/wkt/crates/wkt_c/src/places.rt"
     [ "$(grep -c '=> \$call::<' "$WORK/wkt/crates/wkt_c/src/places.rt")" = 3 ] || { echo "fuzz.sh: other places are left" >&2; exit 2; }
     cd "$WORK/wkt/crates/wkt_fuzz"
@@ -33,7 +33,7 @@ build() {
     [ -s "$WORK/module.bc" ] || { cat "$WORK/try.log"; echo "fuzz.sh: rt try left no module" >&2; exit 2; }
     "$kit/toolchain/bin/clang" -x ir "$WORK/module.bc" -S -emit-llvm -Xclang -disable-llvm-passes -o "$WORK/whole.ll"
     # The functions get their C names, and the program's main gives way to libFuzzer's.
-    sed -E -e 's/@"(wkt_fuzz|wkt_c::exports|wkt_c::exports_arrays)::(wkt_[a-z_]+)"/@\2/g' \
+    sed -E -e 's/@"(wkt_fuzz|wkt_c::exports|wkt_c::exports_arrays|wkt_c::exports_explain)::(wkt_[a-z_]+)"/@\2/g' \
         -e 's/^define internal (noundef )?i32 @(wkt_[a-z_]+)\(/define i32 @\2(/' \
         -e 's/^define i32 @main\(\)/define i32 @rattle_main()/' "$WORK/whole.ll" > "$WORK/wkt_fuzz.ll"
     # The flags of rt try, with libFuzzer's counters in the place of its address sanitizer; -O2 takes a minute more.
