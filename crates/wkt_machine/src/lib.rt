@@ -21,3 +21,6 @@ pub use nothing::Nothing;
 pub use part::{Axis, Part};
 pub use source::{At, Source, Walk, Walked};
 pub use tokens::OneByOne;
+
+#[cfg(test)]
+mod tests;
