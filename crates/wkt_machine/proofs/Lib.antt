@@ -1,0 +1,14 @@
+mod Runs
+mod Parts
+mod Complete
+mod Beginnings
+mod Places
+mod Begins
+mod Whole
+mod Named
+mod Stepping
+mod Numbering
+mod Composing
+mod Depths
+mod TokenViews
+mod Fronting

@@ -1,0 +1,363 @@
+-- One lexeme is taken, or none can be.
+use Rattle.std.proofs.Common.{◌≡◌, ◌≢◌, ◌<◌, ◌≤◌, ◌-◌, length, arith, ℕ, zero, suc, List, [], ◌∷◌, ◌++◌, sym, refl, ap, ◌∙◌, subst, append-nil, Option, Some, None, Bool, true, false, cond, codes}
+use Rattle.std.specs.Prelude.{Result, Ok, Err, IfOk, IfErr}
+use Rattle.std.specs.Str.{bytes_eq, str_to_ascii_uppercase}
+use Rattle.std.proofs.lemmas.Slice.Eq.{bytes_eq-Decides}
+use Rattle.wkt_num.specs.Bytes.{Lexeme, Open, Close, Comma, Word, Num}
+use Rattle.wkt_access.specs.declared.dimensions.Dimension.{Dimension}
+use Rattle.wkt_access.specs.declared.dimensions.Dimension.TheVariants.{XY, XYZ, XYM, XYZM}
+use Rattle.wkt_types.specs.declared.geometry_type.GeometryType.{GeometryType}
+use Rattle.wkt_read.specs.Grammar.{KindWord, kind_words, entry_in, kind_word, dim_word, dim_in}
+use Rattle.wkt_read.specs.Parser.Outcome.{is_empty_word}
+use Rattle.wkt_read.specs.Placed.{Placed}
+use Rattle.wkt_read.proofs.ParserLemmas.Reported.{empty_is}
+use Rattle.wkt_machine.specs.Action.{Action}
+use Rattle.wkt_machine.specs.Action as act
+use Rattle.wkt_machine.specs.Drives.{is_over, over_at}
+use Rattle.wkt_machine.specs.Events.{Event}
+use Rattle.wkt_machine.specs.Goes.{Stays, Skips, IsStuck, Goes, Refuses}
+use Rattle.wkt_machine.specs.Machine.{at, part_of, inside, outside, kind_step, joined_step, dimension_step, bare_step, number_step, comma_step, step_at, made, number_of, moved, and_then, move, run}
+use Rattle.wkt_machine.specs.Machines.{state_of, place_of, is_single, IsSound}
+use Rattle.wkt_machine.specs.Makers.{Maker}
+use Rattle.wkt_machine.specs.Place.{Place, State}
+use Rattle.wkt_machine.specs.Place as place
+use Rattle.wkt_machine.specs.Sight.{seen_of, seen_word, seen_other, sight}
+use Rattle.wkt_machine.specs.View.{View}
+use Rattle.wkt_machine.specs.declared.machine.Machine.{Machine}
+use Rattle.wkt_machine.specs.declared.machine.Seen.{Seen}
+use Rattle.wkt_machine.specs.declared.machine.Seen.TheVariants as seen
+use Rattle.wkt_machine.specs.declared.machine.State.{State as Next}
+use Rattle.wkt_machine.specs.declared.part.Part.{Part}
+use Rattle.wkt_machine.specs.declared.part.Part.TheVariants as part
+use Rattle.wkt_machine.specs.declared.source.At.{At}
+
+-- EMPTY and the dimension words are no kind words, and EMPTY is no dimension word.
+empty_no_kind : (w : List ℕ) → str_to_ascii_uppercase w ≡ codes "EMPTY" → kind_word w ≡ None
+unfolding kind_word kind_words
+empty_no_kind w e = ap (entry_in kind_words) e
+
+z_no_kind : (w : List ℕ) → str_to_ascii_uppercase w ≡ codes "Z" → kind_word w ≡ None
+unfolding kind_word kind_words
+z_no_kind w e = ap (entry_in kind_words) e
+
+m_no_kind : (w : List ℕ) → str_to_ascii_uppercase w ≡ codes "M" → kind_word w ≡ None
+unfolding kind_word kind_words
+m_no_kind w e = ap (entry_in kind_words) e
+
+zm_no_kind : (w : List ℕ) → str_to_ascii_uppercase w ≡ codes "ZM" → kind_word w ≡ None
+unfolding kind_word kind_words
+zm_no_kind w e = ap (entry_in kind_words) e
+
+some_dim : (w : List ℕ) (d : Dimension) (z m zm : Bool) → bytes_eq (str_to_ascii_uppercase w) (codes "Z") ≡ z → bytes_eq (str_to_ascii_uppercase w) (codes "M") ≡ m → bytes_eq (str_to_ascii_uppercase w) (codes "ZM") ≡ zm
+    → cond z (Some XYZ) (cond m (Some XYM) (cond zm (Some XYZM) None)) ≡ Some d → kind_word w ≡ None
+some_dim w d true m zm ez em ezm e = z_no_kind w ((bytes_eq-Decides (str_to_ascii_uppercase w) (codes "Z")).0 ez)
+some_dim w d false true zm ez em ezm e = m_no_kind w ((bytes_eq-Decides (str_to_ascii_uppercase w) (codes "M")).0 em)
+some_dim w d false false true ez em ezm e = zm_no_kind w ((bytes_eq-Decides (str_to_ascii_uppercase w) (codes "ZM")).0 ezm)
+some_dim w d false false false ez em ezm e = let never : ⊥ = cc in absurd never
+
+dim_no_kind : (w : List ℕ) (d : Dimension) → dim_word w ≡ Some d → kind_word w ≡ None
+unfolding dim_word
+dim_no_kind w d e = some_dim w d (bytes_eq (str_to_ascii_uppercase w) (codes "Z")) (bytes_eq (str_to_ascii_uppercase w) (codes "M")) (bytes_eq (str_to_ascii_uppercase w) (codes "ZM")) refl refl refl e
+
+empty_no_dim : (w : List ℕ) → str_to_ascii_uppercase w ≡ codes "EMPTY" → dim_word w ≡ None
+unfolding dim_word
+empty_no_dim w e = ap dim_in e
+
+-- What is seen at each place.
+abbrev pub seen_at : Place → ℕ → Seen → Option (State × Action)
+seen_at place.Kind n (seen.Kind k j) = Some (joined_step (part_of k) j n)
+seen_at (place.Alone p) n (seen.Dimension d) = Some (at n (place.Opening p d), act.Header p d)
+seen_at (place.Alone p) n seen.Empty = Some (outside p XY n, act.HeaderEmpty p)
+seen_at (place.Alone p) n seen.Open = Some (inside p XY n, act.HeaderOpen p)
+seen_at (place.Opening p d) n seen.Open = Some (inside p d n, act.Open p)
+seen_at (place.Opening p d) n seen.Empty = Some (outside p d n, act.Empty p)
+seen_at (place.Opening p d) n seen.Number = bare_step p d n
+seen_at (place.Number p d more) n seen.Number = Some (number_step p d more n)
+seen_at (place.Item p d) n seen.Comma = comma_step p d n
+seen_at (place.Item p d) n seen.Close = Some (outside p d n, act.Close p)
+seen_at place.Geometry (suc n) seen.Comma = Some (at (suc n) place.Kind, act.Comma part.Collection)
+seen_at place.Geometry (suc n) seen.Close = Some (at n place.Geometry, act.Close part.Collection)
+seen_at p n k = None
+
+abbrev pub is_number : Seen → Bool
+is_number seen.Number = true
+is_number k = false
+
+never_number : (k : Seen) → is_number k ≡ false → k ≢ seen.Number
+never_number seen.Number e = let never : ⊥ = cc in absurd never
+never_number k e = λ q. cc
+
+-- A word that is all that it can be.
+abbrev Words : Option KindWord → Option Dimension → Bool → Type 0
+Words (Some e) (Some d) b = ⊥
+Words (Some e) None true = ⊥
+Words (Some e) None false = Unit {0}
+Words None (Some d) true = ⊥
+Words None (Some d) false = Unit {0}
+Words None None b = Unit {0}
+
+words : (w : List ℕ) (o : Option KindWord) (d : Option Dimension) (b : Bool) → kind_word w ≡ o → dim_word w ≡ d → is_empty_word w ≡ b → Words o d b
+words w (Some e) (Some d) b ek ed eb = let clash : ◌≡◌ {A = Option KindWord} None (Some e) = sym (dim_no_kind w d ed) ∙ ek in cc
+words w (Some e) None true ek ed eb = let clash : ◌≡◌ {A = Option KindWord} None (Some e) = sym (empty_no_kind w (empty_is w eb)) ∙ ek in cc
+words w (Some e) None false ek ed eb = tt
+words w None (Some d) true ek ed eb = let clash : ◌≡◌ {A = Option Dimension} None (Some d) = sym (empty_no_dim w (empty_is w eb)) ∙ ed in cc
+words w None (Some d) false ek ed eb = tt
+words w None None b ek ed eb = tt
+
+abbrev word_seen : Option KindWord → Option Dimension → Bool → Seen
+word_seen (Some e) d b = seen.Kind e.kind e.joined
+word_seen None (Some d) b = seen.Dimension d
+word_seen None None b = cond b seen.Empty seen.Other
+
+abbrev word_step : Place → ℕ → Option KindWord → Option Dimension → Bool → Option (State × Action)
+word_step place.Kind n o d b = kind_step o n
+word_step (place.Alone p) n o (Some d) b = Some (at n (place.Opening p d), act.Header p d)
+word_step (place.Alone p) n o None b = cond b (Some (outside p XY n, act.HeaderEmpty p)) None
+word_step (place.Opening p d) n o e b = cond b (Some (outside p d n, act.Empty p)) None
+word_step p n o d b = None
+
+words_step : (p : Place) (n : ℕ) (o : Option KindWord) (d : Option Dimension) (b : Bool) → Words o d b → seen_at p n (word_seen o d b) ≡ word_step p n o d b
+words_step place.Kind n (Some e) None false h = refl
+words_step place.Kind n None (Some d) false h = refl
+words_step place.Kind n None None true h = refl
+words_step place.Kind n None None false h = refl
+words_step (place.Alone p) n (Some e) None false h = refl
+words_step (place.Alone p) n None (Some d) false h = refl
+words_step (place.Alone p) n None None true h = refl
+words_step (place.Alone p) n None None false h = refl
+words_step (place.Opening p d) n (Some e) None false h = refl
+words_step (place.Opening p d) n None (Some f) false h = refl
+words_step (place.Opening p d) n None None true h = refl
+words_step (place.Opening p d) n None None false h = refl
+words_step (place.Number p d more) n (Some e) None false h = refl
+words_step (place.Number p d more) n None (Some f) false h = refl
+words_step (place.Number p d more) n None None true h = refl
+words_step (place.Number p d more) n None None false h = refl
+words_step (place.Item p d) n (Some e) None false h = refl
+words_step (place.Item p d) n None (Some f) false h = refl
+words_step (place.Item p d) n None None true h = refl
+words_step (place.Item p d) n None None false h = refl
+words_step place.Geometry zero (Some e) None false h = refl
+words_step place.Geometry zero None (Some f) false h = refl
+words_step place.Geometry zero None None true h = refl
+words_step place.Geometry zero None None false h = refl
+words_step place.Geometry (suc n) (Some e) None false h = refl
+words_step place.Geometry (suc n) None (Some f) false h = refl
+words_step place.Geometry (suc n) None None true h = refl
+words_step place.Geometry (suc n) None None false h = refl
+words_step p n (Some e) (Some d) b h = absurd h
+words_step p n (Some e) None true h = absurd h
+words_step p n None (Some d) true h = absurd h
+
+word_sees : (w : List ℕ) (o : Option KindWord) (d : Option Dimension) (b : Bool) → kind_word w ≡ o → dim_word w ≡ d → is_empty_word w ≡ b → seen_of (Word w) ≡ word_seen o d b
+word_sees w (Some e) d b ek ed eb = ap (λ o. seen_word o w) ek
+word_sees w None (Some d) b ek ed eb = ap (λ o. seen_word o w) ek ∙ ap (λ d. seen_other d w) ed
+word_sees w None None b ek ed eb = ap (λ o. seen_word o w) ek ∙ ap (λ d. seen_other d w) ed ∙ ap (λ b. cond b seen.Empty seen.Other) eb
+
+word_steps : (p : Place) (n : ℕ) (w : List ℕ) → step_at p n (Word w) ≡ word_step p n (kind_word w) (dim_word w) (is_empty_word w)
+word_steps place.Kind n w = refl
+word_steps (place.Alone p) n w = go (dim_word w)
+  where
+    go : (o : Option Dimension) → dimension_step o p w n ≡ word_step (place.Alone p) n (kind_word w) o (is_empty_word w)
+    go (Some d) = refl
+    go None = refl
+word_steps (place.Opening p d) n w = refl
+word_steps (place.Number p d more) n w = refl
+word_steps (place.Item p d) n w = refl
+word_steps place.Geometry zero w = refl
+word_steps place.Geometry (suc n) w = refl
+
+-- The table over what is seen is the table over lexemes.
+pub seen_is : (p : Place) (n : ℕ) (l : Lexeme) → seen_at p n (seen_of l) ≡ step_at p n l
+seen_is p n (Word w) =
+    ap (seen_at p n) (word_sees w (kind_word w) (dim_word w) (is_empty_word w) refl refl refl)
+    ∙ words_step p n (kind_word w) (dim_word w) (is_empty_word w) (words w (kind_word w) (dim_word w) (is_empty_word w) refl refl refl)
+    ∙ sym (word_steps p n w)
+seen_is place.Kind n Open = refl
+seen_is place.Kind n Close = refl
+seen_is place.Kind n Comma = refl
+seen_is place.Kind n (Num w) = refl
+seen_is (place.Alone p) n Open = refl
+seen_is (place.Alone p) n Close = refl
+seen_is (place.Alone p) n Comma = refl
+seen_is (place.Alone p) n (Num w) = refl
+seen_is (place.Opening p d) n Open = refl
+seen_is (place.Opening p d) n Close = refl
+seen_is (place.Opening p d) n Comma = refl
+seen_is (place.Opening p d) n (Num w) = refl
+seen_is (place.Number p d more) n Open = refl
+seen_is (place.Number p d more) n Close = refl
+seen_is (place.Number p d more) n Comma = refl
+seen_is (place.Number p d more) n (Num w) = refl
+seen_is (place.Item p d) n Open = refl
+seen_is (place.Item p d) n Close = refl
+seen_is (place.Item p d) n Comma = refl
+seen_is (place.Item p d) n (Num w) = refl
+seen_is place.Geometry zero Open = refl
+seen_is place.Geometry zero Close = refl
+seen_is place.Geometry zero Comma = refl
+seen_is place.Geometry zero (Num w) = refl
+seen_is place.Geometry (suc n) Open = refl
+seen_is place.Geometry (suc n) Close = refl
+seen_is place.Geometry (suc n) Comma = refl
+seen_is place.Geometry (suc n) (Num w) = refl
+
+-- What isn't seen at a place.
+pub kind_none : (n : ℕ) (k : Seen) → ((g : GeometryType) (d : Option Dimension) → k ≡ seen.Kind g d → ⊥) → seen_at place.Kind n k ≡ None
+kind_none n (seen.Kind g d) never = absurd (never g d refl)
+kind_none n k never = refl
+
+pub alone_none : (p : Part) (n : ℕ) (k : Seen) → ((d : Dimension) → k ≡ seen.Dimension d → ⊥) → (k ≡ seen.Open → ⊥) → (k ≡ seen.Empty → ⊥) → seen_at (place.Alone p) n k ≡ None
+alone_none p n (seen.Dimension d) a b c = absurd (a d refl)
+alone_none p n seen.Open a b c = absurd (b refl)
+alone_none p n seen.Empty a b c = absurd (c refl)
+alone_none p n k a b c = refl
+
+pub opening_none : (p : Part) (d : Dimension) (n : ℕ) (k : Seen) → (k ≡ seen.Open → ⊥) → (k ≡ seen.Empty → ⊥) → (k ≡ seen.Number → ⊥) → seen_at (place.Opening p d) n k ≡ None
+opening_none p d n seen.Open a b c = absurd (a refl)
+opening_none p d n seen.Empty a b c = absurd (b refl)
+opening_none p d n seen.Number a b c = absurd (c refl)
+opening_none p d n k a b c = refl
+
+pub bare_none : (p : Part) (d : Dimension) (n : ℕ) → (p ≡ part.Member → ⊥) → bare_step p d n ≡ None
+bare_none part.Member d n never = absurd (never refl)
+bare_none p d n never = refl
+
+pub number_none : (p : Part) (d : Dimension) (more n : ℕ) (k : Seen) → (k ≡ seen.Number → ⊥) → seen_at (place.Number p d more) n k ≡ None
+number_none p d more n seen.Number never = absurd (never refl)
+number_none p d more n k never = refl
+
+pub item_none : (p : Part) (d : Dimension) (n : ℕ) (k : Seen) → (k ≡ seen.Close → ⊥) → (k ≡ seen.Comma → ⊥) → seen_at (place.Item p d) n k ≡ None
+item_none p d n seen.Close a b = absurd (a refl)
+item_none p d n seen.Comma a b = absurd (b refl)
+item_none p d n k a b = refl
+
+pub single_none : (p : Part) (d : Dimension) (n : ℕ) → is_single p ≡ true → comma_step p d n ≡ None
+single_none part.Point d n e = refl
+single_none part.Member d n e = refl
+single_none p d n e = let never : ⊥ = cc in absurd never
+
+pub several : (p : Part) (d : Dimension) (n : ℕ) → is_single p ≡ false → comma_step p d n ≡ Some (inside p d n, act.Comma p)
+several part.Point d n e = let never : ⊥ = cc in absurd never
+several part.Member d n e = let never : ⊥ = cc in absurd never
+several p d n e = refl
+
+pub geometry_none : (n : ℕ) (k : Seen) → (k ≡ seen.Close → ⊥) → (k ≡ seen.Comma → ⊥) → seen_at place.Geometry n k ≡ None
+geometry_none zero k a b = refl
+geometry_none (suc n) seen.Close a b = absurd (a refl)
+geometry_none (suc n) seen.Comma a b = absurd (b refl)
+geometry_none (suc n) k a b = refl
+
+pub inner_close : (n : ℕ) → 0 < n → seen_at place.Geometry n seen.Close ≡ Some (at (n - 1) place.Geometry, act.Close part.Collection)
+inner_close zero h = absurd (omega (arith, h))
+inner_close (suc n) h = let e : suc n - 1 ≡ n = omega arith in ap (λ n. Some (at n place.Geometry, act.Close part.Collection)) (sym e)
+
+pub inner_comma : (n : ℕ) → 0 < n → seen_at place.Geometry n seen.Comma ≡ Some (at n place.Kind, act.Comma part.Collection)
+inner_comma zero h = absurd (omega (arith, h))
+inner_comma (suc n) h = refl
+
+pub inner_open : (n : ℕ) → 0 < n → over_at place.Geometry n ≡ false
+inner_open zero h = absurd (omega (arith, h))
+inner_open (suc n) h = refl
+
+-- what is seen is a lexeme that is left
+pub some_left : (ps : List Placed) (k : Seen) → k ≡ sight ps → (k ≡ seen.Other → ⊥) → 1 ≤ length ps
+some_left [] k e never = absurd (never e)
+some_left (p ∷ ps) k e never = omega arith
+
+module _ {N S B : Type 0} (read : List ℕ → Option N) (view : View S) (maker : Maker N B) where
+  -- what isn't seen as a number has none
+  no_number : (l : Lexeme) → seen_of l ≢ seen.Number → number_of read l ≡ Some None
+  no_number (Num run) never = absurd (never refl)
+  no_number Open never = refl
+  no_number Close never = refl
+  no_number Comma never = refl
+  no_number (Word w) never = refl
+
+  pub from_goes : (m : Machine) (s t : S) (b : B) (to : At S B) → Stays view s t → Goes read view maker m t b to → Goes read view maker m s b to
+  from_goes m s t b to stays h = record {
+    given = h.given;
+    last = h.last;
+    events = h.events;
+    split = sym stays.left ∙ h.split;
+    place = h.place;
+    ran = h.ran;
+    makes = h.makes;
+    sound = h.sound;
+    legible = λ k. h.legible (stays.legible k);
+  }
+
+  pub from_refuses : (m : Machine) (s t : S) (b : B) (to : At S B) → Stays view s t → Refuses read view maker m t b to → Refuses read view maker m s b to
+  from_refuses m s t b to stays h = record {
+    taken = h.taken;
+    events = h.events;
+    split = sym stays.left ∙ h.split;
+    behind = λ end k. h.behind end (stays.behind end k);
+    ran = h.ran;
+    is_open = h.is_open;
+    stuck = λ k. h.stuck (stays.legible k);
+  }
+
+  -- One lexeme is taken.
+  pub goes_one : (m n : Machine) (s t : S) (b c : B) (l : Placed) (es : List (Event N)) → view.left s ≡ l ∷ view.left t → view.place t ≡ l.end → (view.legible s → view.legible t)
+      → move read (state_of m) l.lexeme ≡ Some (state_of n, es) → maker.makes b es c → IsSound n → Goes read view maker m s b (record { source = t; machine = n; builder = c })
+  goes_one m n s t b c l es split place legible moves makes sound = record {
+    given = [];
+    last = l;
+    events = es ++ [];
+    split = split;
+    place = place;
+    ran = ap (λ o. and_then o (λ t. run read t [])) moves;
+    makes = subst (λ es. maker.makes b es c) (sym (append-nil es)) makes;
+    sound = sound;
+    legible = legible;
+  }
+
+  -- A lexeme that is seen is taken.
+  pub skipped : (m n : Machine) (s t : S) (b c : B) (a : Action) (k : Seen) → k ≡ sight (view.left s) → k ≢ seen.Number → Skips view s t
+      → seen_at (state_of m).place m.depth k ≡ Some (state_of n, a) → maker.makes b (made a None) c → IsSound n → Goes read view maker m s b (record { source = t; machine = n; builder = c })
+  skipped m n s t b c a k is other skips steps makes sound =
+      let sees : k ≡ seen_of skips.lexeme.lexeme = is ∙ ap sight skips.left in
+      let step : step_at (state_of m).place m.depth skips.lexeme.lexeme ≡ Some (state_of n, a) = sym (seen_is (state_of m).place m.depth skips.lexeme.lexeme) ∙ ap (seen_at (state_of m).place m.depth) (sym sees) ∙ steps in
+      let none : number_of read skips.lexeme.lexeme ≡ Some None = no_number skips.lexeme.lexeme (λ e. other (sees ∙ e)) in
+      goes_one m n s t b c skips.lexeme (made a None) skips.left skips.place skips.legible
+      (ap (λ o. moved read o (number_of read skips.lexeme.lexeme)) step ∙ ap (λ x. moved read (Some (state_of n, a)) x) none) makes sound
+
+  -- No lexeme is taken.
+  pub stands : (m : Machine) (s : S) (b : B) (c : B) → is_over (state_of m) ≡ false → (view.legible s → IsStuck read m (view.left s)) → Refuses read view maker m s b (record { source = s; machine = m; builder = c })
+  stands m s b c o stuck = record {
+    taken = [];
+    events = [];
+    split = refl;
+    behind = λ end k. k;
+    ran = refl;
+    is_open = o;
+    stuck = stuck;
+  }
+
+  unmoved : (m : Machine) (ps : List Placed) → seen_at (state_of m).place m.depth (sight ps) ≡ None → IsStuck read m ps
+  unmoved m [] e = tt
+  unmoved m (p ∷ ps) e = ap (λ o. moved read o (number_of read p.lexeme)) (sym (seen_is (state_of m).place m.depth p.lexeme) ∙ e)
+
+  -- A lexeme that is seen isn't taken.
+  pub stands_at : (m : Machine) (s : S) (b : B) (k : Seen) → k ≡ sight (view.left s) → is_over (state_of m) ≡ false → seen_at (state_of m).place m.depth k ≡ None → Refuses read view maker m s b (record { source = s; machine = m; builder = b })
+  stands_at m s b k is o e = stands m s b b o (λ h. unmoved m (view.left s) (ap (seen_at (state_of m).place m.depth) (sym is) ∙ e))
+
+  -- The same where the code has it: it is seen as j, at the state x.
+  pub taken : (m n : Machine) (s t : S) (b c : B) (r : Result (At S B) (At S B)) (to : State) (a : Action) (k j : Seen) (x : Next) → r ≡ Ok (record { source = t; machine = n; builder = c })
+      → k ≡ sight (view.left s) → m.state ≡ x → k ≡ j → is_number j ≡ false → Skips view s t
+      → seen_at (place_of x m.part m.dim) m.depth j ≡ Some (to, a) → state_of n ≡ to → maker.makes b (made a None) c → IsSound n → IfOk r (Goes read view maker m s b)
+  taken m n s t b c r to a k j x is sees at_x as_j other skips steps there makes sound =
+      let whole : seen_at (state_of m).place m.depth k ≡ Some (state_of n, a) =
+      ap (λ s. seen_at (place_of s m.part m.dim) m.depth k) at_x ∙ ap (seen_at (place_of x m.part m.dim) m.depth) as_j ∙ steps ∙ ap (λ t. Some (t, a)) (sym there) in
+      subst (λ r. IfOk r (Goes read view maker m s b)) (sym is) (skipped m n s t b c a k sees (λ e. never_number j other (sym as_j ∙ e)) skips whole makes sound)
+
+  pub put_back : (m : Machine) (s : S) (b : B) (r : Result (At S B) (At S B)) (k : Seen) (x : Next) → r ≡ Err (record { source = s; machine = m; builder = b })
+      → k ≡ sight (view.left s) → m.state ≡ x → over_at (place_of x m.part m.dim) m.depth ≡ false → seen_at (place_of x m.part m.dim) m.depth k ≡ None
+      → IfErr r (Refuses read view maker m s b)
+  put_back m s b r k x is sees at_x o stuck =
+      subst (λ r. IfErr r (Refuses read view maker m s b)) (sym is)
+      (stands_at m s b k sees (ap (λ x. over_at (place_of x m.part m.dim) m.depth) at_x ∙ o) (ap (λ x. seen_at (place_of x m.part m.dim) m.depth k) at_x ∙ stuck))
+
+  pub is_err : (m : Machine) (s : S) (b : B) (r : Result (At S B) (At S B)) (to : At S B) → r ≡ Err to → IfOk r (Goes read view maker m s b)
+  is_err m s b r to is = subst (λ r. IfOk r (Goes read view maker m s b)) (sym is) tt

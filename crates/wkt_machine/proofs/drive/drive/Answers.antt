@@ -1,0 +1,34 @@
+-- Each way goes on from the one before.
+use Rattle.std.proofs.Common.{ap, arith, rules, IfErr}
+use Rattle.wkt_machine.specs.Goes.{Refuses}
+use Rattle.wkt_machine.specs.declared.machine.Machine.{Machine}
+use Rattle.wkt_machine.specs.Place.{State}
+use Rattle.wkt_machine.proofs.Composing.{from_start, refused_if}
+use Rattle.wkt_machine.proofs.Depths.{goes_room}
+use Rattle.wkt_machine.proofs.drive.drive.Goals as goal
+
+pub lexemes-init : goal.lexemes-init
+lexemes-init g c = record {
+  goes = (c.start.result, c.start.ensures.state, c.in_ok-begun.ensures.on);
+  sound = c.in_ok-begun.ensures.on.sound;
+  room =
+      let more = goes_room g.T.WktNum.read g.S.Source.view g.B.Builder.maker _ _ _ _ c.in_ok-begun.ensures.on in
+      omega (arith, more, ap (λ (s : State). s.depth) c.start.ensures.state);
+}
+
+pub lexemes-preserved : goal.lexemes-preserved
+lexemes-preserved g c =
+    let i = c.lexemes.invariant in
+    let way = c.in_ok-behind.ensures.on in
+    let more = goes_room g.T.WktNum.read g.S.Source.view g.B.Builder.maker _ _ _ _ way in
+    record {
+      goes = from_start g.T.WktNum.read g.S.Source.view g.B.Builder.maker _ _ _ _ i.goes way;
+      sound = way.sound;
+      room = omega (arith, more, i.room);
+    }
+
+pub returns-in_err-behind-clause-refused : goal.returns-in_err-behind-clause-refused
+returns-in_err-behind-clause-refused g c =
+    let machine : Machine = record { state = c.lexemes.state; part = c.lexemes.part; dim = c.lexemes.dim; depth = c.lexemes.depth } in
+    let refused : IfErr c.from_residual-in_err-behind.result (Refuses g.T.WktNum.read g.S.Source.view g.B.Builder.maker machine c.lexemes.source c.lexemes.builder) = search rules in
+    refused_if g.T.WktNum.read g.S.Source.view g.B.Builder.maker c.args.source c.args.builder (record { source = c.lexemes.source; machine = machine; builder = c.lexemes.builder }) c.from_residual-in_err-behind.result c.lexemes.invariant.goes refused

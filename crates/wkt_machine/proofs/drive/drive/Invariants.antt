@@ -1,0 +1,17 @@
+-- What was taken was gone over, and what it says was made.
+use Rattle.std.proofs.Common.{◌≤◌, ◌+◌, length}
+use Rattle.wkt_machine.specs.Goes.{GoesFrom}
+use Rattle.wkt_machine.specs.Machines.{IsSound}
+use Rattle.wkt_machine.proofs.drive.drive.Given as goal
+
+abbrev pub invariant-lexemes : goal.invariant-lexemes
+invariant-lexemes g l =
+    record {
+      goes : GoesFrom g.T.WktNum.read g.S.Source.view g.B.Builder.maker l.fn.source l.fn.builder
+          (record { source = l.source; machine = record { state = l.state; part = l.part; dim = l.dim; depth = l.depth }; builder = l.builder });
+      sound : IsSound (record { state = l.state; part = l.part; dim = l.dim; depth = l.depth });
+      room : l.depth + length (g.S.Source.view.left l.source) ≤ length (g.S.Source.view.left l.fn.source);
+    }
+
+abbrev pub decreases-lexemes : goal.decreases-lexemes
+decreases-lexemes g l = length (g.S.Source.view.left l.source)

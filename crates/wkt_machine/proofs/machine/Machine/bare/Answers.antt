@@ -1,0 +1,14 @@
+-- A number is taken, or stays.
+use Rattle.std.proofs.Common.{ap}
+use Rattle.wkt_machine.specs.Drives.{over_at}
+use Rattle.wkt_machine.specs.Machines.{place_of}
+use Rattle.wkt_machine.proofs.Numbering.{bare_number, unread}
+use Rattle.wkt_machine.proofs.machine.Machine.bare.Goals as goal
+
+pub returns-in-Ok-clause-on : goal.returns-in-Ok-clause-on
+returns-in-Ok-clause-on g c =
+    bare_number g.T.WktNum.read g.S.Source.view g.B.Builder.maker c.args.self c.begun.result c.args.source c.in-Ok.behind c.args.builder c.open.result c.in-Ok.made c.on.result c.on.ensures c.requires.state c.requires.part c.begun.ensures c.open.ensures c.in-Ok.ensures.takes
+
+pub returns-in-Err-clause-refused : goal.returns-in-Err-clause-refused
+returns-in-Err-clause-refused g c =
+    unread g.T.WktNum.read g.S.Source.view g.B.Builder.maker c.args.self c.args.source c.in-Err.before c.args.builder c.in-Err.made c.refused.result c.refused.ensures c.requires.seen (ap (λ s. over_at (place_of s c.args.self.part c.args.self.dim) c.args.self.depth) c.requires.state) c.in-Err.ensures.stays c.in-Err.ensures.unread

@@ -1,0 +1,87 @@
+-- How a machine goes over what a source gives.
+use Rattle.std.specs.Prelude.{◌≡◌, ℕ, List, [], ◌∷◌, ◌++◌, Option, Some, None, Result, Ok, Err, false}
+use Rattle.wkt_num.specs.Bytes as lex
+use Rattle.wkt_read.specs.Placed.{Placed, lexemes_of, end_after}
+use Rattle.wkt_machine.specs.Drives.{start, is_over}
+use Rattle.wkt_machine.specs.Events.{Event}
+use Rattle.wkt_machine.specs.Machine.{at, last_place, run, move}
+use Rattle.wkt_machine.specs.Machines.{state_of, IsSound}
+use Rattle.wkt_machine.specs.Makers.{Maker}
+use Rattle.wkt_machine.specs.View.{View}
+use Rattle.wkt_machine.specs.declared.machine.Machine.{Machine}
+use Rattle.wkt_machine.specs.declared.part.Axis.{Axis}
+use Rattle.wkt_machine.specs.declared.part.Part.{Part}
+use Rattle.wkt_machine.specs.declared.part.Part.TheVariants as part
+use Rattle.wkt_machine.specs.declared.source.At.{At}
+
+-- The source is where it was, but for what was looked at.
+pub record Stays {S : Type 0} (view : View S) (s t : S) : Type 0 where
+  pub left : view.left t ≡ view.left s
+  pub behind : (end : ℕ) → view.behind s end → view.behind t end
+  pub legible : view.legible s → view.legible t
+
+-- A lexeme is taken.
+pub record Skips {S : Type 0} (view : View S) (s t : S) : Type 0 where
+  pub lexeme : Placed
+  pub left : view.left s ≡ lexeme ∷ view.left t
+  pub place : view.place t ≡ lexeme.end
+  pub legible : view.legible s → view.legible t
+
+-- A machine doesn't move with the lexeme that comes next, or none does.
+abbrev pub IsStuck : {N : Type 0} → (List ℕ → Option N) → Machine → List Placed → Type 0
+IsStuck read m [] = Unit {0}
+IsStuck read m (p ∷ ps) = move read (state_of m) p.lexeme ≡ None
+
+-- The lexeme that comes next is no number that is read.
+abbrev pub IsUnread : {N : Type 0} → (List ℕ → Option N) → List Placed → Type 0
+IsUnread read ps = (run : List ℕ) (end : ℕ) (more : List Placed) → ps ≡ record { lexeme = lex.Num run; end = end } ∷ more → read run ≡ None
+
+module _ {N S B : Type 0} (read : List ℕ → Option N) (view : View S) (maker : Maker N B) where
+  -- A number is taken, and made.
+  pub record Numbers (s : S) (b : B) (axis : Axis) (t : S) (c : B) : Type 0 where
+    pub run : List ℕ
+    pub number : N
+    pub end : ℕ
+    pub left : view.left s ≡ record { lexeme = lex.Num run; end = end } ∷ view.left t
+    pub place : view.place t ≡ end
+    pub legible : view.legible s → view.legible t
+    pub reads : read run ≡ Some number
+    pub makes : maker.makes b (Event.Number axis number ∷ []) c
+
+  -- Some lexemes are taken, the machine goes over them, and what they say is made.
+  pub record Goes (m : Machine) (s : S) (b : B) (to : At S B) : Type 0 where
+    pub given : List Placed
+    pub last : Placed
+    pub events : List (Event N)
+    pub split : view.left s ≡ given ++ (last ∷ view.left to.source)
+    pub place : view.place to.source ≡ last.end
+    pub ran : run read (state_of m) (lexemes_of (given ++ (last ∷ []))) ≡ Some (state_of to.machine, events)
+    pub makes : maker.makes b events to.builder
+    pub sound : IsSound to.machine
+    pub legible : view.legible s → view.legible to.source
+
+  -- The machine goes over some lexemes, or none, up to one with which it doesn't move, or that lacks.
+  pub record Refuses (m : Machine) (s : S) (b : B) (to : At S B) : Type 0 where
+    pub taken : List Placed
+    pub events : List (Event N)
+    pub split : view.left s ≡ taken ++ view.left to.source
+    pub behind : (end : ℕ) → view.behind s end → view.behind to.source (end_after end taken)
+    pub ran : run read (state_of m) (lexemes_of taken) ≡ Some (state_of to.machine, events)
+    pub is_open : is_over (state_of to.machine) ≡ false
+    pub stuck : view.legible s → IsStuck read to.machine (view.left to.source)
+
+  -- The same from where a text begins.
+  abbrev pub GoesFrom : S → B → At S B → Type 0
+  GoesFrom s b to = (m : Machine) × (state_of m ≡ start) × Goes m s b to
+
+  abbrev pub RefusesFrom : S → B → At S B → Type 0
+  RefusesFrom s b to = (m : Machine) × (state_of m ≡ start) × Refuses m s b to
+
+-- A point without parentheses ends with its last number; what has parentheses stays as it is.
+abbrev pub closes : {N : Type 0} → Part → List (Event N)
+closes part.Bare = Event.Close part.Member ∷ []
+closes p = []
+
+abbrev pub EndsPoint : {N S B : Type 0} → Maker N B → Machine → S → B → Result (At S B) (At S B) → Type 0
+EndsPoint maker m s b (Ok to) = (to.source ≡ s) × (state_of to.machine ≡ at m.depth (last_place m.part m.dim)) × IsSound to.machine × maker.makes b (closes m.part) to.builder
+EndsPoint maker m s b (Err to) = ⊥

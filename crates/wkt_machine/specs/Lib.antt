@@ -1,0 +1,14 @@
+pub mod Place
+pub mod Action
+pub mod Events
+pub mod Machine
+pub mod Drives
+pub mod Expecting
+pub mod Laws
+pub mod Sight
+pub mod Machines
+pub mod Makers
+pub mod View
+pub mod Goes
+pub mod NothingMaker
+pub mod TokensView

@@ -1,0 +1,35 @@
+//! What is made of the parts of a geometry, as they come.
+ghost use Rattle.std.specs.Prelude.{[], ◌∷◌};
+ghost use Rattle.wkt_machine.specs.Events.{Event};
+ghost use Rattle.wkt_machine.specs.Makers.{Maker};
+
+use crate::part::{Axis, Part};
+use wkt_access::Dimension;
+use wkt_num::WktNum;
+
+/// What is made. It is held by value: each call takes it and gives it back. A call that goes wrong is remembered by what
+/// is made.
+pub trait Builder<T: WktNum>: Sized + Drop {
+    /// What is made of which events.
+    ghost maker: { Maker T Self };
+
+    /// The header of a whole geometry.
+    fn begin(self, whole: Part, dim: Dimension) -> Self
+        ensures { maker.makes self (Event.Header whole dim ∷ []) result };
+
+    fn open(self, part: Part) -> Self
+        ensures { maker.makes self (Event.Open part ∷ []) result };
+
+    fn comma(self, part: Part) -> Self
+        ensures { maker.makes self (Event.Comma part ∷ []) result };
+
+    fn close(self, part: Part) -> Self
+        ensures { maker.makes self (Event.Close part ∷ []) result };
+
+    fn empty(self, part: Part) -> Self
+        ensures { maker.makes self (Event.Empty part ∷ []) result };
+
+    /// A number of a coordinate.
+    fn number(self, number: T, axis: Axis) -> Self
+        ensures { maker.makes self (Event.Number axis number ∷ []) result };
+}

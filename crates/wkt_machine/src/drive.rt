@@ -1,0 +1,79 @@
+//! The one loop over lexemes.
+ghost use Rattle.std.specs.Prelude.{◌≡◌, ◌+◌, ◌≤◌, length, IfOk, IfErr, false, true};
+ghost use Rattle.wkt_machine.specs.Drives.{is_over};
+ghost use Rattle.wkt_machine.specs.Goes.{Goes, GoesFrom, Refuses, RefusesFrom};
+ghost use Rattle.wkt_machine.specs.Machines.{state_of, IsSound};
+
+use crate::builder::Builder;
+use crate::machine::{Machine, State};
+use crate::source::{At, Walk, Walked};
+use wkt_num::WktNum;
+
+/// After one lexeme or more.
+#[inline(always)]
+fn further<T: WktNum, S: Walk<T>, B: Builder<T>>(
+    machine: Machine,
+    source: S,
+    builder: B,
+) -> Walked<S, B>
+    requires sound { IsSound machine }
+    requires open { is_over (state_of machine) ≡ false }
+    requires room { machine.depth + length (S.view.left source) ≤ usize.MAX }
+    ensures on { IfOk result (Goes T.read S.view B.maker machine source builder) }
+    ensures refused { IfErr result (Refuses T.read S.view B.maker machine source builder) }
+{
+    match machine.state {
+        State::Kind => source.header(machine, builder),
+        State::X => source.coordinates(machine, builder),
+        _ => machine.step(source, builder),
+    }
+}
+
+/// Behind the geometry that comes next; or where it is refused.
+///
+/// Each part of a place is a variable of its own, so that what fills a place up isn't carried along.
+#[inline(always)]
+pub fn drive<T: WktNum, S: Walk<T>, B: Builder<T>>(source: S, builder: B) -> Walked<S, B>
+    requires room { length (S.view.left source) ≤ usize.MAX }
+    ensures on { IfOk result (GoesFrom T.read S.view B.maker source builder) }
+    ensures over { IfOk result (λ to. is_over (state_of to.machine) ≡ true) }
+    ensures refused { IfErr result (RefusesFrom T.read S.view B.maker source builder) }
+{
+    let At {
+        source: begun,
+        machine: first,
+        builder: made,
+    } = source.header(Machine::start(), builder)?;
+    let (mut source, mut builder) = (begun, made);
+    let (mut state, mut part, mut dim, mut depth) = (
+        first.state,
+        first.part,
+        first.dim,
+        first.depth,
+    );
+    'lexemes: loop {
+        let machine = Machine {
+            state,
+            part,
+            dim,
+            depth,
+        };
+        if machine.is_over() {
+            return Ok(At {
+                source,
+                machine,
+                builder,
+            });
+        }
+        let At {
+            source: behind,
+            machine: next,
+            builder: made,
+        } = further(machine, source, builder)?;
+        (source, builder) = (behind, made);
+        state = next.state;
+        part = next.part;
+        dim = next.dim;
+        depth = next.depth;
+    }
+}

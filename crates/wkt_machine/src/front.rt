@@ -1,0 +1,26 @@
+//! Where the geometry at the front of a text ends.
+ghost use Rattle.std.specs.Prelude.{◌≤◌, ◌<◌, MatchOption, IfSome, length};
+ghost use Rattle.std.specs.Str.{IsCharBoundary};
+ghost use Rattle.wkt_read.specs.Front.{HasNoFront};
+ghost use Rattle.wkt_events.specs.Canonical.{EndsFront};
+
+use crate::drive::drive;
+use crate::nothing::Nothing;
+use crate::tokens::OneByOne;
+use wkt_num::WktNum;
+use wkt_read::{PeekableTokens, Tokens};
+
+/// Where the geometry at the front of the text ends, in bytes; `None` where the text has none there. What follows it is
+/// not looked at. It takes no memory, and no stack for nesting.
+pub fn front_end<T: WktNum>(text: &str) -> Option<usize>
+    ensures front { MatchOption result (HasNoFront T.read text.now) (λ end. EndsFront T.read text.now end) }
+    ensures some { IfSome result (λ end. 0 < end) }
+    ensures within { IfSome result (λ end. end ≤ length text.now) }
+    ensures boundary { IfSome result (λ end. IsCharBoundary text.now end) }
+{
+    let tokens = PeekableTokens::<T>::new(Tokens::<T>::from_str(text));
+    match drive::<T, OneByOne<'_, T>, Nothing>(OneByOne::new(tokens), Nothing) {
+        Ok(over) => Some(over.source.into_tokens().end()),
+        Err(_) => None,
+    }
+}

@@ -1,0 +1,26 @@
+//! The machine that reads a geometry, one lexeme at a time.
+//!
+//! Below stands `wkt_read`, with the grammar.
+#![tactic(auto)]
+
+pub mod builder;
+pub mod drive;
+pub mod front;
+pub mod laws;
+pub mod machine;
+pub mod nothing;
+mod part;
+pub mod source;
+pub mod step;
+pub mod tokens;
+
+pub use builder::Builder;
+pub use front::front_end;
+pub use machine::{Machine, Seen, State};
+pub use nothing::Nothing;
+pub use part::{Axis, Part};
+pub use source::{At, Source, Walk, Walked};
+pub use tokens::OneByOne;
+
+#[cfg(test)]
+mod tests;

@@ -1,0 +1,207 @@
+//! The grammar, as a state machine over lexemes.
+ghost use Rattle.std.specs.Prelude.{◌≡◌, ◌<◌, ◌-◌};
+ghost use Rattle.wkt_machine.specs.Machine.{at, part_of, inside, outside};
+ghost use Rattle.wkt_machine.specs.Machines.{state_of, next_after, is_single, IsSound};
+ghost use Rattle.wkt_machine.specs.Drives.{start, is_over};
+ghost use Rattle.wkt_machine.specs.Place as place;
+
+use crate::part::{Axis, Part};
+use wkt_access::Dimension;
+use wkt_types::GeometryType;
+
+/// A lexeme, as far as the machine looks at it.
+#[derive(Clone, Copy)]
+pub enum Seen {
+    Open,
+    Close,
+    Comma,
+    /// A kind word, and the dimension that is joined to it.
+    Kind(GeometryType, Option<Dimension>),
+    Dimension(Dimension),
+    Empty,
+    Number,
+    /// Any other word, or the text's end.
+    Other,
+}
+
+/// What comes next.
+#[derive(Clone, Copy)]
+pub enum State {
+    /// A geometry.
+    Kind,
+    /// A dimension, or what follows one.
+    Dimension,
+    /// The parenthesis of a part, or EMPTY; of a point of a multipoint a number too.
+    Opening,
+    /// A number of a coordinate.
+    X,
+    Y,
+    Z,
+    M,
+    /// What follows an item of a part.
+    Item,
+    /// What follows a geometry.
+    Geometry,
+}
+
+/// A place in the text of a geometry: what comes next, of which part in which dimension, and in how many collections.
+#[derive(Clone, Copy)]
+pub struct Machine {
+    pub state: State,
+    pub part: Part,
+    pub dim: Dimension,
+    pub depth: usize,
+}
+
+/// The part that stands behind the header of a kind.
+#[inline(always)]
+pub fn part_of(kind: GeometryType) -> Part
+    ensures { result ≡ part_of kind }
+{
+    match kind {
+        GeometryType::Point => Part::Point,
+        GeometryType::LineString => Part::LineString,
+        GeometryType::Polygon => Part::Polygon,
+        GeometryType::MultiPoint => Part::MultiPoint,
+        GeometryType::MultiLineString => Part::MultiLineString,
+        GeometryType::MultiPolygon => Part::MultiPolygon,
+        GeometryType::GeometryCollection => Part::Collection,
+    }
+}
+
+/// Whether a part has one coordinate alone.
+#[inline(always)]
+pub fn is_single(part: Part) -> bool
+    ensures { result ≡ is_single part }
+{
+    matches!(part, Part::Point | Part::Member)
+}
+
+/// What comes after a number of a coordinate.
+#[inline(always)]
+pub(crate) fn after(axis: Axis, dim: Dimension) -> State
+    ensures { result ≡ next_after axis dim }
+{
+    match (axis, dim) {
+        (Axis::X, _) => State::Y,
+        (Axis::Y, Dimension::XYZ | Dimension::XYZM) => State::Z,
+        (Axis::Y, Dimension::XYM) => State::M,
+        (Axis::Z, Dimension::XYZM) => State::M,
+        _ => State::Item,
+    }
+}
+
+impl Machine {
+    /// Before a geometry.
+    #[inline(always)]
+    pub fn start() -> Machine
+        ensures state { state_of result ≡ start }
+        ensures sound { IsSound result }
+    {
+        Machine {
+            state: State::Kind,
+            part: Part::Point,
+            dim: Dimension::XY,
+            depth: 0,
+        }
+    }
+
+    /// Whether a geometry was read that is in no collection.
+    #[inline(always)]
+    pub fn is_over(self) -> bool
+        ensures { result ≡ is_over (state_of self) }
+    {
+        self.depth == 0 && matches!(self.state, State::Geometry)
+    }
+
+    #[inline(always)]
+    pub fn to(self, state: State) -> Machine
+        ensures { result ≡ record { state = state; part = self.part; dim = self.dim; depth = self.depth } }
+    {
+        Machine {
+            state,
+            part: self.part,
+            dim: self.dim,
+            depth: self.depth,
+        }
+    }
+
+    /// The same of another part, in a dimension.
+    #[inline(always)]
+    pub fn begun(self, state: State, part: Part, dim: Dimension) -> Machine
+        ensures { result ≡ record { state = state; part = part; dim = dim; depth = self.depth } }
+    {
+        Machine {
+            state,
+            part,
+            dim,
+            depth: self.depth,
+        }
+    }
+
+    /// Where an item of the part begins.
+    #[inline(always)]
+    pub fn inside(self) -> Machine
+        requires room { self.depth < usize.MAX }
+        ensures state { state_of result ≡ inside self.part self.dim self.depth }
+        ensures sound { IsSound result }
+    {
+        let (state, part) = match self.part {
+            Part::Collection => (State::Kind, Part::Collection),
+            Part::MultiPoint => (State::Opening, Part::Member),
+            Part::Polygon => (State::Opening, Part::Ring),
+            Part::MultiLineString => (State::Opening, Part::Line),
+            Part::MultiPolygon => (State::Opening, Part::Area),
+            Part::Area => (State::Opening, Part::AreaRing),
+            part => (State::X, part),
+        };
+        let depth = if let Part::Collection = self.part {
+            self.depth + 1
+        } else {
+            self.depth
+        };
+        Machine {
+            state,
+            part,
+            dim: self.dim,
+            depth,
+        }
+    }
+
+    /// Behind the part.
+    #[inline(always)]
+    pub fn outside(self) -> Machine
+        ensures state { state_of result ≡ outside self.part self.dim self.depth }
+        ensures sound { IsSound result }
+    {
+        let (state, part) = match self.part {
+            Part::Member | Part::Bare => (State::Item, Part::MultiPoint),
+            Part::Ring => (State::Item, Part::Polygon),
+            Part::Line => (State::Item, Part::MultiLineString),
+            Part::Area => (State::Item, Part::MultiPolygon),
+            Part::AreaRing => (State::Item, Part::Area),
+            part => (State::Geometry, part),
+        };
+        Machine {
+            state,
+            part,
+            dim: self.dim,
+            depth: self.depth,
+        }
+    }
+
+    /// Behind a collection.
+    #[inline(always)]
+    pub fn shallower(self) -> Machine
+        requires { 0 < self.depth }
+        ensures state { state_of result ≡ at (self.depth - 1) place.Geometry }
+        ensures sound { IsSound result }
+    {
+        Machine {
+            state: State::Geometry,
+            part: Part::Collection,
+            dim: self.dim,
+            depth: self.depth - 1,
+        }
+    }
+}

@@ -1,0 +1,46 @@
+//! Nothing is made.
+
+use crate::builder::Builder;
+use crate::part::{Axis, Part};
+use wkt_access::Dimension;
+use wkt_num::WktNum;
+
+/// Keeps nothing of what comes.
+#[derive(Drop)]
+pub struct Nothing;
+
+impl<T: WktNum> Builder<T> for Nothing {
+    ghost use Rattle.wkt_machine.specs.NothingMaker.{nothing_maker};
+
+    ghost maker = { nothing_maker };
+
+    #[inline(always)]
+    fn begin(self, _whole: Part, _dim: Dimension) -> Self {
+        self
+    }
+
+    #[inline(always)]
+    fn open(self, _part: Part) -> Self {
+        self
+    }
+
+    #[inline(always)]
+    fn comma(self, _part: Part) -> Self {
+        self
+    }
+
+    #[inline(always)]
+    fn close(self, _part: Part) -> Self {
+        self
+    }
+
+    #[inline(always)]
+    fn empty(self, _part: Part) -> Self {
+        self
+    }
+
+    #[inline(always)]
+    fn number(self, _number: T, _axis: Axis) -> Self {
+        self
+    }
+}

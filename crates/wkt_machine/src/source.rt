@@ -1,0 +1,68 @@
+//! Where lexemes come from.
+ghost use Rattle.std.specs.Prelude.{◌≡◌, ◌≢◌, ◌+◌, ◌≤◌, [], length, IfOk, IfErr, false};
+ghost use Rattle.wkt_machine.specs.Goes.{Stays, Skips, Numbers, IsUnread, Goes, Refuses};
+ghost use Rattle.wkt_machine.specs.Machines.{state_of, IsSound};
+ghost use Rattle.wkt_machine.specs.Sight.{sight};
+ghost use Rattle.wkt_machine.specs.View.{View};
+ghost use Rattle.wkt_machine.specs.declared.machine.Seen.TheVariants as seen;
+ghost use Rattle.wkt_machine.specs.declared.machine.State.TheVariants as next;
+
+use crate::builder::Builder;
+use crate::machine::{Machine, Seen};
+use crate::part::Axis;
+use wkt_num::WktNum;
+
+/// A source, a machine behind what was taken from it, and what was made of that.
+#[derive(Drop)]
+pub struct At<S, B> {
+    pub source: S,
+    pub machine: Machine,
+    pub builder: B,
+}
+
+/// After some lexemes; or where the next one is refused.
+pub type Walked<S, B> = Result<At<S, B>, At<S, B>>;
+
+/// A place in a text.
+pub trait Source<T: WktNum>: Sized + Drop {
+    /// What is left.
+    ghost view: { View Self };
+
+    /// The lexeme that comes next, which stays.
+    fn look(self) -> (Seen, Self)
+        ensures seen { result.0 ≡ sight (view.left self) }
+        ensures stays { Stays view self result.1 }
+        ensures looked { view.looked result.1 };
+
+    /// Past the lexeme that was looked at.
+    fn skip(self) -> Self
+        requires looked { view.looked self }
+        requires some { sight (view.left self) ≢ seen.Other }
+        requires word { sight (view.left self) ≢ seen.Number }
+        ensures { Skips view self result };
+
+    /// Past the number that was looked at, with what is made of it; or still before it, if its type doesn't read it.
+    fn number<B: Builder<T>>(self, builder: B, axis: Axis) -> Result<(Self, B), (Self, B)>
+        requires looked { view.looked self }
+        requires seen { sight (view.left self) ≡ seen.Number }
+        ensures takes { IfOk result (λ r. Numbers T.read view B.maker self builder axis r.0 r.1) }
+        ensures stays { IfErr result (λ r. Stays view self r.0) }
+        ensures unread { IfErr result (λ r. view.legible self → IsUnread T.read (view.left self)) };
+}
+
+/// A source that takes in one go what begins in it.
+pub trait Walk<T: WktNum>: Source<T> {
+    /// After one lexeme or more: a geometry begins here.
+    fn header<B: Builder<T>>(self, machine: Machine, builder: B) -> Walked<Self, B>
+        requires state { machine.state ≡ next.Kind }
+        requires room { machine.depth + length (Self.view.left self) ≤ usize.MAX }
+        ensures on { IfOk result (Goes T.read Self.view B.maker machine self builder) }
+        ensures refused { IfErr result (Refuses T.read Self.view B.maker machine self builder) };
+
+    /// After one lexeme or more: a coordinate begins here.
+    fn coordinates<B: Builder<T>>(self, machine: Machine, builder: B) -> Walked<Self, B>
+        requires state { machine.state ≡ next.X }
+        requires room { machine.depth + length (Self.view.left self) ≤ usize.MAX }
+        ensures on { IfOk result (Goes T.read Self.view B.maker machine self builder) }
+        ensures refused { IfErr result (Refuses T.read Self.view B.maker machine self builder) };
+}

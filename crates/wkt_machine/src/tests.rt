@@ -1,0 +1,36 @@
+//! Where the geometries at the front of texts end, counted by hand.
+use crate::front_end;
+use std::process::Abort;
+use wkt_num::Decimal;
+
+// What each text is; nothing where no beginning of it is a geometry.
+const FRONTS: [(&str, Option<usize>); 18] = [
+    ("POINT(1 2)", Some(10)),
+    ("point z ( 1 2.50 -3 ) and more", Some(21)),
+    ("POINT EMPTY", Some(11)),
+    ("LINESTRING(1 2,3 4)x", Some(19)),
+    ("LINEARRING(1 2,3 4)", Some(19)),
+    ("POLYGON((0 0,4 0,2 4,0 0),EMPTY)", Some(32)),
+    ("MULTIPOINT(1 2,(3 4),EMPTY)", Some(27)),
+    ("MULTILINESTRING((1 2),EMPTY)", Some(28)),
+    ("MULTIPOLYGON(((0 0)),EMPTY)", Some(27)),
+    (
+        "GEOMETRYCOLLECTION(POINT M(1 2 3),GEOMETRYCOLLECTION EMPTY)",
+        Some(59),
+    ),
+    ("POINT(1)", None),
+    ("POINT(1 2", None),
+    ("POINT(1 2 3)", None),
+    ("POINT(1.1234567 2)", None),
+    ("MULTIPOINT(1 2,)", None),
+    ("POLYGON(1 2)", None),
+    ("GEOMETRYCOLLECTION(1 2)", None),
+    ("", None),
+];
+
+#[test]
+fn fronts(rt: HostRuntime) {
+    for (text, end) in FRONTS {
+        assert!(&rt; front_end::<Decimal<6>>(text) == end, "{text}");
+    }
+}
