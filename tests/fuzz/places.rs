@@ -1,5 +1,5 @@
 //! wkt_explain, and where the plain reader's lexemes stop being the beginning of a geometry, by docs/GRAMMAR.md.
-use crate::c_calls::{pointer, Asked, Bytes, ACCEPTED, NOT_UTF8, NO_PLACES, WHOLE};
+use crate::c_calls::{has_more, pointer, Asked, Bytes, ACCEPTED, NOT_UTF8, NOT_WHOLE, NO_PLACES, WHOLE};
 use crate::reader::{dimension_word, is_empty, kind_of, read_front, Lexeme, Numbers, Reader};
 
 extern "C" {
@@ -100,25 +100,36 @@ impl Walk<'_> {
     }
 }
 
-/// What wkt_explain says: the message, from where to where, and what could stand there; or its status.
-fn explained(data: &[u8], places: u32) -> Result<(u32, Place), u32> {
-    if places > 18 {
-        return Err(NO_PLACES);
+/// What wkt_explain leaves of what it doesn't set.
+const UNSET: usize = usize::MAX;
+const UNSAID: u32 = 99;
+
+/// What wkt_explain says: its status, the message, from where to where, and what could stand there.
+fn explained(data: &[u8], places: u32) -> (u32, u32, Place) {
+    let status = |status| (status, UNSAID, (UNSET, UNSET, UNSAID));
+    if places % WHOLE > 18 {
+        return status(NO_PLACES);
     }
-    let text = std::str::from_utf8(data).map_err(|_| NOT_UTF8)?;
-    let numbers = Numbers::Decimal(places as usize);
+    let Ok(text) = std::str::from_utf8(data) else {
+        return status(NOT_UTF8);
+    };
+    let numbers = Numbers::Decimal((places % WHOLE) as usize);
     let place = Walk { reader: Reader::new(text, numbers) }.geometry(KIND);
     match (read_front(text, numbers), place) {
-        (Ok(_), Ok(())) => Err(ACCEPTED),
-        (Err(message), Err(place)) => Ok((message as u32, place)),
+        (Ok((_, end)), Ok(())) if has_more(data, end, places) => {
+            let white = data[end..].iter().take_while(|byte| b" \n\r\t".contains(byte)).count();
+            (NOT_WHOLE, UNSAID, (end + white, data.len(), UNSAID))
+        }
+        (Ok(_), Ok(())) => status(ACCEPTED),
+        (Err(message), Err(place)) => (0, message as u32, place),
         (front, place) => panic!("the plain reader and its places differ: {:?}, {place:?}, {text:?}", front.is_ok()),
     }
 }
 
 pub fn check_explain(asked: &Asked) {
-    for places in [0, 6, 18, 19, 6 + WHOLE] {
+    for places in [0, 6, 18, 19, 6 + WHOLE, 19 + WHOLE] {
         let wanted = explained(asked.data, places);
-        let (mut message, mut place) = (99, (usize::MAX, usize::MAX, 99));
+        let (mut message, mut place) = (UNSAID, (UNSET, UNSET, UNSAID));
         let ask = || unsafe {
             let (text, n) = (pointer(asked.data), asked.data.len());
             wkt_explain(text, n, places, &mut message, &mut place.0, &mut place.1, &mut place.2)
@@ -126,7 +137,6 @@ pub fn check_explain(asked: &Asked) {
         let status = asked.call(ask);
         asked.takes_no_memory("wkt_explain");
         let library = (status, message, place);
-        let answer = wanted.map_or_else(|status| (status, 99, (usize::MAX, usize::MAX, 99)), |(message, place)| (0, message, place));
-        asked.ensure(library == answer, "wkt_explain", library, answer);
+        asked.ensure(library == wanted, "wkt_explain", library, wanted);
     }
 }
