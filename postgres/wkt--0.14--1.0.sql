@@ -1,24 +1,5 @@
 \echo Use "ALTER EXTENSION wkt UPDATE" to load this file. \quit
 
--- The comparisons are PostgreSQL's own, with the same order and hashes, so no index is wrong.
-CREATE OR REPLACE FUNCTION wkt_eq(wkt, wkt) RETURNS bool
-    AS 'byteaeq' LANGUAGE internal IMMUTABLE STRICT LEAKPROOF PARALLEL SAFE;
-CREATE OR REPLACE FUNCTION wkt_ne(wkt, wkt) RETURNS bool
-    AS 'byteane' LANGUAGE internal IMMUTABLE STRICT LEAKPROOF PARALLEL SAFE;
-CREATE OR REPLACE FUNCTION wkt_lt(wkt, wkt) RETURNS bool
-    AS 'bytealt' LANGUAGE internal IMMUTABLE STRICT LEAKPROOF PARALLEL SAFE;
-CREATE OR REPLACE FUNCTION wkt_le(wkt, wkt) RETURNS bool
-    AS 'byteale' LANGUAGE internal IMMUTABLE STRICT LEAKPROOF PARALLEL SAFE;
-CREATE OR REPLACE FUNCTION wkt_gt(wkt, wkt) RETURNS bool
-    AS 'byteagt' LANGUAGE internal IMMUTABLE STRICT LEAKPROOF PARALLEL SAFE;
-CREATE OR REPLACE FUNCTION wkt_ge(wkt, wkt) RETURNS bool
-    AS 'byteage' LANGUAGE internal IMMUTABLE STRICT LEAKPROOF PARALLEL SAFE;
-CREATE OR REPLACE FUNCTION wkt_cmp(wkt, wkt) RETURNS int4
-    AS 'byteacmp' LANGUAGE internal IMMUTABLE STRICT LEAKPROOF PARALLEL SAFE;
-CREATE OR REPLACE FUNCTION wkt_hash(wkt) RETURNS int4
-    AS 'hashvarlena' LANGUAGE internal IMMUTABLE STRICT LEAKPROOF PARALLEL SAFE;
-CREATE OR REPLACE FUNCTION wkt_hash_extended(wkt, int8) RETURNS int8
-    AS 'hashvarlenaextended' LANGUAGE internal IMMUTABLE STRICT LEAKPROOF PARALLEL SAFE;
 -- Sorts compare eight bytes at first, and a btree that is made from now on keeps equal values once (REINDEX makes one anew).
 ALTER OPERATOR FAMILY wkt_ops USING btree ADD
     FUNCTION 2 (wkt, wkt) bytea_sortsupport(internal), FUNCTION 4 (wkt, wkt) btequalimage(oid);

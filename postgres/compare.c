@@ -1,4 +1,5 @@
-/* C functions that wkt--0.14.sql names, and no later script: a database keeps them until ALTER EXTENSION wkt UPDATE. */
+/* Comparisons and hashes: PostgreSQL's own of bytea. They are named here, since a function in LANGUAGE internal is looked for
+ * by its name among all of the server's, each time that an exclusion constraint checks a row. */
 #include "wkt_pg.h"
 
 #include "utils/fmgrprotos.h"
