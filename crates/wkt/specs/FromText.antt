@@ -10,6 +10,72 @@ use Rattle.wkt_read.specs.Items.{bad_number}
 use Rattle.wkt_read.specs.Refusal.{IsTextRefused}
 use Rattle.wkt_convert.specs.Kinds.{FlatKind, only_flat}
 
+-- What an error comes from.
+pub data Cause : Type 0 where
+  -- the source failed
+  source : Cause
+  -- memory was lacking
+  memory : Cause
+  -- the bytes are no text
+  not_utf8 : Cause
+  -- the text
+  in_text : Cause
+
+-- What a conversion's error comes from.
+abbrev pub cause_of : ConvertError → Cause
+cause_of (Reader e) = source
+cause_of (Memory e) = memory
+cause_of Utf8 = not_utf8
+cause_of _ = in_text
+
+-- What an error of this cause says of the bytes of a source, where `text` is what it says of them as a text.
+abbrev pub SaysOf : Cause → List ℕ → Type 0 → Type 0
+SaysOf source bytes text = Unit {0}
+SaysOf memory bytes text = Unit {0}
+SaysOf not_utf8 bytes text = IsUtf8 bytes → ⊥
+SaysOf in_text bytes text = IsUtf8 bytes × text
+
+-- All bytes of a source are answered: those that aren't UTF-8 are refused so, and any others are answered as a text. Nothing is said of them if the source fails, or out of memory.
+abbrev pub BytesAnswer : {R E : Type 0} → (E → Cause) → (List ℕ → Result R E → Type 0) → List ℕ → Result R E → Type 0
+BytesAnswer cause answers bytes (Ok r) = IsUtf8 bytes × answers bytes (Ok r)
+BytesAnswer cause answers bytes (Err e) = SaysOf (cause e) bytes (answers bytes (Err e))
+
+-- The fact is claimed of an error of this cause that comes after all bytes were read.
+abbrev pub WhenAllRead : Cause → Type 0 → Type 0
+WhenAllRead source P = Unit {0}
+WhenAllRead memory P = Unit {0}
+WhenAllRead not_utf8 P = P
+WhenAllRead in_text P = P
+
+-- The fact is claimed where the source failed.
+abbrev pub WhenSource : Cause → Type 0 → Type 0
+WhenSource source P = P
+WhenSource memory P = Unit {0}
+WhenSource not_utf8 P = Unit {0}
+WhenSource in_text P = Unit {0}
+
+-- The fact is claimed unless the source failed.
+abbrev pub UnlessSource : Cause → Type 0 → Type 0
+UnlessSource source P = Unit {0}
+UnlessSource memory P = P
+UnlessSource not_utf8 P = P
+UnlessSource in_text P = P
+
+-- The fact is claimed of each answer that comes after all bytes were read.
+abbrev pub OnAllRead : {R E : Type 0} → (E → Cause) → Result R E → Type 0 → Type 0
+OnAllRead cause (Ok r) P = P
+OnAllRead cause (Err e) P = WhenAllRead (cause e) P
+
+-- The fact is claimed where the source failed.
+abbrev pub OnSource : {R E : Type 0} → (E → Cause) → Result R E → Type 0 → Type 0
+OnSource cause (Ok r) P = Unit {0}
+OnSource cause (Err e) P = WhenSource (cause e) P
+
+-- The fact is claimed unless the source failed.
+abbrev pub UnlessFailed : {R E : Type 0} → (E → Cause) → Result R E → Type 0 → Type 0
+UnlessFailed cause (Ok r) P = P
+UnlessFailed cause (Err e) P = UnlessSource (cause e) P
+
 module _ {T : Type 0} (read : List ℕ → Option T) where
   -- The text has a front, and the geometry of it has this outcome.
   abbrev pub FrontGives : {X : Type 0} → (Tree T → Outcome X) → List ℕ → Outcome X → Type 0
@@ -28,43 +94,19 @@ module _ {T : Type 0} (read : List ℕ → Option T) where
   TextAnswers see turn text (Err (Memory e)) = Unit {0}
   TextAnswers see turn text (Err _) = ⊥
 
-  -- Bytes that aren't UTF-8 are refused so, and any others are answered as a text. Nothing is said of them if the source fails.
-  abbrev pub BytesAnswer : {X R : Type 0} → (R → X) → (Tree T → Outcome X) → List ℕ → Result R ConvertError → Type 0
-  BytesAnswer see turn bytes (Err (WrongNumberOfGeometries n)) = ⊥
-  BytesAnswer see turn bytes (Err (Reader e)) = Unit {0}
-  BytesAnswer see turn bytes (Err Utf8) = IsUtf8 bytes → ⊥
-  BytesAnswer see turn bytes (Err (Memory e)) = Unit {0}
-  BytesAnswer see turn bytes r = IsUtf8 bytes × TextAnswers see turn bytes r
-
   -- A text is answered as one kind of flat value: with its content, or refused by name.
   abbrev pub AnswersKind : {X : Type 0} → (T → T → Bool) → FlatKind T X → List ℕ → Result X ConvertError → Type 0
   AnswersKind eq kind text r = TextAnswers (λ x. x) (only_flat kind eq) text r
 
   -- Bytes are answered so.
   abbrev pub BytesAnswerKind : {X : Type 0} → (T → T → Bool) → FlatKind T X → List ℕ → Result X ConvertError → Type 0
-  BytesAnswerKind eq kind bytes r = BytesAnswer (λ x. x) (only_flat kind eq) bytes r
+  BytesAnswerKind eq kind bytes r = BytesAnswer cause_of (AnswersKind eq kind) bytes r
 
   -- Why a text isn't read.
   abbrev pub IsUnread : List ℕ → ConvertError → Type 0
   IsUnread text (InvalidWKT m) = IsNoText text m.now
   IsUnread text (Memory e) = Unit {0}
   IsUnread text _ = ⊥
-
--- The fact is claimed of each answer that comes after all bytes were read.
-abbrev pub OnAllRead : {R : Type 0} → Result R ConvertError → Type 0 → Type 0
-OnAllRead (Err (Reader e)) P = Unit {0}
-OnAllRead (Err (Memory e)) P = Unit {0}
-OnAllRead _ P = P
-
--- The fact is claimed where the source failed.
-abbrev pub OnReader : {R : Type 0} → Result R ConvertError → Type 0 → Type 0
-OnReader (Err (Reader e)) P = P
-OnReader _ P = Unit {0}
-
--- The fact is claimed unless the source failed.
-abbrev pub UnlessReader : {R : Type 0} → Result R ConvertError → Type 0 → Type 0
-UnlessReader (Err (Reader e)) P = Unit {0}
-UnlessReader _ P = P
 
 -- Why the bytes of a source are no text.
 abbrev pub AreNoText : List ℕ → ConvertError → Type 0

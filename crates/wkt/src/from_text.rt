@@ -5,7 +5,7 @@ ghost use Rattle.std.specs.String.{string_bytes};
 ghost use Rattle.wkt_num.specs.Sink.{next_count};
 ghost use Rattle.wkt_types.specs.Tree.{tree};
 ghost use Rattle.wkt_read.specs.Answered.{IsFront};
-ghost use Rattle.wkt.specs.FromText.{TextAnswers, BytesAnswer, OnAllRead, OnReader, UnlessReader, IsUnread, AreNoText};
+ghost use Rattle.wkt.specs.FromText.{AreNoText, BytesAnswer, Cause, IsUnread, OnAllRead, OnSource, TextAnswers, UnlessFailed, cause_of};
 
 use std::alloc::Global;
 use wkt_bytes::{ByteSource, ReadAllError, read_all};
@@ -27,17 +27,8 @@ pub trait TryFromWkt<T>: Sized {
     /// What a text may be answered with.
     ghost answers: { List ℕ → Result Self Self.Error → Type 0 };
 
-    /// What all bytes of a source may be answered with.
-    ghost bytes_answers: { List ℕ → Result Self Self.Error → Type 0 };
-
-    /// A fact claimed of each answer that comes after all bytes were read.
-    ghost if_all_read: { Result Self Self.Error → Type 0 → Type 0 };
-
-    /// A fact claimed where the source failed.
-    ghost if_failed: { Result Self Self.Error → Type 0 → Type 0 };
-
-    /// A fact claimed unless the source failed.
-    ghost unless_failed: { Result Self Self.Error → Type 0 → Type 0 };
+    /// What an error comes from: the source, memory, bytes that are no text, or the text.
+    ghost cause: { Self.Error → Cause };
 
     /// The value of the geometry at the front of the text. What follows the front isn't looked at.
     ///
@@ -57,10 +48,10 @@ pub trait TryFromWkt<T>: Sized {
         alloc: Global,
         reader: &mut R,
     ) -> Result<Self, Self::Error>
-        ensures answer { IfSome (R.left reader.old) (λ bs. bytes_answers bs result) }
-        ensures end { if_all_read result (IsAtEnd (R.left reader.new)) }
-        ensures failed { if_failed result (R.failures reader.new ≡ next_count (R.failures reader.old)) }
-        ensures count { unless_failed result (R.failures reader.new ≡ R.failures reader.old) };
+        ensures answer { IfSome (R.left reader.old) (λ bs. BytesAnswer cause answers bs result) }
+        ensures end { OnAllRead cause result (IsAtEnd (R.left reader.new)) }
+        ensures failed { OnSource cause result (R.failures reader.new ≡ next_count (R.failures reader.old)) }
+        ensures count { UnlessFailed cause result (R.failures reader.new ≡ R.failures reader.old) };
 }
 
 /// The geometry at the front of the text.
@@ -77,9 +68,9 @@ fn read_text<T: WktNum>(alloc: Global, text: &str) -> Result<Wkt<T>, ConvertErro
 /// The text that the source holds.
 fn text_from<R: ByteSource>(alloc: Global, reader: &mut R) -> Result<String, ConvertError>
     ensures text { IfSome (R.left reader.old) (λ bs. MatchResult result (λ s. string_bytes s ≡ bs) (AreNoText bs)) }
-    ensures end { OnAllRead result (IsAtEnd (R.left reader.new)) }
-    ensures failed { OnReader result (R.failures reader.new ≡ next_count (R.failures reader.old)) }
-    ensures count { UnlessReader result (R.failures reader.new ≡ R.failures reader.old) }
+    ensures end { OnAllRead cause_of result (IsAtEnd (R.left reader.new)) }
+    ensures failed { OnSource cause_of result (R.failures reader.new ≡ next_count (R.failures reader.old)) }
+    ensures count { UnlessFailed cause_of result (R.failures reader.new ≡ R.failures reader.old) }
 {
     match read_all(alloc, reader) {
         Ok(bytes) => match String::from_utf8(bytes) {
@@ -97,13 +88,7 @@ impl<T: WktNum, G: FromAny<T = T>> TryFromWkt<T> for G {
 
     ghost answers = { TextAnswers T.read G.content G.outcome };
 
-    ghost bytes_answers = { BytesAnswer T.read G.content G.outcome };
-
-    ghost if_all_read = { OnAllRead };
-
-    ghost if_failed = { OnReader };
-
-    ghost unless_failed = { UnlessReader };
+    ghost cause = { cause_of };
 
     fn try_from_wkt_str(alloc: Global, text: &str) -> Result<Self, ConvertError> {
         match read_text(alloc, text) {

@@ -147,7 +147,7 @@ pub mod to_wkt {
         ByteSink, ByteSource, Counted, ReadAllError, WriterWrapper, put_all, read_all,
     };
     pub use wkt_convert::{ToWkt, ToWktError};
-    pub use wkt_num::{CountedText, FormatterText, TextSink};
+    pub use wkt_num::{CountedText, FormatterText, StringText, TextSink};
     pub use wkt_write::{
         push_geometry, push_geometry_collection, push_line, push_linestring, push_multi_linestring,
         push_multi_point, push_multi_polygon, push_point, push_polygon, push_rect, push_triangle,

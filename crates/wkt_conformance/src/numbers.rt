@@ -13,6 +13,7 @@ pub(crate) fn answer_of(alloc: Global, number: &str, text: &str) -> Result<Strin
         "Dash" => answered::<Dash>(alloc, text),
         "Long" => answered::<Long>(alloc, text),
         "Decimal<6>" => answered::<Number>(alloc, text),
+        "Decimal<36>" => answered::<Decimal<36>>(alloc, text),
         _ => Ok(String::from_str(alloc, "no such number type")?),
     }
 }

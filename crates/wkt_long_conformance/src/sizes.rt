@@ -199,14 +199,20 @@ fn ample_memory(rt: HostRuntime) -> Result<(), Fail> {
 #[test]
 fn multi_polygons_of_many_rings(rt: HostRuntime) -> Result<(), Fail> {
     let alloc = rt.alloc();
-    for n in [1, 2, 300, 100_000] {
-        let mut text = members(alloc, "MULTIPOLYGON(", "(1 2)", n)?;
-        text.push(')')?;
-        let given = gives(alloc, &text)?;
-        assert!(rt; given == text, "{n} rings");
-        let flat = converted(alloc, &text)?;
-        assert!(rt; flat == text, "{n} rings without z and m");
+    for n in 1..=300 {
+        rings_of(&rt, alloc, n)?;
     }
+    rings_of(&rt, alloc, 100_000)
+}
+
+// A polygon of so many rings gives itself, as a two-dimensional geometry too.
+fn rings_of(rt: &impl Abort, alloc: Global, n: usize) -> Result<(), Fail> {
+    let mut text = members(alloc, "MULTIPOLYGON(", "(1 2)", n)?;
+    text.push(')')?;
+    let given = gives(alloc, &text)?;
+    assert!(rt; given == text, "{n} rings");
+    let flat = converted(alloc, &text)?;
+    assert!(rt; flat == text, "{n} rings without z and m");
     Ok(())
 }
 
@@ -232,14 +238,28 @@ fn has_lexemes(text: &str, count: usize) -> bool {
     tokens.next().is_none() && tokens.next().is_none()
 }
 
-const CLASSES: [(&str, usize); 15] = [
+// Whether a text is one number that has no reading.
+fn is_one_bad_number(text: &str) -> bool {
+    let mut tokens = Tokens::<Decimal<6>>::from_str(text);
+    match tokens.next() {
+        Some(Err(_)) => tokens.next().is_none(),
+        _ => false,
+    }
+}
+
+// Of these, a long run is a number that no type reads.
+const BAD_NUMBERS: [&str; 5] = ["+", "-", ".", "1", "9"];
+
+const CLASSES: [(&str, usize); 17] = [
     (" ", 0),
     ("\n", 0),
     ("\r", 0),
     ("\t", 0),
     ("\0", 0),
     ("0", 1),
+    ("1", 1),
     ("9", 1),
+    ("+", 1),
     ("-", 1),
     (".", 1),
     ("A", 1),
@@ -256,6 +276,10 @@ fn long_runs_of_each_class(rt: HostRuntime) -> Result<(), Fail> {
     for (piece, lexemes) in CLASSES {
         let text = piece.repeat(alloc, 100000)?;
         assert!(rt; has_lexemes(&text, lexemes), "of {piece}");
+    }
+    for piece in BAD_NUMBERS {
+        let text = piece.repeat(alloc, 100000)?;
+        assert!(rt; is_one_bad_number(&text), "a number of {piece}");
     }
     Ok(())
 }
