@@ -1,0 +1,91 @@
+// Where a text is refused, in words.
+import { HINTS, MESSAGES } from './names.js';
+
+// How many characters of a line are shown.
+const WIDTH = 72;
+
+// A text may be long, so no regular expression runs over it: each step here looks for a byte, or counts.
+
+/** The text as its characters: the two halves of a surrogate pair are one. */
+const charactersOf = (text) => Array.from(text);
+
+/** How many characters stand from one place of a text to another. */
+function count(text, from, to) {
+  let n = to - from;
+  for (let i = from; i + 1 < to; i++) {
+    const unit = text.charCodeAt(i);
+    if (unit >= 0xd800 && unit < 0xdc00) {
+      n--;
+      i++;
+    }
+  }
+  return n;
+}
+
+const lineStart = (text, at) => (at === 0 ? 0 : text.lastIndexOf('\n', at - 1) + 1);
+
+function lineNumber(text, at) {
+  let line = 1;
+  for (let i = text.indexOf('\n'); i >= 0 && i < at; i = text.indexOf('\n', i + 1)) line++;
+  return line;
+}
+
+/** What is seen of some characters: a control character would move what follows. */
+const shown = (characters) => characters.map((c) => (c < ' ' && c !== '\t') || c === '\x7f' ? '\ufffd' : c).join('');
+
+/** The line of a text around a place, and a mark below the place. */
+function caretOf(text, start, stop) {
+  const first = lineStart(text, start);
+  const feed = text.indexOf('\n', start);
+  const last = feed < 0 ? text.length : feed;
+  // A character is at most two units, so these hold all that can be shown.
+  let before = charactersOf(text.slice(Math.max(first, start - 2 * WIDTH), start));
+  let after = charactersOf(text.slice(start, Math.min(last, start + 2 * WIDTH)));
+  const marked = charactersOf(text.slice(start, Math.min(last, stop, start + 2 * WIDTH))).length;
+  let dots = '';
+  if (before.length + after.length > WIDTH) {
+    if (before.length > WIDTH / 2) {
+      before = before.slice(-WIDTH / 2);
+      dots = '...';
+    }
+    after = after.slice(0, WIDTH - before.length);
+  }
+  const under = [...dots, ...before].map((c) => (c === '\t' ? '\t' : ' ')).join('');
+  return `${dots}${shown(before)}${shown(after)}\n${under}${'^'.repeat(Math.max(1, Math.min(marked, after.length)))}`;
+}
+
+/** A word that isn't too long for a sentence. */
+export function short(word) {
+  const characters = charactersOf(word);
+  return characters.length < 40 ? word : characters.slice(0, 37).join('') + '...';
+}
+
+/** How many digits a number has behind its point, as far as the last that isn't 0. */
+function placesIn(number) {
+  const point = number.indexOf('.');
+  let end = number.length;
+  while (end > 0 && number[end - 1] === '0') end--;
+  return point < 0 ? 0 : Math.max(0, end - point - 1);
+}
+
+/** The words of a hint about a word of the text. The one with a number says which number has too many places. */
+export function hintWords(hint, word, places) {
+  const words = HINTS[hint] ?? '';
+  return words.includes('%u') ? `${short(word)} has ${placesIn(word)} places, at most ${places} are allowed` : words;
+}
+
+function causeOf(text, { start, stop, line, column, expected, hint }) {
+  const place = line > 1 ? `at line ${line}, column ${column}` : `at ${column}`;
+  if (hint) return `${place}: ${hint}`;
+  const word = charactersOf(text.slice(start, Math.min(stop, start + 400))).slice(0, 200).join('');
+  const said = short(word.split(/\s+/).filter(Boolean).join(' '));
+  return `${place}: ${expected} was expected, ${said ? `and not ${said}` : 'but the text ends'}`;
+}
+
+/** Why a text is refused, and where: units `start` to `stop` of a string. */
+export function explanation(text, status, start, stop, expected, hint = '') {
+  const line = lineNumber(text, start);
+  const column = count(text, lineStart(text, start), start) + 1;
+  const place = { status, message: MESSAGES[status], start, stop, expected, hint, line, column };
+  return { ...place, cause: causeOf(text, place), caret: caretOf(text, start, stop) };
+}
