@@ -77,8 +77,9 @@ export function hintWords(hint, word, places) {
 function causeOf(text, { start, stop, line, column, expected, hint }) {
   const place = line > 1 ? `at line ${line}, column ${column}` : `at ${column}`;
   if (hint) return `${place}: ${hint}`;
-  const word = charactersOf(text.slice(start, Math.min(stop, start + 400))).slice(0, 200).join('');
-  const said = short(word.split(/\s+/).filter(Boolean).join(' '));
+  const there = charactersOf(text.slice(start, Math.min(stop, start + 400))).slice(0, 200);
+  const words = there.map((c) => (c.trim() === '' ? ' ' : c)).join('').split(' ');
+  const said = short(words.filter((word) => word !== '').join(' '));
   return `${place}: ${expected} was expected, ${said ? `and not ${said}` : 'but the text ends'}`;
 }
 
