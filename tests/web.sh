@@ -53,6 +53,12 @@ echo "web: types: no word of tsc $(tsc --version | tr -dc 0-9.) --strict"
 node --test javascript/test/*.test.js > "$dir/said" 2>&1 || { grep -vE '^ *(#|ok|---|\.\.\.|duration_ms)' "$dir/said"; fail "the tests of the package"; }
 echo "web: node $(node --version): $(sed -n 's/^# pass //p' "$dir/said") tests passed; compared with the native library's answers: $native"
 
+# The example of docs/CALLING.md, which takes the module of the clone.
+if [ -e dist/wasm/wkt.wasm ]; then
+    sed -n '/^```js$/,/^```$/{//!p}' docs/CALLING.md > "$dir/calling"
+    [ "$(node --input-type=module -e "$(cat "$dir/calling")" | head -n 1)" = "POINT(1 2.5)" ] || fail "the example of docs/CALLING.md"
+fi
+
 if [ -e web/make.py ] && ! skips page; then
     web/make.py --module "$module" "$dir/index.html" || fail "the page isn't made"
     web/test.py "$dir/index.html" || fail "the page"
