@@ -2,9 +2,9 @@
 # Installs what release.sh and debs.sh have made, each where nothing of it is, and calls each once.
 #
 # test.sh [OUT]: what is in OUT (packaging/out). Parts, all without SKIP=NAME,NAME: source (make install below an empty
-# folder), bytes (the release again, under another umask), wheel (a fresh venv), javascript (an empty folder), faces (the extensions and the crate, of the
-# unpacked release), debs (an empty Debian by debootstrap, as root, with the network), vendor (an empty repository, by
-# rt try). The last line says what was skipped.
+# folder), bytes (the release again, under another umask), wheel (a fresh venv), javascript (an empty folder), faces (the
+# extensions and the crate, of the unpacked release), debs (an empty Debian by debootstrap, as root, with the network), vendor
+# (an empty repository, by rt try). The last line says what was skipped.
 set -u
 unset WKT_C_LIB WKT_LIB_DIR # which would put another library in the place of the release's
 here=$(cd "$(dirname "$0")" && pwd)

@@ -1,8 +1,9 @@
 // Where a text is refused, in words.
 import { HINTS, MESSAGES } from './names.js';
 
-// How many characters of a line are shown.
+// How many characters of a line are shown, and in how many bytes they surely are: a word has 200 at most, of 4 bytes.
 const WIDTH = 72;
+const AROUND = 1000;
 
 // A text may be long, so no regular expression runs over it: each step here looks for a byte, or counts.
 
@@ -22,12 +23,15 @@ function count(text, from, to) {
   return n;
 }
 
-const lineStart = (text, at) => (at === 0 ? 0 : text.lastIndexOf('\n', at - 1) + 1);
-
-function lineNumber(text, at) {
+/** Where the line begins in which a place is, and its number, in a string (a feed is '\n') or in bytes (it is 10). */
+function lineOf(text, at, feed) {
   let line = 1;
-  for (let i = text.indexOf('\n'); i >= 0 && i < at; i = text.indexOf('\n', i + 1)) line++;
-  return line;
+  let first = 0;
+  for (let i = text.indexOf(feed); i >= 0 && i < at; i = text.indexOf(feed, i + 1)) {
+    line++;
+    first = i + 1;
+  }
+  return { line, first };
 }
 
 /** What is seen of some characters: a control character would move what follows. */
@@ -35,7 +39,7 @@ const shown = (characters) => characters.map((c) => (c < ' ' && c !== '\t') || c
 
 /** The line of a text around a place, and a mark below the place. */
 function caretOf(text, start, stop) {
-  const first = lineStart(text, start);
+  const first = start === 0 ? 0 : text.lastIndexOf('\n', start - 1) + 1;
   const feed = text.indexOf('\n', start);
   const last = feed < 0 ? text.length : feed;
   // A character is at most two units, so these hold all that can be shown.
@@ -74,7 +78,7 @@ export function hintWords(hint, word, places) {
   return words.includes('%u') ? `${short(word)} has ${placesIn(word)} places, at most ${places} are allowed` : words;
 }
 
-function causeOf(text, { start, stop, line, column, expected, hint }) {
+function causeOf({ line, column, expected, hint }, text, start, stop) {
   const place = line > 1 ? `at line ${line}, column ${column}` : `at ${column}`;
   if (hint) return `${place}: ${hint}`;
   const there = charactersOf(text.slice(start, Math.min(stop, start + 400))).slice(0, 200);
@@ -83,10 +87,27 @@ function causeOf(text, { start, stop, line, column, expected, hint }) {
   return `${place}: ${expected} was expected, ${said ? `and not ${said}` : 'but the text ends'}`;
 }
 
+/** A place with its words: it is from `start` to before `stop` in `text`, which holds what is around it. */
+const inWords = (place, text, start, stop) => ({ ...place, cause: causeOf(place, text, start, stop), caret: caretOf(text, start, stop) });
+
 /** Why a text is refused, and where: units `start` to `stop` of a string. */
 export function explanation(text, status, start, stop, expected, hint = '') {
-  const line = lineNumber(text, start);
-  const column = count(text, lineStart(text, start), start) + 1;
+  const { line, first } = lineOf(text, start, '\n');
+  const column = count(text, first, start) + 1;
+  return inWords({ status, message: MESSAGES[status], start, stop, expected, hint, line, column }, text, start, stop);
+}
+
+/** The same of bytes of UTF-8. A string can't hold all that bytes can, so only what is around the place is made one. */
+export function explanationOfBytes(bytes, status, start, stop, expected, hint = '') {
+  const decoder = new TextDecoder('utf-8', { ignoreBOM: true });
+  const { line, first } = lineOf(bytes, start, 10);
+  let column = 1;
+  for (let i = first; i < start; i++) if ((bytes[i] & 0xc0) !== 0x80) column++;
+  let [from, to] = [Math.max(first, start - AROUND), Math.min(bytes.length, start + AROUND)];
+  while (from > first && (bytes[from] & 0xc0) === 0x80) from--;
+  while (to < bytes.length && (bytes[to] & 0xc0) === 0x80) to++;
+  const [before, there, after] = [[from, start], [start, Math.min(stop, to)], [Math.min(stop, to), to]]
+    .map((range) => decoder.decode(bytes.subarray(...range)));
   const place = { status, message: MESSAGES[status], start, stop, expected, hint, line, column };
-  return { ...place, cause: causeOf(text, place), caret: caretOf(text, start, stop) };
+  return inWords(place, before + there + after, before.length, before.length + there.length);
 }

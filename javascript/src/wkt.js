@@ -1,7 +1,7 @@
 // What the module answers.
 import { Engine, LoneSurrogate } from './engine.js';
 import { WktError } from './errors.js';
-import { explanation, hintWords } from './explanation.js';
+import { explanation, explanationOfBytes, hintWords } from './explanation.js';
 import { DIMENSIONS, EXPECTED, HEADER_MESSAGES, KINDS, STATUS } from './names.js';
 import { Arrays, equal, offsets, textOfArrays } from './arrays.js';
 import { geoJSONOf } from './geojson.js';
@@ -249,14 +249,11 @@ export class Wkt {
     return this.#explanation(text, at, length, [message, start, stop, expected, words]);
   }
 
-  #explanation(text, at, length, [status, start, stop, expected, hint]) {
+  #explanation(text, at, length, [status, start, stop, ...words]) {
     const engine = this.#engine;
-    const isString = typeof text === 'string';
-    const ascii = isString && length === text.length;
-    const [first, last] = ascii ? [start, stop] : [engine.units(at, start), engine.units(at, stop)];
-    // Of bytes the lines and columns are those of the text, and the place is in the bytes.
-    const why = explanation(isString ? text : engine.utf8(at, length), status, first, last, expected, hint);
-    return isString ? why : { ...why, start, stop };
+    if (typeof text !== 'string') return explanationOfBytes(engine.bytes.subarray(at, at + length), status, start, stop, ...words);
+    const [first, last] = length === text.length ? [start, stop] : [engine.units(at, start), engine.units(at, stop)];
+    return explanation(text, status, first, last, ...words);
   }
 
   /** A place in the bytes of a text as one in the text. */

@@ -3,7 +3,7 @@ import test from 'node:test';
 import assert from 'node:assert/strict';
 import { readFileSync } from 'node:fs';
 import { STATUS, WktError } from '../src/index.js';
-import { wkt } from './support.js';
+import { bytes, wkt } from './support.js';
 
 const file = process.env.WKT_NATIVE;
 const skip = !file && 'WKT_NATIVE names no file';
@@ -44,6 +44,11 @@ compare('explain', (row) => row.explain, ({ text, explain }, asked) => {
   const shown = `${why.caret} ${why.expected} was expected${why.hint ? ` (${why.hint})` : ''}`;
   return [why.status, why.message, why.start, why.stop, why.line, why.column, why.expected, why.hint, explain[8] && why.cause, explain[9] && shown];
 });
+
+/** An explanation whose places count bytes, as one of the string. */
+const counted = (why, text) => why && { ...why, start: bytes(text.slice(0, why.start)).length, stop: bytes(text.slice(0, why.stop)).length };
+const asked = ({ places, whole }) => ({ places, whole });
+compare('explain of bytes', (row) => counted(wkt.explain(row.text, asked(row)), row.text), ({ text }, options) => wkt.explain(bytes(text), options));
 
 compare('arrays', (row) => row.arrays, ({ text }, asked) => answer(() => {
   const { kind, dimension, numbers, rings, polygons } = wkt.arrays(text, asked);
