@@ -60,7 +60,8 @@ function caretOf(text, start, stop) {
 
 /** A word that isn't too long for a sentence. */
 export function short(word) {
-  const characters = charactersOf(word);
+  // Two units may be one character.
+  const characters = charactersOf(word.slice(0, 80));
   return characters.length < 40 ? word : characters.slice(0, 37).join('') + '...';
 }
 

@@ -7,8 +7,8 @@ export class NumberText {
   }
 }
 
-const SPACE = ' \t\n\r';
-const DIGITS = '0123456789';
+const isSpace = (unit) => unit === 32 || unit === 10 || unit === 13 || unit === 9;
+const isDigit = (unit) => unit >= 48 && unit <= 57; // of no unit, NaN, it isn't
 const LITERALS = { t: ['true', true], f: ['false', false], n: ['null', null] };
 
 class Reader {
@@ -25,7 +25,7 @@ class Reader {
 
   /** The next byte that is no white space, which is not taken. */
   peek() {
-    while (this.at < this.text.length && SPACE.includes(this.text[this.at])) this.at++;
+    while (isSpace(this.text.charCodeAt(this.at))) this.at++;
     return this.text[this.at];
   }
 
@@ -53,7 +53,7 @@ class Reader {
 
   digits() {
     const from = this.at;
-    while (this.at < this.text.length && DIGITS.includes(this.text[this.at])) this.at++;
+    while (isDigit(this.text.charCodeAt(this.at))) this.at++;
     if (this.at === from) throw this.wrong();
   }
 

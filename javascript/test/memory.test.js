@@ -3,7 +3,7 @@ import test from 'node:test';
 import assert from 'node:assert/strict';
 import { STATUS, WktError, load } from '../src/index.js';
 import { Engine } from '../src/engine.js';
-import { moduleBytes, thrown, wkt } from './support.js';
+import { bytes, moduleBytes, thrown, wkt } from './support.js';
 
 test('the module imports nothing', async () => {
   const module = await WebAssembly.compile(moduleBytes());
@@ -34,6 +34,25 @@ test('texts of 100 MB, and memory is given back', () => {
   wkt.release();
   assert.ok(wkt.memory <= before);
   assert.equal(wkt.canonical('POINT(1 2)'), 'POINT(1 2)');
+});
+
+test('long texts of each shape, in time that grows as they do', { timeout: 120000 }, () => {
+  const n = 4e6;
+  const refused = [`POINT(${'9'.repeat(n)} 1)`, `POINT(0.${'1'.repeat(n)} 1)`, 'x'.repeat(n), ' '.repeat(n), '\n'.repeat(n), '𝄞'.repeat(n), `POINT(1 2)${' '.repeat(n)}x`,
+    `POINT(1 2)${' x'.repeat(n)}`, `POINT(1 2)${'\n\tx'.repeat(n)}`, '('.repeat(n), ','.repeat(n), `LINESTRING(${'1 1 '.repeat(n)}`, '0'.repeat(n), `SRID=${'1'.repeat(n)}`];
+  for (const text of refused) {
+    const why = wkt.explain(text);
+    assert.ok(why.cause.length < 200 && why.caret.length < 300);
+    assert.deepEqual(wkt.explain(bytes(text)).cause, why.cause);
+    assert.equal(wkt.lines(text).split('\n')[0], text.startsWith('POINT(1 2)') ? 'POINT(1 2)' : 'refused');
+    if (!text.includes('x')) assert.throws(() => wkt.fromGeoJSON(text), text === '0'.repeat(n) ? SyntaxError : Error);
+  }
+  const points = `MULTIPOINT M(${'(1 2 3),'.repeat(n / 8)}(1 2 3))`;
+  const list = `[${'[1,2],'.repeat(n / 8)}[1,2]]`;
+  assert.ok(wkt.toGeoJSON(points, { m: 'drop' }) === `{"type":"MultiPoint","coordinates":${list}}`);
+  assert.ok(wkt.fromGeoJSON(`{"coordinates":${list},"type":"MultiPoint"}`) === points.replaceAll(' 3', '').replace(' M', ''));
+  assert.ok(wkt.fromGeoJSON(`{"type":"Point","coordinates":[1,2],"${'a'.repeat(n)}":"${'\\n'.repeat(n)}"}`) === 'POINT(1 2)');
+  wkt.release();
 });
 
 test('a text for which there is no memory', () => {
