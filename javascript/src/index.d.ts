@@ -179,8 +179,9 @@ export interface Wkt {
 
 type Source = WebAssembly.Module | BufferSource | Response | URL | string;
 /**
- * Loads the module. Without a source it is wkt.wasm beside the package: read from its file in Node, fetched and compiled
- * as it streams in a browser. It is compiled once; each call gives an instance with a memory of its own.
+ * Loads the module. Without a source it is the package's wkt.wasm: read from its file in Node, fetched and compiled as it
+ * comes in a browser; it is compiled once. A string is an address, or in Node a path. Each call gives an instance with a
+ * memory of its own.
  */
 export declare function load(source?: Source | PromiseLike<Source>): Promise<Wkt>;
 

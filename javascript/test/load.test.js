@@ -4,7 +4,7 @@ import assert from 'node:assert/strict';
 import { createServer } from 'node:http';
 import { mkdtempSync, rmSync, writeFileSync } from 'node:fs';
 import { tmpdir } from 'node:os';
-import { join } from 'node:path';
+import { join, relative } from 'node:path';
 import { pathToFileURL } from 'node:url';
 import { load } from '../src/index.js';
 import { moduleBytes } from './support.js';
@@ -27,6 +27,8 @@ test('a file', async () => {
     writeFileSync(file, moduleBytes());
     works(await load(pathToFileURL(file)));
     works(await load(pathToFileURL(file).href));
+    works(await load(file));
+    works(await load(relative('.', file)));
     await assert.rejects(load(pathToFileURL(join(folder, 'none.wasm'))), { code: 'ENOENT' });
   } finally {
     rmSync(folder, { recursive: true });
@@ -55,4 +57,5 @@ test('a server, whatever type it says', async () => {
 test('what is no module', async () => {
   await assert.rejects(load(new Uint8Array(8)), WebAssembly.CompileError);
   await assert.rejects(load('http://127.0.0.1:1/wkt.wasm'));
+  for (const source of [7, null, {}, []]) await assert.rejects(load(source), TypeError);
 });
