@@ -22,21 +22,18 @@ const CALLS = ['point ( 1   2.50 )', 'POINT(-117.123456 33.654321)', 'POLYGON((0
  */
 export function measure(wkt, workloads, other = null, seconds = 2) {
   const rates = {};
+  const rate = (bytes, run) => Math.round(bytes / 100 / least(run, seconds)) / 10;
   for (const [name, text] of Object.entries(workloads)) {
     const data = new TextEncoder().encode(text);
     const lines = text.split('\n').filter(Boolean);
-    const rate = (run) => Math.round(data.length / 100 / least(run, seconds)) / 10;
-    const each = (call) => rate(() => {
-      for (const line of lines) call(line);
+    const each = (call, some = lines) => rate(some.reduce((n, line) => n + line.length + 1, 0), () => {
+      for (const line of some) call(line);
     });
-    const flat = lines.filter((line) => !line.startsWith('GEOMETRYCOLLECTION'));
     rates[name] = {
-      lines: rate(() => wkt.lines(data)),
+      lines: rate(data.length, () => wkt.lines(data)),
       canonical: each((line) => wkt.canonical(line)),
       GeoJSON: each((line) => wkt.toGeoJSONObject(line)),
-      arrays: Math.round(rate(() => {
-        for (const line of flat) wkt.arrays(line, { places: 15 });
-      }) * flat.join('\n').length / data.length * 10) / 10,
+      arrays: each((line) => wkt.arrays(line, { places: 15 }), lines.filter((line) => !line.startsWith('GEOMETRYCOLLECTION'))),
       ...(other && { other: each(other) }),
     };
   }
