@@ -181,8 +181,8 @@ export class Wkt {
     try {
       return this.canonical(text, { places });
     } catch (error) {
-      // A number is refused. Its place is one in a text that the caller doesn't know.
-      if (error instanceof WktError && error.place) throw new WktError(error.status, null, error.hint || error.words);
+      // Only a number can be refused. Its place is one in a text that the caller doesn't know.
+      if (error instanceof WktError && error.place) throw new WktError(STATUS.BAD_NUMBER, null, error.hint || error.words);
       throw error;
     }
   }

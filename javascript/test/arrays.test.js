@@ -23,9 +23,10 @@ test('coordinates are the nearest doubles', () => {
   const of = (text, places) => [...wkt.arrays(text, { places }).coordinates];
   assert.deepEqual(of('POINT(0.1 -123456789.123456789)', 9), [0.1, -123456789.123456789]);
   assert.deepEqual(of('POINT(9.223372036854775807 -9.223372036854775808)', 18), [9.223372036854775807, -9.223372036854775808]);
-  // Quotients of doubles would be 1.0000000000000002 and 0.30000000000000004.
-  assert.deepEqual(of('POINT(1.000000000000000112 0.3000000000000000167)', 18).slice(0, 1), [1.000000000000000112]);
-  assert.equal(of('POINT(0.300000000000000017 0)', 18)[0], 0.300000000000000017);
+  // Numbers that no double holds: the quotients of doubles would be rounded twice.
+  for (const number of ['0.300000000000000017', '1.000000000000000112', '-0.123456789012345678', '8.999999999999999999']) {
+    assert.equal(of(`POINT(${number} 0)`, 18)[0], Number(number));
+  }
 });
 
 test('decimals', () => {

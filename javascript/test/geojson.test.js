@@ -34,7 +34,7 @@ test('each form, to text and back', () => {
     assert.deepEqual(wkt.toGeoJSONObject(text), JSON.parse(json));
   }
   assert.equal(wkt.toGeoJSON('POINT(1 2) x', { whole: false }), '{"type":"Point","coordinates":[1,2]}');
-  assert.equal(thrown(() => wkt.toGeoJSON('POINT(0.5 2)', { places: 0 })).status, 13);
+  assert.equal(thrown(() => wkt.toGeoJSON('POINT(0.5 2)', { places: 0 })).hint, '0.5 has 1 places, at most 0 are allowed');
 });
 
 test('what has no form', () => {
@@ -63,7 +63,8 @@ test('what is kept of the keys, through GeoJSON', () => {
     JSON.parse(json);
     const back = wkt.fromGeoJSON(json);
     assert.equal(wkt.toGeoJSON(back), json);
-    if (!/ Z (EMPTY|.*EMPTY)/.test(key) && !key.startsWith('GEOMETRYCOLLECTION')) {
+    // Z of what is empty, or of a collection alone, isn't in GeoJSON.
+    if (/\d/.test(key) && !key.startsWith('GEOMETRYCOLLECTION')) {
       assert.equal(back, key);
       through++;
     }
@@ -89,7 +90,7 @@ test('numbers of GeoJSON, exactly as they are written', () => {
 
 test('GeoJSON as an object', () => {
   assert.equal(wkt.fromGeoJSON({ type: 'Point', coordinates: [1e-7, -0], bbox: [0, 0, 1, 1] }), 'POINT(0.0000001 0)');
-  assert.equal(wkt.fromGeoJSON({ type: 'LineString', coordinates: [[12345678901234567890n, 1e21], [0.1, 2]] }), 'LINESTRING(12345678901234567890 1000000000000000000000,0.1 2)');
+  assert.equal(wkt.fromGeoJSON({ type: 'LineString', coordinates: [[12345678901234567890n, 1e21], [0.1, 2]] }, { places: 6 }), 'LINESTRING(12345678901234567890 1000000000000000000000,0.1 2)');
   for (const x of [NaN, Infinity, '1', null, undefined, [1]]) assert.throws(() => wkt.fromGeoJSON({ type: 'Point', coordinates: [x, 2] }), GeoJSONError);
   const itself = { type: 'GeometryCollection', geometries: [] };
   const twice = { type: 'GeometryCollection', geometries: [itself, itself] };

@@ -73,7 +73,7 @@ test('places count units of a string and bytes of bytes; columns count character
   assert.equal(why.caret, '  POINT(𝄞 é))\n        ^');
   assert.equal(text.slice(why.start, why.stop), '𝄞');
   const behind = wkt.explain('POINT(1 2) é𝄞 é𝄞');
-  assert.deepEqual([behind.start, behind.stop, behind.column], [11, 17, 12]);
+  assert.deepEqual([behind.start, behind.stop, behind.column], [11, 18, 12]);
   const raw = wkt.explain(bytes('POINT(1 2) é𝄞 é'));
   assert.deepEqual([raw.start, raw.stop, raw.column, raw.caret], [11, 20, 12, 'POINT(1 2) é𝄞 é\n           ^^^^']);
 });
