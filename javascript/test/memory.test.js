@@ -55,13 +55,13 @@ test('long texts of each shape, in time that grows as they do', { timeout: 12000
   wkt.release();
 });
 
-test('a text for which there is no memory', () => {
-  const text = new Uint8Array(1.5e9);
-  const error = thrown(() => wkt.canonical(text));
+test('a text for which there is no memory', async () => {
+  const engine = new Engine(await WebAssembly.compile(moduleBytes()));
+  const error = thrown(() => engine.lay(2 ** 32));
   assert.ok(error instanceof WktError);
   assert.equal(error.status, STATUS.NO_MEMORY);
-  wkt.release();
-  assert.equal(wkt.canonical('POINT(1 2)'), 'POINT(1 2)');
+  const at = engine.put('POINT(1 2)');
+  assert.equal(engine.canonical(at, engine.length, 18), STATUS.OK);
 });
 
 test('instances have memories of their own', async () => {

@@ -29,7 +29,7 @@ function compare(name, wanted, got) {
 test('there are some of each', { skip }, () => {
   assert.ok(made.length >= 40000);
   assert.ok(made.filter((row) => typeof row.canonical === 'string').length > 5000);
-  assert.ok(made.filter((row) => Array.isArray(row.arrays)).length > 3000);
+  assert.ok(made.filter((row) => Array.isArray(row.arrays)).length > 2500);
   assert.ok(new Set(made.map((row) => row.explain?.[7])).size > 20, 'hints');
 });
 
