@@ -60,7 +60,7 @@ types --module es2022 --moduleResolution node
 echo "web: types: no word of tsc $(tsc --version | tr -dc 0-9.) --strict"
 
 wait $writing || fail "native.py"
-node --test javascript/test/*.test.js > "$dir/said" 2>&1 || { grep -vE '^ *(# Subtest|ok|duration_ms)' "$dir/said"; fail "the tests of the package"; }
+node --test javascript/test/*.test.js > "$dir/said" 2>&1 || { grep -E -A 24 '^ *not ok' "$dir/said"; fail "the tests of the package"; }
 grep -q '^# skipped 0$' "$dir/said" || { grep SKIP "$dir/said"; fail "a test was skipped"; }
 echo "web: node $(node --version): $(sed -n 's/^# pass //p' "$dir/said") tests of the package passed"
 # The example of docs/CALLING.md, which takes the module of the clone.
@@ -72,4 +72,5 @@ fi
 if [ -e web/make.py ] && ! skips page; then
     node --test web/ > "$dir/said" 2>&1 || { cat "$dir/said"; fail "the parts of the page"; }
     web/make.py --module "$module" "$dir/index.html" && web/test.py "$dir/index.html" || fail "the page"
+    if [ -e dist/web/index.html ] && cmp -s "$module" dist/wasm/wkt.wasm; then web/make.py --check || fail "the page in dist/web"; fi
 fi
