@@ -2,7 +2,6 @@
 """The figures of Chromium: chromium.py MODULE FILE.., with those of OpenLayers (Debian's libjs-openlayers) where it is."""
 import functools
 import http.server
-import json
 import os
 import shutil
 import sys
@@ -14,17 +13,37 @@ from selenium import webdriver
 HERE = os.path.dirname(os.path.abspath(__file__))
 OPENLAYERS = "/usr/share/javascript/openlayers/OpenLayers.js"
 PAGE = "<!doctype html><title>bench</title><script src=OpenLayers.js></script>"
+TIMES = 15
 SCRIPT = """
 const [names, done] = arguments;
 (async () => {
   const { load } = await import('/src/index.js');
-  const { measure } = await import('/bench/measure.js');
+  const { figure, runsOf } = await import('/bench/measure.js');
   const workloads = {};
   for (const name of names) workloads[name] = await (await fetch(`/data/${name}`)).text();
   const reader = typeof OpenLayers === 'object' ? new OpenLayers.Format.WKT() : null;
-  return measure(await load(), workloads, reader && ((text) => reader.read(text)));
+  window.runs = runsOf(await load(), workloads, reader && ((text) => reader.read(text)));
+  window.figure = figure;
+  return runs.length;
 })().then(done, (error) => done(String(error.stack)));
 """
+
+
+def thread_time(driver):
+    """The processor time of the page's thread, in seconds."""
+    metrics = driver.execute_cdp_cmd("Performance.getMetrics", {})["metrics"]
+    return next(it["value"] for it in metrics if it["name"] == "ThreadTime")
+
+
+def figures(driver, count):
+    driver.execute_cdp_cmd("Performance.enable", {})
+    for i in range(count):
+        least = float("inf")
+        for _ in range(TIMES):
+            before = thread_time(driver)
+            driver.execute_script(f"runs[{i}].run()")
+            least = min(least, thread_time(driver) - before)
+        print(driver.execute_script(f"return figure(runs[{i}], {least})"), flush=True)
 
 
 class Quiet(http.server.SimpleHTTPRequestHandler):
@@ -54,8 +73,10 @@ def main():
         try:
             driver.set_script_timeout(600)
             driver.get(f"http://127.0.0.1:{server.server_port}/index.html")
-            said = driver.execute_async_script(SCRIPT, [os.path.basename(file) for file in files])
-            print(json.dumps(said) if isinstance(said, dict) else said)
+            count = driver.execute_async_script(SCRIPT, [os.path.basename(file) for file in files])
+            if not isinstance(count, int):
+                sys.exit(count)
+            figures(driver, count)
         finally:
             driver.quit()
             server.shutdown()

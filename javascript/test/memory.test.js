@@ -55,6 +55,16 @@ test('long texts of each shape, in time that grows as they do', { timeout: 12000
   wkt.release();
 });
 
+test('characters of two and three bytes, in the least memory', () => {
+  for (const character of ['é', '€', '𝄞']) {
+    wkt.release();
+    const text = `POINT(1 2) ${character.repeat(3e6)}`;
+    const why = wkt.explain(text);
+    assert.deepEqual([why.start, why.stop], [11, text.length]);
+  }
+  wkt.release();
+});
+
 test('a text for which there is no memory', async () => {
   const engine = new Engine(await WebAssembly.compile(moduleBytes()));
   const error = thrown(() => engine.lay(2 ** 32));
