@@ -7,7 +7,6 @@ use Rattle.wkt_read.proofs.TokenizerLemmas.Afters.{goes-moves}
 use Rattle.wkt_read.proofs.tokenizer.peekable.PeekableTokens.take_comma.Goals as goal
 
 pub returns-then-take_comma_ahead-clause-goes_on : goal.returns-then-take_comma_ahead-clause-goes_on
-unfolding left taken_of end_of bytes_taken
 returns-then-take_comma_ahead-clause-goes_on g c =
     let s = c.if-take_comma_ahead.ensures in
     let e = c.end-self.ensures in

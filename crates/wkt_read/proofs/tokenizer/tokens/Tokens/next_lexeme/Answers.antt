@@ -10,7 +10,6 @@ use Rattle.wkt_read.proofs.tokenizer.tokens.Tokens.next_lexeme.Goals as goal
 use Rattle.wkt_read.proofs.tokenizer.tokens.Tokens.next_lexeme.Goals.{in-Open, in-Close, in-Comma}
 
 pub returns-in-Run : goal.returns-in-Run
-unfolding coming bytes_taken end_of_last
 returns-in-Run g c =
     let r = c.end_of_run-end.ensures in
     let lexeme : found c.lexeme_of.result ≡ Some (lexeme_of (slice_range c.end_of_run-end.result.0.text.now (c.taken-from.result - 1) c.end_of_run-end.result.1)) = c.lexeme_of.ensures ∙ ap (λ l. Some (lexeme_of l)) c.part.ensures in
@@ -26,11 +25,9 @@ returns-in-Run g c =
     )
 
 pub returns-in-Nul : goal.returns-in-Nul
-unfolding coming bytes_taken end_of_last
 returns-in-Nul g c = let f = c.first_class.ensures in (found-nul _ _ _ _ c.in-Nul.is f.stops f.found, refl, refl, f.grows)
 
 pub returns : goal.returns
-unfolding coming bytes_taken end_of_last
 returns g c =
     let f = c.first_class.ensures in
     let e = c.taken-self.ensures in
