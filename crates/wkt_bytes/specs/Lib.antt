@@ -5,3 +5,4 @@ pub mod Views
 pub mod Wrapper
 pub mod ReadAll
 pub mod Gathered
+pub mod Growing
