@@ -8,7 +8,7 @@ use Rattle.wkt_num.specs.Counted.{writer_of}
 use Rattle.wkt_bytes.specs.Sinks.{SinkOfBytes}
 use Rattle.wkt_bytes.specs.Wrapped.{Wrapped}
 use Rattle.wkt_bytes.specs.Wrapper.{held_bytes, Gathers, BreaksOff}
-use Rattle.wkt_bytes.specs.Growing.{Grows, StringGrows, GatheredGrows, WrapperGrows, AddsPieces, CountedGrows, gathered_whole}
+use Rattle.wkt_bytes.specs.Growing.{Grows, StringGrows, GatheredGrows, WrapperGrows, AddsPieces, CountedGrows}
 use Rattle.wkt_bytes.specs.Gathered.{gathered_text}
 
 pub string : StringGrows

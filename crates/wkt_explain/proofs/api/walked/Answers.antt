@@ -1,6 +1,7 @@
 use Rattle.std.proofs.Common.{[], ◌∷◌, sym, ap, ◌∙◌, subst}
 use Rattle.wkt_read.specs.Placed.{lexemes_of}
 use Rattle.wkt_read.specs.Stream.{coming}
+use Rattle.wkt_read.proofs.LawLemmas.OnePlacing.{placed-only}
 use Rattle.wkt_explain.specs.Explained.{EndsFront, IsRefusedAt}
 use Rattle.wkt_explain.specs.Table.{reported, IsReportedAt}
 use Rattle.wkt_explain.proofs.Counts.{own_parens}
@@ -10,7 +11,7 @@ use Rattle.wkt_explain.proofs.Streams.{sees_some, sees_none}
 use Rattle.wkt_explain.proofs.api.walked.Goals as goal
 
 pub lexemes-init : goal.lexemes-init
-lexemes-init g c = at_start g.T.WktNum.read c.args.text.now _ _ _ c.from_str-tokens.ensures.placed c.from_str-tokens.ensures.start c.start-walk.ensures
+lexemes-init g c = at_start g.T.WktNum.read c.args.text.now _ _ _ (placed-only _ _ c.from_str-tokens.ensures.split c.from_str-tokens.ensures.ends) c.from_str-tokens.ensures.start c.start-walk.ensures
 
 pub returns-in_default-clause-no_front : goal.returns-in_default-clause-no_front
 returns-in_default-clause-no_front g c = none_at_end g.T.WktNum.read c.args.text.now _ _ _ c.lexemes.invariant (sees_none g.T.WktNum.read _ _ c.in_default.ensures) (sym c.is_over.ensures ∙ c.lexemes-test.true)

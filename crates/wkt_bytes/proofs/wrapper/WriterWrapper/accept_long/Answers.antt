@@ -1,5 +1,5 @@
 -- What was taken so far is out or in the array, also where the array is put out, or that fails.
-use Rattle.std.proofs.Common.{◌+◌, ◌∙◌, ap, drop, arith}
+use Rattle.std.proofs.Common.{◌+◌, ◌∙◌, drop, arith}
 use Rattle.std.proofs.lemmas.List.{append-nil}
 use Rattle.wkt_bytes.specs.Wrapper.{gives_more, leaves_after, leaves_longer}
 use Rattle.wkt_bytes.proofs.Gathering.{kept_gives}
