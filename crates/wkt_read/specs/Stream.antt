@@ -1,5 +1,5 @@
 -- What a stream of lexemes has still to give.
-use Rattle.std.specs.Prelude.{◌≡◌, ℕ, List, length, Option, Result}
+use Rattle.std.specs.Prelude.{ℕ, List, length, Option, Result}
 use Rattle.std.specs.Borrow.{Bor}
 use Rattle.std.specs.Iterator.{Count, at_most}
 use Rattle.wkt_num.specs.Bytes.{Lexeme}

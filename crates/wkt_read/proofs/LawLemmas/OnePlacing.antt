@@ -1,7 +1,6 @@
 -- A text's lexemes and their ends are one list.
-use Rattle.std.proofs.Common.{◌≡◌, ℕ, ◌+◌, List, [], ◌∷◌, ◌++◌, length, refl, sym, ap, ◌∙◌, subst, arith, append_assoc}
-use Rattle.wkt_num.specs.Bytes.{Lexeme}
-use Rattle.wkt_read.specs.Lexemes.{Takes, IsSplit}
+use Rattle.std.proofs.Common.{◌≡◌, ℕ, List, [], ◌∷◌, ◌++◌, length, refl, sym, ap, ◌∙◌, subst, arith, append_assoc}
+use Rattle.wkt_read.specs.Lexemes.{IsSplit}
 use Rattle.wkt_read.specs.Placed.{Placed, lexemes_of, end_after, AreEnds, placed}
 use Rattle.wkt_read.proofs.LawLemmas.Splits.{split_one, takes_rest}
 use Rattle.wkt_read.proofs.TokenizerLemmas.Placings.{placed-split, placed-ends}

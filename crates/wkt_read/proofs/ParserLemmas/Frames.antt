@@ -1,5 +1,5 @@
 -- Open collections, and what is read inside them.
-use Rattle.std.proofs.Common.{◌≡◌, ℕ, zero, suc, ◌≤◌, ◌<◌, List, [], ◌∷◌, ◌++◌, length, sym, refl, ap, ◌∙◌, subst, arith, Result, Ok, Err, true}
+use Rattle.std.proofs.Common.{◌≡◌, ℕ, zero, suc, ◌≤◌, ◌<◌, List, [], ◌∷◌, ◌++◌, length, sym, refl, ap, ◌∙◌, subst, arith, Result, Ok, Err, true, OnOk, ◌+◌, ◌*◌}
 use Rattle.std.specs.Prelude.{map, Option, Vec}
 use Rattle.std.specs.Result.{IsErr, IsErrAnd}
 use Rattle.wkt_num.specs.Bytes.{Lexeme, Comma}
@@ -49,6 +49,12 @@ pub weight-most : {T : Type 0} (r : Result (Start T) ReadError) → weight r ≤
 weight-most (Ok (Whole w)) = omega arith
 weight-most (Ok (Opened d)) = omega arith
 weight-most (Err e) = omega arith
+
+-- what begins takes a lexeme, or is an error
+pub start-lighter : {T : Type 0} (r : Result (Start T) ReadError) (m n : ℕ) → OnOk r (m < n) → m ≤ n → 2 * m + weight r ≤ 2 * n
+start-lighter (Ok (Whole w)) m n h le = omega (arith, h)
+start-lighter (Ok (Opened d)) m n h le = omega (arith, h)
+start-lighter (Err e) m n h le = omega (arith, le)
 
 pub wants : {T : Type 0} (r : Result (Start T) ReadError) (P : Type 0) → P → Wants r P
 wants (Ok (Whole w)) P p = tt

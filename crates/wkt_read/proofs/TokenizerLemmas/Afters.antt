@@ -16,7 +16,7 @@ takes-fewer : (o : Option Lexeme) (old new : List Lexeme) → TakesNext o old ne
 takes-fewer None old new h = omega (arith, ap length h.0, ap length h.1)
 takes-fewer (Some l) old new h = omega (arith, ap length h)
 
-module _ {T : Type 0} where
+module _ where
   keeps-moves : (s : Standing) (o : Option Lexeme) (t : Standing) → Moves s o t → (start : List Placed) → IsAfter start s → IsAfter start t
   keeps-moves s None t h start b = record { given = b.given; split = b.split ∙ ap (λ l. b.given ++ l) (h.0 ∙ sym h.1); last = subst (IfLast b.given) (sym h.2) b.last }
   keeps-moves s (Some l) t h start b =

@@ -1,7 +1,6 @@
 -- How the fields of the streams of lexemes are seen. Only their models cite this file.
-use Rattle.std.specs.Prelude.{◌≡◌, ◌≢◌, ℕ, ◌+◌, ◌≤◌, ◌∷◌, [], List, Option, Some, None}
+use Rattle.std.specs.Prelude.{◌≢◌}
 use Rattle.std.specs.Str.{IsCharBoundary}
-use Rattle.wkt_read.specs.Placed.{Placed}
 use Rattle.wkt_read.specs.Standing.{Standing}
 use Rattle.wkt_read.specs.Tokenizer.Cursors.{taken_in}
 use Rattle.wkt_read.specs.Tokenizer.Scan.{meant, coming_at}

@@ -1,7 +1,5 @@
 -- The lexemes of the text are all to come, each with its end.
-use Rattle.std.proofs.Common.{◌≡◌, refl, sym, ap, ◌∙◌, subst, ◌≤◌, length}
-use Rattle.wkt_read.specs.Lexemes.{IsSplit}
-use Rattle.wkt_read.specs.Placed.{lexemes_of, AreEnds, placed, placed_from}
+use Rattle.std.proofs.Common.{refl}
 use Rattle.wkt_read.proofs.LawLemmas.Few.{placed-few}
 use Rattle.wkt_read.proofs.TokenizerLemmas.Placings.{placed-split, placed-ends}
 use Rattle.wkt_read.proofs.tokenizer.tokens.Tokens.from_str.Goals as goal

@@ -3,7 +3,6 @@ use Rattle.std.proofs.Common.{◌≡◌, ◌-◌, ◌<◌, ap, ◌∙◌, arith,
 use Rattle.wkt_read.specs.Lexemes.{lexeme_of}
 use Rattle.wkt_read.specs.Placed.{placed_from}
 use Rattle.wkt_read.specs.Tokenizer.Cursors.{taken_in}
-use Rattle.wkt_read.specs.Stream.{coming, bytes_taken, end_of_last}
 use Rattle.wkt_read.specs.Tokenizer.Unread.{found}
 use Rattle.wkt_read.proofs.TokenizerLemmas.Steps.{gives-run, gives-open, gives-close, gives-comma, found-nul}
 use Rattle.wkt_read.proofs.tokenizer.tokens.Tokens.next_lexeme.Goals as goal
@@ -17,7 +16,7 @@ returns-in-Run g c =
     let e : f.0 ≡ c.taken-from.result - 1 = omega (arith, f.1, c.taken-from.ensures) in
     let from : c.move_out.result ≡ c.first_class.new.bytes = c.move_out.ensures.moved in
     let order : c.taken-from.result - 1 < c.end_of_run-end.result.1 = omega (arith, f.1, c.taken-from.ensures, r.on, ap taken_in from) in
-    rw lexeme (
+    rw (← c.self.view_is, lexeme) (
       gives-run _ _ _ _ _ _ _ _ (f.2 ∙ ap (λ n. placed_from n (drop n c.first_class.new.bytes.text.now)) e) (ap (λ t. t.now) (r.text ∙ ap (λ b. b.text) from)) order r.ends refl,
       r.ends.taken,
       r.ends.near,
@@ -25,14 +24,14 @@ returns-in-Run g c =
     )
 
 pub returns-in-Nul : goal.returns-in-Nul
-returns-in-Nul g c = let f = c.first_class.ensures in (found-nul _ _ _ _ c.in-Nul.is f.stops f.found, refl, refl, f.grows)
+returns-in-Nul g c = rw (← c.self.view_is) (let f = c.first_class.ensures in (found-nul _ _ _ _ c.in-Nul.is f.stops f.found, refl, refl, f.grows))
 
 pub returns : goal.returns
 returns g c =
     let f = c.first_class.ensures in
-    let e = c.taken-self.ensures in
-    elim c.match-first_class.branch [
+    let e = c.taken-self-inside.ensures in
+    rw (← c.self.view_is) (elim c.match-first_class.branch [
       | in-Open w ↦ rw w.mark-is (gives-open _ _ _ _ _ w.in-Open.is e f.found, omega arith, omega arith, f.grows)
       | in-Close w ↦ rw w.mark-is (gives-close _ _ _ _ _ w.in-Close.is e f.found, omega arith, omega arith, f.grows)
       | in-Comma w ↦ rw w.mark-is (gives-comma _ _ _ _ _ w.in-Comma.is e f.found, omega arith, omega arith, f.grows)
-    ]
+    ])
