@@ -56,10 +56,13 @@ module _ {W : Type 0} (gives : W → List ℕ → W → Type 0) (text : W → Li
   pub counted : CountedGrows gives text
   counted = record {
     ok = λ s t bs h. calls h.gave.parts (writer_of s).now (writer_of t).now h.gave.calls ∙ ap (λ xs. text (writer_of s).now ++ xs) h.gave.whole;
-    err = λ s t bs h. (h.middle, record {
-      part = h.part;
-      rest = h.rest;
-      begins = h.begins;
-      grown = calls h.gave.parts (writer_of s).now h.middle h.gave.calls ∙ ap (λ xs. text (writer_of s).now ++ xs) h.gave.whole;
-    });
+    err = λ s t bs h. (
+      h.middle,
+      record {
+        part = h.part;
+        rest = h.rest;
+        begins = h.begins;
+        grown = calls h.gave.parts (writer_of s).now h.middle h.gave.calls ∙ ap (λ xs. text (writer_of s).now ++ xs) h.gave.whole;
+      },
+    );
   }

@@ -4,8 +4,8 @@ use std::alloc::Global;
 use std::process::Abort;
 use wkt_num::Decimal;
 use wkt_types::{
-    Coord, Dimension, GeometryCollection, LineString, MultiLineString, MultiPolygon, Point, Polygon,
-    Wkt,
+    Coord, Dimension, GeometryCollection, LineString, MultiLineString, MultiPolygon, Point,
+    Polygon, Wkt,
 };
 
 /// A coordinate of whole numbers.
@@ -105,11 +105,7 @@ fn of_no_members(rt: HostRuntime) {
 const ONE: i128 = 1_000_000;
 
 /// A line string of decimals, by their units.
-fn decimals(
-    rt: &impl Abort,
-    alloc: Global,
-    coords: &[(i128, i128)],
-) -> LineString<Decimal<6>> {
+fn decimals(rt: &impl Abort, alloc: Global, coords: &[(i128, i128)]) -> LineString<Decimal<6>> {
     let mut all = Vec::new(alloc);
     for &(x, y) in coords {
         let coord = Coord {
