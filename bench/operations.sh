@@ -6,7 +6,7 @@
 #
 # callgrind counts instructions, so the figures are the same on every run. A figure is what an operation takes beyond the
 # one before it: reading beyond finding the lines, writing beyond reading. It needs valgrind and python3.
-# BYTES says how much a workload has (1000000 without it), WORKLOADS which, OPERATIONS which operations, and JOBS how
+# BYTES says how much a workload has (300000 without it), WORKLOADS which, OPERATIONS which operations, and JOBS how
 # many runs are counted at a time (1).
 set -eu
 [ $# = 2 ] || { sed -n 2,11p "$0"; exit 2; }
@@ -16,7 +16,7 @@ trap 'rm -rf "$work"' EXIT
 
 workloads=${WORKLOADS:-mixed-6 points-6 mixed-15 points-15 points-0 nested-6}
 for workload in $workloads refused-6 empty-6; do
-    bytes=${BYTES:-1000000}
+    bytes=${BYTES:-300000}
     [ "$workload" != empty-6 ] || bytes=$((bytes / 50))
     python3 "$here/lines.py" "${workload%-*}" "${workload#*-}" "$bytes" > "$work/$workload"
 done

@@ -8,8 +8,8 @@ use wkt::tokenizer::Tokens;
 use wkt::types::Dimension;
 use wkt::{AnyError, FromWktStr, ToWkt, TryFromWkt, Wkt, WktNum, canonical_text, infer_type};
 
-/// Does the operation to a line, and returns the size of its answer: the bytes of a text, the count of lexemes, and 1 for
-/// a geometry. The buffer is empty.
+/// Does the operation to a line, and returns the size of its answer: the bytes of a text, the count of lexemes, 1 for what
+/// was read and, so that it is looked at, a small number for what was converted. The buffer is empty.
 ///
 /// # Errors
 /// The error of the operation.
@@ -53,10 +53,7 @@ fn from_wkt<T: WktNum>(
             push_geometry(&mut text, geometry)?;
             Ok(text.len())
         }
-        Operation::ToFlat => {
-            let _flat = try_into_geometry(alloc, geometry)?;
-            Ok(1)
-        }
+        Operation::ToFlat => Ok(size_of_flat(&try_into_geometry(alloc, geometry)?)),
         _ => Ok(1),
     }
 }
@@ -69,16 +66,32 @@ fn from_flat<T: WktNum>(
     buffer: &mut Vec<u8>,
 ) -> Result<usize, AnyError> {
     match operation {
-        Operation::ToWkt => {
-            let _geometry = flat.to_wkt(alloc)?;
-            Ok(1)
-        }
+        Operation::ToWkt => Ok(size_of_wkt(&flat.to_wkt(alloc)?)),
         Operation::WktString => Ok(flat.wkt_string(alloc)?.len()),
         Operation::WriteWkt => {
             flat.write_wkt(alloc, &mut Counted::new(&mut *buffer))?;
             Ok(buffer.len())
         }
         _ => Ok(1),
+    }
+}
+
+/// How many numbers a coordinate has. It isn't inlined, so that no part of the geometry is left out.
+#[inline(never)]
+fn size_of_wkt<T: WktNum>(geometry: &Wkt<T>) -> usize {
+    match geometry.dimension() {
+        Dimension::XY => 2,
+        Dimension::XYZ | Dimension::XYM => 3,
+        Dimension::XYZM => 4,
+    }
+}
+
+/// 1 for a point, 0 for any other. It isn't inlined either.
+#[inline(never)]
+fn size_of_flat<T: WktNum>(geometry: &Geometry<T>) -> usize {
+    match geometry {
+        Geometry::Point(_) => 1,
+        _ => 0,
     }
 }
 

@@ -61,18 +61,19 @@ fn answer<T: Number>(operation: Operation, line: &str, buffer: &mut Vec<u8>) -> 
         | Operation::Display
         | Operation::Push
         | Operation::ToFlat
-        | Operation::Canonical => from_wkt(operation, black_box(Wkt::<T>::from_str(line).ok()?)),
+        | Operation::Canonical => {
+            let geometry = Wkt::<T>::from_str(line).ok()?;
+            black_box(&geometry);
+            from_wkt(operation, geometry)
+        }
         Operation::Flat | Operation::ToWkt | Operation::WktString | Operation::WriteWkt => {
             let flat = Geometry::<T>::try_from_wkt_str(line).ok()?;
             from_flat(operation, black_box(&flat), buffer)
         }
-        Operation::Infer => infer_type(line).ok().map(|it| {
-            if black_box(it).1 == Dimension::XY {
-                2
-            } else {
-                3
-            }
-        }),
+        Operation::Infer => {
+            let (_, dimension) = black_box(infer_type(line).ok()?);
+            Some(if dimension == Dimension::XY { 2 } else { 3 })
+        }
     }
 }
 
@@ -86,10 +87,7 @@ fn from_wkt<T: Number>(operation: Operation, geometry: Wkt<T>) -> Option<usize> 
             write_geometry(&mut text, &geometry).ok()?;
             Some(black_box(text).len())
         }
-        Operation::ToFlat => {
-            black_box(Geometry::<T>::try_from(geometry).ok()?);
-            Some(1)
-        }
+        Operation::ToFlat => Some(size_of_flat(&Geometry::<T>::try_from(geometry).ok()?)),
         _ => Some(1),
     }
 }
@@ -100,16 +98,30 @@ fn from_flat<T: Number>(
     buffer: &mut Vec<u8>,
 ) -> Option<usize> {
     match operation {
-        Operation::ToWkt => {
-            black_box(flat.to_wkt());
-            Some(1)
-        }
+        Operation::ToWkt => Some(size_of_wkt(&flat.to_wkt())),
         Operation::WktString => Some(black_box(flat.wkt_string()).len()),
         Operation::WriteWkt => {
             flat.write_wkt(&mut *buffer).ok()?;
             Some(black_box(buffer).len())
         }
         _ => Some(1),
+    }
+}
+
+#[inline(never)]
+fn size_of_wkt<T: Number>(geometry: &Wkt<T>) -> usize {
+    match black_box(geometry).dimension() {
+        Dimension::XY => 2,
+        Dimension::XYZ | Dimension::XYM => 3,
+        Dimension::XYZM => 4,
+    }
+}
+
+#[inline(never)]
+fn size_of_flat<T: Number>(geometry: &Geometry<T>) -> usize {
+    match black_box(geometry) {
+        Geometry::Point(_) => 1,
+        _ => 0,
     }
 }
 
