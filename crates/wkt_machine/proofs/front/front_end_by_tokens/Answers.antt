@@ -6,7 +6,7 @@ use Rattle.wkt_read.proofs.LawLemmas.FrontEnds.{front-some, front-within, front-
 use Rattle.wkt_machine.specs.NothingMaker.{nothing_maker}
 use Rattle.wkt_machine.specs.TokensView.{tokens_view}
 use Rattle.wkt_machine.proofs.Fronting.{front_made, no_front_there}
-use Rattle.wkt_machine.proofs.front.front_end.Goals as goal
+use Rattle.wkt_machine.proofs.front.front_end_by_tokens.Goals as goal
 
 pub returns-in-Ok-clause-front : goal.returns-in-Ok-clause-front
 returns-in-Ok-clause-front g c =
