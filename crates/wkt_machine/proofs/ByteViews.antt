@@ -7,14 +7,14 @@ use Rattle.wkt_num.specs.Bytes.{Lexeme, Open, Close, Comma, Word, Num, Class, Nu
 use Rattle.wkt_read.specs.Grammar.{kind_word}
 use Rattle.wkt_read.specs.Lexemes.{lexeme_of, starts_number, without_plus}
 use Rattle.wkt_read.specs.Parser.Outcome.{number_at, number_in}
-use Rattle.wkt_read.specs.Placed.{Placed, lexemes_of}
+use Rattle.wkt_read.specs.Placed.{Placed, lexemes_of, placed}
 use Rattle.wkt_read.specs.declared.messages.Message.TheVariants as message
 use Rattle.wkt_events.specs.Left.{class_in, left_placed, left, IsRunEnd, TakesOne}
 use Rattle.wkt_events.specs.Numbers.{IsNumberAt, NoNumber}
 use Rattle.wkt_events.specs.Walking.{Legible}
 use Rattle.wkt_events.proofs.Classes.{class-same, class-in-mark, class-in-run}
 use Rattle.wkt_events.proofs.Classes as classes
-use Rattle.wkt_events.proofs.Lefts.{placed-nul, placed-past, left-begins, takes-mark, takes-run}
+use Rattle.wkt_events.proofs.Lefts.{left-all, placed-nul, placed-past, left-begins, takes-mark, takes-run}
 use Rattle.wkt_events.proofs.Legibles.{legible-one}
 use Rattle.wkt_events.proofs.PenNumbers.{takes-number, refuses}
 use Rattle.wkt_events.proofs.RunEnds.{late-run}
@@ -94,7 +94,7 @@ sight_first (p ∷ ps) l rest e = let same : p.lexeme ≡ l = cc in ap seen_of s
 module _ (feed : Bool) (text : List ℕ) (at : ℕ) where
   -- a lexeme that is seen
   pub sees_one : (l : Lexeme) (end : ℕ) (k : Seen) → TakesOne feed text at l end → k ≡ seen_of l → Sees feed text at k end
-  sees_one l end k t is = record { seen = is ∙ sym (ap sight t.next); takes = λ some word. (l, t) }
+  sees_one l end k t is = record { sees = is ∙ sym (ap sight t.next); takes = λ some word. (l, t) }
 
   pub sees_mark : (b : ℕ) (l : Lexeme) (k : Seen) → b ≡ get_or text at 0 → class_of b ≡ Mark l → k ≡ seen_of l → Sees feed text at k (at + 1)
   sees_mark b l k is mark e = sees_one l (at + 1) k (takes-mark feed text at l (ap (class_in feed) (sym is) ∙ classes.mark-in feed b l mark)) e
@@ -109,7 +109,7 @@ module _ (feed : Bool) (text : List ℕ) (at : ℕ) where
       sight_first (left_placed feed text at) _ b.1.0 b.1.1 ∙ number_first b.0 h
 
   pub sees_number : (end : ℕ) → starts_number (get_or text at 0) ≡ true → Sees feed text at seen.Number end
-  sees_number end h = record { seen = sym (sight_number h); takes = λ some word. absurd (word refl) }
+  sees_number end h = record { sees = sym (sight_number h); takes = λ some word. absurd (word refl) }
 
   first : (end : ℕ) → at < end → get_or (slice_range text at end) 0 0 ≡ get_or text at 0
   first end order = get_or-between text at end 0 0 (omega (arith, order)) ∙ ap (λ (i : ℕ). get_or text i 0) {x = at + 0} {y = at} (omega arith)
@@ -136,7 +136,7 @@ module _ (feed : Bool) (text : List ℕ) (at : ℕ) where
   pub sees_none : (end other : ℕ) → IsRunEnd text at end → end ≡ at → IsDark feed text at → IsUnmarked feed text at → Sees feed text at seen.Other other
   sees_none end other e here dark none =
       let left : left_placed feed text at ≡ [] = nul_there (class_in feed (get_or text at 0)) refl dark none (λ r. e.stops (ap (λ n. class_of (get_or text n 0)) here ∙ r)) in
-      record { seen = sym (ap sight left); takes = λ some word. absurd (some refl) }
+      record { sees = sym (ap sight left); takes = λ some word. absurd (some refl) }
 
   -- No number is there that is read.
   module _ {N : Type 0} (read : List ℕ → Option N) where
@@ -149,19 +149,7 @@ module _ (feed : Bool) (text : List ℕ) (at : ℕ) where
     none_unread legible dark h run end more is =
         from_err (read run) (lexemes_of more) (subst (λ ls. IsErr (number_at read message.X ls)) (ap lexemes_of is) (refuses read (λ _. []) feed text at legible dark h))
 
--- What bytes do as a source.
 module _ (feed : Bool) where
-  -- no lexeme stands before
-  pub stays_on : (s t : Bytes) → s.text ≡ t.text → s.at ≤ t.at → left_placed feed s.text.now s.at ≡ left_placed feed t.text.now t.at → (Legible feed s.text.now s.at → Legible feed t.text.now t.at) → Stays (bytes_view feed) s t
-  stays_on s t text order same legible = record {
-    left = sym same;
-    behind = λ end k. record {
-      order = let before = k.order in omega (arith, before, order);
-      same = subst (λ x. left_placed feed x.now end ≡ left_placed feed t.text.now t.at) text (k.same ∙ same);
-    };
-    legible = legible;
-  }
-
   -- past the end nothing is seen
   pub past_sight : (text : List ℕ) (at : ℕ) → length text ≤ at → sight (left_placed feed text at) ≡ seen.Other
   past_sight text at past = ap sight (placed-past feed text at past)
@@ -174,34 +162,60 @@ module _ (feed : Bool) where
 
   pub looked_at : (text : List ℕ) (at end : ℕ) (k : Seen) → at ≤ length text → IsDark feed text at → Sees feed text at k end → IsLooked feed text at end
   looked_at text at end k inside dark sees = record {
-    takes = λ some word. sees.takes (λ e. some (sym sees.seen ∙ e)) (λ e. word (sym sees.seen ∙ e));
+    takes = λ some word. sees.takes (λ e. some (sym sees.sees ∙ e)) (λ e. word (sym sees.sees ∙ e));
     inside = λ e. inside;
     dark = λ e. dark;
   }
 
+-- What bytes do as a source.
+module _ {n : ℕ} (feed : Bool) where
+  -- no lexeme stands before
+  pub stays_on : (s t : Bytes n) → s.text ≡ t.text → s.at ≤ t.at → left_placed feed s.text.now s.at ≡ left_placed feed t.text.now t.at → (Legible feed s.text.now s.at → Legible feed t.text.now t.at) → Stays (bytes_view feed) s t
+  stays_on s t text order same legible = record {
+    left = sym same;
+    behind = λ end k. record {
+      order = let before = k.order in omega (arith, before, order);
+      same = subst (λ x. left_placed feed x.now end ≡ left_placed feed t.text.now t.at) text (k.same ∙ same);
+    };
+    legible = legible;
+  }
+
+  -- a lexeme that stands there is taken
+  pub skips_lexeme : (s t : Bytes n) (l : Lexeme) → TakesOne feed s.text.now s.at l t.at → t.text ≡ s.text → Skips (bytes_view feed) s t
+  skips_lexeme s t l takes text = record {
+    lexeme = record { lexeme = l; end = t.at };
+    left = takes.next ∙ ap (λ x. record { lexeme = l; end = t.at } ∷ left_placed feed x.now t.at) (sym text);
+    place = refl;
+    legible = λ k. subst (λ x. Legible feed x.now t.at) (sym text) (legible-one feed s.text.now s.at l t.at takes k);
+  }
+
   -- the lexeme that was looked at is taken
-  pub skips_to : (s t : Bytes) → IsLooked feed s.text.now s.at s.end → sight (left_placed feed s.text.now s.at) ≢ seen.Other → sight (left_placed feed s.text.now s.at) ≢ seen.Number
+  pub skips_to : (s t : Bytes n) → IsLooked feed s.text.now s.at s.end → sight (left_placed feed s.text.now s.at) ≢ seen.Other → sight (left_placed feed s.text.now s.at) ≢ seen.Number
       → t.text ≡ s.text → t.at ≡ s.end → Skips (bytes_view feed) s t
   skips_to s t looked some word text at =
       let (l, takes) = looked.takes some word in
-      record {
-        lexeme = record { lexeme = l; end = s.end };
-        left = takes.next ∙ ap (λ n. record { lexeme = l; end = s.end } ∷ left_placed feed s.text.now n) (sym at) ∙ ap (λ x. record { lexeme = l; end = s.end } ∷ left_placed feed x.now t.at) (sym text);
-        place = at;
-        legible = λ k. subst (λ x. Legible feed x.now t.at) (sym text) (subst (λ n. Legible feed s.text.now n) (sym at) (legible-one feed s.text.now s.at l s.end takes k));
-      }
+      skips_lexeme s t l (subst (TakesOne feed s.text.now s.at l) (sym at) takes) text
 
-  -- a number is taken, and made
-  pub numbers_to : {N B : Type 0} (read : List ℕ → Option N) (maker : Maker N B) (s t : Bytes) (b c : B) (axis : Axis) → MakesNumber read maker b s.text.now s.at axis c t.at → t.text ≡ s.text → Numbers read (bytes_view feed) maker s b axis t c
-  numbers_to read maker s t b c axis h text =
-      let takes = takes-number read (λ _. []) feed s.text.now s.at t.at h.number h.there in
+  pub skips_mark : (s t : Bytes n) (l : Lexeme) → class_of (get_or s.text.now s.at 0) ≡ Mark l → t.text ≡ s.text → t.at ≡ s.at + 1 → Skips (bytes_view feed) s t
+  skips_mark s t l mark text at =
+      skips_lexeme s t l (subst (TakesOne feed s.text.now s.at l) (sym at) (takes-mark feed s.text.now s.at l (classes.mark-in feed (get_or s.text.now s.at 0) l mark))) text
+
+  -- A number is taken, and made. White space may stand before it.
+  pub numbers_after : {N B : Type 0} (read : List ℕ → Option N) (maker : Maker N B) (s t : Bytes n) (b c : B) (axis : Axis) (at : ℕ) → left_placed feed s.text.now s.at ≡ left_placed feed s.text.now at → (Legible feed s.text.now s.at → Legible feed s.text.now at)
+      → MakesNumber read maker b s.text.now at axis c t.at → t.text ≡ s.text → Numbers read (bytes_view feed) maker s b axis t c
+  numbers_after read maker s t b c axis at same further h text =
+      let takes = takes-number read (λ _. []) feed s.text.now at t.at h.number h.there in
       record {
-        run = without_plus (slice_range s.text.now s.at t.at);
+        run = without_plus (slice_range s.text.now at t.at);
         number = h.number;
         end = t.at;
-        left = takes.next ∙ ap (λ x. record { lexeme = Num (without_plus (slice_range s.text.now s.at t.at)); end = t.at } ∷ left_placed feed x.now t.at) (sym text);
+        left = same ∙ takes.next ∙ ap (λ x. record { lexeme = Num (without_plus (slice_range s.text.now at t.at)); end = t.at } ∷ left_placed feed x.now t.at) (sym text);
         place = refl;
-        legible = λ k. subst (λ x. Legible feed x.now t.at) (sym text) (legible-one feed s.text.now s.at _ t.at takes k);
+        legible = λ k. subst (λ x. Legible feed x.now t.at) (sym text) (legible-one feed s.text.now at _ t.at takes (further k));
         reads = h.there.reads;
         makes = h.makes;
       }
+
+-- At the beginning of a whole text all its lexemes are left.
+pub whole_left : {n : ℕ} (text : List ℕ) (s : Bytes n) → s.text.now ≡ text → s.at ≡ 0 → left_placed false s.text.now s.at ≡ placed text
+whole_left text s is at = ap (λ t. left_placed false t s.at) is ∙ ap (left_placed false text) at ∙ left-all text

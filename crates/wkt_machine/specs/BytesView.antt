@@ -19,9 +19,9 @@ abbrev pub IsUnmarked : Bool → List ℕ → ℕ → Type 0
 IsUnmarked feed text at = (l : Lexeme) → class_in feed (get_or text at 0) ≢ Mark l
 
 -- The lexeme that comes next is seen so, and it ends there, unless it is a number.
-pub record Sees (feed : Bool) (text : List ℕ) (at : ℕ) (sees : Seen) (end : ℕ) : Type 0 where
-  pub seen : sees ≡ sight (left_placed feed text at)
-  pub takes : sees ≢ seen.Other → sees ≢ seen.Number → (l : Lexeme) × TakesOne feed text at l end
+pub record Sees (feed : Bool) (text : List ℕ) (at : ℕ) (k : Seen) (end : ℕ) : Type 0 where
+  pub sees : k ≡ sight (left_placed feed text at)
+  pub takes : k ≢ seen.Other → k ≢ seen.Number → (l : Lexeme) × TakesOne feed text at l end
 
 -- A lexeme that is no number ends where it was seen to end. A number stands right there.
 pub record IsLooked (feed : Bool) (text : List ℕ) (at end : ℕ) : Type 0 where
@@ -35,7 +35,7 @@ pub record IsBetween (feed : Bool) (text : List ℕ) (from to : ℕ) : Type 0 wh
   pub same : left_placed feed text from ≡ left_placed feed text to
 
 -- A number that is left is a text where the text's line is.
-abbrev pub bytes_view : Bool → View Bytes
+abbrev pub bytes_view : {n : ℕ} → Bool → View (Bytes n)
 bytes_view feed = record {
   left = λ s. left_placed feed s.text.now s.at;
   place = λ s. s.at;

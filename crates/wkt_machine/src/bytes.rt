@@ -25,7 +25,7 @@ pub struct Bytes<'a, const FEED_ENDS: bool> {
 impl<'a, const FEED_ENDS: bool> Bytes<'a, FEED_ENDS> {
     #[inline(always)]
     pub fn new(text: &'a [u8], at: usize) -> Self
-        ensures text { result.text ≡ text }
+        ensures text { result.text ≡ text.entry }
         ensures at { result.at ≡ at }
     {
         Bytes { text, at, end: at }
@@ -39,12 +39,17 @@ fn lexeme_at<const FEED_ENDS: bool>(text: &[u8], at: usize) -> (Seen, usize)
     requires dark { IsDark FEED_ENDS text.now at }
     ensures { Sees FEED_ENDS text.now at result.0 result.1 }
 {
-    match byte_at(text, at) {
-        b'(' => (Seen::Open, at + 1),
-        b')' => (Seen::Close, at + 1),
-        b',' => (Seen::Comma, at + 1),
-        _ => run_at::<FEED_ENDS>(text, at),
+    let byte = byte_at(text, at);
+    if byte == b'(' {
+        return (Seen::Open, at + 1);
     }
+    if byte == b')' {
+        return (Seen::Close, at + 1);
+    }
+    if byte == b',' {
+        return (Seen::Comma, at + 1);
+    }
+    run_at::<FEED_ENDS>(text, at)
 }
 
 /// The same where no mark stands.
@@ -103,9 +108,10 @@ impl<'a, T: WktNum, const FEED_ENDS: bool> Source<T> for Bytes<'a, FEED_ENDS> {
 
     #[inline(always)]
     fn number<B: Builder<T>>(self, builder: B, axis: Axis) -> Result<(Self, B), (Self, B)> {
-        match builder.number_in(self.text, self.at, axis) {
-            (made, Some(end)) => Ok((Bytes::new(self.text, end), made)),
-            (made, None) => Err((self, made)),
+        let (made, end) = builder.number_in(self.text, self.at, axis);
+        match end {
+            Some(end) => Ok((Bytes::new(self.text, end), made)),
+            None => Err((self, made)),
         }
     }
 }

@@ -32,6 +32,9 @@ const FRONTS: [(&str, Option<usize>); 18] = [
 fn fronts(rt: HostRuntime) {
     for (text, end) in FRONTS {
         assert!(&rt; front_end::<Decimal<6>>(text) == end, "{text}");
-        assert!(&rt; front_end_by_tokens::<Decimal<6>>(text) == end, "{text}, by tokens");
+        assert!(&rt;
+            front_end_by_tokens::<Decimal<6>>(text) == end,
+            "{text}, by tokens"
+        );
     }
 }
