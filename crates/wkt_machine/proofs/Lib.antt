@@ -12,3 +12,4 @@ mod Composing
 mod Depths
 mod TokenViews
 mod Fronting
+mod ByteViews

@@ -12,3 +12,4 @@ pub mod View
 pub mod Goes
 pub mod NothingMaker
 pub mod TokensView
+pub mod BytesView

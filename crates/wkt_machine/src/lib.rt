@@ -4,6 +4,7 @@
 #![tactic(auto)]
 
 pub mod builder;
+pub mod bytes;
 pub mod drive;
 pub mod front;
 pub mod laws;
@@ -15,7 +16,8 @@ pub mod step;
 pub mod tokens;
 
 pub use builder::Builder;
-pub use front::front_end;
+pub use bytes::Bytes;
+pub use front::{front_end, front_end_by_tokens};
 pub use machine::{Machine, Seen, State};
 pub use nothing::Nothing;
 pub use part::{Axis, Part};
