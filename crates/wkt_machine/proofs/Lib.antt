@@ -12,3 +12,5 @@ mod Composing
 mod Depths
 mod TokenViews
 mod Fronting
+mod Grown
+mod Holding

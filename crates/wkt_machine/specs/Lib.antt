@@ -12,3 +12,7 @@ pub mod View
 pub mod Goes
 pub mod NothingMaker
 pub mod TokensView
+pub mod Growing
+pub mod Trees
+pub mod Growers
+pub mod Values

@@ -13,6 +13,8 @@ mod part;
 pub mod source;
 pub mod step;
 pub mod tokens;
+pub mod tree;
+pub mod value;
 
 pub use builder::Builder;
 pub use front::front_end;
@@ -21,6 +23,8 @@ pub use nothing::Nothing;
 pub use part::{Axis, Part};
 pub use source::{At, Source, Walk, Walked};
 pub use tokens::OneByOne;
+pub use tree::{Grower, Tree};
+pub use value::{Unread, read};
 
 #[cfg(test)]
 mod tests;
