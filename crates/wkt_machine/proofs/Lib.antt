@@ -14,3 +14,4 @@ mod TokenViews
 mod Fronting
 mod Grown
 mod Holding
+mod Valued

@@ -33,7 +33,7 @@ or_assoc : (a b c : Bool) → (a || (b || c)) ≡ ((a || b) || c)
 or_assoc true b c = refl
 or_assoc false b c = refl
 
-lists_append : {N : Type 0} (es fs : List (Event N)) → lists_any (es ++ fs) ≡ (lists_any es || lists_any fs)
+pub lists_append : {N : Type 0} (es fs : List (Event N)) → lists_any (es ++ fs) ≡ (lists_any es || lists_any fs)
 lists_append [] fs = refl
 lists_append (e ∷ es) fs = ap (λ b. lists e || b) (lists_append es fs) ∙ or_assoc (lists e) (lists_any es) (lists_any fs)
 
