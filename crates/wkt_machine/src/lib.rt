@@ -28,3 +28,5 @@ pub use value::{Unread, read};
 
 #[cfg(test)]
 mod tests;
+#[cfg(test)]
+mod value_tests;
