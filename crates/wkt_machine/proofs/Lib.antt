@@ -13,3 +13,6 @@ mod Depths
 mod TokenViews
 mod Fronting
 mod ByteViews
+mod Grown
+mod Holding
+mod Valued

@@ -14,6 +14,8 @@ mod part;
 pub mod source;
 pub mod step;
 pub mod tokens;
+pub mod tree;
+pub mod value;
 
 pub use builder::Builder;
 pub use bytes::Bytes;
@@ -23,6 +25,10 @@ pub use nothing::Nothing;
 pub use part::{Axis, Part};
 pub use source::{At, Source, Walk, Walked};
 pub use tokens::OneByOne;
+pub use tree::{Grower, Tree};
+pub use value::{Unread, read};
 
 #[cfg(test)]
 mod tests;
+#[cfg(test)]
+mod value_tests;
