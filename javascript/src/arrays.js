@@ -7,19 +7,19 @@ const WIDTHS = [2, 3, 3, 4];
 /** A geometry that is no collection as flat arrays. Its numbers are in units of ten to the minus `places`. */
 export class Arrays {
   constructor(kind, dimension, places, numbers, rings, polygons, end) {
-    Object.assign(this, { kind, dimension, places, numbers, rings, polygons, end });
+    this.kind = kind;
+    this.dimension = dimension;
+    this.places = places;
+    this.numbers = numbers;
+    this.rings = rings;
+    this.polygons = polygons;
+    this.end = end;
   }
 
   /** The numbers as doubles, each the nearest. */
   get coordinates() {
     return doubles(this.numbers, this.places);
   }
-}
-
-/** Offsets of 64 bits, whose upper halves are 0: a text has less than 2^32 bytes. */
-export function offsets(buffer, at, count) {
-  const halves = new Uint32Array(buffer, at, 2 * count);
-  return Uint32Array.from({ length: count }, (_, i) => halves[2 * i]);
 }
 
 /** Whether each item of one list is that of the other. */

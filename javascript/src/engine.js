@@ -64,7 +64,8 @@ export class Engine {
 
   view() {
     this.bytes = new Uint8Array(this.memory.buffer);
-    this.cells = new Uint32Array(this.memory.buffer, this.base, 2 * CELLS);
+    this.words = new Uint32Array(this.memory.buffer);
+    this.cells = this.words.subarray(this.base / 4, this.base / 4 + 2 * CELLS);
   }
 
   /** Begins a call: what the last laid out is gone. */
@@ -242,10 +243,20 @@ export class Engine {
    * end of the geometry size 6.
    */
   arrays(at, length, places) {
-    const sizes = [2, 4, 6].map((most) => Math.floor(length / most) + 2);
-    const rooms = sizes.map((size) => this.lay(8 * size));
-    this.arraysAt = sizes.map((size) => this.lay(8 * size));
-    const slices = (places) => places.flatMap((place, i) => [big(place), big(sizes[i])]);
-    return this.call('wkt_arrays', big(at), big(length), places, ...slices(rooms), this.cellAt[2], ...slices(this.arraysAt));
+    // Each of the three is made in a room, and copied from there.
+    const [numbers, rings, polygons] = [Math.floor(length / 2) + 2, Math.floor(length / 4) + 2, Math.floor(length / 6) + 2];
+    const [roomN, roomR, roomP] = [this.lay(8 * numbers), this.lay(8 * rings), this.lay(8 * polygons)];
+    const [outN, outR, outP] = [this.lay(8 * numbers), this.lay(8 * rings), this.lay(8 * polygons)];
+    this.arraysAt = [outN, outR, outP];
+    return this.call('wkt_arrays', big(at), big(length), places,
+      big(roomN), big(numbers), big(roomR), big(rings), big(roomP), big(polygons), this.cellAt[2],
+      big(outN), big(numbers), big(outR), big(rings), big(outP), big(polygons));
+  }
+
+  /** So many offsets there: numbers of 64 bits, whose upper halves are 0, since a text has less than 2^32 bytes. */
+  offsets(at, count) {
+    const out = new Uint32Array(count);
+    for (let i = 0; i < count; i++) out[i] = this.words[at / 4 + 2 * i];
+    return out;
   }
 }

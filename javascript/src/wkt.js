@@ -3,7 +3,7 @@ import { Engine, LoneSurrogate } from './engine.js';
 import { WktError } from './errors.js';
 import { explanation, explanationOfBytes, hintWords } from './explanation.js';
 import { DIMENSIONS, EXPECTED, HEADER_MESSAGES, KINDS, STATUS } from './names.js';
-import { Arrays, equal, offsets, textOfArrays } from './arrays.js';
+import { Arrays, equal, textOfArrays } from './arrays.js';
 import { geoJSONOf } from './geojson.js';
 import { textOfGeoJSON } from './fromgeojson.js';
 import { parseExact } from './json.js';
@@ -97,7 +97,7 @@ export class Wkt {
     return new Arrays(
       KINDS[engine.number(4)], DIMENSIONS[engine.number(5)], places,
       new BigInt64Array(buffer.slice(numbers, numbers + 8 * engine.size(3))),
-      offsets(buffer, rings, engine.size(4)), offsets(buffer, polygons, engine.size(5)),
+      engine.offsets(rings, engine.size(4)), engine.offsets(polygons, engine.size(5)),
       this.#placeIn(text, at, engine.size(6)),
     );
   }
