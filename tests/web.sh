@@ -69,6 +69,10 @@ if [ -e dist/wasm/wkt.wasm ]; then
     [ "$(node --input-type=module -e "$example" | head -n 1)" = "POINT(1 2.5)" ] || fail "the example of docs/CALLING.md"
 fi
 
+if ! skips page; then
+    said=$(javascript/test/browser.py "$app/node_modules/wkt-proved" 2>&1) || { echo "$said"; fail "the package in Chromium"; }
+    echo "web: $said"
+fi
 if [ -e web/make.py ] && ! skips page; then
     node --test web/ > "$dir/said" 2>&1 || { cat "$dir/said"; fail "the parts of the page"; }
     web/make.py --module "$module" "$dir/index.html" && web/test.py "$dir/index.html" || fail "the page"
