@@ -44,7 +44,8 @@ export class Wkt {
   front(text, { places = 18 } = {}) {
     const engine = this.#engine;
     const length = this.#canonical(text, asking(places));
-    return { canonical: engine.ascii(engine.answer, length), end: this.#placeIn(text, engine.texts, engine.size(1)) };
+    // A text is of ASCII as far as its geometry ends: that is one place in bytes and in units.
+    return { canonical: engine.ascii(engine.answer, length), end: engine.size(1) };
   }
 
   reads(text, { places = 18, whole = true } = {}) {
@@ -98,7 +99,7 @@ export class Wkt {
       KINDS[engine.number(4)], DIMENSIONS[engine.number(5)], places,
       new BigInt64Array(buffer.slice(numbers, numbers + 8 * engine.size(3))),
       engine.offsets(rings, engine.size(4)), engine.offsets(polygons, engine.size(5)),
-      this.#placeIn(text, at, engine.size(6)),
+      engine.size(6),
     );
   }
 
@@ -254,10 +255,5 @@ export class Wkt {
     if (typeof text !== 'string') return explanationOfBytes(engine.bytes.subarray(at, at + length), status, start, stop, ...words);
     const [first, last] = length === text.length ? [start, stop] : [engine.units(at, start), engine.units(at, stop)];
     return explanation(text, status, first, last, ...words);
-  }
-
-  /** A place in the bytes of a text as one in the text. */
-  #placeIn(text, at, place) {
-    return typeof text === 'string' ? this.#engine.units(at, place) : place;
   }
 }
