@@ -159,25 +159,28 @@ impl<'a, T: WktNum> Tokens<'a, T> {
     pub fn next_lexeme(&mut self) -> Lexeme<'a>
         ensures { Steps self.old (found result) self.new }
     {
-        let mark = match first_class(&mut self.bytes, self.ahead) {
+        let (bytes, class) = first_class(self.bytes, self.ahead);
+        let mark = match class {
             Class::Open => Lexeme::Open,
             Class::Close => Lexeme::Close,
             Class::Comma => Lexeme::Comma,
             Class::Run => {
-                let from = self.bytes.taken() - 1;
-                let (bytes, end, ahead) = end_of_run(self.bytes.move_out(), from);
+                let from = bytes.taken() - 1;
+                let (bytes, end, ahead) = end_of_run(bytes, from);
                 self.bytes = bytes;
                 self.end = end;
                 self.ahead = ahead;
-                return lexeme_of(self.bytes.part(from, end));
+                return lexeme_of(bytes.part(from, end));
             }
             Class::Nul | Class::White => {
+                self.bytes = bytes;
                 self.ahead = Class::Nul;
                 return Lexeme::End;
             }
         };
+        self.bytes = bytes;
         self.ahead = Class::White;
-        self.end = self.bytes.taken();
+        self.end = bytes.taken();
         mark
     }
 }
