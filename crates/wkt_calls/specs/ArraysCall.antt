@@ -1,4 +1,4 @@
--- What a call for the arrays of a text returns. Only private contracts cite this.
+-- What a call for the arrays of a text returns.
 use Rattle.std.specs.Prelude.{◌≡◌, ◌≢◌, ◌≤◌, ◌⊎◌, ℕ, ℤ, List}
 use Rattle.wkt_calls.specs.Answer.{places_in, asks_whole, EndsAsAsked}
 use Rattle.wkt_calls.specs.Arrays.{IsNotFlat, HasMoreAt}

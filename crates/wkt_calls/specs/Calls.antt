@@ -1,16 +1,16 @@
--- What the calls for canonical texts answer. Only private contracts cite these words.
+-- What the calls for canonical texts answer.
 use Rattle.std.specs.Prelude.{◌≡◌, ◌≢◌, ◌≤◌, ◌+◌, ◌*◌, ◌++◌, ◌⊎◌, ℕ, List, ◌∷◌, length, take, Option, Some, None, Result, MatchResult}
 use Rattle.wkt_read.specs.Front.{HasNoFront}
 use Rattle.wkt_events.specs.Canonical.{HasWritten}
 use Rattle.wkt_calls.specs.Answer.{read_at, print_at, places_in, asks_whole, EndsAsAsked, IsCanonical, HasMore, Compares, Refuses, IsHandedOut, HasNoRoom}
 use Rattle.wkt_calls.specs.declared.canonical.Compared.{Compared}
 
--- The bytes are the text, or the text, a NUL and more.
+-- The bytes are the text, or the text, a NUL and more. Only private contracts cite this.
 abbrev pub IsWalkedFor : List ℕ → List ℕ → Type 0
 IsWalkedFor text walked = (walked ≡ text) ⊎ ((more : List ℕ) × (walked ≡ text ++ (0 ∷ more)))
 
 module _ {N : Type 0} (read : List ℕ → Option N) (num : N → List ℕ) where
-  -- The canonical text of the text's front stands at the front of a room, which has more; or the text has no front.
+  -- The canonical text of the text's front stands at the front of a room, which has more; or the text has no front. Only private contracts cite this.
   abbrev pub WritesIfAny : List ℕ → List ℕ → List ℕ → Option (ℕ × ℕ) → Type 0
   WritesIfAny text old new (Some p) = HasWritten read num text 0 old new p.0 p.1 × (p.1 + 64 ≤ length old)
   WritesIfAny text old new None = HasNoFront read text

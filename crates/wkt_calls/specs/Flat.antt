@@ -1,4 +1,4 @@
--- What is known of flat arrays. Only private contracts cite this.
+-- What is known of flat arrays.
 use Rattle.std.specs.Prelude.{ℕ, List, [], ◌∷◌}
 use Rattle.wkt_events.specs.declared.points.NearPoint.{NearPoint}
 use Rattle.wkt_fill.specs.Filled.{view}

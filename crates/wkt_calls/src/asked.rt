@@ -26,7 +26,7 @@ pub fn has_places(asked: u32) -> bool
 }
 
 /// Whether whole texts are asked for.
-pub fn asks_whole(asked: u32) -> bool
+pub(crate) fn asks_whole(asked: u32) -> bool
     ensures { result ≡ asks_whole asked }
 {
     asked >= WHOLE

@@ -26,7 +26,7 @@ pub fn copy_to_front<T: Copy>(list: &[T], out: &mut [T])
 
 /// Puts two items to the front of the buffer, which has room for them.
 #[inline(always)]
-pub fn put_two<T: Copy>(first: T, second: T, out: &mut [T])
+pub(crate) fn put_two<T: Copy>(first: T, second: T, out: &mut [T])
     requires { 2 ≤ length out.old }
     ensures { out.new ≡ with_front (first ∷ second ∷ []) out.old }
 {

@@ -25,7 +25,7 @@ pub struct Flat<'a> {
 
 /// The arrays of the geometry at the front of a text, in the room. 22: the room is too small.
 #[inline(always)]
-pub fn make_flat<'a, const D: u32>(text: &[u8], room: Room<'a>) -> Result<Flat<'a>, u32>
+fn make_flat<'a, const D: u32>(text: &[u8], room: Room<'a>) -> Result<Flat<'a>, u32>
     ensures { MatchResult result (IsFlat D text.now) (IsNotFlat D text.now) }
 {
     let Some(filled) = fill_arrays::<D>(text, room) else {

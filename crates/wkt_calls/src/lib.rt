@@ -15,7 +15,7 @@ pub mod flat;
 pub mod infer;
 pub mod lines;
 pub mod places;
-pub mod refusal;
+mod refusal;
 pub mod room;
 pub mod sizes;
 pub mod status;

@@ -7,7 +7,7 @@ use wkt_num::Decimal;
 /// The status of a text that has no front: the number of its message. It takes no memory, and no stack for nesting.
 #[cold]
 #[inline(never)]
-pub fn refusal<const D: u32>(text: &str) -> u32
+pub(crate) fn refusal<const D: u32>(text: &str) -> u32
     requires { HasNoFront (read_at D) text.now }
     ensures { Refuses (read_at D) text.now result }
 {

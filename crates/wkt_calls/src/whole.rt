@@ -22,7 +22,7 @@ pub fn first_line(rest: &[u8], last: bool) -> usize
 
 /// The bytes of some whole lines at the front, no more than so many; else of the first line alone, if it is whole.
 #[tactic(auto, using(crate::proofs::Pieces::whole_at))]
-pub fn whole_within(rest: &[u8], most: usize, last: bool) -> usize
+pub(crate) fn whole_within(rest: &[u8], most: usize, last: bool) -> usize
     ensures within { result ≤ length rest.now }
     ensures whole { AreWholeLines last rest.now result }
     ensures most { (result ≤ most) ⊎ IsFirstLine last rest.now result }
