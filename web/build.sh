@@ -20,7 +20,7 @@ trap 'rm -rf "$work"' EXIT
 # built FILE: the module
 built() {
     dist/build.py wkt_web wasm64 "$work/wkt.a" > "$work/said" 2>&1 || { tail -n 20 "$work/said"; stop "wkt_web isn't built"; }
-    "$kit/bin/rattle-link" --target wasm64-unknown-unknown --toolchain "$kit/toolchain" -o "$work/wkt64.wasm" "$work/wkt.a"
+    "$kit/bin/rattle-link" --target wasm64-unknown-unknown --toolchain "$kit/toolchain" -o "$work/wkt64.wasm" "$work/wkt.a" > /dev/null
     wasm-opt --enable-memory64 --enable-bulk-memory --enable-sign-ext --enable-mutable-globals --enable-nontrapping-float-to-int \
         --memory64-lowering --strip-debug --strip-producers "$work/wkt64.wasm" -o "$1"
 }
@@ -32,7 +32,10 @@ node -e '
     const module = new WebAssembly.Module(require("fs").readFileSync(process.argv[1]));
     const names = WebAssembly.Module.exports(module).map((one) => one.name);
     const wanted = process.argv.slice(2).filter((name) => !names.includes(name));
-    if (WebAssembly.Module.imports(module).length || wanted.length) throw new Error(`imports, or no ${wanted}`);
+    if (WebAssembly.Module.imports(module).length || wanted.length) {
+        console.error(`it has an import, or no ${wanted}`);
+        process.exit(1);
+    }
 ' "$work/wkt.wasm" memory __heap_base $(sed -n 's/^pub extern "C" fn \(wkt_[a-z_]*\)(.*/\1/p' crates/wkt_web/src/*.rt) || stop "the module isn't whole"
 
 if [ "$1" != --dist ]; then
