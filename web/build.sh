@@ -20,7 +20,8 @@ trap 'rm -rf "$work"' EXIT
 # built FILE: the module
 built() {
     dist/build.py wkt_web wasm64 "$work/wkt.a" > "$work/said" 2>&1 || { tail -n 20 "$work/said"; stop "wkt_web isn't built"; }
-    "$kit/bin/rattle-link" --target wasm64-unknown-unknown --toolchain "$kit/toolchain" -o "$work/wkt64.wasm" "$work/wkt.a" > /dev/null
+    "$kit/bin/rattle-link" --target wasm64-unknown-unknown --toolchain "$kit/toolchain" -o "$work/wkt64.wasm" "$work/wkt.a" > "$work/said" 2>&1 ||
+        { cat "$work/said"; stop "the module isn't linked"; }
     wasm-opt --enable-memory64 --enable-bulk-memory --enable-sign-ext --enable-mutable-globals --enable-nontrapping-float-to-int \
         --memory64-lowering --strip-debug --strip-producers "$work/wkt64.wasm" -o "$1"
 }
