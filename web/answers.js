@@ -1,0 +1,80 @@
+// The answers to what stands in the field.
+import { WktError } from '../javascript/src/index.js';
+import { $ } from './elements.js';
+import { state } from './state.js';
+import { Summary } from './summary.js';
+
+export const places = () => Number($('places').value);
+
+/** How the user wants the text split: `auto`, `lines` or `one`. */
+export const askedSplit = () => document.querySelector('input[name=split]:checked').value;
+
+export function setSplit(split) {
+  document.querySelector(`input[name=split][value=${split}]`).checked = true;
+}
+
+/** Whether lines are one geometry: whether the first of them leaves a parenthesis open, or has neither one nor EMPTY. */
+export function looksLikeOne(text) {
+  let from = 0;
+  while (from < text.length && text.charCodeAt(from) <= 32) from++;
+  const feed = text.indexOf('\n', from);
+  if (feed < 0 || text.slice(feed).trim() === '') return true;
+  let depth = 0;
+  let marks = false;
+  for (let i = from; i < feed; i++) {
+    const c = text[i];
+    if (c === '(' || c === ')') {
+      depth += c === '(' ? 1 : -1;
+      marks = true;
+    }
+  }
+  return depth > 0 || (!marks && !/\bempty\b/i.test(text.slice(from, Math.min(feed, from + 200))));
+}
+
+/** The parts of an accepted row's canonical text, which are found once. */
+export const summaryOf = (row) => (row.summary ??= new Summary(row.canonical));
+
+/** The answer to one text, which stands at `offset` in the field. */
+function answerTo(text, offset, line) {
+  const row = { text, offset, line, accepted: false };
+  try {
+    row.canonical = state.wkt.canonical(text, { places: places(), whole: true });
+    row.accepted = true;
+  } catch (error) {
+    if (!(error instanceof WktError)) throw error;
+    Object.assign(row, { words: error.words, status: error.status, place: error.place });
+  }
+  return row;
+}
+
+function answersToLines(text) {
+  const rows = [];
+  const first = new Map();
+  let offset = 0;
+  text.split('\n').forEach((line, i) => {
+    if (line.trim() !== '') {
+      const row = answerTo(line, offset, i + 1);
+      if (row.accepted) {
+        if (first.has(row.canonical)) row.repeats = first.get(row.canonical);
+        else first.set(row.canonical, row.line);
+      }
+      rows.push(row);
+    }
+    offset += line.length + 1;
+  });
+  return rows;
+}
+
+/** Answers the text of the field, and chooses the first that is refused, else the one that was chosen. */
+export function answer(text) {
+  const asked = askedSplit();
+  state.split = asked === 'auto' ? (looksLikeOne(text) ? 'one' : 'lines') : asked;
+  if (text.trim() === '') state.rows = [];
+  else state.rows = state.split === 'one' ? [answerTo(text, 0, 1)] : answersToLines(text);
+  const refused = state.rows.findIndex((row) => !row.accepted);
+  const last = state.rows.length - 1;
+  state.chosen = refused >= 0 ? refused : Math.min(Math.max(state.chosen, 0), last);
+}
+
+/** The line of the field, from 1 on, and the column at which a row is refused. */
+export const lineOf = (row) => row.line + row.place.line - 1;
