@@ -4,6 +4,7 @@ import { choose, chosenRow, state } from './state.js';
 
 /** A longer text has no marks: the mirror would hold all of it once more. */
 const MARKED = 200000;
+const MOVES = new Set(['ArrowUp', 'ArrowDown', 'ArrowLeft', 'ArrowRight', 'Home', 'End', 'PageUp', 'PageDown']);
 
 const text = $('text');
 const mirror = $('mirror');
@@ -66,17 +67,22 @@ export function goToNextRefusal() {
   }
 }
 
-/** The row of the line in which the cursor stands is the chosen one. */
-function follow() {
-  if (state.split !== 'lines' || state.rows.length < 2) return;
+/** The row of the line in which the cursor stands, or -1. */
+export function rowAtCursor() {
   const at = text.selectionStart;
-  const i = state.rows.findIndex((row) => at >= row.offset && at <= row.offset + row.text.length);
+  return state.rows.findIndex((row) => at >= row.offset && at <= row.offset + row.text.length);
+}
+
+function followCursor() {
+  const i = state.rows.length > 1 ? rowAtCursor() : -1;
   if (i >= 0 && i !== state.chosen) choose(i);
 }
 
 export function startEditor() {
-  text.addEventListener('keyup', follow);
-  text.addEventListener('click', follow);
+  text.addEventListener('keyup', (event) => {
+    if (MOVES.has(event.key)) followCursor();
+  });
+  text.addEventListener('click', followCursor);
   text.addEventListener('scroll', () => {
     mirror.scrollTop = text.scrollTop;
   });

@@ -2,7 +2,7 @@
 import { load } from '../javascript/src/index.js';
 import { answer, askedSplit, places, setSplit } from './answers.js';
 import { answerText, showCanonical } from './canonical.js';
-import { goToNextRefusal, goToPlace, showMarks, startEditor } from './editor.js';
+import { goToNextRefusal, goToPlace, rowAtCursor, showMarks, startEditor } from './editor.js';
 import { $, element } from './elements.js';
 import { EXAMPLES } from './examples.js';
 import { closeFile, readFile, startFiles } from './file.js';
@@ -29,12 +29,14 @@ async function compiled() {
   return WebAssembly.compile(await new Response(stream).arrayBuffer());
 }
 
-function analyse() {
+/** Answers the text, and shows the row at the cursor where that is asked for, else the first that is refused. */
+function analyse(atCursor = false) {
   if (text.value.length > TYPED) {
     readFile(new File([text.value], 'The text'));
     return;
   }
   answer(text.value);
+  if (atCursor && rowAtCursor() >= 0) state.chosen = rowAtCursor();
   show();
   fit();
 }
@@ -72,10 +74,10 @@ function keepInAddress() {
   }, 400);
 }
 
-function changed() {
+function changed(atCursor = false) {
   closeFile();
   forgetSingle();
-  analyse();
+  analyse(atCursor);
   keepInAddress();
 }
 
@@ -176,13 +178,14 @@ function fillSelects() {
 
 function startControls() {
   let typing = 0;
-  text.addEventListener('input', () => {
+  text.addEventListener('input', (event) => {
     clearTimeout(typing);
-    if (text.value.length < SLOW) changed();
-    else typing = setTimeout(changed, WAIT);
+    const typed = /^(insert(?!From)|delete)/.test(event.inputType);
+    if (text.value.length < SLOW) changed(typed);
+    else typing = setTimeout(changed, WAIT, typed);
   });
-  $('places').addEventListener('change', changed);
-  document.querySelectorAll('input[name=split]').forEach((input) => input.addEventListener('change', changed));
+  $('places').addEventListener('change', () => changed());
+  document.querySelectorAll('input[name=split]').forEach((input) => input.addEventListener('change', () => changed()));
   $('examples').addEventListener('change', () => {
     setSplit('auto');
     put(EXAMPLES[$('examples').value] ?? '');

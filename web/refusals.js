@@ -6,6 +6,7 @@ const LISTED = 100;
 const ASKED = 20000;
 /** More of a line than this isn't looked at: what is shown is far less. */
 const LONG = 1 << 20;
+const RETURN = 13;
 
 const { LAST_REFUSAL, NOT_UTF8, NOT_WHOLE } = STATUS;
 
@@ -59,10 +60,12 @@ export class Refusals {
     return Math.min(this.count, ASKED);
   }
 
+  /** Takes a refused line, without its line feed. */
   add(bytes, line) {
     this.count++;
     if (this.count > ASKED) return;
-    const why = this.#why(bytes);
+    // A carriage return at the end of a line is a part of its end.
+    const why = this.#why(bytes[bytes.length - 1] === RETURN ? bytes.subarray(0, bytes.length - 1) : bytes);
     const reason = why.hint || `${why.expected} was expected`;
     this.reasons.set(reason, (this.reasons.get(reason) ?? 0) + 1);
     if (this.first.length < LISTED) this.first.push({ line, ...why });
