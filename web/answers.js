@@ -76,5 +76,32 @@ export function answer(text) {
   state.chosen = refused >= 0 ? refused : Math.min(Math.max(state.chosen, 0), last);
 }
 
+/** The front of a refused text with its open parentheses closed, if that is accepted: its canonical text, or null. */
+function readOfRefused({ text, place }) {
+  if (!place) return null;
+  const front = text.slice(0, place.start);
+  // All that is before the place, else all before the last comma.
+  for (const end of [front.length, front.lastIndexOf(',')]) {
+    let depth = 0;
+    for (let i = 0; i < end; i++) depth += { '(': 1, ')': -1 }[front[i]] ?? 0;
+    if (end <= 0 || depth < 0) continue;
+    try {
+      return state.wkt.canonical(front.slice(0, end) + ')'.repeat(depth), { places: places(), whole: true });
+    } catch (error) {
+      if (!(error instanceof WktError)) throw error;
+    }
+  }
+  return null;
+}
+
+/** What the picture shows of a refused row: the part before the refusal, which is found once. Null where there is none. */
+export function frontOf(row) {
+  if (row.front === undefined) {
+    const canonical = readOfRefused(row);
+    row.front = canonical && { canonical, summary: new Summary(canonical) };
+  }
+  return row.front;
+}
+
 /** The line of the field, from 1 on, and the column at which a row is refused. */
 export const lineOf = (row) => row.line + row.place.line - 1;

@@ -9,6 +9,8 @@ import { repeatsInWords, say } from './verdict.js';
 /** So much of a file is looked at to see whether it is one geometry. */
 const FRONT = 64 << 10;
 
+const WITHOUT_FILE = $('text').placeholder;
+
 let worker = null;
 let saved = null; // the address of the canonical lines
 let name = '';
@@ -33,6 +35,7 @@ export function closeFile() {
   state.points = null;
   $('file-card').hidden = true;
   document.body.classList.remove('has-file');
+  $('text').placeholder = WITHOUT_FILE;
 }
 
 /** Reads a file, of any size. `more` others were dropped with it. */
@@ -41,6 +44,7 @@ export async function readFile(file, more = 0) {
   Object.assign(state, { rows: [], chosen: -1, points: new Float64Array(0), pointsOfFile: 0 });
   name = file.name;
   document.body.classList.add('has-file');
+  $('text').placeholder = 'Type or paste here to close the file';
   for (const id of ['caret', 'hint', 'message', 'save', 'next']) $(id).hidden = true;
   $('file-card').hidden = $('stop').hidden = false;
   $('text').setAttribute('aria-invalid', 'false');

@@ -1,11 +1,13 @@
 // The picture: to scale, and y up. It moves and zooms.
-import { summaryOf } from './answers.js';
+import { frontOf, summaryOf } from './answers.js';
 import { $, colored, count, drawing, number } from './elements.js';
 import { choose, state } from './state.js';
 
 const PAD = { left: 12, right: 12, top: 12, bottom: 26 };
 /** More points than this aren't drawn, more than that have no dots, and the pointer looks at no more than the last. */
 const DRAWN = 400000, DOTTED = 300, NEAR = 50000;
+/** Of so many refused texts the part before the refusal is drawn. */
+const FRONTS = 200;
 /** How near a point has to be to the pointer, in pixels. */
 const REACH = 9;
 
@@ -17,15 +19,27 @@ let single = false;
 
 const size = () => ({ w: $('picture').clientWidth, h: $('picture').clientHeight });
 const middle = ({ w, h }) => ({ cx: (w + PAD.left - PAD.right) / 2, cy: (h + PAD.top - PAD.bottom) / 2 });
-const accepted = () => state.rows.filter((row) => row.accepted);
+
+/** What is drawn: each accepted row, and the front of a refused one, with its place among the rows. */
+function shapes() {
+  let fronts = 0;
+  return state.rows.flatMap((row, i) => {
+    if (row.accepted) return [{ row, i, canonical: row.canonical, summary: summaryOf(row) }];
+    if (i !== state.chosen && fronts++ >= FRONTS) return [];
+    const front = frontOf(row);
+    return front ? [{ row, i, ...front }] : [];
+  });
+}
+
+const pointsIn = (drawn) => drawn.reduce((n, { summary }) => n + summary.points, 0);
 
 function bounds() {
   const b = { x0: Infinity, y0: Infinity, x1: -Infinity, y1: -Infinity };
   const take = (x, y) => Object.assign(b, { x0: Math.min(b.x0, x), y0: Math.min(b.y0, y), x1: Math.max(b.x1, x), y1: Math.max(b.y1, y) });
   const { points } = state;
   for (let i = 0; points && i < points.length; i += 2) take(points[i], points[i + 1]);
-  for (const row of accepted()) {
-    const { x, y } = summaryOf(row);
+  for (const { summary } of shapes()) {
+    const { x, y } = summary;
     if (!x.empty) {
       take(x.low, y.low);
       take(x.high, y.high);
@@ -153,16 +167,27 @@ class Pen {
   }
 }
 
+/** A cross at the last point before a refusal. */
+function lastPoint({ X, Y }, { leaves }) {
+  const ring = leaves.at(-1)?.rings.at(-1);
+  if (!ring) return null;
+  const [x, y] = [X(ring.at(-2)), Y(ring.at(-1))];
+  return drawing('path', { class: 'stop', d: `M${x - 6} ${y - 6}l12 12m0-12l-12 12` });
+}
+
 function rowsDrawn(to) {
+  const drawn = shapes();
   const pen = new Pen(to);
-  const dotted = accepted().reduce((n, row) => n + summaryOf(row).points, 0) <= DOTTED;
+  const dotted = pointsIn(drawn) <= DOTTED;
   const nodes = [];
-  state.rows.forEach((row, i) => {
-    if (!row.accepted || pen.drawn > DRAWN) return;
-    const node = drawing('g', { class: i === state.chosen ? 'g on' : 'g', 'data-i': i }, ...summaryOf(row).leaves.flatMap((leaf) => pen.leaf(leaf, dotted)));
-    // The chosen one lies on the others.
+  for (const { row, i, summary } of drawn) {
+    if (pen.drawn > DRAWN) break;
+    const kind = `g${i === state.chosen ? ' on' : ''}${row.accepted ? '' : ' refused'}`;
+    const node = drawing('g', { class: kind, 'data-i': i }, ...summary.leaves.flatMap((leaf) => pen.leaf(leaf, dotted)));
+    if (!row.accepted) node.append(...[lastPoint(to, summary)].filter(Boolean));
     nodes.push(colored(node, i));
-  });
+  }
+  // The chosen one lies on the others.
   return nodes.sort((a, b) => a.classList.contains('on') - b.classList.contains('on'));
 }
 
@@ -174,14 +199,14 @@ function sampleDrawn(to) {
 /** Words for those who don't see the picture. */
 function described() {
   if (state.points?.length) return `Picture of ${count(state.points.length / 2, 'point')} of the file`;
-  const kinds = accepted().map((row) => `${summaryOf(row).kind} of ${count(summaryOf(row).points, 'point')}`);
+  const kinds = shapes().map(({ row, summary }) => `${row.accepted ? '' : 'the part before the refusal: '}${summary.kind} of ${count(summary.points, 'point')}`);
   return kinds.length > 3 ? `Picture of ${count(kinds.length, 'geometry', 'geometries')}` : `Picture of ${kinds.join(', ')}`;
 }
 
 function emptyWords() {
   if (state.points) return 'No points so far';
   if (state.rows.length === 0) return 'The picture appears here';
-  return accepted().length > 0 ? 'There are no points to draw' : 'No picture, since the text is refused';
+  return shapes().length > 0 ? 'There are no points to draw' : 'No picture: no point was read before the refusal';
 }
 
 function paint() {
@@ -198,9 +223,16 @@ function paint() {
   }
   const to = scale();
   svg.replaceChildren(grid(to), ...(state.points ? [sampleDrawn(to)] : []), ...rowsDrawn(to));
-  const drawn = state.points ? state.points.length / 2 : 0;
-  $('drawn').textContent = state.points === null || drawn === 0 ? 'to scale, y up'
-    : drawn < state.pointsOfFile ? `${number(drawn)} of ${count(state.pointsOfFile, 'point')}, to scale` : 'its points, to scale';
+  $('drawn').textContent = drawnWords();
+}
+
+/** What the picture shows, in words beside its heading. */
+function drawnWords() {
+  if (state.points !== null) {
+    const drawn = state.points.length / 2;
+    return drawn < state.pointsOfFile ? `${number(drawn)} of ${count(state.pointsOfFile, 'point')}, to scale` : 'points only, to scale';
+  }
+  return svg.querySelector('.refused') ? 'to scale, y up; dashed: the part before a refusal' : 'to scale, y up';
 }
 
 /** Zooms around a place of the picture, in pixels. */
@@ -231,15 +263,15 @@ function nearest(x, y) {
   let best = REACH / view.s;
   let seen = 0;
   let found = null;
-  for (const row of accepted()) {
-    if ((seen += summaryOf(row).points) > NEAR) break;
-    for (const { rings, places } of summaryOf(row).leaves) {
+  for (const { row, canonical, summary } of shapes()) {
+    if ((seen += summary.points) > NEAR) break;
+    for (const { rings, places } of summary.leaves) {
       rings.forEach((xy, k) => {
         for (let i = 0; i < xy.length; i += 2) {
           const far = Math.hypot(xy[i] - x, xy[i + 1] - y);
           if (far < best) {
             best = far;
-            found = { row, at: places[k][i / 2], x: xy[i], y: xy[i + 1] };
+            found = { row, canonical, at: places[k][i / 2], x: xy[i], y: xy[i + 1] };
           }
         }
       });
@@ -261,7 +293,7 @@ function readOut(event) {
     $('readout').textContent = `${label(x, step)} ${label(y, step)}`;
     return;
   }
-  const digits = found.row.canonical.slice(found.at, found.at + 160).split(/[,)]/, 1)[0];
+  const digits = found.canonical.slice(found.at, found.at + 160).split(/[,)]/, 1)[0];
   $('readout').textContent = digits + (state.rows.length > 1 ? `  line ${found.row.line}` : '');
   const { X, Y } = scale();
   svg.append(drawing('circle', { class: 'near', cx: X(found.x), cy: Y(found.y), r: 6 }));

@@ -269,6 +269,9 @@ class Page(unittest.TestCase):
         heights = [float(pair.split()[1]) for pair in re.findall(r"[\d.]+ [\d.]+", edge[2])]
         self.assertGreater(heights[0], heights[1])  # y up
         width = edge[0]
+        self.paste("LINESTRING(0 0,0 10,1 10,1 x)")  # the part before the refusal
+        self.wait(lambda: self.script("return document.querySelectorAll('#svg .refused .stop').length") == 1)
+        self.assertEqual([width, 2], [self.script(shape)[0][0], self.script(shape)[0][2].count("L")])
         self.by_id("in").click()
         self.wait(lambda: self.script(shape)[0][0] > 1.4 * width)
 
@@ -390,6 +393,7 @@ class Page(unittest.TestCase):
         for name in ("in", "out-zoom", "fit", "copy", "copy-link", "theme", "clear"):
             self.by_id(name).click() if self.by_id(name).is_displayed() else None
         self.assertEqual([], self.console())
+        self.script("localStorage.clear()")
 
     # ---- Names, keys, colours.
     def states(self):
@@ -410,7 +414,9 @@ class Page(unittest.TestCase):
                         self.assertTrue(control.accessible_name.strip())
 
     def test_contrast(self):
+        self.open()
         for theme in ("light", "dark"):
+            self.script("localStorage.clear()")
             for state in self.states():
                 if self.script("return document.documentElement.dataset.theme") != theme:
                     self.by_id("theme").click()
@@ -462,6 +468,8 @@ class Page(unittest.TestCase):
     def test_shots(self):
         if not ASKED.shots:
             self.skipTest("not asked for")
+        self.open()
+        self.script("localStorage.clear()")
         for theme in ("light", "dark"):
             for width in (1280, 400):
                 self.driver.execute_cdp_cmd("Emulation.setDeviceMetricsOverride", {"width": width, "height": 800, "deviceScaleFactor": 1, "mobile": False})
