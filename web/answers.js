@@ -1,6 +1,6 @@
 // The answers to what stands in the field.
-import { WktError } from '../javascript/src/index.js';
 import { $ } from './elements.js';
+import { isRefusal } from './refusals.js';
 import { state } from './state.js';
 import { Summary } from './summary.js';
 
@@ -41,7 +41,7 @@ function answerTo(text, offset, line) {
     row.canonical = state.wkt.canonical(text, { places: places(), whole: true });
     row.accepted = true;
   } catch (error) {
-    if (!(error instanceof WktError)) throw error;
+    if (!isRefusal(error)) throw error;
     Object.assign(row, { words: error.words, status: error.status, place: error.place });
   }
   return row;
@@ -88,7 +88,7 @@ function readOfRefused({ text, place }) {
     try {
       return state.wkt.canonical(front.slice(0, end) + ')'.repeat(depth), { places: places(), whole: true });
     } catch (error) {
-      if (!(error instanceof WktError)) throw error;
+      if (!isRefusal(error)) throw error;
     }
   }
   return null;

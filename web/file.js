@@ -84,7 +84,7 @@ function cell(words, n, kind = null) {
 function take(data) {
   $('bar').value = data.size > 0 ? data.done / data.size : 1;
   const rate = data.done / 1e6 / Math.max(data.seconds, 1e-3);
-  $('told').textContent = `${megabytes(data.done)} of ${megabytes(data.size)} MB in ${data.seconds.toFixed(1)} s, ${number(Math.round(rate))} MB/s`;
+  $('told').textContent = `${megabytes(data.done)} of ${megabytes(data.size)} MB in ${data.seconds.toFixed(1)} s, ${rate < 10 ? rate.toFixed(1) : number(Math.round(rate))} MB/s`;
   $('meter').replaceChildren(cell('lines', data.lines), cell('accepted', data.accepted), cell('refused', data.refused, 'bad-text'),
     cell('repeats', data.repeats, 'note-text'), cell('points', data.points), ...(data.blank > 0 ? [cell('blank', data.blank)] : []));
   if (data.lists) takeLists(data, data.lists);

@@ -1,10 +1,10 @@
 #!/usr/bin/env python3
 """Makes the page: one file with the module in it, which works from any folder, and without a server.
 
-    web/make.py [--module FILE] [--javascript FOLDER] [PAGE]
+    web/make.py [--check] [--module FILE] [--javascript FOLDER] [PAGE]
 
-FILE is dist/wasm/wkt.wasm, FOLDER javascript/src, and PAGE dist/web/index.html where they are left out. The same files give
-the same bytes.
+FILE is dist/wasm/wkt.wasm, FOLDER javascript/src, and PAGE dist/web/index.html where they are left out. The same files and
+the same zlib give the same bytes. --check makes nothing: it says whether PAGE is the page of these files, by any zlib.
 
 The modules of JavaScript are joined: each becomes a function that is called once and returns what the module exports. So
 only these forms are understood, each at the beginning of a line: `import { a, b as c } from './x.js';`,
@@ -16,6 +16,7 @@ import gzip
 import hashlib
 import os
 import re
+import sys
 
 HERE = os.path.dirname(os.path.abspath(__file__))
 TOP = os.path.dirname(HERE)
@@ -106,20 +107,31 @@ def sum_of(text):
     return f"'sha256-{base64.b64encode(hashlib.sha256(text.encode()).digest()).decode()}'"
 
 
+def packed(module):
+    """A module as it stands in the page: base64 of its gzip."""
+    return base64.b64encode(gzip.compress(module, 9, mtime=0)).decode()
+
+
+def packed_in(page):
+    """The same of a page that is made."""
+    found = re.search(r'<script id="module"[^>]*>([^<]*)<', page)
+    return found[1] if found else ""
+
+
 def made(module, package):
-    """The page, of the bytes of a module and the folder of the package."""
+    """The page, of a packed module and the folder of the package."""
     modules = Modules(package)
     main, worker = modules.reached(HERE + "/main.js"), modules.reached(HERE + "/worker.js")
     both = [path for path in main if path in worker]
     parts = {
-        "theme": text_of(HERE + "/theme.js"),
+        "first": text_of(HERE + "/first.js"),
         "style": text_of(HERE + "/page.css"),
         "core": modules.joined(both),
         "main": modules.joined([path for path in main if path not in both]),
         "worker": modules.joined([path for path in worker if path not in both]),
-        "module": base64.b64encode(gzip.compress(module, 9, mtime=0)).decode(),
+        "module": module,
     }
-    scripts = " ".join(sum_of(parts[name]) for name in ("theme", "core", "main"))
+    scripts = " ".join(sum_of(parts[name]) for name in ("first", "core", "main"))
     parts["policy"] = (
         f"default-src 'none'; script-src {scripts} 'wasm-unsafe-eval'; worker-src blob:; style-src {sum_of(parts['style'])}; "
         "img-src data:; connect-src 'none'; base-uri 'none'; form-action 'none'"
@@ -135,12 +147,23 @@ def main():
     parser.add_argument("--module", default=TOP + "/dist/wasm/wkt.wasm")
     parser.add_argument("--javascript", default=TOP + "/javascript/src")
     parser.add_argument("page", nargs="?", default=TOP + "/dist/web/index.html")
+    parser.add_argument("--check", action="store_true")
     asked = parser.parse_args()
+    package = os.path.abspath(asked.javascript)
     with open(asked.module, "rb") as file:
-        page = made(file.read(), os.path.abspath(asked.javascript))
+        module = file.read()
+    if asked.check:
+        with open(asked.page, encoding="utf-8", newline="") as file:
+            page = file.read()
+        there = packed_in(page)
+        if gzip.decompress(base64.b64decode(there)) != module:
+            sys.exit(f"{asked.page} has another module than {asked.module}")
+        if made(there, package) != page:
+            sys.exit(f"{asked.page} isn't the page of these sources: web/make.py makes it")
+        return
     os.makedirs(os.path.dirname(os.path.abspath(asked.page)), exist_ok=True)
     with open(asked.page, "w", encoding="utf-8", newline="") as file:
-        file.write(page)
+        file.write(made(packed(module), package))
 
 
 if __name__ == "__main__":

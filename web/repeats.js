@@ -30,10 +30,13 @@ class Texts {
       this.#chunks.push(new Uint8Array(CHUNK));
       this.#used = 0;
     }
-    const chunk = this.#chunks.length - 1;
-    this.#chunks[chunk].set(bytes.subarray(at, end + 1), this.#used);
+    const chunk = this.#chunks[this.#chunks.length - 1];
+    const place = this.#used;
+    // A loop is faster for a short text.
+    if (length > 100) chunk.set(bytes.subarray(at, end + 1), place);
+    else for (let i = 0; i < length; i++) chunk[place + i] = bytes[at + i];
     this.#used += length;
-    return chunk * CHUNK + this.#used - length;
+    return (this.#chunks.length - 1) * CHUNK + place;
   }
 
   /** Whether the text at `place` is the one from `at` to `end`. */
@@ -47,6 +50,12 @@ class Texts {
   }
 }
 
+// An entry of the table: two numbers of the hash, the line (0: the entry is free), and where the text is, in two numbers: in
+// memory, or, where the highest bit is set, in the file.
+const SIZE = 5;
+const LOW = 0, HIGH = 1, LINE = 2, WHERE = 3, WHERE_HIGH = 4;
+const IN_FILE = 2 ** 31;
+
 export class Repeats {
   /** How many lines name a geometry of an earlier line. */
   count = 0;
@@ -58,18 +67,13 @@ export class Repeats {
   full = false;
 
   #bits = 12;
+  #table = new Uint32Array(SIZE * 2 ** 12);
   #mostBits;
   #shown;
   #texts;
   #lineAt;
   #doubts = [];
   #found = []; // since the last `settle`
-  // Of each place of the table: the hash, the line (0: the place is free), and where its text is: in memory at
-  // `where`, or in the file at -1 - `where`.
-  #low;
-  #high;
-  #line;
-  #where;
 
   /**
    * @param {(place: number, length: number) => Uint8Array} lineAt the canonical text and line feed of the line that begins at
@@ -80,105 +84,94 @@ export class Repeats {
     this.#texts = new Texts(memory);
     this.#mostBits = bits;
     this.#shown = shown;
-    this.#make();
   }
 
   /** Takes the canonical text from `at` to its line feed at `end`, of a line that begins at `place` in the file. */
   add(low, high, bytes, at, end, line, place) {
     if (4 * this.entered >= 3 * 2 ** this.#bits && !this.full) this.#grow();
     if (line > LINES) this.full = true;
-    this.#seek(low & this.#mask, { low, high, bytes, at, end, line, place });
+    this.#seek(low, low, high, bytes, at, end, line, place);
   }
 
   /** Compares those that are left with their lines in the file. To be called before `bytes` are another's. */
   settle() {
     // A text that isn't the same goes on through the table, and may meet another that is left.
     while (this.#doubts.length > 0) {
-      const doubts = this.#doubts.sort((a, b) => a.from - b.from || a.key.line - b.key.line);
+      const doubts = this.#doubts.sort((a, b) => a.from - b.from || a.line - b.line);
       this.#doubts = [];
-      doubts.forEach(({ key, slot, from }, i) => {
+      doubts.forEach((doubt, i) => {
+        const { slot, from, low, high, bytes, at, end, line, place } = doubt;
         const next = i + 1 < doubts.length ? doubts[i + 1].from - from : NEAR;
-        if (sameText(this.#lineAt(from, next < NEAR ? NEAR : 4096), key)) this.#meet(key, slot);
-        else this.#seek((slot + 1) & this.#mask, key);
+        if (sameText(this.#lineAt(from, next < NEAR ? NEAR : 4096), doubt)) this.#meet(slot, line);
+        else this.#seek(slot + 1, low, high, bytes, at, end, line, place);
       });
     }
     this.first.push(...this.#found.sort((a, b) => a[0] - b[0]).slice(0, this.#shown - this.first.length));
     this.#found = [];
   }
 
-  get #mask() {
-    return 2 ** this.#bits - 1;
-  }
-
   /** Looks for a text from a place of the table on: it is found, entered, or left for `settle`. */
-  #seek(from, key) {
-    for (let slot = from; ; slot = (slot + 1) & this.#mask) {
-      if (this.#line[slot] === 0) {
-        if (!this.full) this.#enter(slot, key);
+  #seek(first, low, high, bytes, at, end, line, place) {
+    const mask = 2 ** this.#bits - 1;
+    const table = this.#table;
+    for (let slot = first & mask; ; slot = (slot + 1) & mask) {
+      const i = SIZE * slot;
+      if (table[i + LINE] === 0) {
+        if (!this.full) this.#enter(i, low, high, bytes, at, end, line, place);
         return;
       }
-      if (this.#low[slot] !== key.low || this.#high[slot] !== key.high) continue;
-      const where = this.#where[slot];
-      if (where < 0) {
-        this.#doubts.push({ key, slot, from: -1 - where });
+      if (table[i + LOW] !== low || table[i + HIGH] !== high) continue;
+      const where = table[i + WHERE] + (table[i + WHERE_HIGH] % IN_FILE) * 2 ** 32;
+      if (table[i + WHERE_HIGH] >= IN_FILE) {
+        this.#doubts.push({ slot, from: where, low, high, bytes, at, end, line, place });
         return;
       }
-      if (this.#texts.same(where, key.bytes, key.at, key.end)) {
-        this.#meet(key, slot);
+      if (this.#texts.same(where, bytes, at, end)) {
+        this.#meet(slot, line);
         return;
       }
     }
   }
 
-  #enter(slot, { low, high, bytes, at, end, line, place }) {
+  #enter(i, low, high, bytes, at, end, line, place) {
     const kept = this.#texts.put(bytes, at, end);
-    this.#low[slot] = low;
-    this.#high[slot] = high;
-    this.#line[slot] = line;
-    this.#where[slot] = kept < 0 ? -1 - place : kept;
+    const where = kept < 0 ? place : kept;
+    const table = this.#table;
+    table[i + LOW] = low;
+    table[i + HIGH] = high;
+    table[i + LINE] = line;
+    table[i + WHERE] = where % 2 ** 32;
+    table[i + WHERE_HIGH] = Math.floor(where / 2 ** 32) + (kept < 0 ? IN_FILE : 0);
     this.entered++;
   }
 
-  #meet(key, slot) {
+  /** A line names the geometry of an earlier one. */
+  #meet(slot, line) {
     this.count++;
     // Those that are left for `settle` are found in another order than that of the lines.
-    if (this.first.length < this.#shown) this.#found.push([key.line, this.#line[slot]]);
-  }
-
-  #make() {
-    const size = 2 ** this.#bits;
-    this.#low = new Uint32Array(size);
-    this.#high = new Uint32Array(size);
-    this.#line = new Uint32Array(size);
-    this.#where = new Float64Array(size);
+    if (this.first.length < this.#shown) this.#found.push([line, this.#table[SIZE * slot + LINE]]);
   }
 
   /** Twice the table, or no more entries. */
   #grow() {
-    if (this.#bits === this.#mostBits) {
-      this.full = true;
-      return;
-    }
     // What is left has its place in the table as it is.
     this.settle();
-    const [low, high, line, where] = [this.#low, this.#high, this.#line, this.#where];
-    this.#bits++;
+    const old = this.#table;
     try {
-      this.#make();
+      if (this.#bits === this.#mostBits) throw new RangeError();
+      this.#table = new Uint32Array(2 * old.length);
     } catch {
-      this.#bits--;
       this.full = true;
-      [this.#low, this.#high, this.#line, this.#where] = [low, high, line, where];
       return;
     }
-    for (let i = 0; i < line.length; i++) {
-      if (line[i] === 0) continue;
-      let slot = low[i] & this.#mask;
-      while (this.#line[slot] !== 0) slot = (slot + 1) & this.#mask;
-      this.#low[slot] = low[i];
-      this.#high[slot] = high[i];
-      this.#line[slot] = line[i];
-      this.#where[slot] = where[i];
+    this.#bits++;
+    const mask = 2 ** this.#bits - 1;
+    const table = this.#table;
+    for (let from = 0; from < old.length; from += SIZE) {
+      if (old[from + LINE] === 0) continue;
+      let slot = old[from + LOW] & mask;
+      while (table[SIZE * slot + LINE] !== 0) slot = (slot + 1) & mask;
+      for (let k = 0; k < SIZE; k++) table[SIZE * slot + k] = old[from + k];
     }
   }
 }
