@@ -53,11 +53,12 @@ function tallied(lines) {
 
 test('counts of many texts', () => {
   const tally = tallied(['POINT(1 2)', 'LINESTRING Z(0.5 -0.25 100,1 1 -7)', 'POLYGON M((0 0 5,1 0 6,1 1 7,0 0 5))', 'MULTIPOINT((1 2))',
-    'MULTILINESTRING((1 2,3 4))', 'MULTIPOLYGON(((0 0,1 0,1 1,0 0)))', 'GEOMETRYCOLLECTION ZM(POINT ZM(1 2 3 -4))', 'POINT EMPTY']);
-  assert.deepEqual(tally.kinds, { Point: 2, LineString: 1, Polygon: 1, MultiPoint: 1, MultiLineString: 1, MultiPolygon: 1, GeometryCollection: 1 });
-  assert.equal(tally.points, 15);
+    'MULTILINESTRING((1 2,3 4))', 'MULTIPOLYGON(((0 0,1 0,1 1,0 0)))', 'GEOMETRYCOLLECTION ZM(POINT ZM(1 2 3 -4))', 'POINT EMPTY',
+    'GEOMETRYCOLLECTION(POINT M(1 2 6),POINT Z(1 2 101))']);
+  assert.deepEqual(tally.kinds, { Point: 2, LineString: 1, Polygon: 1, MultiPoint: 1, MultiLineString: 1, MultiPolygon: 1, GeometryCollection: 2 });
+  assert.equal(tally.points, 17);
   const texts = ({ lowText, highText }) => [lowText, highText];
-  assert.deepEqual([tally.x, tally.y, tally.z, tally.m].map(texts), [['0', '3'], ['-0.25', '4'], ['-7', '100'], ['-4', '7']]);
+  assert.deepEqual([tally.x, tally.y, tally.z, tally.m].map(texts), [['0', '3'], ['-0.25', '4'], ['-7', '101'], ['-4', '7']]);
   assert.deepEqual(tally.sample.slice(0, 6), [1, 2, 0.5, -0.25, 1, 1]);
 });
 
@@ -120,6 +121,11 @@ for (const [name, settings] of [['in memory', {}], ['in the file', { memory: 0 }
       const { repeats, wanted } = check(random(600, 150), hash, settings);
       assert.deepEqual(repeats.first, wanted);
     }
+  });
+  test(`texts with one hash are told apart in a table that grows, by texts ${name}`, () => {
+    const { repeats, wanted } = check(random(10000, 6000), (line) => [parseInt(line.slice(6), 10) % 997, 1], settings);
+    assert.ok(repeats.entered > 3072);
+    assert.deepEqual(repeats.first, wanted);
   });
 }
 
