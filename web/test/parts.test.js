@@ -123,7 +123,7 @@ for (const [name, settings] of [['in memory', {}], ['in the file', { memory: 0 }
     }
   });
   test(`texts with one hash are told apart in a table that grows, by texts ${name}`, () => {
-    const { repeats, wanted } = check(random(10000, 6000), (line) => [parseInt(line.slice(6), 10) % 997, 1], settings);
+    const { repeats, wanted } = check(random(10000, 6000), (line) => [(parseInt(line.slice(6), 10) % 40) * 100, 1], settings);
     assert.ok(repeats.entered > 3072);
     assert.deepEqual(repeats.first, wanted);
   });
