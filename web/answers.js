@@ -1,6 +1,7 @@
 // The answers to what stands in the field.
 import { $ } from './elements.js';
 import { isRefusal } from './refusals.js';
+import { looksLikeOne } from './split.js';
 import { state } from './state.js';
 import { Summary } from './summary.js';
 
@@ -11,24 +12,6 @@ export const askedSplit = () => document.querySelector('input[name=split]:checke
 
 export function setSplit(split) {
   document.querySelector(`input[name=split][value=${split}]`).checked = true;
-}
-
-/** Whether lines are one geometry: whether the first of them leaves a parenthesis open, or has neither one nor EMPTY. */
-export function looksLikeOne(text) {
-  let from = 0;
-  while (from < text.length && text.charCodeAt(from) <= 32) from++;
-  const feed = text.indexOf('\n', from);
-  if (feed < 0 || text.slice(feed).trim() === '') return true;
-  let depth = 0;
-  let marks = false;
-  for (let i = from; i < feed; i++) {
-    const c = text[i];
-    if (c === '(' || c === ')') {
-      depth += c === '(' ? 1 : -1;
-      marks = true;
-    }
-  }
-  return depth > 0 || (!marks && !/\bempty\b/i.test(text.slice(from, Math.min(feed, from + 200))));
 }
 
 /** The parts of an accepted row's canonical text, which are found once. */

@@ -1,8 +1,9 @@
 // A file: its answers as the worker finds them.
-import { looksLikeOne, askedSplit, places } from './answers.js';
+import { askedSplit, places } from './answers.js';
 import { boundsInWords } from './canonical.js';
 import { $, count, element, number, short, withoutCode } from './elements.js';
 import { draw, fit } from './picture.js';
+import { looksLikeOne } from './split.js';
 import { show, state } from './state.js';
 import { repeatsInWords, say } from './verdict.js';
 

@@ -127,7 +127,7 @@ class Tests(Page):
     def test_splitting(self):
         self.open()
         for text, split, said in (("POINT(1 2)\nPOINT(3 4)", "auto", "All 2 lines accepted"), ("POINT(1\n2)", "auto", "Accepted: Point"), ("POINT\n(1 2)", "auto", "Accepted: Point"),
-                                  ("POINT EMPTY\nPOINT EMPTY", "auto", "All 2 lines accepted"), ("POINT(1\n2)", "lines", "2 of 2 lines refused"), ("POINT(1 2)\nPOINT(3 4)", "one", "Refused at line 2, column 1")):
+                                  ("POLYGON((0 0,1 1\nPOINT(1 2)", "auto", "1 of 2 lines refused"), ("POINT(1\n2)", "lines", "2 of 2 lines refused"), ("POINT(1 2)\nPOINT(3 4)", "one", "Refused at line 2, column 1")):
             with self.subTest(text + " " + split):
                 self.driver.find_element(By.CSS_SELECTOR, f"input[value={split}] + span").click()
                 self.paste(text)

@@ -1,4 +1,5 @@
 // Whether the text is accepted, and why it isn't.
+import { STATUS } from '../javascript/src/index.js';
 import { summaryOf, lineOf } from './answers.js';
 import { $, count, element, listed, number, short, withCode, withoutCode } from './elements.js';
 import { chosenRow, state } from './state.js';
@@ -46,9 +47,12 @@ function reason(row, many) {
   return [...where, ...found(row), ', and ', ...withCode(row.place.expected), ' was expected.'];
 }
 
+/** A word for those whose lines were taken for one text. */
+const perLine = (row) => (row.status === STATUS.NOT_WHOLE && row.place.line > 1 ? [' If each line is a geometry, choose “One per line”.'] : []);
+
 function sayOne(row) {
   if (row.accepted) say('good', `Accepted: ${summaryOf(row).kind}${withAxes(summaryOf(row).dimension)}`, holds(summaryOf(row)));
-  else if (row.place) say('bad', `Refused at line ${number(lineOf(row))}, column ${number(row.place.column)}`, ...reason(row, false));
+  else if (row.place) say('bad', `Refused at line ${number(lineOf(row))}, column ${number(row.place.column)}`, ...reason(row, false), ...perLine(row));
   else say('bad', 'Refused', ...reason(row, false));
 }
 

@@ -3,8 +3,19 @@ import assert from 'node:assert/strict';
 import { test } from 'node:test';
 import { Range, compare } from '../range.js';
 import { Repeats } from '../repeats.js';
+import { looksLikeOne } from '../split.js';
 import { Summary } from '../summary.js';
 import { Tally } from '../tally.js';
+
+// A text; whether it looks like one geometry.
+const SPLITS = [
+  ['', true], ['POINT(1 2)', true], ['\n POINT(1 2) \n\n', true], ['POINT(1 2)\nPOINT(3 4)', false], ['POINT(1\n2)', true], ['POINT\n(1 2)', true], ['POINT\nZ (1 2 3)', true],
+  ['POINT\nEMPTY', true], ['POINT EMPTY\nPOINT EMPTY', false], ['GEOMETRYCOLLECTION (\n  POINT(1 2),\n  POINT(3 4)\n)', true], ['POLYGON((0 0,1 1\nPOINT(1 2)', false],
+  ['MULTIPOINT(1 2,\nEMPTY)', true], ['FOO\nPOINT(1 2)', false], ['POINT(1 2))\n(3 4)', false], [`POINT(${' '.repeat(1e6)}1\n2)`, true],
+];
+test('one geometry over lines, or one on each line', () => {
+  for (const [text, one] of SPLITS) assert.equal(looksLikeOne(text), one, text.slice(0, 60));
+});
 
 const bytesOf = (text) => new TextEncoder().encode(text);
 
