@@ -102,6 +102,16 @@ class Tests(Page):
         self.assertIn("GeoJSON has no", self.said("out"))
         self.assertFalse(self.by_id("copy").is_enabled())
 
+    def test_copies(self):
+        self.open()
+        for button, copied in (("copy", "POINT(1 2)"), ("copy-link", self.script("return location.href.split('#')[0]") + "#wkt=point+%281.0+2%29")):
+            with self.subTest(button):
+                self.type("point (1.0 2)")
+                self.by_id(button).click()
+                self.wait(lambda button=button: self.said(button) == "Copied")
+                self.by_id("text").send_keys(Keys.CONTROL, "av")
+                self.assertEqual(copied, self.by_id("text").get_attribute("value"))
+
     def test_notes(self):
         self.open()
         self.type("POLYGON((0 0,1 0,1 1))")
@@ -343,6 +353,9 @@ class Tests(Page):
         self.driver.find_element(By.CSS_SELECTOR, "#rows [tabindex='0']").send_keys(Keys.ARROW_UP)
         self.assertEqual("POINT(3 4)", self.said("out"))
         self.assertEqual("3", self.driver.switch_to.active_element.text.split()[0])
+        alt("c")
+        self.wait(lambda: self.said("copy") == "Copied")
+        self.driver.find_element(By.CSS_SELECTOR, "#rows [tabindex='0']").send_keys("")
         self.press(Keys.ARROW_DOWN, Keys.ENTER)
         self.assertEqual(("text", ","), (self.driver.switch_to.active_element.get_attribute("id"), self.script(selected)))
 
