@@ -15,6 +15,7 @@ const WITHOUT_FILE = $('text').placeholder;
 let worker = null;
 let saved = null; // the address of the canonical lines
 let name = '';
+let opened = null; // the file, and how many others were dropped with it
 
 function start() {
   const address = URL.createObjectURL(new Blob([$('core').textContent, '\n', $('worker').textContent], { type: 'text/javascript' }));
@@ -33,6 +34,7 @@ export function closeFile() {
   stopWorker();
   if (saved) URL.revokeObjectURL(saved);
   saved = null;
+  opened = null;
   state.points = null;
   $('file-card').hidden = true;
   document.body.classList.remove('has-file');
@@ -43,6 +45,7 @@ export function closeFile() {
 export async function readFile(file, more = 0) {
   closeFile();
   Object.assign(state, { rows: [], chosen: -1, points: new Float64Array(0), pointsOfFile: 0 });
+  opened = { file, more };
   name = file.name;
   document.body.classList.add('has-file');
   $('text').placeholder = 'Type or paste here to close the file';
@@ -68,6 +71,13 @@ export async function readFile(file, more = 0) {
   } catch (error) {
     fail(error.message);
   }
+}
+
+/** Reads the file once more, as it is asked for now. False: none is open. */
+export function rereadFile() {
+  if (!opened) return false;
+  readFile(opened.file, opened.more);
+  return true;
 }
 
 function fail(words) {

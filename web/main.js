@@ -5,7 +5,7 @@ import { answerText, showCanonical } from './canonical.js';
 import { goToNextRefusal, goToPlace, rowAtCursor, showMarks, startEditor } from './editor.js';
 import { $, element } from './elements.js';
 import { EXAMPLES } from './examples.js';
-import { closeFile, readFile, startFiles } from './file.js';
+import { closeFile, readFile, rereadFile, startFiles } from './file.js';
 import { draw, fit, forgetSingle, startPicture } from './picture.js';
 import { showRows, startRows } from './rows.js';
 import { chosenRow, onShow, show, state } from './state.js';
@@ -184,8 +184,9 @@ function startControls() {
     if (text.value.length < SLOW) changed(typed);
     else typing = setTimeout(changed, WAIT, typed);
   });
-  $('places').addEventListener('change', () => changed());
-  document.querySelectorAll('input[name=split]').forEach((input) => input.addEventListener('change', () => changed()));
+  for (const control of [$('places'), ...document.querySelectorAll('input[name=split]')]) {
+    control.addEventListener('change', () => rereadFile() || changed());
+  }
   $('examples').addEventListener('change', () => {
     setSplit('auto');
     put(EXAMPLES[$('examples').value] ?? '');

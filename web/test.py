@@ -230,6 +230,15 @@ class Tests(Page):
         self.assertEqual("Accepted: Point", self.said("say"))
         self.assertFalse(self.by_id("file-card").is_displayed())
 
+    def test_file_read_again(self):
+        self.open()
+        self.drop(self.file("POINT(1.25 2)\n" * 20000))
+        self.wait(lambda: self.said("say") == "All 20,000 lines accepted")
+        self.by_id("places").send_keys("1")
+        self.wait(lambda: self.said("say") == "20,000 of 20,000 lines refused")
+        self.driver.find_element(By.CSS_SELECTOR, "input[name=split][value=one] + span").click()
+        self.wait(lambda: self.said("say") == "1 of 1 line refused")
+
     def test_one_text_in_a_file(self):
         self.open()
         self.drop(self.file("LINESTRING (\n" + ",\n".join(f"{n} {n}" for n in range(40000)) + ")\n"))
