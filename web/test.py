@@ -20,6 +20,7 @@ import unittest
 from selenium import webdriver
 from selenium.webdriver.common.by import By
 from selenium.webdriver.common.keys import Keys
+from selenium.webdriver.support.ui import Select
 
 sys.path.insert(0, os.path.dirname(os.path.abspath(__file__)) + "/test")
 from chromium import CONTRAST, Page, Quiet
@@ -234,7 +235,7 @@ class Tests(Page):
         self.open()
         self.drop(self.file("POINT(1.25 2)\n" * 20000))
         self.wait(lambda: self.said("say") == "All 20,000 lines accepted")
-        self.by_id("places").send_keys("1")
+        Select(self.by_id("places")).select_by_value("1")
         self.wait(lambda: self.said("say") == "20,000 of 20,000 lines refused")
         self.driver.find_element(By.CSS_SELECTOR, "input[name=split][value=one] + span").click()
         self.wait(lambda: self.said("say") == "1 of 1 line refused")
