@@ -7,8 +7,8 @@
 const CHUNK = 16 << 20;
 /** How far apart two lines may be that are read from the file at once. */
 const NEAR = 64 << 10;
-/** A line's number has 32 bits in the table. */
-const LINES = 2 ** 32 - 1;
+/** A line's number has 31 bits in the table. */
+const LINES = 2 ** 31 - 1;
 const FEED = 10;
 
 /** Canonical texts in memory, each with its line feed. */
@@ -50,11 +50,11 @@ class Texts {
   }
 }
 
-// An entry of the table: two numbers of the hash, the line (0: the entry is free), and where the text is, in two numbers: in
-// memory, or, where the highest bit is set, in the file.
+// An entry of the table: two numbers of the hash, the line (0: the entry is free), and where the text is, in two numbers of 30
+// bits: in memory, or, where -1 less the second stands, in the file. Numbers of 30 bits are faster than others.
 const SIZE = 5;
 const LOW = 0, HIGH = 1, LINE = 2, WHERE = 3, WHERE_HIGH = 4;
-const IN_FILE = 2 ** 31;
+const PART = 2 ** 30;
 
 export class Repeats {
   /** How many lines name a geometry of an earlier line. */
@@ -67,7 +67,9 @@ export class Repeats {
   full = false;
 
   #bits = 12;
-  #table = new Uint32Array(SIZE * 2 ** 12);
+  #mask = 2 ** 12 - 1;
+  #table = new Int32Array(SIZE * 2 ** 12);
+  #room = 3 * 2 ** 10; // entries, before the table grows
   #mostBits;
   #shown;
   #texts;
@@ -86,9 +88,19 @@ export class Repeats {
     this.#shown = shown;
   }
 
-  /** Takes the canonical text from `at` to its line feed at `end`, of a line that begins at `place` in the file. */
+  /** Makes room for about so many geometries at once, which is faster than as they come. */
+  expect(geometries) {
+    let bits = this.#bits;
+    while (bits < this.#mostBits && 3 * 2 ** bits < 4 * geometries) bits++;
+    if (bits > this.#bits) this.#grow(bits);
+  }
+
+  /**
+   * Takes the canonical text from `at` to its line feed at `end`, of a line that begins at `place` in the file, and two numbers
+   * of 30 bits as its hash.
+   */
   add(low, high, bytes, at, end, line, place) {
-    if (4 * this.entered >= 3 * 2 ** this.#bits && !this.full) this.#grow();
+    if (this.entered >= this.#room && !this.full) this.#grow(this.#bits + 1);
     if (line > LINES) this.full = true;
     this.#seek(low, low, high, bytes, at, end, line, place);
   }
@@ -112,7 +124,7 @@ export class Repeats {
 
   /** Looks for a text from a place of the table on: it is found, entered, or left for `settle`. */
   #seek(first, low, high, bytes, at, end, line, place) {
-    const mask = 2 ** this.#bits - 1;
+    const mask = this.#mask;
     const table = this.#table;
     for (let slot = first & mask; ; slot = (slot + 1) & mask) {
       const i = SIZE * slot;
@@ -121,12 +133,12 @@ export class Repeats {
         return;
       }
       if (table[i + LOW] !== low || table[i + HIGH] !== high) continue;
-      const where = table[i + WHERE] + (table[i + WHERE_HIGH] % IN_FILE) * 2 ** 32;
-      if (table[i + WHERE_HIGH] >= IN_FILE) {
-        this.#doubts.push({ slot, from: where, low, high, bytes, at, end, line, place });
+      const part = table[i + WHERE_HIGH];
+      if (part < 0) {
+        this.#doubts.push({ slot, from: table[i + WHERE] + (-1 - part) * PART, low, high, bytes, at, end, line, place });
         return;
       }
-      if (this.#texts.same(where, bytes, at, end)) {
+      if (this.#texts.same(table[i + WHERE] + part * PART, bytes, at, end)) {
         this.#meet(slot, line);
         return;
       }
@@ -140,8 +152,9 @@ export class Repeats {
     table[i + LOW] = low;
     table[i + HIGH] = high;
     table[i + LINE] = line;
-    table[i + WHERE] = where % 2 ** 32;
-    table[i + WHERE_HIGH] = Math.floor(where / 2 ** 32) + (kept < 0 ? IN_FILE : 0);
+    const part = Math.floor(where / PART);
+    table[i + WHERE] = where % PART;
+    table[i + WHERE_HIGH] = kept < 0 ? -1 - part : part;
     this.entered++;
   }
 
@@ -152,20 +165,22 @@ export class Repeats {
     if (this.first.length < this.#shown) this.#found.push([line, this.#table[SIZE * slot + LINE]]);
   }
 
-  /** Twice the table, or no more entries. */
-  #grow() {
+  /** A larger table, or no more entries. */
+  #grow(bits) {
     // What is left has its place in the table as it is.
     this.settle();
     const old = this.#table;
     try {
-      if (this.#bits === this.#mostBits) throw new RangeError();
-      this.#table = new Uint32Array(2 * old.length);
+      if (bits > this.#mostBits) throw new RangeError();
+      this.#table = new Int32Array(SIZE * 2 ** bits);
     } catch {
       this.full = true;
       return;
     }
-    this.#bits++;
-    const mask = 2 ** this.#bits - 1;
+    this.#bits = bits;
+    this.#mask = 2 ** bits - 1;
+    this.#room = 3 * 2 ** (bits - 2);
+    const mask = this.#mask;
     const table = this.#table;
     for (let from = 0; from < old.length; from += SIZE) {
       if (old[from + LINE] === 0) continue;

@@ -3,9 +3,11 @@ import { Range } from './range.js';
 
 /** How many points of a file are drawn. */
 const SAMPLE = 15000;
-const SPACE = 32, MINUS = 45, POINT = 46, ZERO = 48, NINE = 57, LETTERS = 65, M = 77, Z = 90;
+const SPACE = 32, MINUS = 45, POINT = 46, ZERO = 48, NINE = 57, M = 77, Z = 90;
 // More digits than this may not fit in a double, so the text is converted.
 const EXACT = 15;
+
+const BITS = 2 ** 30 - 1;
 
 const latin1 = new TextDecoder('latin1');
 
@@ -31,7 +33,7 @@ export class Tally {
   m = new Range();
   /** Points of all the file, as x, y, x, y ..: each had the same chance. */
   sample = [];
-  /** The hash of the text that was added last: two numbers of 32 bits. */
+  /** The hash of the text that was added last: two numbers of 30 bits. */
   low = 0;
   high = 0;
 
@@ -52,44 +54,41 @@ export class Tally {
     for (let i = at; i <= end; i++) {
       const c = bytes[i];
       low = Math.imul(low ^ c, 0x01000193);
-      high = Math.imul(high ^ (c + 0x55), 0x85ebca6b) ^ (high >>> 13);
       if (c >= ZERO && c <= NINE) {
         if (from < 0) from = i;
-        number = number * 10 + c - ZERO;
+        number = number * 10 + (c - ZERO);
         scale *= 10;
-      } else if (c === POINT) {
-        scale = 1;
-      } else if (c === MINUS) {
-        from = i;
-      } else {
-        if (from >= 0) {
-          const value = this.#value(bytes, from, i, number, scale);
-          const range = axis === 0 ? this.x : axis === 1 ? this.y : axis === 2 ? third : this.m;
-          if (!range.within(value)) range.add(value, latin1.decode(bytes.subarray(from, i)));
-          if (axis === 0) x = value;
-          else if (axis === 1) this.#point(x, value);
-          axis++;
-          from = -1;
-          number = 0;
-          scale = 0;
-        }
-        if (c !== SPACE) axis = 0;
-        // The third number is m where the header says M and not ZM.
-        if (c >= LETTERS) {
-          if (c === Z) third = this.z;
-          else if (c === M && bytes[i - 1] === SPACE) third = this.m;
-        }
+        continue;
       }
+      if (c === POINT) {
+        scale = 1;
+        continue;
+      }
+      if (c === MINUS) {
+        from = i;
+        continue;
+      }
+      high = Math.imul(high ^ low, 0x85ebca6b) ^ (high >>> 13);
+      if (from >= 0) {
+        let value = scale > 0 ? number / scale : number;
+        if (bytes[from] === MINUS) value = -value;
+        if (i - from > EXACT) value = Number(latin1.decode(bytes.subarray(from, i)));
+        const range = axis === 0 ? this.x : axis === 1 ? this.y : axis === 2 ? third : this.m;
+        if (!range.within(value)) range.add(value, latin1.decode(bytes.subarray(from, i)));
+        if (axis === 0) x = value;
+        else if (axis === 1) this.#point(x, value);
+        axis++;
+        from = -1;
+        number = 0;
+        scale = 0;
+      }
+      if (c !== SPACE) axis = 0;
+      // The third number is m where the header says M and not ZM.
+      if (c === Z) third = this.z;
+      else if (c === M && bytes[i - 1] === SPACE) third = this.m;
     }
-    this.low = low >>> 0;
-    this.high = high >>> 0;
-  }
-
-  /** The double that is nearest to a number. */
-  #value(bytes, from, to, number, scale) {
-    if (to - from > EXACT) return Number(latin1.decode(bytes.subarray(from, to)));
-    const value = scale > 0 ? number / scale : number;
-    return bytes[from] === MINUS ? -value : value;
+    this.low = low & BITS;
+    this.high = high & BITS;
   }
 
   #point(x, y) {

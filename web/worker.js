@@ -159,6 +159,7 @@ class Reading {
       from = to + 1;
     }
     this.#repeats.settle();
+    if (place === 0) this.#repeats.expect(this.#repeats.entered * this.#file.size / bytes.length);
     kept.push(answers.subarray(done));
     this.#keep(kept);
   }
