@@ -10,10 +10,10 @@ const PIECE = 4 << 20;
 const LONGEST = 256 << 20;
 /** How much canonical text is kept to be saved. */
 const KEPT = 2 ** 30;
-const FEED = 10, CLOSE = 41, OPEN = 40, REFUSED = 114; // `refused` alone begins with a small letter
+const FEED = 10;
+const REFUSED = 114; // `refused` alone begins with a small letter
 const encoder = new TextEncoder();
 const latin1 = new TextDecoder('latin1');
-const isSpace = (c) => c === 32 || (c >= 9 && c <= 13 && c !== 11 && c !== 12);
 
 /** What the file can't be, said in a user's words. */
 class Unreadable extends Error {}
@@ -27,23 +27,17 @@ function noText([a, b, c, d]) {
 }
 
 /** Where the geometry ends that an accepted line begins with. Its parentheses are balanced, and nothing else has any. */
-function geometryEnd(bytes, from, to) {
+function geometryEnd(bytes, from) {
   let depth = 0;
-  for (let i = from; i < to; i++) {
+  for (let i = from; i < bytes.length; i++) {
     const c = bytes[i];
-    if (c === OPEN) depth++;
-    else if (c === CLOSE && --depth === 0) return i + 1;
+    if (c === 40) depth++; // (
+    else if (c === 41 && --depth === 0) return i + 1; // )
+    else if (c === 10) break;
   }
   // It has none: a kind and EMPTY.
-  return to;
-}
-
-/** Where the first `EMPTY` of a line ends. */
-function emptyEnd(bytes, from, to) {
-  for (let i = from; i + 5 <= to; i++) {
-    if ((bytes[i] | 32) === 101 && latin1.decode(bytes.subarray(i, i + 5)).toUpperCase() === 'EMPTY') return i + 5;
-  }
-  return to;
+  const at = latin1.decode(bytes.subarray(from, lineEnd(bytes, from))).toUpperCase().indexOf('EMPTY');
+  return from + at + 'EMPTY'.length;
 }
 
 class Reading {
@@ -112,7 +106,7 @@ class Reading {
       const text = this.#wkt.canonicalBytes(bytes, { places: this.#places, whole: true });
       const answer = joined([text, encoder.encode('\n')]);
       this.#accepted = 1;
-      this.#tally.add(answer, 0, text.length);
+      this.#tally.add(answer, 0);
       this.#keep([answer]);
     } catch (error) {
       if (!isRefusal(error)) throw error;
@@ -138,18 +132,21 @@ class Reading {
     let done = 0; // answers that are kept
     let from = 0;
     for (let at = 0; at < answers.length; ) {
-      const end = lineEnd(answers, at);
-      const to = lineEnd(bytes, from);
       this.#lines++;
       const accepted = answers[at] !== REFUSED;
-      if (accepted && this.#isWhole(bytes, from, to, answers, at, end)) {
+      // What follows the geometry, or the line, is to be white space.
+      const rest = passSpace(bytes, accepted ? geometryEnd(bytes, from) : from);
+      const whole = rest === bytes.length || bytes[rest] === FEED;
+      const to = whole ? rest : lineEnd(bytes, rest);
+      let end;
+      if (accepted && whole) {
         this.#accepted++;
-        this.#tally.add(answers, at, end);
+        end = this.#tally.add(answers, at);
         this.#repeats.add(this.#tally.low, this.#tally.high, answers, at, end, this.#lines, place + from);
-      } else if (!accepted && isBlank(bytes, from, to)) {
-        this.#blank++;
       } else {
-        this.#refusals.add(bytes.subarray(from, to), this.#lines);
+        end = lineEnd(answers, at);
+        if (whole) this.#blank++;
+        else this.#refusals.add(bytes.subarray(from, to), this.#lines);
         if (accepted) {
           kept.push(answers.subarray(done, at), encoder.encode('refused\n'));
           done = end + 1;
@@ -162,12 +159,6 @@ class Reading {
     if (place === 0) this.#repeats.expect(this.#repeats.entered * this.#file.size / bytes.length);
     kept.push(answers.subarray(done));
     this.#keep(kept);
-  }
-
-  /** Whether nothing but white space follows the geometry in its line. */
-  #isWhole(bytes, from, to, answers, at, end) {
-    const stop = answers[end - 1] === CLOSE ? geometryEnd(bytes, from, to) : emptyEnd(bytes, from, to);
-    return isBlank(bytes, stop, to);
   }
 
   #keep(pieces) {
@@ -223,9 +214,11 @@ class Reading {
   }
 }
 
-function isBlank(bytes, from, to) {
-  for (let i = from; i < to; i++) if (!isSpace(bytes[i])) return false;
-  return true;
+/** The first place from `from` on that is no white space, or a line feed. */
+function passSpace(bytes, from) {
+  let at = from;
+  while (at < bytes.length && (bytes[at] === 32 || bytes[at] === 13 || bytes[at] === 9)) at++;
+  return at;
 }
 
 function joined(pieces) {

@@ -58,7 +58,7 @@ test('each point of one text, with its place', () => {
 
 function tallied(lines) {
   const tally = new Tally();
-  for (const line of lines) tally.add(bytesOf(`${line}\n`), 0, line.length);
+  for (const line of lines) assert.equal(tally.add(bytesOf(`${line}\n`), 0), line.length);
   return tally;
 }
 
