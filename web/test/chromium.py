@@ -134,6 +134,7 @@ class Page(unittest.TestCase):
         yield "accepted"
         self.choose_example("Refused, and why")
         yield "refused"
-        self.drop(self.file("POINT(1 2)\nPOINT(1)\n" * 20000))
+        line = ",".join(f"{n} {n * n / 40}" for n in range(-40, 41))
+        self.drop(self.file(f"LINESTRING({line})\nPOINT(1)\n" * 500))
         self.wait(lambda: "refused" in self.said("say"))
         yield "file"
