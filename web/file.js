@@ -61,7 +61,7 @@ export async function readFile(file, more = 0) {
   fit();
   const asked = askedSplit();
   try {
-    const whole = asked === 'one' || (asked === 'auto' && looksLikeOne(await file.slice(0, FRONT).text()));
+    const whole = asked === 'one' || (asked === 'auto' && looksLikeOne(await file.slice(0, FRONT).text(), file.size > FRONT));
     const others = more > 0 ? ` ${count(more, 'other file')} that came with it ${more === 1 ? 'is' : 'are'} not read.` : '';
     say('idle', `Reading ${short(name, 60)}`, (whole ? 'The whole file is one text.' : 'Each line is a text.') + others);
     worker = start();
@@ -154,6 +154,7 @@ function finish(data) {
   const lines = data.lines - data.blank;
   const stopped = data.stopped ? 'Stopped: ' : '';
   if (lines === 0) say('idle', `${short(name, 60)} has no text`);
+  else if (lines === 1 && data.refused === 1) say('bad', 'The text is refused');
   else if (data.refused > 0) say('bad', `${stopped}${number(data.refused)} of ${count(lines, 'line')} refused`, repeatsInWords(data.repeats));
   else say('good', `${stopped}${lines === 1 ? 'The text is' : `All ${count(lines, 'line')}`} accepted`, lines === 1 ? '' : repeatsInWords(data.repeats));
   offer(data);

@@ -17,12 +17,15 @@ function openIn(text, from, to) {
   return depth;
 }
 
-/** Whether a text of some lines looks like one geometry: whether its first line doesn't end one, and the next goes on with it. */
-export function looksLikeOne(text) {
+/**
+ * Whether a text of some lines looks like one geometry: whether its first line doesn't end one, and the next goes on with it.
+ * `cut`: the text is the front of a longer one. Where its first line is, too, that isn't known, and the answer is no.
+ */
+export function looksLikeOne(text, cut = false) {
   let from = 0;
   while (from < text.length && text.charCodeAt(from) <= 32) from++;
   const feed = text.indexOf('\n', from);
-  if (feed < 0 || text.slice(feed).trim() === '') return true;
+  if (feed < 0 || text.slice(feed).trim() === '') return !cut;
   const next = firstWord(text, feed);
   const open = openIn(text, from, feed);
   if (open === null) return !/\bempty\b/i.test(text.slice(from, Math.min(feed, from + 200))) && ['', 'Z', 'M', 'ZM', 'EMPTY'].includes(next);

@@ -238,7 +238,7 @@ class Tests(Page):
         Select(self.by_id("places")).select_by_value("1")
         self.wait(lambda: self.said("say") == "20,000 of 20,000 lines refused")
         self.driver.find_element(By.CSS_SELECTOR, "input[name=split][value=one] + span").click()
-        self.wait(lambda: self.said("say") == "1 of 1 line refused")
+        self.wait(lambda: self.said("say") == "The text is refused")
 
     def test_one_text_in_a_file(self):
         self.open()
@@ -246,6 +246,9 @@ class Tests(Page):
         self.wait(lambda: "accepted" in self.said("say"))
         self.assertIn("LineString 1", self.said("file-out"))
         self.assertIn("40,000\npoints", self.said("file-out"))
+        line = "GEOMETRYCOLLECTION(LINESTRING(" + ",".join(f"{n} {n}" for n in range(20000)) + "))\n"
+        self.drop(self.file(line + "POINT(1 2)\n" + line))
+        self.wait(lambda: self.said("say") == "All 3 lines accepted")
 
     def test_large_file(self):
         """The page stays free while a large file is read, and stops when asked."""

@@ -15,6 +15,8 @@ const SPLITS = [
 ];
 test('one geometry over lines, or one on each line', () => {
   for (const [text, one] of SPLITS) assert.equal(looksLikeOne(text), one, text.slice(0, 60));
+  for (const front of ['GEOMETRYCOLLECTION(POINT(1 2),', 'LINESTRING(1 2,3', 'LINESTRING(1 2,3 4\n']) assert.equal(looksLikeOne(front, true), false, front);
+  assert.equal(looksLikeOne('LINESTRING(1 2,\n3', true), true);
 });
 
 const bytesOf = (text) => new TextEncoder().encode(text);
