@@ -13,3 +13,5 @@ mod Depths
 mod TokenViews
 mod Fronting
 mod ByteViews
+mod Leading
+mod ByteSteps

@@ -13,3 +13,4 @@ pub mod Goes
 pub mod NothingMaker
 pub mod TokensView
 pub mod BytesView
+pub mod Leads

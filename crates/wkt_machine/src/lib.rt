@@ -5,6 +5,7 @@
 
 pub mod builder;
 pub mod bytes;
+mod coordinates;
 pub mod drive;
 pub mod front;
 pub mod laws;
