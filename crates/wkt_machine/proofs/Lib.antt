@@ -15,3 +15,5 @@ mod Fronting
 mod ByteViews
 mod Leading
 mod ByteSteps
+mod TakeNext
+mod HeadSteps

@@ -14,3 +14,4 @@ pub mod NothingMaker
 pub mod TokensView
 pub mod BytesView
 pub mod Leads
+pub mod HeadBytes

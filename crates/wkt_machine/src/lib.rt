@@ -8,6 +8,7 @@ pub mod bytes;
 mod coordinates;
 pub mod drive;
 pub mod front;
+mod heads;
 pub mod laws;
 pub mod machine;
 pub mod nothing;
