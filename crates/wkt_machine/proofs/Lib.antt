@@ -17,3 +17,6 @@ mod Leading
 mod ByteSteps
 mod TakeNext
 mod HeadSteps
+mod Grown
+mod Holding
+mod Valued

@@ -15,3 +15,7 @@ pub mod TokensView
 pub mod BytesView
 pub mod Leads
 pub mod HeadBytes
+pub mod Growing
+pub mod Trees
+pub mod Growers
+pub mod Values

@@ -16,6 +16,8 @@ mod part;
 pub mod source;
 pub mod step;
 pub mod tokens;
+pub mod tree;
+pub mod value;
 
 pub use builder::Builder;
 pub use bytes::Bytes;
@@ -25,6 +27,10 @@ pub use nothing::Nothing;
 pub use part::{Axis, Part};
 pub use source::{At, Source, Walk, Walked};
 pub use tokens::OneByOne;
+pub use tree::{Grower, Tree};
+pub use value::{Unread, read};
 
 #[cfg(test)]
 mod tests;
+#[cfg(test)]
+mod value_tests;

@@ -113,7 +113,8 @@ fn read_near(places: u32, body: &[u8]) -> Option<u128>
     if places > SHORT_PLACES || body.len() > SHORT_BYTES || body.len() < VECTOR_BYTES {
         return None;
     }
-    let (whole, at) = digits_from(body, 0, body.len(), 0);
+    // Few whole parts are longer than a vector. With a constant for their bound, the loop takes no turns.
+    let (whole, at) = digits_from(body, 0, VECTOR_BYTES, 0);
     if at == body.len() || body[at] != b'.' {
         return None;
     }

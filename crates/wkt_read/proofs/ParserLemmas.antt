@@ -16,3 +16,4 @@ pub mod OneMessage
 pub mod Valued
 pub mod Refusals
 pub mod Ascii
+pub mod Empty

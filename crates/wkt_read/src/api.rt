@@ -14,6 +14,7 @@ ghost use Rattle.wkt_read.specs.Refusal.{IsRefused, IsTextRefused, IfText};
 ghost use Rattle.wkt_read.specs.Answered.{IsFront, IsFrontTo, Begins, IsReadOff, HasBadNumber, OnText, OnMessage};
 
 use crate::error::ReadError;
+use crate::messages::Message;
 use crate::parser::geometries::value;
 use crate::tokenizer::peekable::PeekableTokens;
 use crate::tokenizer::tokens::Tokens;
@@ -124,8 +125,12 @@ impl<T: WktNum> FromWktStr for Wkt<T> {
 
     ghost tree = { tree };
 
-    // Not by `read`: a geometry costs some instructions each time that it is handed on.
+    // Not by `read`: a geometry costs some instructions each time that it is handed on. A text of no bytes, as of a
+    // blank cell, is refused before there is a stream.
     fn from_str(alloc: Global, text: &str) -> Result<Self, ReadError> {
+        if text.is_empty() {
+            return Err(ReadError::Text(Message::Format.text()));
+        }
         let mut tokens = PeekableTokens::new(Tokens::from_str(text));
         value(alloc, &mut tokens, false)
     }

@@ -183,6 +183,10 @@ gives-run lexemes text text' from end at ahead l is same order ends shows =
 pub found-nul : (lexemes : List Placed) (text : List ℕ) (c : code.Class) (at : ℕ) → (c ≡ class.Nul) ⊎ (c ≡ class.White) → c ≢ class.White → Found lexemes text c at → lexemes ≡ []
 found-nul lexemes text c at either stops found = ⊎_elim (λ e. let r : Found lexemes text class.Nul at = subst (λ k. Found lexemes text k at) e found in r.0) (λ e. absurd (stops e)) either
 
+-- a run is what begins
+pub run-found : (lexemes : List Placed) (text : List ℕ) (c : code.Class) (at : ℕ) → c ≡ class.Run → Found lexemes text c at → Found lexemes text class.Run at
+run-found lexemes text c at e found = subst (λ k. Found lexemes text k at) e found
+
 -- a mark is the first lexeme
 module _ (lexemes : List Placed) (text : List ℕ) (c : code.Class) (at end : ℕ) where
   pub gives-open : c ≡ class.Open → end ≡ at → Found lexemes text c at → lexemes ≡ record { lexeme = lex.Open; end = end } ∷ placed_from at (drop at text)

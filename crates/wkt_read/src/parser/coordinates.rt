@@ -1,5 +1,5 @@
 //! Readers of what geometries are made of.
-ghost use Rattle.std.specs.Prelude.{option_map};
+ghost use Rattle.std.specs.Prelude.{◌≡◌, Err, option_map};
 ghost use Rattle.wkt_types.specs.Coords.{numbers_of};
 ghost use Rattle.wkt_types.specs.Values.{HasDim, HasDimIfAny};
 ghost use Rattle.wkt_read.specs.Parser.Outcome.{number_at, coord_at, opening_at, closing_at, point_at};
@@ -26,10 +26,25 @@ pub(crate) fn number<T: WktNum>(
     match tokens.take() {
         Lexeme::Number(digits) => match T::read_number(digits) {
             Some(number) => Ok(number),
-            None => Err(Message::BadNumber),
+            None => refused(Message::BadNumber),
         },
-        _ => Err(expected),
+        _ => refused(expected),
     }
+}
+
+/// An error, which comes through memory: its place is cleared here, away from the number, which is answered in registers.
+#[inline(always)]
+fn refused<T>(message: Message) -> Result<T, Message>
+    ensures { result ≡ Err message }
+{
+    refused_apart(message)
+}
+
+#[inline(never)]
+fn refused_apart<T>(message: Message) -> Result<T, Message>
+    ensures { result ≡ Err message }
+{
+    Err(message)
 }
 
 #[tactic(auto)]

@@ -2,10 +2,8 @@
 ghost use Rattle.std.specs.Prelude.{◌≡◌, ℕ, ◌+◌, ◌-◌, ◌≤◌, ◌<◌, length, drop, slice_index, slice_range, MatchOption};
 ghost use Rattle.std.specs.Str.{IsCharBoundary, IsUtf8};
 
-use std::mem;
-
 /// The bytes of a text, of which some were taken.
-#[derive(Drop)]
+#[derive(Clone, Copy)]
 pub(crate) struct Cursor<'a> {
     text: &'a str,
     // The bytes that were not taken yet, to the text's end.
@@ -62,17 +60,6 @@ impl<'a> Cursor<'a> {
             }
             [] => None,
         }
-    }
-
-    /// Moves the cursor out, to be held by value; one at the text's end stays.
-    #[inline(always)]
-    pub(crate) fn move_out(&mut self) -> Self
-        ensures moved { result ≡ self.old }
-        ensures text { self.new.text ≡ self.old.text }
-        ensures end { taken_in self.new ≡ length self.old.text.now }
-    {
-        let text = self.text;
-        mem::replace(self, Cursor { text, left: b"" })
     }
 
     /// The part of the taken text between two places where characters begin.

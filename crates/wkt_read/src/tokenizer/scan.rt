@@ -61,30 +61,32 @@ pub(crate) fn starts_number(byte: u8) -> bool
     byte.is_ascii_digit() || byte == b'.' || byte == b'-' || byte == b'+'
 }
 
-/// The class of the first byte that is no white space, which is taken.
+/// The class of the first byte that is no white space, which is taken. The cursor is held by value, so that it stays
+/// in registers.
 #[inline(always)]
-pub(crate) fn first_class(bytes: &mut Cursor<'_>, ahead: Class) -> Class
-    requires boundary { IsCharBoundary bytes.old.text.now (taken_in bytes.old) }
+pub(crate) fn first_class<'a>(bytes: Cursor<'a>, ahead: Class) -> (Cursor<'a>, Class)
+    requires boundary { IsCharBoundary bytes.text.now (taken_in bytes) }
     requires start { ahead ≢ Class.Run }
-    ensures text { bytes.new.text ≡ bytes.old.text }
-    ensures grows { taken_in bytes.old ≤ taken_in bytes.new }
-    ensures found { Found (coming_at bytes.old.text.now (meant ahead) (taken_in bytes.old)) bytes.new.text.now result
-        (taken_in bytes.new) }
-    ensures stops { result ≢ Class.White }
+    ensures text { result.0.text ≡ bytes.entry.text }
+    ensures grows { taken_in bytes.entry ≤ taken_in result.0 }
+    ensures found { Found (coming_at bytes.entry.text.now (meant ahead) (taken_in bytes.entry)) result.0.text.now result.1
+        (taken_in result.0) }
+    ensures stops { result.1 ≢ Class.White }
 {
+    let mut cursor = bytes;
     let mut class = ahead;
     'white: while let Class::White = class {
-        match bytes.next_byte() {
+        match cursor.next_byte() {
             Some(byte) => {
                 if byte > b',' {
-                    return Class::Run;
+                    return (cursor, Class::Run);
                 }
                 class = class_of(byte);
             }
-            None => return Class::Nul,
+            None => return (cursor, Class::Nul),
         }
     }
-    class
+    (cursor, class)
 }
 
 /// Takes the next byte: the end of a run that came so far, and the class of the byte, if it is no part of the run.

@@ -3,6 +3,7 @@ use Rattle.std.proofs.Common.{ap, sym, ◌∙◌, subst}
 use Rattle.wkt_read.specs.Ahead as ahead
 use Rattle.wkt_read.specs.Front.{Front}
 use Rattle.wkt_read.proofs.LawLemmas.FrontEnds.{front-some, front-within, front-boundary}
+use Rattle.wkt_read.proofs.LawLemmas.OnePlacing.{placed-only}
 use Rattle.wkt_machine.specs.NothingMaker.{nothing_maker}
 use Rattle.wkt_machine.specs.TokensView.{tokens_view}
 use Rattle.wkt_machine.proofs.Fronting.{front_made, no_front_there}
@@ -12,7 +13,7 @@ pub returns-in-Ok-clause-front : goal.returns-in-Ok-clause-front
 returns-in-Ok-clause-front g c =
     let (v, front, made) =
     front_made g.T.WktNum.read (tokens_view g.T.WktNum.read) nothing_maker c.args.text.now c.new.result _ c.in-Ok.over
-    (ap ahead.left c.new.ensures ∙ c.new-tokens.ensures.left ∙ c.from_str.ensures.placed) c.in-Ok.ensures.on c.in-Ok.ensures.over in
+    (ap ahead.left c.new.ensures ∙ c.new-tokens.ensures.left ∙ placed-only _ _ c.from_str.ensures.split c.from_str.ensures.ends) c.in-Ok.ensures.on c.in-Ok.ensures.over in
     (v, subst (Front g.T.WktNum.read c.args.text.now v) (sym (c.end.ensures ∙ ap ahead.end_of c.into_tokens.ensures)) front)
 
 pub returns-in-Ok-clause-some : goal.returns-in-Ok-clause-some
@@ -27,4 +28,4 @@ returns-in-Ok-clause-boundary g c = let f = returns-in-Ok-clause-front g c in fr
 pub returns-in-Err-clause-front : goal.returns-in-Err-clause-front
 returns-in-Err-clause-front g c =
     no_front_there g.T.WktNum.read (tokens_view g.T.WktNum.read) nothing_maker c.args.text.now c.new.result _ c.in-Err.field-0
-    (ap ahead.left c.new.ensures ∙ c.new-tokens.ensures.left ∙ c.from_str.ensures.placed) tt c.in-Err.ensures.refused
+    (ap ahead.left c.new.ensures ∙ c.new-tokens.ensures.left ∙ placed-only _ _ c.from_str.ensures.split c.from_str.ensures.ends) tt c.in-Err.ensures.refused

@@ -5,10 +5,10 @@ use Rattle.wkt_read.proofs.tokenizer.scan.first_class.Given as goal
 
 abbrev pub invariant-white : goal.invariant-white
 invariant-white l = record {
-  text : l.bytes.text ≡ l.initial.bytes.text;
-  grows : taken_in l.initial.bytes ≤ taken_in l.bytes;
-  found : Found (coming_at l.initial.bytes.text.now (meant l.fn.ahead) (taken_in l.initial.bytes)) l.bytes.text.now l.class (taken_in l.bytes);
+  text : l.cursor.text ≡ l.fn.bytes.text;
+  grows : taken_in l.fn.bytes ≤ taken_in l.cursor;
+  found : Found (coming_at l.fn.bytes.text.now (meant l.fn.ahead) (taken_in l.fn.bytes)) l.cursor.text.now l.class (taken_in l.cursor);
 }
 
 abbrev pub decreases-white : goal.decreases-white
-decreases-white l = length l.initial.bytes.text.now - taken_in l.bytes
+decreases-white l = length l.fn.bytes.text.now - taken_in l.cursor
