@@ -5,8 +5,10 @@
 
 pub mod builder;
 pub mod bytes;
+mod coordinates;
 pub mod drive;
 pub mod front;
+mod heads;
 pub mod laws;
 pub mod machine;
 pub mod nothing;
