@@ -38,12 +38,12 @@ fn coords<T: Copy + Drop>(alloc: Global, cs: &[flat::Coord<T>]) -> Result<Vec<Co
 {
     let mut all = Vec::with_capacity(alloc, cs.len())?;
     for c in cs {
-        all.push(Coord {
+        all.push_reserved(Coord {
             x: c.x,
             y: c.y,
             z: None,
             m: None,
-        })?;
+        });
     }
     Ok(all)
 }
@@ -119,12 +119,16 @@ fn piece_of<'a, T: WktNum>(
 pub(crate) fn geometry<T: WktNum>(alloc: Global, g: &Geometry<T>) -> Result<Wkt<T>, AllocError>
     ensures { IfOk result (λ w. trees.tree w ≡ back (flat_tree g.now)) }
 {
-    match piece_of(alloc, g)? {
-        Piece::Whole(w) => Ok(w),
-        Piece::Members(gs) => {
-            let members = geometries(alloc, gs)?;
-            Ok(Wkt::GeometryCollection(GeometryCollection::new(members, Dimension::XY)))
-        }
+    match g {
+        // A point takes no memory, and is made where it is answered.
+        Geometry::Point(p) => Ok(Wkt::Point(point(*p))),
+        _ => match piece_of(alloc, g)? {
+            Piece::Whole(w) => Ok(w),
+            Piece::Members(gs) => {
+                let members = geometries(alloc, gs)?;
+                Ok(Wkt::GeometryCollection(GeometryCollection::new(members, Dimension::XY)))
+            }
+        },
     }
 }
 
