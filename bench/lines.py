@@ -1,9 +1,11 @@
 #!/usr/bin/env python3
-"""Writes the workloads: lines.py mixed|points DECIMALS BYTES > FILE.
+"""Writes the workloads: lines.py mixed|points|nested|refused|empty DECIMALS BYTES > FILE.
 
-`points` are lines of one POINT each; `mixed` are lines of all kinds, short and long. Half of the lines have a space
-after the kind word and after each comma, as some databases print them. Numbers have DECIMALS decimals, from 0 to 14,
-or, where DECIMALS is 15, thirteen to fifteen. The same arguments give the same bytes on every machine.
+`points` are lines of one POINT each; `mixed` are lines of all kinds, short and long; `nested` are collections in
+collections, up to eight levels; `refused` are points with a fault each; `empty` are lines with nothing in them. Half of
+the lines have a space after the kind word and after each comma, as some databases print them. Numbers have DECIMALS
+decimals, from 0 to 14, or, where DECIMALS is 15, thirteen to fifteen. The same arguments give the same bytes on every
+machine.
 """
 import sys
 
@@ -67,7 +69,7 @@ class Lines:
         if kind == "POLYGON":
             return join(self.polygon(long))
         if kind == "MULTIPOINT":
-            points = self.path(2 + self.numbers.below(40), False)
+            points = self.path(2 + self.numbers.below(min(long, 40)), False)
             return join(points if self.numbers.below(2) else [parens(p) for p in points])
         if kind == "MULTILINESTRING":
             return join(self.several(6, lambda: parens(join(self.line(long // 4)))))
@@ -78,9 +80,32 @@ class Lines:
     def geometry(self, kind, long):
         return f"{kind}{self.space}({self.body(kind, long)})"
 
+    def nested(self, levels):
+        """A collection of up to three members, of which any may be a collection again."""
+        kinds = ["POINT", "LINESTRING", "POLYGON", "MULTIPOINT", "MULTILINESTRING", "MULTIPOLYGON"]
+        members = []
+        for _ in range(1 + self.numbers.below(3)):
+            if levels > 1 and self.numbers.below(2):
+                members.append(self.nested(levels - 1))
+            else:
+                members.append(self.geometry(kinds[self.numbers.below(len(kinds))], 4))
+        return f"GEOMETRYCOLLECTION{self.space}({self.comma.join(members)})"
+
+    def refused(self):
+        """A point that is cut off, has another word, lacks a number, has a letter in one, or lacks a parenthesis."""
+        x, y = self.path(1, False)[0].split()
+        faults = ["POINT{}({} {}", "CIRCLE{}({} {})", "POINT{}({})", "POINT{}({}e {})", "POINT{}{} {}"]
+        return faults[self.numbers.below(len(faults))].format(self.space, x, y)
+
     def next_line(self, workload):
         spaced = self.numbers.below(2)
         self.space, self.comma = (" ", ", ") if spaced else ("", ",")
+        if workload == "nested":
+            return self.nested(8)
+        if workload == "refused":
+            return self.refused()
+        if workload == "empty":
+            return ""
         kinds = ["POINT"] * 31 + ["LINESTRING"] * 6 + ["POLYGON"] * 10 + ["MULTIPOINT"] * 1
         kinds += ["MULTILINESTRING"] * 1 + ["MULTIPOLYGON"] * 1 + ["GEOMETRYCOLLECTION"] * 1
         kind = "POINT" if workload == "points" else kinds[self.numbers.below(len(kinds))]

@@ -1,9 +1,16 @@
 #!/usr/bin/env bash
-# Runs a command on each case of tests/command, and compares what it writes and its status byte for byte.
+# Runs a command on each case of the transcripts of tests/command, and compares what it writes and its status byte for byte.
 #
-# command.sh [WORD..]: the words that call it; crates/wkt_command/out/wkt_command without any. Of a case, `args` has an
-# argument a line, `stdin` what it is fed, `data/` the files that lie where it runs; `stdout` and `stderr` what it has to
-# write (what has no file isn't compared), `status` its status, if not 0.
+# command.sh [WORD..]: the words that call it; crates/wkt_command/out/wkt_command without any. A case of a transcript:
+#   # NAME          its name
+#   = FILE          a file that lies where it runs
+#   | TEXT          a line of that file
+#   < TEXT          a line that it is fed; `< 100 times TEXT`: so many such lines
+#   $ wkt WORD..    how it is called, as a shell reads it
+#   > TEXT          a line that it writes on standard output; `> ...`: anything
+#   ! TEXT          the same on standard error
+#   ? STATUS        its status, if not 0
+# In a TEXT, \xHH is a byte, \\ a backslash, and \c at its end says that no end of a line follows.
 # Then, with REST=no without them: standard output that is full or closed, a line of 100 MB, and progress.
 set -u
 cd "$(dirname "$0")/.."
@@ -16,25 +23,55 @@ trap 'rm -rf "$dir"' EXIT
 failed=0
 fail() { echo "FAILED $*"; failed=$((failed + 1)); }
 
-# like CASE FILE: what was written is what the case has, if it says
+# line FILE TEXT: adds a line of a transcript to a file
+line() { printf '%b\n' "$2" >> "$dir/$1"; }
+# like NAME FILE: what was written is what the case says
 like() {
-    [ ! -e "$cases/$1/$2" ] || diff "$cases/$1/$2" "$dir/$2" > "$dir/diff" || { fail "$1: $2"; head -n 20 "$dir/diff"; }
+    grep -qx '\.\.\.' "$dir/want/$2" || cmp -s "$dir/want/$2" "$dir/$2" || {
+        fail "$1: $2"
+        diff "$dir/want/$2" "$dir/$2" | head -n 20
+    }
 }
-count=0
-for case in $(ls "$cases"); do
+# begin NAME: of a new case
+begin() {
+    rm -rf "$dir/data" "$dir/want" && mkdir "$dir/data" "$dir/want"
+    : > "$dir/want/stdin" > "$dir/want/stdout" 2> "$dir/want/stderr"
+    name=$1 words=() wanted=0
+}
+# run WORD..: the case that was read
+run() {
+    local status
+    [ -n "$name" ] || return 0
     count=$((count + 1))
-    rm -rf "$dir/data" && mkdir "$dir/data"
-    [ ! -d "$cases/$case/data" ] || cp -r "$cases/$case/data/." "$dir/data"
-    input=/dev/null
-    [ ! -e "$cases/$case/stdin" ] || input=$cases/$case/stdin
-    mapfile -t words < "$cases/$case/args"
-    (cd "$dir/data" && "$@" "${words[@]}" < "$input" > "$dir/stdout" 2> "$dir/stderr")
-    echo $? > "$dir/status"
-    wanted=0
-    [ ! -e "$cases/$case/status" ] || wanted=$(cat "$cases/$case/status")
-    [ "$wanted" = "$(cat "$dir/status")" ] || fail "$case: status $(cat "$dir/status"), not $wanted"
-    like "$case" stdout
-    like "$case" stderr
+    (cd "$dir/data" && "$@" "${words[@]}" < "$dir/want/stdin" > "$dir/stdout" 2> "$dir/stderr")
+    status=$?
+    [ "$wanted" = "$status" ] || fail "$name: status $status, not $wanted"
+    like "$name" stdout
+    like "$name" stderr
+}
+# many COUNT TEXT: so many lines to be fed
+many() { yes "$(printf '%b' "$2")" | head -n "$1" >> "$dir/want/stdin"; }
+
+count=0
+for transcript in "$cases"/*.txt; do
+    name=
+    while IFS= read -r text; do
+        rest=${text:2}
+        case $text in
+            '# '*) run "$@" && begin "$rest" ;;
+            '= '*) file=data/$rest && mkdir -p "$(dirname "$dir/$file")" && : > "$dir/$file" ;;
+            '|'*) line "$file" "$rest" ;;
+            '< '*' times '*) many "${rest%% *}" "${rest#* times }" ;;
+            '<'*) line want/stdin "$rest" ;;
+            '$ wkt'*) eval "words=(${text#"\$ wkt"})" ;;
+            '>'*) line want/stdout "$rest" ;;
+            '!'*) line want/stderr "$rest" ;;
+            '?'*) wanted=$rest ;;
+            '') ;;
+            *) fail "$transcript: $text" ;;
+        esac
+    done < "$transcript"
+    run "$@"
 done
 
 rest() {

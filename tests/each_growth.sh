@@ -1,5 +1,5 @@
 #!/usr/bin/env bash
-# Refuses each growth of memory of the four built programs in turn, and of the built tests of the macros and of the
+# Refuses each growth of memory of the five built programs in turn, and of the built tests of the macros and of the
 # callers of wkt_uses over rows, until a run meets none.
 #
 # wktline, wktstream and the command wkt answer lines of every kind: each refusal has to end them with their words and status, after the
@@ -9,8 +9,8 @@
 # change nothing. Then the same of ten thousand nested collections, at growths all over the run. A test has to end as
 # out of memory, which no wrong value does, or to pass.
 #
-# The gate runs it on what it has built; alone, build all six first (rt run in crates/wktline, crates/wktstream,
-# crates/wkt_command and crates/wkt_conformance, rt test in crates/wkt and crates/wkt_use_conformance).
+# The gate runs it on what it has built; alone, build all seven first (rt run in crates/wktline, crates/wktstream,
+# crates/wkt_command, crates/wkt_conformance and crates/wkt_operations, rt test in crates/wkt and crates/wkt_use_conformance).
 set -u
 cd "$(dirname "$0")/.."
 dir=$(mktemp -d)
@@ -98,6 +98,7 @@ each wktline "$dir/lines" 1 1
 each wktstream "$dir/lines" 1 1
 each wkt_conformance tests/growth.tsv 2 1
 each wkt_conformance /dev/null 2 1 tests/growth.jsonl
+each wkt_operations "$dir/lines" 1 1 decimal canonical to_string display wkt_string
 # The command answers some lines with words for people, and its status says that some were refused.
 each wkt_command "$dir/lines" 2 1 canon --refused refused
 each wkt_command "$dir/lines" 2 1 kind --refused refused -q

@@ -16,7 +16,7 @@ HEADER = "include/wkt.h"
 PLACES = [
     (HEADER, rf'^#define WKT_VERSION "({WHOLE})"$'),
     ("crates/wkt_command/src/help.rt", rf'VERSION: &str = "wkt ({WHOLE})\\n"'),
-    ("tests/command/version/stdout", rf"^wkt ({WHOLE})$"),
+    ("tests/command/options.txt", rf"^> wkt ({WHOLE})$"),
     ("python/wkt/_version.py", rf'^__version__ = "({WHOLE})"$'),
     ("rust/Cargo.toml", rf'^version = "({WHOLE})"$'),
     ("postgres/wkt.control", r"^default_version = '(\d+\.\d+)'$"),

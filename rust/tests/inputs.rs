@@ -121,20 +121,49 @@ fn printed(name: &str, input: &str, places: u32) -> String {
     out + &format!("{refused} of {count} {lines} refused\n")
 }
 
+/// The lines of a case of a transcript that begin with the mark; `tests/command.sh` says what stands there.
+fn marked(transcript: &str, case: &str, mark: &str) -> String {
+    let (_, from) = transcript
+        .split_once(&format!("# {case}\n"))
+        .expect("the case is there");
+    let lines = from.lines().take_while(|line| !line.starts_with("# "));
+    let texts = lines.filter_map(|line| line.strip_prefix(mark));
+    texts
+        .map(|text| plain(text.strip_prefix(' ').unwrap_or(text)))
+        .collect()
+}
+
+/// A text of a transcript as the command gets it, with the end of its line.
+fn plain(text: &str) -> String {
+    let (text, end) = match text.strip_suffix("\\c") {
+        Some(text) => (text, ""),
+        None => (text, "\n"),
+    };
+    let mut out = Vec::new();
+    let mut pieces = text.split('\\');
+    out.extend_from_slice(pieces.next().unwrap().as_bytes());
+    for piece in pieces {
+        let hex = &piece[1..3];
+        out.push(u8::from_str_radix(hex, 16).unwrap());
+        out.extend_from_slice(&piece.as_bytes()[3..]);
+    }
+    String::from_utf8(out).unwrap() + end
+}
+
 #[test]
 fn as_the_command_shows_it() {
-    let cases = Path::new(env!("CARGO_MANIFEST_DIR")).join("../tests/command");
+    let path = Path::new(env!("CARGO_MANIFEST_DIR")).join("../tests/command/check.txt");
+    let transcript = std::fs::read_to_string(path).unwrap();
     for (case, name, input, places) in [
-        ("check-columns", "standard input", "stdin", 18),
-        ("check-control", "standard input", "stdin", 18),
-        ("check-long", "standard input", "stdin", 18),
-        ("check-places", "standard input", "stdin", 1),
-        ("check-hints", "hints.wkt", "data/hints.wkt", 18),
+        ("check-columns", "standard input", "<", 18),
+        ("check-control", "standard input", "<", 18),
+        ("check-long", "standard input", "<", 18),
+        ("check-places", "standard input", "<", 1),
+        ("check-hints", "hints.wkt", "|", 18),
     ] {
-        let read = |file: &str| std::fs::read_to_string(cases.join(case).join(file)).unwrap();
         assert_eq!(
-            printed(name, &read(input), places),
-            read("stdout"),
+            printed(name, &marked(&transcript, case, input), places),
+            marked(&transcript, case, ">"),
             "{case}"
         );
     }

@@ -1,5 +1,5 @@
 -- What a wrapper holds, and what its calls do. `WriterWrapper`'s sink names the lemmas here, so they can't stand in proofs.
-use Rattle.std.specs.Prelude.{◌≡◌, ℕ, List, [], ◌++◌, Option, Some, None, Bool, true, false, take, refl}
+use Rattle.std.specs.Prelude.{◌≡◌, ℕ, List, [], ◌++◌, Option, Bool, true, false, is_some, refl}
 use Rattle.std.specs.Io.KnownBytes.{Appends}
 use Rattle.std.proofs.Common.{◌∙◌, ap, append_assoc}
 use Rattle.std.proofs.KnownBytes.{Appends-nil, Appends-trans}
@@ -7,54 +7,34 @@ use Rattle.std.proofs.lemmas.List.{append-nil}
 use Rattle.std.specs.declared.io.Error.{Error}
 use Rattle.wkt_num.specs.Sink.{next_count, Sink}
 use Rattle.wkt_bytes.specs.Sinks.{SinkOfBytes}
-use Rattle.wkt_bytes.specs.declared.wrapper.State.{State}
-use Rattle.wkt_bytes.specs.declared.wrapper.State.TheVariants.{Well, Faulty, Taken}
-use Rattle.wkt_bytes.specs.declared.wrapper.WriterWrapper.{WriterWrapper}
-
--- No error came to a wrapper in this state.
-abbrev pub state_well : State → Bool
-state_well Well = true
-state_well (Faulty e) = false
-state_well Taken = false
-
--- An error came, and was not taken yet.
-abbrev pub state_untaken : State → Bool
-state_untaken Well = false
-state_untaken (Faulty e) = true
-state_untaken Taken = false
-
--- The error that came, if it was not taken yet.
-abbrev pub state_error : State → Option Error
-state_error Well = None
-state_error (Faulty e) = Some e
-state_error Taken = None
+use Rattle.wkt_bytes.specs.Wrapped.{Wrapped}
 
 -- The writer.
-abbrev pub wrapped_writer : {W : Type 0} → WriterWrapper W → W
+abbrev pub wrapped_writer : {W : Type 0} → Wrapped W → W
 wrapped_writer w = w.writer
 
 -- What the wrapper holds still.
-abbrev pub held_bytes : {W : Type 0} → WriterWrapper W → List ℕ
-held_bytes w = take w.len w.held
+abbrev pub held_bytes : {W : Type 0} → Wrapped W → List ℕ
+held_bytes w = w.held
 
 -- How many calls have failed.
-abbrev pub failed_calls : {W : Type 0} → WriterWrapper W → ℕ
+abbrev pub failed_calls : {W : Type 0} → Wrapped W → ℕ
 failed_calls w = w.failures
 
 -- No error came.
-abbrev pub is_well : {W : Type 0} → WriterWrapper W → Bool
-is_well w = state_well w.state
-
--- An error came, and was not taken yet.
-abbrev pub is_untaken : {W : Type 0} → WriterWrapper W → Bool
-is_untaken w = state_untaken w.state
+abbrev pub is_well : {W : Type 0} → Wrapped W → Bool
+is_well w = w.well
 
 -- The error that came, if it was not taken yet.
-abbrev pub untaken_error : {W : Type 0} → WriterWrapper W → Option Error
-untaken_error w = state_error w.state
+abbrev pub untaken_error : {W : Type 0} → Wrapped W → Option Error
+untaken_error w = w.error
+
+-- An error came, and was not taken yet.
+abbrev pub is_untaken : {W : Type 0} → Wrapped W → Bool
+is_untaken w = is_some w.error
 
 -- The error is taken, and nothing else changes.
-pub record TakesFault {W : Type 0} (s : WriterWrapper W) (error : Option Error) (t : WriterWrapper W) : Type 0 where
+pub record TakesFault {W : Type 0} (s : Wrapped W) (error : Option Error) (t : Wrapped W) : Type 0 where
   pub gives : error ≡ untaken_error s
   pub taken : is_untaken t ≡ false
   pub well : is_well t ≡ is_well s
@@ -62,9 +42,17 @@ pub record TakesFault {W : Type 0} (s : WriterWrapper W) (error : Option Error) 
   pub held : held_bytes t ≡ held_bytes s
   pub count : failed_calls t ≡ failed_calls s
 
+-- The bytes are held after those that were, and nothing else changes.
+pub record Keeps {W : Type 0} (s : Wrapped W) (bs : List ℕ) (t : Wrapped W) : Type 0 where
+  pub held : held_bytes t ≡ held_bytes s ++ bs
+  pub writer : wrapped_writer t ≡ wrapped_writer s
+  pub well : is_well t ≡ is_well s
+  pub error : untaken_error t ≡ untaken_error s
+  pub count : failed_calls t ≡ failed_calls s
+
 module _ {W : Type 0} (sink : SinkOfBytes W) where
   -- The bytes that s held, and then those given, are the bytes that went out, and then those that t holds.
-  pub record Gathers (s : WriterWrapper W) (handed : List ℕ) (t : WriterWrapper W) : Type 0 where
+  pub record Gathers (s : Wrapped W) (handed : List ℕ) (t : Wrapped W) : Type 0 where
     pub out : List ℕ
     pub went : Appends (sink.bytes s.writer) (sink.bytes t.writer) out
     pub whole : held_bytes s ++ handed ≡ out ++ held_bytes t
@@ -75,7 +63,7 @@ module _ {W : Type 0} (sink : SinkOfBytes W) where
     pub still : is_well s ≡ false → t.writer ≡ s.writer
 
   -- The writer has failed, and a beginning of what s held and was given went out.
-  pub record BreaksOff (s : WriterWrapper W) (handed : List ℕ) (t : WriterWrapper W) : Type 0 where
+  pub record BreaksOff (s : Wrapped W) (handed : List ℕ) (t : Wrapped W) : Type 0 where
     pub out : List ℕ
     pub lost : List ℕ
     pub went : Appends (sink.bytes s.writer) (sink.bytes t.writer) out
@@ -94,7 +82,7 @@ wholes : (held handed more out held' out' held'' : List ℕ) →
 wholes held handed more out held' out' held'' h k = rw (← append_assoc, h, append_assoc, k, ← append_assoc) refl
 
 module _ {W : Type 0} (sink : SinkOfBytes W) where
-  pub gives_none : (s : WriterWrapper W) → Gathers sink s [] s
+  pub gives_none : (s : Wrapped W) → Gathers sink s [] s
   gives_none s = record {
     out = [];
     went = Appends-nil (sink.bytes s.writer);
@@ -106,7 +94,7 @@ module _ {W : Type 0} (sink : SinkOfBytes W) where
     still = λ _. refl;
   }
 
-  pub gives_more : (s t u : WriterWrapper W) (bs cs : List ℕ) → Gathers sink s bs t → Gathers sink t cs u → Gathers sink s (bs ++ cs) u
+  pub gives_more : (s t u : Wrapped W) (bs cs : List ℕ) → Gathers sink s bs t → Gathers sink t cs u → Gathers sink s (bs ++ cs) u
   gives_more s t u bs cs h k = record {
     out = h.out ++ k.out;
     went = Appends-trans (sink.bytes s.writer) (sink.bytes t.writer) (sink.bytes u.writer) h.out k.out h.went k.went;
@@ -118,7 +106,7 @@ module _ {W : Type 0} (sink : SinkOfBytes W) where
     still = λ w. k.still (h.same ∙ w) ∙ h.still w;
   }
 
-  pub leaves_after : (s t u : WriterWrapper W) (bs cs : List ℕ) → Gathers sink s bs t → BreaksOff sink t cs u → BreaksOff sink s (bs ++ cs) u
+  pub leaves_after : (s t u : Wrapped W) (bs cs : List ℕ) → Gathers sink s bs t → BreaksOff sink t cs u → BreaksOff sink s (bs ++ cs) u
   leaves_after s t u bs cs h k = record {
     out = h.out ++ k.out;
     lost = k.lost;
@@ -132,7 +120,7 @@ module _ {W : Type 0} (sink : SinkOfBytes W) where
     still = λ w. k.still (h.same ∙ w) ∙ h.still w;
   }
 
-  pub leaves_longer : (s t : WriterWrapper W) (bs cs : List ℕ) → BreaksOff sink s bs t → BreaksOff sink s (bs ++ cs) t
+  pub leaves_longer : (s t : Wrapped W) (bs cs : List ℕ) → BreaksOff sink s bs t → BreaksOff sink s (bs ++ cs) t
   leaves_longer s t bs cs h = record {
     out = h.out;
     lost = h.lost ++ cs;
@@ -147,7 +135,7 @@ module _ {W : Type 0} (sink : SinkOfBytes W) where
   }
 
 -- What the calls write to the writer, through the array.
-abbrev pub wrapped_sink : {W : Type 0} → SinkOfBytes W → Sink (WriterWrapper W)
+abbrev pub wrapped_sink : {W : Type 0} → SinkOfBytes W → Sink (Wrapped W)
 wrapped_sink sink = record {
   gives = Gathers sink;
   leaves = BreaksOff sink;

@@ -5,6 +5,7 @@
 
 mod error;
 mod gathered;
+pub mod laws;
 mod read;
 mod sinks;
 mod wrapper;

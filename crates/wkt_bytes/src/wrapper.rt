@@ -5,6 +5,7 @@ ghost use Rattle.wkt_bytes.specs.Sinks.{PutsAll};
 
 use crate::sinks::ByteSink;
 use std::io::ErrorKind;
+use std::marker::Model;
 use std::simd::prelude::*;
 use std::{fmt, io};
 use wkt_num::TextSink;
@@ -30,7 +31,19 @@ pub struct WriterWrapper<W> {
     len: usize,
     state: State,
     failures: u64,
-    ghost fits: { len ≤ 256 },
+}
+
+impl<W> Model for WriterWrapper<W> {
+    ghost use Rattle.std.specs.Prelude.{◌≤◌};
+    ghost use Rattle.wkt_bytes.specs.Wrapped.{Wrapped};
+
+    ghost Value = { Wrapped W };
+
+    ghost use Rattle.wkt_bytes.specs.Views.{seen};
+
+    ghost view = { seen };
+
+    ghost invariant = { λ w. w.len ≤ 256 };
 }
 
 /// Puts all the bytes out: the sink is called until it took them all. It stops at the first error, of which none
@@ -88,7 +101,7 @@ fn copy_ends<const N: usize>(from: &[u8], to: &mut [u8])
 }
 
 impl<W: ByteSink> WriterWrapper<W> {
-    ghost use Rattle.wkt_bytes.specs.Wrapper.{held_bytes, failed_calls, is_well, wrapped_writer, Gathers, BreaksOff, TakesFault};
+    ghost use Rattle.wkt_bytes.specs.Wrapper.{held_bytes, failed_calls, is_well, wrapped_writer, Keeps, Gathers, BreaksOff, TakesFault};
 
     /// A wrapper of this writer, which holds nothing yet.
     pub fn new(writer: W) -> WriterWrapper<W>
@@ -120,14 +133,18 @@ impl<W: ByteSink> WriterWrapper<W> {
         writer
     }
 
+    // How many bytes more the array can hold.
+    #[inline(always)]
+    fn room(&self) -> usize
+        ensures { result + length (held_bytes self.now) ≡ 256 }
+    {
+        256 - self.held[..self.len].len()
+    }
+
     // Takes the bytes into the array.
     fn keep(&mut self, bytes: &[u8])
-        requires { self.old.len + length bytes.now ≤ 256 }
-        ensures held { held_bytes self.new ≡ held_bytes self.old ++ bytes.now }
-        ensures writer { self.new.writer ≡ self.old.writer }
-        ensures len { self.new.len ≡ self.old.len + length bytes.now }
-        ensures state { self.new.state ≡ self.old.state }
-        ensures failures { self.new.failures ≡ self.old.failures }
+        requires { length (held_bytes self.old) + length bytes.now ≤ 256 }
+        ensures { Keeps self.old bytes.now self.new }
     {
         let end = self.len + bytes.len();
         copy_piece(bytes, &mut self.held[self.len..end]);
@@ -137,11 +154,8 @@ impl<W: ByteSink> WriterWrapper<W> {
     // Takes one byte into the array.
     fn keep_one(&mut self, bytes: &[u8])
         requires one { length bytes.now ≡ 1 }
-        requires room { self.old.len < 256 }
-        ensures held { held_bytes self.new ≡ held_bytes self.old ++ bytes.now }
-        ensures writer { self.new.writer ≡ self.old.writer }
-        ensures state { self.new.state ≡ self.old.state }
-        ensures failures { self.new.failures ≡ self.old.failures }
+        requires room { length (held_bytes self.old) < 256 }
+        ensures { Keeps self.old bytes.now self.new }
     {
         if let [byte] = bytes {
             self.held[self.len] = *byte;
@@ -154,10 +168,10 @@ impl<W: ByteSink> WriterWrapper<W> {
         requires { is_well self.old ≡ true }
         ensures ok { OnOk result (Gathers W.sink self.old [] self.new) }
         ensures well { OnOk result (is_well self.new ≡ true) }
-        ensures held { OnOk result (self.new.len ≡ 0) }
+        ensures held { OnOk result (held_bytes self.new ≡ []) }
         ensures err { OnErr result (BreaksOff W.sink self.old [] self.new) }
         ensures kept { OnErr result (held_bytes self.new ≡ held_bytes self.old) }
-        ensures failures { self.new.failures ≡ self.old.failures }
+        ensures failures { failed_calls self.new ≡ failed_calls self.old }
     {
         match put_all(&mut self.writer, &self.held[..self.len]) {
             Ok(()) => {
@@ -176,14 +190,14 @@ impl<W: ByteSink> WriterWrapper<W> {
         ensures ok { OnOk result (Gathers W.sink self.old bytes.now self.new) }
         ensures well { OnOk result (is_well self.old ≡ true) }
         ensures err { OnErr result (BreaksOff W.sink self.old bytes.now self.new) }
-        ensures gathered { length (held_bytes self.old) + length bytes.now < 256 → self.new.writer ≡ self.old.writer }
-        ensures failures { self.new.failures ≡ self.old.failures }
+        ensures gathered { length (held_bytes self.old) + length bytes.now < 256 → wrapped_writer self.new ≡ wrapped_writer self.old }
+        ensures failures { failed_calls self.new ≡ failed_calls self.old }
     {
         let State::Well = self.state else {
             return Err(fmt::Error);
         };
         // Most pieces just fit. Half of them are one byte.
-        if bytes.len() < 256 - self.len {
+        if bytes.len() < self.room() {
             if bytes.len() == 1 {
                 self.keep_one(bytes);
             } else {
@@ -200,14 +214,14 @@ impl<W: ByteSink> WriterWrapper<W> {
         requires { is_well self.old ≡ true }
         ensures ok { OnOk result (Gathers W.sink self.old bytes.now self.new) }
         ensures err { OnErr result (BreaksOff W.sink self.old bytes.now self.new) }
-        ensures failures { self.new.failures ≡ self.old.failures }
+        ensures failures { failed_calls self.new ≡ failed_calls self.old }
     {
         let mut at = 0;
         while at < bytes.len() {
-            let next = at + (256 - self.len).min(bytes.len() - at);
+            let next = at + self.room().min(bytes.len() - at);
             self.keep(&bytes[at..next]);
             at = next;
-            if self.len == 256 {
+            if self.room() == 0 {
                 self.empty()?;
             }
         }

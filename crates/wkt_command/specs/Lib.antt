@@ -1,3 +1,4 @@
 pub mod Place
 pub mod Seen
 pub mod Verdicts
+pub mod Canon

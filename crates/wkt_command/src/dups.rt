@@ -8,7 +8,7 @@ use crate::report::Origin;
 use std::alloc::{AllocError, Global};
 use std::collections::HashMap;
 use std::hash::RandomState;
-use std::io;
+use std::io::{self, Write};
 
 // Where a text stands: the number of its file in the run, and its first line.
 #[derive(Clone, Copy)]
@@ -57,7 +57,12 @@ impl Seen {
 ///
 /// # Errors
 /// Standard output's error, or out of memory.
-pub fn put(alloc: Global, out: &mut Output, now: Origin<'_>, first: Origin<'_>) -> io::Result<()> {
+pub fn put<W: Write + Drop>(
+    alloc: Global,
+    out: &mut Output<W>,
+    now: Origin<'_>,
+    first: Origin<'_>,
+) -> io::Result<()> {
     let name = now.name;
     let line = now.line;
     let first_name = first.name;

@@ -1,4 +1,7 @@
 //! Standard output.
+ghost use Rattle.std.specs.Prelude.{OnOk};
+ghost use Rattle.std.specs.Io.KnownBytes.{Appends, Keeps};
+
 use std::alloc::Global;
 use std::io::{self, BufWriter, IsTerminal, Stdout, Write};
 
@@ -7,15 +10,15 @@ const HELD: usize = 65536;
 
 /// Standard output, which gathers what is written; on a terminal, up to a text's end alone.
 #[derive(Drop)]
-pub struct Output {
-    writer: BufWriter<Stdout>,
+pub struct Output<W: Write + Drop> {
+    writer: BufWriter<W>,
     is_terminal: bool,
 }
 
-impl Output {
+impl Output<Stdout> {
     /// # Errors
     /// Out of memory.
-    pub fn new(rt: &HostRuntime, alloc: Global) -> io::Result<Output> {
+    pub fn new(rt: &HostRuntime, alloc: Global) -> io::Result<Output<Stdout>> {
         let stdout = rt.stdout();
         let is_terminal = stdout.is_terminal();
         Ok(Output {
@@ -23,12 +26,18 @@ impl Output {
             is_terminal,
         })
     }
+}
+
+impl<W: Write + Drop> Output<W> {
+    ghost use Rattle.wkt_command.specs.Canon.{out_bytes};
 
     /// Writes all bytes.
     ///
     /// # Errors
     /// The writer's error.
-    pub fn put(&mut self, bytes: &[u8]) -> io::Result<()> {
+    pub fn put(&mut self, bytes: &[u8]) -> io::Result<()>
+        ensures { OnOk result (Appends (out_bytes W.contents self.old) (out_bytes W.contents self.new) bytes.now) }
+    {
         self.writer.write_all(bytes)
     }
 
@@ -36,7 +45,9 @@ impl Output {
     ///
     /// # Errors
     /// The writer's error.
-    pub fn end_text(&mut self) -> io::Result<()> {
+    pub fn end_text(&mut self) -> io::Result<()>
+        ensures { OnOk result (Keeps (out_bytes W.contents self.old) (out_bytes W.contents self.new)) }
+    {
         if self.is_terminal {
             self.writer.flush()
         } else {

@@ -1,4 +1,10 @@
 //! A run over files.
+ghost use Rattle.std.specs.Prelude.{◌≡◌, [], ◌∷◌, ◌++◌, OnOk, take};
+ghost use Rattle.std.specs.Io.KnownBytes.{Appends};
+ghost use Rattle.wkt_command.specs.Canon.{out_bytes, refused_line, Canonizes};
+ghost use Rattle.wkt_command.specs.Verdicts.{room_bytes};
+ghost use Rattle.wkt_command.specs.declared.options.Command.TheVariants.{Canon};
+
 use crate::dups::{self, Seen, Spot};
 use crate::error::RunError;
 use crate::input::{Input, NulLines, swap_ends};
@@ -11,15 +17,16 @@ use crate::report::{Origin, Refusal, Thousands, push_not_utf8, push_refusal};
 use crate::verdict::{Room, Verdict};
 use crate::{canon, kind};
 use std::alloc::Global;
+use std::io::{Stdout, Write};
 use wkt_bytes::{ByteSource, Counted, ReadAllError, read_all};
 use wkt_lines::Lines;
 
 /// A run over files, and what came of it so far.
 #[derive(Drop)]
-pub struct Run<'a> {
+pub struct Run<'a, W: Write + Drop> {
     alloc: Global,
     options: &'a Options,
-    out: Output,
+    out: Output<W>,
     room: Room,
     report: String,
     seen: Seen,
@@ -38,10 +45,10 @@ fn shown_name(name: &str) -> &str {
     if name == "-" { STANDARD_INPUT } else { name }
 }
 
-impl<'a> Run<'a> {
+impl<'a> Run<'a, Stdout> {
     /// # Errors
     /// Out of memory, or the system gives no random numbers.
-    pub fn new(rt: &HostRuntime, options: &'a Options) -> Result<Run<'a>, RunError> {
+    pub fn new(rt: &HostRuntime, options: &'a Options) -> Result<Run<'a, Stdout>, RunError> {
         let alloc = rt.alloc();
         Ok(Run {
             alloc,
@@ -59,7 +66,9 @@ impl<'a> Run<'a> {
             line: 1,
         })
     }
+}
 
+impl<'a, W: Write + Drop> Run<'a, W> {
     /// How many texts there were, and how many of them were refused.
     pub fn tally(&self) -> Tally {
         self.tally
@@ -130,10 +139,19 @@ impl<'a> Run<'a> {
     }
 
     /// Answers a text, and goes on to the next.
-    fn take(&mut self, rt: &HostRuntime, name: &str, text: &[u8]) -> Result<(), RunError> {
+    fn take(&mut self, rt: &HostRuntime, name: &str, text: &[u8]) -> Result<(), RunError>
+        ensures canon { self.old.options.now.command ≡ Canon → OnOk result (Canonizes self.old.options.now text.now
+            (out_bytes W.contents self.old.out) (out_bytes W.contents self.new.out)) }
+    {
         self.tally.texts = self.tally.texts.saturating_add(1);
-        self.answer(rt, name, text)?;
-        self.out.end_text().map_err(RunError::output)?;
+        match self.answer(rt, name, text) {
+            Ok(()) => {}
+            Err(error) => return Err(error),
+        }
+        match self.out.end_text() {
+            Ok(()) => {}
+            Err(error) => return Err(RunError::output(error)),
+        }
         let lines = match self.options.ends {
             Ends::Line => 1,
             _ => place_after(text).line as u64,
@@ -144,7 +162,10 @@ impl<'a> Run<'a> {
         Ok(())
     }
 
-    fn answer(&mut self, rt: &HostRuntime, name: &str, text: &[u8]) -> Result<(), RunError> {
+    fn answer(&mut self, rt: &HostRuntime, name: &str, text: &[u8]) -> Result<(), RunError>
+        ensures canon { self.old.options.now.command ≡ Canon → OnOk result (Canonizes self.old.options.now text.now
+            (out_bytes W.contents self.old.out) (out_bytes W.contents self.new.out)) }
+    {
         let origin = Origin {
             name,
             line: self.line,
@@ -172,7 +193,11 @@ impl<'a> Run<'a> {
     }
 
     /// Answers a text that is read, whose canonical text has so many bytes in the room.
-    fn put_answer(&mut self, origin: Origin<'_>, text: &str, len: usize) -> Result<(), RunError> {
+    fn put_answer(&mut self, origin: Origin<'_>, text: &str, len: usize) -> Result<(), RunError>
+        ensures canon { self.old.options.now.command ≡ Canon → OnOk result
+            (Appends (out_bytes W.contents self.old.out) (out_bytes W.contents self.new.out)
+            (take len (room_bytes self.old.room) ++ 10 ∷ [])) }
+    {
         let canonical = self.room.written(len);
         let put = match self.options.command {
             Command::Check | Command::Same => Ok(()),
@@ -203,14 +228,24 @@ impl<'a> Run<'a> {
                 }
             }
         };
-        put.map_err(RunError::output)
+        match put {
+            Ok(()) => Ok(()),
+            Err(error) => Err(RunError::output(error)),
+        }
     }
 
     /// Counts a refused text, and prints its report.
-    fn refuse(&mut self, rt: &HostRuntime) -> Result<(), RunError> {
+    fn refuse(&mut self, rt: &HostRuntime) -> Result<(), RunError>
+        ensures canon { self.old.options.now.command ≡ Canon → OnOk result
+            (Appends (out_bytes W.contents self.old.out) (out_bytes W.contents self.new.out)
+            (refused_line self.old.options.now.refused)) }
+    {
         self.tally.refused = self.tally.refused.saturating_add(1);
         if let Some(word) = &self.options.refused {
-            canon::put(&mut self.out, word.as_bytes()).map_err(RunError::output)?;
+            match canon::put(&mut self.out, word.as_bytes()) {
+                Ok(()) => {}
+                Err(error) => return Err(RunError::output(error)),
+            }
         }
         if self.options.quiet {
             return Ok(());

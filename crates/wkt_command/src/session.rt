@@ -7,7 +7,7 @@ use crate::run::Run;
 use crate::same;
 use crate::usage::UsageError;
 use std::env;
-use std::io::ErrorKind;
+use std::io::{ErrorKind, Stdout};
 
 // What a run's status says besides 0: a text was refused, or two texts name two geometries; and what stops a run.
 const REFUSED: u8 = 1;
@@ -90,7 +90,11 @@ fn do_run(rt: &HostRuntime, options: &Options) -> Result<u8, RunError> {
 }
 
 /// Reads the files one after the other, or standard input where there is none.
-fn read_all(rt: &HostRuntime, run: &mut Run<'_>, options: &Options) -> Result<u8, RunError> {
+fn read_all(
+    rt: &HostRuntime,
+    run: &mut Run<'_, Stdout>,
+    options: &Options,
+) -> Result<u8, RunError> {
     if options.operands.is_empty() {
         return read_one(rt, run, 0, "-");
     }
@@ -104,7 +108,12 @@ fn read_all(rt: &HostRuntime, run: &mut Run<'_>, options: &Options) -> Result<u8
 }
 
 /// Reads a file. One that can't be read is reported, and the run goes on.
-fn read_one(rt: &HostRuntime, run: &mut Run<'_>, file: usize, name: &str) -> Result<u8, RunError> {
+fn read_one(
+    rt: &HostRuntime,
+    run: &mut Run<'_, Stdout>,
+    file: usize,
+    name: &str,
+) -> Result<u8, RunError> {
     match run.read_file(rt, file, name) {
         Ok(()) => Ok(0),
         Err(RunError::Input(error)) => {

@@ -1,5 +1,5 @@
 //! Whether a text is read.
-ghost use Rattle.std.specs.Prelude.{◌+◌, ◌*◌, ◌≤◌, [], IfOk, OnOk, vec_len};
+ghost use Rattle.std.specs.Prelude.{◌≡◌, ◌+◌, ◌*◌, ◌≤◌, [], IfOk, OnOk, take, vec_len};
 ghost use Rattle.wkt_command.specs.Verdicts.{IsVerdict, room_bytes};
 
 use std::alloc::{AllocError, Global};
@@ -23,9 +23,11 @@ impl Room {
         }
     }
 
-    /// The first bytes, of which there are so many.
-    pub fn written(&self, len: usize) -> &[u8] {
-        self.bytes.get(..len).unwrap_or(&[])
+    /// The first bytes: so many, or all where there are fewer.
+    pub fn written(&self, len: usize) -> &[u8]
+        ensures { result.now ≡ take len (room_bytes self.now) }
+    {
+        &self.bytes[..len.min(self.bytes.len())]
     }
 
     /// Makes room for what a text of so many bytes is written as, mostly.

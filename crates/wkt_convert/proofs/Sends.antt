@@ -15,7 +15,7 @@ use Rattle.wkt_flat.proofs.Writable.{writable}
 use Rattle.wkt_types.specs.Values.{tree_shape}
 use Rattle.wkt_convert.specs.Back.{back, wkt_text}
 use Rattle.wkt_convert.proofs.Backs.{clear, same, same_text}
-use Rattle.wkt_convert.specs.Sent.{OnIo, IfShape, IsRefusal, IsMemory}
+use Rattle.wkt_convert.specs.Sent.{Sends, IfShape, IsRefusal, IsMemory}
 use Rattle.wkt_convert.specs.declared.send.ToWktError.{ToWktError}
 use Rattle.wkt_convert.specs.declared.send.ToWktError.TheVariants as send
 
@@ -23,11 +23,6 @@ never : {A N : Type 0} (s : Shape N) → fault s ≡ None → (r : Result A ToWk
 never s n (Ok x) h = tt
 never s n (Err (send.Shape e)) h = let p : None ≡ Some e = sym n ∙ h in cc
 never s n (Err (send.Io e)) h = tt
-
-whatever : {A : Type 0} (P : Error → Type 0) (r : Result A ToWktError) → IfShape r (λ _. ⊥) → IfShape r P
-whatever P (Ok x) h = tt
-whatever P (Err (send.Shape e)) h = absurd h
-whatever P (Err (send.Io e)) h = tt
 
 none_some : {X : Type 0} (o : Error) {e : _} → e ≡ None → e ≡ Some o → X
 none_some o n h = let p : None ≡ Some o = sym n ∙ h in cc
@@ -58,11 +53,6 @@ ok_any : {A E P : Type 0} (r : Result A E) → P → OnOk r P
 ok_any (Ok x) p = p
 ok_any (Err e) p = tt
 
-io_any : {A P : Type 0} (r : Result A ToWktError) → P → OnIo r P
-io_any (Ok x) p = tt
-io_any (Err (send.Shape e)) p = tt
-io_any (Err (send.Io e)) p = p
-
 -- what was said of the text that a flat value is written as is said of its `Wkt`
 module _ {A E T : Type 0} (r : Result A E) (t : Flat T) where
   pub sound_of : OnOk r (fault (tree_shape (back t)) ≡ None)
@@ -71,21 +61,26 @@ module _ {A E T : Type 0} (r : Result A E) (t : Flat T) where
   pub lawful_of : (is_value : T → Type 0) → OnOk r (IsLawful is_value (flat_shape t)) → OnOk r (IsLawful is_value (tree_shape (back t)))
   lawful_of is_value h = subst (λ s. OnOk r (IsWellFormed is_value s)) (same t) h
 
-  pub out_of : {W : Type 0} (sink : SinkOfBytes W) (u v : W) (num : T → List ℕ) → OnOk r (IsOut sink u v (shape_text num (flat_shape t))) → OnOk r (IsOut sink u v (wkt_text num t))
-  out_of sink u v num h = subst (λ (bs : List ℕ). OnOk r (IsOut sink u v bs)) (same_text num t) h
-
 module _ {A T : Type 0} (r : Result A ToWktError) (t : Flat T) where
-  pub io_sound_of : OnIo r (fault (tree_shape (back t)) ≡ None)
-  io_sound_of = io_any r (clear t)
-
-  pub part_of : {W : Type 0} (sink : SinkOfBytes W) (u v : W) (num : T → List ℕ) → OnIo r (IsPartOut sink u v (shape_text num (flat_shape t))) → OnIo r (IsPartOut sink u v (wkt_text num t))
-  part_of sink u v num h = subst (λ (bs : List ℕ). OnIo r (IsPartOut sink u v bs)) (same_text num t) h
-
   pub never_of : IfShape r (λ e. fault (flat_shape t) ≡ Some e) → IfShape r (λ _. ⊥)
   never_of = never (flat_shape t) (writable t) r
 
-  pub cause_of : IfShape r (λ e. fault (flat_shape t) ≡ Some e) → IfShape r (IsRefusal (tree_shape (back t)))
-  cause_of h = whatever _ r (never_of h)
+-- what went out of a flat value went out of its `Wkt`
+module _ {W T : Type 0} (sink : SinkOfBytes W) (is_value : T → Type 0) (num : T → List ℕ) (u v : W) (t : Flat T) where
+  pub sends_of : {A : Type 0} (r : Result A ToWktError) → Sends sink is_value num u (flat_shape t) v r → IfShape r (λ e. fault (flat_shape t) ≡ Some e)
+      → Sends sink is_value num u (tree_shape (back t)) v r
+  sends_of (Ok x) h cause = record {
+    sound = clear t;
+    lawful = subst (λ s. IsWellFormed is_value s) (same t) h.lawful;
+    out = subst (λ (bs : List ℕ). IsOut sink u v bs) (same_text num t) h.out;
+    unfailed = h.unfailed;
+  }
+  sends_of (Err (send.Shape e)) h cause = none_some e (writable t) cause
+  sends_of (Err (send.Io e)) h cause = record {
+    sound = clear t;
+    out = subst (λ (bs : List ℕ). IsPartOut sink u v bs) (same_text num t) h.out;
+    failed = h.failed;
+  }
 
 module _ {T : Type 0} (t : Flat T) where
   pub text_of : {A : Type 0} (r : Result (String A) Error) (num : T → List ℕ) → IfOk r (λ s. string_bytes s ≡ shape_text num (flat_shape t)) → IfOk r (λ s. string_bytes s ≡ wkt_text num t)

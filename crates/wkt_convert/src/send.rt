@@ -1,14 +1,10 @@
 //! Text out to byte sinks.
-ghost use Rattle.std.specs.Prelude.{◌≡◌, [], OnOk, None, Some, true};
-ghost use Rattle.wkt_num.specs.Sink.{next_count};
-ghost use Rattle.wkt_bytes.specs.Sinks.{IsOut, IsPartOut};
+ghost use Rattle.std.specs.Prelude.{◌≡◌, [], Some, true};
 ghost use Rattle.wkt_bytes.specs.Wrapper.{is_well, held_bytes, wrapped_writer};
 ghost use Rattle.wkt_access.specs.Shapes.{Shape};
 ghost use Rattle.wkt_access.specs.Faults.{fault};
-ghost use Rattle.wkt_access.specs.Lawful.{IsLawful};
-ghost use Rattle.wkt_access.specs.Texts.{shape_text};
 ghost use Rattle.wkt_write.specs.Writes.{Writes};
-ghost use Rattle.wkt_convert.specs.Sent.{IsRefusal, OnIo, IfShape};
+ghost use Rattle.wkt_convert.specs.Sent.{Sends, IfShape};
 
 use std::io;
 use thiserror::Error;
@@ -46,22 +42,9 @@ fn send_through<G: Written, W: ByteSink>(
 ) -> Result<(), ToWktError>
     requires well { is_well wrapper.old ≡ true }
     requires held { held_bytes wrapper.old ≡ [] }
-    ensures ok { OnOk result
-        (IsOut W.sink (wrapped_writer wrapper.old) (wrapped_writer wrapper.new)
-        (shape_text G.T.num (G.shape g.now))) }
-    ensures ok_count { OnOk result
-        (W.sink.failures (wrapped_writer wrapper.new) ≡ W.sink.failures (wrapped_writer wrapper.old)) }
-    ensures sound { OnOk result (fault (G.shape g.now) ≡ None) }
-    ensures lawful { OnOk result (IsLawful G.T.is_value (G.shape g.now)) }
-    ensures io { OnIo result
-        (IsPartOut W.sink (wrapped_writer wrapper.old) (wrapped_writer wrapper.new)
-        (shape_text G.T.num (G.shape g.now))) }
-    ensures io_count { OnIo result
-        (W.sink.failures (wrapped_writer wrapper.new) ≡ next_count (W.sink.failures (wrapped_writer wrapper.old))) }
-    ensures io_sound { OnIo result (fault (G.shape g.now) ≡ None) }
-    ensures shape { IfShape result (λ _. wrapped_writer wrapper.new ≡ wrapped_writer wrapper.old) }
+    ensures sends { Sends W.sink G.T.is_value G.T.num (wrapped_writer wrapper.old) (G.shape g.now) (wrapped_writer wrapper.new)
+        result }
     ensures cause { IfShape result (λ e. fault (G.shape g.now) ≡ Some e) }
-    ensures refused { IfShape result (IsRefusal (G.shape g.now)) }
     ensures keeps { W.sink.keeps (wrapped_writer wrapper.old) (wrapped_writer wrapper.new) }
 {
     match g.write_text(wrapper) {
@@ -76,16 +59,8 @@ fn send_through<G: Written, W: ByteSink>(
 
 /// Puts the text of a geometry out. It takes no memory.
 pub(crate) fn send<G: Written, W: ByteSink>(g: &G, writer: &mut W) -> Result<(), ToWktError>
-    ensures ok { OnOk result (IsOut W.sink writer.old writer.new (shape_text G.T.num (G.shape g.now))) }
-    ensures ok_count { OnOk result (W.sink.failures writer.new ≡ W.sink.failures writer.old) }
-    ensures sound { OnOk result (fault (G.shape g.now) ≡ None) }
-    ensures lawful { OnOk result (IsLawful G.T.is_value (G.shape g.now)) }
-    ensures io { OnIo result (IsPartOut W.sink writer.old writer.new (shape_text G.T.num (G.shape g.now))) }
-    ensures io_count { OnIo result (W.sink.failures writer.new ≡ next_count (W.sink.failures writer.old)) }
-    ensures io_sound { OnIo result (fault (G.shape g.now) ≡ None) }
-    ensures shape { IfShape result (λ _. writer.new ≡ writer.old) }
+    ensures sends { Sends W.sink G.T.is_value G.T.num writer.old (G.shape g.now) writer.new result }
     ensures cause { IfShape result (λ e. fault (G.shape g.now) ≡ Some e) }
-    ensures refused { IfShape result (IsRefusal (G.shape g.now)) }
 {
     let mut wrapper = WriterWrapper::new(writer);
     let answer = send_through(g, &mut wrapper);

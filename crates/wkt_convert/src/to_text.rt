@@ -1,8 +1,6 @@
 //! Types that are written as well-known text.
 ghost use Rattle.std.specs.Prelude.{◌≡◌, IfOk, IfErr, OnOk, None};
 ghost use Rattle.std.specs.String.{string_bytes};
-ghost use Rattle.wkt_num.specs.Sink.{next_count};
-ghost use Rattle.wkt_bytes.specs.Sinks.{IsOut, IsPartOut};
 ghost use Rattle.wkt_access.specs.Faults.{fault};
 ghost use Rattle.wkt_access.specs.Lawful.{IsLawful};
 ghost use Rattle.wkt_access.specs.Texts.{shape_text};
@@ -10,7 +8,7 @@ ghost use Rattle.wkt_types.specs.Tree.{Tree, tree};
 ghost use Rattle.wkt_types.specs.Values.{tree_shape};
 ghost use Rattle.wkt_flat.specs.Shape.{flat_shape};
 ghost use Rattle.wkt_convert.specs.Back.{back, wkt_text};
-ghost use Rattle.wkt_convert.specs.Sent.{IsMemory, IsRefusal, OnIo, IfShape};
+ghost use Rattle.wkt_convert.specs.Sent.{IsMemory, IsRefusal, Sends, IfShape};
 
 use crate::flat_values::FlatValue;
 use crate::send::{ToWktError, Written, send};
@@ -64,17 +62,7 @@ pub trait ToWkt<T: WktNum> {
     /// `Shape` for the error of the shape, or when out of memory: then nothing went out. `Io`
     /// where the writer failed, or took nothing (`WriteZero`): then a beginning of the text is out.
     fn write_wkt<W: ByteSink>(&self, alloc: Global, writer: &mut W) -> Result<(), ToWktError>
-        ensures ok { OnOk result
-            (IsOut W.sink writer.old writer.new (shape_text T.num (tree_shape (held self.now)))) }
-        ensures ok_count { OnOk result (W.sink.failures writer.new ≡ W.sink.failures writer.old) }
-        ensures sound { OnOk result (fault (tree_shape (held self.now)) ≡ None) }
-        ensures lawful { OnOk result (IsLawful T.is_value (tree_shape (held self.now))) }
-        ensures io { OnIo result
-            (IsPartOut W.sink writer.old writer.new (shape_text T.num (tree_shape (held self.now)))) }
-        ensures io_count { OnIo result (W.sink.failures writer.new ≡ next_count (W.sink.failures writer.old)) }
-        ensures io_sound { OnIo result (fault (tree_shape (held self.now)) ≡ None) }
-        ensures shape { IfShape result (λ _. writer.new ≡ writer.old) }
-        ensures cause { IfShape result (IsRefusal (tree_shape (held self.now))) }
+        ensures sends { Sends W.sink T.is_value T.num writer.old (tree_shape (held self.now)) writer.new result }
     {
         match self.to_wkt(alloc) {
             Ok(wkt) => send(&wkt, writer),
@@ -131,17 +119,8 @@ impl<T: WktNum, G: FlatValue<T = T>> ToWkt<T> for G {
     /// # Errors
     /// `Io` where the writer failed, or took nothing (`WriteZero`): then a beginning of the text is
     /// out. `Shape` never comes.
-    #[tactic(auto, using(crate::proofs::Sends::sound_of, crate::proofs::Sends::lawful_of, crate::proofs::Sends::out_of, crate::proofs::Sends::io_sound_of, crate::proofs::Sends::part_of, crate::proofs::Sends::cause_of))]
     fn write_wkt<W: ByteSink>(&self, _alloc: Global, writer: &mut W) -> Result<(), ToWktError>
-        ensures ok { OnOk result (IsOut W.sink writer.old writer.new (wkt_text T.num (G.value self.now))) }
-        ensures ok_count { OnOk result (W.sink.failures writer.new ≡ W.sink.failures writer.old) }
-        ensures sound { OnOk result (fault (tree_shape (back (G.value self.now))) ≡ None) }
-        ensures lawful { OnOk result (IsLawful T.is_value (tree_shape (back (G.value self.now)))) }
-        ensures io { OnIo result (IsPartOut W.sink writer.old writer.new (wkt_text T.num (G.value self.now))) }
-        ensures io_count { OnIo result (W.sink.failures writer.new ≡ next_count (W.sink.failures writer.old)) }
-        ensures io_sound { OnIo result (fault (tree_shape (back (G.value self.now))) ≡ None) }
-        ensures shape { IfShape result (λ _. writer.new ≡ writer.old) }
-        ensures cause { IfShape result (IsRefusal (tree_shape (back (G.value self.now)))) }
+        ensures sends { Sends W.sink T.is_value T.num writer.old (tree_shape (back (G.value self.now))) writer.new result }
         ensures never { IfShape result (λ _. ⊥) }
     {
         send(self, writer)

@@ -22,7 +22,7 @@ const WINDOW: usize = 32;
 
 /// The byte at this place; past the end it is NUL, which ends a text too.
 #[inline(always)]
-pub(crate) fn byte_at(text: &[u8], at: usize) -> u8
+pub fn byte_at(text: &[u8], at: usize) -> u8
     ensures value { result ≡ get_or text.now at 0 }
     ensures some { 0 < result → at < length text.now }
 {
@@ -42,7 +42,7 @@ pub(crate) fn is_white<const FEED_ENDS: bool>(byte: u8) -> bool
 
 /// Past white space, of which mostly there is none, or one space.
 #[inline(always)]
-pub(crate) fn skip_white<const FEED_ENDS: bool>(text: &[u8], at: usize) -> usize
+pub fn skip_white<const FEED_ENDS: bool>(text: &[u8], at: usize) -> usize
     requires { at ≤ length text.now }
     ensures order { at ≤ result }
     ensures inside { result ≤ length text.now }
@@ -108,7 +108,7 @@ pub(crate) fn is_of_run(byte: u8) -> bool
 
 /// Where the run ends that goes on here.
 #[inline(always)]
-pub(crate) fn run_end(text: &[u8], from: usize) -> usize
+pub fn run_end(text: &[u8], from: usize) -> usize
     requires { from ≤ length text.now }
     ensures { IsRunEnd text.now from result }
 {

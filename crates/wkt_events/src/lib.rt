@@ -19,9 +19,11 @@ mod text;
 mod walk;
 
 pub use builder::{At, Builder, Part};
+pub use bytes::{byte_at, run_end, skip_white};
 pub use canonical::{NoRoom, TextWritten, canonical_into, write_canonical};
 pub use front::front_end;
 pub use lines::{Answer, answer_line};
 pub use points::{NearPoint, near_point};
-pub use reading::read_number_at;
+pub use reading::{number_end, number_there, read_number_at};
+pub use text::begins_number;
 pub use walk::geometry;

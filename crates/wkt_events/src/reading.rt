@@ -19,7 +19,7 @@ pub fn read_number_at<T: WktNum>(text: &[u8], at: usize) -> Option<(T, usize)>
 
 /// Where the number ends that stands there.
 #[inline(always)]
-pub(crate) fn number_end<T: WktNum>(text: &[u8], at: usize) -> Option<usize>
+pub fn number_end<T: WktNum>(text: &[u8], at: usize) -> Option<usize>
     requires { at ≤ length text.now }
     ensures some { IfSome result (λ end. EndsNumber T.read text.now at end) }
     ensures none { IfNone result (NoNumber T.read text.now at) }
@@ -38,7 +38,7 @@ pub(crate) fn number_end<T: WktNum>(text: &[u8], at: usize) -> Option<usize>
 
 /// The number that stands there, in any form, and its end.
 #[inline(always)]
-pub(crate) fn number_there<T: WktNum>(text: &[u8], at: usize) -> Option<(T, usize)>
+pub fn number_there<T: WktNum>(text: &[u8], at: usize) -> Option<(T, usize)>
     requires { at ≤ length text.now }
     ensures some { IfSome result (λ p. IsNumberAt T.read text.now at p.1 p.0) }
     ensures none { IfNone result (NoNumber T.read text.now at) }

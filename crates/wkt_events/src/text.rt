@@ -172,7 +172,9 @@ impl TextSink for Space<'_> {
     }
 }
 
-pub(crate) fn begins_number(byte: u8) -> bool
+/// Whether a number may begin with the byte.
+#[inline(always)]
+pub fn begins_number(byte: u8) -> bool
     ensures { result ≡ starts_number byte }
 {
     byte.is_ascii_digit() || byte == b'.' || byte == b'-' || byte == b'+'

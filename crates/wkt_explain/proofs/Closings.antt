@@ -2,7 +2,7 @@
 use Rattle.std.proofs.Common.{◌≡◌, ◌+◌, ◌<◌, ℕ, zero, suc, List, [], ◌∷◌, refl, sym, ap, ◌∙◌, arith, Option, Some, None, true, false, if◌then◌else◌}
 use Rattle.wkt_read.specs.Placed.{lexemes_of}
 use Rattle.wkt_read.specs.Stream.{coming}
-use Rattle.wkt_read.specs.declared.tokenizer.tokens.Tokens.{Tokens}
+use Rattle.wkt_read.specs.Standing.{Standing}
 use Rattle.wkt_explain.specs.declared.seen.Seen.{Seen}
 use Rattle.wkt_explain.specs.Walks.{Shows, Sees}
 use Rattle.wkt_explain.proofs.Streams.{sees_some, sees_none, none_left}
@@ -30,7 +30,7 @@ module _ {N : Type 0} (read : List ℕ → Option N) where
   pub closings_one : (n : ℕ) (m k : Message) (x : Lexeme) (r : List Lexeme) → 0 < n → closing read m (x ∷ r) ≡ (k, r) → (j : ℕ) → j + 1 ≡ n → closings read n m (x ∷ r) ≡ closings read j k r
   closings_one n m k x r lt e j is = let more : n ≡ suc j = omega (arith, is) in ap (λ i. closings read i m (x ∷ r)) more ∙ ap (λ (y : Message × List Lexeme). closings read j y.0 y.1) e
 
-  module _ (whole : Message × List Lexeme) (left : ℕ) (m : Message) (s t : Tokens N) (same : whole ≡ closings read left m (lexemes_of (coming s))) (less : ℕ) (one : less + 1 ≡ left) where
+  module _ (whole : Message × List Lexeme) (left : ℕ) (m : Message) (s t : Standing) (same : whole ≡ closings read left m (lexemes_of (coming s))) (less : ℕ) (one : less + 1 ≡ left) where
     some : 0 < left
     some = omega (arith, one)
 

@@ -9,7 +9,7 @@ use Rattle.wkt_types.specs.declared.geometry_type.GeometryType.TheVariants as ki
 use Rattle.wkt_read.specs.Grammar.{KindWord, kind_word, dim_word}
 use Rattle.wkt_read.specs.Parser.Outcome.{is_empty_word}
 use Rattle.wkt_read.specs.Stream.{Steps}
-use Rattle.wkt_read.specs.declared.tokenizer.tokens.Tokens.{Tokens}
+use Rattle.wkt_read.specs.Standing.{Standing}
 use Rattle.wkt_explain.specs.declared.expected.Expected.{Expected}
 use Rattle.wkt_explain.specs.declared.expected.Expected.TheVariants as expected
 use Rattle.wkt_explain.specs.declared.shape.Part.{Part}
@@ -37,7 +37,7 @@ Shown read (Some l) None = ⊥
 Shown read (Some l) (Some s) = Shows read s l
 
 -- one step of a stream, and what was seen of the lexeme that it took
-abbrev pub Sees : {T : Type 0} → (List ℕ → Option T) → Tokens T → Option Seen → Tokens T → Type 0
+abbrev pub Sees : {T : Type 0} → (List ℕ → Option T) → Standing → Option Seen → Standing → Type 0
 Sees read s r t = (l : Option Lexeme) × Steps s l t × Shown read l r
 
 -- what stands in the parentheses after the header of this kind

@@ -222,16 +222,16 @@ module _ (is : List ℕ → List ℕ → Type 0) where
         → RunLeaves is left failures sink Unread Taken reader start r source next
     lines_answered Unread Taken next here more e w same take (Ok x) (last, end) h =
         let answers : AllReplied is (sink.bytes now) (sink.bytes next) front = subst (AllReplied is (sink.bytes now) (sink.bytes next)) last h.ok in
-        record { ok = all sink (left reader) (left source) start now front base next end answers; ok_taken = all_taken sink (left reader) (left source) start now front base next end answers; end = end; read = tt; read_first = tt; read_count = tt; source_count = same; write = tt; write_taken = tt; write_count = tt; sink_count = h.count ∙ base.count; memory = tt; memory_taken = tt }
+        record { ok = all sink (left reader) (left source) start now front base next end answers; ok_taken = all_taken sink (left reader) (left source) start now front base next end answers; end = end; read = tt; read_count = tt; source_count = same; write = tt; write_taken = tt; write_count = tt; sink_count = h.count ∙ base.count; memory = tt; memory_taken = tt }
     lines_answered Unread Taken next here more e w same take (Err (run.Read x)) last h = absurd h.read
     lines_answered Unread Taken next here more e w same take (Err (run.Write x)) last h =
         let f = fits sink (left reader) (left source) start now front base here more e w in
         let taken = part_more (sink.bytes start) (sink.bytes now) (sink.bytes next) base.done here (base.done ++ here) base.out h.write (fits_last base.done here base.ends) in
-        record { ok = tt; ok_taken = tt; end = tt; read = tt; read_first = tt; read_count = tt; source_count = same; write = part sink (left reader) (left source) start now front base next here f h.write; write_taken = take (PartReplied is (sink.bytes start) (sink.bytes next)) taken; write_count = h.write_count ∙ ap next_count base.count; sink_count = tt; memory = tt; memory_taken = tt }
+        record { ok = tt; ok_taken = tt; end = tt; read = tt; read_count = tt; source_count = same; write = part sink (left reader) (left source) start now front base next here f h.write; write_taken = take (PartReplied is (sink.bytes start) (sink.bytes next)) taken; write_count = h.write_count ∙ ap next_count base.count; sink_count = tt; memory = tt; memory_taken = tt }
     lines_answered Unread Taken next here more e w same take (Err (run.Memory x)) last h =
         let f = fits sink (left reader) (left source) start now front base here more e w in
         let taken = before_more (sink.bytes start) (sink.bytes now) (sink.bytes next) base.done here (base.done ++ here) base.out h.memory (fits_last base.done here base.ends) in
-        record { ok = tt; ok_taken = tt; end = tt; read = tt; read_first = tt; read_count = tt; source_count = same; write = tt; write_taken = tt; write_count = tt; sink_count = h.count ∙ base.count; memory = befores sink (left reader) (left source) start now front base next here f h.memory; memory_taken = inr (take (BeforeReplied is (sink.bytes start) (sink.bytes next)) taken) }
+        record { ok = tt; ok_taken = tt; end = tt; read = tt; read_count = tt; source_count = same; write = tt; write_taken = tt; write_count = tt; sink_count = h.count ∙ base.count; memory = befores sink (left reader) (left source) start now front base next here f h.memory; memory_taken = inr (take (BeforeReplied is (sink.bytes start) (sink.bytes next)) taken) }
 
     -- the lines of a block were answered
     pub block_answered : (next : W) (here more : List ℕ) → front ≡ here ++ more → IsWhole here ⊎ ((more ≡ []) × IsAtEnd (left source)) → failures source ≡ failures reader
@@ -240,8 +240,8 @@ module _ (is : List ℕ → List ℕ → Type 0) where
 
     -- there was no memory to read on
     pub no_room : HasNoFeed front → failures source ≡ failures reader → (e : AllocError) → Streams is left failures sink {A = Unit {0}} reader start (Err (run.Memory e)) source now
-    no_room none same e = record { ok = tt; ok_taken = tt; end = tt; read = tt; read_first = tt; read_count = tt; source_count = same; write = tt; write_taken = tt; write_count = tt; sink_count = base.count; memory = so_far sink (left reader) (left source) start now front base; memory_taken = inl (no_more sink (left reader) (left source) start now front base none) }
+    no_room none same e = record { ok = tt; ok_taken = tt; end = tt; read = tt; read_count = tt; source_count = same; write = tt; write_taken = tt; write_count = tt; sink_count = base.count; memory = so_far sink (left reader) (left source) start now front base; memory_taken = inl (no_more sink (left reader) (left source) start now front base none) }
 
     -- the source failed
     pub no_block : HasNoFeed front → failures source ≡ failures reader → (later : R) → Keeps (left source) (left later) → failures later ≡ next_count (failures source) → (e : Error) → Streams is left failures sink {A = Unit {0}} reader start (Err (run.Read e)) later now
-    no_block none same later keeps failed e = record { ok = tt; ok_taken = tt; end = tt; read = broke_off sink (left reader) (left source) start now front base (left later) keeps none; read_first = so_far sink (left reader) (left source) start now front base; read_count = failed ∙ ap next_count same; source_count = tt; write = tt; write_taken = tt; write_count = tt; sink_count = base.count; memory = tt; memory_taken = tt }
+    no_block none same later keeps failed e = record { ok = tt; ok_taken = tt; end = tt; read = broke_off sink (left reader) (left source) start now front base (left later) keeps none; read_count = failed ∙ ap next_count same; source_count = tt; write = tt; write_taken = tt; write_count = tt; sink_count = base.count; memory = tt; memory_taken = tt }

@@ -49,7 +49,6 @@ module _ (is : List ℕ → List ℕ → Type 0) where
       pub ok_taken : OnOk result (AllTaken (left reader) (left reader') (IsAllReplied is sink writer writer'))
       pub end : OnOk result (IsAtEnd (left reader'))
       pub read : OnRunRead result Unread
-      pub read_first : OnRunRead result (IfSome (left reader) (IsFirstReplied is sink writer writer'))
       pub read_count : OnRunRead result (failures reader' ≡ next_count (failures reader))
       pub source_count : UnlessRunRead result (failures reader' ≡ failures reader)
       pub write : OnRunWrite result (IfSome (left reader) (IsPartReplied is sink writer writer'))

@@ -12,3 +12,7 @@ mod Composing
 mod Depths
 mod TokenViews
 mod Fronting
+mod ByteViews
+mod Grown
+mod Holding
+mod Valued

@@ -2,6 +2,7 @@
 use Rattle.std.specs.Prelude.{◌≡◌, ℕ, List, [], ◌∷◌, ◌++◌, Option, Some, None, true, false}
 use Rattle.wkt_num.specs.Bytes.{Lexeme}
 use Rattle.wkt_access.specs.Values.{Value}
+use Rattle.wkt_access.specs.WellFormed.{IsWellFormed}
 use Rattle.wkt_read.specs.Grammar.{StandFor}
 use Rattle.wkt_read.specs.Begun.{BegunGeometry, NoneBegins}
 use Rattle.wkt_read.specs.Early.{IsJustDead}
@@ -9,6 +10,7 @@ use Rattle.wkt_machine.specs.Place as place
 use Rattle.wkt_machine.specs.Place.{State}
 use Rattle.wkt_machine.specs.Drives.{start, is_over}
 use Rattle.wkt_machine.specs.Events.{Event, events}
+use Rattle.wkt_machine.specs.Growing.{rest, grow_all, MayAll}
 use Rattle.wkt_explain.specs.Explained.{IsExpectedAfter}
 use Rattle.wkt_machine.specs.Expecting.{expected_at}
 use Rattle.wkt_machine.specs.Machine.{at, after, move, run}
@@ -43,3 +45,8 @@ module _ {N : Type 0} (read : List ℕ → Option N) where
   Expects =
       (before : List Lexeme) (s : State) (es : List (Event N))
       → run read start before ≡ Some (s, es) → is_over s ≡ false → IsExpectedAfter read before (expected_at s.place s.depth)
+
+-- A value whose coordinates fit their headers grows from its events, and each may come where it does.
+abbrev pub Grows : {N : Type 0} → (is_value : N → Type 0) → Type 0
+Grows {N} is_value =
+    (v : Value N) → IsWellFormed is_value v → (grow_all (events v) (rest [] None) ≡ rest [] (Some v)) × MayAll (events v) (rest [] None)

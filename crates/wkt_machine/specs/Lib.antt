@@ -12,3 +12,8 @@ pub mod View
 pub mod Goes
 pub mod NothingMaker
 pub mod TokensView
+pub mod BytesView
+pub mod Growing
+pub mod Trees
+pub mod Growers
+pub mod Values

@@ -1,6 +1,8 @@
 -- What is known of what is made.
-use Rattle.std.specs.Prelude.{List, [], ◌++◌}
+use Rattle.std.specs.Prelude.{ℕ, List, [], ◌∷◌, ◌++◌, Option}
+use Rattle.wkt_events.specs.Numbers.{IsNumberAt}
 use Rattle.wkt_machine.specs.Events.{Event}
+use Rattle.wkt_machine.specs.declared.part.Axis.{Axis}
 
 -- Of numbers of type N a thing of type S is made.
 pub record Maker (N S : Type 0) : Type 1 where
@@ -10,3 +12,9 @@ pub record Maker (N S : Type 0) : Type 1 where
   pub none : (s : S) → makes s [] s
   -- Some events, and then others.
   pub more : (s t u : S) (es fs : List (Event N)) → makes s es t → makes t fs u → makes s (es ++ fs) u
+
+-- The number that stands in the bytes from `at` to `end` is made.
+pub record MakesNumber {N S : Type 0} (read : List ℕ → Option N) (maker : Maker N S) (before : S) (text : List ℕ) (at : ℕ) (axis : Axis) (after : S) (end : ℕ) : Type 0 where
+  pub number : N
+  pub there : IsNumberAt read text at end number
+  pub makes : maker.makes before (Event.Number axis number ∷ []) after

@@ -4,6 +4,7 @@ ghost use Rattle.std.specs.Str.{IsCharBoundary};
 ghost use Rattle.wkt_read.specs.Front.{HasNoFront};
 ghost use Rattle.wkt_events.specs.Canonical.{EndsFront};
 
+use crate::bytes::Bytes;
 use crate::drive::drive;
 use crate::nothing::Nothing;
 use crate::tokens::OneByOne;
@@ -13,6 +14,19 @@ use wkt_read::{PeekableTokens, Tokens};
 /// Where the geometry at the front of the text ends, in bytes; `None` where the text has none there. What follows it is
 /// not looked at. It takes no memory, and no stack for nesting.
 pub fn front_end<T: WktNum>(text: &str) -> Option<usize>
+    ensures front { MatchOption result (HasNoFront T.read text.now) (λ end. EndsFront T.read text.now end) }
+    ensures some { IfSome result (λ end. 0 < end) }
+    ensures within { IfSome result (λ end. end ≤ length text.now) }
+    ensures boundary { IfSome result (λ end. IsCharBoundary text.now end) }
+{
+    match drive::<T, Bytes<'_, false>, Nothing>(Bytes::new(text.as_bytes(), 0), Nothing) {
+        Ok(over) => Some(over.source.at),
+        Err(_) => None,
+    }
+}
+
+/// As [`front_end`], by the text's tokens.
+pub fn front_end_by_tokens<T: WktNum>(text: &str) -> Option<usize>
     ensures front { MatchOption result (HasNoFront T.read text.now) (λ end. EndsFront T.read text.now end) }
     ensures some { IfSome result (λ end. 0 < end) }
     ensures within { IfSome result (λ end. end ≤ length text.now) }

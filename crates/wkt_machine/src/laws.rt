@@ -1,5 +1,5 @@
 //! Laws of the definitions: each function does nothing, and its contract is the law.
-ghost use Rattle.wkt_machine.specs.Laws.{Completes, IsExact, GoesOn, Refuses, Expects};
+ghost use Rattle.wkt_machine.specs.Laws.{Completes, IsExact, GoesOn, Refuses, Expects, Grows};
 
 use wkt_num::WktNum;
 
@@ -27,4 +27,9 @@ pub fn refuses<T: WktNum>()
 /// What is expected at the machine's place is exactly each lexeme with which the lexemes before it aren't dead.
 pub fn expects<T: WktNum>()
     ensures { Expects T.read }
+{}
+
+/// A value whose coordinates fit their headers grows from its events, so these determine it.
+pub fn grows<T: WktNum>()
+    ensures { Grows T.is_value }
 {}

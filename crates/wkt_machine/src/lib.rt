@@ -4,6 +4,7 @@
 #![tactic(auto)]
 
 pub mod builder;
+pub mod bytes;
 pub mod drive;
 pub mod front;
 pub mod laws;
@@ -13,14 +14,21 @@ mod part;
 pub mod source;
 pub mod step;
 pub mod tokens;
+pub mod tree;
+pub mod value;
 
 pub use builder::Builder;
-pub use front::front_end;
+pub use bytes::Bytes;
+pub use front::{front_end, front_end_by_tokens};
 pub use machine::{Machine, Seen, State};
 pub use nothing::Nothing;
 pub use part::{Axis, Part};
 pub use source::{At, Source, Walk, Walked};
 pub use tokens::OneByOne;
+pub use tree::{Grower, Tree};
+pub use value::{Unread, read};
 
 #[cfg(test)]
 mod tests;
+#[cfg(test)]
+mod value_tests;

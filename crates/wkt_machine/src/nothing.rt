@@ -3,6 +3,7 @@
 use crate::builder::Builder;
 use crate::part::{Axis, Part};
 use wkt_access::Dimension;
+use wkt_events::number_end;
 use wkt_num::WktNum;
 
 /// Keeps nothing of what comes.
@@ -42,5 +43,10 @@ impl<T: WktNum> Builder<T> for Nothing {
     #[inline(always)]
     fn number(self, _number: T, _axis: Axis) -> Self {
         self
+    }
+
+    #[inline(always)]
+    fn number_in(self, text: &[u8], at: usize, _axis: Axis) -> (Self, Option<usize>) {
+        (self, number_end::<T>(text, at))
     }
 }

@@ -1,5 +1,5 @@
 //! Where the geometries at the front of texts end, counted by hand.
-use crate::front_end;
+use crate::{front_end, front_end_by_tokens};
 use std::process::Abort;
 use wkt_num::Decimal;
 
@@ -32,5 +32,9 @@ const FRONTS: [(&str, Option<usize>); 18] = [
 fn fronts(rt: HostRuntime) {
     for (text, end) in FRONTS {
         assert!(&rt; front_end::<Decimal<6>>(text) == end, "{text}");
+        assert!(&rt;
+            front_end_by_tokens::<Decimal<6>>(text) == end,
+            "{text}, by tokens"
+        );
     }
 }

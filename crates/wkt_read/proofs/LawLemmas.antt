@@ -16,3 +16,4 @@ pub mod OneWkt
 pub mod FrontEnds
 pub mod Few
 pub mod Characters
+pub mod OnePlacing

@@ -1,11 +1,11 @@
 //! The kind and the dimension that the header of a text names.
-ghost use Rattle.std.specs.Prelude.{◌≡◌};
-ghost use Rattle.std.specs.Str.{str_to_ascii_uppercase};
+ghost use Rattle.std.specs.Prelude.{◌≡◌, IfErr};
+ghost use Rattle.std.specs.Str.{str_to_ascii_uppercase, trim_start};
 ghost use Rattle.std.specs.List.{AllByRecursion};
 ghost use Rattle.wkt_read.specs.Keywords.{IsCapital};
-ghost use Rattle.wkt_read.specs.Header.{holds, has_space, dim_said, header_rule};
+ghost use Rattle.wkt_read.specs.Header.{holds, has_space, dim_said, header_cut, header_rule};
 ghost use Rattle.wkt_read.specs.HeaderSteps.{EndsHeader, header_answer};
-ghost use Rattle.wkt_read.specs.Infer.{Infers};
+ghost use Rattle.wkt_read.specs.Infer.{Infers, SaysOf, LendsPrefix, LendsPrefixOf};
 
 use crate::keywords::{begins, kind};
 use std::alloc::{AllocError, Global};
@@ -27,6 +27,18 @@ pub enum InferError {
     /// Memory ran out for an unsupported prefix. No other answer takes any.
     #[error("out of memory")]
     Memory(AllocError),
+}
+
+/// Why the header of a text names no kind, with what the text begins with as it stands there.
+#[derive(Clone, Copy, PartialEq, Eq, Debug)]
+pub enum HeaderError<'a> {
+    /// The text begins with none of the kind words. This is what it has before its first `(` or
+    /// EMPTY.
+    UnsupportedPrefix(&'a str),
+    /// EMPTY comes first, with no space, LF, CR or TAB before it.
+    NoSpaceBeforeEmpty,
+    /// The text has neither `(` nor EMPTY.
+    NoOpenParen,
 }
 
 /// So that `?` passes on what allocates, beside what infers.
@@ -98,22 +110,16 @@ fn dimension(rest: &[u8]) -> Dimension
 }
 
 // What a header names, after which EMPTY stands or not.
-fn named(
-    alloc: Global,
-    header: &str,
-    by_empty: bool,
-) -> Result<(GeometryType, Dimension), InferError>
-    ensures exact { Infers result (header_answer header.now by_empty) }
+fn named<'a>(header: &'a str, by_empty: bool) -> Result<(GeometryType, Dimension), HeaderError<'a>>
+    ensures exact { SaysOf result (header_answer header.now by_empty) }
+    ensures prefix { IfErr result (λ e. LendsPrefix e header.now) }
 {
     if by_empty && !has_space(header.as_bytes()) {
-        return Err(InferError::NoSpaceBeforeEmpty);
+        return Err(HeaderError::NoSpaceBeforeEmpty);
     }
     match kind(header.as_bytes()) {
         Some((kind, rest)) => Ok((kind, dimension(rest))),
-        None => match header.to_ascii_uppercase(alloc) {
-            Ok(prefix) => Err(InferError::UnsupportedPrefix(prefix)),
-            Err(error) => Err(InferError::Memory(error)),
-        },
+        None => Err(HeaderError::UnsupportedPrefix(header)),
     }
 }
 
@@ -144,9 +150,29 @@ fn named(
 pub fn infer_type(alloc: Global, text: &str) -> Result<(GeometryType, Dimension), InferError>
     ensures exact { Infers result (header_rule text.now) }
 {
+    match infer_header(text) {
+        Ok(named) => Ok(named),
+        Err(HeaderError::UnsupportedPrefix(prefix)) => match prefix.to_ascii_uppercase(alloc) {
+            Ok(prefix) => Err(InferError::UnsupportedPrefix(prefix)),
+            Err(error) => Err(InferError::Memory(error)),
+        },
+        Err(HeaderError::NoSpaceBeforeEmpty) => Err(InferError::NoSpaceBeforeEmpty),
+        Err(HeaderError::NoOpenParen) => Err(InferError::NoOpenParen),
+    }
+}
+
+/// What [`infer_type`] answers, in no memory: the prefix that it refuses is lent from the text, in the case in which it
+/// stands there.
+///
+/// # Errors
+/// As of `infer_type`, but for `Memory`.
+pub fn infer_header(text: &str) -> Result<(GeometryType, Dimension), HeaderError<'_>>
+    ensures exact { SaysOf result (header_rule text.now) }
+    ensures prefix { IfErr result (λ e. LendsPrefixOf e (header_cut (trim_start text.now))) }
+{
     let text = text.trim_start();
     match header_length(text.as_bytes()) {
-        Some((end, by_empty)) => named(alloc, &text[..end], by_empty),
-        None => Err(InferError::NoOpenParen),
+        Some((end, by_empty)) => named(&text[..end], by_empty),
+        None => Err(HeaderError::NoOpenParen),
     }
 }

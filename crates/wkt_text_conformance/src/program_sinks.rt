@@ -4,6 +4,7 @@ use crate::slow_sinks::{Pieces, Slow, source};
 use std::alloc::Global;
 use std::io::ErrorKind;
 use std::process::Abort;
+use wkt_bytes::Counted;
 use wkt_lines::{run, run_over, stream_over};
 
 const INPUT: &[u8] = b"point ( 10 -20.50 )\nPOINT ZM EMPTY\nPOINTZ(-117 33 10)\nPOINT (10)\n\n";
@@ -15,6 +16,11 @@ const LINES: &[(&[u8], &[u8])] = &[
     (b"\n", b"refused\n"),
     (INPUT, OUTPUT),
     (b"POINT(1 2)", b"POINT(1 2)\n"),
+    (b"LINEARRING(1 2)\n", b"LINESTRING(1 2)\n"),
+    (
+        b"POINT(1 2)\nLINESTRING(1 2,3 4)\n",
+        b"POINT(1 2)\nLINESTRING(1 2,3 4)\n",
+    ),
     (
         b"GeometryCollection M ( GeometryCollection ( GeometryCollection ( Point ( 1 2 ) ) ) )\n",
         b"GEOMETRYCOLLECTION M(GEOMETRYCOLLECTION(GEOMETRYCOLLECTION(POINT(1 2))))\n",
@@ -47,6 +53,48 @@ fn runs_well(rt: &impl Abort, alloc: Global, input: &[u8], want: &[u8]) {
 fn answers_lines(rt: HostRuntime) {
     for &(input, want) in LINES {
         runs_well(&rt, rt.alloc(), input, want);
+    }
+}
+
+// The kinds that are lists, and a member of each.
+const LISTS: &[(&str, &str)] = &[
+    ("LINESTRING", "1 2"),
+    ("POLYGON", "(1 2)"),
+    ("MULTIPOINT", "(1 2)"),
+    ("MULTILINESTRING", "(1 2)"),
+    ("MULTIPOLYGON", "((1 2))"),
+    ("GEOMETRYCOLLECTION", "POINT(1 2)"),
+];
+
+/// A line with a list of a member, before which the same stands so often.
+fn list_line(
+    rt: &impl Abort,
+    alloc: Global,
+    (word, member): (&str, &str),
+    before: usize,
+) -> String {
+    let one = [member, ","].concat(alloc).expect(rt, "memory");
+    let others = one.repeat(alloc, before).expect(rt, "memory");
+    let parts = [word, "(", others.as_str(), member, ")\n"];
+    parts.concat(alloc).expect(rt, "memory")
+}
+
+/// A list in canonical form is answered with itself.
+fn gives_itself(rt: &impl Abort, alloc: Global, line: &str) {
+    let mut reader = source(line.as_bytes(), 1000, 1000);
+    let mut writer = Counted::new(Vec::<u8>::new(alloc));
+    ended(rt, run(alloc, &mut reader, &mut writer), WELL);
+    equal(rt, writer.into_inner().as_slice(), line.as_bytes());
+}
+
+// A call that gives up on lists of some size fails here.
+#[test]
+fn lists_of_each_size(rt: HostRuntime) {
+    for before in 0..300 {
+        for &list in LISTS {
+            let line = list_line(&rt, rt.alloc(), list, before);
+            gives_itself(&rt, rt.alloc(), &line);
+        }
     }
 }
 

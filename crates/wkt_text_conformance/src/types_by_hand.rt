@@ -3,7 +3,10 @@ use crate::asserts::{equal, holds};
 use std::alloc::Global;
 use std::process::Abort;
 use wkt_num::Decimal;
-use wkt_types::{Coord, Dimension, GeometryCollection, LineString, Point, Polygon, Wkt};
+use wkt_types::{
+    Coord, Dimension, GeometryCollection, LineString, MultiLineString, MultiPolygon, Point,
+    Polygon, Wkt,
+};
 
 /// A coordinate of whole numbers.
 fn xyzm(x: i32, y: i32, z: Option<i32>, m: Option<i32>) -> Coord<i32> {
@@ -96,6 +99,102 @@ fn of_no_members(rt: HostRuntime) {
     let none: Vec<Wkt<i32>> = Vec::new(alloc);
     let all = GeometryCollection::from_geometries(alloc, none.into_iter()).expect(&rt, "memory");
     holds(&rt, all.is_none());
+}
+
+// One, in decimals of six places.
+const ONE: i128 = 1_000_000;
+
+/// A line string of decimals, by their units.
+fn decimals(rt: &impl Abort, alloc: Global, coords: &[(i128, i128)]) -> LineString<Decimal<6>> {
+    let mut all = Vec::new(alloc);
+    for &(x, y) in coords {
+        let coord = Coord {
+            x: Decimal::<6>::from_units(x),
+            y: Decimal::<6>::from_units(y),
+            z: None,
+            m: None,
+        };
+        all.push(coord).expect(rt, "memory");
+    }
+    let line = LineString::from_coords(alloc, all.into_iter()).expect(rt, "memory");
+    line.expect(rt, "coordinates")
+}
+
+#[test]
+fn from_line_strings(rt: HostRuntime) {
+    let alloc = rt.alloc();
+    let first = decimals(
+        &rt,
+        alloc,
+        &[(10_100_000, 20_200_000), (30_300_000, 40_400_000)],
+    );
+    let second = decimals(
+        &rt,
+        alloc,
+        &[(50_500_000, 60_600_000), (70_700_000, 80_800_000)],
+    );
+    let lines = vec![in alloc; first, second].expect(&rt, "memory");
+    let all = MultiLineString::from_line_strings(alloc, lines.into_iter()).expect(&rt, "memory");
+    let text = all.expect(&rt, "lines").to_string(alloc);
+    equal(
+        &rt,
+        text.expect(&rt, "written").as_str(),
+        "MULTILINESTRING((10.1 20.2,30.3 40.4),(50.5 60.6,70.7 80.8))",
+    );
+}
+
+/// A polygon of such rings.
+fn polygon(
+    rt: &impl Abort,
+    alloc: Global,
+    rings: Vec<LineString<Decimal<6>>>,
+) -> Polygon<Decimal<6>> {
+    let polygon = Polygon::from_rings(alloc, rings.into_iter()).expect(rt, "memory");
+    polygon.expect(rt, "rings")
+}
+
+#[test]
+fn from_polygons(rt: HostRuntime) {
+    let alloc = rt.alloc();
+    let triangle = decimals(
+        &rt,
+        alloc,
+        &[(0, 0), (20 * ONE, 40 * ONE), (40 * ONE, 0), (0, 0)],
+    );
+    let hole = decimals(
+        &rt,
+        alloc,
+        &[
+            (5 * ONE, 5 * ONE),
+            (20 * ONE, 30 * ONE),
+            (30 * ONE, 5 * ONE),
+            (5 * ONE, 5 * ONE),
+        ],
+    );
+    let other = decimals(
+        &rt,
+        alloc,
+        &[
+            (40 * ONE, 40 * ONE),
+            (20 * ONE, 45 * ONE),
+            (45 * ONE, 30 * ONE),
+            (40 * ONE, 40 * ONE),
+        ],
+    );
+    let first = polygon(
+        &rt,
+        alloc,
+        vec![in alloc; triangle, hole].expect(&rt, "memory"),
+    );
+    let second = polygon(&rt, alloc, vec![in alloc; other].expect(&rt, "memory"));
+    let polygons = vec![in alloc; first, second].expect(&rt, "memory");
+    let all = MultiPolygon::from_polygons(alloc, polygons.into_iter()).expect(&rt, "memory");
+    let text = all.expect(&rt, "polygons").to_string(alloc);
+    equal(
+        &rt,
+        text.expect(&rt, "written").as_str(),
+        "MULTIPOLYGON(((0 0,20 40,40 0,0 0),(5 5,20 30,30 5,5 5)),((40 40,20 45,45 30,40 40)))",
+    );
 }
 
 #[test]

@@ -13,7 +13,7 @@ use Rattle.wkt_read.specs.Answered.{Begins, OnText, OnMessage}
 use Rattle.wkt_read.specs.Begun.{NoneBegins}
 use Rattle.wkt_read.specs.declared.error.ReadError.{ReadError}
 use Rattle.wkt_read.specs.declared.error.ReadError.TheVariants.{Text, Memory}
-use Rattle.wkt_read.specs.declared.tokenizer.peekable.PeekableTokens.{PeekableTokens}
+use Rattle.wkt_read.specs.Standing.{Standing}
 use Rattle.wkt_read.proofs.TokenizerLemmas.Afters.{lexemes_of-append}
 use Rattle.wkt_read.proofs.TokenizerLemmas.Placings.{placed-split}
 use Rattle.wkt_read.proofs.LawLemmas.FrontEnds.{geometry-some, front-of-lexemes}
@@ -21,8 +21,8 @@ use Rattle.wkt_read.proofs.LawLemmas.Few.{lexemes-length}
 use Rattle.wkt_read.proofs.LawLemmas.Splits.{split_one}
 use Rattle.wkt_read.proofs.LawLemmas.Fronts.{taken_begin}
 
-module _ {T : Type 0} where
-  pub rest-is : (s : PeekableTokens T) (ps : List Placed) → left s ≡ ps → rest s ≡ lexemes_of ps
+module _ where
+  pub rest-is : (s : Standing) (ps : List Placed) → left s ≡ ps → rest s ≡ lexemes_of ps
   unfolding rest
   rest-is s ps e = ap lexemes_of e
 
@@ -35,10 +35,10 @@ long [] some = absurd (some refl)
 long (l ∷ ls) some = omega arith
 
 -- a lexeme that could have been the last one given
-abbrev marked : {T : Type 0} → PeekableTokens T → Placed
+abbrev marked : Standing → Placed
 marked s = record { lexeme = Open; end = end_of s }
 
-module _ {T : Type 0} (s t : PeekableTokens T) where
+module _ (s t : Standing) where
   -- a stream that is after whatever another is after: so much of that was taken
   advanced : (x : Placed) (given : List Placed) → left s ≡ given ++ left t → x.end ≡ end_of s → IfLast (x ∷ given) (end_of t) → taken_of s ≤ taken_of t → Advances s t
   advanced x given split at last grows = record {
@@ -64,7 +64,7 @@ module _ {T : Type 0} (read : List ℕ → Option T) where
   some-taken ls v after (f, split, g) = omega (arith, long f (geometry-some read f v g), ap length split, length-append f after)
 
   -- where the front of a text ends
-  pub to-front : (text : List ℕ) (s t : PeekableTokens T) (v : Value T) → AreEnds text (left s) → end_of s ≡ 0 → Advances s t → Begins read (rest s) v (rest t) → Front read text v (end_of t)
+  pub to-front : (text : List ℕ) (s t : Standing) (v : Value T) → AreEnds text (left s) → end_of s ≡ 0 → Advances s t → Begins read (rest s) v (rest t) → Front read text v (end_of t)
   to-front text s t v are zero a (f, split, g) =
       let whole : lexemes_of a.given ++ rest t ≡ f ++ rest t = ap (λ l. lexemes_of a.given ++ l) (rest-is t (left t) refl) ∙ sym (lexemes_of-append a.given (left t)) ∙ ap lexemes_of (sym a.split) ∙ sym (rest-is s (left s) refl) ∙ split in
       let same : f ≡ lexemes_of a.given = sym (append_cancel_right (lexemes_of a.given) f (rest t) whole) in
@@ -72,16 +72,16 @@ module _ {T : Type 0} (read : List ℕ → Option T) where
       subst (Front read text v) (sym at) (front-of-lexemes read text a.given (left t) v (subst (AreEnds text) a.split are) (subst (λ l. StandFor read l v) same g))
 
   -- the lexemes of a text with a front begin with it
-  pub from-front : (text : List ℕ) (s : PeekableTokens T) (v : Value T) (end : ℕ) → left s ≡ placed text → Front read text v end → (after : List Lexeme) × Begins read (rest s) v after
+  pub from-front : (text : List ℕ) (s : Standing) (v : Value T) (end : ℕ) → left s ≡ placed text → Front read text v end → (after : List Lexeme) × Begins read (rest s) v after
   from-front text s v end start front =
       let (more, is) = taken_begin text front.rest front.lexemes front.taken in
       let same : lexemes_of (placed text) ≡ front.lexemes ++ more = split_one text _ _ (placed-split text) is in
       (more, (front.lexemes, rest-is s (placed text) start ∙ same, front.reads))
 
-  pub split-of : (text : List ℕ) (s : PeekableTokens T) → left s ≡ placed text → IsSplit text (rest s)
+  pub split-of : (text : List ℕ) (s : Standing) → left s ≡ placed text → IsSplit text (rest s)
   split-of text s start = subst (IsSplit text) (sym (rest-is s (placed text) start)) (placed-split text)
 
-  pub no-front : (text : List ℕ) (s : PeekableTokens T) → left s ≡ placed text → NoneBegins read (rest s) → HasNoFront read text
+  pub no-front : (text : List ℕ) (s : Standing) → left s ≡ placed text → NoneBegins read (rest s) → HasNoFront read text
   no-front text s start none v end front =
       let (after, (f, split, g)) = from-front text s v end start front in
       none f after v split g

@@ -1,5 +1,5 @@
 -- Open collections, and what is read inside them.
-use Rattle.std.proofs.Common.{◌≡◌, ℕ, zero, suc, ◌≤◌, ◌<◌, List, [], ◌∷◌, ◌++◌, length, sym, refl, ap, ◌∙◌, subst, arith, Result, Ok, Err, true}
+use Rattle.std.proofs.Common.{◌≡◌, ℕ, zero, suc, ◌≤◌, ◌<◌, List, [], ◌∷◌, ◌++◌, length, sym, refl, ap, ◌∙◌, subst, arith, Result, Ok, Err, true, OnOk, ◌+◌, ◌*◌}
 use Rattle.std.specs.Prelude.{map, Option, Vec}
 use Rattle.std.specs.Result.{IsErr, IsErrAnd}
 use Rattle.wkt_num.specs.Bytes.{Lexeme, Comma}
@@ -19,7 +19,7 @@ use Rattle.wkt_read.specs.Parser.Reads.{wkt_value, UniformWkt}
 use Rattle.wkt_read.proofs.ParserLemmas.Many.{err-ok, with_front-front, many-stop}
 use Rattle.wkt_read.specs.Parser.Walks.{BeginsWithoutComma, GoesOn}
 use Rattle.wkt_read.specs.Ahead.{rest}
-use Rattle.wkt_read.specs.declared.tokenizer.peekable.PeekableTokens.{PeekableTokens}
+use Rattle.wkt_read.specs.Standing.{Standing}
 use Rattle.wkt_access.specs.declared.Dimension.{Dimension}
 use Rattle.std.specs.declared.alloc.Global.{Global}
 use Rattle.std.specs.Borrow.{Bor}
@@ -49,6 +49,12 @@ pub weight-most : {T : Type 0} (r : Result (Start T) ReadError) → weight r ≤
 weight-most (Ok (Whole w)) = omega arith
 weight-most (Ok (Opened d)) = omega arith
 weight-most (Err e) = omega arith
+
+-- what begins takes a lexeme, or is an error
+pub start-lighter : {T : Type 0} (r : Result (Start T) ReadError) (m n : ℕ) → OnOk r (m < n) → m ≤ n → 2 * m + weight r ≤ 2 * n
+start-lighter (Ok (Whole w)) m n h le = omega (arith, h)
+start-lighter (Ok (Opened d)) m n h le = omega (arith, h)
+start-lighter (Err e) m n h le = omega (arith, le)
 
 pub wants : {T : Type 0} (r : Result (Start T) ReadError) (P : Type 0) → P → Wants r P
 wants (Ok (Whole w)) P p = tt
@@ -105,13 +111,13 @@ module _ {T : Type 0} (read : List ℕ → Option T) where
   starts-uniform (Err e) whole left h = tt
 
   -- a message that is passed on, where something begins
-  pub start-says : (needs : Type 0) (reading : ℕ → List Lexeme → Outcome (Value T)) (s t : PeekableTokens T) (r : Result (Start T) ReadError) (m : Message) → IsErrAnd r (λ y. Says y m) → GoesOn s t → ((fuel : ℕ) → length (rest s) ≤ fuel → reading fuel (rest s) ≡ Err (m, rest t)) → ReadsStart read needs reading s r t
+  pub start-says : (needs : Type 0) (reading : ℕ → List Lexeme → Outcome (Value T)) (s t : Standing) (r : Result (Start T) ReadError) (m : Message) → IsErrAnd r (λ y. Says y m) → GoesOn s t → ((fuel : ℕ) → length (rest s) ≤ fuel → reading fuel (rest s) ≡ Err (m, rest t)) → ReadsStart read needs reading s r t
   start-says needs reading s t (Ok x) m h go e = absurd h
   start-says needs reading s t (Err (Text x)) m h go e = record { exact = λ fuel le. (m, h, e fuel le); memory = tt; near = tt; taken = tt; goes_on = go }
   start-says needs reading s t (Err (Memory x)) m h go e = absurd h
 
   -- a part's error is passed on
-  pub start-pass : (needs : Type 0) (reading : ℕ → List Lexeme → Outcome (Value T)) (s t : PeekableTokens T) (e : ReadError) (r : Result (Start T) ReadError) → IsErrAnd r (λ y. y ≡ e) → ReadsPart wkt_value UniformWkt needs reading s (Err e) t → ReadsStart read needs reading s r t
+  pub start-pass : (needs : Type 0) (reading : ℕ → List Lexeme → Outcome (Value T)) (s t : Standing) (e : ReadError) (r : Result (Start T) ReadError) → IsErrAnd r (λ y. y ≡ e) → ReadsPart wkt_value UniformWkt needs reading s (Err e) t → ReadsStart read needs reading s r t
   start-pass needs reading s t e (Ok x) h p = absurd h
   start-pass needs reading s t (Text m) (Err (Text k)) h p = record { exact = λ fuel le. starts-pass wkt_value UniformWkt (Text m) (Err (Text k)) (reading fuel (rest s)) (reading fuel (rest s)) (rest t) h (p.exact fuel le) (λ x e. e); memory = tt; near = tt; taken = tt; goes_on = p.goes_on }
   start-pass needs reading s t (Text m) (Err (Memory k)) h p = cc
@@ -119,14 +125,14 @@ module _ {T : Type 0} (read : List ℕ → Option T) where
   start-pass needs reading s t (Memory m) (Err (Memory k)) h p = record { exact = λ fuel le. tt; memory = p.memory; near = tt; taken = tt; goes_on = p.goes_on }
 
   -- a whole part
-  pub start-whole : (needs : Type 0) (reading : ℕ → List Lexeme → Outcome (Value T)) (s t : PeekableTokens T) (w : Wkt T) → ReadsPart wkt_value UniformWkt needs reading s (Ok w) t → length (rest t) < length (rest s) → ReadsStart read needs reading s (Ok (Whole w)) t
+  pub start-whole : (needs : Type 0) (reading : ℕ → List Lexeme → Outcome (Value T)) (s t : Standing) (w : Wkt T) → ReadsPart wkt_value UniformWkt needs reading s (Ok w) t → length (rest t) < length (rest s) → ReadsStart read needs reading s (Ok (Whole w)) t
   start-whole needs reading s t w p short = record { exact = p.exact; memory = tt; near = p.near; taken = short; goes_on = p.goes_on }
 
-  pub start-uniform : (needs : Type 0) (reading : ℕ → List Lexeme → Outcome (Value T)) (s t : PeekableTokens T) (r : Result (Start T) ReadError) → ReadsStart read needs reading s r t → IfWhole r UniformWkt
+  pub start-uniform : (needs : Type 0) (reading : ℕ → List Lexeme → Outcome (Value T)) (s t : Standing) (r : Result (Start T) ReadError) → ReadsStart read needs reading s r t → IfWhole r UniformWkt
   start-uniform needs reading s t r p = starts-uniform r _ _ (p.exact (length (rest s)) (omega arith))
 
   -- a collection is shut
-  pub shut-uniform : (d : Dimension) (ms : Vec (Wkt T) Global) (s t : PeekableTokens T) (r : Result (Start T) ReadError) → Shuts read d (Ok ms) s r t → All UniformWkt ms → IfWhole r UniformWkt
+  pub shut-uniform : (d : Dimension) (ms : Vec (Wkt T) Global) (s t : Standing) (r : Result (Start T) ReadError) → Shuts read d (Ok ms) s r t → All UniformWkt ms → IfWhole r UniformWkt
   shut-uniform d ms s t r p all = starts-uniform r _ _ (p.exact (Ok (each wkt_value ms, rest s)) (refl, all))
 
   -- fewer lexemes are left

@@ -6,7 +6,7 @@ use Rattle.std.specs.Borrow.{Bor}
 use Rattle.std.specs.declared.alloc.AllocError.{AllocError}
 use Rattle.wkt_num.specs.Bytes.{Lexeme, Open, Close, Comma, Word, Num}
 use Rattle.wkt_read.specs.Parser.Walks.{BeginsWithoutComma, GoesOn}
-use Rattle.wkt_read.specs.declared.tokenizer.peekable.PeekableTokens.{PeekableTokens}
+use Rattle.wkt_read.specs.Standing.{Standing}
 use Rattle.wkt_read.specs.declared.messages.Message.{Message}
 use Rattle.wkt_read.specs.Messages.{Says}
 use Rattle.wkt_read.specs.Parser.Outcome.{Outcome, ◌>>=◌, with_front, tail_at, many_at, framed, closed, opening_at}
@@ -22,7 +22,7 @@ all-push P [] x h p = (p, tt)
 all-push P (y ∷ xs) x h p = (h.0, all-push P xs x h.1 p)
 
 -- one reader after the other
-pub goes-then : {T : Type 0} {a b c : PeekableTokens T} → GoesOn a b → GoesOn b c → GoesOn a c
+pub goes-then : {a b c : Standing} → GoesOn a b → GoesOn b c → GoesOn a c
 goes-then h k = record { keeps = λ start i. k.keeps start (h.keeps start i); grows = omega (arith, h.grows, k.grows); fewer = omega (arith, h.fewer, k.fewer) }
 
 pub err-ok : (X E : Type 0) (x : X) → IsErr {T = X} {E = E} (Ok x) → ⊥
@@ -144,7 +144,7 @@ module _ {A X : Type 0} (view : X → A) (Is : X → Type 0) where
   stands-says before after m (Err (Text t)) outcome left h e = (m, h, e)
   stands-says before after m (Err (Memory t)) outcome left h e = absurd h
 
-module _ {T A X : Type 0} (view : X → A) (Is : X → Type 0) (needs : Type 0) (reading : ℕ → List Lexeme → Outcome A) (s t : PeekableTokens T) where
+module _ {A X : Type 0} (view : X → A) (Is : X → Type 0) (needs : Type 0) (reading : ℕ → List Lexeme → Outcome A) (s t : Standing) where
   -- a message that is passed on
   pub part-says : (r : Result X ReadError) (m : Message) → IsErrAnd r (λ y. Says y m) → GoesOn s t → ((fuel : ℕ) → length (rest s) ≤ fuel → reading fuel (rest s) ≡ Err (m, rest t)) → ReadsPart view Is needs reading s r t
   part-says (Ok x) m h go e = absurd h
@@ -171,7 +171,7 @@ module _ {T A X : Type 0} (view : X → A) (Is : X → Type 0) (needs : Type 0) 
     part-ok y x p is f = record { exact = λ fuel le. (f fuel (p.exact fuel le).0, is (p.exact fuel le).1); memory = tt; near = p.near; goes_on = p.goes_on }
 
 -- a part, and what is made of it
-module _ {T A B X Y : Type 0} (m : B → A) (view : X → A) (Is : X → Type 0) (needs : Type 0) (other : Y → B) (Was : Y → Type 0) (item : ℕ → List Lexeme → Outcome B) (s t : PeekableTokens T) where
+module _ {A B X Y : Type 0} (m : B → A) (view : X → A) (Is : X → Type 0) (needs : Type 0) (other : Y → B) (Was : Y → Type 0) (item : ℕ → List Lexeme → Outcome B) (s t : Standing) where
   pub mapped-pass : (e : ReadError) (r : Result X ReadError) → IsErrAnd r (λ y. y ≡ e) → ReadsPart other Was needs item s (Err e) t → ReadsPart view Is needs (λ n ls. item n ls >>= (λ p. Ok (m p.0, p.1))) s r t
   mapped-pass e r h p = part-pass view Is needs _ s t other Was item e r h p (λ fuel x is. ap (λ u. u >>= (λ p. Ok (m p.0, p.1))) is)
 
@@ -184,7 +184,7 @@ on-memory (Err (Text m)) P Q f h = tt
 on-memory (Err (Memory e)) P Q f h = f h
 
 -- the value of a body that holds anything
-pub closes-memory : {T X N : Type 0} (read : List ℕ → Option N) (b r : Result X ReadError) (s t : PeekableTokens T) (P : Type 0) → ClosesAt read b r (rest s) (rest t) → P → OnMemory r P
+pub closes-memory : {X N : Type 0} (read : List ℕ → Option N) (b r : Result X ReadError) (s t : Standing) (P : Type 0) → ClosesAt read b r (rest s) (rest t) → P → OnMemory r P
 closes-memory read (Ok x) (Ok y) s t P h p = tt
 closes-memory read (Err e) (Ok y) s t P h p = tt
 closes-memory read (Ok x) (Err (Text n)) s t P h p = tt
@@ -193,7 +193,7 @@ closes-memory read (Ok x) (Err (Memory n)) s t P h p = p
 closes-memory read (Err e) (Err (Memory n)) s t P h p = p
 
 -- an item that was read, or not, onto the end of those before it
-module _ {T A X Y : Type 0} (view : X → A) (Is : X → Type 0) (needs : Type 0) (other : Y → A) (Was : Y → Type 0) (reading : ℕ → List Lexeme → Outcome A) (s t : PeekableTokens T) (before after : List X) where
+module _ {A X Y : Type 0} (view : X → A) (Is : X → Type 0) (needs : Type 0) (other : Y → A) (Was : Y → Type 0) (reading : ℕ → List Lexeme → Outcome A) (s t : Standing) (before after : List X) where
   pub pushes-pass : {Z : Type 0} (e : ReadError) (r : Result Z ReadError) → IsErrAnd r (λ y. y ≡ e) → ReadsPart other Was needs reading s (Err e) t → Pushes view Is reading s before r t after
   pushes-pass e r h p = record { exact = λ fuel le. stands-err view Is other Was before after e r (reading fuel (rest s)) (rest t) h (p.exact fuel le); goes_on = p.goes_on }
 

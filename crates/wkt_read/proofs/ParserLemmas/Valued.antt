@@ -23,7 +23,7 @@ use Rattle.wkt_read.specs.declared.error.ReadError.{ReadError}
 use Rattle.wkt_read.specs.declared.error.ReadError.TheVariants.{Text, Memory}
 use Rattle.wkt_read.specs.declared.messages.Message.{Message}
 use Rattle.wkt_read.specs.declared.messages.Message.TheVariants as message
-use Rattle.wkt_read.specs.declared.tokenizer.peekable.PeekableTokens.{PeekableTokens}
+use Rattle.wkt_read.specs.Standing.{Standing}
 use Rattle.wkt_read.proofs.MessageTexts.{one-text}
 use Rattle.wkt_read.proofs.ParserLemmas.Readings.{sound}
 use Rattle.wkt_read.proofs.ParserLemmas.Early.{error_early}
@@ -35,7 +35,7 @@ use Rattle.wkt_read.proofs.ParserLemmas.Answering.{some-taken, to-front}
 is-bad : (m : Message) → message_text m ≡ bad_number → m ≡ message.BadNumber
 is-bad m = one-text m message.BadNumber
 
-module _ {T : Type 0} (read : List ℕ → Option T) (s t : PeekableTokens T) where
+module _ {T : Type 0} (read : List ℕ → Option T) (s t : Standing) where
   -- what `value` promises
   abbrev pub Promise : Result (Wkt T) ReadError → Type 0
   Promise r = ReadsPart wkt_value UniformWkt (HasMembers read false (rest s)) (λ n. value_at read n false) s r t
@@ -77,7 +77,7 @@ module _ {T : Type 0} (read : List ℕ → Option T) (s t : PeekableTokens T) wh
   to-refusal (Err (Text m)) p = p.exact (length (rest s)) (omega arith)
   to-refusal (Err (Memory m)) p = tt
 
-module _ {T : Type 0} (read : List ℕ → Option T) (text : List ℕ) (s t : PeekableTokens T) where
+module _ {T : Type 0} (read : List ℕ → Option T) (text : List ℕ) (s t : Standing) where
   -- what was read off all lexemes of a text is its front's
   pub front : (r : Result (Wkt T) ReadError) → AreEnds text (left s) → end_of s ≡ 0 → Advances s t → IfOk r (λ w. IsReadOff read (rest s) (tree w) (rest t)) → IfOk r (λ w. IsFront read text (tree w))
   front (Ok w) are zero advances (v, begins, is) = (end_of t, (v, to-front read text s t v are zero advances begins, is))

@@ -20,7 +20,7 @@ use Rattle.wkt_read.specs.Parser.Reads.{wkt_value, UniformWkt}
 use Rattle.wkt_read.specs.declared.parser.geometries.Start.{Start}
 use Rattle.wkt_types.specs.declared.geometry_type.GeometryType.TheVariants as kind
 use Rattle.wkt_read.specs.Ahead.{rest}
-use Rattle.wkt_read.specs.declared.tokenizer.peekable.PeekableTokens.{PeekableTokens}
+use Rattle.wkt_read.specs.Standing.{Standing}
 use Rattle.wkt_read.specs.Parser.Frames.{Starts, ReadsStart, Wants}
 use Rattle.wkt_read.specs.declared.parser.geometries.Start.TheVariants.{Whole, Opened}
 use Rattle.wkt_read.specs.declared.error.ReadError.TheVariants.{Text, Memory}
@@ -126,10 +126,10 @@ module _ {T : Type 0} (read : List ℕ → Option T) where
       let (n, le, same) = value-is read fuel inside ls r k l d e is enough in
       subst (λ t. ReturnsUnlessMemory wkt_value UniformWkt t res left) (sym same) (f n le)
 
-pub shorter : {T : Type 0} (read : List ℕ → Option T) (inside : Bool) (s t u : PeekableTokens T) (k : GeometryType) (d : Dimension) → Reads (λ x. x) Anything (header_at read inside) s (Ok (k, d)) t → GoesOn t u → length (rest u) < length (rest s)
+pub shorter : {T : Type 0} (read : List ℕ → Option T) (inside : Bool) (s t u : Standing) (k : GeometryType) (d : Dimension) → Reads (λ x. x) Anything (header_at read inside) s (Ok (k, d)) t → GoesOn t u → length (rest u) < length (rest s)
 shorter read inside s t u k d h go = omega (arith, header-takes read inside (rest s) (rest t) (k, d) h.exact.0, go.fewer)
 
-module _ {T : Type 0} (read : List ℕ → Option T) (inside : Bool) (s t u : PeekableTokens T) (k l : GeometryType) (d : Dimension) where
+module _ {T : Type 0} (read : List ℕ → Option T) (inside : Bool) (s t u : Standing) (k l : GeometryType) (d : Dimension) where
   -- after a header, what follows it
   pub value-part : (needs : Type 0) (r : Result (Wkt T) ReadError) → Reads (λ x. x) Anything (header_at read inside) s (Ok (k, d)) t → k ≡ l → ReadsPart wkt_value UniformWkt needs (follows_at read l d) t r u → (needs → HasMembers read inside (rest s)) → ReadsPart wkt_value UniformWkt (HasMembers read inside (rest s)) (λ n. value_at read n inside) s r u
   value-part needs r h is p f = record {

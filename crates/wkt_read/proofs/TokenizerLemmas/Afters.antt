@@ -2,7 +2,7 @@
 use Rattle.std.proofs.Common.{◌≤◌, ◌≡◌, length, arith, List, [], ◌∷◌, ◌++◌, sym, refl, ap, ◌∙◌, subst, append_assoc, Option, Some, None}
 use Rattle.wkt_num.specs.Bytes.{Lexeme}
 use Rattle.wkt_read.specs.Placed.{Placed, lexemes_of}
-use Rattle.wkt_read.specs.declared.tokenizer.peekable.PeekableTokens.{PeekableTokens}
+use Rattle.wkt_read.specs.Standing.{Standing}
 use Rattle.wkt_read.specs.Ahead.{left, end_of, taken_of, rest, Moves}
 use Rattle.wkt_read.specs.Parser.Walks.{GoesOn, TakesNext}
 use Rattle.wkt_read.specs.Ahead.{IfLast, IsAfter}
@@ -16,23 +16,23 @@ takes-fewer : (o : Option Lexeme) (old new : List Lexeme) → TakesNext o old ne
 takes-fewer None old new h = omega (arith, ap length h.0, ap length h.1)
 takes-fewer (Some l) old new h = omega (arith, ap length h)
 
-module _ {T : Type 0} where
-  keeps-moves : (s : PeekableTokens T) (o : Option Lexeme) (t : PeekableTokens T) → Moves s o t → (start : List Placed) → IsAfter start s → IsAfter start t
+module _ where
+  keeps-moves : (s : Standing) (o : Option Lexeme) (t : Standing) → Moves s o t → (start : List Placed) → IsAfter start s → IsAfter start t
   keeps-moves s None t h start b = record { given = b.given; split = b.split ∙ ap (λ l. b.given ++ l) (h.0 ∙ sym h.1); last = subst (IfLast b.given) (sym h.2) b.last }
   keeps-moves s (Some l) t h start b =
       let y : Placed = record { lexeme = l; end = end_of t } in
       record { given = b.given ++ (y ∷ []); split = b.split ∙ ap (λ l. b.given ++ l) h.0 ∙ sym (append_assoc b.given (y ∷ []) (left t)); last = last-push b.given y }
 
-  grows-moves : (s : PeekableTokens T) (o : Option Lexeme) (t : PeekableTokens T) → Moves s o t → taken_of s ≤ taken_of t
+  grows-moves : (s : Standing) (o : Option Lexeme) (t : Standing) → Moves s o t → taken_of s ≤ taken_of t
   grows-moves s None t h = h.3
   grows-moves s (Some l) t h = h.3
 
-  pub takes-moves : (s : PeekableTokens T) (o : Option Lexeme) (t : PeekableTokens T) → Moves s o t → TakesNext o (rest s) (rest t)
+  pub takes-moves : (s : Standing) (o : Option Lexeme) (t : Standing) → Moves s o t → TakesNext o (rest s) (rest t)
   unfolding rest
   takes-moves s None t h = (ap lexemes_of h.0, ap lexemes_of h.1)
   takes-moves s (Some l) t h = ap lexemes_of h.0
 
-  pub goes-moves : (s : PeekableTokens T) (o : Option Lexeme) (t : PeekableTokens T) → Moves s o t → GoesOn s t
+  pub goes-moves : (s : Standing) (o : Option Lexeme) (t : Standing) → Moves s o t → GoesOn s t
   goes-moves s o t h = record { keeps = keeps-moves s o t h; grows = grows-moves s o t h; fewer = takes-fewer o (rest s) (rest t) (takes-moves s o t h) }
 
 pub lexemes_of-append : (xs ys : List Placed) → lexemes_of (xs ++ ys) ≡ lexemes_of xs ++ lexemes_of ys

@@ -15,7 +15,7 @@ use Rattle.wkt_read.specs.Parser.Promises.{ReturnsUnlessMemory, Refuses, each, A
 use Rattle.wkt_read.specs.Parser.Reads.{wkt_value, UniformWkt}
 use Rattle.wkt_read.specs.Parser.Walks.{GoesOn}
 use Rattle.wkt_read.specs.Ahead.{rest, IsNear}
-use Rattle.wkt_read.specs.declared.tokenizer.peekable.PeekableTokens.{PeekableTokens}
+use Rattle.wkt_read.specs.Standing.{Standing}
 
 -- A whole geometry was read, and then this holds of it.
 abbrev pub IfWhole : {T : Type 0} → Result (Start T) ReadError → (Wkt T → Type 0) → Type 0
@@ -59,7 +59,7 @@ Starts read (Err (Text text)) whole left = Refuses text whole left
 Starts read (Err (Memory e)) whole left = Unit {0}
 
 -- A reader of what begins at a place, which wants memory only where this holds.
-pub record ReadsStart {T : Type 0} (read : List ℕ → Option T) (needs : Type 0) (reading : ℕ → List Lexeme → Outcome (Value T)) (old : PeekableTokens T) (result : Result (Start T) ReadError) (new : PeekableTokens T) : Type 0 where
+pub record ReadsStart {T : Type 0} (read : List ℕ → Option T) (needs : Type 0) (reading : ℕ → List Lexeme → Outcome (Value T)) (old : Standing) (result : Result (Start T) ReadError) (new : Standing) : Type 0 where
   pub exact : (fuel : ℕ) → length (rest old) ≤ fuel → Starts read result (reading fuel (rest old)) (rest new)
   pub memory : Wants result needs
   pub near : OnWhole result (IsNear new)
@@ -67,7 +67,7 @@ pub record ReadsStart {T : Type 0} (read : List ℕ → Option T) (needs : Type 
   pub goes_on : GoesOn old new
 
 -- A reader of the closing place of a collection, after its members.
-pub record Shuts {T : Type 0} (read : List ℕ → Option T) (d : Dimension) (body : Result (Vec (Wkt T) Global) ReadError) (old : PeekableTokens T) (result : Result (Start T) ReadError) (new : PeekableTokens T) : Type 0 where
+pub record Shuts {T : Type 0} (read : List ℕ → Option T) (d : Dimension) (body : Result (Vec (Wkt T) Global) ReadError) (old : Standing) (result : Result (Start T) ReadError) (new : Standing) : Type 0 where
   pub exact : (whole : Outcome (List (Value T))) → ReturnsUnlessMemory (each wkt_value) (All UniformWkt) whole body (rest old) → Starts read result (shut_at read d whole) (rest new)
   pub lighter : weight result ≤ most_after body
   pub near : OnWhole result (IsNear new)

@@ -6,7 +6,7 @@ use Rattle.wkt_num.specs.Bytes.{Lexeme}
 use Rattle.wkt_read.specs.declared.error.ReadError.{ReadError}
 use Rattle.wkt_read.specs.declared.error.ReadError.TheVariants.{Text, Memory}
 use Rattle.wkt_read.specs.declared.messages.Message.{Message}
-use Rattle.wkt_read.specs.declared.tokenizer.peekable.PeekableTokens.{PeekableTokens}
+use Rattle.wkt_read.specs.Standing.{Standing}
 use Rattle.wkt_read.specs.Messages.{message_text}
 use Rattle.wkt_read.specs.Ahead.{rest, IsNear}
 use Rattle.wkt_read.specs.Parser.Walks.{GoesOn}
@@ -24,12 +24,12 @@ Returns view Is outcome (Ok x) left = (outcome ≡ Ok (view x, left)) × Is x
 Returns view Is outcome (Err m) left = outcome ≡ Err (m, left)
 
 -- A reader answers what this reading makes of the lexemes that are left, and the stream goes on to where the reading ends.
-pub record Reads {T A X : Type 0} (view : X → A) (Is : X → Type 0) (reading : List Lexeme → Outcome A) (old : PeekableTokens T) (result : Result X Message) (new : PeekableTokens T) : Type 0 where
+pub record Reads {A X : Type 0} (view : X → A) (Is : X → Type 0) (reading : List Lexeme → Outcome A) (old : Standing) (result : Result X Message) (new : Standing) : Type 0 where
   pub exact : Returns view Is (reading (rest old)) result (rest new)
   pub goes_on : GoesOn old new
 
 -- The same of a reader that takes no byte past the last lexeme but one.
-pub record ReadsNear {T A X : Type 0} (view : X → A) (Is : X → Type 0) (reading : List Lexeme → Outcome A) (old : PeekableTokens T) (result : Result X Message) (new : PeekableTokens T) : Type 0 where
+pub record ReadsNear {A X : Type 0} (view : X → A) (Is : X → Type 0) (reading : List Lexeme → Outcome A) (old : Standing) (result : Result X Message) (new : Standing) : Type 0 where
   pub exact : Returns view Is (reading (rest old)) result (rest new)
   pub near : OnOk result (IsNear new)
   pub goes_on : GoesOn old new
@@ -58,18 +58,18 @@ module _ {N : Type 0} (read : List ℕ → Option N) where
   ClosesAt (Err (Memory e)) (Err (Memory f)) old new = Unit {0}
 
 -- A reader of the closing place.
-pub record Closes {T X N : Type 0} (read : List ℕ → Option N) (body : Result X ReadError) (old : PeekableTokens T) (result : Result X ReadError) (new : PeekableTokens T) : Type 0 where
+pub record Closes {X N : Type 0} (read : List ℕ → Option N) (body : Result X ReadError) (old : Standing) (result : Result X ReadError) (new : Standing) : Type 0 where
   pub exact : ClosesAt read body result (rest old) (rest new)
   pub near : OnOk result (IsNear new)
   pub goes_on : GoesOn old new
 
 -- A reader of a list or a geometry does the same, whatever fuel is enough, unless memory runs out.
-pub record ReadsAll {T A X : Type 0} (view : X → A) (Is : X → Type 0) (reading : ℕ → List Lexeme → Outcome A) (old : PeekableTokens T) (result : Result X ReadError) (new : PeekableTokens T) : Type 0 where
+pub record ReadsAll {A X : Type 0} (view : X → A) (Is : X → Type 0) (reading : ℕ → List Lexeme → Outcome A) (old : Standing) (result : Result X ReadError) (new : Standing) : Type 0 where
   pub exact : (fuel : ℕ) → length (rest old) ≤ fuel → ReturnsUnlessMemory view Is (reading fuel (rest old)) result (rest new)
   pub goes_on : GoesOn old new
 
 -- The same of a reader that takes no byte past the last lexeme but one, and that wants memory only where this holds.
-pub record ReadsPart {T A X : Type 0} (view : X → A) (Is : X → Type 0) (needs : Type 0) (reading : ℕ → List Lexeme → Outcome A) (old : PeekableTokens T) (result : Result X ReadError) (new : PeekableTokens T) : Type 0 where
+pub record ReadsPart {A X : Type 0} (view : X → A) (Is : X → Type 0) (needs : Type 0) (reading : ℕ → List Lexeme → Outcome A) (old : Standing) (result : Result X ReadError) (new : Standing) : Type 0 where
   pub exact : (fuel : ℕ) → length (rest old) ≤ fuel → ReturnsUnlessMemory view Is (reading fuel (rest old)) result (rest new)
   pub memory : OnMemory result needs
   pub near : OnOk result (IsNear new)
@@ -90,6 +90,6 @@ Stands view Is outcome before (Err (Text text)) left after = Refuses text outcom
 Stands view Is outcome before (Err (Memory e)) left after = Unit {0}
 
 -- A reader of an item, which is put behind those before it.
-pub record Pushes {T A X Y : Type 0} (view : X → A) (Is : X → Type 0) (reading : ℕ → List Lexeme → Outcome A) (old : PeekableTokens T) (before : List X) (result : Result Y ReadError) (new : PeekableTokens T) (after : List X) : Type 0 where
+pub record Pushes {A X Y : Type 0} (view : X → A) (Is : X → Type 0) (reading : ℕ → List Lexeme → Outcome A) (old : Standing) (before : List X) (result : Result Y ReadError) (new : Standing) (after : List X) : Type 0 where
   pub exact : (fuel : ℕ) → length (rest old) ≤ fuel → Stands view Is (reading fuel (rest old)) before result (rest new) after
   pub goes_on : GoesOn old new

@@ -3,7 +3,7 @@ use Rattle.std.specs.Prelude.{◌≡◌, ◌≤◌, ◌∷◌, [], List, length,
 use Rattle.wkt_num.specs.Bytes.{Lexeme, Open, Close, Comma, Word, Num}
 use Rattle.wkt_read.specs.Placed.{Placed}
 use Rattle.wkt_read.specs.Ahead.{rest, taken_of, IsAfter}
-use Rattle.wkt_read.specs.declared.tokenizer.peekable.PeekableTokens.{PeekableTokens}
+use Rattle.wkt_read.specs.Standing.{Standing}
 
 -- one lexeme is taken, if there is one
 abbrev pub TakesNext : Option Lexeme → List Lexeme → List Lexeme → Type 0
@@ -25,7 +25,7 @@ BeginsWithoutComma (Word run ∷ later) = Unit {0}
 BeginsWithoutComma (Num run ∷ later) = Unit {0}
 
 -- A reader goes on: the new stream is after whatever lexemes the old one was after, no byte is given back, and no lexeme comes back.
-pub record GoesOn {T : Type 0} (old new : PeekableTokens T) : Type 0 where
+pub record GoesOn (old new : Standing) : Type 0 where
   pub keeps : (start : List Placed) → IsAfter start old → IsAfter start new
   pub grows : taken_of old ≤ taken_of new
   pub fewer : length (rest new) ≤ length (rest old)

@@ -1,4 +1,4 @@
--- How far a text was taken. Only private contracts cite this file.
+-- How far a text was taken. Private contracts and the model of `Tokens` cite this file.
 use Rattle.std.specs.Prelude.{ℕ, ◌-◌, length}
 use Rattle.wkt_read.specs.declared.tokenizer.cursor.Cursor.{Cursor}
 

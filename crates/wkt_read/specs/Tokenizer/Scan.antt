@@ -1,4 +1,4 @@
--- The classes of bytes as the code names them, and what the scanner knows at a place of a text. Only private contracts cite this file.
+-- The classes of bytes as the code names them, and what the scanner knows at a place of a text. Private contracts and the model of `Tokens` cite this file.
 use Rattle.std.specs.Prelude.{◌≡◌, ◌≢◌, ℕ, ◌+◌, ◌≤◌, ◌<◌, ◌++◌, [], List, length, drop, slice_range}
 use Rattle.std.specs.Str.{IsCharBoundary}
 use Rattle.wkt_num.specs.Bytes as lex

@@ -1,4 +1,4 @@
--- Lexemes whose numbers are not read yet. Only private contracts cite this file.
+-- Lexemes whose numbers are not read yet.
 use Rattle.std.specs.Prelude.{◌≡◌, ℕ, List, Option, Some, None}
 use Rattle.std.specs.Borrow.{Bor}
 use Rattle.wkt_num.specs.Bytes as lex

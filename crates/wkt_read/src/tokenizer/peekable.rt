@@ -2,10 +2,10 @@
 ghost use Rattle.std.specs.Prelude.{◌≡◌, ◌+◌, ◌≤◌, ℕ, [], ◌∷◌, Some, None, OnSome, IfNone};
 ghost use Rattle.std.specs.Bool.{MatchBool, OnFalse};
 ghost use Rattle.wkt_num.specs.Bytes.{Lexeme, Comma};
-ghost use Rattle.wkt_read.specs.Tokenizer.Cursors.{taken_in};
 ghost use Rattle.wkt_read.specs.Tokenizer.Unread.{found};
 
 use crate::tokenizer::tokens::{Lexeme, Token, Tokens, item_of};
+use std::marker::Model;
 use wkt_num::WktNum;
 
 /// The lexemes of a text, one after the other, of which one may be looked at ahead.
@@ -14,12 +14,21 @@ pub struct PeekableTokens<'a, T> {
     tokens: Tokens<'a, T>,
     ahead: Option<Lexeme<'a>>,
     end: usize,
-    ghost near: { (lexeme : _) (l : Lexeme) → ahead ≡ Some lexeme → found lexeme ≡ Some l
-        → (tokens.end ≤ taken_in tokens.bytes) × (taken_in tokens.bytes ≤ tokens.end + 1) },
-    ghost level: { ahead ≡ None → end ≡ tokens.end },
 }
 
-#[tactic(auto, unfolding(crate::specs::Ahead::left, crate::specs::Ahead::taken_of, crate::specs::Ahead::end_of, crate::specs::Ahead::rest, crate::specs::Stream::bytes_taken, crate::specs::Stream::end_of_last))]
+impl<'a, T> Model for PeekableTokens<'a, T> {
+    ghost use Rattle.wkt_read.specs.Standing.{Standing};
+
+    ghost Value = { Standing };
+
+    ghost use Rattle.wkt_read.specs.Tokenizer.Peeks.{stands_ahead, IsAhead};
+
+    ghost view = { stands_ahead };
+
+    ghost invariant = { IsAhead };
+}
+
+#[tactic(auto, unfolding(crate::specs::Ahead::rest))]
 impl<'a, T: WktNum> PeekableTokens<'a, T> {
     ghost use Rattle.wkt_read.specs.Stream.{coming, bytes_taken, end_of_last};
     ghost use Rattle.wkt_read.specs.Items.{IsItem};
@@ -150,7 +159,6 @@ impl<'a, T: WktNum> PeekableTokens<'a, T> {
     }
 }
 
-#[tactic(auto, unfolding(crate::specs::Ahead::left, crate::specs::Ahead::taken_of, crate::specs::Ahead::end_of))]
 impl<'a, T: WktNum> Iterator for PeekableTokens<'a, T> {
     ghost use Rattle.wkt_read.specs.Ahead.{GivesAhead, count_ahead};
 

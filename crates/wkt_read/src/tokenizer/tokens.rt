@@ -5,14 +5,12 @@ ghost use Rattle.std.specs.Str.{IsCharBoundary};
 ghost use Rattle.wkt_num.specs.Bytes.{Comma};
 ghost use Rattle.wkt_read.specs.Lexemes.{lexeme_of};
 ghost use Rattle.wkt_read.specs.Items.{IsItem};
-ghost use Rattle.wkt_read.specs.Tokenizer.Cursors.{taken_in};
 ghost use Rattle.wkt_read.specs.Tokenizer.Unread.{found, IsNumberIn};
-ghost use Rattle.wkt_read.specs.declared.tokenizer.scan.Class.TheVariants.{Run};
 
 use crate::messages::Message;
 use crate::tokenizer::cursor::Cursor;
 use crate::tokenizer::scan::{Class, end_of_run, first_class, starts_number};
-use std::marker::PhantomData;
+use std::marker::{Model, PhantomData};
 use wkt_num::WktNum;
 
 /// A lexeme of well-known text, its number read as `T`.
@@ -92,18 +90,27 @@ pub struct Tokens<'a, T> {
     ahead: Class,
     end: usize,
     of: PhantomData<T>,
-    ghost boundary: { IsCharBoundary bytes.text.now (taken_in bytes) },
-    ghost no_run: { ahead ≢ Run },
+}
+
+impl<'a, T> Model for Tokens<'a, T> {
+    ghost use Rattle.wkt_read.specs.Standing.{Standing};
+
+    ghost Value = { Standing };
+
+    ghost use Rattle.wkt_read.specs.Tokenizer.Streams.{stands, IsBetween};
+
+    ghost view = { stands };
+
+    ghost invariant = { IsBetween };
 }
 
 impl<'a, T: WktNum> Tokens<'a, T> {
     ghost use Rattle.wkt_read.specs.Lexemes.{IsSplit};
-    ghost use Rattle.wkt_read.specs.Placed.{placed, lexemes_of, AreEnds};
+    ghost use Rattle.wkt_read.specs.Placed.{lexemes_of, AreEnds};
     ghost use Rattle.wkt_read.specs.Stream.{coming, bytes_taken, end_of_last, Steps};
 
     /// The lexemes of the text, before the first is taken.
     pub fn from_str(text: &'a str) -> Self
-        ensures placed { coming result ≡ placed text.now }
         ensures split { IsSplit text.now (lexemes_of (coming result)) }
         ensures ends { AreEnds text.now (coming result) }
         ensures few { length (coming result) ≤ length text.now }
@@ -119,7 +126,6 @@ impl<'a, T: WktNum> Tokens<'a, T> {
     }
 
     /// How many bytes of the text were taken.
-    #[tactic(auto, unfolding(crate::specs::Stream::bytes_taken))]
     pub fn taken(&self) -> usize
         ensures { result ≡ bytes_taken self.now }
     {
@@ -127,7 +133,6 @@ impl<'a, T: WktNum> Tokens<'a, T> {
     }
 
     /// Where the last lexeme that `next` gave ends, in bytes; 0 before the first.
-    #[tactic(auto, unfolding(crate::specs::Stream::end_of_last))]
     pub fn end(&self) -> usize
         ensures { result ≡ end_of_last self.now }
     {
@@ -136,7 +141,6 @@ impl<'a, T: WktNum> Tokens<'a, T> {
 
     // Gives the next lexeme if it is a comma that was taken with the run before it.
     #[inline(always)]
-    #[tactic(auto, unfolding(crate::specs::Stream::coming, crate::specs::Stream::bytes_taken, crate::specs::Stream::end_of_last))]
     pub(crate) fn take_comma_ahead(&mut self) -> bool
         ensures { MatchBool result (Steps self.old (Some Comma) self.new) (self.new ≡ self.old) }
     {

@@ -9,27 +9,27 @@ error_of-requires-in-Err-FmtError g c =
     let b = rw c.in-Err-FmtError.field-0-is at c.in-Err-FmtError.ensures in
     b.broken.left.untaken c.requires.well
 
-pub returns-in-Err-FmtError-clause-io : goal.returns-in-Err-FmtError-clause-io
-returns-in-Err-FmtError-clause-io g c =
+pub returns-in-Err-FmtError-clause-sends : goal.returns-in-Err-FmtError-clause-sends
+returns-in-Err-FmtError-clause-sends g c =
     let b = rw c.in-Err-FmtError.field-0-is at c.in-Err-FmtError.ensures in
-    rw c.error_of-in-Err-FmtError.ensures.writer (some_sent g.W.ByteSink.sink _ _ _ b.broken.left c.requires.held)
-
-pub returns-in-Err-FmtError-clause-io_count : goal.returns-in-Err-FmtError-clause-io_count
-returns-in-Err-FmtError-clause-io_count g c =
-    let b = rw c.in-Err-FmtError.field-0-is at c.in-Err-FmtError.ensures in
-    rw c.error_of-in-Err-FmtError.ensures.writer (b.broken.left.count c.requires.well)
+    rw c.error_of-in-Err-FmtError.ensures.writer (record {
+      sound = b.sound;
+      out = some_sent g.W.ByteSink.sink _ _ _ b.broken.left c.requires.held;
+      failed = b.broken.left.count c.requires.well;
+    })
 
 pub returns-in-Err-FmtError-clause-keeps : goal.returns-in-Err-FmtError-clause-keeps
 returns-in-Err-FmtError-clause-keeps g c =
     let b = rw c.in-Err-FmtError.field-0-is at c.in-Err-FmtError.ensures in
     rw c.error_of-in-Err-FmtError.ensures.writer b.broken.left.tied
 
-pub returns-in-Ok-finish-clause-ok : goal.returns-in-Ok-finish-clause-ok
-returns-in-Ok-finish-clause-ok g c =
-    all_sent g.W.ByteSink.sink _ _ _ _ c.in-Ok.ensures.added.given c.in-Ok-finish.ensures.ok c.requires.held c.in-Ok-finish.ensures.empty
-
-pub returns-in-Ok-finish-clause-ok_count : goal.returns-in-Ok-finish-clause-ok_count
-returns-in-Ok-finish-clause-ok_count g c = c.in-Ok-finish.ensures.ok.count ∙ c.in-Ok.ensures.added.given.count
+pub returns-in-Ok-finish-clause-sends : goal.returns-in-Ok-finish-clause-sends
+returns-in-Ok-finish-clause-sends g c = record {
+  sound = c.in-Ok.ensures.sound;
+  lawful = c.in-Ok.ensures.lawful;
+  out = all_sent g.W.ByteSink.sink _ _ _ _ c.in-Ok.ensures.added.given c.in-Ok-finish.ensures.ok c.requires.held c.in-Ok-finish.ensures.empty;
+  unfailed = c.in-Ok-finish.ensures.ok.count ∙ c.in-Ok.ensures.added.given.count;
+}
 
 pub returns-in-Ok-finish-clause-keeps : goal.returns-in-Ok-finish-clause-keeps
 returns-in-Ok-finish-clause-keeps g c =
@@ -39,14 +39,14 @@ pub error_of-requires : goal.error_of-requires
 error_of-requires g c =
     c.in-Err-finish.ensures.err.untaken (c.in-Ok.ensures.added.given.same ∙ c.requires.well)
 
-pub returns-in-Err-finish-clause-io : goal.returns-in-Err-finish-clause-io
-returns-in-Err-finish-clause-io g c =
-    rw c.error_of.ensures.writer (some_sent_late g.W.ByteSink.sink _ _ _ _ c.in-Ok.ensures.added.given c.in-Err-finish.ensures.err c.requires.held)
-
-pub returns-in-Err-finish-clause-io_count : goal.returns-in-Err-finish-clause-io_count
-returns-in-Err-finish-clause-io_count g c =
+pub returns-in-Err-finish-clause-sends : goal.returns-in-Err-finish-clause-sends
+returns-in-Err-finish-clause-sends g c =
     let h = c.in-Ok.ensures.added.given in
-    rw c.error_of.ensures.writer (c.in-Err-finish.ensures.err.count (h.same ∙ c.requires.well) ∙ ap next_count h.count)
+    rw c.error_of.ensures.writer (record {
+      sound = c.in-Ok.ensures.sound;
+      out = some_sent_late g.W.ByteSink.sink _ _ _ _ h c.in-Err-finish.ensures.err c.requires.held;
+      failed = c.in-Err-finish.ensures.err.count (h.same ∙ c.requires.well) ∙ ap next_count h.count;
+    })
 
 pub returns-in-Err-finish-clause-keeps : goal.returns-in-Err-finish-clause-keeps
 returns-in-Err-finish-clause-keeps g c =

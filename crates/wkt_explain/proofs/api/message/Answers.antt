@@ -2,6 +2,7 @@
 use Rattle.std.proofs.Common.{[], ◌∷◌, ap, ◌∙◌, arith}
 use Rattle.wkt_read.specs.Placed.{lexemes_of}
 use Rattle.wkt_read.specs.Stream.{coming}
+use Rattle.wkt_read.proofs.LawLemmas.OnePlacing.{placed-only}
 use Rattle.wkt_explain.specs.Table.{reported}
 use Rattle.wkt_explain.proofs.Behind.{like_start, like_next, like_fault, like_end, like_not_over, like_room}
 use Rattle.wkt_explain.proofs.Counts.{own_parens}
@@ -9,7 +10,7 @@ use Rattle.wkt_explain.proofs.Streams.{sees_some, sees_none}
 use Rattle.wkt_explain.proofs.api.message.Goals as goal
 
 pub lexemes-init : goal.lexemes-init
-lexemes-init g c = like_start g.T.WktNum.read c.args.text.now _ _ _ c.from_str-tokens.ensures.placed c.begun.ensures
+lexemes-init g c = like_start g.T.WktNum.read c.args.text.now _ _ _ (placed-only _ _ c.from_str-tokens.ensures.split c.from_str-tokens.ensures.ends) c.begun.ensures
 
 pub returns-in_default : goal.returns-in_default
 returns-in_default g c =

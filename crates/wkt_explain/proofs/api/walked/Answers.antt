@@ -1,16 +1,17 @@
-use Rattle.std.proofs.Common.{[], ◌∷◌, sym, ap, ◌∙◌, subst}
+use Rattle.std.proofs.Common.{[], ◌∷◌, sym, ap, ◌∙◌, subst, length, arith}
 use Rattle.wkt_read.specs.Placed.{lexemes_of}
 use Rattle.wkt_read.specs.Stream.{coming}
+use Rattle.wkt_read.proofs.LawLemmas.OnePlacing.{placed-only}
 use Rattle.wkt_explain.specs.Explained.{EndsFront, IsRefusedAt}
 use Rattle.wkt_explain.specs.Table.{reported, IsReportedAt}
 use Rattle.wkt_explain.proofs.Counts.{own_parens}
 use Rattle.wkt_explain.proofs.Borders.{part}
-use Rattle.wkt_explain.proofs.Finding.{IsBefore, at_start, at_next, none_at_fault, at_fault, message_at_fault, reported_at_fault, none_at_end, at_end, message_at_end, reported_at_end, at_over, past_same}
+use Rattle.wkt_explain.proofs.Finding.{IsBefore, at_start, at_next, at_within, at_room, none_at_fault, at_fault, message_at_fault, reported_at_fault, none_at_end, at_end, message_at_end, reported_at_end, at_over, past_same}
 use Rattle.wkt_explain.proofs.Streams.{sees_some, sees_none}
 use Rattle.wkt_explain.proofs.api.walked.Goals as goal
 
 pub lexemes-init : goal.lexemes-init
-lexemes-init g c = at_start g.T.WktNum.read c.args.text.now _ _ _ c.from_str-tokens.ensures.placed c.from_str-tokens.ensures.start c.start-walk.ensures
+lexemes-init g c = at_start g.T.WktNum.read c.args.text.now _ _ _ (placed-only _ _ c.from_str-tokens.ensures.split c.from_str-tokens.ensures.ends) c.from_str-tokens.ensures.start c.start-walk.ensures
 
 pub returns-in_default-clause-no_front : goal.returns-in_default-clause-no_front
 returns-in_default-clause-no_front g c = none_at_end g.T.WktNum.read c.args.text.now _ _ _ c.lexemes.invariant (sees_none g.T.WktNum.read _ _ c.in_default.ensures) (sym c.is_over.ensures ∙ c.lexemes-test.true)
@@ -71,3 +72,25 @@ returns-in_default-next-clause-table g c =
     subst (λ n. IsReportedAt g.T.WktNum.read c.args.text.now c.past_white.result n c.expected-expected-in_default-next.result c.message_there.result) (sym (c.end-end.ensures ∙ ends))
     (reported_at_fault g.T.WktNum.read c.args.text.now _ (coming c.see.new.tokens) x _ _ c.lexemes.invariant e _ shows (sym c.is_over.ensures ∙ c.lexemes-test.true) _ c.in_default-next.ensures.place past c.expected-expected-in_default-next.result c.expected-expected-in_default-next.ensures c.message_there.result
     (c.message_there.ensures x.lexeme shows ∙ ap (λ n. reported g.T.WktNum.read c.expected-expected-in_default-next.result n (x.lexeme ∷ lexemes_of (coming c.see.new.tokens))) (own_parens c.lexemes.walk)))
+
+-- the ends of lexemes are in the text, and no more parentheses are open than bytes were taken
+pub past_white-end-requires : goal.past_white-end-requires
+past_white-end-requires g c =
+    let inside = at_within g.T.WktNum.read c.args.text.now _ _ _ c.lexemes.invariant in
+    record { within = omega (arith, inside, c.end-before.ensures, ap length c.as_bytes.ensures.value) }
+
+pub past_white-requires : goal.past_white-requires
+past_white-requires g c =
+    let inside = at_within g.T.WktNum.read c.args.text.now _ _ _ c.lexemes.invariant in
+    record { within = omega (arith, inside, c.end-before.ensures, ap length c.as_bytes-in_default-next.ensures.value) }
+
+pub next-requires : goal.next-requires
+next-requires g c =
+    let (x, e, ends, shows) = sees_some g.T.WktNum.read _ _ c.in-Some.seen c.in-Some.ensures in
+    let deep = at_room g.T.WktNum.read c.args.text.now _ _ x _ _ c.lexemes.invariant e in
+    record { room = omega (arith, deep) }
+
+pub returns-clause-within : goal.returns-clause-within
+returns-clause-within g c =
+    let inside = at_within g.T.WktNum.read c.args.text.now _ _ _ c.lexemes.invariant in
+    omega (arith, inside, c.end.ensures)

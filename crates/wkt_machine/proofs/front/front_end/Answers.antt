@@ -1,19 +1,27 @@
--- A drive that keeps nothing ends where the front does.
-use Rattle.std.proofs.Common.{ap, sym, ◌∙◌, subst}
-use Rattle.wkt_read.specs.Ahead as ahead
-use Rattle.wkt_read.specs.Front.{Front}
+-- A drive over the bytes that keeps nothing ends where the front does.
+use Rattle.std.proofs.Common.{ap, sym, ◌∙◌, subst, arith, length, false, IsUtf8}
+use Rattle.wkt_read.proofs.LawLemmas.Few.{placed-few}
 use Rattle.wkt_read.proofs.LawLemmas.FrontEnds.{front-some, front-within, front-boundary}
+use Rattle.wkt_machine.specs.BytesView.{bytes_view}
 use Rattle.wkt_machine.specs.NothingMaker.{nothing_maker}
-use Rattle.wkt_machine.specs.TokensView.{tokens_view}
+use Rattle.wkt_machine.proofs.ByteViews.{whole_left}
 use Rattle.wkt_machine.proofs.Fronting.{front_made, no_front_there}
 use Rattle.wkt_machine.proofs.front.front_end.Goals as goal
 
+pub drive-requires : goal.drive-requires
+drive-requires g c =
+    let text = ap (λ x. x.now) c.new.ensures.text ∙ c.as_bytes.ensures.value in
+    let few = placed-few c.args.text.now in
+    let same = ap length (whole_left c.args.text.now c.new.result text c.new.ensures.at) in
+    omega (arith, few, same)
+
 pub returns-in-Ok-clause-front : goal.returns-in-Ok-clause-front
 returns-in-Ok-clause-front g c =
+    let text = ap (λ x. x.now) c.new.ensures.text ∙ c.as_bytes.ensures.value in
     let (v, front, made) =
-    front_made g.T.WktNum.read (tokens_view g.T.WktNum.read) nothing_maker c.args.text.now c.new.result _ c.in-Ok.over
-    (ap ahead.left c.new.ensures ∙ c.new-tokens.ensures.left ∙ c.from_str.ensures.placed) c.in-Ok.ensures.on c.in-Ok.ensures.over in
-    (v, subst (Front g.T.WktNum.read c.args.text.now v) (sym (c.end.ensures ∙ ap ahead.end_of c.into_tokens.ensures)) front)
+    front_made g.T.WktNum.read (bytes_view false) nothing_maker c.args.text.now c.new.result _ c.in-Ok.over
+    (whole_left c.args.text.now c.new.result text c.new.ensures.at) c.in-Ok.ensures.on c.in-Ok.ensures.over in
+    (v, front)
 
 pub returns-in-Ok-clause-some : goal.returns-in-Ok-clause-some
 returns-in-Ok-clause-some g c = let f = returns-in-Ok-clause-front g c in front-some g.T.WktNum.read c.args.text.now f.0 _ f.1
@@ -26,5 +34,7 @@ returns-in-Ok-clause-boundary g c = let f = returns-in-Ok-clause-front g c in fr
 
 pub returns-in-Err-clause-front : goal.returns-in-Err-clause-front
 returns-in-Err-clause-front g c =
-    no_front_there g.T.WktNum.read (tokens_view g.T.WktNum.read) nothing_maker c.args.text.now c.new.result _ c.in-Err.field-0
-    (ap ahead.left c.new.ensures ∙ c.new-tokens.ensures.left ∙ c.from_str.ensures.placed) tt c.in-Err.ensures.refused
+    let text = ap (λ x. x.now) c.new.ensures.text ∙ c.as_bytes.ensures.value in
+    let at = c.new.ensures.at in
+    no_front_there g.T.WktNum.read (bytes_view false) nothing_maker c.args.text.now c.new.result _ c.in-Err.field-0
+    (whole_left c.args.text.now c.new.result text at) (subst IsUtf8 (sym text) c.utf8.text, omega (arith, at)) c.in-Err.ensures.refused

@@ -1,5 +1,5 @@
 -- A piece behind what is held is UTF-8 with it.
-use Rattle.std.proofs.Common.{rules, IsUtf8, subst, sym, ap, ◌∙◌, take, ◌++◌, arith}
+use Rattle.std.proofs.Common.{IsUtf8, subst, sym, ap, ◌∙◌, ◌++◌, arith}
 use Rattle.std.proofs.lemmas.Grind.{common_steps}
 use Rattle.std.proofs.lemmas.Slice.{take-put_mid}
 use Rattle.std.proofs.lemmas.Str.{IsUtf8-had, IsUtf8-append}

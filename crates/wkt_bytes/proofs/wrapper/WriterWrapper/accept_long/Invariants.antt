@@ -11,4 +11,4 @@ invariant-loop-at g l = record {
 }
 
 abbrev pub decreases-loop-at : goal.decreases-loop-at
-decreases-loop-at g l = (length l.bytes - l.at) * 257 + l.self.len
+decreases-loop-at g l = (length l.bytes - l.at) * 257 + length l.self.held

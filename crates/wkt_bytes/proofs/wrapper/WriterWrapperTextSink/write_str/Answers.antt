@@ -8,8 +8,8 @@ returns-in-Ok-clause-puts g c = record { given = rw c.as_bytes.ensures.value at 
 
 pub returns-in-Err-clause-puts : goal.returns-in-Err-clause-puts
 returns-in-Err-clause-puts g c =
-    let h = rw c.as_bytes.ensures.value at c.in-Err.ensures.err in
+    let h = rw (c.as_bytes.ensures.value, ← c.self.view_is) at c.in-Err.ensures.err in
     record {
       left = record { out = h.out; lost = h.lost; went = h.went; whole = h.whole; failed = h.failed; count = h.count; untaken = h.untaken; kept = h.kept; tied = h.tied; still = h.still };
-      failed = ap next_count c.accept.ensures.failures;
+      failed = ap next_count (rw (← c.self.view_is) at c.accept.ensures.failures);
     }

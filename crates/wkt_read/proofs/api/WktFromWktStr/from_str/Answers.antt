@@ -7,6 +7,7 @@ use Rattle.wkt_read.specs.Front.{HasNoFront}
 use Rattle.wkt_read.specs.Answered.{HasBadNumber}
 use Rattle.wkt_read.specs.Items.{bad_number}
 use Rattle.wkt_read.specs.Placed.{AreEnds}
+use Rattle.wkt_read.proofs.LawLemmas.OnePlacing.{placed-only}
 use Rattle.wkt_read.proofs.ParserLemmas.Answering.{advances, from-front, no-front, split-of}
 use Rattle.wkt_read.specs.Refusal.{IsRefused, IsTextRefused}
 use Rattle.wkt_read.proofs.ParserLemmas.Empty as empty
@@ -20,22 +21,22 @@ returns-clause-found g c =
 pub returns-clause-no_front : goal.returns-clause-no_front
 returns-clause-no_front g c =
     on-text c.value.result (NoneBegins g.T.WktNum.read (rest c.new-tokens.result)) (HasNoFront g.T.WktNum.read c.args.text.now)
-    (no-front g.T.WktNum.read c.args.text.now c.new-tokens.result (c.new-tokens.ensures.left ∙ c.from_str.ensures.placed)) (none g.T.WktNum.read c.new-tokens.result c.value.new.tokens c.value.result c.value.ensures)
+    (no-front g.T.WktNum.read c.args.text.now c.new-tokens.result (c.new-tokens.ensures.left ∙ placed-only _ _ c.from_str.ensures.split c.from_str.ensures.ends)) (none g.T.WktNum.read c.new-tokens.result c.value.new.tokens c.value.result c.value.ensures)
 
 pub returns-clause-bad : goal.returns-clause-bad
 returns-clause-bad g c =
     on-message c.value.result bad_number (HasBad g.T.WktNum.read (rest c.new-tokens.result)) (HasBadNumber g.T.WktNum.read c.args.text.now)
-    (λ has. (rest c.new-tokens.result, split-of g.T.WktNum.read c.args.text.now c.new-tokens.result (c.new-tokens.ensures.left ∙ c.from_str.ensures.placed), has)) (to-bad g.T.WktNum.read c.new-tokens.result c.value.new.tokens c.value.result c.value.ensures)
+    (λ has. (rest c.new-tokens.result, split-of g.T.WktNum.read c.args.text.now c.new-tokens.result (c.new-tokens.ensures.left ∙ placed-only _ _ c.from_str.ensures.split c.from_str.ensures.ends), has)) (to-bad g.T.WktNum.read c.new-tokens.result c.value.new.tokens c.value.result c.value.ensures)
 
 pub returns-clause-free : goal.returns-clause-free
 returns-clause-free g c = λ v end front small.
-    let (after, begins) = from-front g.T.WktNum.read c.args.text.now c.new-tokens.result v end (c.new-tokens.ensures.left ∙ c.from_str.ensures.placed) front in
+    let (after, begins) = from-front g.T.WktNum.read c.args.text.now c.new-tokens.result v end (c.new-tokens.ensures.left ∙ placed-only _ _ c.from_str.ensures.split c.from_str.ensures.ends) front in
     free g.T.WktNum.read c.new-tokens.result c.value.new.tokens c.value.result c.value.ensures v after begins small
 
 pub returns-clause-refusal : goal.returns-clause-refusal
 returns-clause-refusal g c =
     if-text c.value.result (λ said. IsRefused g.T.WktNum.read (rest c.new-tokens.result) said (rest c.value.new.tokens)) (IsTextRefused g.T.WktNum.read c.args.text.now)
-    (λ said (m, says, e). (m, says, (rest c.new-tokens.result, rest c.value.new.tokens, split-of g.T.WktNum.read c.args.text.now c.new-tokens.result (c.new-tokens.ensures.left ∙ c.from_str.ensures.placed), e))) (to-refusal g.T.WktNum.read c.new-tokens.result c.value.new.tokens c.value.result c.value.ensures)
+    (λ said (m, says, e). (m, says, (rest c.new-tokens.result, rest c.value.new.tokens, split-of g.T.WktNum.read c.args.text.now c.new-tokens.result (c.new-tokens.ensures.left ∙ placed-only _ _ c.from_str.ensures.split c.from_str.ensures.ends), e))) (to-refusal g.T.WktNum.read c.new-tokens.result c.value.new.tokens c.value.result c.value.ensures)
 
 pub returns-then-is_empty-clause-no_front : goal.returns-then-is_empty-clause-no_front
 returns-then-is_empty-clause-no_front g c = empty.no-front g.T.WktNum.read c.args.text.now (empty.no-bytes _ (sym c.is_empty.ensures ∙ c.if-is_empty.true))

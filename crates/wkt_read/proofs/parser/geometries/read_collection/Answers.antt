@@ -18,7 +18,7 @@ use Rattle.wkt_read.specs.Parser.Outcome.{follows_at, IsOpened}
 use Rattle.wkt_read.specs.Parser.Promises.{each, All}
 use Rattle.wkt_read.specs.Parser.Frames.{Wants, IfWhole, OnWhole, Nested, weight}
 use Rattle.wkt_read.proofs.ParserLemmas.Many.{all-push, goes-then, part-memory}
-use Rattle.wkt_read.proofs.ParserLemmas.Frames.{IfAny, weight-most, any, any-last, all-pop, wants, wants-error, light, start-uniform, shut-uniform, opened-next, comma-next, shut-next, error-next, done, error-now}
+use Rattle.wkt_read.proofs.ParserLemmas.Frames.{IfAny, weight-most, start-lighter, any, any-last, all-pop, wants, wants-error, light, start-uniform, shut-uniform, opened-next, comma-next, shut-next, error-next, done, error-now}
 use Rattle.wkt_read.proofs.parser.geometries.read_collection.Goals as goal
 
 -- the error of a list that couldn't grow, as the reader's
@@ -66,6 +66,11 @@ levels-preserved-in_ok-push-in-Ok-Opened g c =
       near = c.begin.ensures.near;
       exact = λ fuel h. opened-next g.T.WktNum.read _ _ _ _ _ _ _ _ _ (c.levels.invariant.exact fuel h) c.in-Ok-Opened.is c.in-Ok-Opened.field-0-is c.new.ensures.items c.in_ok-push-in-Ok-Opened.ensures.items c.begin.ensures.goes_on.fewer c.begin.ensures.exact;
     }
+
+pub levels-smaller-in_ok-push-in-Ok-Opened : goal.levels-smaller-in_ok-push-in-Ok-Opened
+levels-smaller-in_ok-push-in-Ok-Opened g c =
+    let was : weight c.levels.now ≡ 2 = ap weight (c.in-Ok-Opened.is ∙ ap (λ f. Ok f) c.in-Ok-Opened.field-0-is) in
+    omega (arith, was, start-lighter c.begin.result (length (rest c.begin.new.tokens)) (length (rest c.levels.tokens)) c.begin.ensures.taken c.begin.ensures.goes_on.fewer, ap length c.in_ok-push-in-Ok-Opened.ensures.items, length-append c.levels.open.items (record { members = c.new.result; dim = c.in-Ok-Opened.dim } ∷ []))
 
 pub returns-in_err-push-in-Ok-Opened : goal.returns-in_err-push-in-Ok-Opened
 returns-in_err-push-in-Ok-Opened g c =

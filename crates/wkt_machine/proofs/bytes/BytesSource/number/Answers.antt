@@ -1,0 +1,18 @@
+-- A number is taken, or isn't read.
+use Rattle.std.proofs.Common.{refl, subst, sym}
+use Rattle.std.specs.Prelude.{IfSome, IfNone}
+use Rattle.wkt_events.specs.Numbers.{NoNumber}
+use Rattle.wkt_machine.specs.Makers.{MakesNumber}
+use Rattle.wkt_machine.proofs.ByteViews.{numbers_after, none_unread}
+use Rattle.wkt_machine.proofs.bytes.BytesSource.number.Goals as goal
+
+pub returns-in-Some-clause-takes : goal.returns-in-Some-clause-takes
+returns-in-Some-clause-takes g c =
+    let made = MakesNumber g.T.WktNum.read g.B.Builder.maker c.args.builder c.args.self.text.now c.args.self.at c.args.axis c.number_in-made.result.0 in
+    numbers_after _ g.T.WktNum.read g.B.Builder.maker c.args.self c.new.result c.args.builder c.number_in-made.result.0 c.args.axis c.args.self.at refl (λ k. k)
+    (subst made (sym c.new.ensures.at) (subst (λ o. IfSome o made) c.in-Some.is c.number_in-made.ensures.some)) c.new.ensures.text
+
+pub returns-in-None-clause-unread : goal.returns-in-None-clause-unread
+returns-in-None-clause-unread g c = λ legible.
+    none_unread _ c.args.self.text.now c.args.self.at g.T.WktNum.read legible (c.requires.looked.dark c.requires.seen)
+    (subst (λ o. IfNone o (NoNumber g.T.WktNum.read c.args.self.text.now c.args.self.at)) c.in-None.is c.number_in-made.ensures.none)

@@ -1,0 +1,31 @@
+-- A drive that keeps nothing ends where the front does.
+use Rattle.std.proofs.Common.{ap, sym, ◌∙◌, subst}
+use Rattle.wkt_read.specs.Ahead as ahead
+use Rattle.wkt_read.specs.Front.{Front}
+use Rattle.wkt_read.proofs.LawLemmas.FrontEnds.{front-some, front-within, front-boundary}
+use Rattle.wkt_read.proofs.LawLemmas.OnePlacing.{placed-only}
+use Rattle.wkt_machine.specs.NothingMaker.{nothing_maker}
+use Rattle.wkt_machine.specs.TokensView.{tokens_view}
+use Rattle.wkt_machine.proofs.Fronting.{front_made, no_front_there}
+use Rattle.wkt_machine.proofs.front.front_end_by_tokens.Goals as goal
+
+pub returns-in-Ok-clause-front : goal.returns-in-Ok-clause-front
+returns-in-Ok-clause-front g c =
+    let (v, front, made) =
+    front_made g.T.WktNum.read (tokens_view g.T.WktNum.read) nothing_maker c.args.text.now c.new.result _ c.in-Ok.over
+    (ap ahead.left c.new.ensures ∙ c.new-tokens.ensures.left ∙ placed-only _ _ c.from_str.ensures.split c.from_str.ensures.ends) c.in-Ok.ensures.on c.in-Ok.ensures.over in
+    (v, subst (Front g.T.WktNum.read c.args.text.now v) (sym (c.end.ensures ∙ ap ahead.end_of c.into_tokens.ensures)) front)
+
+pub returns-in-Ok-clause-some : goal.returns-in-Ok-clause-some
+returns-in-Ok-clause-some g c = let f = returns-in-Ok-clause-front g c in front-some g.T.WktNum.read c.args.text.now f.0 _ f.1
+
+pub returns-in-Ok-clause-within : goal.returns-in-Ok-clause-within
+returns-in-Ok-clause-within g c = let f = returns-in-Ok-clause-front g c in front-within g.T.WktNum.read c.args.text.now f.0 _ f.1
+
+pub returns-in-Ok-clause-boundary : goal.returns-in-Ok-clause-boundary
+returns-in-Ok-clause-boundary g c = let f = returns-in-Ok-clause-front g c in front-boundary g.T.WktNum.read c.args.text.now f.0 _ c.utf8.text f.1
+
+pub returns-in-Err-clause-front : goal.returns-in-Err-clause-front
+returns-in-Err-clause-front g c =
+    no_front_there g.T.WktNum.read (tokens_view g.T.WktNum.read) nothing_maker c.args.text.now c.new.result _ c.in-Err.field-0
+    (ap ahead.left c.new.ensures ∙ c.new-tokens.ensures.left ∙ placed-only _ _ c.from_str.ensures.split c.from_str.ensures.ends) tt c.in-Err.ensures.refused

@@ -1,0 +1,46 @@
+-- What is known of bytes as a source.
+use Rattle.std.specs.Prelude.{◌≡◌, ◌≢◌, ℕ, ◌≤◌, length, get_or, List, Bool, refl}
+use Rattle.std.proofs.Math.Nat.{le_refl}
+use Rattle.wkt_num.specs.Bytes.{Lexeme, Mark, White}
+use Rattle.wkt_events.specs.Left.{class_in, left_placed, TakesOne}
+use Rattle.wkt_events.specs.Walking.{Legible}
+use Rattle.wkt_machine.specs.Sight.{sight}
+use Rattle.wkt_machine.specs.View.{View}
+use Rattle.wkt_machine.specs.declared.bytes.Bytes.{Bytes}
+use Rattle.wkt_machine.specs.declared.machine.Seen.{Seen}
+use Rattle.wkt_machine.specs.declared.machine.Seen.TheVariants as seen
+
+-- No white space stands there.
+abbrev pub IsDark : Bool → List ℕ → ℕ → Type 0
+IsDark feed text at = class_in feed (get_or text at 0) ≢ White
+
+-- Nor does a mark.
+abbrev pub IsUnmarked : Bool → List ℕ → ℕ → Type 0
+IsUnmarked feed text at = (l : Lexeme) → class_in feed (get_or text at 0) ≢ Mark l
+
+-- The lexeme that comes next is seen so, and it ends there, unless it is a number.
+pub record Sees (feed : Bool) (text : List ℕ) (at : ℕ) (k : Seen) (end : ℕ) : Type 0 where
+  pub sees : k ≡ sight (left_placed feed text at)
+  pub takes : k ≢ seen.Other → k ≢ seen.Number → (l : Lexeme) × TakesOne feed text at l end
+
+-- A lexeme that is no number ends where it was seen to end. A number stands right there.
+pub record IsLooked (feed : Bool) (text : List ℕ) (at end : ℕ) : Type 0 where
+  pub takes : sight (left_placed feed text at) ≢ seen.Other → sight (left_placed feed text at) ≢ seen.Number → (l : Lexeme) × TakesOne feed text at l end
+  pub inside : sight (left_placed feed text at) ≡ seen.Number → at ≤ length text
+  pub dark : sight (left_placed feed text at) ≡ seen.Number → IsDark feed text at
+
+-- No lexeme stands between two places.
+pub record IsBetween (feed : Bool) (text : List ℕ) (from to : ℕ) : Type 0 where
+  pub order : from ≤ to
+  pub same : left_placed feed text from ≡ left_placed feed text to
+
+-- A number that is left is a text where the text's line is.
+abbrev pub bytes_view : {n : ℕ} → Bool → View (Bytes n)
+bytes_view feed = record {
+  left = λ s. left_placed feed s.text.now s.at;
+  place = λ s. s.at;
+  behind = λ s end. IsBetween feed s.text.now end s.at;
+  here = λ s. record { order = le_refl s.at; same = refl };
+  legible = λ s. Legible feed s.text.now s.at;
+  looked = λ s. IsLooked feed s.text.now s.at s.end;
+}

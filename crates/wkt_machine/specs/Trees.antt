@@ -1,0 +1,115 @@
+-- What a tree holds of what has grown.
+use Rattle.std.specs.Prelude.{◌≡◌, ◌⊎◌, List, [], ◌∷◌, ◌++◌, map, Option, Some, None, option_map, Bool, true, false}
+use Rattle.std.specs.List.{AllByRecursion}
+use Rattle.wkt_access.specs.Values.{Value, Values}
+use Rattle.wkt_types.specs.Coords.{numbers_of}
+use Rattle.wkt_types.specs.Tree.{tree}
+use Rattle.wkt_types.specs.Values.{HasDim, HasDimIfAny, IsPointIn, IsLineStringIn, IsPolygonIn, IsUniform, IsWktOf, value_of, point_numbers, line_string_numbers, polygon_numbers}
+use Rattle.wkt_types.specs.declared.coord.Coord.{Coord}
+use Rattle.wkt_types.specs.declared.geometry.Wkt.{Wkt}
+use Rattle.wkt_machine.specs.Events.{Event}
+use Rattle.wkt_machine.specs.Growing.{Frame, Growing, grow_all, joined, members_of, lists_any, MayAll}
+use Rattle.wkt_machine.specs.declared.tree.Ended.{Ended}
+use Rattle.wkt_machine.specs.declared.tree.Ended.TheVariants as ended
+use Rattle.wkt_machine.specs.declared.tree.OpenCollection.{OpenCollection}
+use Rattle.wkt_machine.specs.declared.tree.Tree.{Tree}
+
+-- the value of a geometry
+abbrev pub wkt_value : {T : Type 0} → Wkt T → Value T
+wkt_value w = value_of (tree w)
+
+abbrev pub UniformWkt : {T : Type 0} → Wkt T → Type 0
+UniformWkt w = IsUniform (tree w)
+
+-- An open collection holds these members.
+pub record HoldsFrame {T : Type 0} (c : OpenCollection T) (f : Frame T) : Type 0 where
+  pub dim : c.dim ≡ f.dim
+  pub members : map wkt_value c.members.items ≡ f.members
+  pub uniform : AllByRecursion UniformWkt c.members.items
+
+-- The open collections, of which the last opened stands last.
+abbrev pub HoldsFrames : {T : Type 0} → List (OpenCollection T) → List (Frame T) → Type 0
+HoldsFrames cs [] = cs ≡ []
+HoldsFrames {T} cs (f ∷ o) = (before : List (OpenCollection T)) × (c : OpenCollection T) × (cs ≡ before ++ (c ∷ [])) × HoldsFrame c f × HoldsFrames before o
+
+-- the coordinate of an x and a y, if both came
+abbrev pub coord_by : {T : Type 0} → Option T → Option T → Option T → Option T → Option (Coord T)
+coord_by (Some x) (Some y) z m = Some (record { x = x; y = y; z = z; m = m })
+coord_by x y z m = None
+
+-- the coordinate at hand
+abbrev pub coord_of : {T : Type 0} → Tree T → Option (Coord T)
+coord_of t = coord_by t.x t.y t.z t.m
+
+-- These parts are at hand.
+abbrev pub HasOnly : {T : Type 0} → Tree T → List (List T) → List (Option (List T)) → List (List (List T)) → List (List (List (List T))) → Type 0
+HasOnly t cs ps ls ys = (map numbers_of t.coords.items ≡ cs) × (map point_numbers t.points.items ≡ ps) × (map line_string_numbers t.lines.items ≡ ls) × (map polygon_numbers t.areas.items ≡ ys)
+
+-- All parts carry the dimension at hand.
+abbrev pub AllIn : {T : Type 0} → Tree T → Type 0
+AllIn t = AllByRecursion (HasDim t.dim) t.coords.items × AllByRecursion (IsPointIn t.dim) t.points.items × AllByRecursion (IsLineStringIn t.dim) t.lines.items × AllByRecursion (IsPolygonIn t.dim) t.areas.items
+
+-- The parts of the geometry at hand, and what is open.
+pub record HoldsParts {T : Type 0} (t : Tree T) (w : Growing T) : Type 0 where
+  pub kept : t.is_lost ≡ false
+  pub dim : t.dim ≡ w.dim
+  pub x : t.x ≡ w.hand.x
+  pub y : t.y ≡ w.hand.y
+  pub z : t.z ≡ w.hand.z
+  pub m : t.m ≡ w.hand.m
+  pub parts : HasOnly t w.coords w.points w.lines w.areas
+  pub all_in : AllIn t
+  pub open_ones : HoldsFrames t.outer.items w.outer
+
+-- The geometry that ended has this value, its parts are all that is at hand, and these collections are open but for it.
+abbrev pub HoldsEnded : {T : Type 0} → Ended → Tree T → List (Frame T) → Value T → Type 0
+HoldsEnded ended.Point t o v = (Value.point t.dim (option_map numbers_of (coord_of t)) ≡ v) × HasDimIfAny t.dim (coord_of t) × HasOnly t [] [] [] [] × HoldsFrames t.outer.items o
+HoldsEnded {T} ended.LineString t o v = (cs : List (List T)) × (Value.line_string t.dim cs ≡ v) × HasOnly t cs [] [] [] × HoldsFrames t.outer.items o
+HoldsEnded {T} ended.Polygon t o v = (ls : List (List (List T))) × (Value.polygon t.dim ls ≡ v) × HasOnly t [] [] ls [] × HoldsFrames t.outer.items o
+HoldsEnded {T} ended.MultiPoint t o v = (ps : List (Option (List T))) × (Value.multi_point t.dim ps ≡ v) × HasOnly t [] ps [] [] × HoldsFrames t.outer.items o
+HoldsEnded {T} ended.MultiLineString t o v = (ls : List (List (List T))) × (Value.multi_line_string t.dim ls ≡ v) × HasOnly t [] [] ls [] × HoldsFrames t.outer.items o
+HoldsEnded {T} ended.MultiPolygon t o v = (ys : List (List (List (List T)))) × (Value.multi_polygon t.dim ys ≡ v) × HasOnly t [] [] [] ys × HoldsFrames t.outer.items o
+HoldsEnded {T} ended.Collection t o v = (f : Frame T) × (Value.collection f.dim (members_of f.members) ≡ v) × HasOnly t [] [] [] [] × HoldsFrames t.outer.items (f ∷ o)
+HoldsEnded ended.NoMembers t o v = (Value.collection t.dim Values.no_values ≡ v) × HasOnly t [] [] [] [] × HoldsFrames t.outer.items o
+
+pub record HoldsWhole {T : Type 0} (t : Tree T) (o : List (Frame T)) (v : Value T) : Type 0 where
+  pub kept : t.is_lost ≡ false
+  pub all_in : AllIn t
+  pub whole : HoldsEnded t.last t o v
+
+-- The tree holds what has grown.
+abbrev pub HoldsBy : {T : Type 0} → Tree T → Growing T → Option (Value T) → Type 0
+HoldsBy t w None = HoldsParts t w
+HoldsBy t w (Some v) = HoldsWhole t w.outer v
+
+abbrev pub Holds : {T : Type 0} → Tree T → Growing T → Type 0
+Holds t w = HoldsBy t w w.grown
+
+-- What was to be held is lost, for want of memory.
+abbrev pub IsLost : {T : Type 0} → Tree T → Type 0
+IsLost t = t.is_lost ≡ true
+
+-- What was held was changed so; or it is lost, if it may be. What was lost stays lost.
+pub record Becomes {T : Type 0} (may_lose : Bool) (May : Growing T → Type 0) (change : Growing T → Growing T) (t u : Tree T) : Type 0 where
+  pub stays : IsLost t → IsLost u
+  pub holds : (w : Growing T) → Holds t w → May w → Holds u (change w) ⊎ (IsLost u × (may_lose ≡ true))
+
+-- If the events may come where they do, what is held has grown by them; or it is lost, and one of them adds to a list. What was lost stays lost.
+pub record Grew {T : Type 0} (t : Tree T) (es : List (Event T)) (u : Tree T) : Type 0 where
+  pub stays : IsLost t → IsLost u
+  pub holds : (w : Growing T) → Holds t w → MayAll es w → Holds u (grow_all es w) ⊎ (IsLost u × (lists_any es ≡ true))
+
+-- The geometry that ended was taken, and no part is at hand.
+pub record Gives {T : Type 0} (t : Tree T) (w : Wkt T) (u : Tree T) : Type 0 where
+  pub is_lost : u.is_lost ≡ t.is_lost
+  pub gives : (o : List (Frame T)) (v : Value T) → HoldsWhole t o v → IsWktOf v (tree w) × HasOnly u [] [] [] [] × HoldsFrames u.outer.items o
+
+-- The collection that was opened last was taken.
+pub record GivesLast {T : Type 0} (t : Tree T) (w : Wkt T) (u : Tree T) : Type 0 where
+  pub same : u ≡ record t { outer = u.outer }
+  pub gives : (f : Frame T) (o : List (Frame T)) → HoldsFrames t.outer.items (f ∷ o) → IsWktOf (Value.collection f.dim (members_of f.members)) (tree w) × HoldsFrames u.outer.items o
+
+-- A member of the collection that was opened last was put into it, or it is lost.
+pub record Joins {T : Type 0} (t : Tree T) (w : Wkt T) (u : Tree T) : Type 0 where
+  pub stays : IsLost t → IsLost u
+  pub joins : (f : Frame T) (o : List (Frame T)) (v : Value T) → t.is_lost ≡ false → HasOnly t [] [] [] [] → HoldsFrames t.outer.items (f ∷ o) → IsWktOf v (tree w) → Holds u (joined (f ∷ o) (Some v)) ⊎ IsLost u

@@ -1,0 +1,67 @@
+-- What a source is read as.
+use Rattle.std.specs.Prelude.{◌≡◌, ℕ, List, [], ◌∷◌, ◌++◌, Option, Some, Result, Ok, Err, false}
+use Rattle.std.specs.declared.alloc.AllocError.{AllocError}
+use Rattle.wkt_access.specs.Values.{Value}
+use Rattle.wkt_types.specs.Tree.{Tree as Kept, tree}
+use Rattle.wkt_types.specs.Values.{IsWktOf}
+use Rattle.wkt_types.specs.declared.geometry.Wkt.{Wkt}
+use Rattle.wkt_read.specs.Front.{NeedsNoMemory}
+use Rattle.wkt_read.specs.Grammar.{StandFor}
+use Rattle.wkt_read.specs.Placed.{Placed, lexemes_of, end_after}
+use Rattle.wkt_machine.specs.Drives.{start, is_over}
+use Rattle.wkt_machine.specs.Events.{Event}
+use Rattle.wkt_machine.specs.Goes.{IsStuck}
+use Rattle.wkt_machine.specs.Machine.{run}
+use Rattle.wkt_machine.specs.Machines.{state_of}
+use Rattle.wkt_machine.specs.Trees.{HoldsWhole, IsLost}
+use Rattle.wkt_machine.specs.View.{View}
+use Rattle.wkt_machine.specs.declared.machine.Machine.{Machine}
+use Rattle.wkt_machine.specs.declared.tree.Tree.{Tree}
+use Rattle.wkt_machine.specs.declared.value.Unread.{Unread}
+use Rattle.wkt_machine.specs.declared.value.Unread.TheVariants.{Refused, Memory}
+
+-- this holds of the machine where the answer is `Refused`
+abbrev pub OnRefused : {X : Type 0} → Result X Unread → (Machine → Type 0) → Type 0
+OnRefused (Ok x) P = Unit {0}
+OnRefused (Err (Refused m)) P = P m
+OnRefused (Err (Memory e)) P = Unit {0}
+
+-- this holds where the answer is `Memory`
+abbrev pub OnMemory : {X : Type 0} → Result X Unread → Type 0 → Type 0
+OnMemory (Ok x) P = Unit {0}
+OnMemory (Err (Refused m)) P = Unit {0}
+OnMemory (Err (Memory e)) P = P
+
+-- The value that ended, or that it is lost.
+abbrev pub Answers : {T : Type 0} → Tree T → Result (Wkt T) Unread → Type 0
+Answers {T} t (Ok w) = (t.is_lost ≡ false) × ((v : Value T) → HoldsWhole t [] v → IsWktOf v (tree w))
+Answers t (Err (Refused m)) = ⊥
+Answers t (Err (Memory e)) = IsLost t
+
+module _ {N S : Type 0} (read : List ℕ → Option N) (view : View S) where
+  -- Lexemes are taken that stand for a value.
+  pub record Takes (s : S) (v : Value N) (t : S) : Type 0 where
+    pub given : List Placed
+    pub last : Placed
+    pub split : view.left s ≡ given ++ (last ∷ view.left t)
+    pub place : view.place t ≡ last.end
+    pub stands : StandFor read (lexemes_of (given ++ (last ∷ []))) v
+    pub legible : view.legible s → view.legible t
+
+  -- The tree is what the value is read as that the lexemes which are taken stand for.
+  abbrev pub IsRead : S → Kept N → S → Type 0
+  IsRead s w t = (v : Value N) × Takes s v t × IsWktOf v w
+
+  -- They stand for a value that isn't read without memory.
+  abbrev pub WantsMemory : S → S → Type 0
+  WantsMemory s t = (v : Value N) × Takes s v t × (NeedsNoMemory v → ⊥)
+
+  -- The machine goes over the lexemes that are taken, up to one with which it doesn't move, or that lacks.
+  pub record IsRefused (s : S) (m : Machine) (t : S) : Type 0 where
+    pub taken : List Placed
+    pub events : List (Event N)
+    pub split : view.left s ≡ taken ++ view.left t
+    pub behind : (end : ℕ) → view.behind s end → view.behind t (end_after end taken)
+    pub ran : run read start (lexemes_of taken) ≡ Some (state_of m, events)
+    pub is_open : is_over (state_of m) ≡ false
+    pub stuck : view.legible s → IsStuck read m (view.left t)

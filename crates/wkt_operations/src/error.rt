@@ -1,0 +1,59 @@
+//! Why a run can't go on.
+use std::alloc::{AllocError, AllocFailed};
+use std::io::{self, ErrorKind};
+use thiserror::Error;
+use wkt::error::Error as WriteError;
+use wkt::geo_types_from_wkt::Error as ConvertError;
+use wkt::to_wkt::ReadAllError;
+use wkt::{AnyError, InferError, ReadError, ToWktError};
+
+/// Why a run can't go on.
+#[derive(Debug, Drop, Error)]
+pub enum RunError {
+    #[error("{0}")]
+    Io(io::Error),
+    #[error("the lines aren't UTF-8")]
+    NotText,
+    #[error("name decimal or i64, and operations")]
+    Usage,
+    #[error("out of memory")]
+    Memory(#[from] AllocError),
+}
+
+impl<T: Drop> From<AllocFailed<T>> for RunError {
+    fn from(_error: AllocFailed<T>) -> RunError {
+        RunError::Memory(AllocError)
+    }
+}
+
+/// Out of memory has its own variant.
+impl From<io::Error> for RunError {
+    fn from(error: io::Error) -> RunError {
+        match error.kind() {
+            ErrorKind::OutOfMemory => RunError::Memory(AllocError),
+            _ => RunError::Io(error),
+        }
+    }
+}
+
+impl From<ReadAllError> for RunError {
+    fn from(error: ReadAllError) -> RunError {
+        match error {
+            ReadAllError::Read(error) => RunError::from(error),
+            ReadAllError::Memory(error) => RunError::Memory(error),
+        }
+    }
+}
+
+/// Whether an operation gave no answer since memory ran out. Otherwise the line was refused.
+pub fn is_out_of_memory(error: &AnyError) -> bool {
+    match error {
+        AnyError::Memory(_)
+        | AnyError::Read(ReadError::Memory(_))
+        | AnyError::Infer(InferError::Memory(_))
+        | AnyError::Convert(ConvertError::Memory(_))
+        | AnyError::Write(WriteError::Memory(_) | WriteError::FmtError(_))
+        | AnyError::Send(ToWktError::Shape(WriteError::Memory(_)) | ToWktError::Io(_)) => true,
+        _ => false,
+    }
+}
