@@ -119,16 +119,12 @@ fn piece_of<'a, T: WktNum>(
 pub(crate) fn geometry<T: WktNum>(alloc: Global, g: &Geometry<T>) -> Result<Wkt<T>, AllocError>
     ensures { IfOk result (λ w. trees.tree w ≡ back (flat_tree g.now)) }
 {
-    match g {
-        // A point takes no memory, and is made where it is answered.
-        Geometry::Point(p) => Ok(Wkt::Point(point(*p))),
-        _ => match piece_of(alloc, g)? {
-            Piece::Whole(w) => Ok(w),
-            Piece::Members(gs) => {
-                let members = geometries(alloc, gs)?;
-                Ok(Wkt::GeometryCollection(GeometryCollection::new(members, Dimension::XY)))
-            }
-        },
+    match piece_of(alloc, g)? {
+        Piece::Whole(w) => Ok(w),
+        Piece::Members(gs) => {
+            let members = geometries(alloc, gs)?;
+            Ok(Wkt::GeometryCollection(GeometryCollection::new(members, Dimension::XY)))
+        }
     }
 }
 
