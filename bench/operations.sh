@@ -15,7 +15,7 @@ work=$(mktemp -d)
 trap 'rm -rf "$work"' EXIT
 
 workloads=${WORKLOADS:-mixed-6 points-6 mixed-15 points-15 points-0 nested-6}
-for workload in $workloads refused-6 empty-6; do
+for workload in $workloads mixed-0 points-0 nested-0 points-6 refused-6 empty-6; do
     bytes=${BYTES:-300000}
     [ "$workload" != empty-6 ] || bytes=$((bytes / 50))
     python3 "$here/lines.py" "${workload%-*}" "${workload#*-}" "$bytes" > "$work/$workload"
@@ -31,9 +31,7 @@ chosen = os.environ.get("OPERATIONS", "").split()
 # A row: the operation, the one before it, the type of the numbers, and what is called.
 ROWS = [
     ("parse", "lines", "decimal", "`from_str`"),
-    ("parse", "lines", "i64", "`from_str`, `i64`"),
     ("to_string", "parse", "decimal", "`to_string`"),
-    ("to_string", "parse", "i64", "`to_string`, `i64`"),
     ("display", "parse", "decimal", "`Display`"),
     ("push", "parse", "decimal", "`push_geometry`"),
     ("to_flat", "parse", "decimal", "`try_into_geometry`"),
@@ -43,6 +41,12 @@ ROWS = [
     ("wkt_string", "flat", "decimal", "`wkt_string`"),
     ("write_wkt", "flat", "decimal", "`write_wkt`"),
     ("tokens", "lines", "decimal", "`Tokens`"),
+]
+WHOLE_ROWS = [
+    ("parse", "lines", "i64", "`from_str`"),
+    ("to_string", "parse", "i64", "`to_string`"),
+    ("to_flat", "parse", "i64", "`try_into_geometry`"),
+    ("to_wkt", "flat", "i64", "`to_wkt`"),
 ]
 LINE_ROWS = [
     ("infer", "lines", "decimal", "`infer_type`"),
@@ -64,7 +68,7 @@ def count(program, numbers, operation, workload):
 
 def figure(program, row, workload, of):
     operation, before, numbers, _ = row
-    if program == crate and operation in PRIVATE or numbers == "i64" and not workload.endswith("-0"):
+    if program == crate and operation in PRIVATE:
         return None
     return (count(program, numbers, operation, workload) - count(program, numbers, before, workload)) / of(workload)
 
@@ -91,6 +95,8 @@ def table(head, rows, columns, of, form):
 
 
 table("instructions a byte", ROWS, workloads, bytes_of, ".1f")
+print()
+table("the same over `i64`", WHOLE_ROWS, ["mixed-0", "points-0", "nested-0"], bytes_of, ".1f")
 print()
 table("instructions a line", LINE_ROWS, ["points-6", "refused-6", "empty-6"], lines_of, ".0f")
 P

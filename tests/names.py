@@ -15,7 +15,7 @@ import sys
 TOP = os.path.dirname(os.path.dirname(os.path.abspath(__file__)))
 LIST = "docs/names.tsv"
 # Where the expectations and the hints have numbers.
-NUMBERED = "crates/wkt_c/specs/Explained.antt"
+NUMBERED = "crates/wkt_calls/specs/Explained.antt"
 HINTS = "crates/wkt_explain/src/hint.rt"
 # Which file has a table, and in which form.
 TABLES = {
@@ -215,7 +215,7 @@ def by_hand(groups):
     hint_numbers = [(row.name, str(row.number)) for row in groups["hint"] if row.number]
     constants = [(row.constant, str(row.number)) for row in groups["status"] if row.constant]
     source, spec = "crates/wkt_read/src/messages.rt", "crates/wkt_read/specs/Messages.antt"
-    answer = "crates/wkt_c/specs/Answer.antt"
+    answer = "crates/wkt_calls/specs/Answer.antt"
     return [
         (source, "texts", r'Message::(\w+) => "(.*)",$', text),
         (source, "numbers", r"Message::(\w+) => (\d+),$", number),
@@ -228,7 +228,7 @@ def by_hand(groups):
         ("crates/wkt_explain/src/expected.rt", "words", r'Expected::(\w+) => "(.*)",$', expected),
         (answer, "kinds", r"^kind_number kind\.(\w+) = (\d+)$", [(row.name, str(row.number)) for row in kinds]),
         (answer, "dimensions", r"^dimension_number (\w+) = (\d+)$", [(row.name, str(row.number)) for row in dimensions]),
-        ("crates/wkt_c/src/status.rt", "statuses", r"^pub\(crate\) const (\w+): u32 = (\d+);$", constants),
+        ("crates/wkt_calls/src/status.rt", "statuses", r"^pub const (\w+): u32 = (\d+);$", constants),
         (NUMBERED, "expectations", r"^expected_number expected\.(\w+) = (\d+)$", expected_numbers),
         (HINTS, "hints", r'Hint::(\w+) => "(.*)",$', hints),
         (HINTS, "hints with a number", r'Hint::(\w+)\(places\) => return write!\(f, "(.*)"\),$', with_places),
