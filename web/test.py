@@ -233,10 +233,10 @@ class Tests(Page):
 
     def test_file_read_again(self):
         self.open()
-        self.drop(self.file("POINT(1.25 2)\n" * 20000))
-        self.wait(lambda: self.said("say") == "All 20,000 lines accepted")
+        self.drop(self.file(f"LINESTRING({'1.25 2,' * 60}3 4)\n" * 1000))
+        self.wait(lambda: self.said("say") == "All 1,000 lines accepted")
         Select(self.by_id("places")).select_by_value("1")
-        self.wait(lambda: self.said("say") == "20,000 of 20,000 lines refused")
+        self.wait(lambda: self.said("say") == "1,000 of 1,000 lines refused")
         self.driver.find_element(By.CSS_SELECTOR, "input[name=split][value=one] + span").click()
         self.wait(lambda: self.said("say") == "The text is refused")
 
