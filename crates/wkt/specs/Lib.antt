@@ -32,7 +32,9 @@ pub use Rattle.wkt_num.specs.Counted as CountedText
 -- sinks and sources of bytes
 pub use Rattle.wkt_bytes.specs.Sinks
 pub use Rattle.wkt_bytes.specs.Counted
+pub use Rattle.wkt_bytes.specs.Wrapped
 pub use Rattle.wkt_bytes.specs.Wrapper
+pub use Rattle.wkt_bytes.specs.Growing
 pub use Rattle.wkt_bytes.specs.ReadAll
 -- what is read
 pub use Rattle.wkt_read.specs.Lexemes
@@ -43,6 +45,7 @@ pub use Rattle.wkt_read.specs.Begun
 pub use Rattle.wkt_read.specs.Early
 pub use Rattle.wkt_read.specs.Bad
 pub use Rattle.wkt_read.specs.Items
+pub use Rattle.wkt_read.specs.Standing
 pub use Rattle.wkt_read.specs.Stream
 pub use Rattle.wkt_read.specs.Ahead
 pub use Rattle.wkt_read.specs.Answered

@@ -217,6 +217,10 @@ pub mod laws {
         back_is_read, corners_are_in_order, geometry_comes_back, members_are_listed,
         plain_reads_back,
     };
+    pub use wkt_bytes::laws::{
+        counted_grows, formatter_writes, gathered_grows, revealing_grows, string_grows,
+        wrapper_grows,
+    };
     pub use wkt_convert::laws::{flat_and_back, plain_comes_back};
     pub use wkt_events::laws::texts_are_short;
     pub use wkt_explain::laws::{one_refusal, refused_has_no_front};

@@ -30,5 +30,5 @@ module _ {N : Type 0} (read : List ℕ → Option N) (num : N → List ℕ) wher
   -- A text is read that has a front with nothing but white space after it, or, where the front alone counts, with whatever. Another is refused where the library refuses it, or for what follows its front.
   abbrev pub IsVerdict : Bool → List ℕ → List ℕ → Verdict → Type 0
   IsVerdict front text room (Read len) = (end : ℕ) × IsWritten text room end len × ((front ≡ true) ⊎ AllWhite (drop end text))
-  IsVerdict front text room (Refused why) = (why.text.now ≡ text) × IsRefusedAt read text why.start why.end why.expected
+  IsVerdict front text room (Refused why) = (why.text.now ≡ text) × IsRefusedAt read text why.start why.end why.expected × HasNoFront read text
   IsVerdict front text room (Rest end) = (front ≡ false) × ((len : ℕ) × IsWritten text room end len) × (AllWhite (drop end text) → ⊥)

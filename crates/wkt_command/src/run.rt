@@ -181,13 +181,26 @@ impl<'a, W: Write + Drop> Run<'a, W> {
         };
         let places = self.options.places;
         let front = self.options.front;
-        let refusal = match verdict_at(self.alloc, text, places, front, &mut self.room)? {
-            Verdict::Read(len) => return self.put_answer(origin, text, len),
-            Verdict::Refused(why) => Refusal::Text(why),
-            Verdict::Rest(end) => Refusal::Rest(text, end),
-        };
+        match verdict_at(self.alloc, text, places, front, &mut self.room)? {
+            Verdict::Read(len) => self.put_answer(origin, text, len),
+            Verdict::Refused(why) => self.refuse_text(rt, origin, Refusal::Text(why)),
+            Verdict::Rest(end) => self.refuse_text(rt, origin, Refusal::Rest(text, end)),
+        }
+    }
+
+    /// Makes the report of a text that is refused, and refuses it.
+    fn refuse_text(
+        &mut self,
+        rt: &HostRuntime,
+        origin: Origin<'_>,
+        refusal: Refusal<'_>,
+    ) -> Result<(), RunError>
+        ensures canon { self.old.options.now.command ≡ Canon → OnOk result
+            (Appends (out_bytes W.contents self.old.out) (out_bytes W.contents self.new.out)
+            (refused_line self.old.options.now.refused)) }
+    {
         if !self.options.quiet {
-            push_refusal(&mut self.report, origin, refusal, places)?;
+            push_refusal(&mut self.report, origin, refusal, self.options.places)?;
         }
         self.refuse(rt)
     }

@@ -2,7 +2,11 @@
 use Rattle.std.proofs.Common.{◌≡◌, ◌↔◌, ℕ, Bool, List, Option, Result, Ok, Err, subst, sym}
 use Rattle.std.specs.Prelude.{IfOk, OnOk}
 use Rattle.wkt.specs.Lawful.{IsLawful}
-use Rattle.wkt.specs.Shapes.{canon}
+use Rattle.wkt.specs.Shapes.{Shape, canon}
+use Rattle.wkt.specs.Sinks.{SinkOfBytes}
+use Rattle.wkt.specs.Sent.{Sends}
+use Rattle.wkt.specs.ToWktError.{ToWktError}
+use Rattle.wkt.specs.ToWktError.TheVariants as send
 use Rattle.wkt.specs.Texts.{text, shape_text}
 use Rattle.wkt.specs.WellFormed.{IsWellFormed}
 use Rattle.wkt.specs.FlatEqual.{coord_eq}
@@ -29,6 +33,13 @@ pub named : {A E L : Type 0} (bytes : A → List ℕ) (P : List ℕ → Type 0) 
     → IfOk r (λ s. bytes s ≡ bs) → OnOk r L → (L → P bs) → IfOk r (λ s. P (bytes s))
 named bytes P bs (Ok s) is holds f = subst P (sym is) (f holds)
 named bytes P bs (Err e) is holds f = tt
+
+-- What went out whole has only values of the number type.
+pub sent_lawful : {W A N : Type 0} (sink : SinkOfBytes W) (is_value : N → Type 0) (num : N → List ℕ) (s : W) (shape : Shape N) (t : W) (r : Result A ToWktError)
+    → Sends sink is_value num s shape t r → OnOk r (IsLawful is_value shape)
+sent_lawful sink is_value num s shape t (Ok x) h = h.lawful
+sent_lawful sink is_value num s shape t (Err (send.Shape e)) h = tt
+sent_lawful sink is_value num s shape t (Err (send.Io e)) h = tt
 
 -- What follows from a fact of an Ok holds after the Ok.
 pub after_ok : {A E L P : Type 0} (r : Result A E) → OnOk r L → (L → P) → OnOk r P

@@ -1,10 +1,9 @@
 //! A key for a two-dimensional geometry, put out to a sink of bytes as it is made.
-ghost use Rattle.std.specs.Prelude.{◌≡◌, OnOk};
+ghost use Rattle.std.specs.Prelude.{OnOk};
 ghost use Rattle.wkt.specs.FlatTree.{flat_tree};
-ghost use Rattle.wkt.specs.Back.{wkt_text};
-ghost use Rattle.wkt.specs.Sent.{OnIo, IfShape};
-ghost use Rattle.wkt.specs.Sink.{next_count};
-ghost use Rattle.wkt.specs.Sinks.{IsOut, IsPartOut};
+ghost use Rattle.wkt.specs.TreeValues.{tree_shape};
+ghost use Rattle.wkt.specs.Back.{back, wkt_text};
+ghost use Rattle.wkt.specs.Sent.{Sends, IfShape};
 ghost use Rattle.wkt_uses.specs.FlatKey.{NamesPlain};
 
 use std::alloc::Global;
@@ -23,11 +22,9 @@ pub fn write_flat_key<T: WktNum, W: ByteSink>(
     geometry: &Geometry<T>,
     writer: &mut W,
 ) -> Result<(), ToWktError>
-    ensures out { OnOk result (IsOut W.sink writer.old writer.new (wkt_text T.num (flat_tree geometry.now))) }
+    ensures sends { Sends W.sink T.is_value T.num writer.old (tree_shape (back (flat_tree geometry.now))) writer.new result }
     ensures reads_back { OnOk result
         (NamesPlain T.read T.eq (flat_tree geometry.now) (wkt_text T.num (flat_tree geometry.now))) }
-    ensures part { OnIo result (IsPartOut W.sink writer.old writer.new (wkt_text T.num (flat_tree geometry.now))) }
-    ensures failed { OnIo result (W.sink.failures writer.new ≡ next_count (W.sink.failures writer.old)) }
     ensures never { IfShape result (λ _. ⊥) }
 {
     // No effect at run time. The proof reads that a plain geometry comes back.
