@@ -211,7 +211,7 @@ class Tests(Page):
             lines.append(f"point ({n}.50 -{n})")
             wanted.append(f"POINT({n}.5 -{n})" if n else "POINT(0.5 0)")
         for at, line, answer in ((1000, "POINT (1 2", "refused"), (2000, "POINT Z(0.10 7 9)", "POINT Z(0.1 7 9)"), (3000, " POINT Z ( 0.1 7 9.0)", "POINT Z(0.1 7 9)"),
-                                 (4000, "", "refused"), (5000, "POINT(1 2) 3", "refused"), (6000, "point empty x", "refused"), (7000, "POINT(1e5 2)", "refused")):
+                                 (4000, "", "refused"), (5000, "POINT(1 2) 3", "refused"), (6000, "point empty x", "refused"), (7000, "POINT(1e5 2)", "refused"), (8000, "LineString Empty ", "LINESTRING EMPTY")):
             lines.insert(at, line)
             wanted.insert(at, answer)
         self.drop(self.file("\r\n".join(lines)))
@@ -220,7 +220,7 @@ class Tests(Page):
         self.assertEqual("1 line repeats the geometry of an earlier line.", self.said("why"))
         said = self.said("file-out")
         for words in (f"{len(lines) - 5:,}\naccepted", "line 3,001 = line 2,001", "line 1,001, column 11: ) was expected\nPOINT (1 2", "line 5,001, column 12: the end of the text was expected, and not 3",
-                      "line 6,001, column 13: the end of the text was expected, and not x", "line 7,001, column 7: a first number", "z 9 to 9", f"Point {len(lines) - 5:,}", "1\nblank"):
+                      "line 6,001, column 13: the end of the text was expected, and not x", "line 7,001, column 7: a first number", "z 9 to 9", f"Point {len(lines) - 6:,}", "LineString 1", "1\nblank"):
             self.assertIn(words, said)
         self.by_id("save").click()
         saved = os.path.join(self.folder.name, "texts.canonical.wkt")
@@ -233,10 +233,10 @@ class Tests(Page):
 
     def test_file_read_again(self):
         self.open()
-        self.drop(self.file("POINT(1.25 2)\n" * 20000))
-        self.wait(lambda: self.said("say") == "All 20,000 lines accepted")
+        self.drop(self.file(f"LINESTRING({'1.25 2,' * 60}3 4)\n" * 1000))
+        self.wait(lambda: self.said("say") == "All 1,000 lines accepted")
         Select(self.by_id("places")).select_by_value("1")
-        self.wait(lambda: self.said("say") == "20,000 of 20,000 lines refused")
+        self.wait(lambda: self.said("say") == "1,000 of 1,000 lines refused")
         self.driver.find_element(By.CSS_SELECTOR, "input[name=split][value=one] + span").click()
         self.wait(lambda: self.said("say") == "The text is refused")
 
