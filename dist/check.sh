@@ -11,7 +11,7 @@ work=$(mktemp -d)
 trap 'rm -rf "$work"' EXIT
 fail() { echo "dist: $*"; exit 1; }
 names=(wkt_c wkt_command wktline wktstream)
-processors=$(cd dist && echo */PROVENANCE | sed 's,/PROVENANCE,,g')
+processors=$(cd dist && echo */wkt_c.o.xz | sed 's,/wkt_c.o.xz,,g')
 
 # unpacked PROCESSOR: nothing but what PROVENANCE names, each with its sum
 unpacked() {

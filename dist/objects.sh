@@ -20,7 +20,7 @@ if [ $# = 0 ] && [ -n "$archive" ]; then
 fi
 if [ -z "$archive" ] || [ "$*" != "${1:-} wkt_c" ]; then
     [ -e "$here/$processor/PROVENANCE" ] && [ "$machine" != "${machine#*linux}" ] ||
-        stop "no objects for $machine; there are those for Linux on $(cd "$here" && echo */PROVENANCE | sed 's,/PROVENANCE,,g')." \
+        stop "no objects for $machine; there are those for Linux on $(cd "$here" && echo */wkt_c.o.xz | sed 's,/wkt_c.o.xz,,g')." \
             "With the prover (rt), dist/refresh.sh $processor proves and builds them"
 fi
 if [ $# = 0 ]; then

@@ -3,7 +3,8 @@
 #
 # release.sh [OUT]: into OUT (packaging/out): wkt-proved-VERSION/ and its .tar.gz, a source release that needs a C compiler
 # and make, with the proved objects of each processor and what is built over them: the library, the programs, the
-# extensions, the Python package, the Rust crate; and the wheel of the Python package. It runs `make check` in the release.
+# extensions, the Python package, the Rust crate; the wheel of the Python package; and the package for JavaScript, as npm
+# lays it out. It runs `make check` in the release.
 # VERSION is that of include/wkt.h. All times are the date of that version in CHANGELOG.md, or of the commit while it has none.
 set -eu
 unset WKT_C_LIB WKT_LIB_DIR # which would put another library in the place of its own
@@ -15,7 +16,7 @@ to=$out/wkt-proved-$version
 date=$(sed -n "s/^## \[$version\] - \([0-9-]*\)\$/\1/p" "$root/CHANGELOG.md")
 when=$(if [ -n "$date" ]; then date -u -d "$date" +%s; else git -C "$root" log -1 --format=%ct; fi)
 # What stands in a clone, at the same place there.
-parts=(capi include dist postgres sqlite rust python tests/command tests/command.sh tests/keys.c tests/keys.tsv
+parts=(capi include dist postgres sqlite rust python javascript tests/command tests/command.sh tests/keys.c tests/keys.tsv
     crates/wktline/stdin crates/wktline/stdout packaging/release/man LICENSE-APACHE LICENSE-MIT CHANGELOG.md)
 
 rm -rf "$to"
@@ -40,4 +41,5 @@ tar -C "$out" --format=gnu --sort=name --owner=0 --group=0 --numeric-owner --mod
 make -s -C "$to" check
 make -s -C "$to" clean
 SOURCE_DATE_EPOCH=$when "${PYTHON:-/usr/bin/python3}" -m pip wheel -q --no-build-isolation --no-deps --no-index -w "$out" "$to/python"
-(cd "$out" && ls -l ./*.tar.gz ./*.whl)
+"$root/javascript/pack.sh" "$root/dist/wasm/wkt.wasm" "$out" "$when" > /dev/null
+(cd "$out" && ls -l ./*.tar.gz ./*.whl ./*.tgz)

@@ -2,9 +2,9 @@
 # Installs what release.sh and debs.sh have made, each where nothing of it is, and calls each once.
 #
 # test.sh [OUT]: what is in OUT (packaging/out). Parts, all without SKIP=NAME,NAME: source (make install below an empty
-# folder), bytes (the release again, under another umask), wheel (a fresh venv), faces (the extensions and the crate, of the
-# unpacked release), debs (an empty Debian by debootstrap, as root, with the network), vendor (an empty repository, by
-# rt try). The last line says what was skipped.
+# folder), bytes (the release again, under another umask), wheel (a fresh venv), javascript (an empty folder), faces (the
+# extensions and the crate, of the unpacked release), debs (an empty Debian by debootstrap, as root, with the network), vendor
+# (an empty repository, by rt try). The last line says what was skipped.
 set -u
 unset WKT_C_LIB WKT_LIB_DIR # which would put another library in the place of the release's
 here=$(cd "$(dirname "$0")" && pwd)
@@ -42,7 +42,7 @@ source_release() {
 bytes() {
     local file
     (umask 077 && "$here/release.sh" "$dir/again" > "$dir/log" 2>&1) || { tail -n 20 "$dir/log"; fail "release.sh under umask 077"; }
-    for file in "$dir"/again/*.tar.gz "$dir"/again/*.whl; do
+    for file in "$dir"/again/*.{tar.gz,whl,tgz}; do
         cmp "$file" "$out/$(basename "$file")" || fail "another umask gives other bytes"
     done
     # Its files are readable, and of one day: that of its newest change.
@@ -79,6 +79,15 @@ wheel() {
     (cd / && "$dir/venv/bin/python" -c "import wkt; assert wkt.canonical('$text') == '$answer', wkt.canonical('$text')") || fail "import wkt"
     [ "$(echo "$text" | "$dir/venv/bin/wkt" canon)" = "$answer" ] || fail "the wheel's program wkt"
     echo "wheel: installed in $took s, called"
+}
+
+# javascript: the package, laid where npm would lay it
+javascript() {
+    mkdir -p "$dir/app/node_modules/wkt-proved"
+    tar -C "$dir/app/node_modules/wkt-proved" --strip-components=1 -xzf "$out"/wkt-proved-*.tgz
+    echo "import { load } from 'wkt-proved'; console.log((await load()).canonical('$text'));" > "$dir/app/app.mjs"
+    [ "$(cd "$dir/app" && node app.mjs)" = "$answer" ] || fail "the package for JavaScript"
+    echo "package for JavaScript: called by its name"
 }
 
 # in_root WORD..: runs in the Debian
@@ -126,7 +135,7 @@ vendor() {
     echo "vendor: brought, called by rt try, brought again"
 }
 
-for part in source bytes wheel faces debs vendor; do
+for part in source bytes wheel javascript faces debs vendor; do
     if ! skips "$part"; then
         case $part in source) source_release ;; *) "$part" ;; esac
     fi

@@ -1,6 +1,6 @@
 #!/usr/bin/env bash
 # Refuses each growth of memory of the five built programs in turn, and of the built tests of the macros and of the
-# callers of wkt_uses over rows, until a run meets none.
+# callers of wkt_uses over rows, and of values made of events, until a run meets none.
 #
 # wktline, wktstream and the command wkt answer lines of every kind: each refusal has to end them with their words and status, after the
 # whole answers to some first lines. wkt_conformance reads each text by three calls, copies the geometry, puts the copy together again from
@@ -106,6 +106,7 @@ each wkt_command "$dir/lines" 2 1 dups -p 6 -
 each wkt_command "$dir/lines" 2 1 check --max 0
 each wkt_command /dev/null 2 1 same 'LINESTRING(1 2,3 4)' 'linestring ( 1.0 2, 3 +4)'
 each_test wkt
+each_test wkt_machine value_tests::
 each_test wkt_use_conformance table_callers::
 
 # nested N: a point in so many collections

@@ -15,12 +15,14 @@ import sys
 TOP = os.path.dirname(os.path.dirname(os.path.abspath(__file__)))
 LIST = "docs/names.tsv"
 # Where the expectations and the hints have numbers.
-NUMBERED = "crates/wkt_c/specs/Explained.antt"
+NUMBERED = "crates/wkt_calls/specs/Explained.antt"
 HINTS = "crates/wkt_explain/src/hint.rt"
 # Which file has a table, and in which form.
 TABLES = {
     "include/wkt.h": "c",
     "python/wkt/_names.py": "python",
+    "javascript/src/names.js": "javascript",
+    "javascript/src/index.d.ts": "types",
     "rust/src/names.rs": "rust",
     "docs/GRAMMAR.md": "page",
 }
@@ -112,11 +114,16 @@ def c_enum(what, rows):
     return lines + ["};"]
 
 
-def c_table(groups):
+def statuses_of(groups):
+    """The statuses with their words, and among them that of a number."""
     bad = next(row for row in groups["message"] if row.name == "BadNumber")
     statuses = [(row.name, row.number, row.text) for row in groups["status"]]
     statuses.insert(1, ("BAD_NUMBER", bad.number, "of the refusals, 1 to 14: a number has too many decimals, or is too large"))
-    lines = c_enum("Statuses. 1 to 14: the text begins with no geometry, and WKT_MESSAGES says why.", statuses)
+    return statuses
+
+
+def c_table(groups):
+    lines = c_enum("Statuses. 1 to 14: the text begins with no geometry, and WKT_MESSAGES says why.", statuses_of(groups))
     lines += c_enum("Kinds.", [(row.text, row.number, "") for row in groups["kind"]])
     lines += c_enum("Dimensions.", [(row.name, row.number, "") for row in groups["dimension"]])
     expected = [("EXPECTED_" + capitals(row.name), row.number, row.text) for row in groups["expected"]]
@@ -148,11 +155,36 @@ def rust_table(groups):
     return lines
 
 
+def javascript_table(groups):
+    lines = []
+    for name, what, items in lists(groups):
+        lines += [f"/** {what} */", f"export const {name} = Object.freeze(["] + [f"  {item}," for item in items] + ["]);"]
+    lines += ["/** Why a text has no answer. */", "export const STATUS = Object.freeze({"]
+    return lines + [f"  {name}: {number}, // {text}" for name, number, text in statuses_of(groups)] + ["});"]
+
+
+def types_table(groups):
+    """The types of what the table for JavaScript has."""
+    kinds = names(groups, "kind")
+    lines = ["/** A kind that has flat arrays. */", f"export type FlatKind = {' | '.join(kinds[:-1])};"]
+    lines += ["export type Kind = FlatKind | " + kinds[-1] + ";", f"export type Dimension = {' | '.join(names(groups, 'dimension'))};"]
+    lines += ["/** Why a text has no answer, as include/wkt.h has it. 1 to 14: the text begins with no geometry. */"]
+    lines += ["export declare const STATUS: {"]
+    return lines + [f"  /** {text} */\n  readonly {name}: {number};" for name, number, text in statuses_of(groups)] + ["};"]
+
+
 def page_table(groups):
     return ["", "| | message |", "|---|---|", *(f"| {row.number} | `{row.text}` |" for row in groups["message"]), ""]
 
 
-FORMS = {"c": c_table, "python": python_table, "rust": rust_table, "page": page_table}
+FORMS = {
+    "c": c_table,
+    "python": python_table,
+    "javascript": javascript_table,
+    "types": types_table,
+    "rust": rust_table,
+    "page": page_table,
+}
 
 
 def made(path, form, text, groups):
@@ -183,7 +215,7 @@ def by_hand(groups):
     hint_numbers = [(row.name, str(row.number)) for row in groups["hint"] if row.number]
     constants = [(row.constant, str(row.number)) for row in groups["status"] if row.constant]
     source, spec = "crates/wkt_read/src/messages.rt", "crates/wkt_read/specs/Messages.antt"
-    answer = "crates/wkt_c/specs/Answer.antt"
+    answer = "crates/wkt_calls/specs/Answer.antt"
     return [
         (source, "texts", r'Message::(\w+) => "(.*)",$', text),
         (source, "numbers", r"Message::(\w+) => (\d+),$", number),
@@ -196,7 +228,7 @@ def by_hand(groups):
         ("crates/wkt_explain/src/expected.rt", "words", r'Expected::(\w+) => "(.*)",$', expected),
         (answer, "kinds", r"^kind_number kind\.(\w+) = (\d+)$", [(row.name, str(row.number)) for row in kinds]),
         (answer, "dimensions", r"^dimension_number (\w+) = (\d+)$", [(row.name, str(row.number)) for row in dimensions]),
-        ("crates/wkt_c/src/status.rt", "statuses", r"^pub\(crate\) const (\w+): u32 = (\d+);$", constants),
+        ("crates/wkt_calls/src/status.rt", "statuses", r"^pub const (\w+): u32 = (\d+);$", constants),
         (NUMBERED, "expectations", r"^expected_number expected\.(\w+) = (\d+)$", expected_numbers),
         (HINTS, "hints", r'Hint::(\w+) => "(.*)",$', hints),
         (HINTS, "hints with a number", r'Hint::(\w+)\(places\) => return write!\(f, "(.*)"\),$', with_places),

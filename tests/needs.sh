@@ -16,6 +16,8 @@ there() {
         wheel) module setuptools && module wheel && module pip && module venv && [ -e "$(headers)/Python.h" ] ;;
         postgres) command -v pg_config && [ -e "$(pg_config --includedir-server)/postgres.h" ] && [ -x "$(pg_config --bindir)/initdb" ] ;;
         sqlite) command -v sqlite3 && [ -e /usr/include/sqlite3.h ] ;;
+        web) command -v node && command -v tsc && command -v wasm-opt ;;
+        page) command -v chromium && command -v chromedriver && module selenium ;;
         fuzz) command -v clang && command -v ld.lld ;;
     esac > /dev/null 2>&1
 }
@@ -40,6 +42,8 @@ packages=(
     "wheel python3-setuptools python3-wheel python3-pip python3-venv python3-dev"
     "postgres postgresql postgresql-server-dev-all"
     "sqlite sqlite3 libsqlite3-dev"
+    "web nodejs node-typescript binaryen"
+    "page chromium chromium-driver python3-selenium"
     "fuzz clang lld libclang-rt-dev"
 )
 

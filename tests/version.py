@@ -18,6 +18,7 @@ PLACES = [
     ("crates/wkt_command/src/help.rt", rf'VERSION: &str = "wkt ({WHOLE})\\n"'),
     ("tests/command/options.txt", rf"^> wkt ({WHOLE})$"),
     ("python/wkt/_version.py", rf'^__version__ = "({WHOLE})"$'),
+    ("javascript/package.json", rf'^  "version": "({WHOLE})",$'),
     ("rust/Cargo.toml", rf'^version = "({WHOLE})"$'),
     ("postgres/wkt.control", r"^default_version = '(\d+\.\d+)'$"),
     ("postgres/Makefile", r"^DATA = .*\bwkt--(\d+\.\d+)\.sql\b"),

@@ -4,8 +4,8 @@ use Rattle.std.specs.List.{slice_index}
 use Rattle.std.proofs.lemmas.List.{map-append}
 use Rattle.wkt_c.specs.Column.{row, is_null}
 use Rattle.wkt_num.specs.Bytes.{AllWhite}
-use Rattle.wkt_c.specs.Answer.{EndsAsAsked}
-use Rattle.wkt_c.specs.Arrays.{AreOf}
+use Rattle.wkt_calls.specs.Answer.{EndsAsAsked}
+use Rattle.wkt_calls.specs.Arrays.{AreOf}
 use Rattle.wkt_c.specs.ColumnArrays.{RowArrays, row_arrays, HasNothing, HasNoRowArrays, IsRowArrays}
 use Rattle.wkt_c.specs.ArrayRows.{held_arrays, kinds_of, dimensions_of, statuses_of, HoldsNoArrays, AddsArrays, AddsRowArrays, HoldsArrays, row_of}
 use Rattle.wkt_c.specs.declared.column_arrays.ArrayRows.{ArrayRows}

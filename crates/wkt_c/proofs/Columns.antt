@@ -4,7 +4,7 @@ use Rattle.std.specs.List.{slice_index}
 use Rattle.std.proofs.lemmas.List.{take-append-le, drop-append-le, get_or_append_left}
 use Rattle.std.proofs.Math.Seq.{drop-append_seam, get_or-append_seam}
 use Rattle.wkt_num.specs.Bytes.{AllWhite}
-use Rattle.wkt_c.specs.Answer.{IsCanonical, EndsAsAsked}
+use Rattle.wkt_calls.specs.Answer.{IsCanonical, EndsAsAsked}
 use Rattle.wkt_c.specs.Column.{row_count, row, AreOffsets, AreJoined, HasNoAnswer}
 use Rattle.wkt_c.specs.Joining.{HoldsNoList, AddsList}
 use Rattle.wkt_c.specs.Rows.{HoldsNoRow, AddsRow, HoldsRows, AddsTextAnswer}

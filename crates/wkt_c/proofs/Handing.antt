@@ -1,6 +1,6 @@
 -- What is handed out of what was read and written.
-use Rattle.std.proofs.Common.{◌≡◌, ◌↔◌, inl, inr, refl, sym, ap, ◌∙◌, subst, arith, ℕ, ℤ, List, Option, Result, Ok, Err, MatchResult, IfOk, IfErr, length}
-use Rattle.std.specs.Prelude.{Some, None, IsUtf8}
+use Rattle.std.proofs.Common.{◌≡◌, inl, inr, refl, sym, ap, ◌∙◌, subst, ℕ, ℤ, List, Result, Ok, Err, MatchResult, IfOk, IfErr, length}
+use Rattle.std.specs.Prelude.{Some, None}
 use Rattle.std.proofs.lemmas.List.{append-nil}
 use Rattle.std.specs.List.{All, Contains}
 use Rattle.std.proofs.lemmas.List.Elements.{All-contains}
@@ -16,42 +16,16 @@ use Rattle.wkt_types.specs.Values.{value_of, tree_shape}
 use Rattle.wkt_read.specs.Kinds.{kind_of, dim_of}
 use Rattle.wkt_read.specs.Front.{Front}
 use Rattle.wkt_read.specs.Laws.{ReadsBack}
-use Rattle.wkt_c.specs.Answer.{Refuses, IsWritten, kind_number, dimension_number}
-use Rattle.wkt_c.specs.Arrays.{parts_of, joined, numbers_in, offsets, AreArrays, IsTextOf, HasLarge}
+use Rattle.wkt_calls.specs.Answer.{kind_number, dimension_number}
+use Rattle.wkt_c.specs.Written.{IsWritten}
+use Rattle.wkt_calls.specs.Arrays.{parts_of, joined, numbers_in, offsets, AreArrays, HasLarge}
+use Rattle.wkt_c.specs.Texts.{IsTextOf}
 use Rattle.wkt_c.specs.Growing.{HoldsAll, IsUnheld, AreSame}
 use Rattle.wkt_c.specs.declared.arrays.Arrays.{Arrays}
-
-pub out_of_memory : {N : Type 0} (read : List ℕ → Option N) (text : List ℕ) (status : ℕ) → status ≡ 22 → Refuses read text status
-out_of_memory read text status e = record {
-  no_front = λ _ h. absurd (omega (arith, e, h));
-  message = λ _ h. absurd (omega (arith, e, h));
-  bad = λ h. absurd (omega (arith, e, h));
-  not_utf8 = λ h _. absurd (omega (arith, e, h));
-  others = inr (inr e);
-  some = omega (arith, e);
-}
-
--- a text that isn't UTF-8
-pub no-text : {N : Type 0} (read : List ℕ → Option N) (text : List ℕ) (status : ℕ) → status ≡ 20 → (IsUtf8 text → ⊥) → Refuses read text status
-no-text read text status e bad = record {
-  no_front = λ _ h. absurd (omega (arith, e, h));
-  message = λ _ h. absurd (omega (arith, e, h));
-  bad = λ h. absurd (omega (arith, e, h));
-  not_utf8 = λ _ u. bad u;
-  others = inr (inl e);
-  some = omega (arith, e);
-}
 
 pub match-map : {T E : Type 0} {P P' : T → Type 0} {Q Q' : E → Type 0} (r : Result T E) → ((x : T) → P x → P' x) → ((e : E) → Q e → Q' e) → MatchResult r P Q → MatchResult r P' Q'
 match-map (Ok x) f g h = f x h
 match-map (Err e) f g h = g e h
-
--- a comparison of two lists that are these
-pub same_lists : {B : Type 0} (x y a b : List ℕ) → B ↔ (x ≡ y) → x ≡ a → y ≡ b → B ↔ (a ≡ b)
-same_lists x y a b h e f = (λ t. sym e ∙ h.0 t ∙ f, λ k. h.1 (e ∙ k ∙ sym f))
-
-pub iff-more : {A B C : Type 0} → A ↔ B → B ↔ C → A ↔ C
-iff-more h k = (λ a. k.0 (h.0 a), λ c. h.1 (k.1 c))
 
 pub dims : {T : Type 0} (t : Tree T) → dim_of (value_of t) ≡ tree_dim t
 dims (Tree.point p) = refl

@@ -7,7 +7,7 @@ use Rattle.std.proofs.lemmas.List.Elements.{Contains-append_left, Contains-appen
 use Rattle.std.proofs.lemmas.List.Folds.{flat_map-map}
 use Rattle.std.specs.Prelude.{Some}
 use Rattle.wkt_access.specs.Values.{Value}
-use Rattle.wkt_c.specs.Arrays.{parts_of, joined, numbers_in, HasLarge}
+use Rattle.wkt_calls.specs.Arrays.{parts_of, joined, numbers_in, HasLarge}
 use Rattle.wkt_c.specs.Growing.{IsFull, IsUnheld}
 
 -- what one list has a longer one has

@@ -8,13 +8,4 @@ pub mod Handing
 pub mod Columns
 pub mod ArrayColumns
 pub mod TextColumns
-pub mod Tails
-pub mod Filled
-pub mod FlatPoints
 pub mod Fitting
-pub mod Pieces
-pub mod Calls
-pub mod Blames
-pub mod Padded
-pub mod AsciiWindows
-pub mod Copied

@@ -8,7 +8,7 @@ use Rattle.std.proofs.lemmas.List.{drop_more, take_at, drop_at, take_more, take_
 use Rattle.std.proofs.lemmas.List.Concat.{get_or-flat_map, flat_map-append}
 use Rattle.wkt_access.specs.Values.{size}
 use Rattle.wkt_access.specs.declared.dimensions.Dimension.{Dimension}
-use Rattle.wkt_c.specs.Arrays.{joined, offsets, numbers_in}
+use Rattle.wkt_calls.specs.Arrays.{joined, offsets, numbers_in}
 use Rattle.wkt_c.specs.Rebuilding.{HasSize, IsRing, IsPolygon}
 
 -- the numbers of one coordinate

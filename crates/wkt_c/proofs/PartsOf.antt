@@ -10,7 +10,8 @@ use Rattle.wkt_types.specs.declared.geometry.Wkt.{Wkt}
 use Rattle.wkt_types.specs.declared.geometry.Wkt.TheVariants as variants
 use Rattle.wkt_types.specs.declared.geometry.Wkt.TheFolds as folds
 use Rattle.wkt_types.specs.declared.geometry.Wkt.TheOpen as opened
-use Rattle.wkt_c.specs.Arrays.{parts_of, member_numbers}
+use Rattle.wkt_calls.specs.Arrays.{parts_of}
+use Rattle.wkt_c.specs.Texts.{member_numbers}
 
 pub tree-point : {T : Type 0} (p : HeldPoint (Coord T)) → tree (variants.Point p) ≡ Tree.point p
 tree-point {T} p = ap tree (sym (variants.rolls-Point p)) ∙ folds.fold-roll-Wkt T (Tree T) (Tree T) wkt_step collection_step (opened.Wkt-F.Point p)

@@ -17,8 +17,9 @@ use Rattle.wkt_types.specs.Values.{value_of, point_numbers, line_string_numbers,
 use Rattle.wkt_types.specs.declared.coord.Coord.{Coord}
 use Rattle.wkt_types.specs.declared.geometry.Wkt.TheVariants as variants
 use Rattle.wkt_read.specs.Kinds.{kind_of, dim_of}
-use Rattle.wkt_c.specs.Answer.{kind_number, dimension_number}
-use Rattle.wkt_c.specs.Arrays.{parts_of, joined, AreArrays, AreOfSome, member_numbers}
+use Rattle.wkt_calls.specs.Answer.{kind_number, dimension_number}
+use Rattle.wkt_calls.specs.Arrays.{parts_of, joined, AreArrays}
+use Rattle.wkt_c.specs.Texts.{AreOfSome, member_numbers}
 use Rattle.wkt_c.specs.Rebuilding.{HasSize, IsRing, ArePolygons, IsPolygon}
 use Rattle.wkt_c.proofs.PartsOf.{tree-point, tree-line_string, tree-polygon, tree-multi_point, tree-multi_line_string, tree-multi_polygon}
 

@@ -8,8 +8,8 @@ use Rattle.wkt_access.specs.declared.dimensions.Dimension.{Dimension}
 use Rattle.wkt_types.specs.Held.{HeldPoint}
 use Rattle.wkt_types.specs.Coords.{numbers_of}
 use Rattle.wkt_types.specs.declared.coord.Coord.{Coord}
-use Rattle.wkt_c.specs.Answer.{IsRefused}
-use Rattle.wkt_c.specs.Arrays.{member_numbers}
+use Rattle.wkt_c.specs.Written.{IsRefused}
+use Rattle.wkt_c.specs.Texts.{member_numbers}
 use Rattle.wkt_c.specs.Rebuilding.{IsRing, ArePolygons, IsPolygon}
 use Rattle.wkt_c.proofs.Large.{err-map}
 use Rattle.wkt_c.proofs.Offsets.{offsets-length, has-bounds, has-coord, has-rings, has-ring, ring-of}

@@ -4,7 +4,7 @@ use Rattle.std.specs.Prelude.{Some}
 use Rattle.std.specs.List.{sum_by}
 use Rattle.std.proofs.lemmas.List.{map_more}
 use Rattle.wkt_access.specs.Values.{Value}
-use Rattle.wkt_c.specs.Arrays.{parts_of, joined, numbers_in, offsets}
+use Rattle.wkt_calls.specs.Arrays.{parts_of, joined, numbers_in, offsets}
 use Rattle.wkt_c.specs.Growing.{Holds, Begins, AddsRings, Closes, AddsPolygons, HoldsAll}
 use Rattle.wkt_c.specs.declared.arrays.Arrays.{Arrays}
 use Rattle.wkt_fill.proofs.Growth.{ring-numbers, ring-offsets, ring-count, ring-rings, closed-rings, closed-offsets}

@@ -1,7 +1,7 @@
 -- The texts of a column of arrays, row after row.
 use Rattle.std.proofs.Common.{◌≡◌, ◌≢◌, ◌≤◌, inl, inr, ℕ, List, [], Bool, true, false, refl, sym, subst, length, arith}
 use Rattle.std.specs.List.{slice_index}
-use Rattle.wkt_c.specs.Arrays.{IsTextOf, IsNoTextAt}
+use Rattle.wkt_c.specs.Texts.{IsTextOf, IsNoTextAt}
 use Rattle.wkt_c.specs.ColumnArrays.{RowArrays, HasOffsets}
 use Rattle.wkt_c.specs.Rows.{AddsRow}
 use Rattle.wkt_c.specs.TextRows.{AddsArraysText}

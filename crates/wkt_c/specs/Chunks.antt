@@ -1,17 +1,8 @@
 -- The answers to some lines at the front of an input.
-use Rattle.std.specs.Prelude.{◌≡◌, ◌+◌, ◌<◌, ◌≤◌, ◌⊎◌, ℕ, zero, suc, List, Option, Bool, true, false, length, take}
-use Rattle.wkt_lines.specs.Laws.{IsWhole}
+use Rattle.std.specs.Prelude.{◌≡◌, ◌<◌, ◌≤◌, ◌⊎◌, ℕ, List, Option, Bool, false, length, take}
 use Rattle.wkt_lines.specs.Output.{IsOutput}
 use Rattle.wkt_lines.specs.Splitting.{before_feed}
-
--- So many bytes at the front are whole lines, or all of the input, where it ends here.
-abbrev pub AreWholeLines : Bool → List ℕ → ℕ → Type 0
-AreWholeLines last input n = IsWhole (take n input) ⊎ ((last ≡ true) × (n ≡ length input))
-
--- So many bytes are the first line with its feed, or all of the input, where that ends here and has no feed.
-abbrev pub IsFirstLine : Bool → List ℕ → ℕ → Type 0
-IsFirstLine last input n =
-    ((n ≡ length (before_feed input) + 1) × (n ≤ length input)) ⊎ ((last ≡ true) × (n ≡ length input) × (before_feed input ≡ input))
+use Rattle.wkt_calls.specs.Chunks.{AreWholeLines, IsFirstLine}
 
 module _ {N : Type 0} (read : List ℕ → Option N) (num : N → List ℕ) where
   -- So many bytes of the input are taken, and the first `written` bytes of the buffer are the answers to them. None is taken only where there is no whole line.
@@ -33,8 +24,3 @@ module _ {N : Type 0} (read : List ℕ → Option N) (num : N → List ℕ) wher
   -- Memory ran out, or the answer to the first line has no room.
   abbrev pub AnswersNone : Bool → List ℕ → List ℕ → ℕ → Type 0
   AnswersNone last input out status = (status ≡ 22) ⊎ ((status ≡ 21) × LacksRoom last input out)
-
--- Whether the input ends here.
-abbrev pub ends_here : ℕ → Bool
-ends_here zero = false
-ends_here (suc n) = true

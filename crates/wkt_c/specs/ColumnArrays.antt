@@ -1,8 +1,9 @@
 -- The arrays of a column of texts, and the texts of a column of arrays.
 use Rattle.std.specs.Prelude.{◌≡◌, ◌<◌, ◌≢◌, ◌+◌, ◌⊎◌, ℕ, ℤ, List, [], Bool, true, false, length}
 use Rattle.std.specs.List.{slice_index}
-use Rattle.wkt_c.specs.Answer.{places_in, asks_whole, EndsAsAsked, HasNoPlaces, with_front}
-use Rattle.wkt_c.specs.Arrays.{AreOf, HasMoreAt, IsNotFlat, IsTextOf, IsNoTextAt}
+use Rattle.wkt_calls.specs.Answer.{places_in, asks_whole, EndsAsAsked, HasNoPlaces, with_front}
+use Rattle.wkt_calls.specs.Arrays.{AreOf, HasMoreAt, IsNotFlat}
+use Rattle.wkt_c.specs.Texts.{IsTextOf, IsNoTextAt}
 use Rattle.wkt_c.specs.Column.{row_count, row, is_null, AreOffsets, AreJoined, AreRows, HasBits, IsColumn}
 use Rattle.wkt_c.specs.declared.sizes.WktColumnSizes.{WktColumnSizes}
 

@@ -2,7 +2,7 @@
 use Rattle.std.specs.Prelude.{◌≡◌, ◌++◌, ◌⊎◌, ℕ, ℤ, List, [], ◌∷◌, length, Some}
 use Rattle.std.specs.List.{sum_by}
 use Rattle.wkt_access.specs.Values.{Value}
-use Rattle.wkt_c.specs.Arrays.{parts_of, joined, offsets, numbers_in, HasLarge}
+use Rattle.wkt_calls.specs.Arrays.{parts_of, joined, offsets, numbers_in, HasLarge}
 pub use Rattle.wkt_fill.specs.Arrays.{IsUnheld}
 use Rattle.wkt_c.specs.declared.arrays.Arrays.{Arrays}
 

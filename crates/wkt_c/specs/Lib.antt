@@ -1,9 +1,5 @@
 pub mod Gathered
-pub mod Answer
-pub mod Arrays
 pub mod Growing
-pub mod Sizes
-pub mod Flat
 pub mod Column
 pub mod Joining
 pub mod ColumnArrays
@@ -11,7 +7,6 @@ pub mod ArrayRows
 pub mod TextRows
 pub mod Rows
 pub mod Rebuilding
-pub mod Calls
-pub mod Explained
 pub mod Chunks
-pub mod ArraysCall
+pub mod Written
+pub mod Texts

@@ -3,7 +3,7 @@ use Rattle.std.specs.Prelude.{◌≡◌, ◌<◌, ℕ, ℤ, List, [], length}
 use Rattle.std.specs.List.{AllByRecursion, slice_index_or}
 use Rattle.wkt_access.specs.Values.{size}
 use Rattle.wkt_access.specs.declared.dimensions.Dimension.{Dimension}
-use Rattle.wkt_c.specs.Arrays.{joined, numbers_in, offsets}
+use Rattle.wkt_calls.specs.Arrays.{joined, numbers_in, offsets}
 
 -- A coordinate has as many numbers as the dimension says.
 abbrev pub HasSize : Dimension → List ℤ → Type 0

@@ -5,10 +5,11 @@ ghost use Rattle.wkt_types.specs.Tree.{tree};
 ghost use Rattle.wkt_read.specs.Kinds.{kind_of};
 ghost use Rattle.wkt_types.specs.Values.{value_of, line_string_numbers, polygon_numbers, point_numbers};
 ghost use Rattle.wkt_c.specs.Growing.{Begins, AddsRings, Closes, AddsPolygons, HoldsAll, IsFull, IsUnheld};
-ghost use Rattle.wkt_c.specs.Arrays.{member_numbers, joined, numbers_in};
+ghost use Rattle.wkt_c.specs.Texts.{member_numbers};
+ghost use Rattle.wkt_calls.specs.Arrays.{joined, numbers_in};
 
-use crate::status::{MEMORY, NOT_FLAT, TOO_LARGE};
 use std::alloc::Global;
+use wkt_calls::status::{MEMORY, NOT_FLAT, TOO_LARGE};
 use wkt_num::Decimal;
 use wkt_types::{Coord, GeometryType, LineString, Point, Polygon, Wkt};
 

@@ -1,8 +1,8 @@
 //! Room for the arrays of a text, which grows as longer ones come.
 ghost use Rattle.std.specs.Prelude.{◌≡◌, MatchResult, ⊤};
 
-use crate::status::MEMORY;
 use std::alloc::Global;
+use wkt_calls::status::MEMORY;
 use wkt_fill::Room;
 
 /// Places for arrays, which texts use one after the other.

@@ -1,22 +1,16 @@
 //! Lines at the front of an input, as many as fit.
 ghost use Rattle.std.specs.Prelude.{◌≡◌, ◌≤◌, ◌+◌, ◌++◌, MatchResult, length, take};
-ghost use Rattle.wkt_c.specs.Answer.{read_at, print_at};
-ghost use Rattle.wkt_c.specs.Chunks.{AnswersSome, AnswersNone, ends_here};
+ghost use Rattle.wkt_calls.specs.Answer.{read_at, print_at};
+ghost use Rattle.wkt_c.specs.Chunks.{AnswersSome, AnswersNone};
 
-use crate::lines::{Answered, answer_lines, answers};
-use crate::places::at_places;
-use crate::status::SMALL;
-use crate::whole::first_line;
+use crate::lines::answers;
 use std::alloc::Global;
+use wkt_calls::at_places;
+use wkt_calls::lines::{Answered, answer_lines};
+use wkt_calls::status::SMALL;
+use wkt_calls::whole::first_line;
 use wkt_lines::laws::output_of_parts;
 use wkt_num::Decimal;
-
-/// Whether the input ends here.
-pub(crate) fn is_last(last: u32) -> bool
-    ensures { result ≡ ends_here last }
-{
-    last != 0
-}
 
 /// Puts the bytes behind the first `at`.
 fn put_at(bytes: &[u8], out: &mut [u8], at: usize)

@@ -1,19 +1,19 @@
 //! A column of texts as flat arrays at once.
 ghost use Rattle.std.specs.Prelude.{◌≡◌, ◌≤◌, MatchResult, [], false, length};
-ghost use Rattle.wkt_c.specs.Answer.{places_in, asks_whole};
+ghost use Rattle.wkt_calls.specs.Answer.{places_in, asks_whole};
 ghost use Rattle.wkt_c.specs.Column.{AreOffsets, HasBits, row_count};
-ghost use Rattle.wkt_c.specs.Flat.{IsFlatPoint};
+ghost use Rattle.wkt_calls.specs.Flat.{IsFlatPoint};
 ghost use Rattle.wkt_c.specs.ArrayRows.{HoldsNoArrays, AddsArrays, AddsRowArrays, HoldsArrays, row_of, kinds_of, dimensions_of, statuses_of};
 
 use crate::arrays_room::ArraysRoom;
-use crate::asked::{ends_as_asked, places_of};
 use crate::column::{GivenColumn, is_null};
-use crate::flat::{flat_asked, make_point};
 use crate::joined::{Joined, push};
-use crate::places::at_places;
 use crate::rebuild::GivenArrays;
-use crate::status::{DONE, MEMORY, NOT_WHOLE, NULL_ROW};
 use std::alloc::Global;
+use wkt_calls::asked::{ends_as_asked, places_of};
+use wkt_calls::at_places;
+use wkt_calls::flat::{flat_asked, make_point};
+use wkt_calls::status::{DONE, MEMORY, NOT_WHOLE, NULL_ROW};
 use wkt_events::NearPoint;
 
 /// The arrays of some first rows, one row's after the other's.

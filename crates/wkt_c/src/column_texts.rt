@@ -1,16 +1,16 @@
 //! A column of flat arrays as texts at once.
 ghost use Rattle.std.specs.Prelude.{◌≡◌, ◌↔◌, ◌⊎◌, ◌≤◌, ◌<◌, IsTrue, MatchResult, length};
-ghost use Rattle.wkt_c.specs.Answer.{HasNoPlaces};
+ghost use Rattle.wkt_calls.specs.Answer.{HasNoPlaces};
 ghost use Rattle.wkt_c.specs.Column.{AreOffsets, row_count, is_null};
 ghost use Rattle.wkt_c.specs.ColumnArrays.{AreArrayColumn, IsArrayColumn, HasOffsets};
 ghost use Rattle.wkt_c.specs.ArrayRows.{row_of};
 ghost use Rattle.wkt_c.specs.TextRows.{given_arrays, AddsArraysText, HoldsTexts};
 
 use crate::column::{Rows, are_offsets, has_bits, is_null};
-use crate::places::at_places;
 use crate::rebuild::{GivenArrays, text_of};
-use crate::status::{DONE, MEMORY, NO_PLACES, NULL_ROW};
 use std::alloc::Global;
+use wkt_calls::at_places;
+use wkt_calls::status::{DONE, MEMORY, NO_PLACES, NULL_ROW};
 
 /// A column of arrays of the caller's, with the bits of the rows that aren't null, if any row is.
 #[derive(Clone, Copy)]

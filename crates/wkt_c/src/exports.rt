@@ -1,24 +1,28 @@
 //! The functions that C calls.
 ghost use Rattle.std.specs.Prelude.{◌≡◌, ◌≤◌, ◌≢◌, ◌+◌, ◌*◌, ◌⊎◌, ℕ, List, Bool, length};
 ghost use Rattle.wkt_lines.specs.Output.{IsOutput};
-ghost use Rattle.wkt_c.specs.Answer.{read_at, print_at, places_in, asks_whole, EndsAsAsked, IsCanonical, HasMore, Compares, RefusesAt, RefusesOneAt, IsNamed, NamesNone, HasNoPlaces, IsHandedOut, HasNoRoom, same_number};
-ghost use Rattle.wkt_c.specs.Chunks.{AnswersSome, AnswersNone, ends_here};
+ghost use Rattle.wkt_calls.specs.Answer.{read_at, print_at, places_in, asks_whole, EndsAsAsked, IsCanonical, HasMore, Compares, RefusesAt, RefusesOneAt, IsNamed, NamesNone, HasNoPlaces, IsHandedOut, HasNoRoom, same_number};
+ghost use Rattle.wkt_c.specs.Chunks.{AnswersSome, AnswersNone};
+ghost use Rattle.wkt_calls.specs.Chunks.{ends_here};
 ghost use Rattle.wkt_c.specs.Column.{AreColumnAnswers, IsColumn, IsNoColumn, row_count};
-ghost use Rattle.wkt_c.specs.Arrays.{IsTextOf, IsNoTextAt, IsNotFlat, HasMoreAt};
-ghost use Rattle.wkt_c.specs.Sizes.{AreHandedOut, HaveNoRoom};
+ghost use Rattle.wkt_c.specs.Texts.{IsTextOf, IsNoTextAt};
+ghost use Rattle.wkt_calls.specs.Arrays.{IsNotFlat, HasMoreAt};
+ghost use Rattle.wkt_calls.specs.Sizes.{AreHandedOut, HaveNoRoom};
 
-use crate::arrays_call::{arrays_long, arrays_short, is_short};
-use crate::asked::{ends_as_asked, has_places};
+use crate::arrays_call::arrays_long;
 use crate::canonical::canonical;
-use crate::chunks::{is_last, some_at};
+use crate::chunks::some_at;
 use crate::column::{GivenColumn, Rows, answers, is_column};
-use crate::fill::{copy_whole, hand_out};
-use crate::infer::infer;
 use crate::lines::answers_at;
 use crate::rebuild::{GivenArrays, text_at};
-use crate::sizes::WktSizes;
-use crate::status::{DONE, MEMORY, NO_PLACES, NOT_COLUMN, NOT_WHOLE, SMALL};
 use std::alloc::Global;
+use wkt_calls::arrays_call::{arrays_short, is_short};
+use wkt_calls::asked::{ends_as_asked, has_places};
+use wkt_calls::fill::{copy_whole, hand_out};
+use wkt_calls::infer::infer;
+use wkt_calls::lines::is_last;
+use wkt_calls::sizes::WktSizes;
+use wkt_calls::status::{DONE, MEMORY, NO_PLACES, NOT_COLUMN, NOT_WHOLE, SMALL};
 
 /// Writes the one text of the geometry that `text` begins with to the front of `out`, its length to `needed`,
 /// and to `end` where the geometry ends in `text`. Numbers are decimals of so many places; with 256 more the whole
@@ -118,12 +122,12 @@ pub extern "C" fn wkt_same(
 /// Reports the kind (0 Point to 6 GeometryCollection) and the dimension (0 XY, 1 XYZ, 2 XYM, 3 XYZM) that the
 /// header of `text` names.
 #[unsafe(no_mangle)]
-pub extern "C" fn wkt_infer(alloc: Global, text: &[u8], kind: &mut u32, dimension: &mut u32) -> u32
+pub extern "C" fn wkt_infer(text: &[u8], kind: &mut u32, dimension: &mut u32) -> u32
     ensures named { result ≡ DONE → IsNamed text.now kind.new dimension.new }
     ensures others { 1 ≤ result → NamesNone text.now result }
     ensures kept { 1 ≤ result → (kind.new ≡ kind.old) × (dimension.new ≡ dimension.old) }
 {
-    match infer(alloc, text) {
+    match infer(text) {
         Ok((k, d)) => {
             *kind = k;
             *dimension = d;

@@ -1,18 +1,18 @@
 //! A column to arrays at once, for C.
-ghost use Rattle.wkt_c.specs.Answer.{IsHandedOut, HasNoRoom};
+ghost use Rattle.wkt_calls.specs.Answer.{IsHandedOut, HasNoRoom};
 ghost use Rattle.std.specs.Prelude.{◌≡◌, ◌≤◌, ◌≢◌, ◌⊎◌, ℕ, List, length};
 ghost use Rattle.wkt_c.specs.ColumnArrays.{ColumnArrays, AreColumnArrays, AreFilled, FillColumn, LackRoom, HasNoArrays, IsTextColumn, IsArrayColumn, AreColumnTexts, HasNoTexts, as_column};
 ghost use Rattle.wkt_c.specs.ArrayRows.{held_arrays, statuses_of};
 
-use crate::asked::has_places;
 use crate::column::{GivenColumn, is_column};
 use crate::column_arrays::{ArrayRows, all_arrays, copy_heads};
 use crate::column_texts::{GivenRows, is_array_column, texts_at};
 use crate::exports::hand_out_rows;
-use crate::fill::{copy_to_front, copy_whole};
 use crate::sizes::WktColumnSizes;
-use crate::status::{DONE, NO_PLACES, NOT_COLUMN, SMALL};
 use std::alloc::Global;
+use wkt_calls::asked::has_places;
+use wkt_calls::fill::{copy_to_front, copy_whole};
+use wkt_calls::status::{DONE, NO_PLACES, NOT_COLUMN, SMALL};
 
 /// Hands out the arrays of a column, if there is room for them.
 fn hand_out_arrays(

@@ -1,11 +1,11 @@
 //! The functions that C calls to learn why a text is refused.
 ghost use Rattle.std.specs.Prelude.{◌≡◌, ◌≤◌, ◌<◌, ◌≢◌, ◌↔◌, ℕ, length};
-ghost use Rattle.wkt_c.specs.Answer.{read_at, places_in, asks_whole};
-ghost use Rattle.wkt_c.specs.Explained.{IsExplained, IsHinted, IsFollowed, IsUnexplained};
+ghost use Rattle.wkt_calls.specs.Answer.{read_at, places_in, asks_whole};
+ghost use Rattle.wkt_calls.specs.Explained.{IsExplained, IsHinted, IsFollowed, IsUnexplained};
 
-use crate::asked::{has_places, places_of};
-use crate::explain::{number_of_expected, number_of_hint, problem};
-use crate::status::{DONE, NO_PLACES, NOT_WHOLE};
+use wkt_calls::asked::{has_places, places_of};
+use wkt_calls::explain::{number_of_expected, number_of_hint, problem};
+use wkt_calls::status::{DONE, NO_PLACES, NOT_WHOLE};
 use wkt_explain::Problem;
 
 /// Reports where `text` is refused: from byte `start` to byte `stop` is the lexeme that is too much, or nothing, where the

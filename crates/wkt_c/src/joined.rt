@@ -2,8 +2,8 @@
 ghost use Rattle.std.specs.Prelude.{◌≡◌, ◌++◌, ◌∷◌, [], MatchResult};
 ghost use Rattle.wkt_c.specs.Joining.{HoldsNoList, AddsList};
 
-use crate::status::MEMORY;
 use std::alloc::Global;
+use wkt_calls::status::MEMORY;
 
 /// Lists in a row, and where each begins, with the end of the last.
 #[derive(Drop)]

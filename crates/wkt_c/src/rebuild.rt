@@ -9,18 +9,20 @@ ghost use Rattle.wkt_access.specs.WellFormed.{CoordFits, LineStringFits, Polygon
 ghost use Rattle.wkt_types.specs.Coords.{numbers_of};
 ghost use Rattle.wkt_types.specs.Tree.{tree};
 ghost use Rattle.wkt_types.specs.Values.{value_of, tree_shape, point_numbers, line_string_numbers, polygon_numbers};
-ghost use Rattle.wkt_c.specs.Arrays.{IsTextOf, IsNoTextAt, AreArrays, AreOfSome, member_numbers};
+ghost use Rattle.wkt_c.specs.Texts.{IsTextOf, IsNoTextAt, AreOfSome, member_numbers};
+ghost use Rattle.wkt_calls.specs.Arrays.{AreArrays};
 ghost use Rattle.wkt_c.specs.Growing.{AreSame};
 ghost use Rattle.wkt_c.specs.Rebuilding.{IsRing, IsPolygon, ArePolygons};
-ghost use Rattle.wkt_c.specs.Answer.{IsRefused, IsWritten, IsUnwritten, dimension_number};
+ghost use Rattle.wkt_c.specs.Written.{IsRefused, IsWritten, IsUnwritten};
+ghost use Rattle.wkt_calls.specs.Answer.{dimension_number};
 
 use crate::arrays::{Arrays, kind_of};
 use crate::gathered::Gathered;
-use crate::infer::{number_of_dimension, number_of_kind};
-use crate::places::at_places;
-use crate::status::{MEMORY, NO_PLACES, NOT_ARRAYS};
 use std::alloc::Global;
 use wkt_access::Error as WriteError;
+use wkt_calls::at_places;
+use wkt_calls::infer::{number_of_dimension, number_of_kind};
+use wkt_calls::status::{MEMORY, NO_PLACES, NOT_ARRAYS};
 use wkt_num::{Decimal, WktNum};
 use wkt_read::laws::reads_back;
 use wkt_types::{

@@ -38,12 +38,12 @@ fn coords<T: Copy + Drop>(alloc: Global, cs: &[flat::Coord<T>]) -> Result<Vec<Co
 {
     let mut all = Vec::with_capacity(alloc, cs.len())?;
     for c in cs {
-        all.push(Coord {
+        all.push_reserved(Coord {
             x: c.x,
             y: c.y,
             z: None,
             m: None,
-        })?;
+        });
     }
     Ok(all)
 }

@@ -1,5 +1,5 @@
 -- What is seen at a place of bytes, and what is taken there.
-use Rattle.std.proofs.Common.{◌≡◌, ◌≢◌, ℕ, ◌+◌, ◌<◌, ◌≤◌, List, [], ◌∷◌, length, get_or, slice_range, Option, Some, None, Bool, true, false, if◌then◌else◌, ◌&&◌, ◌||◌, ◌==◌, nat_le, IsTrue, IsUtf8, inl, inr, refl, sym, ap, ◌∙◌, subst, arith}
+use Rattle.std.proofs.Common.{◌≡◌, ◌≢◌, ℕ, ◌+◌, ◌<◌, ◌≤◌, List, [], ◌∷◌, length, get_or, slice_range, Option, Some, None, Bool, true, false, if◌then◌else◌, ◌&&◌, ◌||◌, ◌==◌, nat_le, inl, inr, refl, sym, ap, ◌∙◌, subst, arith}
 use Rattle.std.specs.Result.{IsErr}
 use Rattle.std.proofs.lemmas.Bool.{cases_lt, cases_eq, cases_Bool, ne_eqb, leb-true}
 use Rattle.std.proofs.lemmas.List.Edits.{get_or-between}
@@ -10,7 +10,7 @@ use Rattle.wkt_read.specs.Parser.Outcome.{number_at, number_in}
 use Rattle.wkt_read.specs.Placed.{Placed, lexemes_of, placed}
 use Rattle.wkt_read.specs.declared.messages.Message.TheVariants as message
 use Rattle.wkt_events.specs.Left.{class_in, left_placed, left, IsRunEnd, TakesOne}
-use Rattle.wkt_events.specs.Numbers.{IsNumberAt, NoNumber}
+use Rattle.wkt_events.specs.Numbers.{NoNumber}
 use Rattle.wkt_events.specs.Walking.{Legible}
 use Rattle.wkt_events.proofs.Classes.{class-same, class-in-mark, class-in-run}
 use Rattle.wkt_events.proofs.Classes as classes
@@ -18,9 +18,7 @@ use Rattle.wkt_events.proofs.Lefts.{left-all, placed-nul, placed-past, left-begi
 use Rattle.wkt_events.proofs.Legibles.{legible-one}
 use Rattle.wkt_events.proofs.PenNumbers.{takes-number, refuses}
 use Rattle.wkt_events.proofs.RunEnds.{late-run}
-use Rattle.wkt_events.proofs.RunTexts.{number-text}
-use Rattle.wkt_machine.specs.BytesView.{IsDark, IsUnmarked, Sees, IsLooked, IsBetween, bytes_view}
-use Rattle.wkt_machine.specs.Events.{Event}
+use Rattle.wkt_machine.specs.BytesView.{IsDark, IsUnmarked, Sees, IsLooked, bytes_view}
 use Rattle.wkt_machine.specs.Goes.{Stays, Skips, Numbers, IsUnread}
 use Rattle.wkt_machine.specs.Makers.{Maker, MakesNumber}
 use Rattle.wkt_machine.specs.Sight.{seen_of, seen_word, sight}

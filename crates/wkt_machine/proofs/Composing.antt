@@ -17,16 +17,16 @@ pub lexemes_append : (xs ys : List Placed) → lexemes_of (xs ++ ys) ≡ lexemes
 lexemes_append [] ys = refl
 lexemes_append (x ∷ xs) ys = ap (λ l. x.lexeme ∷ l) (lexemes_append xs ys)
 
-end_append : (at : ℕ) (xs ys : List Placed) → end_after at (xs ++ ys) ≡ end_after (end_after at xs) ys
+pub end_append : (at : ℕ) (xs ys : List Placed) → end_after at (xs ++ ys) ≡ end_after (end_after at xs) ys
 end_append at [] ys = refl
 end_append at (x ∷ xs) ys = end_append x.end xs ys
 
-end_last : (at : ℕ) (xs : List Placed) (x : Placed) → end_after at (xs ++ (x ∷ [])) ≡ x.end
+pub end_last : (at : ℕ) (xs : List Placed) (x : Placed) → end_after at (xs ++ (x ∷ [])) ≡ x.end
 end_last at [] x = refl
 end_last at (y ∷ xs) x = end_last y.end xs x
 
 module _ {N S B : Type 0} (read : List ℕ → Option N) (view : View S) (maker : Maker N B) where
-  runs : (xs ys : List Placed) (s t u : State) (es fs : List (Event N)) → run read s (lexemes_of xs) ≡ Some (t, es) → run read t (lexemes_of ys) ≡ Some (u, fs) → run read s (lexemes_of (xs ++ ys)) ≡ Some (u, es ++ fs)
+  pub runs : (xs ys : List Placed) (s t u : State) (es fs : List (Event N)) → run read s (lexemes_of xs) ≡ Some (t, es) → run read t (lexemes_of ys) ≡ Some (u, fs) → run read s (lexemes_of (xs ++ ys)) ≡ Some (u, es ++ fs)
   runs xs ys s t u es fs h k = ap (run read s) (lexemes_append xs ys) ∙ run_append read (lexemes_of xs) (lexemes_of ys) s (t, es) h ∙ ap (after es) k
 
   pub goes_on_to : (m : Machine) (s : S) (b : B) (a c : At S B) → Goes read view maker m s b a → Goes read view maker a.machine a.source a.builder c → Goes read view maker m s b c

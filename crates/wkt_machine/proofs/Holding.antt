@@ -1,6 +1,6 @@
 -- What a tree holds after each call.
-use Rattle.std.proofs.Common.{◌≡◌, ◌+◌, ◌<◌, ℕ, List, [], ◌∷◌, ◌++◌, length, length-append, sym, refl, ap, ◌∙◌, subst, append-nil, arith, ◌⊎◌, inl, inr, Option, Some, None, IfSome, Bool, true, false, ◌||◌}
-use Rattle.std.specs.Prelude.{map, option_map, option_to_list, get_or, slice_set, IsSome, Vec}
+use Rattle.std.proofs.Common.{◌≡◌, ◌+◌, ◌<◌, ℕ, List, [], ◌∷◌, ◌++◌, length, length-append, sym, refl, ap, ◌∙◌, subst, arith, ◌⊎◌, inl, inr, Option, Some, None, IfSome, Bool, true, false, ◌||◌}
+use Rattle.std.specs.Prelude.{map, option_map, get_or, slice_set, IsSome, Vec}
 use Rattle.std.specs.Vec.{with_item}
 use Rattle.std.specs.declared.alloc.Global.{Global}
 use Rattle.std.specs.List.{AllByRecursion}
@@ -8,18 +8,14 @@ use Rattle.std.proofs.lemmas.List.{map-append, get_or_at, set_at}
 use Rattle.wkt_access.specs.declared.dimensions.Dimension.{Dimension}
 use Rattle.wkt_access.specs.declared.dimensions.Dimension.TheVariants.{XY}
 use Rattle.wkt_access.specs.Values.{Value, Values}
-use Rattle.wkt_types.specs.Coords.{numbers_of, coord_dim, dim_by}
-use Rattle.wkt_types.specs.Held.{Held, HeldPoint}
+use Rattle.wkt_types.specs.Coords.{numbers_of, dim_by}
 use Rattle.wkt_types.specs.Tree.{tree, trees_of}
 use Rattle.wkt_types.specs.Tree as trees
 use Rattle.wkt_types.specs.Values.{HasDim, HasDimIfAny, IsPointIn, IsLineStringIn, IsPolygonIn, IsUniform, AreUniform, IsWktOf, value_of, values_of, point_numbers, line_string_numbers, polygon_numbers}
-use Rattle.wkt_types.specs.declared.coord.Coord.{Coord}
 use Rattle.wkt_types.specs.declared.geometry.Wkt.{Wkt}
 use Rattle.wkt_machine.specs.Events.{Event}
-use Rattle.wkt_machine.specs.Growing.{Frame, Hand, Growing, coord, numbers_by, headed, rest, members_of, joined, opened, with_coord, with_line, with_number, with_point, ended, grow, lists, lists_end, shut, without_items, HasMember, HasNumbers, HasPoint, MayBeEmpty, MayCome, MayEnd, MayOpen}
-use Rattle.wkt_machine.specs.Trees.{wkt_value, UniformWkt, HoldsFrame, HoldsFrames, coord_by, coord_of, HasOnly, AllIn, HoldsParts, HoldsEnded, HoldsWhole, HoldsBy, Holds, IsLost, Becomes, Grew, Gives, GivesLast, Joins}
-use Rattle.wkt_machine.specs.declared.part.Axis.{Axis}
-use Rattle.wkt_machine.specs.declared.part.Axis.TheVariants as axis
+use Rattle.wkt_machine.specs.Growing.{Frame, Growing, coord, numbers_by, headed, rest, members_of, joined, opened, with_line, with_point, ended, grow, lists, lists_end, shut, HasMember, HasPoint, MayCome, MayEnd, MayOpen}
+use Rattle.wkt_machine.specs.Trees.{wkt_value, UniformWkt, HoldsFrame, HoldsFrames, coord_by, coord_of, HasOnly, AllIn, HoldsParts, HoldsWhole, HoldsBy, Holds, IsLost, Becomes, Grew, Gives, GivesLast, Joins}
 use Rattle.wkt_machine.specs.declared.part.Part.{Part}
 use Rattle.wkt_machine.specs.declared.part.Part.TheVariants as part
 use Rattle.wkt_machine.specs.declared.tree.Ended.TheVariants as last
@@ -77,10 +73,6 @@ coord_in (Some x) (Some y) z m d h = h
 coord_in (Some x) None z m d h = tt
 coord_in None y z m d h = tt
 
-if-any : {A : Type 0} (o : Option A) (P : Type 0) → P → IfSome o (λ c. P)
-if-any None P h = tt
-if-any (Some x) P h = h
-
 members-value : {T : Type 0} (ws : List (Wkt T)) → values_of (trees_of (map tree ws)) ≡ members_of (map wkt_value ws)
 members-value [] = refl
 members-value (w ∷ ws) = ap (λ vs. Values.more_values (wkt_value w) vs) (members-value ws)
@@ -93,14 +85,8 @@ module _ {T : Type 0} where
   pub parts_of : (t : Tree T) (w : Growing T) → w.grown ≡ None → Holds t w → HoldsParts t w
   parts_of t w e h = subst (HoldsBy t w) e h
 
-  pub holds_parts : (t : Tree T) (w : Growing T) → w.grown ≡ None → HoldsParts t w → Holds t w
-  holds_parts t w e h = subst (HoldsBy t w) (sym e) h
-
   pub whole_of : (t : Tree T) (w : Growing T) (v : Value T) → w.grown ≡ Some v → Holds t w → HoldsWhole t w.outer v
   whole_of t w v e h = subst (HoldsBy t w) e h
-
-  pub lost_now : (May : Growing T → Type 0) (change : Growing T → Growing T) (t u : Tree T) → IsLost u → Becomes true May change t u
-  lost_now May change t u l = record { stays = λ h. l; holds = λ w h m. inr (l, refl) }
 
   pub empty_in : (t : Tree T) → HasOnly t [] [] [] [] → AllIn t
   empty_in t (c, p, l, y) = (
@@ -114,56 +100,6 @@ module _ {T : Type 0} where
   bare_of : (t : Tree T) (w : Growing T) (d : Dimension) → w ≡ headed d w.outer → HoldsParts t w → HasOnly t [] [] [] []
   bare_of t w d e k = (k.parts.0 ∙ ap (λ w. w.coords) e, k.parts.1 ∙ ap (λ w. w.points) e, k.parts.2 ∙ ap (λ w. w.lines) e, k.parts.3 ∙ ap (λ w. w.areas) e)
 
-  pub begun : (t : Tree T) (d : Dimension) → Becomes false (λ w. w ≡ headed XY w.outer) (λ w. record w { dim = d }) t (record t { dim = d })
-  begun t d = record {
-    stays = λ h. h;
-    holds = λ w h e.
-        let g : w.grown ≡ None = ap (λ w. w.grown) e in
-        let k = parts_of t w g h in
-        inl (holds_parts (record t { dim = d }) (record w { dim = d }) g (record {
-          kept = k.kept;
-          dim = refl;
-          x = k.x;
-          y = k.y;
-          z = k.z;
-          m = k.m;
-          parts = k.parts;
-          all_in = empty_in (record t { dim = d }) (bare_of t w XY e k);
-          open_ones = k.open_ones;
-        }));
-  }
-
-  -- a number of a coordinate
-  module _ (t : Tree T) (n : T) where
-
-    pub number_x : Becomes false (λ w. w.grown ≡ None) (λ w. record w { hand = with_number axis.X n w.hand }) t (record t { x = Some n })
-    number_x = record {
-      stays = λ h. h;
-      holds = λ w h g. let k = parts_of t w g h in
-          inl (holds_parts (record t { x = Some n }) (record w { hand = with_number axis.X n w.hand }) g (record { kept = k.kept; dim = k.dim; x = refl; y = k.y; z = k.z; m = k.m; parts = k.parts; all_in = k.all_in; open_ones = k.open_ones }));
-    }
-
-    pub number_y : Becomes false (λ w. w.grown ≡ None) (λ w. record w { hand = with_number axis.Y n w.hand }) t (record t { y = Some n })
-    number_y = record {
-      stays = λ h. h;
-      holds = λ w h g. let k = parts_of t w g h in
-          inl (holds_parts (record t { y = Some n }) (record w { hand = with_number axis.Y n w.hand }) g (record { kept = k.kept; dim = k.dim; x = k.x; y = refl; z = k.z; m = k.m; parts = k.parts; all_in = k.all_in; open_ones = k.open_ones }));
-    }
-
-    pub number_z : Becomes false (λ w. w.grown ≡ None) (λ w. record w { hand = with_number axis.Z n w.hand }) t (record t { z = Some n })
-    number_z = record {
-      stays = λ h. h;
-      holds = λ w h g. let k = parts_of t w g h in
-          inl (holds_parts (record t { z = Some n }) (record w { hand = with_number axis.Z n w.hand }) g (record { kept = k.kept; dim = k.dim; x = k.x; y = k.y; z = refl; m = k.m; parts = k.parts; all_in = k.all_in; open_ones = k.open_ones }));
-    }
-
-    pub number_m : Becomes false (λ w. w.grown ≡ None) (λ w. record w { hand = with_number axis.M n w.hand }) t (record t { m = Some n })
-    number_m = record {
-      stays = λ h. h;
-      holds = λ w h g. let k = parts_of t w g h in
-          inl (holds_parts (record t { m = Some n }) (record w { hand = with_number axis.M n w.hand }) g (record { kept = k.kept; dim = k.dim; x = k.x; y = k.y; z = k.z; m = refl; parts = k.parts; all_in = k.all_in; open_ones = k.open_ones }));
-    }
-
   -- the coordinate at hand
   module _ (t : Tree T) (w : Growing T) (k : HoldsParts t w) where
     hand_coord : option_map numbers_of (coord_of t) ≡ coord w.hand
@@ -175,112 +111,6 @@ module _ {T : Type 0} where
     hand_in h = subst (λ d. HasDimIfAny d (coord_of t)) (sym k.dim) (coord_in t.x t.y t.z t.m w.dim
         (subst (λ o. IfSome o (λ c. dim_by t.z t.m ≡ w.dim)) (sym (sym (coord_numbers t.x t.y t.z t.m) ∙ hand_coord))
         (subst (λ e. IfSome (coord w.hand) (λ c. e ≡ w.dim)) (sym (ap (λ z. dim_by z t.m) k.z ∙ ap (λ m. dim_by w.hand.z m) k.m)) h)))
-
-  pub coord_ends : (t : Tree T) (v : Vec (Coord T) Global) (c : Coord T) → coord_of t ≡ Some c → v.items ≡ t.coords.items ++ (c ∷ []) → Becomes true HasNumbers with_coord t (record t { coords = v })
-  coord_ends t v c is items = record {
-    stays = λ h. h;
-    holds = λ w h (g, dims).
-        let k = parts_of t w g h in
-        let at_hand : Some (numbers_of c) ≡ coord w.hand = sym (ap (option_map numbers_of) is) ∙ hand_coord t w k in
-        let fits : HasDimIfAny t.dim (Some c) = subst (HasDimIfAny t.dim) is (hand_in t w k (if-any (coord w.hand) (dim_by w.hand.z w.hand.m ≡ w.dim) dims)) in
-        inl (holds_parts (record t { coords = v }) (with_coord w) g (record {
-          kept = k.kept;
-          dim = k.dim;
-          x = k.x;
-          y = k.y;
-          z = k.z;
-          m = k.m;
-          parts = (map-more numbers_of v.items t.coords.items c w.coords (numbers_of c) items k.parts.0 refl ∙ ap (λ o. w.coords ++ option_to_list o) at_hand, k.parts.1, k.parts.2, k.parts.3);
-          all_in = (all-more (HasDim t.dim) v.items t.coords.items c items k.all_in.0 fits, k.all_in.1, k.all_in.2, k.all_in.3);
-          open_ones = k.open_ones;
-        }));
-  }
-
-  pub no_coord : (t : Tree T) → coord_of t ≡ None → Becomes true HasNumbers with_coord t t
-  no_coord t is = record {
-    stays = λ h. h;
-    holds = λ w h (g, dims).
-        let k = parts_of t w g h in
-        let at_hand : None ≡ coord w.hand = sym (ap (option_map numbers_of) is) ∙ hand_coord t w k in
-        inl (holds_parts t (with_coord w) g (record {
-          kept = k.kept;
-          dim = k.dim;
-          x = k.x;
-          y = k.y;
-          z = k.z;
-          m = k.m;
-          parts = (k.parts.0 ∙ sym (append-nil w.coords) ∙ ap (λ o. w.coords ++ option_to_list o) at_hand, k.parts.1, k.parts.2, k.parts.3);
-          all_in = k.all_in;
-          open_ones = k.open_ones;
-        }));
-  }
-
-  pub point_ends : (t : Tree T) (v : Vec (HeldPoint (Coord T)) Global) (p : HeldPoint (Coord T)) → p.coord ≡ coord_of t → p.dim ≡ t.dim → v.items ≡ t.points.items ++ (p ∷ []) → Becomes true HasPoint with_point t (record t { points = v })
-  point_ends t v p is d items = record {
-    stays = λ h. h;
-    holds = λ w h (g, dims).
-        let k = parts_of t w g h in
-        let fits : HasDimIfAny t.dim p.coord = subst (HasDimIfAny t.dim) (sym is) (hand_in t w k dims) in
-        inl (holds_parts (record t { points = v }) (with_point w) g (record {
-          kept = k.kept;
-          dim = k.dim;
-          x = k.x;
-          y = k.y;
-          z = k.z;
-          m = k.m;
-          parts = (k.parts.0, map-more point_numbers v.items t.points.items p w.points (coord w.hand) items k.parts.1 (ap (option_map numbers_of) is ∙ hand_coord t w k), k.parts.2, k.parts.3);
-          all_in = (k.all_in.0, all-more (IsPointIn t.dim) v.items t.points.items p items k.all_in.1 (d, fits), k.all_in.2, k.all_in.3);
-          open_ones = k.open_ones;
-        }));
-  }
-
-  pub line_ends : (t : Tree T) (cs : Vec (Coord T) Global) (v : Vec (Held (Coord T)) Global) (l : Held (Coord T)) → cs.items ≡ [] → l.parts ≡ t.coords.items → l.dim ≡ t.dim → v.items ≡ t.lines.items ++ (l ∷ [])
-      → Becomes true (λ w. w.grown ≡ None) with_line t (record t { coords = cs; lines = v })
-  line_ends t cs v l none is d items = record {
-    stays = λ h. h;
-    holds = λ w h g.
-        let k = parts_of t w g h in
-        inl (holds_parts (record t { coords = cs; lines = v }) (with_line w) g (record {
-          kept = k.kept;
-          dim = k.dim;
-          x = k.x;
-          y = k.y;
-          z = k.z;
-          m = k.m;
-          parts = (ap (map numbers_of) none, k.parts.1, map-more line_string_numbers v.items t.lines.items l w.lines w.coords items k.parts.2 (ap (map numbers_of) is ∙ k.parts.0), k.parts.3);
-          all_in = (
-            all-of-none (HasDim t.dim) cs.items none,
-            k.all_in.1,
-            all-more (IsLineStringIn t.dim) v.items t.lines.items l items k.all_in.2 (d, subst (AllByRecursion (HasDim t.dim)) (sym is) k.all_in.0),
-            k.all_in.3,
-          );
-          open_ones = k.open_ones;
-        }));
-  }
-
-  pub area_ends : (t : Tree T) (ls : Vec (Held (Coord T)) Global) (v : Vec (Held (Held (Coord T))) Global) (y : Held (Held (Coord T))) → ls.items ≡ [] → y.parts ≡ t.lines.items → y.dim ≡ t.dim → v.items ≡ t.areas.items ++ (y ∷ [])
-      → Becomes true (λ w. w.grown ≡ None) (ended part.Area) t (record t { lines = ls; areas = v })
-  area_ends t ls v y none is d items = record {
-    stays = λ h. h;
-    holds = λ w h g.
-        let k = parts_of t w g h in
-        inl (holds_parts (record t { lines = ls; areas = v }) (ended part.Area w) g (record {
-          kept = k.kept;
-          dim = k.dim;
-          x = k.x;
-          y = k.y;
-          z = k.z;
-          m = k.m;
-          parts = (k.parts.0, k.parts.1, ap (map line_string_numbers) none, map-more polygon_numbers v.items t.areas.items y w.areas w.lines items k.parts.3 (ap (map line_string_numbers) is ∙ k.parts.2));
-          all_in = (
-            k.all_in.0,
-            k.all_in.1,
-            all-of-none (IsLineStringIn t.dim) ls.items none,
-            all-more (IsPolygonIn t.dim) v.items t.areas.items y items k.all_in.3 (d, subst (AllByRecursion (IsLineStringIn t.dim)) (sym is) k.all_in.2),
-          );
-          open_ones = k.open_ones;
-        }));
-  }
 
   -- a collection opens
   pub opens : (t : Tree T) (v : Vec (OpenCollection T) Global) (c : OpenCollection T) → c.dim ≡ t.dim → c.members.items ≡ [] → v.items ≡ t.outer.items ++ (c ∷ []) → Becomes true (MayOpen part.Collection) (opened part.Collection) t (record t { outer = v; dim = XY })
@@ -302,13 +132,6 @@ module _ {T : Type 0} where
         });
   }
 
-  -- the last collection that is open
-  pub last_frame : (cs before : List (OpenCollection T)) (c : OpenCollection T) (o : List (Frame T)) → HoldsFrames cs o → cs ≡ before ++ (c ∷ []) → (f : Frame T) × (o2 : List (Frame T)) × (o ≡ f ∷ o2) × HoldsFrame c f × HoldsFrames before o2
-  last_frame cs before c [] h e = absurd (none-last before c (sym e ∙ h))
-  last_frame cs before c (f ∷ o) (b, x, e2, hf, ho) e =
-      let (same, last) = last-same b before x c (sym e2 ∙ e) in
-      (f, o, refl, subst (λ c. HoldsFrame c f) last hf, subst (λ b. HoldsFrames b o) same ho)
-
   -- the last of several
   pub last_of : (cs before : List (OpenCollection T)) (c : OpenCollection T) (f : Frame T) (o : List (Frame T)) → HoldsFrames cs (f ∷ o) → cs ≡ before ++ (c ∷ []) → HoldsFrame c f × HoldsFrames before o
   last_of cs before c f o (b, x, e2, hf, ho) e =
@@ -326,112 +149,6 @@ module _ {T : Type 0} where
   gives_last t v c w items e = record {
     same = refl;
     gives = λ f o h. let (hf, ho) = last_of t.outer.items v.items c f o h items in (collected c f w hf e, ho);
-  }
-
-  -- the geometry that ended
-  pub point_given : (t : Tree T) (p : HeldPoint (Coord T)) (w : Wkt T) → t.last ≡ last.Point → p.coord ≡ coord_of t → p.dim ≡ t.dim → tree w ≡ trees.point p → Gives t w t
-  point_given t p w is c d e = record {
-    is_lost = refl;
-    gives = λ o v h.
-        let (value, fits, only, frames) = subst (λ l. HoldsEnded l t o v) is h.whole in (
-          record {
-            value = ap value_of e ∙ ap (λ c. Value.point p.dim (option_map numbers_of c)) c ∙ ap (λ d. Value.point d (option_map numbers_of (coord_of t))) d ∙ value;
-            uniform = subst IsUniform (sym e) (refl, subst (λ d. HasDimIfAny d p.coord) (sym d) (subst (HasDimIfAny t.dim) (sym c) fits));
-          },
-          only,
-          frames,
-        );
-  }
-
-  pub line_string_given : (t : Tree T) (cs : Vec (Coord T) Global) (l : Held (Coord T)) (w : Wkt T) → t.last ≡ last.LineString → cs.items ≡ [] → l.parts ≡ t.coords.items → l.dim ≡ t.dim → tree w ≡ trees.line_string l → Gives t w (record t { coords = cs })
-  line_string_given t cs l w is none ps d e = record {
-    is_lost = refl;
-    gives = λ o v h.
-        let (xs, value, only, frames) = subst (λ l. HoldsEnded l t o v) is h.whole in (
-          record {
-            value = ap value_of e ∙ ap (λ ps. Value.line_string l.dim (map numbers_of ps)) ps ∙ ap (λ xs. Value.line_string l.dim xs) only.0 ∙ ap (λ d. Value.line_string d xs) d ∙ value;
-            uniform = subst IsUniform (sym e) (refl, subst (λ d. AllByRecursion (HasDim d) l.parts) (sym d) (subst (AllByRecursion (HasDim t.dim)) (sym ps) h.all_in.0));
-          },
-          (ap (map numbers_of) none, only.1, only.2, only.3),
-          frames,
-        );
-  }
-
-  pub polygon_given : (t : Tree T) (ls : Vec (Held (Coord T)) Global) (y : Held (Held (Coord T))) (w : Wkt T) → t.last ≡ last.Polygon → ls.items ≡ [] → y.parts ≡ t.lines.items → y.dim ≡ t.dim → tree w ≡ trees.polygon y → Gives t w (record t { lines = ls })
-  polygon_given t ls y w is none ps d e = record {
-    is_lost = refl;
-    gives = λ o v h.
-        let (xs, value, only, frames) = subst (λ l. HoldsEnded l t o v) is h.whole in (
-          record {
-            value = ap value_of e ∙ ap (λ ps. Value.polygon y.dim (map line_string_numbers ps)) ps ∙ ap (λ xs. Value.polygon y.dim xs) only.2 ∙ ap (λ d. Value.polygon d xs) d ∙ value;
-            uniform = subst IsUniform (sym e) (refl, subst (λ d. AllByRecursion (IsLineStringIn d) y.parts) (sym d) (subst (AllByRecursion (IsLineStringIn t.dim)) (sym ps) h.all_in.2));
-          },
-          (only.0, only.1, ap (map line_string_numbers) none, only.3),
-          frames,
-        );
-  }
-
-  pub multi_point_given : (t : Tree T) (ps : Vec (HeldPoint (Coord T)) Global) (y : Held (HeldPoint (Coord T))) (w : Wkt T) → t.last ≡ last.MultiPoint → ps.items ≡ [] → y.parts ≡ t.points.items → y.dim ≡ t.dim → tree w ≡ trees.multi_point y → Gives t w (record t { points = ps })
-  multi_point_given t pv y w is none ps d e = record {
-    is_lost = refl;
-    gives = λ o v h.
-        let (xs, value, only, frames) = subst (λ l. HoldsEnded l t o v) is h.whole in (
-          record {
-            value = ap value_of e ∙ ap (λ ps. Value.multi_point y.dim (map point_numbers ps)) ps ∙ ap (λ xs. Value.multi_point y.dim xs) only.1 ∙ ap (λ d. Value.multi_point d xs) d ∙ value;
-            uniform = subst IsUniform (sym e) (subst (λ d. AllByRecursion (IsPointIn d) y.parts) (sym d) (subst (AllByRecursion (IsPointIn t.dim)) (sym ps) h.all_in.1));
-          },
-          (only.0, ap (map point_numbers) none, only.2, only.3),
-          frames,
-        );
-  }
-
-  pub multi_line_string_given : (t : Tree T) (ls : Vec (Held (Coord T)) Global) (y : Held (Held (Coord T))) (w : Wkt T) → t.last ≡ last.MultiLineString → ls.items ≡ [] → y.parts ≡ t.lines.items → y.dim ≡ t.dim → tree w ≡ trees.multi_line_string y → Gives t w (record t { lines = ls })
-  multi_line_string_given t ls y w is none ps d e = record {
-    is_lost = refl;
-    gives = λ o v h.
-        let (xs, value, only, frames) = subst (λ l. HoldsEnded l t o v) is h.whole in (
-          record {
-            value = ap value_of e ∙ ap (λ ps. Value.multi_line_string y.dim (map line_string_numbers ps)) ps ∙ ap (λ xs. Value.multi_line_string y.dim xs) only.2 ∙ ap (λ d. Value.multi_line_string d xs) d ∙ value;
-            uniform = subst IsUniform (sym e) (subst (λ d. AllByRecursion (IsLineStringIn d) y.parts) (sym d) (subst (AllByRecursion (IsLineStringIn t.dim)) (sym ps) h.all_in.2));
-          },
-          (only.0, only.1, ap (map line_string_numbers) none, only.3),
-          frames,
-        );
-  }
-
-  pub multi_polygon_given : (t : Tree T) (ys : Vec (Held (Held (Coord T))) Global) (y : Held (Held (Held (Coord T)))) (w : Wkt T) → t.last ≡ last.MultiPolygon → ys.items ≡ [] → y.parts ≡ t.areas.items → y.dim ≡ t.dim → tree w ≡ trees.multi_polygon y → Gives t w (record t { areas = ys })
-  multi_polygon_given t ys y w is none ps d e = record {
-    is_lost = refl;
-    gives = λ o v h.
-        let (xs, value, only, frames) = subst (λ l. HoldsEnded l t o v) is h.whole in (
-          record {
-            value = ap value_of e ∙ ap (λ ps. Value.multi_polygon y.dim (map polygon_numbers ps)) ps ∙ ap (λ xs. Value.multi_polygon y.dim xs) only.3 ∙ ap (λ d. Value.multi_polygon d xs) d ∙ value;
-            uniform = subst IsUniform (sym e) (subst (λ d. AllByRecursion (IsPolygonIn d) y.parts) (sym d) (subst (AllByRecursion (IsPolygonIn t.dim)) (sym ps) h.all_in.3));
-          },
-          (only.0, only.1, only.2, ap (map polygon_numbers) none),
-          frames,
-        );
-  }
-
-  pub collection_given : (t u : Tree T) (w : Wkt T) → t.last ≡ last.Collection → GivesLast t w u → Gives t w u
-  collection_given t u w is h = record {
-    is_lost = ap (λ t. t.is_lost) h.same;
-    gives = λ o v k.
-        let (f, value, only, frames) = subst (λ l. HoldsEnded l t o v) is k.whole in
-        let (of, left) = h.gives f o frames in (
-          record { value = of.value ∙ value; uniform = of.uniform },
-          subst (λ t. HasOnly t [] [] [] []) (sym h.same) only,
-          left,
-        );
-  }
-
-  pub no_members_given : (t : Tree T) (ws : Vec (Wkt T) Global) (w : Wkt T) → t.last ≡ last.NoMembers → ws.items ≡ [] → tree w ≡ trees.collection (trees_of (map tree ws.items)) t.dim → Gives t w t
-  no_members_given t ws w is none e = record {
-    is_lost = refl;
-    gives = λ o v h.
-        let (value, only, frames) = subst (λ l. HoldsEnded l t o v) is h.whole in
-        let empty : tree w ≡ trees.collection trees.no_trees t.dim = e ∙ ap (λ ws. trees.collection (trees_of (map tree ws)) t.dim) none in
-        (record { value = ap value_of empty ∙ value; uniform = subst IsUniform (sym empty) tt }, only, frames);
   }
 
   -- a member was put into the collection that was opened last
@@ -463,6 +180,23 @@ module _ {T : Type 0} where
           );
         });
   }
+
+  -- the same, with the place in the list of open ones
+  pub member_put : (t : Tree T) (c : OpenCollection T) (list : Vec (Wkt T) Global) (w : Wkt T) (n : ℕ) → n + 1 ≡ length t.outer.items → c ≡ get_or t.outer.items n c → list.items ≡ c.members.items ++ (w ∷ [])
+      → Joins t w (record t { dim = XY; x = None; y = None; z = None; m = None; outer = with_item t.outer n (record { members = list; dim = c.dim }) })
+  member_put t c list w n long at members = record {
+    stays = λ h. h;
+    joins = λ f o value kept only frames is.
+        let (before, x, items, hf, ho) = frames in
+        let count : length before ≡ n = omega (arith, ap length items, length-append before (x ∷ []), long) in
+        let same : c ≡ x = at ∙ ap (λ l. get_or l n c) items ∙ get_or_at before x [] c n count in
+        let d : OpenCollection T = record { members = list; dim = c.dim } in
+        (member_joins t (with_item t.outer n d) c d before w (items ∙ ap (λ x. before ++ (x ∷ [])) (sym same)) (ap (λ l. slice_set l n d) items ∙ set_at before x [] d n count) refl members).joins f o value kept only frames is;
+  }
+
+  pub none_open : {A : Type 0} (o : Option A) (cs : List (OpenCollection T)) (n : ℕ) → n ≡ length cs → (0 < n → IsSome o) → o ≡ None → cs ≡ []
+  none_open o [] n e h none = refl
+  none_open o (c ∷ cs) n e h none = absurd (some_none o none (h (omega (arith, e))))
 
   -- none is open
   pub none_joins : (t u : Tree T) (w : Wkt T) → t.outer.items ≡ [] → u.is_lost ≡ t.is_lost → Joins t w u
@@ -579,21 +313,6 @@ module _ {T : Type 0} where
         }));
   }
 
-  -- a collection without members
-  pub no_members : (t : Tree T) → Becomes false (MayBeEmpty part.Collection) (λ w. ended part.Collection (without_items part.Collection w)) t (record t { x = None; last = last.NoMembers })
-  no_members t = record {
-    stays = λ h. h;
-    holds = λ w h (e, may).
-        let k = parts_of t w (ap (λ w. w.grown) e) h in
-        inl (record { kept = k.kept; all_in = k.all_in; whole = (ap (λ d. Value.collection d Values.no_values) k.dim, bare_of t w w.dim e k, k.open_ones) });
-  }
-
-  -- a part without items, but no collection
-  pub without_x : (t : Tree T) (w : Growing T) → w.grown ≡ None → Holds t w → Holds (record t { x = None }) (record w { hand = record w.hand { x = None } })
-  without_x t w g h =
-      let k = parts_of t w g h in
-      holds_parts (record t { x = None }) (record w { hand = record w.hand { x = None } }) g (record { kept = k.kept; dim = k.dim; x = refl; y = k.y; z = k.z; m = k.m; parts = k.parts; all_in = k.all_in; open_ones = k.open_ones })
-
   pub gives_none : (t : Tree T) (v : Vec (OpenCollection T) Global) (w : Wkt T) → t.outer.items ≡ [] → GivesLast t w (record t { outer = v })
   gives_none t v w none = record { same = refl; gives = λ f o (before, c, items, hf, ho). absurd (none-last before c (sym items ∙ none)) }
 
@@ -628,23 +347,6 @@ module _ {T : Type 0} where
   pub no_opening : (t : Tree T) (p : Part) → (p ≡ part.Collection → ⊥) → Grew t (Event.Open p ∷ []) t
   no_opening t part.Collection not = absurd (not refl)
   no_opening t p not = record { stays = λ h. h; holds = λ w h m. inl h }
-
-  -- the same, with the place in the list of open ones
-  pub member_put : (t : Tree T) (c : OpenCollection T) (list : Vec (Wkt T) Global) (w : Wkt T) (n : ℕ) → n + 1 ≡ length t.outer.items → c ≡ get_or t.outer.items n c → list.items ≡ c.members.items ++ (w ∷ [])
-      → Joins t w (record t { dim = XY; x = None; y = None; z = None; m = None; outer = with_item t.outer n (record { members = list; dim = c.dim }) })
-  member_put t c list w n long at members = record {
-    stays = λ h. h;
-    joins = λ f o value kept only frames is.
-        let (before, x, items, hf, ho) = frames in
-        let count : length before ≡ n = omega (arith, ap length items, length-append before (x ∷ []), long) in
-        let same : c ≡ x = at ∙ ap (λ l. get_or l n c) items ∙ get_or_at before x [] c n count in
-        let d : OpenCollection T = record { members = list; dim = c.dim } in
-        (member_joins t (with_item t.outer n d) c d before w (items ∙ ap (λ x. before ++ (x ∷ [])) (sym same)) (ap (λ l. slice_set l n d) items ∙ set_at before x [] d n count) refl members).joins f o value kept only frames is;
-  }
-
-  pub none_open : {A : Type 0} (o : Option A) (cs : List (OpenCollection T)) (n : ℕ) → n ≡ length cs → (0 < n → IsSome o) → o ≡ None → cs ≡ []
-  none_open o [] n e h none = refl
-  none_open o (c ∷ cs) n e h none = absurd (some_none o none (h (omega (arith, e))))
 
   -- a part that ends is one of several
   pub line_by : (p : Part) (t u : Tree T) → (p ≡ part.Ring) ⊎ ((p ≡ part.Line) ⊎ (p ≡ part.AreaRing)) → Becomes true (λ w. w.grown ≡ None) with_line t u → Becomes (lists_end p) (MayEnd p) (ended p) t u

@@ -13,6 +13,10 @@ mod Depths
 mod TokenViews
 mod Fronting
 mod ByteViews
+mod Leading
+mod ByteSteps
+mod TakeNext
+mod HeadSteps
 mod Grown
 mod Holding
 mod Valued

@@ -1,5 +1,5 @@
 -- What is known of bytes as a source.
-use Rattle.std.specs.Prelude.{◌≡◌, ◌≢◌, ℕ, ◌≤◌, length, get_or, List, Bool, refl}
+use Rattle.std.specs.Prelude.{◌≡◌, ◌≢◌, ℕ, ◌≤◌, length, get_or, List, Bool, true, false, refl}
 use Rattle.std.proofs.Math.Nat.{le_refl}
 use Rattle.wkt_num.specs.Bytes.{Lexeme, Mark, White}
 use Rattle.wkt_events.specs.Left.{class_in, left_placed, TakesOne}
@@ -7,6 +7,8 @@ use Rattle.wkt_events.specs.Walking.{Legible}
 use Rattle.wkt_machine.specs.Sight.{sight}
 use Rattle.wkt_machine.specs.View.{View}
 use Rattle.wkt_machine.specs.declared.bytes.Bytes.{Bytes}
+use Rattle.wkt_machine.specs.declared.part.Part.{Part}
+use Rattle.wkt_machine.specs.declared.part.Part.TheVariants as part
 use Rattle.wkt_machine.specs.declared.machine.Seen.{Seen}
 use Rattle.wkt_machine.specs.declared.machine.Seen.TheVariants as seen
 
@@ -44,3 +46,13 @@ bytes_view feed = record {
   legible = λ s. Legible feed s.text.now s.at;
   looked = λ s. IsLooked feed s.text.now s.at s.end;
 }
+
+-- whether coordinates stand in the parentheses of a part
+abbrev pub has_coordinates : Part → Bool
+has_coordinates part.Point = true
+has_coordinates part.LineString = true
+has_coordinates part.Member = true
+has_coordinates part.Ring = true
+has_coordinates part.Line = true
+has_coordinates part.AreaRing = true
+has_coordinates p = false

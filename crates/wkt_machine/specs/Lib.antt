@@ -13,6 +13,8 @@ pub mod Goes
 pub mod NothingMaker
 pub mod TokensView
 pub mod BytesView
+pub mod Leads
+pub mod HeadBytes
 pub mod Growing
 pub mod Trees
 pub mod Growers

@@ -1,6 +1,5 @@
 -- What a source is read as.
 use Rattle.std.specs.Prelude.{◌≡◌, ℕ, List, [], ◌∷◌, ◌++◌, Option, Some, Result, Ok, Err, false}
-use Rattle.std.specs.declared.alloc.AllocError.{AllocError}
 use Rattle.wkt_access.specs.Values.{Value}
 use Rattle.wkt_types.specs.Tree.{Tree as Kept, tree}
 use Rattle.wkt_types.specs.Values.{IsWktOf}

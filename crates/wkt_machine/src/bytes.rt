@@ -5,6 +5,8 @@ ghost use Rattle.wkt_machine.specs.BytesView.{IsDark, IsUnmarked, Sees};
 ghost use Rattle.wkt_machine.specs.Sight.{seen_word};
 
 use crate::builder::Builder;
+use crate::coordinates::{coordinates, has_coordinates};
+use crate::heads::header;
 use crate::machine::{Machine, Seen};
 use crate::part::Axis;
 use crate::source::{Source, Walk, Walked};
@@ -120,12 +122,19 @@ impl<'a, T: WktNum, const FEED_ENDS: bool> Walk<T> for Bytes<'a, FEED_ENDS> {
     #[inline(always)]
     #[tactic(auto, using(crate::proofs::TokenViews::kind_open, crate::proofs::TokenViews::kind_sound))]
     fn header<B: Builder<T>>(self, machine: Machine, builder: B) -> Walked<Self, B> {
-        machine.step(self, builder)
+        if self.at > self.text.len() {
+            return machine.step(self, builder);
+        }
+        header::<T, B, FEED_ENDS>(machine, self, builder)
     }
 
     #[inline(always)]
     #[tactic(auto, using(crate::proofs::TokenViews::x_open, crate::proofs::TokenViews::x_sound))]
     fn coordinates<B: Builder<T>>(self, machine: Machine, builder: B) -> Walked<Self, B> {
-        machine.step(self, builder)
+        // A point without parentheses ends with its coordinate.
+        if self.at > self.text.len() || !has_coordinates(machine.part) {
+            return machine.step(self, builder);
+        }
+        coordinates::<T, B, FEED_ENDS>(machine, self, builder)
     }
 }

@@ -5,8 +5,10 @@
 
 pub mod builder;
 pub mod bytes;
+mod coordinates;
 pub mod drive;
 pub mod front;
+mod heads;
 pub mod laws;
 pub mod machine;
 pub mod nothing;
@@ -14,7 +16,7 @@ mod part;
 pub mod source;
 pub mod step;
 pub mod tokens;
-pub mod tree;
+mod tree;
 pub mod value;
 
 pub use builder::Builder;
@@ -25,7 +27,6 @@ pub use nothing::Nothing;
 pub use part::{Axis, Part};
 pub use source::{At, Source, Walk, Walked};
 pub use tokens::OneByOne;
-pub use tree::{Grower, Tree};
 pub use value::{Unread, read};
 
 #[cfg(test)]

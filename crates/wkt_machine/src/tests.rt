@@ -4,7 +4,7 @@ use std::process::Abort;
 use wkt_num::Decimal;
 
 // What each text is; nothing where no beginning of it is a geometry.
-const FRONTS: [(&str, Option<usize>); 18] = [
+const FRONTS: [(&str, Option<usize>); 29] = [
     ("POINT(1 2)", Some(10)),
     ("point z ( 1 2.50 -3 ) and more", Some(21)),
     ("POINT EMPTY", Some(11)),
@@ -25,6 +25,20 @@ const FRONTS: [(&str, Option<usize>); 18] = [
     ("MULTIPOINT(1 2,)", None),
     ("POLYGON(1 2)", None),
     ("GEOMETRYCOLLECTION(1 2)", None),
+    ("  POINT (1 2)  ", Some(13)),
+    ("POINT(1 2 ) and what follows", Some(11)),
+    ("POINT(1\n2)", Some(10)),
+    ("pointzm(1 2 3 4)", Some(16)),
+    ("LINESTRING (1 2 , 3 4) and more", Some(22)),
+    ("MULTILINESTRING ((1 2, 3 4), EMPTY) x", Some(35)),
+    ("MULTIPOLYGON Z (((0 0 1,1 0 1)))", Some(32)),
+    (
+        "GEOMETRYCOLLECTION (MULTIPOINT(1 2), polygon((1 2)))",
+        Some(52),
+    ),
+    ("LINESTRINGS(1 2,3 4) is no kind", None),
+    ("POLYGON ZM((1 2 3)) lacks a number", None),
+    ("POINT(1 2,3 4) has a point more", None),
     ("", None),
 ];
 

@@ -88,12 +88,18 @@ fn multi_line_string(alloc: Global, parts: &[&[Coord<i32>]], dim: Dimension) -> 
     )))
 }
 
-fn multi_polygon(alloc: Global, areas: &[&[&[Coord<i32>]]], dim: Dimension) -> Made {
+fn area(alloc: Global, rings: &[&[Coord<i32>]]) -> Result<Polygon<i32>, AllocError> {
+    Ok(Polygon::new(
+        lines(alloc, rings, Dimension::XY)?,
+        Dimension::XY,
+    ))
+}
+
+fn multi_polygon(alloc: Global, first: Polygon<i32>, second: Polygon<i32>) -> Made {
     let mut all = Vec::new(alloc);
-    for rings in areas {
-        all.push(Polygon::new(lines(alloc, rings, dim)?, dim))?;
-    }
-    Ok(Wkt::from(MultiPolygon::new(all, dim)))
+    all.push(first)?;
+    all.push(second)?;
+    Ok(Wkt::from(MultiPolygon::new(all, Dimension::XY)))
 }
 
 fn collection(first: Made, second: Made, alloc: Global, dim: Dimension) -> Made {
@@ -172,10 +178,29 @@ fn multi_polygons(rt: HostRuntime) -> Result<(), AllocError> {
     let alloc = rt.alloc();
     let ring: &[Coord<i32>] = &[xy(0, 0), xy(1, 0), xy(0, 1), xy(0, 0)];
     let hole: &[Coord<i32>] = &[xy(2, 2)];
-    let areas: [&[&[Coord<i32>]]; 3] = [&[ring, hole], &[], &[&[], ring]];
-    let text = "MULTIPOLYGON(((0 0,1 0,0 1,0 0),(2 2)),EMPTY,(EMPTY,(0 0,1 0,0 1,0 0)))";
-    is_read(&rt, alloc, text, multi_polygon(alloc, &areas, Dimension::XY))?;
-    is_read(&rt, alloc, "MULTIPOLYGON EMPTY", multi_polygon(alloc, &[], Dimension::XY))
+    let first = area(alloc, &[ring, hole])?;
+    let text = "MULTIPOLYGON(((0 0,1 0,0 1,0 0),(2 2)),EMPTY)";
+    is_read(
+        &rt,
+        alloc,
+        text,
+        multi_polygon(alloc, first, area(alloc, &[])?),
+    )?;
+    let second = area(alloc, &[&[], ring])?;
+    let text = "MULTIPOLYGON(EMPTY,(EMPTY,(0 0,1 0,0 1,0 0)))";
+    is_read(
+        &rt,
+        alloc,
+        text,
+        multi_polygon(alloc, area(alloc, &[])?, second),
+    )
+}
+
+#[test]
+fn no_polygons(rt: HostRuntime) -> Result<(), AllocError> {
+    let alloc = rt.alloc();
+    let none = Wkt::from(MultiPolygon::new(Vec::new(alloc), Dimension::XYM));
+    is_read(&rt, alloc, "MULTIPOLYGON M EMPTY", Ok(none))
 }
 
 // A member's numbers aren't those of the one before it, and each member has its own dimension.

@@ -2,9 +2,9 @@
 use Rattle.std.proofs.Common.{◌≡◌, ◌+◌, ◌-◌, ◌<◌, ◌++◌, ◌∙◌, inl, inr, refl, length, take, drop, ap, sym, subst, arith, length-drop, length-take, take_all}
 use Rattle.wkt_lines.specs.Laws.{IsWhole}
 use Rattle.wkt_lines.specs.Output.{IsOutput}
-use Rattle.wkt_c.specs.Answer.{read_at, print_at}
-use Rattle.wkt_c.specs.Chunks.{AreWholeLines, IsFirstLine}
-use Rattle.wkt_c.proofs.Pieces.{more_output, whole-pick, no-output}
+use Rattle.wkt_calls.specs.Answer.{read_at, print_at}
+use Rattle.wkt_calls.specs.Chunks.{AreWholeLines, IsFirstLine}
+use Rattle.wkt_calls.proofs.Pieces.{more_output, whole-pick, no-output}
 use Rattle.wkt_c.proofs.chunks.answer_some.Goals as goal
 
 pub returns-then-done-eq0-clause-answers : goal.returns-then-done-eq0-clause-answers

@@ -1,7 +1,7 @@
 -- The rows so far are answered, and the next lies within the texts.
 use Rattle.std.proofs.Common.{◌≡◌, ◌+◌, ◌≤◌, ap, sym, length, subst, arith}
 use Rattle.std.specs.List.{slice_index}
-use Rattle.wkt_c.specs.Answer.{read_at, print_at, places_in, asks_whole}
+use Rattle.wkt_calls.specs.Answer.{read_at, print_at, places_in, asks_whole}
 use Rattle.wkt_c.specs.Column.{row_count, row, is_null, IsRowAnswer}
 use Rattle.wkt_c.specs.Rows.{HoldsAnswers}
 use Rattle.wkt_c.proofs.Columns.{below, no-rows, one-more}

@@ -1,6 +1,6 @@
 use Rattle.std.proofs.Common.{◌+◌, ◌*◌, ◌≤◌, length}
 use Rattle.std.specs.List.{slice_index}
-use Rattle.wkt_c.specs.Answer.{read_at, print_at, places_in, asks_whole}
+use Rattle.wkt_calls.specs.Answer.{read_at, print_at, places_in, asks_whole}
 use Rattle.wkt_c.specs.Rows.{HoldsAnswers}
 use Rattle.wkt_c.proofs.column.answers.Given as goal
 

@@ -1,6 +1,6 @@
 -- The rows so far have their arrays, and the next lies within the texts.
 use Rattle.std.proofs.Common.{◌≡◌, ◌+◌, subst, arith}
-use Rattle.wkt_c.specs.Answer.{places_in, asks_whole}
+use Rattle.wkt_calls.specs.Answer.{places_in, asks_whole}
 use Rattle.wkt_c.specs.Column.{row_count, row, is_null}
 use Rattle.wkt_c.specs.ColumnArrays.{IsRowArrays}
 use Rattle.wkt_c.specs.ArrayRows.{HoldsArrays}

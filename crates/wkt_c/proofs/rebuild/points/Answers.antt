@@ -1,7 +1,7 @@
 -- The points so far have the coordinates of their rings.
 use Rattle.std.proofs.Common.{rules, ◌≡◌, ◌∙◌, ◌++◌, ◌∷◌, [], map, ap, arith}
 use Rattle.std.proofs.lemmas.List.{map_push}
-use Rattle.wkt_c.specs.Arrays.{member_numbers}
+use Rattle.wkt_c.specs.Texts.{member_numbers}
 use Rattle.wkt_c.proofs.Offsets.{rings-step, rings-whole}
 use Rattle.wkt_c.proofs.Refused.{not-there, passed-on, no-small-rings, a-small-ring}
 use Rattle.wkt_num.specs.Decimal.{IsUnits}

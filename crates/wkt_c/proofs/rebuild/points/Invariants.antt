@@ -1,5 +1,5 @@
 use Rattle.std.proofs.Common.{◌≡◌, ◌-◌, ℤ, List, map, take}
-use Rattle.wkt_c.specs.Arrays.{member_numbers}
+use Rattle.wkt_c.specs.Texts.{member_numbers}
 use Rattle.wkt_c.specs.Rebuilding.{IsPolygon}
 use Rattle.std.specs.List.{AllByRecursion}
 use Rattle.wkt_num.specs.Decimal.{IsUnits}

@@ -2,7 +2,7 @@
 use Rattle.std.proofs.Common.{rules, ◌≡◌, ◌∙◌, ◌++◌, ◌∷◌, [], ℤ, List, IfErr, map, ap, sym, subst, arith}
 use Rattle.std.proofs.lemmas.List.{map_push}
 use Rattle.wkt_types.specs.Values.{line_string_numbers, polygon_numbers}
-use Rattle.wkt_c.specs.Answer.{IsRefused}
+use Rattle.wkt_c.specs.Written.{IsRefused}
 use Rattle.wkt_c.specs.Rebuilding.{IsPolygon}
 use Rattle.wkt_c.proofs.Refused.{passed-on, polygon-at, polygons-step, polygons-whole}
 use Rattle.wkt_num.specs.Decimal.{IsUnits}

@@ -2,7 +2,7 @@
 use Rattle.std.proofs.Common.{rules, ◌≡◌, IfErr, refl}
 use Rattle.wkt_access.specs.declared.dimensions.Dimension.{Dimension}
 use Rattle.wkt_read.specs.Kinds.{dim_of}
-use Rattle.wkt_c.specs.Answer.{dimension_number}
+use Rattle.wkt_calls.specs.Answer.{dimension_number}
 use Rattle.wkt_num.specs.Decimal.{IsUnits}
 use Rattle.wkt_c.proofs.Fitting.{point-formed, line-formed, polygon-formed, multi_point-formed, multi_line_string-formed, multi_polygon-formed}
 use Rattle.wkt_c.proofs.Refused.{not-there, passed-on}

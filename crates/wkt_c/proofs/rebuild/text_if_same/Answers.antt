@@ -1,7 +1,7 @@
 -- Arrays that the geometry doesn't have again are of none.
 use Rattle.std.proofs.Common.{◌≡◌, refl, ap, sym, ◌∙◌, inr, arith}
 use Rattle.wkt_types.specs.Tree.{tree}
-use Rattle.wkt_c.specs.Answer.{kind_number, dimension_number}
+use Rattle.wkt_calls.specs.Answer.{kind_number, dimension_number}
 use Rattle.wkt_c.proofs.Handing.{arrays-of, text-of, match-map, ok-of, err-of, sound, same-arrays, held, same-kind, same-dimension}
 use Rattle.wkt_c.proofs.Refused.{passed-on}
 use Rattle.wkt_c.proofs.rebuild.text_if_same.Goals as goal

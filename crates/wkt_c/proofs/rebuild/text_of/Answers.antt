@@ -1,6 +1,6 @@
 -- Offsets that go up are those of a geometry, or of none.
 use Rattle.std.proofs.Common.{inr, refl}
-use Rattle.wkt_c.specs.Arrays.{joined}
+use Rattle.wkt_calls.specs.Arrays.{joined}
 use Rattle.wkt_c.proofs.Handing.{match-of}
 use Rattle.wkt_c.proofs.Offsets.{goes-up}
 use Rattle.wkt_c.proofs.Refused.{passed-on}

@@ -1,9 +1,15 @@
--- The coordinates so far are those of the first ones, without z and m.
-use Rattle.std.proofs.Common.{refl}
+-- The coordinates so far are those of the first ones, without z and m, and there is room for all.
+use Rattle.std.proofs.Common.{refl, arith}
 use Rattle.wkt_flat.proofs.Members.{grown}
 use Rattle.wkt_convert.specs.Back.{flat_xy}
 use Rattle.wkt_convert.proofs.back.coords.Goals as goal
 
 pub loop-c-preserved : goal.loop-c-preserved
 loop-c-preserved g c =
-    grown flat_xy _ _ _ _ _ _ c.loop-c-test.true c.c-item.is c.loop-c.invariant refl c.in_ok-push.ensures.items
+    let e = c.push_reserved.ensures in
+    let was = c.loop-c.invariant in
+    record {
+      items = grown flat_xy _ _ _ _ _ _ c.loop-c-test.true c.c-item.is was.items refl e.items;
+      count = omega (arith, e.len, was.count);
+      room = omega (arith, e.capacity, was.room);
+    }

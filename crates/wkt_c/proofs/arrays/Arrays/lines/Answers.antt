@@ -2,7 +2,7 @@
 use Rattle.std.proofs.Common.{rules, map, arith}
 use Rattle.wkt_types.specs.Values.{line_string_numbers}
 use Rattle.wkt_types.specs.Coords.{numbers_of}
-use Rattle.wkt_c.specs.Arrays.{joined}
+use Rattle.wkt_calls.specs.Arrays.{joined}
 use Rattle.wkt_c.proofs.Large.{full-in, err-map, in-mapped}
 use Rattle.wkt_c.proofs.Steps.{rings-more}
 use Rattle.wkt_c.proofs.arrays.Arrays.lines.Goals as goal

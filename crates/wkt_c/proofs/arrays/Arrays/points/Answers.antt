@@ -1,6 +1,7 @@
 -- The points so far are rings, in order.
 use Rattle.std.proofs.Common.{rules, arith}
-use Rattle.wkt_c.specs.Arrays.{joined, member_numbers}
+use Rattle.wkt_calls.specs.Arrays.{joined}
+use Rattle.wkt_c.specs.Texts.{member_numbers}
 use Rattle.wkt_c.proofs.Large.{full-in, err-map, in-mapped}
 use Rattle.wkt_c.proofs.Steps.{rings-more}
 use Rattle.wkt_c.proofs.arrays.Arrays.points.Goals as goal

@@ -1,5 +1,5 @@
 use Rattle.std.proofs.Common.{map, take}
-use Rattle.wkt_c.specs.Arrays.{member_numbers}
+use Rattle.wkt_c.specs.Texts.{member_numbers}
 use Rattle.wkt_c.specs.Growing.{AddsRings}
 use Rattle.wkt_c.proofs.arrays.Arrays.points.Given as goal
 

@@ -1,7 +1,7 @@
 -- The polygons so far are there with their rings, in order.
 use Rattle.std.proofs.Common.{rules, map, arith}
 use Rattle.wkt_types.specs.Values.{line_string_numbers, polygon_numbers}
-use Rattle.wkt_c.specs.Arrays.{numbers_in}
+use Rattle.wkt_calls.specs.Arrays.{numbers_in}
 use Rattle.wkt_c.proofs.Large.{full-in, err-map, in-polygons}
 use Rattle.wkt_c.proofs.Steps.{polygons-more}
 use Rattle.wkt_c.proofs.arrays.Arrays.polygons.Goals as goal

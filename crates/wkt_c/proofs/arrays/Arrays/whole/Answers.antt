@@ -1,7 +1,8 @@
 -- The arrays are those of the geometry, by its kind; a collection has none.
 use Rattle.std.proofs.Common.{rules, map, [], IfErr}
 use Rattle.wkt_types.specs.Values.{polygon_numbers}
-use Rattle.wkt_c.specs.Arrays.{member_numbers, numbers_in}
+use Rattle.wkt_c.specs.Texts.{member_numbers}
+use Rattle.wkt_calls.specs.Arrays.{numbers_in}
 use Rattle.wkt_c.specs.Growing.{IsFull}
 use Rattle.wkt_c.proofs.Large.{err-map, one-unheld}
 use Rattle.wkt_c.proofs.Steps.{ok-map, whole-one}

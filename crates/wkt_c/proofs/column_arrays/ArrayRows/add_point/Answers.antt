@@ -1,5 +1,5 @@
 -- A point is followed by more than it may be, or has its arrays.
-use Rattle.wkt_c.specs.Answer.{places_in, asks_whole}
+use Rattle.wkt_calls.specs.Answer.{places_in, asks_whole}
 use Rattle.std.proofs.Common.{refl}
 use Rattle.wkt_c.proofs.Handing.{match-map}
 use Rattle.wkt_c.proofs.ArrayColumns.{longer-arrays}

@@ -1,9 +1,0 @@
--- As many places as are asked for.
-use Rattle.std.proofs.Common.{subst}
-use Rattle.wkt_c.specs.Answer.{read_at, print_at}
-use Rattle.wkt_c.specs.Calls.{WritesOrRefuses}
-use Rattle.wkt_c.proofs.canonical.write_in.Goals as goal
-
-pub returns-clause-canonical : goal.returns-clause-canonical
-returns-clause-canonical c =
-    subst (λ p. WritesOrRefuses (read_at p) (print_at p) c.args.text.now c.write_or_refuse_at.new.room c.write_or_refuse_at.result) c.places_of.ensures c.write_or_refuse_at.ensures.canonical

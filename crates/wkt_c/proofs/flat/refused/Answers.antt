@@ -1,8 +1,0 @@
--- Bytes that are text have no front.
-use Rattle.std.proofs.Common.{sym, subst}
-use Rattle.wkt_read.specs.Front.{HasNoFront}
-use Rattle.wkt_c.specs.Answer.{read_at}
-use Rattle.wkt_c.proofs.flat.refused.Goals as goal
-
-pub refusal-requires : goal.refusal-requires
-refusal-requires g c = subst (HasNoFront (read_at g.row.D)) (sym c.in-Ok.ensures.cases.0) (c.requires c.in-Ok.ensures.cases.1)

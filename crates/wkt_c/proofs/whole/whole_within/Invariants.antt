@@ -1,9 +1,0 @@
--- The place from which the search goes back stays within the rest.
-use Rattle.std.proofs.Common.{◌≤◌, length}
-use Rattle.wkt_c.proofs.whole.whole_within.Given as goal
-
-abbrev pub invariant-back : goal.invariant-back
-invariant-back l = l.at ≤ length l.rest
-
-abbrev pub decreases-back : goal.decreases-back
-decreases-back l = l.at

@@ -1,0 +1,10 @@
+pub mod Handing
+pub mod Tails
+pub mod Filled
+pub mod FlatPoints
+pub mod Pieces
+pub mod Calls
+pub mod Blames
+pub mod Padded
+pub mod AsciiWindows
+pub mod Copied

@@ -1,0 +1,95 @@
+-- What stands behind a NUL is in no front.
+use Rattle.std.proofs.Common.{◌≡◌, ◌+◌, ◌<◌, inl, inr, ℕ, zero, suc, get_or, replicate, take, drop, length-drop, IsUtf8, List, [], ◌∷◌, ◌++◌, Option, refl, sym, ap, ◌∙◌, subst, length, arith, ◌≤◌}
+use Rattle.std.specs.Str.{IsAscii}
+use Rattle.std.proofs.lemmas.List.{get_or-drop}
+use Rattle.std.proofs.lemmas.Str.{IsUtf8-append, IsUtf8-from_ascii, IsAscii-take, IsAscii-drop}
+use Rattle.std.proofs.Math.Seq.{take-append-add, take-append_seam}
+use Rattle.wkt_num.specs.Bytes.{Lexeme, class_of}
+use Rattle.wkt_access.specs.Values.{Value}
+use Rattle.wkt_read.specs.Front.{Front, HasNoFront}
+use Rattle.wkt_read.specs.Grammar.{StandFor}
+use Rattle.wkt_read.specs.Placed.{Placed, lexemes_of, end_after, AreEnds, joined, after_run, front, placed_from, placed}
+use Rattle.wkt_read.proofs.LawLemmas.FrontEnds.{front-of-lexemes}
+use Rattle.wkt_read.proofs.LawLemmas.Fronts.{taken_begin, front_one}
+use Rattle.wkt_read.proofs.LawLemmas.Splits.{split_one}
+use Rattle.wkt_read.proofs.TokenizerLemmas.Placings.{placed-split, placed-ends}
+use Rattle.wkt_calls.specs.Calls.{IsWalkedFor}
+
+front-nul : (at : ℕ) (text more : List ℕ) → front at (text ++ (0 ∷ more)) ≡ front at text
+unfolding front class_of
+front-nul at [] more = refl
+front-nul at (b ∷ text) more = ap (λ r. joined (class_of b) b at r.0 r.1) (front-nul (suc at) text more)
+
+placed-nul : (text more : List ℕ) → placed (text ++ (0 ∷ more)) ≡ placed text
+unfolding placed_from
+placed-nul text more = ap (λ r. after_run 0 r.0 r.1) (front-nul 0 text more)
+
+-- some first lexemes with their ends
+split-placed : (ps : List Placed) (ls more : List Lexeme) → lexemes_of ps ≡ ls ++ more →
+    (given : List Placed) × (later : List Placed) × (ps ≡ given ++ later) × (lexemes_of given ≡ ls)
+split-placed ps [] more e = ([], ps, refl, refl)
+split-placed [] (l ∷ ls) more e = cc
+split-placed (p ∷ ps) (l ∷ ls) more e =
+    let tail : lexemes_of ps ≡ ls ++ more = cc in
+    let (given, later, is, same) = split-placed ps ls more tail in
+    (p ∷ given, later, cc, cc)
+
+-- texts of the same lexemes have the same fronts
+same-front : {N : Type 0} (read : List ℕ → Option N) (a b : List ℕ) → placed a ≡ placed b → (v : Value N) (end : ℕ) → Front read a v end → Front read b v end
+same-front read a b e v end f =
+    let (more, is) = taken_begin a f.rest f.lexemes f.taken in
+    let (given, later, parts, same) = split-placed (placed a) f.lexemes more (split_one a _ _ (placed-split a) is) in
+    let stands : StandFor read (lexemes_of given) v = subst (λ l. StandFor read l v) (sym same) f.reads in
+    let here : Front read a v (end_after 0 given) = front-of-lexemes read a given later v (subst (AreEnds a) parts (placed-ends a)) stands in
+    let there : Front read b v (end_after 0 given) = front-of-lexemes read b given later v (subst (AreEnds b) (sym e ∙ parts) (placed-ends b)) stands in
+    subst (Front read b v) (sym (front_one read a v v end (end_after 0 given) f here).1) there
+
+-- a text, and what stands behind a NUL after it, have the same fronts
+module _ {N : Type 0} (read : List ℕ → Option N) (text walked : List ℕ) (walks : IsWalkedFor text walked) where
+  same-placed : placed walked ≡ placed text
+  same-placed = elim walks [ inl e ↦ ap placed e | inr h ↦ ap placed h.1 ∙ placed-nul text h.0 ]
+
+  pub front-walked : (v : Value N) (end : ℕ) → Front read walked v end → Front read text v end
+  front-walked v end f = same-front read walked text same-placed v end f
+
+  pub none-walked : HasNoFront read walked → HasNoFront read text
+  none-walked none v end f = none v end (same-front read text walked (sym same-placed) v end f)
+
+-- where a front ends
+pub front-inside : {N : Type 0} (read : List ℕ → Option N) (text : List ℕ) (v : Value N) (end : ℕ) → Front read text v end → end ≤ length text
+front-inside read text v end f = omega (arith, f.ends)
+
+abbrev the-zero : ℕ
+the-zero = 0
+
+-- cleared bytes
+pub zeros-at : (n i : ℕ) → get_or (replicate n (the-zero)) i 0 ≡ the-zero
+zeros-at zero i = refl
+zeros-at (suc n) zero = refl
+zeros-at (suc n) (suc i) = zeros-at n i
+
+zero-first : (k : ℕ) (xs : List ℕ) → 0 < length xs → ((i : ℕ) → get_or xs i 0 ≡ the-zero) → (more : List ℕ) × (take (suc k) xs ≡ 0 ∷ more)
+zero-first k [] some zeros = absurd (omega (arith, some))
+zero-first k (x ∷ xs) some zeros = (take k xs, ap (λ z. z ∷ take k xs) (zeros 0))
+
+-- a text before cleared bytes
+module _ (text near : List ℕ) (room : length text + 32 ≤ length near) (zeros : (i : ℕ) → get_or near i 0 ≡ the-zero) where
+  abbrev behind : List ℕ
+  behind = drop (length text) near
+
+  front-is : take (length text + 32) (text ++ behind) ≡ text ++ take 32 behind
+  front-is = take-append-add text behind 32
+
+  pub is-walked : IsWalkedFor text (take (length text + 32) (text ++ behind))
+  is-walked =
+      let (more, e) = zero-first 31 behind (omega (arith, length-drop (length text) near, room)) (λ i. get_or-drop (length text) near i 0 ∙ zeros (length text + i)) in
+      inr (more, front-is ∙ ap (λ l. text ++ l) e)
+
+  pub walked-utf8 : IsUtf8 text → IsUtf8 (take (length text + 32) (text ++ behind))
+  walked-utf8 u =
+      let ascii : IsAscii near = λ i. omega (arith, zeros i) in
+      subst IsUtf8 (sym front-is) (IsUtf8-append text (take 32 behind) u (IsUtf8-from_ascii (take 32 behind) (IsAscii-take behind 32 (IsAscii-drop near (length text) ascii))))
+
+-- the front of bytes that is all of ASCII
+pub front-utf8 : (xs ys : List ℕ) (n : ℕ) → n ≡ length xs → IsAscii (take n (xs ++ ys)) → IsUtf8 xs
+front-utf8 xs ys n e h = IsUtf8-from_ascii xs (subst IsAscii (ap (λ k. take k (xs ++ ys)) e ∙ take-append_seam xs ys) h)

@@ -1,0 +1,192 @@
+-- Lines that are answered piece by piece.
+use Rattle.std.proofs.Common.{◌≡◌, ◌+◌, ◌-◌, ◌<◌, ◌≤◌, ◌++◌, ◌⊎◌, inl, inr, ℕ, zero, suc, List, [], ◌∷◌, Option, Bool, length, take, drop, get_or, refl, sym, ap, ◌∙◌, subst, arith, append_assoc, length-take, length-drop, length-append}
+use Rattle.std.specs.Prelude.{◌==◌, if◌then◌else◌, true, false}
+use Rattle.std.proofs.lemmas.List.{append-nil, take_all}
+use Rattle.std.proofs.lemmas.Bool.Decides.{eqb_tells}
+use Rattle.std.proofs.Math.Seq.{take-add}
+use Rattle.wkt_lines.specs.Laws.{IsWhole, OutputOfParts}
+use Rattle.wkt_lines.specs.Output.{IsOutput}
+use Rattle.wkt_lines.specs.Lines.{input_lines}
+use Rattle.wkt_lines.specs.Replies.{AreReplies}
+use Rattle.wkt_lines.specs.Splitting.{before_feed, after_feed}
+use Rattle.wkt_lines.proofs.Splits.{lines_step}
+use Rattle.wkt_events.specs.Answers.{IsAnswer}
+use Rattle.wkt_calls.specs.Chunks.{AreWholeLines}
+
+-- the output for a piece more
+pub more_output : {N : Type 0} (read : List ℕ → Option N) (num : N → List ℕ) → OutputOfParts read num → (input : List ℕ) (taken piece : ℕ) (x v : List ℕ) →
+    IsWhole (take taken input) → IsOutput read num (take taken input) x → IsOutput read num (take piece (drop taken input)) v → IsOutput read num (take (taken + piece) input) (x ++ v)
+more_output read num law input taken piece x v w h k =
+    subst (λ bs. IsOutput read num bs (x ++ v)) (sym (take-add taken piece input))
+    (law (take taken input ∷ []) (x ∷ []) (take piece (drop taken input)) v (w, tt) (x, [], refl, h, refl) k)
+
+-- whole lines after whole lines
+pub whole_more : (input : List ℕ) (taken piece : ℕ) → IsWhole (take taken input) → IsWhole (take piece (drop taken input)) → IsWhole (take (taken + piece) input)
+whole_more input taken piece w h = subst IsWhole (sym (take-add taken piece input)) (elim h [
+  | inl e ↦ subst IsWhole (sym (ap (λ z. take taken input ++ z) e ∙ append-nil (take taken input))) w
+  | inr k ↦ inr (take taken input ++ k.0, ap (λ z. take taken input ++ z) k.1 ∙ sym (append_assoc (take taken input) k.0 (10 ∷ [])))
+])
+
+take-one : (xs : List ℕ) (n : ℕ) → n < length xs → take (suc n) xs ≡ take n xs ++ (get_or xs n 0 ∷ [])
+take-one [] n h = absurd (omega (arith, h))
+take-one (x ∷ xs) zero h = refl
+take-one (x ∷ xs) (suc n) h = ap (λ zs. x ∷ zs) (take-one xs n (omega (arith, h)))
+
+-- the bytes up to a line feed
+pub whole_at : (xs : List ℕ) (at : ℕ) → 0 < at → at ≤ length xs → get_or xs (at - 1) 0 ≡ 10 → IsWhole (take at xs)
+whole_at xs at p h e =
+    let same : suc (at - 1) ≡ at = omega (arith, p) in
+    inr (take (at - 1) xs, ap (λ n. take n xs) (sym same) ∙ take-one xs (at - 1) (omega (arith, p, h)) ∙ ap (λ b. take (at - 1) xs ++ (b ∷ [])) e)
+
+feed-step : (b : ℕ) (bs : List ℕ) → (length (before_feed bs) < length bs → take (suc (length (before_feed bs))) bs ≡ before_feed bs ++ (10 ∷ [])) →
+    length (before_feed (b ∷ bs)) < length (b ∷ bs) → take (suc (length (before_feed (b ∷ bs)))) (b ∷ bs) ≡ before_feed (b ∷ bs) ++ (10 ∷ [])
+feed-step b bs h = elim (eqb_tells b 10) [
+  | inl t ↦
+      let e : before_feed (b ∷ bs) ≡ [] = ap (λ u. if u then [] else b ∷ before_feed bs) t.0 in
+      λ lt. ap (λ xs. take (suc (length xs)) (b ∷ bs)) e ∙ ap (λ c. c ∷ []) t.1 ∙ ap (λ xs. xs ++ (10 ∷ [])) (sym e)
+  | inr f ↦
+      let e : before_feed (b ∷ bs) ≡ b ∷ before_feed bs = ap (λ u. if u then [] else b ∷ before_feed bs) f.0 in
+      λ lt. ap (λ xs. take (suc (length xs)) (b ∷ bs)) e ∙ ap (λ xs. b ∷ xs) (h (omega (arith, lt, ap length e))) ∙ ap (λ xs. xs ++ (10 ∷ [])) (sym e)
+]
+
+feed-there : (bs : List ℕ) → length (before_feed bs) < length bs → take (suc (length (before_feed bs))) bs ≡ before_feed bs ++ (10 ∷ [])
+feed-there [] lt = absurd (omega (arith, lt))
+feed-there (b ∷ bs) lt = feed-step b bs (feed-there bs) lt
+
+-- a first line that ends before the text does
+pub whole_line : (bs : List ℕ) (end : ℕ) → end < length bs → take end bs ≡ before_feed bs → IsWhole (take (end + 1) bs)
+whole_line bs end lt e =
+    let long : end ≡ length (before_feed bs) = omega (arith, lt, length-take end bs, ap length e) in
+    inr (before_feed bs, ap (λ n. take n bs) {x = end + 1} {y = suc (length (before_feed bs))} (omega (arith, long)) ∙ feed-there bs (omega (arith, lt, long)))
+
+-- a first line that ends where the text does
+pub one_line : (bs : List ℕ) (end : ℕ) → length bs ≤ end → take end bs ≡ before_feed bs → before_feed bs ≡ bs
+one_line bs end le e = sym e ∙ take_all end bs le
+
+-- a line that ends within a part is the whole's
+near-line : (k : ℕ) (rest : List ℕ) → length (before_feed (take k rest)) < length (take k rest) → before_feed (take k rest) ≡ before_feed rest
+near-line zero rest h = absurd (omega (arith, h))
+near-line (suc k) [] h = refl
+near-line (suc k) (b ∷ rest) h = elim (b == 10) as (λ t. length (if t then [] else b ∷ before_feed (take k rest)) < suc (length (take k rest))
+    → (if t then [] else b ∷ before_feed (take k rest)) ≡ (if t then [] else b ∷ before_feed rest)) [
+      | true ↦ λ less. refl
+      | false ↦ λ less. ap (λ l. b ∷ l) (near-line k rest (omega (arith, less)))
+    ] h
+
+-- the first line with its feed is one line
+abbrev first-of : List ℕ → List ℕ
+first-of bs = take (suc (length (before_feed bs))) bs
+
+one-before : (bs : List ℕ) → before_feed (first-of bs) ≡ before_feed bs
+one-before [] = refl
+one-before (b ∷ bs) = elim (b == 10) as (λ t. (if t then [] else b ∷ before_feed (take (length (if t then [] else b ∷ before_feed bs)) bs)) ≡ (if t then [] else b ∷ before_feed bs)) [
+  | true ↦ refl
+  | false ↦ ap (λ l. b ∷ l) (one-before bs)
+]
+
+one-after : (bs : List ℕ) → after_feed (first-of bs) ≡ []
+one-after [] = refl
+one-after (b ∷ bs) = elim (b == 10) as (λ t. (if t then take (length (if t then [] else b ∷ before_feed bs)) bs else after_feed (take (length (if t then [] else b ∷ before_feed bs)) bs)) ≡ []) [
+  | true ↦ refl
+  | false ↦ one-after bs
+]
+
+one-lines : (b : ℕ) (bs : List ℕ) → input_lines (first-of (b ∷ bs)) ≡ before_feed (b ∷ bs) ∷ []
+one-lines b bs = lines_step b (take (length (before_feed (b ∷ bs))) bs) ∙ ap (λ l. l ∷ input_lines (after_feed (first-of (b ∷ bs)))) (one-before (b ∷ bs)) ∙ ap (λ l. before_feed (b ∷ bs) ∷ input_lines l) (one-after (b ∷ bs))
+
+-- the output for it is its answer
+one-output : {N : Type 0} (read : List ℕ → Option N) (num : N → List ℕ) (bs answer : List ℕ) → 0 < length bs → IsAnswer read num (before_feed bs) answer → IsOutput read num (first-of bs) (answer ++ (10 ∷ []))
+one-output read num [] answer some is = absurd (omega (arith, some))
+one-output read num (b ∷ bs) answer some is =
+    subst (λ ls. AreReplies (IsAnswer read num) ls (answer ++ (10 ∷ []))) (sym (one-lines b bs)) (answer, [], sym (append-nil (answer ++ (10 ∷ []))), is, refl)
+
+-- what ends after something ends as that does
+ends-in : (a b c : List ℕ) (x : ℕ) → a ++ b ≡ c ++ (x ∷ []) → 0 < length b → (d : List ℕ) × (b ≡ d ++ (x ∷ []))
+ends-in [] b c x e some = (c, e)
+ends-in (y ∷ a) b [] x e some = absurd (omega (arith, some, ap length e, length-append a b))
+ends-in (y ∷ a) b (z ∷ c) x e some = let t : a ++ b ≡ c ++ (x ∷ []) = cc in ends-in a b c x t some
+
+-- a feed ends the first line
+feed-some : (d : List ℕ) → length (before_feed (d ++ (10 ∷ []))) < length (d ++ (10 ∷ []))
+feed-some [] = omega arith
+feed-some (b ∷ d) = elim (b == 10) as (λ t. length (if t then [] else b ∷ before_feed (d ++ (10 ∷ []))) < suc (length (d ++ (10 ∷ [])))) [
+  | true ↦ omega arith
+  | false ↦ omega (arith, feed-some d)
+]
+
+pub less-or : (a b : ℕ) → (a < b) ⊎ (b ≤ a)
+less-or zero zero = inr (omega arith)
+less-or zero (suc b) = inl (omega arith)
+less-or (suc a) zero = inr (omega arith)
+less-or (suc a) (suc b) = elim (less-or a b) [ inl h ↦ inl (omega (arith, h)) | inr h ↦ inr (omega (arith, h)) ]
+
+module _ (last : Bool) (input : List ℕ) (at : ℕ) where
+  abbrev rest : List ℕ
+  rest = drop at input
+
+  -- whole lines behind whole lines
+  pub whole-pick : (n : ℕ) → at ≤ length input → at < length input → AreWholeLines last input at → AreWholeLines last rest n → AreWholeLines last input (at + n)
+  whole-pick n within less before whole = elim before [
+    | inl h ↦ elim whole [
+      | inl w ↦ inl (whole_more input at n h w)
+      | inr e ↦ inr (e.0, omega (arith, e.1, length-drop at input, within))
+    ]
+    | inr e ↦ absurd (omega (arith, e.1, less))
+  ]
+
+  module _ (end : ℕ) (less : at < end) (within : end ≤ length input) where
+    abbrev part : List ℕ
+    part = take (end - at) rest
+
+    some-left : 0 < length rest
+    some-left = omega (arith, length-drop at input, less, within)
+
+    -- the part's first line is the rest's
+    same-line : AreWholeLines last input end → before_feed part ≡ before_feed rest
+    same-line (inl (inl e)) = absurd (omega (arith, ap length e, length-take end input, less, within))
+    same-line (inl (inr (c, e))) =
+        let whole : take at input ++ part ≡ c ++ (10 ∷ []) = sym (take-add at (end - at) input) ∙ ap (λ n. take n input) {x = at + (end - at)} {y = end} (omega (arith, less)) ∙ e in
+        let (d, is) = ends-in (take at input) part c 10 whole (omega (arith, length-take (end - at) rest, length-drop at input, less, within)) in
+        near-line (end - at) rest (subst (λ l. length (before_feed l) < length l) (sym is) (feed-some d))
+    same-line (inr (l, e)) = ap before_feed (take_all (end - at) rest (omega (arith, length-drop at input, e, less)))
+
+    -- where the first line has no feed, it is the last
+    no-feed : AreWholeLines last input end → length rest ≤ length (before_feed rest) → (last ≡ true) × (end ≡ length input)
+    no-feed (inl (inl e)) long = absurd (omega (arith, ap length e, length-take end input, less, within))
+    no-feed (inl (inr (c, e))) long =
+        let whole : take at input ++ part ≡ c ++ (10 ∷ []) = sym (take-add at (end - at) input) ∙ ap (λ n. take n input) {x = at + (end - at)} {y = end} (omega (arith, less)) ∙ e in
+        let (d, is) = ends-in (take at input) part c 10 whole (omega (arith, length-take (end - at) rest, length-drop at input, less, within)) in
+        let short : length (before_feed part) < length part = subst (λ l. length (before_feed l) < length l) (sym is) (feed-some d) in
+        absurd (omega (arith, ap length (same-line (inl (inr (c, e)))), short, length-take (end - at) rest, long))
+    no-feed (inr h) long = h
+
+    -- the answer to the first line, behind those before it
+    pub line-lines : (taken n : ℕ) → AreWholeLines last input at → AreWholeLines last input end → taken ≡ length (before_feed part) + 1 → (at + taken ≤ n ⊎ n ≡ length input) → n ≤ at + taken → n ≤ length input → AreWholeLines last input n
+    line-lines taken n before ends takes is most inside =
+        let same : length (before_feed part) ≡ length (before_feed rest) = ap length (same-line ends) in
+        elim (less-or (length (before_feed rest)) (length rest)) [
+          | inl short ↦
+              let k : n ≡ at + suc (length (before_feed rest)) = elim is [ inl le ↦ omega (arith, le, most, takes, same) | inr e ↦ omega (arith, e, most, takes, same, short, length-drop at input, less, within) ] in
+              subst (AreWholeLines last input) (sym k) (whole-pick (suc (length (before_feed rest))) (omega (arith, less, within)) (omega (arith, less, within)) before (inl (inr (before_feed rest, feed-there rest short))))
+          | inr long ↦
+              let h = no-feed ends long in
+              inr (h.0, elim is [ inl le ↦ omega (arith, le, takes, same, long, length-drop at input, inside, less, within) | inr e ↦ e ])
+        ]
+
+    pub line-output : {N : Type 0} (read : List ℕ → Option N) (num : N → List ℕ) → OutputOfParts read num → (taken n : ℕ) (x answer : List ℕ) → AreWholeLines last input at → AreWholeLines last input end →
+        IsOutput read num (take at input) x → IsAnswer read num (before_feed part) answer → taken ≡ length (before_feed part) + 1 → (at + taken ≤ n ⊎ n ≡ length input) → n ≤ at + taken → n ≤ length input →
+        IsOutput read num (take n input) (x ++ (answer ++ (10 ∷ [])))
+    line-output read num law taken n x answer before ends out is takes reaches most inside =
+        let whole : IsWhole (take at input) = elim before [ inl h ↦ h | inr e ↦ absurd (omega (arith, e.1, less, within)) ] in
+        let same = same-line ends in
+        let k : at + taken ≡ at + suc (length (before_feed rest)) = omega (arith, takes, ap length same) in
+        let v = one-output read num rest answer some-left (subst (λ l. IsAnswer read num l answer) same is) in
+        let all : take n input ≡ take (at + suc (length (before_feed rest))) input = elim reaches [
+          | inl le ↦ ap (λ m. take m input) {x = n} {y = at + suc (length (before_feed rest))} (omega (arith, le, most, k))
+          | inr e ↦ take_all n input (omega (arith, e)) ∙ sym (take_all (at + suc (length (before_feed rest))) input (omega (arith, e, most, k)))
+        ] in
+        subst (λ l. IsOutput read num l (x ++ (answer ++ (10 ∷ [])))) (sym all) (more_output read num law input at (suc (length (before_feed rest))) x (answer ++ (10 ∷ [])) whole out v)
+
+-- nothing is the output for nothing
+pub no-output : {N : Type 0} (read : List ℕ → Option N) (num : N → List ℕ) (input x : List ℕ) → IsOutput read num (take 0 input) x → x ≡ []
+no-output read num input x h = h

@@ -1,0 +1,8 @@
+-- A text without a front is refused, and the status is the number of its message.
+use Rattle.wkt_calls.specs.Answer.{read_at}
+use Rattle.wkt_calls.proofs.Blames.{refused-with}
+use Rattle.wkt_calls.proofs.refusal.refusal.Goals as goal
+
+pub returns : goal.returns
+returns g c =
+    refused-with (read_at g.row.D) c.args.text.now c.message.result c.number.result c.requires c.message.ensures c.number.ensures.number c.number.ensures.least c.number.ensures.most

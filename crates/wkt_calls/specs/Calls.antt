@@ -1,0 +1,41 @@
+-- What the calls for canonical texts answer.
+use Rattle.std.specs.Prelude.{◌≡◌, ◌≢◌, ◌≤◌, ◌+◌, ◌*◌, ◌++◌, ◌⊎◌, ℕ, List, ◌∷◌, length, take, Option, Some, None, Result, MatchResult}
+use Rattle.wkt_read.specs.Front.{HasNoFront}
+use Rattle.wkt_events.specs.Canonical.{HasWritten}
+use Rattle.wkt_calls.specs.Answer.{read_at, print_at, places_in, asks_whole, EndsAsAsked, IsCanonical, HasMore, Compares, Refuses, IsHandedOut, HasNoRoom}
+use Rattle.wkt_calls.specs.declared.canonical.Compared.{Compared}
+
+-- The bytes are the text, or the text, a NUL and more. Only private contracts cite this.
+abbrev pub IsWalkedFor : List ℕ → List ℕ → Type 0
+IsWalkedFor text walked = (walked ≡ text) ⊎ ((more : List ℕ) × (walked ≡ text ++ (0 ∷ more)))
+
+module _ {N : Type 0} (read : List ℕ → Option N) (num : N → List ℕ) where
+  -- The canonical text of the text's front stands at the front of a room, which has more; or the text has no front. Only private contracts cite this.
+  abbrev pub WritesIfAny : List ℕ → List ℕ → List ℕ → Option (ℕ × ℕ) → Type 0
+  WritesIfAny text old new (Some p) = HasWritten read num text 0 old new p.0 p.1 × (p.1 + 64 ≤ length old)
+  WritesIfAny text old new None = HasNoFront read text
+
+  -- The canonical text stands at the front of a room, as long as is returned, and where the front ends is returned too; or the text is refused.
+  abbrev pub WritesOrRefuses : List ℕ → List ℕ → Result (ℕ × ℕ) ℕ → Type 0
+  WritesOrRefuses text room result = MatchResult result (λ r. IsCanonical read num text (take r.1 room) r.0) (Refuses read text)
+
+-- The same, with decimals of as many places as are asked for.
+abbrev pub WritesCanonical : ℕ → List ℕ → List ℕ → Result (ℕ × ℕ) ℕ → Type 0
+WritesCanonical asked text room result = WritesOrRefuses (read_at (places_in asked)) (print_at (places_in asked)) text room result
+
+-- By its status, what a call says of a text, and what it has written then.
+pub record AnswersCanonical (asked : ℕ) (text : List ℕ) (status : ℕ) (out out' : List ℕ) (needed needed' end end' : ℕ) : Type 0 where
+  pub written : status ≡ 0 → (answer : List ℕ) × IsCanonical (read_at (places_in asked)) (print_at (places_in asked)) text answer end'
+      × EndsAsAsked (asks_whole asked) text end' × IsHandedOut answer needed' out out'
+  pub small : status ≡ 21 → (answer : List ℕ) × IsCanonical (read_at (places_in asked)) (print_at (places_in asked)) text answer end'
+      × EndsAsAsked (asks_whole asked) text end' × HasNoRoom answer needed' out
+  pub more : status ≡ 30 → HasMore (read_at (places_in asked)) (asks_whole asked) text end'
+  pub others : 1 ≤ status → status ≢ 21 → status ≢ 30 → Refuses (read_at (places_in asked)) text status
+  pub kept : 1 ≤ status → out' ≡ out
+  pub bound : (status ≡ 0) ⊎ (status ≡ 21) → needed' ≤ 2 * length text + 65
+  pub needed_kept : 1 ≤ status → status ≢ 21 → needed' ≡ needed
+  pub end_kept : 1 ≤ status → status ≢ 21 → status ≢ 30 → end' ≡ end
+
+-- Two texts were compared.
+abbrev pub AreCompared : ℕ → List ℕ → List ℕ → Compared → Type 0
+AreCompared asked one other c = Compares (read_at (places_in asked)) (print_at (places_in asked)) one other c.end c.other_end c.same

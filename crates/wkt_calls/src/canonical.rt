@@ -1,0 +1,357 @@
+//! The one text of what a text begins with, and texts compared by it.
+ghost use Rattle.std.specs.Prelude.{◌≡◌, ◌≢◌, ◌+◌, ◌*◌, ◌≤◌, ◌↔◌, ◌⊎◌, ℕ, IsTrue, MatchResult, IfOk, IsUtf8, true, take, drop, length, slice_index};
+ghost use Rattle.std.specs.Str.{IsAscii};
+ghost use Rattle.wkt_num.specs.Bytes.{AllWhite};
+ghost use Rattle.wkt_num.specs.Decimal.{IsUnits};
+ghost use Rattle.wkt_calls.specs.Calls.{AnswersCanonical, AreCompared, IsWalkedFor, WritesCanonical, WritesIfAny, WritesOrRefuses};
+ghost use Rattle.wkt_read.specs.Laws.{FrontIsWritable, OneText};
+ghost use Rattle.wkt_calls.specs.Answer.{read_at, print_at, places_in, asks_whole, EndsAsAsked, IsCanonical, Compares, RefusesOne, IsHandedOut, HasNoRoom};
+
+use crate::asked::{ends_as_asked, places_of};
+use crate::at_places;
+use crate::fill::hand_out;
+use crate::refusal::refusal;
+use crate::status::{DONE, NOT_TEXT, NOT_WHOLE, SMALL};
+use std::simd::prelude::*;
+use wkt_events::laws::texts_are_short;
+use wkt_events::write_canonical;
+use wkt_num::Decimal;
+use wkt_read::laws::{front_is_writable, one_text};
+
+/// How long a text may be that is answered with no memory.
+pub const SHORT: usize = 200;
+/// The same with the least room, which is cleared for each call.
+pub const SHORTEST: usize = 32;
+/// How many zeros stand behind a short text: what the walk looks at together.
+const BEHIND: usize = 32;
+
+/// Writes the canonical text of what a text begins with to the front of the room; `None` where it begins with none.
+fn write<const D: u32>(text: &str, room: &mut [u8]) -> Option<(usize, usize)>
+    requires room { 2 * length text.now + 65 ≤ length room.old }
+    ensures writes { WritesIfAny (read_at D) (print_at D) text.now room.old room.new result }
+    ensures whole { length room.new ≡ length room.old }
+{
+    // No effect at run time. The proof reads that decimals have no texts for which there is no room.
+    texts_are_short();
+    write_canonical::<Decimal<D>>(text, room, 0).unwrap_or(None)
+}
+
+/// Does what `write` does, and returns where the front ends and how long its canonical text is, or why the text is
+/// refused. `walked` is the text, or the text and what stands behind a NUL.
+fn write_or_refuse<const D: u32>(
+    text: &str,
+    walked: &str,
+    room: &mut [u8],
+) -> Result<(usize, usize), u32>
+    requires room { 2 * length walked.now + 65 ≤ length room.old }
+    requires utf8 { IsUtf8 text.now }
+    requires walked { IsWalkedFor text.now walked.now }
+    ensures canonical { WritesOrRefuses (read_at D) (print_at D) text.now room.new result }
+    ensures within { IfOk result (λ r. r.1 + 64 ≤ length room.new) }
+    ensures whole { length room.new ≡ length room.old }
+{
+    match write::<D>(walked, room) {
+        Some((end, n)) => Ok((end, n)),
+        None => Err(refusal::<D>(text)),
+    }
+}
+
+/// The same, with decimals of so many places.
+#[inline(always)]
+fn write_or_refuse_at(
+    text: &str,
+    walked: &str,
+    places: u32,
+    room: &mut [u8],
+) -> Result<(usize, usize), u32>
+    requires places { places ≤ 18 }
+    requires room { 2 * length walked.now + 65 ≤ length room.old }
+    requires utf8 { IsUtf8 text.now }
+    requires walked { IsWalkedFor text.now walked.now }
+    ensures canonical { WritesOrRefuses (read_at places) (print_at places) text.now room.new result }
+    ensures within { IfOk result (λ r. r.1 + 64 ≤ length room.new) }
+    ensures whole { length room.new ≡ length room.old }
+{
+    at_places!(places, write_or_refuse(text, walked, room), unreachable!())
+}
+
+/// The same, with decimals of as many places as are asked for.
+fn write_in(text: &str, walked: &str, asked: u32, room: &mut [u8]) -> Result<(usize, usize), u32>
+    requires places { places_in asked ≤ 18 }
+    requires room { 2 * length walked.now + 65 ≤ length room.old }
+    requires utf8 { IsUtf8 text.now }
+    requires walked { IsWalkedFor text.now walked.now }
+    ensures canonical { WritesCanonical asked text.now room.new result }
+    ensures within { IfOk result (λ r. r.1 + 64 ≤ length room.new) }
+    ensures whole { length room.new ≡ length room.old }
+{
+    write_or_refuse_at(text, walked, places_of(asked), room)
+}
+
+/// Writes the canonical text of what a text begins with to the front of a room that is 65 bytes longer than twice the text,
+/// and returns where the geometry ends in the text and how long the canonical text is, or why the text is refused. No more
+/// of the room is used than that.
+pub fn write_within(text: &str, asked: u32, room: &mut [u8]) -> Result<(usize, usize), u32>
+    requires places { places_in asked ≤ 18 }
+    requires room { 2 * length text.now + 65 ≤ length room.old }
+    requires utf8 { IsUtf8 text.now }
+    ensures canonical { WritesCanonical asked text.now room.new result }
+    ensures within { IfOk result (λ r. r.1 ≤ length room.new) }
+    ensures bound { IfOk result (λ r. r.1 ≤ 2 * length text.now + 1) }
+    ensures whole { length room.new ≡ length room.old }
+{
+    write_in(text, text, asked, &mut room[..2 * text.len() + 65])
+}
+
+/// Whether each of the first `n` bytes is of ASCII, and each of those behind them that are looked at too.
+fn is_ascii(bytes: &[u8], n: usize) -> bool
+    requires { n + 32 ≤ length bytes.now }
+    ensures { result ≡ true → IsAscii (take n bytes.now) }
+{
+    let mut at = 0;
+    'wide: while at < n {
+        let window = u8x32::from_slice(&bytes[at..]);
+        let high = window.simd_gt(u8x32::splat(127)).to_bitmask();
+        if high != 0 {
+            return false;
+        }
+        at += 32;
+    }
+    true
+}
+
+/// Writes the canonical text of what a short text begins with. The text is copied before zeros first, so that the walk
+/// sees 32 bytes at once up to its end.
+fn write_short(
+    text: &[u8],
+    asked: u32,
+    near: &mut [u8],
+    room: &mut [u8],
+) -> Result<(usize, usize), u32>
+    requires places { places_in asked ≤ 18 }
+    requires near { length text.now + 32 ≤ length near.old }
+    requires zeros { (i : ℕ) → slice_index near.old i ≡ 0 }
+    requires room { 2 * length text.now + 129 ≤ length room.old }
+    ensures canonical { WritesCanonical asked text.now room.new result }
+    ensures within { IfOk result (λ r. r.1 ≤ length room.new) }
+    ensures bound { IfOk result (λ r. r.1 ≤ 2 * length text.now + 65) }
+    ensures whole { length room.new ≡ length room.old }
+{
+    let n = text.len();
+    near[..n].copy_from_slice(text);
+    let text = if is_ascii(near, n) {
+        unsafe { str::from_utf8_unchecked(text) }
+    } else {
+        match str::from_utf8(text) {
+            Ok(text) => text,
+            Err(_) => return Err(NOT_TEXT),
+        }
+    };
+    let walked = unsafe { str::from_utf8_unchecked(&near[..n + BEHIND]) };
+    write_in(text, walked, asked, &mut room[..2 * n + 129])
+}
+
+/// Hands out an answer to a text whose geometry ends there, if that is as asked for and there is room for it.
+pub fn hand_out_front(
+    text: &[u8],
+    end: usize,
+    asked: u32,
+    answer: &[u8],
+    out: &mut [u8],
+    needed: &mut usize,
+) -> u32
+    requires { end ≤ length text.now }
+    ensures as_asked { result ≢ NOT_WHOLE → EndsAsAsked (asks_whole asked) text.now end }
+    ensures stands { result ≡ DONE → IsHandedOut answer.now needed.new out.old out.new }
+    ensures lacks { result ≡ SMALL → HasNoRoom answer.now needed.new out.old }
+    ensures more { result ≡ NOT_WHOLE → (asks_whole asked ≡ true) × (AllWhite (drop end text.now) → ⊥) }
+    ensures kept { 1 ≤ result → out.new ≡ out.old }
+    ensures needed_kept { result ≡ NOT_WHOLE → needed.new ≡ needed.old }
+    ensures three { (result ≡ DONE) ⊎ ((result ≡ SMALL) ⊎ (result ≡ NOT_WHOLE)) }
+{
+    if !ends_as_asked(text, end, asked) {
+        return NOT_WHOLE;
+    }
+    hand_out(answer, out, needed)
+}
+
+/// Answers a text of up to [`SHORTEST`] bytes with the canonical text of what it begins with.
+#[inline(always)]
+pub fn canonical_shortest(
+    text: &[u8],
+    asked: u32,
+    out: &mut [u8],
+    needed: &mut usize,
+    end: &mut usize,
+) -> u32
+    requires places { places_in asked ≤ 18 }
+    requires short { length text.now ≤ SHORTEST }
+    ensures { AnswersCanonical asked text.now result out.old out.new needed.old needed.new end.old end.new }
+{
+    let mut near = [0u8; 64];
+    let mut room = [0u8; 208];
+    canonical_near(text, asked, &mut near, &mut room, out, needed, end)
+}
+
+/// The same of a text of up to [`SHORT`] bytes.
+#[inline(always)]
+pub fn canonical_short(
+    text: &[u8],
+    asked: u32,
+    out: &mut [u8],
+    needed: &mut usize,
+    end: &mut usize,
+) -> u32
+    requires places { places_in asked ≤ 18 }
+    requires short { length text.now ≤ SHORT }
+    ensures { AnswersCanonical asked text.now result out.old out.new needed.old needed.new end.old end.new }
+{
+    let mut near = [0u8; 256];
+    let mut room = [0u8; 544];
+    canonical_near(text, asked, &mut near, &mut room, out, needed, end)
+}
+
+/// The same, with cleared bytes for the text and room for the answer.
+fn canonical_near(
+    text: &[u8],
+    asked: u32,
+    near: &mut [u8],
+    room: &mut [u8],
+    out: &mut [u8],
+    needed: &mut usize,
+    end: &mut usize,
+) -> u32
+    requires places { places_in asked ≤ 18 }
+    requires near { length text.now + 32 ≤ length near.old }
+    requires zeros { (i : ℕ) → slice_index near.old i ≡ 0 }
+    requires room { 2 * length text.now + 129 ≤ length room.old }
+    ensures { AnswersCanonical asked text.now result out.old out.new needed.old needed.new end.old end.new }
+{
+    match write_short(text, asked, near, room) {
+        Ok((at, n)) => {
+            *end = at;
+            hand_out_front(text, at, asked, &room[..n], out, needed)
+        }
+        Err(status) => status,
+    }
+}
+
+/// What holds of decimals: one text is one value.
+fn laws<const D: u32>()
+    requires { D ≤ 36 }
+    ensures writable { FrontIsWritable (IsUnits D) (read_at D) }
+    ensures text { OneText (IsUnits D) (print_at D) (read_at D) }
+{
+    front_is_writable::<Decimal<D>>();
+    one_text::<Decimal<D>>();
+}
+
+/// The same, of so many places.
+fn laws_at(places: u32)
+    requires { places ≤ 18 }
+    ensures writable { FrontIsWritable (IsUnits places) (read_at places) }
+    ensures text { OneText (IsUnits places) (print_at places) (read_at places) }
+{
+    at_places!(places, laws(), unreachable!())
+}
+
+/// Whether these two canonical texts are one.
+fn is_one(one: &[u8], other: &[u8]) -> bool
+    ensures { IsTrue result ↔ (one.now ≡ other.now) }
+{
+    one == other
+}
+
+/// Whether two texts are of one geometry, by their canonical texts.
+pub fn judge(
+    one: &[u8],
+    first: &[u8],
+    end: usize,
+    other: &[u8],
+    second: &[u8],
+    other_end: usize,
+    asked: u32,
+) -> bool
+    requires places { places_in asked ≤ 18 }
+    requires first { IsCanonical (read_at (places_in asked)) (print_at (places_in asked)) one.now first.now end }
+    requires second { IsCanonical (read_at (places_in asked)) (print_at (places_in asked)) other.now second.now other_end }
+    ensures { Compares (read_at (places_in asked)) (print_at (places_in asked)) one.now other.now end other_end result }
+{
+    // No effect at run time. The proof reads that one text is one value.
+    laws_at(places_of(asked));
+    is_one(first, second)
+}
+
+/// What a comparison returns of two texts: whether they begin with one geometry, and where each ends.
+#[derive(Clone, Copy)]
+pub struct Compared {
+    pub same: bool,
+    pub end: usize,
+    pub other_end: usize,
+}
+
+/// Whether two texts of up to [`SHORT`] bytes begin with one geometry.
+pub fn same_short(one: &[u8], other: &[u8], asked: u32) -> Result<Compared, u32>
+    requires places { places_in asked ≤ 18 }
+    requires short { length one.now ≤ SHORT }
+    requires other_short { length other.now ≤ SHORT }
+    ensures { MatchResult result (AreCompared asked one.now other.now) (RefusesOne (read_at (places_in asked)) one.now other.now) }
+{
+    let mut near = [0u8; 256];
+    let mut first = [0u8; 544];
+    let (end, n) = match write_short(one, asked, &mut near, &mut first) {
+        Ok(written) => written,
+        Err(status) => return Err(status),
+    };
+    let mut other_near = [0u8; 256];
+    let mut second = [0u8; 544];
+    let (other_end, m) = match write_short(other, asked, &mut other_near, &mut second) {
+        Ok(written) => written,
+        Err(status) => return Err(status),
+    };
+    let same = judge(one, &first[..n], end, other, &second[..m], other_end, asked);
+    Ok(Compared {
+        same,
+        end,
+        other_end,
+    })
+}
+
+/// Whether two texts begin with one geometry: whether their canonical texts, which are written in two rooms, are equal.
+pub fn same_in(
+    one: &str,
+    other: &str,
+    asked: u32,
+    room: &mut [u8],
+    other_room: &mut [u8],
+) -> Result<Compared, u32>
+    requires places { places_in asked ≤ 18 }
+    requires room { 2 * length one.now + 65 ≤ length room.old }
+    requires other_room { 2 * length other.now + 65 ≤ length other_room.old }
+    requires utf8 { IsUtf8 one.now }
+    requires other_utf8 { IsUtf8 other.now }
+    ensures { MatchResult result (AreCompared asked one.now other.now) (RefusesOne (read_at (places_in asked)) one.now other.now) }
+{
+    let (end, n) = match write_within(one, asked, room) {
+        Ok(written) => written,
+        Err(status) => return Err(status),
+    };
+    let (other_end, m) = match write_within(other, asked, other_room) {
+        Ok(written) => written,
+        Err(status) => return Err(status),
+    };
+    let same = judge(
+        one.as_bytes(),
+        &room[..n],
+        end,
+        other.as_bytes(),
+        &other_room[..m],
+        other_end,
+        asked,
+    );
+    Ok(Compared {
+        same,
+        end,
+        other_end,
+    })
+}

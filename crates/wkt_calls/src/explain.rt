@@ -1,0 +1,76 @@
+//! Where a text is refused, and why.
+ghost use Rattle.std.specs.Prelude.{◌≡◌, ◌≤◌, MatchResult, IsUtf8};
+ghost use Rattle.wkt_explain.specs.Problems.{IsAccepted, IsProblem};
+ghost use Rattle.wkt_calls.specs.Answer.{read_at, places_in, asks_whole};
+ghost use Rattle.wkt_calls.specs.Explained.{IsUnexplained, expected_number, hint_number};
+
+use crate::asked::{asks_whole, places_of};
+use crate::at_places;
+use crate::status::{ACCEPTED, NOT_TEXT};
+use wkt_explain::{Expected, Hint, Problem, check};
+use wkt_num::Decimal;
+
+/// The number of what could stand there.
+pub fn number_of_expected(expected: Expected) -> u32
+    ensures { result ≡ expected_number expected }
+{
+    match expected {
+        Expected::Kind => 0,
+        Expected::Member => 1,
+        Expected::Dimension => 2,
+        Expected::Opening => 3,
+        Expected::Point => 4,
+        Expected::X => 5,
+        Expected::Y => 6,
+        Expected::Z => 7,
+        Expected::M => 8,
+        Expected::More => 9,
+        Expected::Closing => 10,
+    }
+}
+
+/// The number of a hint, or 0 where there is none.
+pub fn number_of_hint(hint: Option<Hint>) -> u32
+    ensures { result ≡ hint_number hint }
+{
+    let Some(hint) = hint else {
+        return 0;
+    };
+    match hint {
+        Hint::ByteOrderMark => 1,
+        Hint::Hexadecimal => 2,
+        Hint::Srid => 3,
+        Hint::Curve => 4,
+        Hint::Surface => 5,
+        Hint::Exponent => 6,
+        Hint::NoNumber => 7,
+        Hint::Places(_) => 8,
+        Hint::Large => 9,
+        Hint::Dimension => 10,
+        Hint::Empty => 11,
+    }
+}
+
+fn checked<const D: u32>(text: &str, whole: bool) -> Result<usize, Problem>
+    ensures { MatchResult result (IsAccepted (read_at D) whole text.now) (IsProblem (read_at D) whole text.now) }
+{
+    check::<Decimal<D>>(text, whole)
+}
+
+/// Why the text isn't accepted; or the status of a text that is accepted, or that is no text.
+pub fn problem(text: &[u8], asked: u32) -> Result<Problem, u32>
+    requires { places_in asked ≤ 18 }
+    ensures { MatchResult result
+        (λ p. IsUtf8 text.now × IsProblem (read_at (places_in asked)) (asks_whole asked) text.now p)
+        (IsUnexplained (read_at (places_in asked)) (asks_whole asked) text.now) }
+{
+    let Ok(text) = str::from_utf8(text) else {
+        return Err(NOT_TEXT);
+    };
+    let whole = asks_whole(asked);
+    let places = places_of(asked);
+    match at_places!(places, checked(text, whole), unreachable!()) {
+        Ok(_) => Err(ACCEPTED),
+        Err(problem) => Ok(problem),
+    }
+}

@@ -1,0 +1,134 @@
+//! The flat arrays of the geometry that a text begins with.
+ghost use Rattle.std.specs.Prelude.{◌≡◌, ◌≤◌, ◌↔◌, IsTrue, IsUtf8, IfSome, MatchResult, length, drop, true};
+ghost use Rattle.wkt_read.specs.Front.{HasNoFront};
+ghost use Rattle.wkt_calls.specs.Answer.{places_in, read_at, Refuses};
+ghost use Rattle.wkt_calls.specs.Flat.{IsFlat, IsFlatPoint};
+ghost use Rattle.wkt_calls.specs.Arrays.{IsNotFlat};
+
+use crate::asked::places_of;
+use crate::at_places;
+use crate::infer::{number_of_dimension, number_of_kind};
+use crate::refusal::refusal;
+use crate::status::NOT_TEXT;
+use wkt_events::{NearPoint, near_point};
+use wkt_fill::{Filler, Room, fill_arrays};
+use wkt_num::Decimal;
+
+/// Flat arrays with the kind, the dimension and the end of their geometry.
+#[derive(Drop)]
+pub struct Flat<'a> {
+    pub kind: u32,
+    pub dimension: u32,
+    pub end: usize,
+    pub arrays: Filler<'a>,
+}
+
+/// The arrays of the geometry at the front of a text, in the room. 22: the room is too small.
+#[inline(always)]
+fn make_flat<'a, const D: u32>(text: &[u8], room: Room<'a>) -> Result<Flat<'a>, u32>
+    ensures { MatchResult result (IsFlat D text.now) (IsNotFlat D text.now) }
+{
+    let Some(filled) = fill_arrays::<D>(text, room) else {
+        return Err(refused::<D>(text));
+    };
+    // A front is text, so only what follows it has to be looked at.
+    if !is_text_from(text, filled.end) {
+        return Err(NOT_TEXT);
+    }
+    let status = filled.arrays.status;
+    if status != 0 {
+        return Err(status);
+    }
+    Ok(Flat {
+        kind: number_of_kind(filled.arrays.kind),
+        dimension: number_of_dimension(filled.arrays.dimension),
+        end: filled.end,
+        arrays: filled.arrays,
+    })
+}
+
+/// Whether the bytes from there on are UTF-8.
+#[inline(always)]
+fn is_text_from(text: &[u8], end: usize) -> bool
+    requires { end ≤ length text.now }
+    ensures { IsTrue result ↔ IsUtf8 (drop end text.now) }
+{
+    if end == text.len() {
+        return true;
+    }
+    // A line feed alone, mostly.
+    if end + 1 == text.len() && text[end] < 128 {
+        return true;
+    }
+    match str::from_utf8(&text[end..]) {
+        Ok(_) => true,
+        Err(_) => false,
+    }
+}
+
+/// Why bytes are refused that have no front.
+#[cold]
+#[inline(never)]
+fn refused<const D: u32>(text: &[u8]) -> u32
+    requires { IsUtf8 text.now → HasNoFront (read_at D) text.now }
+    ensures { Refuses (read_at D) text.now result }
+{
+    match str::from_utf8(text) {
+        Ok(text) => refusal::<D>(text),
+        Err(_) => NOT_TEXT,
+    }
+}
+
+/// The same, with decimals of so many places.
+fn flat_at<'a>(text: &[u8], places: u32, room: Room<'a>) -> Result<Flat<'a>, u32>
+    requires { places ≤ 18 }
+    ensures { MatchResult result (IsFlat places text.now) (IsNotFlat places text.now) }
+{
+    at_places!(places, make_flat(text, room), unreachable!())
+}
+
+/// The same, with decimals of as many places as are asked for.
+pub fn flat_asked<'a>(text: &[u8], asked: u32, room: Room<'a>) -> Result<Flat<'a>, u32>
+    requires { places_in asked ≤ 18 }
+    ensures { MatchResult result (IsFlat (places_in asked) text.now) (IsNotFlat (places_in asked) text.now) }
+{
+    flat_at(text, places_of(asked), room)
+}
+
+/// The point of two numbers at the front of a text. `None` doesn't imply that none stands there.
+#[inline(always)]
+pub fn make_point<const D: u32>(text: &[u8]) -> Option<NearPoint>
+    ensures { IfSome result (λ p. IsFlatPoint D text.now p) }
+{
+    let Some(point) = near_point::<D>(text) else {
+        return None;
+    };
+    if !is_text_from(text, point.end) {
+        return None;
+    }
+    Some(point)
+}
+
+/// Puts it there, and returns whether there is one. A point that is returned would come through memory that is cleared for
+/// each text.
+#[inline(always)]
+fn put_point<const D: u32>(text: &[u8], point: &mut NearPoint) -> bool
+    ensures { result ≡ true → IsFlatPoint D text.now point.new }
+{
+    match make_point::<D>(text) {
+        Some(found) => {
+            *point = found;
+            true
+        }
+        None => false,
+    }
+}
+
+/// The same, with decimals of as many places as are asked for.
+#[inline(never)]
+pub(crate) fn find_point(text: &[u8], asked: u32, point: &mut NearPoint) -> bool
+    requires { places_in asked ≤ 18 }
+    ensures { result ≡ true → IsFlatPoint (places_in asked) text.now point.new }
+{
+    at_places!(places_of(asked), put_point(text, point), unreachable!())
+}

@@ -1,0 +1,141 @@
+//! Many lines answered at once.
+ghost use Rattle.std.specs.Prelude.{◌≡◌, ◌⊎◌, ◌≤◌, ◌+◌, ◌*◌, ◌-◌, length, take, drop};
+ghost use Rattle.wkt_events.specs.Answers.{AnswersLine};
+ghost use Rattle.wkt_events.specs.Left.{before_feed};
+ghost use Rattle.wkt_lines.specs.Output.{IsOutput};
+ghost use Rattle.wkt_calls.specs.Answer.{read_at, print_at};
+ghost use Rattle.wkt_calls.specs.Chunks.{AnswersSure, AreWholeLines, IsStuck, ends_here};
+
+use crate::at_places;
+use crate::room::has_room;
+use crate::whole::whole_within;
+use wkt_events::laws::texts_are_short;
+use wkt_events::{Answer, NoRoom, answer_line};
+use wkt_lines::laws::output_of_parts;
+use wkt_num::Decimal;
+
+/// How many bytes of an input are looked at together for whole lines, mostly.
+const NEAR: usize = 65536;
+
+/// How many bytes of an input are answered, and how many bytes the answers take.
+#[derive(Clone, Copy)]
+pub struct Answered {
+    /// How many bytes of the input.
+    pub taken: usize,
+    /// How many bytes the answers take.
+    pub written: usize,
+}
+
+/// Whether the input ends here, by a number of the caller's.
+pub fn is_last(last: u32) -> bool
+    ensures { result ≡ ends_here last }
+{
+    last != 0
+}
+
+/// Writes the answer to the first line behind the first `len` bytes.
+#[inline(always)]
+fn answer_first<const D: u32>(rest: &[u8], out: &mut [u8], len: usize) -> Answer
+    requires { len + 2 * length rest.now + 65 ≤ length out.old }
+    ensures answers { AnswersLine (read_at D) (print_at D) rest.now len out.old out.new result.taken result.len }
+    ensures whole { length out.new ≡ length out.old }
+    ensures room { result.len ≤ length out.old }
+    ensures line { result.taken ≡ length (before_feed rest.now) + 1 }
+    ensures within { result.taken ≤ length rest.now + 1 }
+{
+    match answer_line::<Decimal<D>>(rest, out, len) {
+        Ok(answer) => answer,
+        Err(NoRoom) => {
+            // No effect at run time. The proof reads that decimals have no such texts.
+            texts_are_short();
+            unreachable!()
+        }
+    }
+}
+
+/// How long a text may be whose answer surely fits into so many bytes.
+fn most_for(room: usize) -> usize
+    ensures { (result ≡ 0) ⊎ (2 * result + 65 ≤ room) }
+{
+    if room < 65 {
+        return 0;
+    }
+    ((room - 65) / 2).min(NEAR)
+}
+
+/// The lesser of two places.
+#[inline(always)]
+fn lesser(one: usize, other: usize) -> usize
+    ensures one { result ≤ one }
+    ensures other { result ≤ other }
+    ensures is { (one ≤ result) ⊎ (result ≡ other) }
+{
+    if one < other { one } else { other }
+}
+
+/// Answers the lines behind those that are answered, as long as the next answer surely has room.
+pub fn answer_lines<const D: u32>(
+    input: &[u8],
+    last: bool,
+    done: Answered,
+    out: &mut [u8],
+) -> Answered
+    requires taken { done.taken ≤ length input.now }
+    requires written { done.written ≤ length out.old }
+    requires lines { AreWholeLines last input.now done.taken }
+    requires answers { IsOutput (read_at D) (print_at D) (take done.taken input.now) (take done.written out.old) }
+    ensures taken { result.taken ≤ length input.now }
+    ensures written { result.written ≤ length out.new }
+    ensures lines { AreWholeLines last input.now result.taken }
+    ensures answers { IsOutput (read_at D) (print_at D) (take result.taken input.now) (take result.written out.new) }
+    ensures whole { length out.new ≡ length out.old }
+    ensures goes { done.taken ≤ result.taken }
+    ensures stuck { IsStuck last (drop result.taken input.now) (length out.new - result.written) }
+{
+    // No effect at run time. The proof reads that the output for parts is the outputs for them.
+    output_of_parts::<Decimal<D>>();
+    let mut at = done.taken;
+    let mut len = done.written;
+    let mut end = at;
+    'lines: while at < input.len() {
+        let room = out.len() - len;
+        if at >= end || !has_room(room, end - at) {
+            end = at + whole_within(&input[at..], most_for(room), last);
+            if end == at || !has_room(room, end - at) {
+                return Answered {
+                    taken: at,
+                    written: len,
+                };
+            }
+        }
+        let answer = answer_first::<D>(&input[at..end], out, len);
+        at = lesser(at + answer.taken, input.len());
+        len = answer.len;
+    }
+    Answered {
+        taken: at,
+        written: len,
+    }
+}
+
+/// Answers as many whole lines at the front of the input as surely fit into `out`; where the input ends, what is left behind
+/// the last line feed is a line too.
+fn sure_lines<const D: u32>(input: &[u8], last: bool, out: &mut [u8]) -> Answered
+    ensures { AnswersSure (read_at D) (print_at D) last input.now result.taken result.written out.new }
+{
+    // No effect at run time. The proof reads that the output for parts is the outputs for them.
+    output_of_parts::<Decimal<D>>();
+    let none = Answered {
+        taken: 0,
+        written: 0,
+    };
+    answer_lines::<D>(input, last, none, out)
+}
+
+/// The same, with decimals of so many places.
+pub fn sure_lines_at(input: &[u8], places: u32, last: bool, out: &mut [u8]) -> Answered
+    requires { places ≤ 18 }
+    ensures { AnswersSure (read_at places) (print_at places) last input.now result.taken result.written out.new }
+{
+    at_places!(places, sure_lines(input, last, out), unreachable!())
+}

@@ -1,0 +1,52 @@
+-- A coordinate goes on from the one before.
+use Rattle.std.proofs.Common.{◌≤◌, length, IfOk, IfErr, sym, ◌∙◌, subst, arith, rules}
+use Rattle.std.specs.Prelude.{not, ◌==◌}
+use Rattle.wkt_machine.specs.BytesView.{bytes_view}
+use Rattle.wkt_machine.specs.Goes.{Goes, Refuses}
+use Rattle.wkt_machine.proofs.ByteSteps.{turn_goes, last_goes, goes_less}
+use Rattle.wkt_machine.proofs.Leading.{leads_none, goes_leads, leads_goes, leads_refused}
+use Rattle.wkt_machine.proofs.coordinates.coordinates.Goals as goal
+
+pub coordinates-init : goal.coordinates-init
+coordinates-init g c = record {
+  leads = leads_none g.T.WktNum.read (bytes_view _) g.B.Builder.maker c.args.machine c.args.source c.args.builder;
+  inside = c.requires.inside;
+}
+
+pub returns-in_err-behind-clause-refused : goal.returns-in_err-behind-clause-refused
+returns-in_err-behind-clause-refused g c =
+    let refused : IfErr c.from_residual.result (Refuses g.T.WktNum.read (bytes_view _) g.B.Builder.maker c.args.machine c.coordinates.source c.coordinates.builder) = search rules in
+    leads_refused g.T.WktNum.read (bytes_view _) g.B.Builder.maker c.args.machine c.args.source c.args.builder c.args.machine c.coordinates.source c.coordinates.builder c.from_residual.result c.coordinates.invariant.leads refused
+
+pub returns-then-byte-eq41-clause-on : goal.returns-then-byte-eq41-clause-on
+returns-then-byte-eq41-clause-on g c =
+    let way = leads_goes g.T.WktNum.read (bytes_view _) g.B.Builder.maker c.args.machine c.args.source c.args.builder c.args.machine c.coordinates.source c.coordinates.builder c.in_ok-behind.field-0 c.coordinates.invariant.leads c.in_ok-behind.ensures.on in
+    subst (λ r. IfOk r (Goes g.T.WktNum.read (bytes_view _) g.B.Builder.maker c.args.machine c.args.source c.args.builder)) (sym c.on.ensures)
+    (last_goes g.T.WktNum.read g.B.Builder.maker _ c.args.machine c.outside.result c.args.source c.new.result c.args.builder c.close.result c.in_ok-behind.field-0 way c.in_ok-behind.ensures.item
+    (sym c.byte_at-byte.ensures.value ∙ c.if-byte-eq41.true) c.new.ensures.text c.new.ensures.at c.outside.ensures.state c.outside.ensures.sound c.close.ensures)
+
+pub returns-then-byte-ne44-clause-on : goal.returns-then-byte-ne44-clause-on
+returns-then-byte-ne44-clause-on g c =
+    subst (λ r. IfOk r (Goes g.T.WktNum.read (bytes_view _) g.B.Builder.maker c.args.machine c.args.source c.args.builder)) (sym c.on-then-byte-ne44.ensures)
+    (leads_goes g.T.WktNum.read (bytes_view _) g.B.Builder.maker c.args.machine c.args.source c.args.builder c.args.machine c.coordinates.source c.coordinates.builder c.in_ok-behind.field-0 c.coordinates.invariant.leads c.in_ok-behind.ensures.on)
+
+pub coordinates-smaller : goal.coordinates-smaller
+coordinates-smaller g c =
+    goes_less g.T.WktNum.read g.B.Builder.maker _ c.args.machine c.coordinates.source c.coordinates.builder _
+    (turn_goes g.T.WktNum.read g.B.Builder.maker _ c.args.machine c.coordinates.source c.new-source.result c.coordinates.builder c.comma-builder.result c.in_ok-behind.field-0 c.in_ok-behind.ensures.on c.in_ok-behind.ensures.item
+    c.requires.state c.requires.part (sym c.is_single-single.ensures ∙ c.if-single.false) (sym c.byte_at-byte.ensures.value ∙ c.if-byte-ne44.false) c.new-source.ensures.text c.new-source.ensures.at c.comma-builder.ensures)
+
+pub coordinates-preserved : goal.coordinates-preserved
+coordinates-preserved g c =
+    let turn =
+    turn_goes g.T.WktNum.read g.B.Builder.maker (not (g.row.FEED_ENDS == 0)) c.args.machine c.coordinates.source c.new-source.result c.coordinates.builder c.comma-builder.result c.in_ok-behind.field-0 c.in_ok-behind.ensures.on c.in_ok-behind.ensures.item
+    c.requires.state c.requires.part (sym c.is_single-single.ensures ∙ c.if-single.false) (sym c.byte_at-byte.ensures.value ∙ c.if-byte-ne44.false) c.new-source.ensures.text c.new-source.ensures.at c.comma-builder.ensures in
+    let some = c.byte_at-byte.ensures.some in
+    let comma = c.if-byte-ne44.false in
+    let at = c.new-source.ensures.at in
+    let before = some (omega (arith, comma)) in
+    record {
+      leads = goes_leads g.T.WktNum.read (bytes_view _) g.B.Builder.maker c.args.machine c.args.source c.args.builder _
+          (leads_goes g.T.WktNum.read (bytes_view _) g.B.Builder.maker c.args.machine c.args.source c.args.builder c.args.machine c.coordinates.source c.coordinates.builder _ c.coordinates.invariant.leads turn);
+      inside = subst (λ x. c.new-source.result.at ≤ length x.now) (sym c.new-source.ensures.text) (omega (arith, before, at));
+    }

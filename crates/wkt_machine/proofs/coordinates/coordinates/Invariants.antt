@@ -1,0 +1,17 @@
+-- What was taken was gone over, and what it says was made.
+use Rattle.std.proofs.Common.{◌≤◌, length}
+use Rattle.std.specs.Prelude.{not, ◌==◌}
+use Rattle.wkt_events.specs.Left.{left_placed}
+use Rattle.wkt_machine.specs.BytesView.{bytes_view}
+use Rattle.wkt_machine.specs.Leads.{Leads}
+use Rattle.wkt_machine.proofs.coordinates.coordinates.Given as goal
+
+abbrev pub invariant-coordinates : goal.invariant-coordinates
+invariant-coordinates g l =
+    record {
+      leads : Leads g.T.WktNum.read (bytes_view (not (g.row.FEED_ENDS == 0))) g.B.Builder.maker l.machine l.fn.source l.fn.builder l.machine l.source l.builder;
+      inside : l.source.at ≤ length l.source.text.now;
+    }
+
+abbrev pub decreases-coordinates : goal.decreases-coordinates
+decreases-coordinates g l = length (left_placed (not (g.row.FEED_ENDS == 0)) l.source.text.now l.source.at)

@@ -1,0 +1,220 @@
+//! Kind words in capitals, each with the parenthesis behind it, by comparisons.
+ghost use Rattle.std.specs.Bool.{OnTrue};
+ghost use Rattle.std.specs.Int.{w32, to_le_bytes};
+ghost use Rattle.std.specs.Prelude.{◌≡◌, ◌≤◌, ◌<◌, ◌+◌, length, take, codes, IfOk, IfErr, IfSome};
+ghost use Rattle.wkt_events.specs.Left.{left_placed};
+ghost use Rattle.wkt_machine.specs.BytesView.{bytes_view, IsBetween};
+ghost use Rattle.wkt_machine.specs.Goes.{Goes, Refuses};
+ghost use Rattle.wkt_machine.specs.HeadBytes.{IsKindName, EndsWord, StandsHead};
+ghost use Rattle.wkt_access.specs.declared.dimensions.Dimension.TheVariants as dim_of;
+ghost use Rattle.wkt_events.specs.Walking.{Legible};
+ghost use Rattle.wkt_machine.specs.Machine.{inside};
+ghost use Rattle.wkt_machine.specs.Machines.{state_of, IsSound};
+ghost use Rattle.wkt_machine.specs.declared.machine.State.TheVariants as next;
+ghost use Rattle.wkt_machine.specs.declared.part.Part.TheVariants as part_of;
+
+use crate::builder::Builder;
+use crate::bytes::Bytes;
+use crate::coordinates::coordinates;
+use crate::machine::{Machine, State};
+use crate::part::Part;
+use crate::source::{At, Walked};
+use wkt_access::Dimension;
+use wkt_events::skip_white;
+use wkt_num::WktNum;
+
+/// The bytes of `GEOMETRYCOLLECTION (`.
+const LONGEST_HEAD: usize = 20;
+
+/// Behind the header that comes next, and its parenthesis; of a point behind its coordinate.
+#[inline(always)]
+#[tactic(auto, using(crate::proofs::TokenViews::kind_open, crate::proofs::TokenViews::kind_sound))]
+pub(crate) fn header<'a, T: WktNum, B: Builder<T>, const FEED_ENDS: bool>(
+    machine: Machine,
+    source: Bytes<'a, FEED_ENDS>,
+    builder: B,
+) -> Walked<Bytes<'a, FEED_ENDS>, B>
+    requires state { machine.state ≡ next.Kind }
+    requires room { machine.depth + length (left_placed FEED_ENDS source.text.now source.at) ≤ usize.MAX }
+    requires inside { source.at ≤ length source.text.now }
+    ensures on { IfOk result (Goes T.read (bytes_view FEED_ENDS) B.maker machine source.entry builder) }
+    ensures refused { IfErr result (Refuses T.read (bytes_view FEED_ENDS) B.maker machine source.entry builder) }
+{
+    let text = source.text;
+    let at = skip_white::<FEED_ENDS>(text, source.at);
+    if let Some(end) = point_head::<FEED_ENDS>(text, at) {
+        let within = machine.begun(State::X, Part::Point, Dimension::XY);
+        let At {
+            source: behind,
+            machine: begun,
+            builder: made,
+        } = opened::<T, B, FEED_ENDS>(Part::Point, at, end, machine, within, source, builder);
+        return coordinates::<T, B, FEED_ENDS>(begun, behind, made);
+    }
+    match head::<FEED_ENDS>(text, at) {
+        Some((part, end)) => {
+            let within = machine.begun(State::Opening, part, Dimension::XY).inside();
+            Ok(opened::<T, B, FEED_ENDS>(part, at, end, machine, within, source, builder))
+        }
+        None => machine.step(source, builder),
+    }
+}
+
+/// Behind the header of a part that stands there in two dimensions, and its parenthesis, which ends at `end`. The machine
+/// `within` is there.
+#[inline(always)]
+fn opened<'a, T: WktNum, B: Builder<T>, const FEED_ENDS: bool>(
+    part: Part,
+    at: usize,
+    end: usize,
+    machine: Machine,
+    within: Machine,
+    source: Bytes<'a, FEED_ENDS>,
+    builder: B,
+) -> At<Bytes<'a, FEED_ENDS>, B>
+    requires state { machine.state ≡ next.Kind }
+    requires there { state_of within ≡ inside part dim_of.XY machine.depth }
+    requires sound { IsSound within }
+    requires between { IsBetween FEED_ENDS source.text.now source.at at }
+    requires line { Legible FEED_ENDS source.text.now source.at → Legible FEED_ENDS source.text.now at }
+    requires head { StandsHead FEED_ENDS source.text.now at part end }
+    ensures on { Goes T.read (bytes_view FEED_ENDS) B.maker machine source.entry builder result }
+    ensures text { result.source.text ≡ source.entry.text }
+    ensures at { result.source.at ≡ end }
+    ensures machine { result.machine ≡ within }
+{
+    let _ = at;
+    let text = source.text;
+    At {
+        source: Bytes::new(text, end),
+        machine: within,
+        builder: builder.begin(part, Dimension::XY).open(part),
+    }
+}
+
+/// The part whose header stands there, in two dimensions, and where the parenthesis ends behind it. `None` doesn't imply
+/// that no header stands there.
+#[inline(always)]
+fn head<const FEED_ENDS: bool>(text: &[u8], at: usize) -> Option<(Part, usize)>
+    requires { at ≤ length text.now }
+    ensures { IfSome result (λ h. StandsHead FEED_ENDS text.now at h.0 h.1) }
+{
+    if text.len() - at < LONGEST_HEAD {
+        return None;
+    }
+    match text[at] {
+        b'G' => named::<18, FEED_ENDS>(Part::Collection, b"GEOMETRYCOLLECTION", text, at),
+        b'L' => named::<10, FEED_ENDS>(Part::LineString, b"LINESTRING", text, at),
+        b'P' => match named::<7, FEED_ENDS>(Part::Polygon, b"POLYGON", text, at) {
+            Some(found) => Some(found),
+            None => named::<5, FEED_ENDS>(Part::Point, b"POINT", text, at),
+        },
+        b'M' => multi_head::<FEED_ENDS>(text, at),
+        _ => None,
+    }
+}
+
+/// The same of the kinds of several.
+#[inline(always)]
+fn multi_head<const FEED_ENDS: bool>(text: &[u8], at: usize) -> Option<(Part, usize)>
+    requires { at + 20 ≤ length text.now }
+    ensures { IfSome result (λ h. StandsHead FEED_ENDS text.now at h.0 h.1) }
+{
+    match named::<12, FEED_ENDS>(Part::MultiPolygon, b"MULTIPOLYGON", text, at) {
+        Some(found) => Some(found),
+        None => match named::<15, FEED_ENDS>(Part::MultiLineString, b"MULTILINESTRING", text, at) {
+            Some(found) => Some(found),
+            None => named::<10, FEED_ENDS>(Part::MultiPoint, b"MULTIPOINT", text, at),
+        },
+    }
+}
+
+/// The same of one kind.
+#[inline(always)]
+fn named<const N: usize, const FEED_ENDS: bool>(
+    part: Part,
+    word: &[u8; N],
+    text: &[u8],
+    at: usize,
+) -> Option<(Part, usize)>
+    requires name { IsKindName part word.now }
+    requires some { 0 < N }
+    requires room { at + N + 2 ≤ length text.now }
+    ensures { IfSome result (λ h. StandsHead FEED_ENDS text.now at h.0 h.1) }
+{
+    if !begins::<N>(word, &text[at..]) {
+        return None;
+    }
+    match opens_behind::<FEED_ENDS>(text, at + N) {
+        Some(end) => Some((part, end)),
+        None => None,
+    }
+}
+
+/// Behind `POINT(` or `POINT (`. `None` doesn't imply that none stands there.
+#[inline(always)]
+fn point_head<const FEED_ENDS: bool>(text: &[u8], at: usize) -> Option<usize>
+    requires { at ≤ length text.now }
+    ensures { IfSome result (StandsHead FEED_ENDS text.now at part_of.Point) }
+{
+    if text.len() - at < 8 || !is_point(&text[at..]) {
+        return None;
+    }
+    opens_behind::<FEED_ENDS>(text, at + 5)
+}
+
+/// Behind a parenthesis, or a space and a parenthesis.
+#[inline(always)]
+fn opens_behind<const FEED_ENDS: bool>(text: &[u8], at: usize) -> Option<usize>
+    requires { at + 2 ≤ length text.now }
+    ensures { IfSome result (EndsWord FEED_ENDS text.now at) }
+{
+    if text[at] == b'(' {
+        return Some(at + 1);
+    }
+    if text[at] == b' ' && text[at + 1] == b'(' {
+        return Some(at + 2);
+    }
+    None
+}
+
+/// Whether the bytes begin with the word. Where it is a constant, the compiler makes few comparisons of it.
+#[inline(always)]
+fn begins<const N: usize>(word: &[u8; N], bytes: &[u8]) -> bool
+    requires { N ≤ length bytes.now }
+    ensures { OnTrue result (take N bytes.now ≡ word.now) }
+{
+    for i in 0..N {
+        if bytes[i] != word[i] {
+            return false;
+        }
+    }
+    true
+}
+
+/// The bytes `POIN`, as one number.
+const POIN: u32 = 0x4e49_4f50;
+
+/// Whether the bytes begin with `POINT`, by two comparisons.
+#[inline(always)]
+fn is_point(bytes: &[u8]) -> bool
+    requires { 5 ≤ length bytes.now }
+    ensures { OnTrue result (take 5 bytes.now ≡ codes "POINT") }
+{
+    if four_bytes(bytes) != POIN {
+        return false;
+    }
+    if bytes[4] != b'T' {
+        return false;
+    }
+    true
+}
+
+/// The first four bytes as one number, the lowest first.
+#[inline(always)]
+fn four_bytes(bytes: &[u8]) -> u32
+    requires { 4 ≤ length bytes.now }
+    ensures { to_le_bytes w32 result ≡ take 4 bytes.now }
+{
+    u32::from_le_bytes([bytes[0], bytes[1], bytes[2], bytes[3]])
+}

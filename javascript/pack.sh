@@ -1,0 +1,20 @@
+#!/usr/bin/env bash
+# Puts the package together, as npm lays it out: pack.sh MODULE OUT [SECONDS]. It prints OUT/wkt-proved-VERSION.tgz.
+#
+# MODULE is wkt.wasm. The bytes depend on the files alone: their time is SECONDS since 1970, or the last commit's. `npm pack`
+# isn't used, since the module and the licences stand in other folders.
+set -eu
+here=$(cd "$(dirname "$0")" && pwd)
+top=$(dirname "$here")
+module=$1 out=$(cd "$2" && pwd)
+when=${3:-$(git -C "$top" log -1 --format=%ct)}
+version=$(sed -n 's/^  "version": "\(.*\)",$/\1/p' "$here/package.json")
+work=$(mktemp -d)
+trap 'rm -rf "$work"' EXIT
+mkdir "$work/package"
+cp -r "$here"/{package.json,README.md,src} "$top"/LICENSE-{APACHE,MIT} "$work/package"
+cp "$top/dist/NOTICE" "$work/package"
+cp "$module" "$work/package/wkt.wasm"
+tar -C "$work" --format=ustar --sort=name --owner=0 --group=0 --numeric-owner --mode=u=rwX,go=rX --mtime="@$when" -cf - package |
+    gzip -9n > "$out/wkt-proved-$version.tgz"
+echo "$out/wkt-proved-$version.tgz"

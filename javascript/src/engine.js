@@ -1,0 +1,262 @@
+// The module and its memory.
+//
+// The proved module has no allocator: its stack is at the front of its memory, and all from __heap_base on is ours. Each
+// call lays out there anew what it needs, so nothing is freed, and nothing leaks. Memory grows to what the longest call
+// needed; `start` begins with a new memory.
+import { STATUS } from './names.js';
+import { WktError } from './errors.js';
+
+const PAGE = 65536;
+// Results: sixteen words of 64 bits. Behind them stands what a call lays out.
+const CELLS = 16;
+// Of a text that is at most so long the bytes are put, and compared, one by one: that is faster than the conversions.
+const SHORT = 48;
+// Lengths of short texts as BigInt, made once.
+const SMALL = Array.from({ length: 1024 }, (_, n) => BigInt(n));
+
+const encoder = new TextEncoder();
+const ascii = new TextDecoder();
+const utf8 = new TextDecoder('utf-8', { fatal: true, ignoreBOM: true });
+
+/** The next multiple of 16. An address may have 32 bits, so it is no case for `&`. */
+const aligned = (n) => n + 15 - ((n + 15) % 16);
+export const big = (n) => (n < SMALL.length ? SMALL[n] : BigInt(n));
+
+/** The first half of a surrogate pair that stands alone in a string, or -1. */
+function loneSurrogate(text) {
+  for (let i = 0; i < text.length; i++) {
+    const unit = text.charCodeAt(i);
+    if (unit < 0xd800 || unit >= 0xe000) continue;
+    const next = text.charCodeAt(i + 1);
+    if (unit >= 0xdc00 || !(next >= 0xdc00 && next < 0xe000)) return i;
+    i++;
+  }
+  return -1;
+}
+
+/** A string that has no UTF-8. */
+export class LoneSurrogate extends Error {
+  constructor(at) {
+    super('a lone surrogate');
+    this.at = at;
+  }
+}
+
+export class Engine {
+  /** @param {WebAssembly.Module} module */
+  constructor(module) {
+    this.module = module;
+    this.start();
+  }
+
+  start() {
+    const { exports } = new WebAssembly.Instance(this.module, {});
+    this.calls = exports;
+    this.memory = exports.memory;
+    this.base = aligned(Number(exports.__heap_base.value));
+    // Where the first text of a call stands.
+    this.texts = this.base + 8 * CELLS;
+    this.cellAt = Array.from({ length: CELLS }, (_, i) => BigInt(this.base + 8 * i));
+    this.view();
+    this.reset();
+    this.room(PAGE);
+  }
+
+  view() {
+    this.bytes = new Uint8Array(this.memory.buffer);
+    this.words = new Uint32Array(this.memory.buffer);
+    this.cells = this.words.subarray(this.base / 4, this.base / 4 + 2 * CELLS);
+  }
+
+  /** Begins a call: what the last laid out is gone. */
+  reset() {
+    this.at = this.texts;
+  }
+
+  /** Makes sure that so many bytes stand behind what is laid out. */
+  room(size) {
+    const lacking = Math.ceil((this.at + size - this.bytes.length) / PAGE);
+    if (lacking <= 0) return;
+    // By half at once, so that calls that need more and more grow it seldom; or, where that isn't there, by what is needed.
+    const half = Math.floor(this.bytes.length / PAGE / 2);
+    if (!this.grows(Math.max(lacking, half)) && !this.grows(lacking)) throw new WktError(STATUS.NO_MEMORY);
+    this.view();
+  }
+
+  grows(pages) {
+    try {
+      this.memory.grow(pages);
+      return true;
+    } catch (error) {
+      if (error instanceof RangeError) return false;
+      throw error;
+    }
+  }
+
+  /** Lays out so many bytes, at a multiple of 16. */
+  lay(size) {
+    this.room(size + 16);
+    const { at } = this;
+    this.at = aligned(at + size);
+    return at;
+  }
+
+  /** A result of 64 bits, of which no size here needs the upper half. */
+  size(cell) {
+    return this.cells[2 * cell];
+  }
+
+  /** A result of 32 bits; `half` counts them. */
+  number(half) {
+    return this.cells[half];
+  }
+
+  /** Lays out a text as UTF-8, and returns where it stands; its length is in `this.length`. */
+  put(text) {
+    if (typeof text === 'string') return this.putString(text);
+    if (!(text instanceof Uint8Array)) throw new TypeError('a text is a string or a Uint8Array');
+    const at = this.lay(text.length);
+    this.bytes.set(text, at);
+    this.length = text.length;
+    return at;
+  }
+
+  putString(text) {
+    const n = text.length;
+    this.room(n + 32);
+    const { at } = this;
+    this.length = n <= SHORT && this.putAscii(text, at) ? n : this.encode(text, at);
+    this.at = aligned(at + this.length);
+    return at;
+  }
+
+  /** Whether a string is of ASCII alone; then it stands there. */
+  putAscii(text, at) {
+    const { bytes } = this;
+    for (let i = 0; i < text.length; i++) {
+      const unit = text.charCodeAt(i);
+      if (unit > 127) return false;
+      bytes[at + i] = unit;
+    }
+    return true;
+  }
+
+  encode(text, at) {
+    const n = text.length;
+    let done = encoder.encodeInto(text, this.bytes.subarray(at));
+    if (done.read < n) {
+      this.room(3 * n + 32);
+      done = encoder.encodeInto(text, this.bytes.subarray(at));
+    }
+    if (done.written !== n) {
+      // The encoder puts U+FFFD in place of a lone surrogate: that would be another text.
+      const lone = loneSurrogate(text);
+      if (lone >= 0) throw new LoneSurrogate(lone);
+    }
+    return done.written;
+  }
+
+  /** The ASCII text that stands there. */
+  ascii(at, length) {
+    if (length > SHORT / 2) return ascii.decode(this.bytes.subarray(at, at + length));
+    let text = '';
+    for (let i = at; i < at + length; i++) text += String.fromCharCode(this.bytes[i]);
+    return text;
+  }
+
+  /** The UTF-8 text that stands there. */
+  utf8(at, length) {
+    return utf8.decode(this.bytes.subarray(at, at + length));
+  }
+
+  /** How many UTF-16 units the first bytes of the UTF-8 text there are. */
+  units(at, length) {
+    let n = 0;
+    for (let i = at; i < at + length; i++) {
+      const byte = this.bytes[i];
+      if ((byte & 0xc0) !== 0x80) n += byte >= 0xf0 ? 2 : 1;
+    }
+    return n;
+  }
+
+  /** The canonical text of the last call of `canonical` as a string: the text itself, where it is short and its own. */
+  answerTo(text, at, length) {
+    if (length === text.length && length === this.length && length <= 256 && typeof text === 'string') {
+      const { bytes, answer } = this;
+      let i = 0;
+      while (i < length && bytes[at + i] === bytes[answer + i]) i++;
+      if (i === length) return text;
+    }
+    return this.ascii(this.answer, length);
+  }
+
+  /** Calls the module. If the engine stops its code, which is proved not to trap, the next call has a new instance. */
+  call(name, ...args) {
+    try {
+      return this.calls[name](...args);
+    } catch (error) {
+      if (error instanceof WebAssembly.RuntimeError) this.start();
+      throw error;
+    }
+  }
+
+  /** A text's canonical text, at `this.answer`; its length is size 0, and the end of the geometry size 1. */
+  canonical(at, length, places) {
+    const room = 2 * length + 65;
+    const answer = this.lay(room);
+    this.answer = answer;
+    try {
+      return this.calls.wkt_canonical(big(at), big(length), places, big(answer), big(room), this.cellAt[0], this.cellAt[1]);
+    } catch (error) {
+      if (error instanceof WebAssembly.RuntimeError) this.start();
+      throw error;
+    }
+  }
+
+  /** Where a text is refused: message (number 0), start (size 1), stop (size 2), expected (number 6). */
+  explain(at, length, places) {
+    const cell = this.cellAt;
+    return this.call('wkt_explain', big(at), big(length), places, cell[0], cell[1], cell[2], cell[3]);
+  }
+
+  /** The number of the hint to a text that is refused, or 0. */
+  hint(at, length, places) {
+    return this.call('wkt_hint', big(at), big(length), places, this.cellAt[4]) === STATUS.OK ? this.number(8) : 0;
+  }
+
+  /** Whether two texts begin with one geometry (number 0). */
+  same(one, length, other, otherLength, places) {
+    const sizes = [2 * length + 65, 2 * otherLength + 65];
+    const rooms = sizes.map((size) => this.lay(size));
+    const cell = this.cellAt;
+    return this.call('wkt_same', big(one), big(length), big(other), big(otherLength), places,
+      big(rooms[0]), big(sizes[0]), big(rooms[1]), big(sizes[1]), cell[0], cell[1], cell[2]);
+  }
+
+  /** The kind (number 0) and the dimension (number 2) of a text's header. */
+  infer(at, length) {
+    return this.call('wkt_infer', big(at), big(length), this.cellAt[0], this.cellAt[1]);
+  }
+
+  /**
+   * Flat arrays, at the addresses in `this.arraysAt`. Kind and dimension are numbers 4 and 5, the lengths sizes 3 to 5, the
+   * end of the geometry size 6.
+   */
+  arrays(at, length, places) {
+    // Each of the three is made in a room, and copied from there.
+    const [numbers, rings, polygons] = [Math.floor(length / 2) + 2, Math.floor(length / 4) + 2, Math.floor(length / 6) + 2];
+    const [roomN, roomR, roomP] = [this.lay(8 * numbers), this.lay(8 * rings), this.lay(8 * polygons)];
+    const [outN, outR, outP] = [this.lay(8 * numbers), this.lay(8 * rings), this.lay(8 * polygons)];
+    this.arraysAt = [outN, outR, outP];
+    return this.call('wkt_arrays', big(at), big(length), places,
+      big(roomN), big(numbers), big(roomR), big(rings), big(roomP), big(polygons), this.cellAt[2],
+      big(outN), big(numbers), big(outR), big(rings), big(outP), big(polygons));
+  }
+
+  /** So many offsets there: numbers of 64 bits, whose upper halves are 0, since a text has less than 2^32 bytes. */
+  offsets(at, count) {
+    const out = new Uint32Array(count);
+    for (let i = 0; i < count; i++) out[i] = this.words[at / 4 + 2 * i];
+    return out;
+  }
+}

@@ -1,0 +1,102 @@
+// Lines, answered piece by piece.
+import { STATUS } from './names.js';
+import { WktError } from './errors.js';
+import { big } from './engine.js';
+
+const BLOCK = 1 << 20;
+const FEED = 10;
+
+/** The answers to lines that come in chunks. What is left of a line is kept here, so other calls may come between. */
+export class LineAnswers {
+  #engine;
+  #places;
+  #line = []; // the beginning of a line, in pieces
+  #length = 0;
+
+  constructor(engine, places) {
+    this.#engine = engine;
+    this.#places = places;
+  }
+
+  /** The answers to all lines that end in this chunk, in pieces. */
+  push(chunk) {
+    const answers = [];
+    let from = 0;
+    if (this.#length > 0) {
+      const feed = chunk.indexOf(FEED);
+      this.#keep(feed < 0 ? chunk.slice() : chunk.subarray(0, feed + 1));
+      if (feed < 0) return answers;
+      this.#finish(false, answers);
+      from = feed + 1;
+    }
+    while (from < chunk.length) {
+      // A block of whole lines, or one that is longer.
+      let feed = chunk.lastIndexOf(FEED, Math.min(chunk.length, from + BLOCK) - 1);
+      if (feed < from) feed = chunk.indexOf(FEED, from);
+      if (feed < 0) break;
+      this.#answer([chunk.subarray(from, feed + 1)], feed + 1 - from, false, answers);
+      from = feed + 1;
+    }
+    if (from < chunk.length) this.#keep(chunk.slice(from));
+    return answers;
+  }
+
+  /** The answer to what is left, where the input ends. */
+  end() {
+    const answers = [];
+    if (this.#length > 0) this.#finish(true, answers);
+    return answers;
+  }
+
+  #keep(piece) {
+    this.#line.push(piece);
+    this.#length += piece.length;
+  }
+
+  #finish(last, answers) {
+    this.#answer(this.#line, this.#length, last, answers);
+    this.#line = [];
+    this.#length = 0;
+  }
+
+  #answer(pieces, length, last, answers) {
+    const engine = this.#engine;
+    engine.reset();
+    const at = engine.lay(length);
+    let to = at;
+    for (const piece of pieces) {
+      engine.bytes.set(piece, to);
+      to += piece.length;
+    }
+    // Lines of n bytes have a room of 2n + 65 surely; most need no more than their own length.
+    let room = length + (length >> 3) + 4096;
+    let taken = 0;
+    while (taken < length) {
+      const before = engine.at;
+      const answer = engine.lay(room);
+      const status = engine.call('wkt_lines_some', big(at + taken), big(length - taken), this.#places, last ? 1 : 0,
+        big(answer), big(room), engine.cellAt[0], engine.cellAt[1]);
+      if (status !== STATUS.OK) throw new WktError(status);
+      const some = engine.size(0);
+      if (engine.size(1) > 0) answers.push(engine.bytes.slice(answer, answer + engine.size(1)));
+      taken += some;
+      engine.at = before;
+      if (some === 0) {
+        const surely = 2 * (length - taken) + 65;
+        if (room >= surely) throw new WktError(STATUS.TOO_SMALL);
+        room = Math.min(surely, 4 * room);
+      }
+    }
+  }
+}
+
+/** Pieces of bytes as one. */
+export function joined(pieces) {
+  const all = new Uint8Array(pieces.reduce((n, piece) => n + piece.length, 0));
+  let at = 0;
+  for (const piece of pieces) {
+    all.set(piece, at);
+    at += piece.length;
+  }
+  return all;
+}

@@ -1,0 +1,263 @@
+// What the module answers.
+import { Engine, LoneSurrogate } from './engine.js';
+import { WktError } from './errors.js';
+import { explanation, explanationOfBytes, hintWords } from './explanation.js';
+import { DIMENSIONS, EXPECTED, HEADER_MESSAGES, KINDS, STATUS } from './names.js';
+import { Arrays, equal, textOfArrays } from './arrays.js';
+import { geoJSONOf } from './geojson.js';
+import { textOfGeoJSON } from './fromgeojson.js';
+import { parseExact } from './json.js';
+import { LineAnswers, joined } from './lines.js';
+
+const WHOLE = 256; // WKT_WHOLE of include/wkt.h
+
+/** The number by which a call asks for so many places, and for whole texts. */
+function asking(places, whole = false) {
+  if (!Number.isInteger(places)) throw new TypeError('places is a whole number');
+  if (typeof whole !== 'boolean') throw new TypeError('whole is true or false');
+  if (places < 0 || places > 18) throw new WktError(STATUS.NO_PLACES);
+  return whole ? places + WHOLE : places;
+}
+
+const isRefusal = (status) => status <= STATUS.LAST_REFUSAL || status === STATUS.NOT_WHOLE;
+
+/** The proved module with its memory. `load` makes one. */
+export class Wkt {
+  #engine;
+
+  constructor(module) {
+    this.#engine = new Engine(module);
+  }
+
+  canonical(text, { places = 18, whole = true } = {}) {
+    const engine = this.#engine;
+    const length = this.#canonical(text, asking(places, whole));
+    return engine.answerTo(text, engine.texts, length);
+  }
+
+  canonicalBytes(text, { places = 18, whole = true } = {}) {
+    const engine = this.#engine;
+    const length = this.#canonical(text, asking(places, whole));
+    return engine.bytes.slice(engine.answer, engine.answer + length);
+  }
+
+  front(text, { places = 18 } = {}) {
+    const engine = this.#engine;
+    const length = this.#canonical(text, asking(places));
+    return { canonical: engine.ascii(engine.answer, length), end: this.#placeIn(text, engine.texts, engine.size(1)) };
+  }
+
+  reads(text, { places = 18, whole = true } = {}) {
+    const status = this.#status(text, asking(places, whole));
+    if (status === STATUS.NO_MEMORY) throw new WktError(status);
+    return status === STATUS.OK;
+  }
+
+  same(one, other, { places = 18, whole = true } = {}) {
+    const engine = this.#engine;
+    const asked = asking(places, whole);
+    engine.reset();
+    const at = this.#put(one);
+    const { length } = engine;
+    const otherAt = this.#put(other);
+    const otherLength = engine.length;
+    const status = engine.same(at, length, otherAt, otherLength, asked);
+    if (status === STATUS.OK) return engine.number(0) === 1;
+    if (!isRefusal(status)) throw new WktError(status);
+    // Which of them is refused.
+    throw new WktError(status, this.#explained(one, at, length, asked) ?? this.#explained(other, otherAt, otherLength, asked));
+  }
+
+  explain(text, { places = 18, whole = true } = {}) {
+    const asked = asking(places, whole);
+    this.#engine.reset();
+    const at = this.#put(text);
+    return this.#explained(text, at, this.#engine.length, asked);
+  }
+
+  infer(text) {
+    const engine = this.#engine;
+    engine.reset();
+    const at = this.#put(text);
+    const status = engine.infer(at, engine.length);
+    if (status !== STATUS.OK) throw new WktError(status, null, HEADER_MESSAGES[status]);
+    return { kind: KINDS[engine.number(0)], dimension: DIMENSIONS[engine.number(2)] };
+  }
+
+  arrays(text, { places = 6, whole = true } = {}) {
+    const engine = this.#engine;
+    const asked = asking(places, whole);
+    engine.reset();
+    const at = this.#put(text);
+    const { length } = engine;
+    const status = engine.arrays(at, length, asked);
+    if (status !== STATUS.OK) throw this.#refusal(status, text, at, length, asked);
+    const { buffer } = engine.memory;
+    const [numbers, rings, polygons] = engine.arraysAt;
+    return new Arrays(
+      KINDS[engine.number(4)], DIMENSIONS[engine.number(5)], places,
+      new BigInt64Array(buffer.slice(numbers, numbers + 8 * engine.size(3))),
+      engine.offsets(rings, engine.size(4)), engine.offsets(polygons, engine.size(5)),
+      this.#placeIn(text, at, engine.size(6)),
+    );
+  }
+
+  fromArrays({ kind, dimension = 'XY', numbers, rings, polygons, places = 6 }) {
+    asking(places);
+    for (const list of [numbers, rings, polygons]) {
+      if (!Array.isArray(list) && !ArrayBuffer.isView(list)) throw new TypeError('numbers, rings and polygons are arrays');
+    }
+    for (const units of numbers) if (typeof units !== 'bigint') throw new TypeError('numbers are of BigInt');
+    const given = { kind, dimension, numbers, rings, polygons, places };
+    const text = textOfArrays(given);
+    if (text === null) throw new WktError(STATUS.NOT_ARRAYS);
+    // The text is made here, where nothing is proved: what the proved code reads in it is compared with what was given.
+    let back;
+    try {
+      back = this.arrays(text, { places });
+    } catch (error) {
+      if (error instanceof WktError && error.status !== STATUS.NO_MEMORY) throw new WktError(STATUS.NOT_ARRAYS);
+      throw error;
+    }
+    const same = back.kind === kind && back.dimension === dimension
+      && equal(back.numbers, numbers) && equal(back.rings, rings) && equal(back.polygons, polygons);
+    if (!same) throw new WktError(STATUS.NOT_ARRAYS);
+    return this.canonical(text, { places });
+  }
+
+  columns(texts, { places = 18, whole = true } = {}) {
+    const engine = this.#engine;
+    const asked = asking(places, whole);
+    const answers = [];
+    const statuses = [];
+    for (const text of texts) {
+      const status = text === null || text === undefined ? STATUS.NULL : this.#status(text, asked);
+      if (status === STATUS.NO_MEMORY) throw new WktError(status);
+      answers.push(status === STATUS.OK ? engine.answerTo(text, engine.texts, engine.size(0)) : null);
+      statuses.push(status);
+    }
+    return { texts: answers, statuses: Uint8Array.from(statuses) };
+  }
+
+  lines(input, { places = 18 } = {}) {
+    const engine = this.#engine;
+    const answers = new LineAnswers(engine, asking(places));
+    const isString = typeof input === 'string';
+    if (!isString && !(input instanceof Uint8Array)) throw new TypeError('lines are a string or a Uint8Array');
+    let bytes = input;
+    if (isString) {
+      engine.reset();
+      const at = this.#put(input);
+      bytes = engine.bytes.slice(at, at + engine.length);
+    }
+    const all = joined([...answers.push(bytes), ...answers.end()]);
+    return isString ? new TextDecoder().decode(all) : all;
+  }
+
+  lineStream({ places = 18 } = {}) {
+    const answers = new LineAnswers(this.#engine, asking(places));
+    return new TransformStream({
+      transform(chunk, out) {
+        if (!(chunk instanceof Uint8Array)) throw new TypeError('lineStream takes chunks of bytes');
+        for (const piece of answers.push(chunk)) out.enqueue(piece);
+      },
+      flush(out) {
+        for (const piece of answers.end()) out.enqueue(piece);
+      },
+    });
+  }
+
+  toGeoJSON(text, { places = 18, whole = true, m = 'refuse' } = {}) {
+    if (!['refuse', 'drop', 'keep'].includes(m)) throw new TypeError("m is 'refuse', 'drop' or 'keep'");
+    return geoJSONOf(this.canonical(text, { places, whole }), m);
+  }
+
+  toGeoJSONObject(text, options) {
+    return JSON.parse(this.toGeoJSON(text, options));
+  }
+
+  fromGeoJSON(geometry, { places = 18 } = {}) {
+    const text = textOfGeoJSON(typeof geometry === 'string' ? parseExact(geometry) : geometry);
+    try {
+      return this.canonical(text, { places });
+    } catch (error) {
+      // Only a number can be refused. Its place is one in a text that the caller doesn't know.
+      if (error instanceof WktError && error.place) throw new WktError(STATUS.BAD_NUMBER, null, error.hint || error.words);
+      throw error;
+    }
+  }
+
+  get memory() {
+    return this.#engine.memory.buffer.byteLength;
+  }
+
+  release() {
+    this.#engine.start();
+  }
+
+  /** Lays out a text. */
+  #put(text) {
+    try {
+      return this.#engine.put(text);
+    } catch (error) {
+      if (!(error instanceof LoneSurrogate)) throw error;
+      const place = explanation(text, STATUS.NOT_UTF8, error.at, error.at + 1, 'a character', 'a lone surrogate is half of a character');
+      throw new WktError(STATUS.NOT_UTF8, place);
+    }
+  }
+
+  /** The status of a text; where it is 0 the answer stands in memory. */
+  #status(text, asked) {
+    const engine = this.#engine;
+    engine.reset();
+    let at;
+    try {
+      at = engine.put(text);
+    } catch (error) {
+      if (error instanceof LoneSurrogate) return STATUS.NOT_UTF8;
+      throw error;
+    }
+    return engine.canonical(at, engine.length, asked);
+  }
+
+  /** The length of a text's canonical text, which stands in memory. */
+  #canonical(text, asked) {
+    const engine = this.#engine;
+    engine.reset();
+    const at = this.#put(text);
+    const status = engine.canonical(at, engine.length, asked);
+    if (status !== STATUS.OK) throw this.#refusal(status, text, at, engine.length, asked);
+    return engine.size(0);
+  }
+
+  /** The error of a text that stands at `at`. */
+  #refusal(status, text, at, length, asked) {
+    return new WktError(status, isRefusal(status) ? this.#explained(text, at, length, asked) : null);
+  }
+
+  /** Why the text that stands at `at` is refused; null where it is read. */
+  #explained(text, at, length, asked) {
+    const engine = this.#engine;
+    const status = engine.explain(at, length, asked);
+    if (status === STATUS.ACCEPTED) return null;
+    if (status !== STATUS.OK && status !== STATUS.NOT_WHOLE) throw new WktError(status);
+    const [start, stop] = [engine.size(1), engine.size(2)];
+    if (status === STATUS.NOT_WHOLE) return this.#explanation(text, at, length, [status, start, stop, 'the end of the text']);
+    const [message, expected] = [engine.number(0), EXPECTED[engine.number(6)]];
+    const hint = engine.hint(at, length, asked);
+    const words = hint === 0 ? '' : hintWords(hint, engine.utf8(at + start, stop - start), asked % WHOLE);
+    return this.#explanation(text, at, length, [message, start, stop, expected, words]);
+  }
+
+  #explanation(text, at, length, [status, start, stop, ...words]) {
+    const engine = this.#engine;
+    if (typeof text !== 'string') return explanationOfBytes(engine.bytes.subarray(at, at + length), status, start, stop, ...words);
+    const [first, last] = length === text.length ? [start, stop] : [engine.units(at, start), engine.units(at, stop)];
+    return explanation(text, status, first, last, ...words);
+  }
+
+  /** A place in the bytes of a text as one in the text. */
+  #placeIn(text, at, place) {
+    return typeof text === 'string' ? this.#engine.units(at, place) : place;
+  }
+}

@@ -1,0 +1,69 @@
+#!/usr/bin/python3
+"""The package in headless Chromium: browser.py PACKAGE. The example of its README, and a stream of lines, from a server."""
+import functools
+import http.server
+import os
+import sys
+import tempfile
+import threading
+
+from selenium import webdriver
+
+LINES = """
+const done = arguments[0];
+(async () => {
+  const { load, WktError, STATUS } = await import('/wkt-proved/src/index.js');
+  const wkt = await load();
+  let refused;
+  try { wkt.canonical('\\ud800'); } catch (error) { refused = error instanceof WktError && error.status === STATUS.NOT_UTF8; }
+  const source = new Blob(['point(1 2.0)\\nx\\n', 'POINT(3']).stream();
+  return [refused, await new Response(source.pipeThrough(wkt.lineStream())).text()];
+})().then(done, (error) => done(String(error.stack)));
+"""
+
+
+class Quiet(http.server.SimpleHTTPRequestHandler):
+    extensions_map = {".js": "text/javascript", ".wasm": "application/wasm", ".html": "text/html"}
+
+    def log_message(self, *_):
+        pass
+
+
+def check(driver, address):
+    driver.get(address)
+    driver.set_script_timeout(60)
+    assert driver.execute_async_script(LINES) == [True, "POINT(1 2)\nrefused\nrefused\n"]
+    shown = driver.execute_async_script(
+        "const done = arguments[0]; const look = () => document.body.innerText ? done(document.body.innerText) : setTimeout(look, 20); look();"
+    )
+    assert shown == "POINT(1 2.5)", shown
+    # That there is no icon is no fault of the package.
+    said = [it["message"] for it in driver.get_log("browser") if "favicon" not in it["message"]]
+    assert not said, said
+
+
+def main():
+    package = os.path.abspath(sys.argv[1])
+    with open(f"{package}/README.md", encoding="utf-8") as page:
+        example = page.read().split("```html\n")[1].split("```")[0]
+    with tempfile.TemporaryDirectory() as folder:
+        os.symlink(package, f"{folder}/wkt-proved")
+        with open(f"{folder}/index.html", "w", encoding="utf-8") as page:
+            page.write(f"<!doctype html><title>wkt</title><body>{example}")
+        server = http.server.ThreadingHTTPServer(("127.0.0.1", 0), functools.partial(Quiet, directory=folder))
+        threading.Thread(target=server.serve_forever, daemon=True).start()
+        options = webdriver.ChromeOptions()
+        options.set_capability("goog:loggingPrefs", {"browser": "ALL"})
+        for word in ("--headless=new", "--no-sandbox", "--disable-dev-shm-usage"):
+            options.add_argument(word)
+        driver = webdriver.Chrome(options=options)
+        try:
+            check(driver, f"http://127.0.0.1:{server.server_port}/index.html")
+            print(f"the package in Chromium {driver.capabilities['browserVersion']}: its example, and a stream of lines")
+        finally:
+            driver.quit()
+            server.shutdown()
+
+
+if __name__ == "__main__":
+    main()

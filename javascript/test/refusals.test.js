@@ -1,0 +1,138 @@
+// Refused texts: which message each has, at which place, and how that is shown.
+import test from 'node:test';
+import assert from 'node:assert/strict';
+import { WktError, STATUS } from '../src/index.js';
+import { MESSAGES } from '../src/names.js';
+import { bytes, rowsOf, thrown, wkt } from './support.js';
+
+test('the message of each refused text of the table', () => {
+  let refused = 0;
+  for (const [text, answer] of rowsOf('crates/wkt_conformance/stdin')) {
+    const message = MESSAGES.indexOf(answer);
+    if (message < 0) {
+      assert.equal(wkt.canonical(text, { whole: false }), answer, text);
+      continue;
+    }
+    refused++;
+    const error = thrown(() => wkt.canonical(text));
+    assert.deepEqual([error.status, error.words, error.message], [message, answer, error.place.cause], text);
+    const why = wkt.explain(text);
+    assert.deepEqual(why, error.place);
+    assert.deepEqual(wkt.explain(text, { whole: false }), why);
+    // What stands before the place is no fault: of a text that ends there nothing before it is refused.
+    const cut = wkt.explain(text.slice(0, why.start), { whole: false });
+    assert.ok(cut === null || cut.start >= why.start - 1, text);
+    assert.equal(wkt.explain(bytes(text)).start, bytes(text.slice(0, why.start)).length);
+  }
+  assert.equal(refused, 4254);
+});
+
+// A text, and what its error says. Columns: text, options, place in the text, message, caret.
+const WORDS = [
+  ['POINT(1)', {}, [7, 8], 'at 8: a second number was expected, and not )', 'POINT(1)\n       ^'],
+  ['POINT(1 2', {}, [9, 9], 'at 10: `)` was expected, but the text ends', 'POINT(1 2\n         ^'],
+  ['', {}, [0, 0], 'at 1: a kind of geometry, such as POINT, was expected, but the text ends', '\n^'],
+  ['\nPOINT\t(x 2)', {}, [8, 9], 'at line 2, column 8: a first number was expected, and not x', 'POINT\t(x 2)\n     \t ^'],
+  ['POINT(1.1234567 2)', { places: 6 }, [6, 15], 'at 7: 1.1234567 has 7 places, at most 6 are allowed', 'POINT(1.1234567 2)\n      ^^^^^^^^^'],
+  ['POINT(1 2 3)', {}, [10, 11], 'at 11: a third number needs Z or M, as in POINT Z(1 2 3), and a fourth ZM', 'POINT(1 2 3)\n          ^'],
+  ['SRID=4326;POINT(1 2)', {}, [0, 15], 'at 1: SRID=..; of EWKT is not read; ST_AsText leaves it out', 'SRID=4326;POINT(1 2)\n^^^^^^^^^^^^^^^'],
+  ['POINT()', {}, [6, 7], 'at 7: what holds nothing is written EMPTY, without parentheses', 'POINT()\n      ^'],
+  ['\ufeffPOINT(1 2)', {}, [0, 6], 'at 1: the text begins with a byte order mark', '\ufeffPOINT(1 2)\n^^^^^^'],
+  ['POINT(1 2) and more', {}, [11, 19], 'at 12: the end of the text was expected, and not and more', 'POINT(1 2) and more\n           ^^^^^^^^'],
+  ['POINT(1 2)\n\nPOINT(3 4)', {}, [12, 22], 'at line 3, column 1: the end of the text was expected, and not POINT(3 4)', 'POINT(3 4)\n^^^^^^^^^^'],
+];
+
+test('what an error says', () => {
+  for (const [text, options, [start, stop], message, caret] of WORDS) {
+    const error = thrown(() => wkt.canonical(text, options));
+    assert.ok(error instanceof WktError && error instanceof Error && error.name === 'WktError');
+    assert.deepEqual([error.place.start, error.place.stop, error.message, error.caret], [start, stop, message, caret]);
+    assert.equal(error.hint, error.place.hint);
+    assert.equal(String(error), `WktError: ${message}`);
+    assert.deepEqual(structuredClone(error.place), error.place);
+    for (const call of ['arrays', 'toGeoJSON', 'canonicalBytes']) assert.equal(thrown(() => wkt[call](text, options)).message, message, call);
+    for (const two of [[text, 'POINT(1 2)'], ['POINT(1 2)', text]]) assert.equal(thrown(() => wkt.same(...two, options)).message, message);
+    assert.equal(wkt.reads(text, options), false);
+  }
+});
+
+test('only white space may follow, unless anything may', () => {
+  assert.equal(wkt.canonical('POINT(1 2) \r\n\t'), 'POINT(1 2)');
+  assert.equal(thrown(() => wkt.canonical('POINT(1 2) \0')).status, STATUS.NOT_WHOLE);
+  assert.equal(wkt.canonical('POINT(1 2) and more', { whole: false }), 'POINT(1 2)');
+  assert.equal(wkt.explain('POINT(1 2) and more', { whole: false }), null);
+  assert.ok(wkt.same('POINT(1 2) and more', 'POINT(1 2)', { whole: false }));
+  assert.equal(wkt.arrays('POINT(1 2),', { whole: false }).end, 10);
+  assert.deepEqual(wkt.front('POINT(1 2) é'), { canonical: 'POINT(1 2)', end: 10 });
+});
+
+test('places count units of a string and bytes of bytes; columns count characters', () => {
+  const text = 'GEOMETRYCOLLECTION(POINT(1 2),\n  POINT(𝄞 é))';
+  const why = wkt.explain(text);
+  assert.deepEqual([why.start, why.stop, why.line, why.column], [39, 41, 2, 9]);
+  assert.equal(why.caret, '  POINT(𝄞 é))\n        ^');
+  assert.equal(text.slice(why.start, why.stop), '𝄞');
+  const behind = wkt.explain('POINT(1 2) é𝄞 é𝄞');
+  assert.deepEqual([behind.start, behind.stop, behind.column], [11, 18, 12]);
+  const raw = wkt.explain(bytes('POINT(1 2) é𝄞 é'));
+  assert.deepEqual([raw.start, raw.stop, raw.column, raw.caret], [11, 20, 12, 'POINT(1 2) é𝄞 é\n           ^^^^']);
+});
+
+test('a long line is cut to what is around the place', () => {
+  const far = wkt.explain(`LINESTRING(${'1 2,'.repeat(1000)}x)${' '.repeat(100)}`);
+  assert.equal(far.caret, `...${'1 2,'.repeat(9)}x)${' '.repeat(34)}\n${' '.repeat(39)}^`);
+  const near = wkt.explain(`POINT(x${' '.repeat(100)}`);
+  assert.equal(near.caret, `POINT(x${' '.repeat(65)}\n      ^`);
+  const pairs = wkt.explain(`${'𝄞'.repeat(50)} ${'𝄞'.repeat(100)}`);
+  assert.equal(pairs.caret, `${'𝄞'.repeat(50)} ${'𝄞'.repeat(21)}\n${'^'.repeat(50)}`);
+  assert.equal(wkt.explain('POINT(1 \x07\x7f)').caret, 'POINT(1 \ufffd\ufffd)\n        ^^');
+  assert.equal(wkt.explain(`POINT(${'9'.repeat(60)}x 1)`).cause, `at 7: a first number was expected, and not ${'9'.repeat(37)}...`);
+});
+
+test('what is no text', () => {
+  for (const text of ['\ud800', 'POINT(1 2) \udc00', 'POINT(1 2) \udc00\ud800', `${'x'.repeat(100)}\ud800`, '𝄞\ud834']) {
+    const at = [...text].findIndex((character) => character >= '\ud800' && character < '\ue000' && character.length === 1);
+    for (const call of ['canonical', 'canonicalBytes', 'front', 'explain', 'infer', 'arrays', 'lines', 'toGeoJSON']) {
+      const error = thrown(() => wkt[call](text));
+      assert.equal(error.status, STATUS.NOT_UTF8, call);
+      assert.equal(error.place.column, at + 1, call);
+      assert.equal(error.place.stop, error.place.start + 1);
+      assert.equal(error.hint, 'a lone surrogate is half of a character');
+    }
+    assert.equal(thrown(() => wkt.same('POINT(1 2)', text)).status, STATUS.NOT_UTF8);
+    assert.equal(wkt.reads(text), false);
+    assert.deepEqual(wkt.columns([text]), { texts: [null], statuses: Uint8Array.of(STATUS.NOT_UTF8) });
+  }
+  assert.equal(wkt.canonical('POINT(1 2) \ufffd𝄞', { whole: false }), 'POINT(1 2)');
+  const raw = thrown(() => wkt.canonical(Uint8Array.of(80, 0xff)));
+  assert.deepEqual([raw.status, raw.place, raw.message, raw.caret, raw.hint], [STATUS.NOT_UTF8, null, 'The text is not UTF-8', '', '']);
+  assert.equal(thrown(() => wkt.explain(Uint8Array.of(80, 0xed, 0xa0, 0x80))).status, STATUS.NOT_UTF8);
+});
+
+test('arguments', () => {
+  for (const text of [7, null, undefined, ['POINT(1 2)'], new ArrayBuffer(3), {}]) {
+    for (const call of ['canonical', 'explain', 'infer', 'arrays', 'lines', 'front', 'reads']) assert.throws(() => wkt[call](text), TypeError, call);
+  }
+  for (const places of [1.5, '6', NaN, null, 6n]) assert.throws(() => wkt.canonical('POINT(1 2)', { places }), TypeError);
+  assert.throws(() => wkt.canonical('POINT(1 2)', { whole: 1 }), TypeError);
+  for (const places of [-1, 19, 256]) assert.equal(thrown(() => wkt.canonical('POINT(1 2)', { places })).status, STATUS.NO_PLACES);
+  assert.equal(wkt.canonical(Buffer.from('xPOINT(1 2)').subarray(1)), 'POINT(1 2)');
+});
+
+test('columns', () => {
+  const { texts, statuses } = wkt.columns(new Set(['point(1 2)', null, 'POINT(3', undefined, bytes('POINT(4 5)'), 'POINT(1 2) x']));
+  assert.deepEqual(texts, ['POINT(1 2)', null, null, null, 'POINT(4 5)', null]);
+  assert.deepEqual([...statuses], [STATUS.OK, STATUS.NULL, 7, STATUS.NULL, STATUS.OK, STATUS.NOT_WHOLE]);
+  assert.throws(() => wkt.columns([7]), TypeError);
+  assert.deepEqual(wkt.columns([]), { texts: [], statuses: new Uint8Array(0) });
+});
+
+test('infer', () => {
+  assert.deepEqual(wkt.infer(' point zm(1'), { kind: 'Point', dimension: 'XYZM' });
+  assert.deepEqual(wkt.infer('LINEARRING Z(1 2 3)'), { kind: 'LineString', dimension: 'XYZ' });
+  assert.deepEqual(wkt.infer(bytes('geometrycollection m empty')), { kind: 'GeometryCollection', dimension: 'XYM' });
+  for (const [text, status, message] of [['FOO(', 1, 'No kind word'], ['POINTEMPTY', 2, 'No space before EMPTY'], ['POINT', 3, 'Neither a parenthesis nor EMPTY']]) {
+    const error = thrown(() => wkt.infer(text));
+    assert.deepEqual([error.status, error.message, error.place], [status, message, null]);
+  }
+});

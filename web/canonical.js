@@ -1,0 +1,78 @@
+// The canonical text of the chosen row, as WKT and as GeoJSON, and what it holds.
+import { summaryOf } from './answers.js';
+import { $, count, element, number } from './elements.js';
+import { chosenRow, state } from './state.js';
+
+/** More characters than this aren't shown; they are copied. */
+const SHOWN = 20000;
+
+const format = () => document.querySelector('input[name=format]:checked').value;
+
+/** The chosen row's answer in the chosen format: `text`, or `error` where GeoJSON has no form for it. */
+export function answerText() {
+  const row = chosenRow();
+  if (format() === 'wkt') return { text: row.canonical };
+  try {
+    return { text: state.wkt.toGeoJSON(row.canonical, { m: 'drop' }) };
+  } catch (error) {
+    return { text: '', error: error.message };
+  }
+}
+
+const plural = (n, one, many) => (n === 1 ? one : many);
+
+/** What other programs may say of a text that is accepted here. */
+function notes(summary) {
+  const { open, short } = summary;
+  const said = [];
+  if (open > 0) said.push(`${count(open, 'ring')} ${plural(open, 'doesn’t end where it begins', 'don’t end where they begin')}. PostGIS and GEOS refuse that.`);
+  if (short > 0) said.push(`${count(short, 'line or ring', 'lines or rings')} ${plural(short, 'has', 'have')} too few points: a ring needs four, a line two.`);
+  if (format() === 'geojson' && summary.dimension.endsWith('M')) said.push('GeoJSON has no m: it is left out.');
+  return said;
+}
+
+const ringsName = (summary) => {
+  if (summary.polygons === 0) return 'Lines';
+  return summary.leaves.every((leaf) => leaf.area || leaf.dots) ? 'Rings' : 'Rings and lines';
+};
+
+/** Bounds as words: `x 0 to 4 · y 0 to 4`. */
+export const boundsInWords = (bounds) =>
+  Object.entries(bounds).filter(([, ends]) => ends !== null).map(([name, [low, high]]) => `${name} ${low} to ${high}`).join(' · ');
+
+function boundsOf(summary) {
+  const ends = (range) => (range.empty ? null : [range.lowText, range.highText]);
+  return { x: ends(summary.x), y: ends(summary.y), z: ends(summary.z), m: ends(summary.m) };
+}
+
+function facts(row) {
+  const summary = summaryOf(row);
+  const shown = [['Kind', summary.kind], ['Dimension', summary.dimension], ['Points', number(summary.points)]];
+  if (summary.polygons > 0) shown.push(['Polygons', number(summary.polygons)]);
+  if (summary.rings > 0) shown.push([ringsName(summary), number(summary.rings)]);
+  if (summary.kind === 'GeometryCollection') shown.push(['Members', number(summary.members)]);
+  if (summary.levels > 1) shown.push(['Nested', `${number(summary.levels)} deep`]);
+  if (summary.empty > 0) shown.push(['Empty parts', number(summary.empty)]);
+  shown.push(['Length', count(row.canonical.length, 'byte')]);
+  const nodes = shown.map(([name, value]) => element('div', {}, element('dt', {}, name), element('dd', {}, value)));
+  if (summary.points > 0) {
+    nodes.push(element('div', { class: 'wide' }, element('dt', {}, 'Bounds'), element('dd', { class: 'mono' }, boundsInWords(boundsOf(summary)))));
+  }
+  return nodes;
+}
+
+export function showCanonical() {
+  const row = chosenRow();
+  $('canonical-card').hidden = !row || !row.accepted;
+  if (!row || !row.accepted) return;
+  const { text, error } = answerText();
+  const name = format() === 'wkt' ? 'Canonical text' : 'GeoJSON';
+  $('h-canonical').textContent = state.rows.length > 1 ? `${name} of line ${row.line}` : name;
+  $('out').setAttribute('aria-label', name);
+  $('out').textContent = error ?? (text.length > SHOWN ? `${text.slice(0, SHOWN)} … and ${count(text.length - SHOWN, 'character')} more` : text);
+  $('copy').disabled = Boolean(error);
+  $('facts').replaceChildren(...facts(row));
+  const said = notes(summaryOf(row));
+  $('notes').hidden = said.length === 0;
+  $('notes').replaceChildren('Other programs may object:', element('ul', {}, ...said.map((words) => element('li', {}, words))));
+}

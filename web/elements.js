@@ -1,0 +1,46 @@
+// Elements of the page, and words of numbers.
+
+export const $ = (id) => document.getElementById(id);
+
+function dressed(node, attributes, children) {
+  for (const [name, value] of Object.entries(attributes)) {
+    if (value !== null && value !== undefined && value !== false) node.setAttribute(name, value === true ? '' : value);
+  }
+  node.append(...children.filter((child) => child !== null && child !== undefined));
+  return node;
+}
+
+/** An element with attributes and children. An attribute of null or false is left out. */
+export const element = (tag, attributes = {}, ...children) => dressed(document.createElement(tag), attributes, children);
+
+export const drawing = (tag, attributes = {}, ...children) => dressed(document.createElementNS('http://www.w3.org/2000/svg', tag), attributes, children);
+
+/** A button with words on it. */
+export function button(words, attributes, click) {
+  const node = element('button', { class: 'button', type: 'button', ...attributes }, words);
+  node.addEventListener('click', click);
+  return node;
+}
+
+/** Gives an element one of the eight colours. The page's policy allows no style attribute, but this. */
+export function colored(node, i) {
+  node.style.setProperty('--c', `var(--c${i % 8})`);
+  return node;
+}
+
+export const number = (n) => n.toLocaleString('en');
+
+/** `1 line`, `2 lines`. */
+export const count = (n, one, many = `${one}s`) => `${number(n)} ${n === 1 ? one : many}`;
+
+/** Words in which code stands between back quotes, as nodes. */
+export const withCode = (words) => words.split('`').map((part, i) => (i % 2 === 1 ? element('code', {}, part) : part));
+
+/** The same as plain text. */
+export const withoutCode = (words) => words.replaceAll('`', '');
+
+/** `a`, `a and b`, `a, b and c`. */
+export const listed = (parts) => (parts.length > 1 ? `${parts.slice(0, -1).join(', ')} and ${parts[parts.length - 1]}` : parts.join(''));
+
+/** Words that aren't too long for a line. */
+export const short = (words, most) => (words.length > most ? `${words.slice(0, most - 1)}…` : words);

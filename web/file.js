@@ -1,0 +1,178 @@
+// A file: its answers as the worker finds them.
+import { askedSplit, places } from './answers.js';
+import { boundsInWords } from './canonical.js';
+import { $, count, element, number, short, withoutCode } from './elements.js';
+import { draw, fit } from './picture.js';
+import { looksLikeOne } from './split.js';
+import { show, state } from './state.js';
+import { repeatsInWords, say } from './verdict.js';
+
+/** So much of a file is looked at to see whether it is one geometry. */
+const FRONT = 64 << 10;
+
+const WITHOUT_FILE = $('text').placeholder;
+
+let worker = null;
+let saved = null; // the address of the canonical lines
+let name = '';
+let opened = null; // the file, and how many others were dropped with it
+
+function start() {
+  const address = URL.createObjectURL(new Blob([$('core').textContent, '\n', $('worker').textContent], { type: 'text/javascript' }));
+  const started = new Worker(address);
+  URL.revokeObjectURL(address);
+  return started;
+}
+
+function stopWorker() {
+  worker?.terminate();
+  worker = null;
+}
+
+/** Forgets the file. */
+export function closeFile() {
+  stopWorker();
+  if (saved) URL.revokeObjectURL(saved);
+  saved = null;
+  opened = null;
+  state.points = null;
+  $('file-card').hidden = true;
+  document.body.classList.remove('has-file');
+  $('text').placeholder = WITHOUT_FILE;
+}
+
+/** Reads a file, of any size. `more` others were dropped with it. */
+export async function readFile(file, more = 0) {
+  closeFile();
+  Object.assign(state, { rows: [], chosen: -1, points: new Float64Array(0), pointsOfFile: 0 });
+  opened = { file, more };
+  name = file.name;
+  document.body.classList.add('has-file');
+  $('text').placeholder = 'Type or paste here to close the file';
+  for (const id of ['caret', 'hint', 'message', 'save', 'next']) $(id).hidden = true;
+  $('file-card').hidden = $('stop').hidden = false;
+  $('text').setAttribute('aria-invalid', 'false');
+  $('h-file').textContent = name;
+  const lists = element('div', { class: 'file', id: 'lists' });
+  lists.style.setProperty('padding', '0');
+  $('file-out').replaceChildren(element('progress', { max: 1, value: 0, 'aria-label': 'How much of the file is read', id: 'bar' }),
+    element('p', { id: 'told' }), element('div', { class: 'meter', id: 'meter' }), lists);
+  show();
+  fit();
+  const asked = askedSplit();
+  try {
+    const whole = asked === 'one' || (asked === 'auto' && looksLikeOne(await file.slice(0, FRONT).text(), file.size > FRONT));
+    const others = more > 0 ? ` ${count(more, 'other file')} that came with it ${more === 1 ? 'is' : 'are'} not read.` : '';
+    say('idle', `Reading ${short(name, 60)}`, (whole ? 'The whole file is one text.' : 'Each line is a text.') + others);
+    worker = start();
+    worker.onmessage = ({ data }) => (data.failed ? fail(data.failed) : take(data));
+    worker.onerror = (event) => fail(event.message || 'The worker stopped.');
+    worker.postMessage({ module: state.module, file, places: places(), whole });
+  } catch (error) {
+    fail(error.message);
+  }
+}
+
+/** Reads the file once more, as it is asked for now. False: none is open. */
+export function rereadFile() {
+  if (!opened) return false;
+  readFile(opened.file, opened.more);
+  return true;
+}
+
+function fail(words) {
+  stopWorker();
+  $('stop').hidden = true;
+  say('bad', `${short(name, 60)} can’t be read`, words);
+}
+
+const megabytes = (bytes) => (bytes / 1e6).toLocaleString('en', { minimumFractionDigits: 1, maximumFractionDigits: 1 });
+
+function cell(words, n, kind = null) {
+  return element('div', {}, element('b', { class: n > 0 ? kind : null }, number(n)), element('span', {}, words));
+}
+
+function take(data) {
+  $('bar').value = data.size > 0 ? data.done / data.size : 1;
+  const rate = data.done / 1e6 / Math.max(data.seconds, 1e-3);
+  $('told').textContent = `${megabytes(data.done)} of ${megabytes(data.size)} MB in ${data.seconds.toFixed(1)} s, ${rate < 10 ? rate.toFixed(1) : number(Math.round(rate))} MB/s`;
+  $('meter').replaceChildren(cell('lines', data.lines), cell('accepted', data.accepted), cell('refused', data.refused, 'bad-text'),
+    cell('repeats', data.repeats, 'note-text'), cell('points', data.points), ...(data.blank > 0 ? [cell('blank', data.blank)] : []));
+  if (data.lists) takeLists(data, data.lists);
+  if (data.last) finish(data);
+}
+
+function takeLists(data, lists) {
+  $('lists').replaceChildren(...kindsAndBounds(lists), ...reasons(data, lists), ...refusals(data, lists), ...repeats(data, lists));
+  const first = state.points.length === 0;
+  state.points = lists.sample;
+  state.pointsOfFile = data.points;
+  if (first || data.last) fit();
+  else draw();
+}
+
+function kindsAndBounds({ kinds, bounds }) {
+  const said = Object.entries(kinds).map(([kind, n]) => `${kind} ${number(n)}`).join(' · ');
+  const around = boundsInWords(bounds);
+  return [said, around && `Bounds: ${around}`].filter(Boolean).map((words) => element('p', {}, words));
+}
+
+const section = (heading, ...nodes) => element('section', {}, element('h3', {}, heading), ...nodes);
+
+function reasons(data, { reasons: found, asked }) {
+  if (found.length < 2) return [];
+  const items = found.sort((a, b) => b[1] - a[1]).slice(0, 8).map(([words, n]) => element('li', {}, `${number(n)} × ${withoutCode(words)}`));
+  return [section(asked < data.refused ? `Why the first ${number(asked)} are refused` : 'Why lines are refused', element('ul', {}, ...items))];
+}
+
+function refusals(data, { refusals: first }) {
+  if (first.length === 0) return [];
+  const block = element('div', { class: 'refusals', tabindex: 0, role: 'region', 'aria-label': 'Refused lines' });
+  for (const { line, column, expected, found, hint, caret } of first) {
+    const word = found.trim().split(/\s/)[0];
+    const says = word ? `, and not ${short(word, 40)}` : '';
+    block.append(element('b', {}, `line ${number(line)}, column ${number(column)}: ${withoutCode(expected)} was expected${says}`), `\n${caret}\n`, hint ? `why: ${hint}\n\n` : '\n');
+  }
+  return [section(first.length < data.refused ? `The first ${first.length} refused lines` : 'Refused lines', block)];
+}
+
+function repeats(data, { repeats: first, entered }) {
+  const said = [];
+  if (first.length > 0) {
+    const listed = first.slice(0, 12).map(([line, earlier]) => `line ${number(line)} = line ${number(earlier)}`).join(', ');
+    said.push(element('p', {}, listed + (data.repeats > 12 ? ' …' : '')));
+  }
+  if (entered !== null) {
+    said.push(element('p', {}, `Repeats were looked for among the first ${count(entered, 'geometry', 'geometries')}: more don’t fit in the memory that this page takes.`));
+  }
+  return said.length > 0 ? [section('Repeats', ...said)] : [];
+}
+
+function finish(data) {
+  stopWorker();
+  $('stop').hidden = true;
+  const lines = data.lines - data.blank;
+  const stopped = data.stopped ? 'Stopped: ' : '';
+  if (lines === 0) say('idle', `${short(name, 60)} has no text`);
+  else if (lines === 1 && data.refused === 1) say('bad', 'The text is refused');
+  else if (data.refused > 0) say('bad', `${stopped}${number(data.refused)} of ${count(lines, 'line')} refused`, repeatsInWords(data.repeats));
+  else say('good', `${stopped}${lines === 1 ? 'The text is' : `All ${count(lines, 'line')}`} accepted`, lines === 1 ? '' : repeatsInWords(data.repeats));
+  offer(data);
+}
+
+/** Offers the canonical lines to be saved. */
+function offer(data) {
+  if (data.saved === null) {
+    $('lists').append(element('p', {}, 'The canonical lines are more than 1 GB, so they are not kept here. The program wktstream writes them.'));
+    return;
+  }
+  saved = URL.createObjectURL(data.saved);
+  $('save').href = saved;
+  $('save').download = `${name.replace(/\.[^.]*$/, '')}.canonical.wkt`;
+  $('save').title = data.refused > 0 ? 'For each line its canonical text, or the word refused' : 'For each line its canonical text';
+  $('save').hidden = data.lines === 0;
+}
+
+export function startFiles() {
+  $('stop').addEventListener('click', () => worker?.postMessage({ stop: true }));
+}

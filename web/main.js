@@ -1,0 +1,262 @@
+// The page: starts the module, and joins the parts.
+import { load } from '../javascript/src/index.js';
+import { answer, askedSplit, places, setSplit } from './answers.js';
+import { answerText, showCanonical } from './canonical.js';
+import { goToNextRefusal, goToPlace, rowAtCursor, showMarks, startEditor } from './editor.js';
+import { $, element } from './elements.js';
+import { EXAMPLES } from './examples.js';
+import { closeFile, readFile, rereadFile, startFiles } from './file.js';
+import { draw, fit, forgetSingle, startPicture } from './picture.js';
+import { showRows, startRows } from './rows.js';
+import { chosenRow, onShow, show, state } from './state.js';
+import { say, showVerdict } from './verdict.js';
+
+/** A file up to this size is put in the field, and a text up to this many characters is answered while it is typed. */
+const SMALL_FILE = 256 << 10, TYPED = 2 << 20;
+/** A text up to this length stands in the address of the page, and one up to that can be linked to. */
+const IN_ADDRESS = 4000, LINKED = 50000;
+/** The most decimal places that a number may have. */
+const MOST_PLACES = 18;
+/** How long the page waits for more typing, where the text is long. */
+const SLOW = 20000, WAIT = 150;
+
+const text = $('text');
+
+/** The module, which stands in the page as base64 of its gzip. */
+async function compiled() {
+  const packed = Uint8Array.from(atob($('module').textContent.trim()), (c) => c.charCodeAt(0));
+  const stream = new Blob([packed]).stream().pipeThrough(new DecompressionStream('gzip'));
+  return WebAssembly.compile(await new Response(stream).arrayBuffer());
+}
+
+/** Answers the text, and shows the row at the cursor where that is asked for, else the first that is refused. */
+function analyse(atCursor = false) {
+  if (text.value.length > TYPED) {
+    readFile(new File([text.value], 'The text'));
+    return;
+  }
+  answer(text.value);
+  if (atCursor && rowAtCursor() >= 0) state.chosen = rowAtCursor();
+  show();
+  fit();
+}
+
+// ---- Links. What stands behind `#` is never sent.
+function link() {
+  const said = new URLSearchParams({ wkt: text.value });
+  if (places() !== MOST_PLACES) said.set('places', String(places()));
+  if (askedSplit() !== 'auto') said.set('as', askedSplit());
+  return `#${said}`;
+}
+
+function readLink() {
+  const said = new URLSearchParams(location.hash.slice(1));
+  if (!said.has('wkt')) return false;
+  text.value = said.get('wkt');
+  const wanted = said.get('places') ?? '';
+  $('places').value = /^(1[0-8]|[0-9])$/.test(wanted) ? wanted : String(MOST_PLACES);
+  setSplit(['lines', 'one'].includes(said.get('as')) ? said.get('as') : 'auto');
+  return true;
+}
+
+let addressTimer = 0;
+
+/** The address follows the text, so that a reload keeps it. */
+function keepInAddress() {
+  clearTimeout(addressTimer);
+  addressTimer = setTimeout(() => {
+    const kept = text.value !== '' && text.value.length <= IN_ADDRESS;
+    try {
+      history.replaceState(null, '', kept ? link() : location.pathname + location.search);
+    } catch {
+      // Some browsers allow that no more often than they like.
+    }
+  }, 400);
+}
+
+function changed(atCursor = false) {
+  closeFile();
+  forgetSingle();
+  analyse(atCursor);
+  keepInAddress();
+}
+
+/** Puts a text in the field. */
+function put(value) {
+  text.value = value;
+  state.chosen = 0;
+  changed();
+}
+
+// ---- Copying.
+async function copied(words) {
+  try {
+    await navigator.clipboard.writeText(words);
+    return true;
+  } catch {
+    const area = element('textarea', { class: 'quiet' });
+    area.value = words;
+    document.body.append(area);
+    area.select();
+    const done = document.execCommand('copy');
+    area.remove();
+    return done;
+  }
+}
+
+async function copy(words, button) {
+  const before = button.textContent;
+  const done = await copied(words);
+  button.focus();
+  button.textContent = done ? 'Copied' : 'Not copied';
+  setTimeout(() => {
+    button.textContent = before;
+  }, 1200);
+}
+
+function startCopying() {
+  $('copy').addEventListener('click', () => copy(answerText().text, $('copy')));
+  $('copy-link').addEventListener('click', () => {
+    history.replaceState(null, '', link());
+    copy(location.href, $('copy-link'));
+  });
+  document.querySelectorAll('input[name=format]').forEach((input) => input.addEventListener('change', showCanonical));
+}
+
+function showLinkButton() {
+  const long = text.value.length > LINKED;
+  $('copy-link').disabled = long;
+  $('copy-link').title = long ? 'The text is too long for a link' : 'A link to this page with the text in it';
+}
+
+// ---- Files.
+async function take(files) {
+  const [file] = files;
+  if (!file) return;
+  if (file.size <= SMALL_FILE) {
+    try {
+      put(new TextDecoder('utf-8', { fatal: true, ignoreBOM: true }).decode(await file.arrayBuffer()));
+      return;
+    } catch {
+      // It isn't UTF-8, or can't be read: the worker says so.
+    }
+  }
+  text.value = '';
+  keepInAddress();
+  readFile(file, files.length - 1);
+}
+
+function startDropping() {
+  let over = 0;
+  const ofFiles = (event) => event.dataTransfer?.types.includes('Files');
+  const shown = () => document.body.classList.toggle('dropping', over > 0);
+  addEventListener('dragenter', (event) => {
+    if (ofFiles(event)) over++;
+    shown();
+  });
+  addEventListener('dragleave', (event) => {
+    if (ofFiles(event)) over = Math.max(0, over - 1);
+    shown();
+  });
+  addEventListener('dragover', (event) => {
+    if (ofFiles(event)) event.preventDefault();
+  });
+  addEventListener('drop', (event) => {
+    over = 0;
+    shown();
+    if (!event.dataTransfer?.files.length) return;
+    event.preventDefault();
+    take([...event.dataTransfer.files]);
+  });
+}
+
+// ---- The rest of the controls.
+function fillSelects() {
+  for (let n = MOST_PLACES; n >= 0; n--) $('places').append(element('option', { value: n }, n === MOST_PLACES ? `${n} (most)` : String(n)));
+  for (const name of Object.keys(EXAMPLES)) $('examples').append(element('option', { value: name }, name));
+}
+
+function startControls() {
+  let typing = 0;
+  text.addEventListener('input', (event) => {
+    clearTimeout(typing);
+    const typed = /^(insert(?!From)|delete)/.test(event.inputType);
+    if (text.value.length < SLOW) changed(typed);
+    else typing = setTimeout(changed, WAIT, typed);
+  });
+  for (const control of [$('places'), ...document.querySelectorAll('input[name=split]')]) {
+    control.addEventListener('change', () => rereadFile() || changed());
+  }
+  $('examples').addEventListener('change', () => {
+    setSplit('auto');
+    put(EXAMPLES[$('examples').value] ?? '');
+    $('examples').value = '';
+  });
+  $('clear').addEventListener('click', () => {
+    put('');
+    text.focus();
+  });
+  $('skip').addEventListener('click', (event) => {
+    // The address stays: the text stands in it.
+    event.preventDefault();
+    text.focus();
+  });
+  $('next').addEventListener('click', goToNextRefusal);
+  $('open').addEventListener('click', () => $('file').click());
+  $('file').addEventListener('change', () => {
+    take([...$('file').files]);
+    $('file').value = '';
+  });
+  $('theme').addEventListener('click', () => {
+    const theme = document.documentElement.dataset.theme === 'dark' ? 'light' : 'dark';
+    document.documentElement.dataset.theme = theme;
+    try {
+      localStorage.setItem('wkt-theme', theme);
+    } catch {
+      // The browser keeps nothing for this page.
+    }
+  });
+}
+
+function startKeys() {
+  addEventListener('keydown', (event) => {
+    if (!event.altKey || event.ctrlKey || event.metaKey) return;
+    if (event.code === 'KeyN' && !$('next').hidden) goToNextRefusal();
+    else if (event.code === 'KeyC' && chosenRow()?.accepted) $('copy').click();
+    else return;
+    event.preventDefault();
+  });
+  addEventListener('hashchange', () => {
+    if (!readLink()) return;
+    state.chosen = 0;
+    closeFile();
+    analyse();
+  });
+}
+
+async function start() {
+  fillSelects();
+  try {
+    const begun = performance.now();
+    state.module = await compiled();
+    state.wkt = await load(state.module);
+    $('engine').textContent = `The module was ready in ${Math.round(performance.now() - begun)} ms.`;
+  } catch (error) {
+    say('bad', 'This browser can’t run the page', `It needs WebAssembly and DecompressionStream: Chrome 84, Firefox 113, Safari 16.4 or later. ${error}`);
+    return;
+  }
+  for (const listener of [showVerdict, showCanonical, showRows, showMarks, showLinkButton, draw]) onShow(listener);
+  startEditor();
+  startPicture();
+  startRows(goToPlace);
+  startFiles();
+  startCopying();
+  startControls();
+  startKeys();
+  startDropping();
+  if (!readLink()) text.value = EXAMPLES[Object.keys(EXAMPLES)[0]];
+  analyse();
+  document.documentElement.dataset.ready = 'yes';
+}
+
+start();

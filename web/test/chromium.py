@@ -1,0 +1,140 @@
+"""A page in headless Chromium, and what tests do with it."""
+import http.server
+import os
+import tempfile
+import time
+import unittest
+
+from selenium import webdriver
+from selenium.webdriver.chrome.service import Service
+from selenium.webdriver.common.by import By
+from selenium.webdriver.common.keys import Keys
+
+# The least contrast between a text and what is behind it, by element; in two colours.
+CONTRAST = """
+const pixel = document.createElement('canvas').getContext('2d', { willReadFrequently: true });
+const rgba = (color) => { pixel.clearRect(0, 0, 1, 1); pixel.fillStyle = color; pixel.fillRect(0, 0, 1, 1); const d = pixel.getImageData(0, 0, 1, 1).data; return [d[0], d[1], d[2], d[3] / 255]; };
+const over = (a, b) => [0, 1, 2].map((i) => a[i] * a[3] + b[i] * (1 - a[3])).concat(1);
+const light = (c) => [0.2126, 0.7152, 0.0722].reduce((sum, k, i) => { const v = c[i] / 255; return sum + k * (v <= 0.04045 ? v / 12.92 : ((v + 0.055) / 1.055) ** 2.4); }, 0);
+const behind = (node) => node ? over(rgba(getComputedStyle(node).backgroundColor), behind(node.parentElement)) : [255, 255, 255, 1];
+const poor = [];
+const texts = document.createTreeWalker(document.body, NodeFilter.SHOW_TEXT);
+while (texts.nextNode()) {
+  const node = texts.currentNode.parentElement;
+  const style = getComputedStyle(node);
+  if (!texts.currentNode.data.trim() || !node.checkVisibility() || node.closest('.mirror, .quiet, [disabled], script, .drop, .skip')) continue;
+  const back = behind(node);
+  const color = node.closest('svg') ? style.fill : style.color;
+  const [a, b] = [light(over(rgba(color), back)), light(back)].sort((x, y) => y - x);
+  const ratio = (a + 0.05) / (b + 0.05);
+  if (ratio < 4.5) poor.push(`${node.tagName} ${texts.currentNode.data.slice(0, 30)}: ${ratio.toFixed(2)}`);
+}
+return poor;
+"""
+
+
+def browser(downloads):
+    options = webdriver.ChromeOptions()
+    options.binary_location = "/usr/bin/chromium"
+    for word in ("headless=new", "no-sandbox", "disable-gpu", "disable-dev-shm-usage", "window-size=1280,800", "hide-scrollbars"):
+        options.add_argument("--" + word)
+    options.set_capability("goog:loggingPrefs", {"browser": "ALL", "performance": "ALL"})
+    driver = webdriver.Chrome(service=Service("/usr/bin/chromedriver"), options=options)
+    driver.execute_cdp_cmd("Browser.setDownloadBehavior", {"behavior": "allow", "downloadPath": downloads})
+    return driver
+
+
+class Quiet(http.server.SimpleHTTPRequestHandler):
+    """A server that says nothing, and keeps what it was asked for."""
+
+    asked = []
+
+    def log_message(self, *_):
+        self.asked.append(self.path)
+
+
+class Page(unittest.TestCase):
+    """Tests of the page whose path is `page`."""
+
+    page = None
+
+    @classmethod
+    def setUpClass(cls):
+        cls.folder = tempfile.TemporaryDirectory()
+        cls.driver = browser(cls.folder.name)
+
+    @classmethod
+    def tearDownClass(cls):
+        cls.driver.quit()
+        cls.folder.cleanup()
+
+    def script(self, text, *given):
+        return self.driver.execute_script(text, *given)
+
+    def wait(self, test, seconds=30):
+        """Waits until the test gives something, and returns that."""
+        end = time.time() + seconds
+        while time.time() < end:
+            found = test()
+            if found:
+                return found
+            time.sleep(0.05)
+        return self.fail(f"waited for {seconds} s; the page says: {self.said('say')}; {self.said('why')}")
+
+    def open(self, behind="", page=None):
+        self.driver.get("about:blank")
+        self.driver.get((page or "file://" + os.path.abspath(self.page)) + behind)
+        self.wait(lambda: self.script("return document.documentElement.dataset.ready"))
+
+    def by_id(self, name):
+        return self.driver.find_element(By.ID, name)
+
+    def said(self, name):
+        return self.script("return document.getElementById(arguments[0]).innerText", name).replace("\u200b", "")
+
+    def type(self, text):
+        """Types a text, key by key, in place of what stands in the field."""
+        field = self.by_id("text")
+        field.send_keys(Keys.CONTROL, "a")
+        field.send_keys(text)
+
+    def paste(self, text):
+        """Puts a text in the field at once, and waits until it is drawn."""
+        self.script("const t = document.getElementById('text'); t.value = arguments[0]; t.dispatchEvent(new Event('input'))", text)
+        self.driver.execute_async_script("requestAnimationFrame(() => requestAnimationFrame(arguments[0]))")
+
+    def press(self, *keys):
+        webdriver.ActionChains(self.driver).send_keys(*keys).perform()
+
+    def drop(self, *paths):
+        """Drops files on the page, as a file manager does."""
+        for kind in ("dragEnter", "dragOver", "drop"):
+            self.driver.execute_cdp_cmd("Input.dispatchDragEvent", {"type": kind, "x": 300, "y": 300, "data": {"items": [], "files": list(paths), "dragOperationsMask": 1}})
+            if kind == "dragOver":
+                self.wait(lambda: self.script("return document.body.classList.contains('dropping')"))
+
+    def file(self, text, name="texts.wkt"):
+        path = os.path.join(self.folder.name, name)
+        with open(path, "wb") as out:
+            out.write(text if isinstance(text, bytes) else text.encode())
+        return path
+
+    def facts(self):
+        return " ".join(self.said("facts").split())
+
+    def choose_example(self, name):
+        self.script("const e = document.getElementById('examples'); e.value = arguments[0]; e.dispatchEvent(new Event('change'))", name)
+
+    def console(self):
+        return [line["message"] for line in self.driver.get_log("browser") if line["level"] in ("SEVERE", "WARNING")]
+
+    def states(self):
+        """The page in each of its states, by their names."""
+        self.open()
+        yield "accepted"
+        self.choose_example("Refused, and why")
+        yield "refused"
+        line = ",".join(f"{n} {n * n / 40}" for n in range(-40, 41))
+        self.drop(self.file(f"LINESTRING({line})\nPOINT(1)\n" * 500))
+        self.wait(lambda: "refused" in self.said("say"))
+        yield "file"

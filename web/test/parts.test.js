@@ -1,0 +1,157 @@
+// The parts of the page that need no browser: node --test web/
+import assert from 'node:assert/strict';
+import { test } from 'node:test';
+import { Range, compare } from '../range.js';
+import { Repeats } from '../repeats.js';
+import { looksLikeOne } from '../split.js';
+import { Summary } from '../summary.js';
+import { Tally } from '../tally.js';
+
+// A text; whether it looks like one geometry.
+const SPLITS = [
+  ['', true], ['POINT(1 2)', true], ['\n POINT(1 2) \n\n', true], ['POINT(1 2)\nPOINT(3 4)', false], ['POINT(1\n2)', true], ['POINT\n(1 2)', true], ['POINT\nZ (1 2 3)', true],
+  ['POINT\nEMPTY', true], ['POINT EMPTY\nPOINT EMPTY', false], ['GEOMETRYCOLLECTION (\n  POINT(1 2),\n  POINT(3 4)\n)', true], ['POLYGON((0 0,1 1\nPOINT(1 2)', false],
+  ['MULTIPOINT(1 2,\nEMPTY)', true], ['FOO\nPOINT(1 2)', false], ['POINT(1 2))\n(3 4)', false], [`POINT(${' '.repeat(1e6)}1\n2)`, true],
+];
+test('one geometry over lines, or one on each line', () => {
+  for (const [text, one] of SPLITS) assert.equal(looksLikeOne(text), one, text.slice(0, 60));
+  for (const front of ['GEOMETRYCOLLECTION(POINT(1 2),', 'LINESTRING(1 2,3', 'LINESTRING(1 2,3 4\n']) assert.equal(looksLikeOne(front, true), false, front);
+  assert.equal(looksLikeOne('LINESTRING(1 2,\n3', true), true);
+});
+
+const bytesOf = (text) => new TextEncoder().encode(text);
+
+test('numbers are compared exactly', () => {
+  const ordered = ['-10', '-9.5', '-0.100000000000000001', '-0.1', '0', '0.1', '0.100000000000000001', '9', '10', '10.25', '170000000000000000001'];
+  ordered.forEach((a, i) => ordered.forEach((b, k) => assert.equal(Math.sign(compare(a, b)), Math.sign(i - k), `${a} ${b}`)));
+});
+
+test('a range keeps the digits, also where two numbers have one double', () => {
+  const range = new Range();
+  for (const text of ['0.100000000000000001', '0.1', '0.100000000000000002']) range.add(Number(text), text);
+  assert.deepEqual([range.lowText, range.highText], ['0.1', '0.100000000000000002']);
+});
+
+// Text; kind, dimension, points, rings, polygons, holes, members, levels, empty, open, short.
+const SUMMARIES = [
+  ['POINT(1 2)', 'Point', 'XY', 1, 0, 0, 0, 0, 0, 0, 0, 0],
+  ['POINT EMPTY', 'Point', 'XY', 0, 0, 0, 0, 0, 0, 1, 0, 0],
+  ['POINT ZM EMPTY', 'Point', 'XYZM', 0, 0, 0, 0, 0, 0, 1, 0, 0],
+  ['LINESTRING M(1 2 3,4 5 6)', 'LineString', 'XYM', 2, 1, 0, 0, 0, 0, 0, 0, 0],
+  ['LINESTRING(1 2)', 'LineString', 'XY', 1, 1, 0, 0, 0, 0, 0, 0, 1],
+  ['POLYGON((0 0,1 0,1 1,0 0),(0 0,1 1,0 0))', 'Polygon', 'XY', 7, 2, 1, 1, 0, 0, 0, 0, 1],
+  ['POLYGON((0 0,1 0,1 1))', 'Polygon', 'XY', 3, 1, 1, 0, 0, 0, 0, 1, 0],
+  ['MULTIPOINT((1 2),EMPTY)', 'MultiPoint', 'XY', 1, 0, 0, 0, 0, 0, 1, 0, 0],
+  ['MULTIPOLYGON(((0 0,1 0,1 1,0 0)),EMPTY,((0 0,1 0,1 1,0 0),(0 0,1 0,1 1,0 0)))', 'MultiPolygon', 'XY', 12, 3, 2, 1, 0, 0, 1, 0, 0],
+  ['GEOMETRYCOLLECTION(POINT(1 2),GEOMETRYCOLLECTION(POINT Z EMPTY,LINESTRING(1 2,3 4)),POINT(5 6))', 'GeometryCollection', 'XY', 4, 1, 0, 0, 5, 2, 1, 0, 0],
+];
+test('counts of one text', () => {
+  for (const [text, ...wanted] of SUMMARIES) {
+    const s = new Summary(text);
+    assert.deepEqual([s.kind, s.dimension, s.points, s.rings, s.polygons, s.holes, s.members, s.levels, s.empty, s.open, s.short], wanted, text);
+  }
+});
+
+test('each point of one text, with its place', () => {
+  const text = 'GEOMETRYCOLLECTION(POINT(1 2),MULTILINESTRING((3 4,5.5 -6),(7 8,9 10)))';
+  const found = new Summary(text).leaves.flatMap(({ rings, places }) => rings.flatMap((xy, r) => places[r].map((at, i) => [xy[2 * i], xy[2 * i + 1], text.slice(at).match(/^[^,)]*/)[0]])));
+  assert.deepEqual(found, [[1, 2, '1 2'], [3, 4, '3 4'], [5.5, -6, '5.5 -6'], [7, 8, '7 8'], [9, 10, '9 10']]);
+});
+
+function tallied(lines) {
+  const tally = new Tally();
+  for (const line of lines) assert.equal(tally.add(bytesOf(`${line}\n`), 0), line.length);
+  return tally;
+}
+
+test('counts of many texts', () => {
+  const tally = tallied(['POINT(1 2)', 'LINESTRING Z(0.5 -0.25 100,1 1 -7)', 'POLYGON M((0 0 5,1 0 6,1 1 7,0 0 5))', 'MULTIPOINT((1 2))',
+    'MULTILINESTRING((1 2,3 4))', 'MULTIPOLYGON(((0 0,1 0,1 1,0 0)))', 'GEOMETRYCOLLECTION ZM(POINT ZM(1 2 3 -4))', 'POINT EMPTY',
+    'GEOMETRYCOLLECTION(POINT M(1 2 6),POINT Z(1 2 101))']);
+  assert.deepEqual(tally.kinds, { Point: 2, LineString: 1, Polygon: 1, MultiPoint: 1, MultiLineString: 1, MultiPolygon: 1, GeometryCollection: 2 });
+  assert.equal(tally.points, 17);
+  const texts = ({ lowText, highText }) => [lowText, highText];
+  assert.deepEqual([tally.x, tally.y, tally.z, tally.m].map(texts), [['0', '3'], ['-0.25', '4'], ['-7', '101'], ['-4', '7']]);
+  assert.deepEqual(tally.sample.slice(0, 6), [1, 2, 0.5, -0.25, 1, 1]);
+});
+
+test('bounds of many texts have all digits', () => {
+  const tally = tallied(['POINT(0.100000000000000001 123456789012345678.5)', 'POINT(0.1 123456789012345678.25)', 'POINT(0.100000000000000002 123456789012345678)']);
+  assert.deepEqual([tally.x.lowText, tally.x.highText], ['0.1', '0.100000000000000002']);
+  assert.deepEqual([tally.y.lowText, tally.y.highText], ['123456789012345678', '123456789012345678.5']);
+});
+
+/** Repeats of lines, whose hashes and settings are given, beside what comparing all of them says. */
+function check(lines, hash, settings, every = 7) {
+  const places = [];
+  let place = 0;
+  for (const line of lines) {
+    places.push(place);
+    place += line.length + 1;
+  }
+  const all = bytesOf(lines.map((line) => `${line}\n`).join(''));
+  let reads = 0;
+  const repeats = new Repeats((at) => {
+    reads++;
+    return all.subarray(at, all.indexOf(10, at) + 1);
+  }, { shown: 1e9, ...settings });
+  lines.forEach((line, i) => {
+    const [low, high] = hash(line);
+    repeats.add(low, high, all, places[i], places[i] + line.length, i + 1, places[i]);
+    if (i % every === every - 1) repeats.settle();
+  });
+  repeats.settle();
+  const earlier = new Map();
+  const wanted = [];
+  lines.forEach((line, i) => {
+    if (earlier.has(line)) wanted.push([i + 1, earlier.get(line)]);
+    else earlier.set(line, i + 1);
+  });
+  return { repeats, reads, wanted };
+}
+
+const random = (n, kinds) => Array.from({ length: n }, () => `POINT(${Math.floor(Math.random() * kinds)} 2)`);
+const good = (line) => {
+  let [low, high] = [7, 9];
+  for (const c of bytesOf(line)) {
+    low = Math.imul(low ^ c, 0x01000193) & 0x3fffffff;
+    high = Math.imul(high + c, 0x85ebca6b) & 0x3fffffff;
+  }
+  return [low, high];
+};
+
+for (const [name, settings] of [['in memory', {}], ['in the file', { memory: 0 }]]) {
+  test(`repeats by texts ${name}`, () => {
+    const lines = random(20000, 9000);
+    const { repeats, reads, wanted } = check(lines, good, settings);
+    assert.deepEqual(repeats.first, wanted);
+    assert.equal(repeats.count, wanted.length);
+    assert.equal(reads, settings.memory === 0 ? wanted.length : 0);
+    assert.equal(repeats.full, false);
+  });
+  test(`texts with one hash are told apart, by texts ${name}`, () => {
+    for (const hash of [() => [5, 5], (line) => [line.length, 1], (line) => [2 ** 30 - 1, line.charCodeAt(6)]]) {
+      const { repeats, wanted } = check(random(600, 150), hash, settings);
+      assert.deepEqual(repeats.first, wanted);
+    }
+  });
+  test(`texts with one hash are told apart in a table that grows, by texts ${name}`, () => {
+    const { repeats, wanted } = check(random(10000, 6000), (line) => [(parseInt(line.slice(6), 10) % 40) * 100, 1], settings);
+    assert.ok(repeats.entered > 3072);
+    assert.deepEqual(repeats.first, wanted);
+  });
+}
+
+test('a full table says so, and finds the repeats of what it has', () => {
+  const lines = [...Array.from({ length: 5000 }, (_, i) => `POINT(${i} 1)`), 'POINT(0 1)', 'POINT(4999 1)', 'POINT(3071 1)', 'POINT(3072 1)'];
+  const { repeats } = check(lines, good, { bits: 12 });
+  assert.equal(repeats.full, true);
+  assert.equal(repeats.entered, 3072); // three quarters of 2^12
+  assert.deepEqual(repeats.first, [[5001, 1], [5003, 3072]]);
+});
+
+test('the first repeats are listed, by their lines', () => {
+  const { repeats, wanted } = check(random(3000, 100), good, { memory: 0, shown: 10 });
+  assert.deepEqual(repeats.first, wanted.slice(0, 10));
+  assert.equal(repeats.count, wanted.length);
+});
