@@ -27,7 +27,7 @@ lexemes_append : (xs ys : List Placed) → lexemes_of (xs ++ ys) ≡ lexemes_of 
 lexemes_append [] ys = refl
 lexemes_append (x ∷ xs) ys = ap (λ l. x.lexeme ∷ l) (lexemes_append xs ys)
 
-end_last : (at : ℕ) (given : List Placed) (x : Placed) → end_after at (given ++ (x ∷ [])) ≡ x.end
+pub end_last : (at : ℕ) (given : List Placed) (x : Placed) → end_after at (given ++ (x ∷ [])) ≡ x.end
 end_last at [] x = refl
 end_last at (y ∷ given) x = end_last y.end given x
 

@@ -186,7 +186,7 @@ module _ {N : Type 0} (is_value : N → Type 0) where
       h,
       i,
       to (ap (λ xs. ended p (S xs h)) (sym (append-nil before)))
-      (last (Event.Close p) (may_join before h, subst (MayEnd p) (sym (items before h)) (may_end before h)) (ap (ended p) (items before h))),
+          (last (Event.Close p) (may_join before h, subst (MayEnd p) (sym (items before h)) (may_end before h)) (ap (ended p) (items before h))),
     )
     more_parts (x ∷ xs) (g, gs) before h i =
         let (k, inside, grows) = item x g before h i in
@@ -244,7 +244,7 @@ module _ {N : Type 0} (is_value : N → Type 0) where
           k,
           held.within,
           one (Event.Open part.Member) refl refl (both (leads (record (base h) { points = ps }) refl)
-          (last (Event.Close part.Member) (refl, (refl, dims)) (ap (λ c. record (base k) { points = ps ++ (c ∷ []) }) held.is))),
+              (last (Event.Close part.Member) (refl, (refl, dims)) (ap (λ c. record (base k) { points = ps ++ (c ∷ []) }) held.is))),
         )
 
     point_grows : (c : Option (List N)) → PointFits is_value d c → Grows (perhaps part.Point (numbers d) c) (headed d o) (rest o (Some (Value.point d c)))

@@ -20,3 +20,4 @@ mod HeadSteps
 mod Grown
 mod Holding
 mod Valued
+mod FrontValues

@@ -15,6 +15,7 @@ pub mod nothing;
 mod part;
 pub mod source;
 pub mod step;
+pub mod text;
 pub mod tokens;
 mod tree;
 pub mod value;
@@ -26,6 +27,7 @@ pub use machine::{Machine, Seen, State};
 pub use nothing::Nothing;
 pub use part::{Axis, Part};
 pub use source::{At, Source, Walk, Walked};
+pub use text::read_text;
 pub use tokens::OneByOne;
 pub use value::{Unread, read};
 

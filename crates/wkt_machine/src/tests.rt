@@ -1,5 +1,5 @@
 //! Where the geometries at the front of texts end, counted by hand.
-use crate::{front_end, front_end_by_tokens};
+use crate::{front_end, front_end_by_tokens, read_text};
 use std::process::Abort;
 use wkt_num::Decimal;
 
@@ -50,5 +50,16 @@ fn fronts(rt: HostRuntime) {
             front_end_by_tokens::<Decimal<6>>(text) == end,
             "{text}, by tokens"
         );
+    }
+}
+
+#[test]
+fn ends_of_values(rt: HostRuntime) {
+    for (text, end) in FRONTS {
+        let given = match read_text::<Decimal<6>>(rt.alloc(), text) {
+            Ok((_, end)) => Some(end),
+            Err(_) => None,
+        };
+        assert!(&rt; given == end, "{text}");
     }
 }

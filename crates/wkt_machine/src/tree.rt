@@ -240,7 +240,9 @@ impl<T: WktNum> Tree<T> {
         ensures { GivesLast self.old result self.new }
     {
         match self.outer.pop() {
-            Some(OpenCollection { members, dim }) => Wkt::from(GeometryCollection::new(members, dim)),
+            Some(OpenCollection { members, dim }) => Wkt::from(GeometryCollection::new(
+                members, dim,
+            )),
             None => Wkt::from(GeometryCollection::new(Vec::new(self.alloc), self.dim)),
         }
     }

@@ -48,13 +48,17 @@ pub fn read<T: WktNum, S: Walk<T>>(alloc: Global, source: S) -> (Result<Wkt<T>, 
     match drive::<T, S, Grower<'_, T>>(source, Grower::new(&mut tree)) {
         Ok(over) => {
             let At {
-                source, builder, ..
+                source,
+                builder,
+                ..
             } = over;
             (answer(builder), source)
         }
         Err(at) => {
             let At {
-                source, machine, ..
+                source,
+                machine,
+                ..
             } = at;
             (Err(Unread::Refused(machine)), source)
         }

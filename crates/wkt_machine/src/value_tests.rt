@@ -1,9 +1,10 @@
 //! Values that are read, beside the same made by hand.
+use crate::text::read_text;
 use crate::tokens::OneByOne;
 use crate::value::{Unread, read};
 use std::alloc::{AllocError, Global};
 use std::process::Abort;
-use wkt_read::{PeekableTokens, Tokens};
+use wkt_read::{PeekableTokens, ReadError, Tokens};
 use wkt_types::{
     Coord, Dimension, GeometryCollection, LineString, MultiLineString, MultiPoint, MultiPolygon,
     Point, Polygon, Wkt,
@@ -21,10 +22,21 @@ fn value(alloc: Global, text: &str) -> Result<Option<Wkt<i32>>, AllocError> {
     }
 }
 
+/// What it is read as by its bytes.
+fn value_by_bytes(alloc: Global, text: &str) -> Result<Option<Wkt<i32>>, AllocError> {
+    match read_text::<i32>(alloc, text) {
+        Ok((value, _)) => Ok(Some(value)),
+        Err(ReadError::Text(_)) => Ok(None),
+        Err(ReadError::Memory(error)) => Err(error),
+    }
+}
+
 /// The text is read as that.
 fn is_read(rt: &impl Abort, alloc: Global, text: &str, want: Made) -> Result<(), AllocError> {
     let want = want?;
     let given = value(alloc, text)?;
+    let by_bytes = value_by_bytes(alloc, text)?;
+    assert!(rt; by_bytes == given, "{text}, by bytes");
     assert!(rt; given == Some(want), "{text}");
     Ok(())
 }
@@ -37,7 +49,11 @@ fn xy(x: i32, y: i32) -> Coord<i32> {
     coord(x, y, None, None)
 }
 
-fn line(alloc: Global, coords: &[Coord<i32>], dim: Dimension) -> Result<LineString<i32>, AllocError> {
+fn line(
+    alloc: Global,
+    coords: &[Coord<i32>],
+    dim: Dimension,
+) -> Result<LineString<i32>, AllocError> {
     let mut all = Vec::new(alloc);
     for coord in coords {
         all.push(*coord)?;
@@ -57,11 +73,7 @@ fn lines(
     Ok(all)
 }
 
-fn points(
-    alloc: Global,
-    coords: &[Option<Coord<i32>>],
-    dim: Dimension,
-) -> Made {
+fn points(alloc: Global, coords: &[Option<Coord<i32>>], dim: Dimension) -> Made {
     let mut all = Vec::new(alloc);
     for coord in coords {
         all.push(Point::new(*coord, dim))?;
@@ -82,17 +94,11 @@ fn polygon(alloc: Global, rings: &[&[Coord<i32>]], dim: Dimension) -> Made {
 }
 
 fn multi_line_string(alloc: Global, parts: &[&[Coord<i32>]], dim: Dimension) -> Made {
-    Ok(Wkt::from(MultiLineString::new(
-        lines(alloc, parts, dim)?,
-        dim,
-    )))
+    Ok(Wkt::from(MultiLineString::new(lines(alloc, parts, dim)?, dim)))
 }
 
 fn area(alloc: Global, rings: &[&[Coord<i32>]]) -> Result<Polygon<i32>, AllocError> {
-    Ok(Polygon::new(
-        lines(alloc, rings, Dimension::XY)?,
-        Dimension::XY,
-    ))
+    Ok(Polygon::new(lines(alloc, rings, Dimension::XY)?, Dimension::XY))
 }
 
 fn multi_polygon(alloc: Global, first: Polygon<i32>, second: Polygon<i32>) -> Made {
@@ -119,8 +125,16 @@ fn points_of_each_dimension(rt: HostRuntime) -> Result<(), AllocError> {
     let xyzm = Some(coord(1, 2, Some(3), Some(4)));
     for (text, coord, dim) in [
         ("POINT(1 2)", Some(xy(1, 2)), Dimension::XY),
-        ("point z(1 2 3)", Some(coord(1, 2, Some(3), None)), Dimension::XYZ),
-        ("POINTM(1 2 3)", Some(coord(1, 2, None, Some(3))), Dimension::XYM),
+        (
+            "point z(1 2 3)",
+            Some(coord(1, 2, Some(3), None)),
+            Dimension::XYZ,
+        ),
+        (
+            "POINTM(1 2 3)",
+            Some(coord(1, 2, None, Some(3))),
+            Dimension::XYM,
+        ),
         ("POINT ZM (1 2 3 4)", xyzm, Dimension::XYZM),
         ("POINT EMPTY", None, Dimension::XY),
         ("POINT ZM EMPTY", None, Dimension::XYZM),
@@ -155,11 +169,25 @@ fn polygons(rt: HostRuntime) -> Result<(), AllocError> {
 #[test]
 fn multi_points(rt: HostRuntime) -> Result<(), AllocError> {
     let alloc = rt.alloc();
-    let three = points(alloc, &[Some(xy(1, 2)), None, Some(xy(5, 6))], Dimension::XY);
+    let three = points(
+        alloc,
+        &[Some(xy(1, 2)), None, Some(xy(5, 6))],
+        Dimension::XY,
+    );
     is_read(&rt, alloc, "MULTIPOINT(1 2,EMPTY,(5 6))", three)?;
     let high = [Some(coord(1, 2, Some(3), None)), None];
-    is_read(&rt, alloc, "MULTIPOINT Z((1 2 3),EMPTY)", points(alloc, &high, Dimension::XYZ))?;
-    is_read(&rt, alloc, "MULTIPOINT EMPTY", points(alloc, &[], Dimension::XY))
+    is_read(
+        &rt,
+        alloc,
+        "MULTIPOINT Z((1 2 3),EMPTY)",
+        points(alloc, &high, Dimension::XYZ),
+    )?;
+    is_read(
+        &rt,
+        alloc,
+        "MULTIPOINT EMPTY",
+        points(alloc, &[], Dimension::XY),
+    )
 }
 
 #[test]
@@ -210,31 +238,62 @@ fn collections(rt: HostRuntime) -> Result<(), AllocError> {
     let high = point(Some(coord(1, 2, Some(3), None)), Dimension::XYZ);
     let flat = point(Some(xy(4, 5)), Dimension::XY);
     let two = collection(Ok(high), Ok(flat), alloc, Dimension::XYM);
-    is_read(&rt, alloc, "GEOMETRYCOLLECTION M(POINT Z(1 2 3),POINT(4 5))", two)?;
+    is_read(
+        &rt,
+        alloc,
+        "GEOMETRYCOLLECTION M(POINT Z(1 2 3),POINT(4 5))",
+        two,
+    )?;
     let line = line_string(alloc, &[xy(1, 2), xy(3, 4)], Dimension::XY);
     let none = Ok(no_members(alloc, Dimension::XYZ));
     let mixed = collection(none, line, alloc, Dimension::XY);
     let text = "GEOMETRYCOLLECTION(GEOMETRYCOLLECTION Z EMPTY,LINESTRING(1 2,3 4))";
     is_read(&rt, alloc, text, mixed)?;
-    is_read(&rt, alloc, "geometrycollection empty", Ok(no_members(alloc, Dimension::XY)))
+    is_read(
+        &rt,
+        alloc,
+        "geometrycollection empty",
+        Ok(no_members(alloc, Dimension::XY)),
+    )
 }
 
 #[test]
 fn nested_collections(rt: HostRuntime) -> Result<(), AllocError> {
     let alloc = rt.alloc();
-    let text = "GEOMETRYCOLLECTION(GEOMETRYCOLLECTION(POINT EMPTY,POINT(1 2)),GEOMETRYCOLLECTION(MULTIPOINT(1 2),GEOMETRYCOLLECTION EMPTY))";
+    let text =
+        "GEOMETRYCOLLECTION(GEOMETRYCOLLECTION(POINT EMPTY,POINT(1 2)),GEOMETRYCOLLECTION(MULTIPOINT(1 2),GEOMETRYCOLLECTION EMPTY))";
     let none = Ok(point(None, Dimension::XY));
     let one = Ok(point(Some(xy(1, 2)), Dimension::XY));
     let left = collection(none, one, alloc, Dimension::XY);
     let several = points(alloc, &[Some(xy(1, 2))], Dimension::XY);
-    let right = collection(several, Ok(no_members(alloc, Dimension::XY)), alloc, Dimension::XY);
-    is_read(&rt, alloc, text, collection(left, right, alloc, Dimension::XY))
+    let right = collection(
+        several,
+        Ok(no_members(alloc, Dimension::XY)),
+        alloc,
+        Dimension::XY,
+    );
+    is_read(
+        &rt,
+        alloc,
+        text,
+        collection(left, right, alloc, Dimension::XY),
+    )
 }
 
 #[test]
 fn refused(rt: HostRuntime) -> Result<(), AllocError> {
-    for text in ["", "POINT", "POINT(1)", "LINESTRING(1 2,3)", "GEOMETRYCOLLECTION(POINT(1 2)"] {
+    for text in [
+        "",
+        "POINT",
+        "POINT(1)",
+        "LINESTRING(1 2,3)",
+        "GEOMETRYCOLLECTION(POINT(1 2)",
+    ] {
         assert!(&rt; value(rt.alloc(), text)? == None, "{text}");
+        assert!(&rt;
+            value_by_bytes(rt.alloc(), text)? == None,
+            "{text}, by bytes"
+        );
     }
     Ok(())
 }

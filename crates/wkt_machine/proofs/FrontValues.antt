@@ -1,0 +1,74 @@
+-- What is read from the place where a text begins is its front, or it has none.
+use Rattle.std.proofs.Common.{◌≡◌, ℕ, List, [], ◌∷◌, ◌++◌, sym, refl, ap, ◌∙◌, subst, append_assoc, Option, Result, Ok, Err, IfOk}
+use Rattle.std.specs.declared.alloc.AllocError.{AllocError}
+use Rattle.wkt_types.specs.Tree.{tree}
+use Rattle.wkt_types.specs.declared.geometry.Wkt.{Wkt}
+use Rattle.wkt_read.specs.Answered.{IsFrontTo}
+use Rattle.wkt_read.proofs.LawLemmas.Fronts.{front_one}
+use Rattle.wkt_machine.specs.declared.value.Unread.{Unread}
+use Rattle.wkt_machine.specs.declared.value.Unread.TheVariants.{Refused, Memory}
+use Rattle.wkt_access.specs.Values.{Value}
+use Rattle.wkt_read.specs.Front.{Front, HasNoFront, NeedsNoMemory}
+use Rattle.wkt_read.specs.Placed.{Placed, AreEnds, placed}
+use Rattle.wkt_read.proofs.LawLemmas.FrontEnds.{front-of-lexemes}
+use Rattle.wkt_read.proofs.TokenizerLemmas.Placings.{placed-ends}
+use Rattle.wkt_machine.specs.Goes.{RefusesFrom}
+use Rattle.wkt_machine.specs.Makers.{Maker}
+use Rattle.wkt_machine.specs.Values.{Takes, IsRead, IsRefused, OnMemory, OnRefused, WantsMemory}
+use Rattle.wkt_machine.specs.View.{View}
+use Rattle.wkt_machine.specs.declared.machine.Machine.{Machine}
+use Rattle.wkt_machine.specs.declared.machine.State.TheVariants as state
+use Rattle.wkt_machine.specs.declared.part.Part.TheVariants as part
+use Rattle.wkt_access.specs.declared.dimensions.Dimension.TheVariants.{XY}
+use Rattle.wkt_machine.specs.declared.source.At.{At}
+use Rattle.wkt_machine.proofs.Fronting.{end_last, no_front_there}
+
+-- nothing is made
+made_none : {N : Type 0} → Maker N (Unit {0})
+made_none = record { makes = λ s es t. Unit {0}; none = λ s. tt; more = λ s t u es fs h k. tt }
+
+abbrev begin : Machine
+begin = record { state = state.Kind; part = part.Point; dim = XY; depth = 0 }
+
+module _ {N S : Type 0} (read : List ℕ → Option N) (view : View S) (text : List ℕ) (s : S) (begins : view.left s ≡ placed text) where
+  -- the front that was taken
+  pub front_taken : (v : Value N) (t : S) → Takes read view s v t → Front read text v (view.place t)
+  front_taken v t h =
+      let given : List Placed = h.given ++ (h.last ∷ []) in
+      let all : placed text ≡ given ++ view.left t = sym begins ∙ h.split ∙ sym (append_assoc h.given (h.last ∷ []) (view.left t)) in
+      subst (Front read text v) (end_last 0 h.given h.last ∙ sym h.place)
+      (front-of-lexemes read text given (view.left t) v (subst (AreEnds text) all (placed-ends text)) h.stands)
+
+  -- no front where the machine stops
+  pub no_front_refused : view.legible s → (m : Machine) (t : S) → IsRefused read view s m t → HasNoFront read text
+  no_front_refused legible m t h =
+      let to : At S (Unit {0}) = record { source = t; machine = m; builder = tt } in
+      no_front_there read view made_none text s tt to begins legible (
+        begin,
+        refl,
+        record {
+          taken = h.taken;
+          events = h.events;
+          split = h.split;
+          behind = h.behind;
+          ran = h.ran;
+          is_open = h.is_open;
+          stuck = h.stuck;
+        },
+      )
+
+  -- what `read` answers, by its cases
+  pub found_in : (t : S) (w : Wkt N) (a : Result (Wkt N) Unread) → a ≡ Ok w → IfOk a (λ w. IsRead read view s (tree w) t) → IsFrontTo read text (tree w) (view.place t)
+  found_in t w a e h =
+      let (v, takes, is) : IsRead read view s (tree w) t = subst (λ a. IfOk a (λ w. IsRead read view s (tree w) t)) e h in
+      (v, front_taken v t takes, is)
+
+  pub memory_in : (t : S) (x : AllocError) (u : Unread) (a : Result (Wkt N) Unread) → a ≡ Err u → u ≡ Memory x → OnMemory a (WantsMemory read view s t) → (P : Type 0) → (v : Value N) (end : ℕ) → Front read text v end → NeedsNoMemory v → P
+  memory_in t x u a e is h P v end front free =
+      let (w, takes, wants) : WantsMemory read view s t = subst (λ u. OnMemory {X = Wkt N} (Err u) (WantsMemory read view s t)) is (subst (λ a. OnMemory a (WantsMemory read view s t)) e h) in
+      let same = front_one read text v w end (view.place t) front (front_taken w t takes) in
+      absurd (wants (subst NeedsNoMemory same.0 free))
+
+  pub refused_in : (t : S) (m : Machine) (u : Unread) (a : Result (Wkt N) Unread) → a ≡ Err u → u ≡ Refused m → OnRefused a (λ m. IsRefused read view s m t) → view.legible s → HasNoFront read text
+  refused_in t m u a e is h legible =
+      no_front_refused legible m t (subst (λ u. OnRefused {X = Wkt N} (Err u) (λ m. IsRefused read view s m t)) is (subst (λ a. OnRefused a (λ m. IsRefused read view s m t)) e h))

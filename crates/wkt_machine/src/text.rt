@@ -1,0 +1,43 @@
+//! The geometry at the front of a text, as a value.
+ghost use Rattle.std.specs.Prelude.{◌≤◌, ◌<◌, length, IfOk};
+ghost use Rattle.std.specs.Result.{IsOk};
+ghost use Rattle.std.specs.Str.{IsCharBoundary};
+ghost use Rattle.wkt_types.specs.Tree.{tree};
+ghost use Rattle.wkt_read.specs.Answered.{IsFrontTo, HasBadNumber, OnText, OnMessage};
+ghost use Rattle.wkt_read.specs.Front.{Front, HasNoFront, NeedsNoMemory};
+ghost use Rattle.wkt_read.specs.Items.{bad_number};
+ghost use Rattle.wkt_read.specs.Refusal.{IsTextRefused, IfText};
+
+use crate::bytes::Bytes;
+use crate::value::{Unread, read};
+use std::alloc::Global;
+use wkt_explain::message;
+use wkt_num::WktNum;
+use wkt_read::ReadError;
+use wkt_types::Wkt;
+
+/// The geometry at the front of the text, and where its last lexeme ends, in bytes: what `Wkt::read_front` answers. It
+/// looks at bytes behind the front, and is faster.
+///
+/// # Errors
+/// `Text` where no beginning of the text is a geometry, with what was found amiss; `Memory` where memory ran out.
+pub fn read_text<T: WktNum>(alloc: Global, text: &str) -> Result<(Wkt<T>, usize), ReadError>
+    ensures found { IfOk result (λ r. IsFrontTo T.read text.now (tree r.0) r.1) }
+    ensures some { IfOk result (λ r. 0 < r.1) }
+    ensures within { IfOk result (λ r. r.1 ≤ length text.now) }
+    ensures boundary { IfOk result (λ r. IsCharBoundary text.now r.1) }
+    ensures no_front { OnText result (HasNoFront T.read text.now) }
+    ensures bad { OnMessage result bad_number (HasBadNumber T.read text.now) }
+    ensures refusal { IfText result (λ said. IsTextRefused T.read text.now said) }
+    ensures free { (v end : _) → Front T.read text.now v end → NeedsNoMemory v → IsOk result }
+{
+    let source = Bytes::<'_, false>::new(text.as_bytes(), 0);
+    let (answer, behind) = read::<T, Bytes<'_, false>>(alloc, source);
+    match answer {
+        Ok(wkt) => Ok((wkt, behind.at)),
+        Err(unread) => match unread {
+            Unread::Memory(error) => Err(ReadError::Memory(error)),
+            Unread::Refused(_) => Err(ReadError::Text(message::<T>(text).text())),
+        },
+    }
+}
