@@ -1,5 +1,6 @@
 #!/usr/bin/env python3
-"""Tries the wrong bodies by the functions that they change, over the libraries that `rt ci` left: wrong_functions.py [CRATE..]
+"""Tries the wrong bodies by the functions that they change, over the libraries that `rt ci` left:
+wrong_functions.py [CRATE|CRATE/NAME..]
 
 tests/wrong_bodies.sh checks the whole crate with each of them. This checks the functions alone, in seconds, several at a
 time, and proves no library again: so all can be tried after a gate. A wrong body that its functions let through is tried
@@ -15,6 +16,7 @@ import subprocess
 import sys
 import tempfile
 
+from edits import crates as all_crates, edits_of
 from lib_for_c import TOP, below, library_words, uses_of
 
 FUNCTION = re.compile(r"\s*(?:pub(?:\([a-z]+\))?\s+)?(?:const\s+)?(?:unsafe\s+)?(?:extern \"C\" )?fn\s+(\w+)")
@@ -22,35 +24,11 @@ IMPL = re.compile(r"impl(?:<[^{]*?>)?\s+(?:(?:\w+::)*(\w+)(?:<.*?>)?\s+for\s+)?&
 TRAIT = re.compile(r"(?:pub(?:\([a-z]+\))? )?trait\s+(\w+)")
 
 
-class Edit:
-    """A wrong body: for each change its file, and the old and the new text."""
-
-    def __init__(self, crate, path):
-        self.crate, self.path, self.changes = crate, path, []
-        file = old = None
-        for line in path.read_text(encoding="utf-8").splitlines():
-            word, _, text = line.partition(": ")
-            if word == "file":
-                file = text.strip()
-            elif word == "old":
-                old = text
-            elif line.startswith("new:"):
-                self.changes.append((file, old, text))
-
-    def applied(self, folder):
-        """Applies it in a copy of the crate."""
-        for file, old, new in self.changes:
-            path = pathlib.Path(folder, file)
-            text = path.read_text(encoding="utf-8")
-            if text.count(old) != 1:
-                sys.exit(f"{self.path}: stale")
-            path.write_text(text.replace(old, new), encoding="utf-8")
-
-    def named(self):
-        """What to check, from the narrowest on: the functions by type and name, by name, by file, and the whole crate."""
-        found = [named_at(self.crate, file, old) for file, old, _ in self.changes]
-        levels = [{name for name in names if name} for names in zip(*found)]
-        return [*(level for level in levels if level and found[0][1]), set()]
+def named(edit):
+    """What to check, from the narrowest on: the functions by type and name, by name, by file, and the whole crate."""
+    found = [named_at(edit.crate, file, old) for file, old, _ in edit.changes]
+    levels = [{name for name in names if name} for names in zip(*found)]
+    return [*(level for level in levels if level and found[0][1]), set()]
 
 
 def named_at(crate, file, old):
@@ -89,7 +67,7 @@ def tried(edit, words):
             if os.path.isdir(f"{TOP}/crates/{edit.crate}/{part}"):
                 shutil.copytree(f"{TOP}/crates/{edit.crate}/{part}", f"{room}/{part}")
         edit.applied(room)
-        for names in edit.named():
+        for names in named(edit):
             only = [word for name in sorted(names) for word in ("--only", name)]
             ran = subprocess.run([*words, *only], cwd=room, stdin=subprocess.DEVNULL, capture_output=True, text=True, errors="replace")
             said = ran.stdout + ran.stderr
@@ -105,18 +83,16 @@ def main():
     uses = uses_of()
     with open(f"{TOP}/crates.txt", encoding="utf-8") as rows:
         static = {row.split()[0] for row in rows if " staticlib:" in row}
-    folder = pathlib.Path(TOP, "tests/wrong_bodies")
-    crates = sys.argv[1:] or sorted(it.name for it in folder.iterdir())
     edits = []
-    for crate in crates:
-        paths = [*folder.joinpath(crate).glob("*.edit"), *pathlib.Path(TOP, "crates", crate, "must-fail").glob("*.edit")]
+    for word in sys.argv[1:] or all_crates():
+        crate, _, name = word.partition("/")
         words = words_for(crate, uses, crate in static)
-        edits += [(Edit(crate, path), words) for path in sorted(paths)]
+        edits += [(edit, words) for edit in edits_of(crate) if name in ("", edit.name)]
     passed = 0
     with concurrent.futures.ThreadPoolExecutor(len(os.sched_getaffinity(0))) as pool:
         for (edit, _), (refused, why) in zip(edits, pool.map(lambda it: tried(*it), edits)):
             passed += refused
-            print(f"{edit.crate}/{edit.path.stem}: {'refused' if refused else 'NOT REFUSED'}: {why}", flush=True)
+            print(f"{edit.crate}/{edit.name}: {'refused' if refused else 'NOT REFUSED'}: {why}", flush=True)
     print(f"{passed} refused, {len(edits) - passed} not")
     return 0 if passed == len(edits) else 1
 
