@@ -1,6 +1,6 @@
 #!/usr/bin/env python3
 """Tries the wrong bodies by the functions that they change, over the libraries that `rt ci` left:
-wrong_functions.py [CRATE|CRATE/NAME..]
+wrong_functions.py [CRATE[/NAME]..]
 
 tests/wrong_bodies.sh checks the whole crate with each of them. This checks the functions alone, in seconds, several at a
 time, and proves no library again: so all can be tried after a gate. A wrong body that its functions let through is tried
