@@ -16,7 +16,8 @@ there() {
         wheel) module setuptools && module wheel && module pip && module venv && [ -e "$(headers)/Python.h" ] ;;
         postgres) command -v pg_config && [ -e "$(pg_config --includedir-server)/postgres.h" ] && [ -x "$(pg_config --bindir)/initdb" ] ;;
         sqlite) command -v sqlite3 && [ -e /usr/include/sqlite3.h ] ;;
-        web) command -v node && command -v tsc && command -v wasm-opt ;;
+        web) command -v node && command -v wasm-opt ;;
+        types) command -v tsc ;;
         page) command -v chromium && command -v chromedriver && module selenium ;;
         fuzz) command -v clang && command -v ld.lld ;;
     esac > /dev/null 2>&1
@@ -42,7 +43,8 @@ packages=(
     "wheel python3-setuptools python3-wheel python3-pip python3-venv python3-dev"
     "postgres postgresql postgresql-server-dev-all"
     "sqlite sqlite3 libsqlite3-dev"
-    "web nodejs node-typescript binaryen"
+    "web nodejs binaryen"
+    "types node-typescript"
     "page chromium chromium-driver python3-selenium"
     "fuzz clang lld libclang-rt-dev"
 )
@@ -65,11 +67,21 @@ as_root=()
 [ "$(id -u)" = 0 ] || as_root=(sudo -n)
 log=$(mktemp)
 trap 'rm -f "$log"' EXIT
-if "${as_root[@]}" apt-get update -q > "$log" 2>&1 &&
-    "${as_root[@]}" env DEBIAN_FRONTEND=noninteractive apt-get install -qy --no-install-recommends "${wanted[@]}" >> "$log" 2>&1; then
+install() { "${as_root[@]}" env DEBIAN_FRONTEND=noninteractive apt-get install -qy --no-install-recommends "$@" >> "$log" 2>&1; }
+"${as_root[@]}" apt-get update -q > "$log" 2>&1
+if install "${wanted[@]}"; then
     echo "installed for the tests: ${wanted[*]}"
-else
-    tail -n 5 "$log"
-    echo "the tests need these Debian packages, which can't be installed here: ${wanted[*]}"
-    exit 1
+    exit 0
 fi
+# What can't be installed doesn't keep the rest out: node-typescript, say, takes no Node but Debian's.
+failed=()
+for row in "${packages[@]}"; do
+    read -r name rest <<< "$row"
+    there "$name" && continue
+    read -ra rest <<< "$rest"
+    install "${rest[@]}" || failed+=("${rest[@]}")
+done
+[ "${#failed[@]}" != 0 ] || exit 0
+tail -n 5 "$log"
+echo "the tests need these Debian packages, which can't be installed here: ${failed[*]}"
+exit 1

@@ -5,13 +5,14 @@
 # names a module that is built already: WKT_WASM=dist/wasm/wkt.wasm needs nothing of the prover. The package has to give the
 # answers of the native library to 40,000 texts: LIB names it (capi/out/libwkt.so).
 #
-# It needs Node 18 or later, tsc, Python and, for the page, Chromium and Selenium (tests/needs.sh installs them). SKIP=page
-# passes the page over.
+# It needs Node 18 or later, tsc, Python and, for the page, Chromium and Selenium (tests/needs.sh installs them). SKIP=types
+# passes tsc over, SKIP=page the page.
 set -u
 cd "$(dirname "$0")/.."
 fail() { echo "web: $*"; exit 1; }
 skips() { case ",${SKIP:-}," in *",$1,"*) true ;; *) false ;; esac; }
-for name in node tsc; do command -v $name > /dev/null || fail "no $name: tests/needs.sh installs it"; done
+command -v node > /dev/null || fail "no node: tests/needs.sh installs it"
+skips types || command -v tsc > /dev/null || fail "no tsc: tests/needs.sh installs it"
 lib=$(readlink -f "${LIB:-capi/out/libwkt.so}")
 [ -e "$lib" ] || fail "no native library: $lib"
 dir=$(mktemp -d)
@@ -55,12 +56,14 @@ echo "import { load } from 'wkt-proved'; console.log((await load()).canonical('p
 echo "web: $(basename "$package"): $(stat -c %s "$package") bytes, called by its name"
 # types WORD..: the compiler of TypeScript finds the package so, and has no word about it
 types() { (cd "$app" && tsc --strict --noEmit --target es2022 --lib es2022,dom,dom.iterable "$@" types.ts) || fail "types: $*"; }
-types --module node16 --moduleResolution node16
-types --module es2022 --moduleResolution node
-echo "web: types: no word of tsc $(tsc --version | tr -dc 0-9.) --strict"
+if ! skips types; then
+    types --module node16 --moduleResolution node16
+    types --module es2022 --moduleResolution node
+    echo "web: types: no word of tsc $(tsc --version | tr -dc 0-9.) --strict"
+fi
 
 wait $writing || fail "native.py"
-node --test javascript/test/*.test.js > "$dir/said" 2>&1 || { grep -E -A 24 '^ *not ok' "$dir/said"; fail "the tests of the package"; }
+node --test --test-reporter=tap javascript/test/*.test.js > "$dir/said" 2>&1 || { grep -E -A 24 '^ *not ok' "$dir/said"; fail "the tests of the package"; }
 grep -q '^# skipped 0$' "$dir/said" || { grep SKIP "$dir/said"; fail "a test was skipped"; }
 echo "web: node $(node --version): $(sed -n 's/^# pass //p' "$dir/said") tests of the package passed"
 # The example of docs/CALLING.md, which takes the module of the clone.
@@ -74,7 +77,7 @@ if ! skips page; then
     echo "web: $said"
 fi
 if [ -e web/make.py ] && ! skips page; then
-    node --test web/ > "$dir/said" 2>&1 || { cat "$dir/said"; fail "the parts of the page"; }
+    node --test --test-reporter=tap web/ > "$dir/said" 2>&1 || { cat "$dir/said"; fail "the parts of the page"; }
     web/make.py --module "$module" "$dir/index.html" && web/test.py "$dir/index.html" || fail "the page"
     if [ -e dist/web/index.html ] && cmp -s "$module" dist/wasm/wkt.wasm; then web/make.py --check || fail "the page in dist/web"; fi
 fi
