@@ -9,8 +9,8 @@
 # change nothing. Then the same of ten thousand nested collections, at growths all over the run. A test has to end as
 # out of memory, which no wrong value does, or to pass.
 #
-# The gate runs it on what it has built; alone, build all seven first (rt run in crates/wktline, crates/wktstream,
-# crates/wkt_command, crates/wkt_conformance and crates/wkt_operations, rt test in crates/wkt and crates/wkt_use_conformance).
+# The gate runs it on what it has built; alone, build all of them first (rt run in crates/wktline, crates/wktstream,
+# crates/wkt_command, crates/wkt_conformance and crates/wkt_operations, rt test in crates/wkt, crates/wkt_machine and crates/wkt_use_conformance).
 set -u
 cd "$(dirname "$0")/.."
 dir=$(mktemp -d)
@@ -81,7 +81,7 @@ each_test() {
             run "$n" "$tests" "$name"
             status=$?
             if [ "$status" != 0 ]; then
-                grep -qx "error: AllocError" "$dir/err" || fail "$1" "$n" "$name fails otherwise"
+                grep -qx "[Ee]rror: AllocError" "$dir/err" || fail "$1" "$n" "$name fails otherwise"
                 ended=$((ended + 1))
             fi
             [ -e "$dir/refused" ] || break
