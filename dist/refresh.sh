@@ -56,7 +56,7 @@ packed() {
             echo "$1/$name.o: $(dist/functions.py "$work/old/$name.o" "$object" | sed -n 1p)"
             ! cmp -s "$work/old/$name.o" "$object" || continue
         fi
-        xz -9e -T1 -c "$object" > "$to/$name.o.xz"
+        xz -9e --threads=1 -c "$object" > "$to/$name.o.xz"
     done
     {
         echo "commit     $(git rev-parse HEAD)"
