@@ -21,3 +21,5 @@ mod Grown
 mod Holding
 mod Valued
 mod FrontValues
+mod Walking
+mod Refusing

@@ -13,6 +13,7 @@ pub mod laws;
 pub mod machine;
 pub mod nothing;
 mod part;
+mod refused;
 pub mod source;
 pub mod step;
 pub mod text;
