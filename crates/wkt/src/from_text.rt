@@ -10,8 +10,9 @@ ghost use Rattle.wkt.specs.FromText.{AreNoText, BytesAnswer, Cause, IsUnread, On
 use std::alloc::Global;
 use wkt_bytes::{ByteSource, ReadAllError, read_all};
 use wkt_convert::FromAny;
+use wkt_machine::FromWktStr;
 use wkt_num::WktNum;
-use wkt_read::{FromWktStr, ReadError};
+use wkt_read::ReadError;
 use wkt_types::{ConvertError, Wkt};
 
 /// A type that is read from well-known text through a conversion.

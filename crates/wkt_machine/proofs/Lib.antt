@@ -23,3 +23,4 @@ mod Valued
 mod FrontValues
 mod Walking
 mod Refusing
+mod Reading

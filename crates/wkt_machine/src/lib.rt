@@ -7,6 +7,7 @@ pub mod builder;
 pub mod bytes;
 mod coordinates;
 pub mod drive;
+mod from_str;
 pub mod front;
 mod heads;
 pub mod laws;
@@ -23,6 +24,7 @@ pub mod value;
 
 pub use builder::Builder;
 pub use bytes::Bytes;
+pub use from_str::FromWktStr;
 pub use front::{front_end, front_end_by_tokens};
 pub use machine::{Machine, Seen, State};
 pub use nothing::Nothing;

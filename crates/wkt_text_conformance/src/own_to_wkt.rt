@@ -6,7 +6,7 @@ use std::io::ErrorKind;
 use std::process::Abort;
 use wkt_access::Error;
 use wkt_convert::{ToWkt, ToWktError};
-use wkt_read::FromWktStr;
+use wkt_machine::FromWktStr;
 use wkt_types::{Coord, Dimension, GeometryCollection, Point, Wkt};
 
 /// A drawing, which has a geometry for others.

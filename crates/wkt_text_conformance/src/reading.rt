@@ -2,7 +2,8 @@
 use crate::asserts::equal;
 use std::alloc::Global;
 use std::process::Abort;
-use wkt_read::{FromWktStr, PeekableTokens, ReadError, Token, Tokens};
+use wkt_machine::FromWktStr;
+use wkt_read::{PeekableTokens, ReadError, Token, Tokens};
 use wkt_types::Wkt;
 
 const BAD_NUMBER: &str = "Unable to parse input number as the desired output type";

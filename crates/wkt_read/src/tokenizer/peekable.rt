@@ -1,5 +1,5 @@
 //! The lexemes of a text, of which one may be looked at ahead.
-ghost use Rattle.std.specs.Prelude.{◌≡◌, ◌+◌, ◌≤◌, ℕ, [], ◌∷◌, Some, None, OnSome, IfNone};
+ghost use Rattle.std.specs.Prelude.{◌≡◌, ◌+◌, ◌≤◌, ℕ, length, [], ◌∷◌, Some, None, OnSome, IfNone};
 ghost use Rattle.std.specs.Bool.{MatchBool, OnFalse};
 ghost use Rattle.wkt_num.specs.Bytes.{Lexeme, Comma};
 ghost use Rattle.wkt_read.specs.Tokenizer.Unread.{found};
@@ -62,6 +62,13 @@ impl<'a, T: WktNum> PeekableTokens<'a, T> {
         ensures { result ≡ end_of self.now }
     {
         self.end
+    }
+
+    /// No more lexemes are left than this. It reads none of them.
+    pub fn most_left(&self) -> usize
+        ensures { length (left self.now) ≤ result }
+    {
+        self.tokens.most_left()
     }
 
     // The next lexeme, which stays.

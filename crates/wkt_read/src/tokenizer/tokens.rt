@@ -1,5 +1,5 @@
 //! Lexemes, and the lexemes of a text one after the other.
-ghost use Rattle.std.specs.Prelude.{◌≡◌, ◌≢◌, ◌≤◌, ℕ, length, Some};
+ghost use Rattle.std.specs.Prelude.{◌≡◌, ◌≢◌, ◌≤◌, ◌<◌, ℕ, length, Some};
 ghost use Rattle.std.specs.Bool.{MatchBool};
 ghost use Rattle.std.specs.Str.{IsCharBoundary};
 ghost use Rattle.wkt_num.specs.Bytes.{Comma};
@@ -137,6 +137,13 @@ impl<'a, T: WktNum> Tokens<'a, T> {
         ensures { result ≡ end_of_last self.now }
     {
         self.end
+    }
+
+    // More lexemes than are left.
+    pub(crate) fn most_left(&self) -> usize
+        ensures { length (coming self.now) < result }
+    {
+        self.bytes.most_left()
     }
 
     // Gives the next lexeme if it is a comma that was taken with the run before it.

@@ -13,16 +13,21 @@ ghost use Rattle.wkt_read.specs.Ahead.{rest, Advances, IsNear};
 ghost use Rattle.wkt_read.specs.Refusal.{IsRefused, IsTextRefused, IfText};
 ghost use Rattle.wkt_read.specs.Answered.{IsFront, IsFrontTo, Begins, IsReadOff, HasBadNumber, OnText, OnMessage};
 
-use crate::error::ReadError;
-use crate::messages::Message;
-use crate::parser::geometries::value;
-use crate::tokenizer::peekable::PeekableTokens;
-use crate::tokenizer::tokens::Tokens;
+use crate::refused::refused;
+use crate::tokens::OneByOne;
+use crate::value::{Unread, read};
 use std::alloc::Global;
+use std::mem;
 use wkt_num::WktNum;
+use wkt_read::{Message, PeekableTokens, ReadError, Tokens};
 use wkt_types::Wkt;
 
-fn read<T: WktNum>(alloc: Global, tokens: &mut PeekableTokens<'_, T>) -> Result<Wkt<T>, ReadError>
+/// The geometry at the front of the tokens.
+#[inline(always)]
+fn read_off<T: WktNum>(
+    alloc: Global,
+    tokens: &mut PeekableTokens<'_, T>,
+) -> Result<Wkt<T>, ReadError>
     ensures found { IfOk result (λ w. IsReadOff T.read (rest tokens.old) (tree w) (rest tokens.new)) }
     ensures no_geometry { OnText result (NoneBegins T.read (rest tokens.old)) }
     ensures early { OnText result (StopsEarly T.read (rest tokens.old) (rest tokens.new)) }
@@ -33,10 +38,23 @@ fn read<T: WktNum>(alloc: Global, tokens: &mut PeekableTokens<'_, T>) -> Result<
     ensures advances { Advances tokens.old tokens.new }
     ensures near { OnOk result (IsNear tokens.new) }
 {
-    value(alloc, tokens, false)
+    // The machine counts open collections, of which there are no more than tokens.
+    let _ = tokens.most_left();
+    let none = PeekableTokens::new(Tokens::from_str(""));
+    let source = OneByOne::new(mem::replace(tokens, none));
+    let (answer, behind) = read::<T, OneByOne<'_, T>>(alloc, source);
+    *tokens = behind.into_tokens();
+    match answer {
+        Ok(geometry) => Ok(geometry),
+        Err(unread) => match unread {
+            Unread::Memory(error) => Err(ReadError::Memory(error)),
+            Unread::Refused(machine) => Err(ReadError::Text(refused(machine, tokens).text())),
+        },
+    }
 }
 
-fn read_text<T: WktNum>(alloc: Global, text: &str) -> Result<(Wkt<T>, usize), ReadError>
+/// The geometry at the front of the text, and where its last token ends.
+fn front_of<T: WktNum>(alloc: Global, text: &str) -> Result<(Wkt<T>, usize), ReadError>
     ensures found { IfOk result (λ r. IsFrontTo T.read text.now (tree r.0) r.1) }
     ensures some { IfOk result (λ r. 0 < r.1) }
     ensures within { IfOk result (λ r. r.1 ≤ length text.now) }
@@ -47,7 +65,7 @@ fn read_text<T: WktNum>(alloc: Global, text: &str) -> Result<(Wkt<T>, usize), Re
     ensures free { (v end : _) → Front T.read text.now v end → NeedsNoMemory v → IsOk result }
 {
     let mut tokens = PeekableTokens::new(Tokens::from_str(text));
-    match read(alloc, &mut tokens) {
+    match read_off(alloc, &mut tokens) {
         Ok(geometry) => Ok((geometry, tokens.end())),
         Err(error) => Err(error),
     }
@@ -125,21 +143,20 @@ impl<T: WktNum> FromWktStr for Wkt<T> {
 
     ghost tree = { tree };
 
-    // Not by `read`: a geometry costs some instructions each time that it is handed on. A text of no bytes, as of a
-    // blank cell, is refused before there is a stream.
+    // A text of no bytes, as of a blank cell, is refused before there is a stream.
     fn from_str(alloc: Global, text: &str) -> Result<Self, ReadError> {
         if text.is_empty() {
             return Err(ReadError::Text(Message::Format.text()));
         }
         let mut tokens = PeekableTokens::new(Tokens::from_str(text));
-        value(alloc, &mut tokens, false)
+        read_off(alloc, &mut tokens)
     }
 
     fn read_front(alloc: Global, text: &str) -> Result<(Self, usize), ReadError> {
-        read_text(alloc, text)
+        front_of(alloc, text)
     }
 
     fn read_tokens(alloc: Global, tokens: &mut PeekableTokens<'_, T>) -> Result<Self, ReadError> {
-        read(alloc, tokens)
+        read_off(alloc, tokens)
     }
 }

@@ -12,8 +12,8 @@ use Rattle.wkt_read.proofs.LawLemmas.FrontEnds.{front-some, front-within, front-
 use Rattle.wkt_read.proofs.LawLemmas.OnePlacing.{placed-only}
 use Rattle.wkt_read.proofs.ParserLemmas.Answering.{to-front, from-front, no-front, split-of, text-map, message-map}
 use Rattle.wkt_read.specs.Refusal.{IsRefused, IsTextRefused}
-use Rattle.wkt_read.proofs.ParserLemmas.Valued.{if-text-err}
-use Rattle.wkt_read.proofs.api.read_text.Goals as goal
+use Rattle.wkt_machine.proofs.Reading.{if-text-err}
+use Rattle.wkt_machine.proofs.from_str.front_of.Goals as goal
 
 pub returns-in-Ok-clause-found : goal.returns-in-Ok-clause-found
 returns-in-Ok-clause-found g c =
@@ -41,8 +41,8 @@ returns-in-Err-clause-bad g c =
 
 pub returns-in-Err-clause-refusal : goal.returns-in-Err-clause-refusal
 returns-in-Err-clause-refusal g c =
-    if-text-err (Wkt g.row.T.Denot) (Wkt g.row.T.Denot) c.in-Err.error (λ said. IsRefused g.T.WktNum.read (rest c.new-tokens.result) said (rest c.read.new.tokens)) (IsTextRefused g.T.WktNum.read c.args.text.now)
-    (λ said (m, says, e). (m, says, (rest c.new-tokens.result, rest c.read.new.tokens, split-of g.T.WktNum.read c.args.text.now c.new-tokens.result (c.new-tokens.ensures.left ∙ placed-only _ _ c.from_str.ensures.split c.from_str.ensures.ends), e))) c.in-Err.ensures.refusal
+    if-text-err (Wkt g.row.T.Denot) (Wkt g.row.T.Denot) c.in-Err.error (λ said. IsRefused g.T.WktNum.read (rest c.new-tokens.result) said (rest c.read_off.new.tokens)) (IsTextRefused g.T.WktNum.read c.args.text.now)
+    (λ said (m, says, e). (m, says, (rest c.new-tokens.result, rest c.read_off.new.tokens, split-of g.T.WktNum.read c.args.text.now c.new-tokens.result (c.new-tokens.ensures.left ∙ placed-only _ _ c.from_str.ensures.split c.from_str.ensures.ends), e))) c.in-Err.ensures.refusal
 
 pub returns-in-Err-clause-free : goal.returns-in-Err-clause-free
 returns-in-Err-clause-free g c = λ v end front small.
