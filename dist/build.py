@@ -12,7 +12,7 @@ import sys
 import tempfile
 
 TOP = os.path.dirname(os.path.dirname(os.path.abspath(__file__)))
-sys.path.insert(0, f"{TOP}/tests")
+sys.path.insert(0, f"{TOP}/tests/lib")
 import lib_for_c as lib
 
 

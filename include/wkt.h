@@ -52,7 +52,7 @@ const char *wkt_version(void);
 #define WKT_WHOLE 256u
 
 typedef uint32_t wkt_status;
-/* names.py: c (tests/names.py --write makes this of docs/names.tsv) */
+/* names.py: c (tests/gate/names.py --write makes this of docs/names.tsv) */
 /* Statuses. 1 to 14: the text begins with no geometry, and WKT_MESSAGES says why. */
 enum {
     WKT_OK = 0, /* Done */

@@ -63,7 +63,7 @@ faces() {
     fi
     skips postgres || make -s -C "$dir/faces/postgres" > "$dir/log" 2>&1 || { cat "$dir/log"; fail "make -C postgres"; }
     if ! skips rust; then
-        "$root/tests/cargo_home.sh" "$dir/cargo" || fail "cargo"
+        "$root/tests/lib/cargo_home.sh" "$dir/cargo" || fail "cargo"
         CARGO_HOME=$dir/cargo CARGO_TARGET_DIR=$dir/target cargo run -q --offline --manifest-path "$dir/faces/rust/Cargo.toml" --example show -- "$text" > "$dir/said" 2> "$dir/log" ||
             { cat "$dir/log"; fail "cargo run"; }
         grep -qF "$answer" "$dir/said" || { cat "$dir/said"; fail "the crate's example"; }

@@ -98,7 +98,7 @@ with tempfile.TemporaryDirectory() as there:
 
 # The tables of keys.
 rows = 0
-with open(repository + "/tests/key_rules.tsv", encoding="utf-8", newline="\n") as table:
+with open(repository + "/tests/data/key_rules.tsv", encoding="utf-8", newline="\n") as table:
     for row in table:
         if not row.startswith("#"):
             places, text, key = row.rstrip("\n").split("\t")
@@ -109,7 +109,7 @@ with open(repository + "/tests/key_rules.tsv", encoding="utf-8", newline="\n") a
             same(ask(db, "wkt_reads(?, ?)", text, int(places)), int(key != "refused"))
             rows += 1
 assert rows > 40
-with open(repository + "/tests/keys.tsv", encoding="utf-8", newline="\n") as table:
+with open(repository + "/tests/data/keys.tsv", encoding="utf-8", newline="\n") as table:
     for row in table:
         if not row.startswith("#"):
             text, *keys = row.rstrip("\n").split("\t")

@@ -1,12 +1,12 @@
 #!/usr/bin/env bash
 # Runs every stored text and the tests, and proves nothing: the rows of the table and of crates/wkt_conformance/data, the
 # tests of each crate that has some, and each program over its stored input; wktline and wktstream over the keys of
-# tests/keys.tsv too. quick.sh [CRATE..]: all of these crates, or those that are named.
+# tests/data/keys.tsv too. quick.sh [CRATE..]: all of these crates, or those that are named.
 #
 # It builds each crate with checks (rt try), two at a time (JOBS=N: N at a time). Not run here, and said so:
 # wkt_long_conformance, whose texts are too many and too deep for a build with checks.
 set -u
-cd "$(dirname "$0")/.."
+cd "$(dirname "$0")/.." || exit 1
 jobs=${JOBS:-2}
 dir=$(mktemp -d)
 trap 'rm -rf "$dir"' EXIT
@@ -47,8 +47,8 @@ rows() {
 # keys: what both programs answer, as cases for rt try
 keys() {
     mkdir -p "$dir/cases"
-    grep -v '^#' tests/keys.tsv | cut -f 1 > "$dir/cases/keys"
-    grep -v '^#' tests/keys.tsv | cut -f 5 > "$dir/cases/keys.stdout"
+    grep -v '^#' tests/data/keys.tsv | cut -f 1 > "$dir/cases/keys"
+    grep -v '^#' tests/data/keys.tsv | cut -f 5 > "$dir/cases/keys.stdout"
     cp crates/wktline/stdin "$dir/cases/stored"
     cp crates/wktline/stdout "$dir/cases/stored.stdout"
 }

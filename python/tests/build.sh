@@ -14,7 +14,7 @@ export WKT_C_LIB=${WKT_C_LIB:-dist}
 
 # A clone that has nothing built, with what isn't committed yet.
 mkdir "$work/clone"
-(cd "$top" && git ls-files -co --exclude-standard -- python capi dist include 'LICENSE-*' tests/command tests/command.sh |
+(cd "$top" && git ls-files -co --exclude-standard -- python capi dist include 'LICENSE-*' tests/data/command tests/gate/command.sh |
     while read -r file; do [ ! -e "$file" ] || echo "$file"; done | tar -c -T - | tar -x -C "$work/clone")
 git -C "$work/clone" init -q
 git -C "$work/clone" add -A
@@ -44,7 +44,7 @@ done
 echo '# an edit' >> "$work/clone/python/wkt/_version.py"
 [ "$(cd / && "$work/editable/bin/python" -c 'import wkt; print(wkt.__file__)')" = "$work/clone/python/wkt/__init__.py" ] || fail "editable: another folder"
 git -C "$work/clone" checkout -q .
-REST=yes "$top/tests/command.sh" "$work/folder/bin/wkt" > "$work/said" || { cat "$work/said"; fail "the script wkt: other answers"; }
+REST=yes "$top/tests/gate/command.sh" "$work/folder/bin/wkt" > "$work/said" || { cat "$work/said"; fail "the script wkt: other answers"; }
 echo "the script wkt: $(tail -n 1 "$work/said")"
 # A name that isn't UTF-8 is said, whichever way the command is called.
 for command in "$work/folder/bin/wkt" "$work/folder/bin/python -m wkt"; do

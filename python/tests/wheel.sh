@@ -66,8 +66,8 @@ echo "libraries that don't suit are refused"
 
 export PYTHONPATH=$work/installed1
 # The wheel carries the proved program.
-if [ -d "$here/../../tests/command" ]; then
-    "$here/../../tests/command.sh" "$python" -m wkt > "$work/said" 2>&1 || { cat "$work/said"; echo "python -m wkt: other answers"; exit 1; }
+if [ -d "$here/../../tests/data/command" ]; then
+    "$here/../../tests/gate/command.sh" "$python" -m wkt > "$work/said" 2>&1 || { cat "$work/said"; echo "python -m wkt: other answers"; exit 1; }
     echo "python -m wkt: $(tail -n 1 "$work/said")"
 fi
 rm "$work/bare/wkt/_command"

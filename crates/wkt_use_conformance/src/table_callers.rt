@@ -1,5 +1,5 @@
 //! The callers of `wkt_uses` that answer a text, over rows of texts and what they give. Memory that runs out is an error,
-//! which `tests/each_growth.sh` tries at each growth.
+//! which `tests/gate/each_growth.sh` tries at each growth.
 use crate::asserts::equal;
 use std::alloc::{AllocError, Global};
 use std::fmt::Display;

@@ -1,10 +1,10 @@
 #!/usr/bin/env python3
 """Prints what has to be believed to believe the statement `Headline`: each definition that it rests on, by file and lines.
 
-    tests/trusted_lines.py           a line a file, and the sum
-    tests/trusted_lines.py --reading the same with the clauses of `Wkt::from_str` and of the writers
-    tests/trusted_lines.py --calls   the same for the calls that people make: reading, writing, decimals, canonical text, lines
-    tests/trusted_lines.py -v        each definition
+    tests/gate/trusted_lines.py           a line a file, and the sum
+    tests/gate/trusted_lines.py --reading the same with the clauses of `Wkt::from_str` and of the writers
+    tests/gate/trusted_lines.py --calls   the same for the calls that people make: reading, writing, decimals, canonical text, lines
+    tests/gate/trusted_lines.py -v        each definition
 
 It begins at `Headline` in crates/wkt_read/specs/Headline.antt, or at the definitions of CALLS, and follows the names that each definition uses through
 the imports of its file. Lines are those of code: blank lines, comments and imports aren't counted. What std defines isn't
@@ -14,7 +14,7 @@ import os
 import re
 import sys
 
-ROOT = os.path.join(os.path.dirname(os.path.abspath(__file__)), os.pardir)
+ROOT = os.path.dirname(os.path.dirname(os.path.dirname(os.path.abspath(__file__))))
 HEADLINE = ("wkt_read.specs.Headline", "Headline")
 READING = [
     HEADLINE,

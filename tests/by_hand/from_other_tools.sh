@@ -7,10 +7,10 @@
 # texts are refused is a rule of the page, and is compared with what is refused. What isn't installed is said to be
 # missing. It is no part of the gate; it takes some three minutes.
 set -eu
-root=$(cd "$(dirname "$0")/.." && pwd)
+root=$(cd "$(dirname "$0")/../.." && pwd)
 . "$root/postgres/server.sh"
 library "${1:-}"
-there=$root/tests/other_tools
+there=$root/tests/by_hand/other_tools
 status=0
 work=$(mktemp -d)
 trap 'rm -rf "$work"' EXIT
@@ -64,7 +64,7 @@ fi
 if [ -s "$work/postgis" ]; then figures "$work/postgis"; else echo "PostGIS: $(head -n 1 "$work/server")"; fi
 # The keys of other kinds that don't stay the same, of the programs that are there.
 grep -f <(sed 's/.*/^&	/' "$work/programs" | sort -u) "$there/kinds.expected" | diff - "$work/again" > "$work/differ" ||
-    { echo "wrong: of tests/other_tools/kinds other keys stay the same"; cat "$work/differ"; status=1; }
+    { echo "wrong: of tests/by_hand/other_tools/kinds other keys stay the same"; cat "$work/differ"; status=1; }
 echo "of $(wc -l < "$there/kinds") keys of all kinds, these don't stay the same:"
 column -t -s $'\t' "$work/again" 2> /dev/null || cat "$work/again"
 echo "DuckDB: no package of it for Debian 12, so not tried"

@@ -1,7 +1,7 @@
 #!/usr/bin/env python3
 """Writes docs/API.md: each public item as a user names it, with its signature, what it is, and its clauses by name.
 
-    tests/api.py > docs/API.md      (the gate compares the two)
+    tests/gate/api.py > docs/API.md      (the gate compares the two)
 
 Read from the sources as the formatter lays them out: the paths from `pub use` lines, the items from their files.
 """
@@ -9,7 +9,7 @@ import glob
 import os
 import re
 
-ROOT = os.path.join(os.path.dirname(os.path.abspath(__file__)), os.pardir)
+ROOT = os.path.dirname(os.path.dirname(os.path.dirname(os.path.abspath(__file__))))
 DOORS = ["wkt", "wkt_lines"]
 # What a source calls a type that a caller names otherwise.
 NAMED = {
@@ -201,7 +201,7 @@ def page_of(name, item, calls):
 def main():
     crates = {}
     print("# Public items\n")
-    print("Made by `tests/api.py` from the sources; the gate compares. Each item under the path that a caller names it by, with")
+    print("Made by `tests/gate/api.py` from the sources; the gate compares. Each item under the path that a caller names it by, with")
     print("the first sentence of its docs and its clauses by name (*one*: a clause without a name; *by*: one that this definition")
     print("states).")
     for door in DOORS:

@@ -12,7 +12,7 @@
 # The gate runs it on what it has built; alone, build all of them first (rt run in crates/wktline, crates/wktstream,
 # crates/wkt_command, crates/wkt_conformance and crates/wkt_operations, rt test in crates/wkt, crates/wkt_machine and crates/wkt_use_conformance).
 set -u
-cd "$(dirname "$0")/.."
+cd "$(dirname "$0")/../.." || exit 1
 dir=$(mktemp -d)
 trap 'rm -rf "$dir"' EXIT
 
@@ -93,11 +93,11 @@ each_test() {
     echo "$1: $tried growths refused in its tests, each in a run of its own; $ended ended it, the others changed nothing"
 }
 
-cut -f 1 tests/growth.tsv > "$dir/lines"
+cut -f 1 tests/data/growth.tsv > "$dir/lines"
 each wktline "$dir/lines" 1 1
 each wktstream "$dir/lines" 1 1
-each wkt_conformance tests/growth.tsv 2 1
-each wkt_conformance /dev/null 2 1 tests/growth.jsonl
+each wkt_conformance tests/data/growth.tsv 2 1
+each wkt_conformance /dev/null 2 1 tests/data/growth.jsonl
 each wkt_operations "$dir/lines" 1 1 decimal canonical to_string display wkt_string
 # The command answers some lines with words for people, and its status says that some were refused.
 each wkt_command "$dir/lines" 2 1 canon --refused refused

@@ -1,4 +1,4 @@
-/* The keys that stores keep: keys < tests/keys.tsv. Each row is a text, and its canonical text at 0, 6, 15 and 18
+/* The keys that stores keep: keys < tests/data/keys.tsv. Each row is a text, and its canonical text at 0, 6, 15 and 18
  * places, or `refused`, with tabs between. They were made by another program, from the rules alone, and stay: a release
  * that changes one of them fails here. Each is compared with what wkt_canonical, wkt_column_canonical and wkt_lines give. */
 #include "wkt.h"

@@ -2,7 +2,7 @@
 """Compares the Rust crate wkt 0.14.0 with the table of texts that the library answers (crates/wkt_conformance/stdin).
 
     cargo build --release --manifest-path bench/rust/Cargo.toml
-    tests/against_upstream.py bench/rust/target/release/cases
+    tests/by_hand/against_upstream.py bench/rust/target/release/cases
 
 Every row that is answered otherwise there has to fall under a row of docs/DIFFERENCES.md; one that doesn't is printed,
 and the status is 1.

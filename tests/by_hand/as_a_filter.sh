@@ -4,7 +4,7 @@
 # Build them first (rt run in crates/wktline and in crates/wktstream). It needs a C compiler, for the cases that count
 # calls or fail one.
 set -u
-cd "$(dirname "$0")/.."
+cd "$(dirname "$0")/../.." || exit 1
 dir=$(mktemp -d)
 trap 'rm -rf "$dir"' EXIT
 wrong=0

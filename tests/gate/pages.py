@@ -1,14 +1,14 @@
 #!/usr/bin/env python3
 """Checks the pages: README's size, long sentences, links that lead nowhere, commands that don't exist, counts, API.md.
 
-    tests/pages.py      prints what is wrong, a line each; status 1 where anything is
+    tests/gate/pages.py      prints what is wrong, a line each; status 1 where anything is
 """
 import os
 import re
 import subprocess
 import sys
 
-TOP = os.path.dirname(os.path.dirname(os.path.abspath(__file__)))
+TOP = os.path.dirname(os.path.dirname(os.path.dirname(os.path.abspath(__file__))))
 README_BYTES = 7 * 1024
 ALL_BYTES = 152 * 1024
 WORDS = 35
@@ -94,8 +94,8 @@ def lost_commands(path, text):
 
 
 def lines_to_believe(*words):
-    """What tests/trusted_lines.py counts: lines and files."""
-    command = [sys.executable, f"{TOP}/tests/trusted_lines.py", *words]
+    """What tests/gate/trusted_lines.py counts: lines and files."""
+    command = [sys.executable, f"{TOP}/tests/gate/trusted_lines.py", *words]
     said = subprocess.run(command, capture_output=True, text=True, check=True).stdout
     return re.findall(r"\d+", said.splitlines()[-1])
 
@@ -132,9 +132,9 @@ def wrong():
     yield from stale_counts()
     if total > ALL_BYTES:
         yield f"all pages: {total} bytes, of {ALL_BYTES} at most"
-    made = subprocess.run([sys.executable, f"{TOP}/tests/api.py"], capture_output=True, text=True, check=True)
+    made = subprocess.run([sys.executable, f"{TOP}/tests/gate/api.py"], capture_output=True, text=True, check=True)
     if made.stdout != text_of("docs/API.md"):
-        yield "docs/API.md: not what tests/api.py makes of the sources"
+        yield "docs/API.md: not what tests/gate/api.py makes of the sources"
 
 
 def main():

@@ -5,7 +5,7 @@
 # parallel where it is installed, else by split and xargs; then PostgreSQL reads the answers by COPY .. FROM PROGRAM,
 # where one is installed (as the user postgres if this runs as root).
 set -eu
-cd "$(dirname "$0")/.."
+cd "$(dirname "$0")/../.." || exit 1
 . postgres/server.sh
 work=$(mktemp -d)
 trap 'rm -rf "$work"' EXIT

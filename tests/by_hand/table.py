@@ -17,7 +17,7 @@ KINDS = ["POINT", "LINESTRING", "POLYGON", "MULTIPOINT", "MULTILINESTRING", "MUL
 NUMBERS = {"": 2, "Z": 3, "M": 3, "ZM": 4}
 AXES = {"": "XY", "Z": "XYZ", "M": "XYM", "ZM": "XYZM"}
 # The messages, in the order of their numbers.
-with open(os.path.join(os.path.dirname(__file__), "../docs/names.tsv"), encoding="utf-8") as names:
+with open(os.path.join(os.path.dirname(__file__), "../../docs/names.tsv"), encoding="utf-8") as names:
     MESSAGES = [line.rstrip("\n").split("\t")[3] for line in names if line.startswith("message\t")]
 
 

@@ -1,11 +1,11 @@
 #!/usr/bin/env python3
-"""Each row of tests/key_rules.tsv has its key by the library for C: key_rules.py [FOLDER-OF-libwkt.so]"""
+"""Each row of tests/data/key_rules.tsv has its key by the library for C: key_rules.py [FOLDER-OF-libwkt.so]"""
 import ctypes
 import os
 import sys
 
-here = os.path.dirname(os.path.abspath(__file__))
-folder = sys.argv[1] if len(sys.argv) > 1 else os.environ.get("WKT_LIB_DIR", os.path.join(here, "../capi/out"))
+TOP = os.path.dirname(os.path.dirname(os.path.dirname(os.path.abspath(__file__))))
+folder = sys.argv[1] if len(sys.argv) > 1 else os.environ.get("WKT_LIB_DIR", f"{TOP}/capi/out")
 wkt = ctypes.CDLL(os.path.join(folder, "libwkt.so"))
 size = ctypes.c_size_t
 
@@ -22,7 +22,7 @@ def key(text, places):
 
 
 rows = wrong = 0
-with open(os.path.join(here, "key_rules.tsv"), "rb") as table:
+with open(f"{TOP}/tests/data/key_rules.tsv", "rb") as table:
     for line in table:
         if line.startswith(b"#"):
             continue

@@ -9,14 +9,14 @@ import os
 import re
 import sys
 
-TOP = os.path.dirname(os.path.dirname(os.path.abspath(__file__)))
+TOP = os.path.dirname(os.path.dirname(os.path.dirname(os.path.abspath(__file__))))
 WHOLE = r"\d+\.\d+\.\d+"
 HEADER = "include/wkt.h"
 # Where it stands: the group is the version.
 PLACES = [
     (HEADER, rf'^#define WKT_VERSION "({WHOLE})"$'),
     ("crates/wkt_command/src/help.rt", rf'VERSION: &str = "wkt ({WHOLE})\\n"'),
-    ("tests/command/options.txt", rf"^> wkt ({WHOLE})$"),
+    ("tests/data/command/options.txt", rf"^> wkt ({WHOLE})$"),
     ("python/wkt/_version.py", rf'^__version__ = "({WHOLE})"$'),
     ("javascript/package.json", rf'^  "version": "({WHOLE})",$'),
     ("rust/Cargo.toml", rf'^version = "({WHOLE})"$'),

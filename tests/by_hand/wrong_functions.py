@@ -2,7 +2,7 @@
 """Tries the wrong bodies by the functions that they change, over the libraries that `rt ci` left:
 wrong_functions.py [CRATE[/NAME]..]
 
-tests/wrong_bodies.sh checks the whole crate with each of them. This checks the functions alone, in seconds, several at a
+tests/by_hand/wrong_bodies.sh checks the whole crate with each of them. This checks the functions alone, in seconds, several at a
 time, and proves no library again: so all can be tried after a gate. A wrong body that its functions let through is tried
 by its file and then by its crate, since a function without clauses is held by those that call it.
 """
@@ -16,8 +16,9 @@ import subprocess
 import sys
 import tempfile
 
-from edits import crates as all_crates, edits_of
-from lib_for_c import TOP, below, library_words, uses_of
+sys.path.insert(0, str(pathlib.Path(__file__).resolve().parents[1] / "lib"))
+from edits import crates as all_crates, edits_of  # noqa: E402 (found by the line above)
+from lib_for_c import TOP, below, library_words, uses_of  # noqa: E402
 
 FUNCTION = re.compile(r"\s*(?:pub(?:\([a-z]+\))?\s+)?(?:const\s+)?(?:unsafe\s+)?(?:extern \"C\" )?fn\s+(\w+)")
 IMPL = re.compile(r"impl(?:<[^{]*?>)?\s+(?:(?:\w+::)*(\w+)(?:<.*?>)?\s+for\s+)?&?(?:'\w+ )?(?:mut )?(\w+)")

@@ -7,7 +7,7 @@
 #
 # It needs g++ and libgeos-dev, and is no part of the gate.
 set -eu
-cd "$(dirname "$0")/.."
+cd "$(dirname "$0")/../.." || exit 1
 dir=$(mktemp -d)
 trap 'rm -rf "$dir"' EXIT
 

@@ -1,7 +1,7 @@
 #!/usr/bin/env python3
 """The wrong bodies: edits that change what a function does, and that the checker has to refuse.
 
-tests/wrong_bodies/CRATE.txt has those of a crate, each under a heading `# NAME`; crates/CRATE/must-fail those that the
+tests/data/wrong_bodies/CRATE.txt has those of a crate, each under a heading `# NAME`; crates/CRATE/must-fail those that the
 gate tries, each in a file. An edit has a line `file: PATH`, and then pairs of lines `old: TEXT` and `new: TEXT`; each old
 text stands once in that file, when the pairs before it were applied.
 
@@ -11,8 +11,8 @@ edits.py check [CRATE..]: whether each fits. edits.py write CRATE FOLDER: one fi
 import pathlib
 import sys
 
-TOP = pathlib.Path(__file__).resolve().parent.parent
-FOLDER = TOP / "tests/wrong_bodies"
+TOP = pathlib.Path(__file__).resolve().parents[2]
+FOLDER = TOP / "tests/data/wrong_bodies"
 
 
 class Edit:

@@ -8,7 +8,7 @@
 # It needs Node 18 or later, tsc, Python and, for the page, Chromium and Selenium (tests/needs.sh installs them). SKIP=types
 # passes tsc over, SKIP=page the page.
 set -u
-cd "$(dirname "$0")/.."
+cd "$(dirname "$0")/../.." || exit 1
 fail() { echo "web: $*"; exit 1; }
 skips() { case ",${SKIP:-}," in *",$1,"*) true ;; *) false ;; esac; }
 command -v node > /dev/null || fail "no node: tests/needs.sh installs it"

@@ -15,7 +15,7 @@ import re
 import sys
 from decimal import Decimal, getcontext
 
-TOP = os.path.dirname(os.path.dirname(os.path.abspath(__file__)))
+TOP = os.path.dirname(os.path.dirname(os.path.dirname(os.path.abspath(__file__))))
 KINDS = ["POINT", "LINESTRING", "POLYGON", "MULTIPOINT", "MULTILINESTRING", "MULTIPOLYGON", "GEOMETRYCOLLECTION"]
 DIMENSIONS = {"": 0, "Z": 1, "M": 2, "ZM": 3}
 SIZES = [2, 3, 3, 4]

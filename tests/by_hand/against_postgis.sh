@@ -4,7 +4,7 @@
 #
 # It needs PostgreSQL with PostGIS, and python3 (as the user postgres if it runs as root), and is no part of the gate.
 set -eu
-cd "$(dirname "$0")/.."
+cd "$(dirname "$0")/../.." || exit 1
 . postgres/server.sh
 work=$(mktemp -d)
 removed+=("$work")

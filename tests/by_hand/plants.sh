@@ -5,7 +5,7 @@
 #
 # It isn't part of the gate: over all libraries it takes hours. What a plant is, `rt plant --help` says.
 set -u
-cd "$(dirname "$0")/.."
+cd "$(dirname "$0")/../.." || exit 1
 dir=$(mktemp -d)
 trap 'rm -rf "$dir"' EXIT
 

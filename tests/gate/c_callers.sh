@@ -1,11 +1,11 @@
 #!/usr/bin/env bash
-# Builds the library for C by tests/c_library.sh, which says what that needs, and runs its callers in C, C++ and
-# Python, and compares the keys of tests/keys.tsv. With WKT_C_BUILT=1 the library in capi/out is taken as it is.
+# Builds the library for C by tests/gate/c_library.sh, which says what that needs, and runs its callers in C, C++ and
+# Python, and compares the keys of tests/data/keys.tsv. With WKT_C_BUILT=1 the library in capi/out is taken as it is.
 #
-# What a machine lacks fails (tests/needs.sh installs it), unless SKIP names it: SKIP=python,numpy tests/c_callers.sh.
+# What a machine lacks fails (tests/needs.sh installs it), unless SKIP names it: SKIP=python,numpy tests/gate/c_callers.sh.
 # Names: valgrind, c++, python, numpy. The last line says what was skipped.
 set -u
-cd "$(dirname "$0")/.."
+cd "$(dirname "$0")/../.." || exit 1
 fail() { echo "$*"; exit 1; }
 skips() { case ",${SKIP:-}," in *",$1,"*) true ;; *) false ;; esac; }
 # needs NAME COMMAND: the command is there, or SKIP names it
@@ -35,7 +35,7 @@ fi
 dir=$(mktemp -d)
 trap 'rm -rf "$dir"' EXIT
 out=$PWD/capi/out
-[ -n "${WKT_C_BUILT:-}" ] || CC=$cc tests/c_library.sh || fail "no library for C"
+[ -n "${WKT_C_BUILT:-}" ] || CC=$cc tests/gate/c_library.sh || fail "no library for C"
 
 # The exported names are those of the header.
 sed -n 's/.*\(wkt_[a-z_]*\)(.*/\1/p' include/wkt.h | grep -vx wkt_status | sort -u > "$dir/declared"
@@ -79,8 +79,8 @@ for flags in "-O2" "-O1 -g -fsanitize=thread"; do
 done
 
 # The keys that stores keep.
-"$cc" -O2 -Wall -Wextra -Werror -I"$out" -o "$dir/keys" tests/keys.c "$out/libwkt.a" || fail "keys: not compiled"
-"$dir/keys" < tests/keys.tsv > "$dir/said" || { cat "$dir/said"; fail "keys: a release must not change one"; }
+"$cc" -O2 -Wall -Wextra -Werror -I"$out" -o "$dir/keys" tests/gate/keys.c "$out/libwkt.a" || fail "keys: not compiled"
+"$dir/keys" < tests/data/keys.tsv > "$dir/said" || { cat "$dir/said"; fail "keys: a release must not change one"; }
 cat "$dir/said"
 
 # The examples, and the output of wktline.

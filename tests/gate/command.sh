@@ -1,5 +1,6 @@
 #!/usr/bin/env bash
-# Runs a command on each case of the transcripts of tests/command, and compares what it writes and its status byte for byte.
+# Runs a command on each case of the transcripts of tests/data/command, and compares what it writes and its status byte
+# for byte.
 #
 # command.sh [WORD..]: the words that call it; crates/wkt_command/out/wkt_command without any. A case of a transcript:
 #   # NAME          its name
@@ -13,8 +14,8 @@
 # In a TEXT, \xHH is a byte, \\ a backslash, and \c at its end says that no end of a line follows.
 # Then, with REST=no without them: standard output that is full or closed, a line of 100 MB, and progress.
 set -u
-cd "$(dirname "$0")/.."
-cases=$PWD/tests/command
+cd "$(dirname "$0")/../.." || exit 1
+cases=$PWD/tests/data/command
 if [ $# = 0 ]; then
     set -- "$PWD/crates/wkt_command/out/wkt_command"
 fi

@@ -1,17 +1,18 @@
 #!/usr/bin/env bash
-# Tries the wrong bodies of tests/wrong_bodies, those of each crate or of the crates that are named, and those that the
-# gate tries besides: wrong_bodies.sh [CRATE..]. Each changes the meaning of a function, and the checker has to refuse it.
+# Tries the wrong bodies of tests/data/wrong_bodies, those of each crate or of the crates that are named, and those that
+# the gate tries besides: wrong_bodies.sh [CRATE..]. Each changes the meaning of a function, and the checker has to refuse
+# it. DRY=1 only looks whether each fits its file.
 #
 # It works in a copy of the tree, over what rt check kept in out/ (run that first: else the crates are proved once
-# more). tests/edits.py says where they stand, and how they are written. One that is stale fails here before anything is
-# proved.
+# more). tests/lib/edits.py says where they stand, and how they are written. One that is stale fails here before anything
+# is proved.
 set -u
-cd "$(dirname "$0")/.."
+cd "$(dirname "$0")/../.." || exit 1
 crates=("$@")
-tests/edits.py check "${crates[@]}" || exit 1
+tests/lib/edits.py check "${crates[@]}" || exit 1
 [ -z "${DRY:-}" ] || exit 0
 if [ "${#crates[@]}" = 0 ]; then
-    mapfile -t crates < <(ls -d tests/wrong_bodies/*.txt crates/*/must-fail | sed 's|/must-fail||; s|\.txt$||; s|.*/||' | sort -u)
+    mapfile -t crates < <(ls -d tests/data/wrong_bodies/*.txt crates/*/must-fail | sed 's|/must-fail||; s|\.txt$||; s|.*/||' | sort -u)
 fi
 
 # The crates that are needed: those named and all below them.
@@ -40,7 +41,7 @@ while IFS= read -r line; do
     cp -a --reflink=auto "crates/$name" "$copy/crates/$name"
     case " ${crates[*]} " in *" $name "*) ;; *) continue ;; esac
     mkdir -p "$copy/crates/$name/must-fail"
-    tests/edits.py write "$name" "$copy/crates/$name/must-fail"
+    tests/lib/edits.py write "$name" "$copy/crates/$name/must-fail"
 done < crates.txt
 
 edits=$(find "${crates[@]/#/$copy/crates/}" -path '*/must-fail/*.edit' | wc -l)

@@ -12,7 +12,7 @@ import os
 import re
 import sys
 
-TOP = os.path.dirname(os.path.dirname(os.path.abspath(__file__)))
+TOP = os.path.dirname(os.path.dirname(os.path.dirname(os.path.abspath(__file__))))
 LIST = "docs/names.tsv"
 # Where the expectations and the hints have numbers.
 NUMBERED = "crates/wkt_calls/specs/Explained.antt"
@@ -246,7 +246,7 @@ def differences(read):
         if again is None:
             found.append(f"{path}: it lacks the table `names.py: {form}`")
         elif again != text:
-            found.append(f"{path}: its table isn't that of {LIST} (tests/names.py --write makes it)")
+            found.append(f"{path}: its table isn't that of {LIST} (tests/gate/names.py --write makes it)")
     for path, what, pattern, wanted in by_hand(groups):
         text = read(path)
         if text is None:

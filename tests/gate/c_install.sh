@@ -4,7 +4,7 @@
 # It needs gcc, binutils, make and pkg-config; PostgreSQL's headers, and cargo, where SKIP=postgres,rust doesn't name them.
 # CC=aarch64-linux-gnu-gcc looks at what is made for another processor.
 set -u
-cd "$(dirname "$0")/.."
+cd "$(dirname "$0")/../.." || exit 1
 dir=$(mktemp -d)
 trap 'rm -rf "$dir"' EXIT
 export LC_ALL=C
@@ -65,7 +65,7 @@ printf '#!/bin/sh\necho riscv64-linux-gnu\n' > "$dir/cc" && chmod 755 "$dir/cc"
 says 'dist/refresh.sh riscv64 proves and builds them' env CC="$dir/cc" WKT_C_LIB=dist capi/build.sh "$dir/none"
 says 'capi/build.sh in a clone of wkt makes it' env WKT_LIB_DIR=/nowhere python3 -c 'import sys; sys.path.insert(0, "python"); import backend; backend.build_wheel(sys.argv[1])' "$dir"
 if ! skips rust; then
-    tests/cargo_home.sh "$dir/cargo" || failed=1
+    tests/lib/cargo_home.sh "$dir/cargo" || failed=1
     says 'capi/build.sh in a clone of wkt makes it' env WKT_LIB_DIR=/nowhere CARGO_HOME="$dir/cargo" CARGO_TARGET_DIR="$dir/target" \
         cargo build -q --offline --manifest-path rust/Cargo.toml
 fi
