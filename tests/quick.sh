@@ -3,17 +3,20 @@
 # tests of each crate that has some, and each program over its stored input; wktline and wktstream over the keys of
 # tests/data/keys.tsv too. quick.sh [CRATE..]: all of these crates, or those that are named.
 #
-# It builds each crate with checks (rt try), two at a time (JOBS=N: N at a time). Not run here, and said so:
-# wkt_long_conformance, whose texts are too many and too deep for a build with checks.
+# It builds each crate with checks (rt try), two at a time (JOBS=N: N at a time), and says when it begins with a crate and
+# what came of it. Not run here, and said so: wkt_long_conformance, whose texts are too many and too deep for a build with
+# checks.
 set -u
 cd "$(dirname "$0")/.." || exit 1
 jobs=${JOBS:-2}
 dir=$(mktemp -d)
 trap 'rm -rf "$dir"' EXIT
 
+# at WORDS: what happens, behind the seconds since the start
+at() { printf '%4d s  %s\n' "$SECONDS" "$*"; }
 # counted CRATE PASSED FAILED WORDS: what came of a crate
 counted() {
-    echo "$1: $4$2 passed, $3 failed ($((SECONDS - start)) s)"
+    at "$1: $4$2 passed, $3 failed, in $((SECONDS - start)) s"
     echo "$2 $3" > "$dir/$1.count"
 }
 # ended FILE: whether rt try came to an end, and not to a crash or a limit
@@ -101,13 +104,20 @@ for main in crates/*/src/main.rt; do
     esac
 done
 
-keys
-running=0 named=" $* " begun=()
+# Of those the crates that are named, or all.
+steps=()
 for one in "${work[@]}"; do
+    case " $* " in "  " | *" ${one#* } "*) steps+=("$one") ;; esac
+done
+
+keys
+echo "${#steps[@]} crates, $jobs at a time; to build one takes up to two minutes"
+running=0 begun=()
+for one in "${steps[@]}"; do
     read -r kind crate <<< "$one"
-    [ $# = 0 ] || case $named in *" $crate "*) ;; *) continue ;; esac
     if [ "$running" -ge "$jobs" ]; then wait -n; running=$((running - 1)); fi
     begun+=("$crate")
+    at "$crate: $kind: begun, ${#begun[@]} of ${#steps[@]}"
     # What it says comes in one piece.
     { "$kind" "$crate" > "$dir/$crate.out" 2>&1; cat "$dir/$crate.out"; } &
     running=$((running + 1))
