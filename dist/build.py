@@ -13,7 +13,7 @@ import tempfile
 
 TOP = os.path.dirname(os.path.dirname(os.path.abspath(__file__)))
 sys.path.insert(0, f"{TOP}/tests/lib")
-import lib_for_c as lib
+import lib_for_c as lib  # noqa: E402 (found by the line above)
 
 
 def main():

@@ -56,7 +56,7 @@ same(ask(db, "wkt_or_null(?)", "POINT(1"), None)
 db.execute("create table short as with n(i) as (select 0 union all select i + 1 from n where i < 199) select i, 'point(' || (i % 10) || '.0 1)' as t from n")
 for call in "wkt_same(t, ?)", "wkt_same(?, t)":
     same(db.execute(f"select count(*) from short where {call}", ("POINT ( 3 1 )",)).fetchone(), (20,))
-    same(db.execute(f"select group_concat(wkt_same('POINT(' || i || ' 1)', 'POINT(3 1)'), '') from short where i < 10").fetchone(), ("0001000000",))
+    same(db.execute("select group_concat(wkt_same('POINT(' || i || ' 1)', 'POINT(3 1)'), '') from short where i < 10").fetchone(), ("0001000000",))
 same(db.execute("select count(*) from short a, short b where a.i < 10 and wkt_same(a.t, b.t)").fetchone(), (200,))
 same(ask(db, "group_concat(wkt_same('POINT(1.5 2)', 'POINT(1.50 2)', 3 - i), '') from short where i < 3"), "111")
 for order in "i", "-i":

@@ -23,7 +23,7 @@ from selenium.webdriver.common.keys import Keys
 from selenium.webdriver.support.ui import Select
 
 sys.path.insert(0, os.path.dirname(os.path.abspath(__file__)) + "/test")
-from chromium import CONTRAST, Page, Quiet
+from chromium import CONTRAST, Page, Quiet  # noqa: E402 (found by the line above)
 
 TOP = os.path.dirname(os.path.dirname(os.path.abspath(__file__)))
 ASKED = argparse.Namespace(page=TOP + "/dist/web/index.html", size=8, shots=None)
@@ -352,7 +352,10 @@ class Tests(Page):
         self.assertEqual("text", self.driver.switch_to.active_element.get_attribute("id"))
         webdriver.ActionChains(self.driver).key_down(Keys.CONTROL).send_keys("a").key_up(Keys.CONTROL).send_keys("POINT(1 2)\nPOINT(1)\nPOINT(3 4)\nPOINT(4,5)").perform()
         self.assertEqual("2 of 4 lines refused", self.said("say"))
-        alt = lambda key: webdriver.ActionChains(self.driver).key_down(Keys.ALT).send_keys(key).key_up(Keys.ALT).perform()
+
+        def alt(key):
+            webdriver.ActionChains(self.driver).key_down(Keys.ALT).send_keys(key).key_up(Keys.ALT).perform()
+
         selected = "const t = document.getElementById('text'); return t.value.slice(t.selectionStart, t.selectionEnd)"
         alt("n")
         self.assertEqual((")", "Line 2, column 8."), (self.script(selected), self.said("why").split(" It")[0]))

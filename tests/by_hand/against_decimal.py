@@ -111,7 +111,10 @@ class Reader:
         """Kind, dimension and polygons of rings of coordinates; of a collection no polygons."""
         kind, dimension = self.header()
         n = SIZES[dimension]
-        line = lambda: self.list(lambda: self.coordinate(n))
+
+        def line():
+            return self.list(lambda: self.coordinate(n))
+
         if kind == 0:
             if self.word() == "EMPTY":
                 self.at += 1
@@ -172,10 +175,19 @@ def a_text(random, places, deep=2):
     kind = random.randrange(7 if deep else 6)
     dimension = random.choice(["", "", "Z", "M", "ZM"])
     n = SIZES[DIMENSIONS[dimension]]
-    white = lambda: random.choice(["", "", "", " ", "  ", "\n", "\t "])
-    some = lambda item, most=3: white() + "(" + ",".join(white() + item() + white() for _ in range(random.randint(1, most))) + ")"
-    or_empty = lambda item: lambda: random.choice([" EMPTY ", " empty"]) if random.random() < 0.08 else item()
-    coordinate = lambda: random.choice([" ", "  "]).join(a_number(random, places) for _ in range(n))
+
+    def white():
+        return random.choice(["", "", "", " ", "  ", "\n", "\t "])
+
+    def some(item, most=3):
+        return white() + "(" + ",".join(white() + item() + white() for _ in range(random.randint(1, most))) + ")"
+
+    def or_empty(item):
+        return lambda: random.choice([" EMPTY ", " empty"]) if random.random() < 0.08 else item()
+
+    def coordinate():
+        return random.choice([" ", "  "]).join(a_number(random, places) for _ in range(n))
+
     line = or_empty(lambda: some(coordinate, random.choice([1, 3, 12])))
     polygon = or_empty(lambda: some(line))
     body = [

@@ -219,7 +219,6 @@ def main():
                 if item.head[0].startswith("pub fn"):
                     sections.setdefault(f"{door}::{module}", []).append((item.signature(), item, []))
         if door != "wkt":
-            laws = crates.setdefault(door, Crate(door))
             for item in items_in(lines_of(os.path.join(base, "laws.rt")), 0) if os.path.exists(os.path.join(base, "laws.rt")) else []:
                 if item.head[0].startswith("pub fn"):
                     sections.setdefault(f"{door}::laws", []).append((item.signature(), item, []))

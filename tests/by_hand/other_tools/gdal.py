@@ -1,8 +1,6 @@
 """GDAL's texts: gdal.py DOUBLES KINDS"""
 import csv
-import os
 import subprocess
-import sys
 import tempfile
 
 from osgeo import ogr

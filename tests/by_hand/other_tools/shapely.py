@@ -4,11 +4,11 @@ import sys
 
 # This folder has files of the packages' names.
 sys.path = [path for path in sys.path if os.path.abspath(path or ".") != os.path.dirname(os.path.abspath(__file__))]
-import shapely.wkt
-from shapely.geometry import Point
+import shapely.wkt  # noqa: E402 (of the package, by the line above)
+from shapely.geometry import Point  # noqa: E402
 
 sys.path.append(os.path.dirname(os.path.abspath(__file__)))
-from rows import TOO_LARGE, kinds, rows
+from rows import TOO_LARGE, kinds, rows  # noqa: E402 (found by the line above)
 
 for places in 15, 6:
     rows(
