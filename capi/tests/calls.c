@@ -52,8 +52,8 @@ int untouched(void) {
 /* One call of each function over a text that takes memory. */
 static wkt_status call(int which) {
     /* More than 200 bytes: a shorter one takes no memory. */
-    static const char text[] = "MULTIPOLYGON(((0 0,4 0,0 4,0 0),(1 1,2 1,1 2,1 1)),EMPTY)                                                      "
-                               "                                                                                                      ";
+#define SPACES "                                                  "
+    static const char text[] = "MULTIPOLYGON(((0 0,4 0,0 4,0 0),(1 1,2 1,1 2,1 1)),EMPTY)" SPACES SPACES SPACES;
     static const int64_t numbers[6] = {1, 2, 3, 4, 5, 6};
     static const size_t rings[2] = {0, 3}, polygons[2] = {0, 1};
     uint8_t got_some[ROOM];
