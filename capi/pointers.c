@@ -67,13 +67,11 @@ FUNCTION(wkt_explain, EXPLAIN,
          (text, text_len, places, message, start, stop, expected))
 
 #define HINT(BUFFER, RESULT) BUFFER(text) RESULT(hint)
-FUNCTION(wkt_hint, HINT,
-         (const uint8_t *text, size_t text_len, uint32_t places, uint32_t *hint),
+FUNCTION(wkt_hint, HINT, (const uint8_t *text, size_t text_len, uint32_t places, uint32_t *hint),
          (text, text_len, places, hint))
 
 #define INFER(BUFFER, RESULT) BUFFER(text) RESULT(kind) RESULT(dimension)
-FUNCTION(wkt_infer, INFER,
-         (const uint8_t *text, size_t text_len, uint32_t *kind, uint32_t *dimension),
+FUNCTION(wkt_infer, INFER, (const uint8_t *text, size_t text_len, uint32_t *kind, uint32_t *dimension),
          (text, text_len, kind, dimension))
 
 #define LINES(BUFFER, RESULT) BUFFER(input) BUFFER(out) RESULT(needed)

@@ -78,8 +78,8 @@ static wkt_status call(int which) {
     case 5: {
         static const uint32_t kinds[2] = {1, 1}, dimensions[2] = {0, 0};
         static const int64_t number_ends[3] = {0, 6, 6}, list_ends[3] = {0, 2, 2};
-        return wkt_column_from_arrays(kinds, 2, dimensions, 2, numbers, 6, number_ends, 3, rings, 2, list_ends, 3, polygons,
-                                      2, list_ends, 3, NULL, 0, 6, out, ROOM, ends, 3, statuses, 2, &needed);
+        return wkt_column_from_arrays(kinds, 2, dimensions, 2, numbers, 6, number_ends, 3, rings, 2, list_ends, 3,
+                                      polygons, 2, list_ends, 3, NULL, 0, 6, out, ROOM, ends, 3, statuses, 2, &needed);
     }
     case 7: {
         size_t taken, written;
