@@ -13,7 +13,7 @@ import sys
 
 TOP = os.path.dirname(os.path.dirname(os.path.dirname(os.path.abspath(__file__))))
 sys.path.insert(0, f"{TOP}/python")
-import wkt  # noqa: E402
+import wkt  # noqa: E402 (found by the line above)
 
 PIECES = [
     "POINT", "LINESTRING(", "polygon((", "MULTIPOINT(", "MULTILINESTRING((", "MULTIPOLYGON(((", "GEOMETRYCOLLECTION(",

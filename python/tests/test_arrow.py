@@ -121,7 +121,10 @@ class Taken(Arrow):
         """Each call takes a column that can be read once alone, and answers as of a list."""
         good = [text for text, answer in zip(TEXTS, ANSWERS) if answer or text is None]
         held = [None if text is None else text.encode() for text in good]
-        plain = lambda it: [row and (row[:2] + tuple(list(values) for values in row[2:5])) for row in it]  # noqa: E731
+
+        def plain(rows):
+            return [row and (row[:2] + tuple(list(values) for values in row[2:5])) for row in rows]
+
         calls = [
             lambda it: list(wkt.canonical(it)),
             wkt.canonical_column,

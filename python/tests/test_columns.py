@@ -130,7 +130,7 @@ class Kinds(unittest.TestCase):
 
     @unittest.skipIf(pandas is None, "no pandas")
     def test_accessor(self):
-        import wkt.pandas  # noqa: F401
+        import wkt.pandas  # noqa: F401 (it gives a Series its `.wkt`)
 
         series = pandas.Series(TEXTS, [7, 5, 3, 1, 9], name="geometry", dtype=object)
         self.assertEqual(series.wkt.canonical(invalid="null").tolist(), ANSWERS)

@@ -39,8 +39,8 @@ def theirs(geometry):
 @unittest.skipIf(numpy is None, "no NumPy")
 class GeoArrow(unittest.TestCase):
     def texts(self, kind, z, make):
-        number = lambda: "%.3f" % make.uniform(-180, 180)  # noqa: E731
-        place = lambda: " ".join(number() for _ in range(3 if z else 2))  # noqa: E731
+        def place():
+            return " ".join("%.3f" % make.uniform(-180, 180) for _ in range(3 if z else 2))
 
         def line(least=2):
             return "(" + ",".join(place() for _ in range(make.randrange(least, 6))) + ")"

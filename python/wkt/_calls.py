@@ -202,9 +202,7 @@ def infer(text: Any, invalid: str = "raise") -> Any:
         return or_null(invalid, None, lambda: _text_kind(text))
 
     rows = enumerate(column_of(text))
-    kinds = [
-        None if is_null(row) else or_null(invalid, None, lambda: _text_kind(row, i)) for i, row in rows
-    ]  # noqa: B023
+    kinds = [None if is_null(row) else or_null(invalid, None, lambda: _text_kind(row, i)) for i, row in rows]
     return series_like(text, kinds)
 
 
