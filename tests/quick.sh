@@ -22,11 +22,20 @@ counted() {
 # ended FILE: whether rt try came to an end, and not to a crash or a limit
 ended() { tail -n 1 "$1" | grep -q '^run=ended '; }
 
+# shortened: a copy of the crates in $dir/short, without the modules of wkt_tests that take too long here: rt try leaves no
+# test out of several modules
+shortened() {
+    mkdir "$dir/short"
+    cp crates.txt "$dir/short"
+    tar -c --exclude=out crates | tar -x -C "$dir/short"
+    sed -i -z -E 's/#\[cfg\(test\)\]\nmod (deep|short_texts);\n//g' "$dir/short/crates/wkt_tests/src/lib.rt"
+}
+
 # tests CRATE: its tests
 tests() {
-    local said=$dir/$1.said passed failed start=$SECONDS words=()
-    [ "$1" != wkt_tests ] || words=(-- --skip deep:: --skip short_texts::)
-    (cd "crates/$1" && rt try --test "${words[@]}") > "$said" 2>&1 < /dev/null
+    local said=$dir/$1.said passed failed start=$SECONDS top=.
+    [ "$1" != wkt_tests ] || { shortened; top=$dir/short; }
+    (cd "$top/crates/$1" && rt try --test) > "$said" 2>&1 < /dev/null
     passed=$(sed -n 's/^test result: .* \([0-9]*\) passed;.*/\1/p' "$said")
     failed=$(sed -n 's/^test result: .*; \([0-9]*\) failed;.*/\1/p' "$said")
     [ -n "$passed" ] || { tail -n 20 "$said"; passed=0 failed=1; }
