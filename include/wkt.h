@@ -32,6 +32,8 @@
  * docs/ABI.md says what a later version keeps. */
 #ifndef WKT_H
 #define WKT_H
+/* Laid out by hand: each buffer stands beside its size. */
+/* clang-format off */
 #include <stddef.h>
 #include <stdint.h>
 #ifdef __cplusplus

@@ -45,15 +45,16 @@ tests() {
 
 # rows: the table and the files of rows, which print what is wrong themselves
 rows() {
-    local said=$dir/rows.said data=() passed failed start=$SECONDS
+    local said=$dir/rows.said data=() args=() passed failed start=$SECONDS
     cd crates/wkt_tables || return
     for file in data/*; do data+=(--data "${file#data/}=$file"); done
-    rt try --steps 0 "${data[@]}" -- $(cat args) < stdin > "$said" 2> "$said.err"
+    mapfile -t args < args
+    rt try --steps 0 "${data[@]}" -- "${args[@]}" < stdin > "$said" 2> "$said.err"
     passed=$(sed -n 's/^\(.*: \)\?\([0-9]*\) rows, \([0-9]*\) wrong$/\2 \3/p' "$said" | awk '{ n += $1 - $2 } END { print n + 0 }')
     failed=$(sed -n 's/^\(.*: \)\?\([0-9]*\) rows, \([0-9]*\) wrong$/\3/p' "$said" | awk '{ n += $1 } END { print n + 0 }')
     cat "$said"
     # Each file has its line, and the program came to its end.
-    [ "$(grep -c ' rows, ' "$said")" = "$(($(wc -w < args) + 1))" ] && ended "$said.err" || { tail -n 20 "$said.err"; failed=$((failed + 1)); }
+    [ "$(grep -c ' rows, ' "$said")" = "$((${#args[@]} + 1))" ] && ended "$said.err" || { tail -n 20 "$said.err"; failed=$((failed + 1)); }
     counted wkt_tables "$passed" "$failed" "rows: "
 }
 

@@ -2,8 +2,8 @@
 
     python3 python/examples/same_geometries.py [TABLE.csv [COLUMN [PLOT.png]]]
 
-TABLE.csv has a column of well-known text, by default `geometry`; with no table a small one is made, of stations that were
-entered twice. It needs pandas, and matplotlib for the plot.
+TABLE.csv has a column of well-known text, by default `geometry`; with no table a small one is made, of stations that
+were entered twice. It needs pandas, and matplotlib for the plot.
 """
 import argparse
 import io

@@ -74,7 +74,7 @@ grep -q debug_info "$work/said" && grep -q 'soname: \[named\]' "$work/said" || f
 (cd "$work/one" && "$python" -m zipfile -e ./*.whl . && cd wkt_proved-*.dist-info && ls licenses/LICENSE-APACHE licenses/LICENSE-MIT > /dev/null) || fail "licences"
 newest=$( (cd "$work/one/wkt" && objdump -T libwkt.so _command _fast.abi3.so) | grep -o 'GLIBC_2\.[0-9]*' | cut -d. -f2 | sort -n | tail -n 1)
 [ "$newest" -ge 17 ] || newest=17
-ls "$work/one" | grep -q "^wkt_proved-.*-cp311-abi3-manylinux_2_${newest}_$(uname -m).whl$" || fail "the tag isn't that of glibc 2.$newest"
+compgen -G "$work/one/wkt_proved-*-cp311-abi3-manylinux_2_${newest}_$(uname -m).whl" > /dev/null || fail "the tag isn't that of glibc 2.$newest"
 (cd "$work/one" && "$python" - <<'PY') || fail "the parts list other files"
 import glob, hashlib, json
 parts = json.load(open(glob.glob("*.dist-info/sboms/*.json")[0]))["components"]

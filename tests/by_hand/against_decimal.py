@@ -3,8 +3,8 @@
 
 The reader follows docs/GRAMMAR.md, with Python's Decimal for the numbers, and shares nothing with the library. It reads
 the texts of crates/wkt_tables/data, and so many generated ones (100,000), some of them damaged. Each text goes
-through wkt_arrays and, all at once, through wkt_column_arrays; arrays that are read are also written by wkt_from_arrays,
-and their text is that of wkt_canonical. WKT_LIB names another library than capi/out/libwkt.so.
+through wkt_arrays and, all at once, through wkt_column_arrays; arrays that are read are also written by
+wkt_from_arrays, and their text is that of wkt_canonical. WKT_LIB names another library than capi/out/libwkt.so.
 """
 
 import ctypes
@@ -158,17 +158,50 @@ def a_number(random, places):
     if random.plain:
         after = random.randint(0, places)
         text = str(random.randint(0, 9 if places > 15 else 999))
-        return random.choice(["", "-"]) + text + ("." + "".join(random.choice("0123456789") for _ in range(after)) if after else "")
+        return (
+            random.choice(["", "-"])
+            + text
+            + ("." + "".join(random.choice("0123456789") for _ in range(after)) if after else "")
+        )
     digits = random.choice([1, 2, 3, 3, 5, 12, 17, 18, 19, 20, 40])
     whole = "".join(random.choice("0123456789") for _ in range(random.randint(1, digits)))
     form = random.randrange(12)
     if form == 0:
-        return random.choice(["9223372036854775807", "-9223372036854775808", "9223372036854775808", "170141183460469231731687303715884105728", "-0", "-.0", "1.", ".5", "-.5", "+-2", "++2", "1e3", "0x1", "1.2.3", "--1", "-", "+", ".", "٣", "1٣"])
+        return random.choice(
+            [
+                "9223372036854775807",
+                "-9223372036854775808",
+                "9223372036854775808",
+                "170141183460469231731687303715884105728",
+                "-0",
+                "-.0",
+                "1.",
+                ".5",
+                "-.5",
+                "+-2",
+                "++2",
+                "1e3",
+                "0x1",
+                "1.2.3",
+                "--1",
+                "-",
+                "+",
+                ".",
+                "٣",
+                "1٣",
+            ]
+        )
     sign = random.choice(["", "", "", "-", "-", "+"])
     if form < 5:
         return sign + whole
     after = random.randint(0, places) if form < 10 else random.randint(0, 20)
-    return sign + whole + "." + "".join(random.choice("0123456789") for _ in range(after)) + random.choice(["", "", "0", "00000"])
+    return (
+        sign
+        + whole
+        + "."
+        + "".join(random.choice("0123456789") for _ in range(after))
+        + random.choice(["", "", "0", "00000"])
+    )
 
 
 def a_text(random, places, deep=2):
@@ -191,22 +224,37 @@ def a_text(random, places, deep=2):
     line = or_empty(lambda: some(coordinate, random.choice([1, 3, 12])))
     polygon = or_empty(lambda: some(line))
     body = [
-        or_empty(lambda: some(coordinate, 1)), line, polygon,
+        or_empty(lambda: some(coordinate, 1)),
+        line,
+        polygon,
         or_empty(lambda: some(or_empty(lambda: coordinate() if random.random() < 0.5 else "(" + coordinate() + ")"))),
-        polygon, or_empty(lambda: some(polygon)),
+        polygon,
+        or_empty(lambda: some(polygon)),
         or_empty(lambda: some(lambda: a_text(random, places, deep - 1))),
     ][kind]
     name = "".join(random.choice([c, c.lower()]) for c in KINDS[kind])
     if random.random() < 0.02:
         name = "LINEARRING"
     joint = random.choice(["", " "]) if dimension else ""
-    return white() + name + joint + random.choice([dimension, dimension.lower()]) + (" " if random.random() < 0.5 else "") + body() + white()
+    return (
+        white()
+        + name
+        + joint
+        + random.choice([dimension, dimension.lower()])
+        + (" " if random.random() < 0.5 else "")
+        + body()
+        + white()
+    )
 
 
 def damaged(random, text):
     for _ in range(random.randint(1, 3)):
         at = random.randint(0, len(text))
-        text = text[:at] + random.choice(["", "(", ")", ",", " ", "1", "\0", "x", "é", "EMPTY"]) + text[at + random.randint(0, 2):]
+        text = (
+            text[:at]
+            + random.choice(["", "(", ")", ",", " ", "1", "\0", "x", "é", "EMPTY"])
+            + text[at + random.randint(0, 2) :]
+        )
     return text
 
 
@@ -227,7 +275,14 @@ def kept_texts():
 
 
 class WktSizes(ctypes.Structure):
-    _fields_ = [("kind", u32), ("dimension", u32), ("numbers", size), ("rings", size), ("polygons", size), ("end", size)]
+    _fields_ = [
+        ("kind", u32),
+        ("dimension", u32),
+        ("numbers", size),
+        ("rings", size),
+        ("polygons", size),
+        ("end", size),
+    ]
 
 
 class WktColumnSizes(ctypes.Structure):
@@ -244,16 +299,43 @@ def at(buffer):
 
 
 def arrays(text, places):
-    status = library.wkt_arrays(text, size(len(text)), u32(places), at(sizes), at(numbers), size(ROOM), at(rings), size(ROOM), at(polygons), size(ROOM))
+    status = library.wkt_arrays(
+        text,
+        size(len(text)),
+        u32(places),
+        at(sizes),
+        at(numbers),
+        size(ROOM),
+        at(rings),
+        size(ROOM),
+        at(polygons),
+        size(ROOM),
+    )
     if status:
         return (1 if status <= 14 else status, None)
-    return (0, (sizes.kind, sizes.dimension, numbers[: sizes.numbers], rings[: sizes.rings], polygons[: sizes.polygons]))
+    return (
+        0,
+        (sizes.kind, sizes.dimension, numbers[: sizes.numbers], rings[: sizes.rings], polygons[: sizes.polygons]),
+    )
 
 
 def written_back(text, places):
     """Whether the arrays just read have the canonical text."""
     n = [size(len(it)) for it in (sizes.numbers * b"0", sizes.rings * b"0", sizes.polygons * b"0")]
-    first = library.wkt_from_arrays(u32(sizes.kind), u32(sizes.dimension), at(numbers), n[0], at(rings), n[1], at(polygons), n[2], u32(places), out, size(ROOM), at(needed))
+    first = library.wkt_from_arrays(
+        u32(sizes.kind),
+        u32(sizes.dimension),
+        at(numbers),
+        n[0],
+        at(rings),
+        n[1],
+        at(polygons),
+        n[2],
+        u32(places),
+        out,
+        size(ROOM),
+        at(needed),
+    )
     one = out.raw[: needed.value]
     second = library.wkt_canonical(text, size(len(text)), u32(places), out, size(ROOM), at(needed), at(end))
     return (first, second) == (0, 0) and one == out.raw[: needed.value]
@@ -269,14 +351,29 @@ def column(texts, places):
     kinds, dimensions, statuses = (u32 * rows)(), (u32 * rows)(), (u32 * rows)()
     values, starts = [(i64 * room)(), (u64 * room)(), (u64 * room)()], [(u64 * (rows + 1))() for _ in range(3)]
     pairs = [it for v, s in zip(values, starts) for it in (at(v), size(room), at(s), size(rows + 1))]
-    status = library.wkt_column_arrays(joined, size(len(joined)), at(offsets), size(rows + 1), None, size(0), u32(places), at(all_sizes),
-                                       at(kinds), size(rows), at(dimensions), size(rows), *pairs, at(statuses), size(rows))
+    status = library.wkt_column_arrays(
+        joined,
+        size(len(joined)),
+        at(offsets),
+        size(rows + 1),
+        None,
+        size(0),
+        u32(places),
+        at(all_sizes),
+        at(kinds),
+        size(rows),
+        at(dimensions),
+        size(rows),
+        *pairs,
+        at(statuses),
+        size(rows),
+    )
     assert status == 0, status
     for i in range(rows):
         if statuses[i]:
             yield (1 if statuses[i] <= 14 else statuses[i], None)
         else:
-            yield (0, (kinds[i], dimensions[i], *(list(v[s[i]:s[i + 1]]) for v, s in zip(values, starts))))
+            yield (0, (kinds[i], dimensions[i], *(list(v[s[i] : s[i + 1]]) for v, s in zip(values, starts))))
 
 
 def main():
@@ -305,7 +402,8 @@ def main():
             if found != wanted:
                 wrong += 1
                 print("a row differs:", places, given[:300], found, wanted)
-    print(f"{kept} kept and {count} generated texts by line and by column, by status {dict(sorted(seen.items()))}: {wrong} differ")
+    by_status = dict(sorted(seen.items()))
+    print(f"{kept} kept and {count} generated texts by line and by column, by status {by_status}: {wrong} differ")
     return 1 if wrong or not all(status in seen for status in (0, 1, 24, 25)) else 0
 
 

@@ -57,7 +57,8 @@ else
 fi
 (
     LACKING=0
-    start_server -c jit=off > "$work/server" || { cat "$work/server"; exit 1; }
+    server_flags=(-c jit=off)
+    start_server > "$work/server" || { cat "$work/server"; exit 1; }
     "$bin/psql" -X -q -At -F $'\t' -v ON_ERROR_STOP=1 -c "create extension wkt" -c "create extension postgis" \
         -c "create table doubles (sort text, x float8, y float8)" -c "\\copy doubles from '$work/doubles'" -c "create table kinds (n serial, key text)" -c "\\copy kinds (key) from '$there/kinds'" -f "$there/postgis.sql"
 ) > "$work/postgis" || { cat "$work/postgis"; status=1; }

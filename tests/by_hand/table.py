@@ -245,7 +245,14 @@ def places(kind, dim):
     """Each place in the body of a kind: what stands before it, and the causes that can be met there."""
     ones = ["1"] * NUMBERS[dim]
     whole = " ".join(ones)
-    opened = {"POINT": "", "LINESTRING": "", "POLYGON": "(", "MULTIPOINT": "", "MULTILINESTRING": "(", "MULTIPOLYGON": "(("}
+    opened = {
+        "POINT": "",
+        "LINESTRING": "",
+        "POLYGON": "(",
+        "MULTIPOINT": "",
+        "MULTILINESTRING": "(",
+        "MULTIPOLYGON": "((",
+    }
     if kind == "GEOMETRYCOLLECTION":
         return [("(", NO_MEMBER), ("(POINT EMPTY,", NO_MEMBER), ("(POINT EMPTY", NO_CLOSING)]
     result = [("(" * n, NO_OPENING) for n in range(1, len(opened[kind]) + 1)]
@@ -291,7 +298,10 @@ def refused_texts():
 
 def bodies(kind, dim):
     """Bodies of a kind: none, one item, several, and items that are empty."""
-    a, b, c = (" ".join(numbers[: NUMBERS[dim]]) for numbers in (["1", "-2", "3.50", "04"], ["+5", ".5", "-0", "6."], ["10", "0.000001", "7", "8"]))
+    a, b, c = (
+        " ".join(numbers[: NUMBERS[dim]])
+        for numbers in (["1", "-2", "3.50", "04"], ["+5", ".5", "-0", "6."], ["10", "0.000001", "7", "8"])
+    )
     yield " empty"
     yield from {
         "POINT": [f"({a})", f" ( {b} ) "],
@@ -300,7 +310,11 @@ def bodies(kind, dim):
         "MULTIPOINT": [f"({a})", f"(({a}),{b})", f"(EMPTY,({a}), empty ,{c})"],
         "MULTILINESTRING": [f"(({a},{b}))", f"(({a}),EMPTY,({b},{c}))"],
         "MULTIPOLYGON": [f"((({a},{b},{c},{a})))", f"((({a}),({b})),EMPTY,(EMPTY,({c})))"],
-        "GEOMETRYCOLLECTION": ["(POINT(1 2))", "(LINESTRING Z(1 2 3,4 5 6), point empty)", "(GEOMETRYCOLLECTION(MULTIPOINT(EMPTY),POLYGON EMPTY))"],
+        "GEOMETRYCOLLECTION": [
+            "(POINT(1 2))",
+            "(LINESTRING Z(1 2 3,4 5 6), point empty)",
+            "(GEOMETRYCOLLECTION(MULTIPOINT(EMPTY),POLYGON EMPTY))",
+        ],
     }[kind]
 
 

@@ -2,9 +2,9 @@
 """Tries the wrong bodies by the functions that they change, over the libraries that `rt ci` left:
 wrong_functions.py [CRATE[/NAME]..]
 
-tests/by_hand/wrong_bodies.sh checks the whole crate with each of them. This checks the functions alone, in seconds, several at a
-time, and proves no library again: so all can be tried after a gate. A wrong body that its functions let through is tried
-by its file and then by its crate, since a function without clauses is held by those that call it.
+tests/by_hand/wrong_bodies.sh checks the whole crate with each of them. This checks the functions alone, in seconds,
+several at a time, and proves no library again: so all can be tried after a gate. A wrong body that its functions let
+through is tried by its file and then by its crate, since a function without clauses is held by those that call it.
 """
 
 import concurrent.futures
@@ -70,7 +70,9 @@ def tried(edit, words):
         edit.applied(room)
         for names in named(edit):
             only = [word for name in sorted(names) for word in ("--only", name)]
-            ran = subprocess.run([*words, *only], cwd=room, stdin=subprocess.DEVNULL, capture_output=True, text=True, errors="replace")
+            ran = subprocess.run(
+                [*words, *only], cwd=room, stdin=subprocess.DEVNULL, capture_output=True, text=True, errors="replace"
+            )
             said = ran.stdout + ran.stderr
             refused = re.search(r"^(only=\d+ proved=\d+|logic=not-proved.*)$", said, re.M)
             if ran.returncode == 1 and refused and not re.search(r"error\[[\w-]+\]", said):

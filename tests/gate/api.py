@@ -19,7 +19,9 @@ NAMED = {
 }
 # Words of std with which a clause may begin, which say nothing of what it states.
 OF_STD = {"IfOk", "IfSome", "IfNone", "MatchOption", "MatchResult", "OnOk", "Self"}
-ITEM = re.compile(r"\s*(pub(\(\w+\))? )?(unsafe )?((fn|struct|enum|trait|const|type|impl|mod|static)\b|ghost \w+[:= ]|macro_rules!)")
+ITEM = re.compile(
+    r"\s*(pub(\(\w+\))? )?(unsafe )?((fn|struct|enum|trait|const|type|impl|mod|static)\b|ghost \w+[:= ]|macro_rules!)"
+)
 
 
 def lines_of(path):
@@ -123,13 +125,15 @@ class Crate:
                 self.items[public.group(1)] = item
             elif own:
                 self.calls.setdefault(own.group(1), []).extend(
-                    call for call in items_in(item.body, 4) if call.head[0].strip().startswith(("pub fn", "pub unsafe fn"))
+                    call
+                    for call in items_in(item.body, 4)
+                    if call.head[0].strip().startswith(("pub fn", "pub unsafe fn"))
                 )
 
 
 def uses_of(lines):
-    """The `pub use` lines of a module with the modules in it, and the types that are another's under a name of its own, as
-    (path of modules, crate or module, name, name here)."""
+    """The `pub use` lines of a module with the modules in it, and the types that are another's under a name of its own,
+    as (path of modules, crate or module, name, name here)."""
     path, found, text = [], [], ""
     for line in lines:
         module = re.match(r"\s*pub mod (\w+) \{", line)
@@ -201,9 +205,13 @@ def page_of(name, item, calls):
 def main():
     crates = {}
     print("# Public items\n")
-    print("Made by `tests/gate/api.py` from the sources; the gate compares. Each item under the path that a caller names it by, with")
-    print("the first sentence of its docs and its clauses by name (*one*: a clause without a name; *by*: one that this definition")
-    print("states).")
+    print(
+        "Made by `tests/gate/api.py` from the sources; the gate compares. Each item under the path that a caller names"
+    )
+    print(
+        "it by, with the first sentence of its docs and its clauses by name (*one*: a clause without a name; *by*: one"
+    )
+    print("that this definition states).")
     for door in DOORS:
         base = os.path.join(ROOT, "crates", door, "src")
         sections = {}
@@ -212,14 +220,20 @@ def main():
             found = crates.setdefault(crate, Crate(crate)) if crate not in crates else crates[crate]
             if name not in found.items and name == "Dimension":
                 found = crates.setdefault("wkt_access", Crate("wkt_access"))
-            sections.setdefault("::".join((door,) + path), []).append((here, found.items[name], found.calls.get(name, [])))
+            sections.setdefault("::".join((door,) + path), []).append(
+                (here, found.items[name], found.calls.get(name, []))
+            )
         # A public module with a file of its own.
         for module in re.findall(r"^pub mod (\w+);", "\n".join(lines_of(os.path.join(base, "lib.rt"))), re.M):
             for item in items_in(lines_of(os.path.join(base, f"{module}.rt")), 0) if module != "laws" else []:
                 if item.head[0].startswith("pub fn"):
                     sections.setdefault(f"{door}::{module}", []).append((item.signature(), item, []))
         if door != "wkt":
-            for item in items_in(lines_of(os.path.join(base, "laws.rt")), 0) if os.path.exists(os.path.join(base, "laws.rt")) else []:
+            for item in (
+                items_in(lines_of(os.path.join(base, "laws.rt")), 0)
+                if os.path.exists(os.path.join(base, "laws.rt"))
+                else []
+            ):
                 if item.head[0].startswith("pub fn"):
                     sections.setdefault(f"{door}::laws", []).append((item.signature(), item, []))
         for section in sorted(sections):

@@ -36,7 +36,7 @@ like() {
 # begin NAME: of a new case
 begin() {
     rm -rf "$dir/data" "$dir/want" && mkdir "$dir/data" "$dir/want"
-    : > "$dir/want/stdin" > "$dir/want/stdout" 2> "$dir/want/stderr"
+    touch "$dir/want/stdin" "$dir/want/stdout" "$dir/want/stderr"
     name=$1 words=() wanted=0
 }
 # run WORD..: the case that was read

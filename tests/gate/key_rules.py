@@ -14,7 +14,9 @@ def key(text, places):
     """The canonical text of a whole text, or `refused`."""
     out = ctypes.create_string_buffer(2 * len(text) + 16)
     needed, end = size(), size()
-    status = wkt.wkt_canonical(text, size(len(text)), places, out, size(len(out)), ctypes.byref(needed), ctypes.byref(end))
+    status = wkt.wkt_canonical(
+        text, size(len(text)), places, out, size(len(out)), ctypes.byref(needed), ctypes.byref(end)
+    )
     if status == 0 and not text[end.value :].strip(b" \t\r\n"):
         return out.raw[: needed.value]
     assert status in (0, *range(1, 15), 20), (text, status)

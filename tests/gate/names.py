@@ -96,13 +96,21 @@ def lists(groups):
     """The lists of texts that every language has: name, what it is, items."""
     return [
         ("MESSAGES", "The words of a status, at its number.", [quoted(it) for it in status_texts(groups)]),
-        ("HEADER_MESSAGES", "The words of the statuses 1 to 3 of wkt_infer.", [quoted(it) for it in at_numbers(groups["header"])]),
+        (
+            "HEADER_MESSAGES",
+            "The words of the statuses 1 to 3 of wkt_infer.",
+            [quoted(it) for it in at_numbers(groups["header"])],
+        ),
         ("KINDS", "The kinds, at their numbers.", names(groups, "kind")),
         ("KIND_WORDS", "Their kind words.", words(groups, "kind")),
         ("DIMENSIONS", "The dimensions, at their numbers.", names(groups, "dimension")),
         ("DIMENSION_WORDS", "What stands after a kind word for each.", words(groups, "dimension")),
         ("EXPECTED", "What could stand where a text is refused, at its number.", words(groups, "expected")),
-        ("HINTS", "Why a text is refused, at the number of the hint; %u is the number of places.", words(groups, "hint")),
+        (
+            "HINTS",
+            "Why a text is refused, at the number of the hint; %u is the number of places.",
+            words(groups, "hint"),
+        ),
     ]
 
 
@@ -118,12 +126,16 @@ def statuses_of(groups):
     """The statuses with their words, and among them that of a number."""
     bad = next(row for row in groups["message"] if row.name == "BadNumber")
     statuses = [(row.name, row.number, row.text) for row in groups["status"]]
-    statuses.insert(1, ("BAD_NUMBER", bad.number, "of the refusals, 1 to 14: a number has too many decimals, or is too large"))
+    statuses.insert(
+        1, ("BAD_NUMBER", bad.number, "of the refusals, 1 to 14: a number has too many decimals, or is too large")
+    )
     return statuses
 
 
 def c_table(groups):
-    lines = c_enum("Statuses. 1 to 14: the text begins with no geometry, and WKT_MESSAGES says why.", statuses_of(groups))
+    lines = c_enum(
+        "Statuses. 1 to 14: the text begins with no geometry, and WKT_MESSAGES says why.", statuses_of(groups)
+    )
     lines += c_enum("Kinds.", [(row.text, row.number, "") for row in groups["kind"]])
     lines += c_enum("Dimensions.", [(row.name, row.number, "") for row in groups["dimension"]])
     expected = [("EXPECTED_" + capitals(row.name), row.number, row.text) for row in groups["expected"]]
@@ -149,7 +161,9 @@ def rust_table(groups):
     for name, what, items in lists(groups):
         head, row = f"pub const {name}: [&str; {len(items)}] = [", ", ".join(items)
         # As rustfmt lays it out.
-        lines += [f"/// {what}"] + ([head + row + "];"] if len(row) <= 58 else [head, *(f"    {it}," for it in items), "];"])
+        lines += [f"/// {what}"] + (
+            [head + row + "];"] if len(row) <= 58 else [head, *(f"    {it}," for it in items), "];"]
+        )
     for row in groups["status"]:
         lines += [f"/// {row.text}.", f"pub const {row.name}: u32 = {row.number};"]
     return lines
@@ -158,7 +172,9 @@ def rust_table(groups):
 def javascript_table(groups):
     lines = []
     for name, what, items in lists(groups):
-        lines += [f"/** {what} */", f"export const {name} = Object.freeze(["] + [f"  {item}," for item in items] + ["]);"]
+        lines += (
+            [f"/** {what} */", f"export const {name} = Object.freeze(["] + [f"  {item}," for item in items] + ["]);"]
+        )
     lines += ["/** Why a text has no answer. */", "export const STATUS = Object.freeze({"]
     return lines + [f"  {name}: {number}, // {text}" for name, number, text in statuses_of(groups)] + ["});"]
 
@@ -167,10 +183,17 @@ def types_table(groups):
     """The types of what the table for JavaScript has."""
     kinds = names(groups, "kind")
     lines = ["/** A kind that has flat arrays. */", f"export type FlatKind = {' | '.join(kinds[:-1])};"]
-    lines += ["export type Kind = FlatKind | " + kinds[-1] + ";", f"export type Dimension = {' | '.join(names(groups, 'dimension'))};"]
+    lines += [
+        "export type Kind = FlatKind | " + kinds[-1] + ";",
+        f"export type Dimension = {' | '.join(names(groups, 'dimension'))};",
+    ]
     lines += ["/** Why a text has no answer, as include/wkt.h has it. 1 to 14: the text begins with no geometry. */"]
     lines += ["export declare const STATUS: {"]
-    return lines + [f"  /** {text} */\n  readonly {name}: {number};" for name, number, text in statuses_of(groups)] + ["};"]
+    return (
+        lines
+        + [f"  /** {text} */\n  readonly {name}: {number};" for name, number, text in statuses_of(groups)]
+        + ["};"]
+    )
 
 
 def page_table(groups):
@@ -219,15 +242,24 @@ def by_hand(groups):
     return [
         (source, "texts", r'Message::(\w+) => "(.*)",$', text),
         (source, "numbers", r"Message::(\w+) => (\d+),$", number),
-        (source, "messages of numbers", r"^ +(\d+|_) => Message::(\w+),$",
-         [(n, name) for name, n in number[:-1]] + [("_", number[-1][0])]),
+        (
+            source,
+            "messages of numbers",
+            r"^ +(\d+|_) => Message::(\w+),$",
+            [(n, name) for name, n in number[:-1]] + [("_", number[-1][0])],
+        ),
         (spec, "texts", r'^message_text (\w+) = codes "(.*)"$', [it for it in text if it[0] != "BadNumber"]),
         (spec, "numbers", r"^message_number (\w+) = (\d+)$", number),
         ("crates/wkt_read/specs/Items.antt", "the message of a number", r'^bad_number = codes "(.*)"$', bad),
         ("crates/wkt_explain/specs/Words.antt", "words", r'^words (\w+) = codes "(.*)"$', expected),
         ("crates/wkt_explain/src/expected.rt", "words", r'Expected::(\w+) => "(.*)",$', expected),
         (answer, "kinds", r"^kind_number kind\.(\w+) = (\d+)$", [(row.name, str(row.number)) for row in kinds]),
-        (answer, "dimensions", r"^dimension_number (\w+) = (\d+)$", [(row.name, str(row.number)) for row in dimensions]),
+        (
+            answer,
+            "dimensions",
+            r"^dimension_number (\w+) = (\d+)$",
+            [(row.name, str(row.number)) for row in dimensions],
+        ),
         ("crates/wkt_calls/src/status.rt", "statuses", r"^pub const (\w+): u32 = (\d+);$", constants),
         (NUMBERED, "expectations", r"^expected_number expected\.(\w+) = (\d+)$", expected_numbers),
         (HINTS, "hints", r'Hint::(\w+) => "(.*)",$', hints),

@@ -15,7 +15,26 @@ WORDS = 35
 # Made from the sources, so neither read by sentences nor counted.
 MADE = {"docs/API.md"}
 # Programs of the toolchain and of the system that README's commands begin with.
-KNOWN = {"rt", "cd", "cc", "c++", "python3", "pip", "cargo", "printf", "make", "wkt", "wktline", "wktstream", "apt", "sqlite3", "psql", "parallel", "pkg-config", "git"}
+KNOWN = {
+    "rt",
+    "cd",
+    "cc",
+    "c++",
+    "python3",
+    "pip",
+    "cargo",
+    "printf",
+    "make",
+    "wkt",
+    "wktline",
+    "wktstream",
+    "apt",
+    "sqlite3",
+    "psql",
+    "parallel",
+    "pkg-config",
+    "git",
+}
 
 
 def pages():
@@ -35,7 +54,7 @@ def blocks(text):
 
 
 def sentences(text):
-    """The sentences of a page's running text: no code blocks, tables or headings. A sentence ends after a full stop or a colon."""
+    """The sentences of a page's running text (no code, tables or headings), which end after a full stop or a colon."""
     text = re.sub(r"^```.*?^```[^\n]*$", "", text, flags=re.S | re.M)
     for paragraph in re.split(r"\n\s*\n|^[-*] |^\d+\. ", text, flags=re.M):
         if re.match(r"\s*[|#<]", paragraph):
@@ -106,7 +125,11 @@ def stale_counts():
     read_lines, read_files = lines_to_believe("--reading")
     all_lines, all_files = lines_to_believe("--calls")
     trust = text_of("docs/TRUST.md")
-    for count in (f"{lines} lines of code in {files} files", f"{read_lines} lines in {read_files} files", f"{all_lines} lines in {all_files} files"):
+    for count in (
+        f"{lines} lines of code in {files} files",
+        f"{read_lines} lines in {read_files} files",
+        f"{all_lines} lines in {all_files} files",
+    ):
         if count not in trust:
             yield f"docs/TRUST.md: it has to say {count}"
     if f"the {lines} lines" not in text_of("README.md"):

@@ -1,14 +1,15 @@
 #!/usr/bin/env python3
-"""Prints what has to be believed to believe the statement `Headline`: each definition that it rests on, by file and lines.
+"""Prints what has to be believed to believe the statement `Headline`: each definition that it rests on, by file and
+lines.
 
-    tests/gate/trusted_lines.py           a line a file, and the sum
-    tests/gate/trusted_lines.py --reading the same with the clauses of `Wkt::from_str` and of the writers
-    tests/gate/trusted_lines.py --calls   the same for the calls that people make: reading, writing, decimals, canonical text, lines
-    tests/gate/trusted_lines.py -v        each definition
+    trusted_lines.py            a line a file, and the sum
+    trusted_lines.py --reading  with the clauses of `Wkt::from_str` and of the writers
+    trusted_lines.py --calls    for the calls that people make: reading, writing, decimals, canonical text, lines
+    trusted_lines.py -v         each definition
 
-It begins at `Headline` in crates/wkt_read/specs/Headline.antt, or at the definitions of CALLS, and follows the names that each definition uses through
-the imports of its file. Lines are those of code: blank lines, comments and imports aren't counted. What std defines isn't
-followed.
+It begins at `Headline` in crates/wkt_read/specs/Headline.antt, or at the definitions of CALLS, and follows the names
+that each definition uses through the imports of its file. Lines are those of code: blank lines, comments and imports
+aren't counted. What std defines isn't followed.
 """
 import os
 import re
@@ -52,7 +53,13 @@ class File:
                 for name in use.group(2).split(","):
                     name, _, here = name.strip().partition(" as ")
                     self.imports[here or name] = (use.group(1), name)
-        self.cut([line for line in lines if line.strip() and not line.strip().startswith("--") and not line.startswith("use ")])
+        self.cut(
+            [
+                line
+                for line in lines
+                if line.strip() and not line.strip().startswith("--") and not line.startswith("use ")
+            ]
+        )
 
     def cut(self, lines):
         """Cuts the code into pieces, each with the names that it defines."""
@@ -91,7 +98,11 @@ class File:
 
 
 def main():
-    files, seen, todo = {}, {}, CALLS[:] if "--calls" in sys.argv else READING[:] if "--reading" in sys.argv else [HEADLINE]
+    files, seen, todo = (
+        {},
+        {},
+        CALLS[:] if "--calls" in sys.argv else READING[:] if "--reading" in sys.argv else [HEADLINE],
+    )
     while todo:
         module, name = todo.pop()
         if ".declared." in module or not os.path.exists(path_of(module)):
@@ -107,7 +118,11 @@ def main():
         todo += [file.imports[word] for word in words if word in file.imports]
         todo += [(module, word) for word in words if word in file.pieces]
         operators = [(here, where) for here, where in file.imports.items() if "◌" in here]
-        todo += [where for here, where in operators if all(part in words or part in " ".join(seen[key]) for part in here.split("◌") if part)]
+        todo += [
+            where
+            for here, where in operators
+            if all(part in words or part in " ".join(seen[key]) for part in here.split("◌") if part)
+        ]
     total = 0
     for module in sorted(files):
         here = [(name, lines) for (where, name), lines in seen.items() if where == module]

@@ -1,9 +1,9 @@
 #!/usr/bin/env python3
 """The wrong bodies: edits that change what a function does, and that the checker has to refuse.
 
-tests/data/wrong_bodies/CRATE.txt has those of a crate, each under a heading `# NAME`; crates/CRATE/must-fail those that the
-gate tries, each in a file. An edit has a line `file: PATH`, and then pairs of lines `old: TEXT` and `new: TEXT`; each old
-text stands once in that file, when the pairs before it were applied.
+tests/data/wrong_bodies/CRATE.txt has those of a crate, each under a heading `# NAME`; crates/CRATE/must-fail those that
+the gate tries, each in a file. An edit has a line `file: PATH`, and then pairs of lines `old: TEXT` and `new: TEXT`;
+each old text stands once in that file, when the pairs before it were applied.
 
 edits.py check [CRATE..]: whether each fits. edits.py write CRATE FOLDER: one file each.
 """
@@ -48,7 +48,8 @@ class Edit:
             if text is None:
                 text = path.read_text(encoding="utf-8") if path.is_file() else ""
             if text.count(old) != 1:
-                yield f"{self.crate}/{self.name}: stale: its old text stands {text.count(old)} times in {file}: {old.strip()}"
+                times = f"{text.count(old)} times in {file}"
+                yield f"{self.crate}/{self.name}: stale: its old text stands {times}: {old.strip()}"
             texts[file] = text.replace(old, new)
         if not self.changes:
             yield f"{self.crate}/{self.name}: changes nothing"

@@ -1,11 +1,11 @@
 #!/usr/bin/env python3
 """Builds crates/wkt_c/out/libwkt_c.a over the libraries that `rt ci` left where it has just proved them.
 
-`rt lib` would prove them all once more: it takes only libraries that a check of its own left, and which later checks can
-begin with. Where `rt ci` left none, or what it left doesn't serve, the status isn't 0: then `rt lib` is to be run.
+`rt lib` would prove them all once more: it takes only libraries that a check of its own left, and which later checks
+can begin with. Where `rt ci` left none, or what it left doesn't serve, the status isn't 0: then `rt lib` is to be run.
 
---when-proved ENDED FILE: beside an `rt ci` that is yet to come or runs. It waits until each of those libraries stands anew,
-and builds FILE, with what processors are free. It gives up when the file ENDED is there and a library isn't.
+--when-proved ENDED FILE: beside an `rt ci` that is yet to come or runs. It waits until each of those libraries stands
+anew, and builds FILE, with what processors are free. It gives up when the file ENDED is there and a library isn't.
 """
 
 import os
@@ -39,7 +39,7 @@ def below(name, uses):
 
 
 def library_words(kit, crate, uses, made):
-    """The words by which a check of the crate finds its libraries: those that were made, by their folders, and the toolchain's."""
+    """The words by which a check of the crate finds its libraries: those that were made, and the toolchain's."""
     words = ["--extern", f"std={kit}/rlibs/std.rlib", "-L", f"dependency={kit}/rlibs"]
     for name in uses[crate]:
         words += ["--extern", f"{name}={made.get(name, f'{kit}/rlibs')}/{name}.rlib"]
@@ -49,7 +49,7 @@ def library_words(kit, crate, uses, made):
 
 
 def await_libraries(libraries, ended):
-    """Returns whether each library was made since this was called, as soon as all were, or when the file `ended` is there."""
+    """Whether each library was made since this was called: as soon as all were, or when the file `ended` is there."""
     since = time.time()
     while True:
         over = os.path.exists(ended) or not os.path.isdir(os.path.dirname(ended))
@@ -77,7 +77,14 @@ def main():
     if not all(os.path.isdir(f"{it}/{name}.rlib") and not os.path.exists(f"{it}/stamp") for name, it in made.items()):
         return 2
     words = ["--crate-name", CRATE, "src/lib.rt", "--crate-type", "staticlib", *library_words(kit, CRATE, uses, made)]
-    words += ["--jobs", str(min(2 if ended else 4, len(os.sched_getaffinity(0)))), "--toolchain", f"{kit}/toolchain", "--backend", "llvm"]
+    words += [
+        "--jobs",
+        str(min(2 if ended else 4, len(os.sched_getaffinity(0)))),
+        "--toolchain",
+        f"{kit}/toolchain",
+        "--backend",
+        "llvm",
+    ]
     how = {"cwd": f"{TOP}/crates/{CRATE}", "stdout": subprocess.DEVNULL}
     return subprocess.run([f"{kit}/bin/rattle", "build", *words, "-o", to], **how).returncode
 

@@ -18,8 +18,20 @@ def written(texts):
     with tempfile.TemporaryDirectory() as folder:
         with open(folder + "/in.csv", "w", newline="") as table:
             csv.writer(table).writerows([["id", "WKT"], *enumerate(texts)])
-        subprocess.run(["ogr2ogr", "-f", "CSV", folder + "/out.csv", folder + "/in.csv", "-lco", "GEOMETRY=AS_WKT",
-                        "-oo", "KEEP_GEOM_COLUMNS=NO"], check=True)
+        subprocess.run(
+            [
+                "ogr2ogr",
+                "-f",
+                "CSV",
+                folder + "/out.csv",
+                folder + "/in.csv",
+                "-lco",
+                "GEOMETRY=AS_WKT",
+                "-oo",
+                "KEEP_GEOM_COLUMNS=NO",
+            ],
+            check=True,
+        )
         with open(folder + "/out.csv", newline="") as table:
             return [row[0] for row in csv.reader(table)][1:]
 
@@ -33,8 +45,13 @@ def has_exponent(x):
 
 
 rows("GDAL", "g.ExportToIsoWkt()", lambda points: [point(p).ExportToIsoWkt() for p in points], read, has_exponent)
-rows("GDAL", "ogr2ogr -f CSV -lco GEOMETRY=AS_WKT", lambda points: written([f"POINT({x!r} {y!r})" for x, y in points]),
-     read, has_exponent)
+rows(
+    "GDAL",
+    "ogr2ogr -f CSV -lco GEOMETRY=AS_WKT",
+    lambda points: written([f"POINT({x!r} {y!r})" for x, y in points]),
+    read,
+    has_exponent,
+)
 
 
 def again(key):

@@ -18,7 +18,8 @@ static GEOSGeometry *point(double x, double y) {
 /* The key of a whole text with a 0 behind it, or 0 where it is refused. */
 static int key_of(const char *text, uint32_t places, char *key, size_t room) {
     size_t length = strlen(text), needed, end;
-    if (wkt_canonical((const uint8_t *)text, length, places, (uint8_t *)key, room - 1, &needed, &end) != WKT_OK || end != length)
+    if (wkt_canonical((const uint8_t *)text, length, places, (uint8_t *)key, room - 1, &needed, &end) != WKT_OK ||
+        end != length)
         return 0;
     key[needed] = 0;
     return 1;
@@ -92,7 +93,8 @@ int main(int count_of_words, char **words) {
             strcpy(counts[0][sorts].sort, sort);
             strcpy(counts[1][sorts++].sort, sort);
         }
-        for (int i = 0; i < 2; i++) count(&counts[i][sorts - 1], writers[i], reader, digits[i] < 15 ? digits[i] : 18, x, y);
+        for (int i = 0; i < 2; i++)
+            count(&counts[i][sorts - 1], writers[i], reader, digits[i] < 15 ? digits[i] : 18, x, y);
     }
     for (int i = 0; i < 2; i++)
         for (int s = 0; s < sorts; s++) {

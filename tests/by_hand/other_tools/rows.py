@@ -34,7 +34,7 @@ def rows(program, call, write, read, is_refused, places=18):
 
 
 def kinds(program, again):
-    """The keys of the file `kinds` that don't stay the same: again(key) is the text of what the program reads, or None."""
+    """The keys of the file `kinds` that don't stay the same: again(key) is the text of what it reads, or None."""
     with open(sys.argv[2], encoding="utf-8") as keys:
         for key in keys.read().splitlines():
             text = again(key)
