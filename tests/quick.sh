@@ -25,10 +25,12 @@ ended() { tail -n 1 "$1" | grep -q '^run=ended '; }
 # shortened: a copy of the crates in $dir/short, without the modules of wkt_tests that take too long here: rt try leaves no
 # test out of several modules
 shortened() {
+    local src=$dir/short/crates/wkt_tests/src
     mkdir "$dir/short"
     cp crates.txt "$dir/short"
     tar -c --exclude=out crates | tar -x -C "$dir/short"
-    sed -i -z -E 's/#\[cfg\(test\)\]\nmod (deep|short_texts);\n//g' "$dir/short/crates/wkt_tests/src/lib.rt"
+    rm -r "$src"/{deep.rt,short_texts.rt,short_texts}
+    sed -i -z -E 's/#\[cfg\(test\)\]\nmod (deep|short_texts);\n//g' "$src/lib.rt"
 }
 
 # tests CRATE: its tests
