@@ -54,7 +54,7 @@ pub held : (D : ℕ) (bs : List ℕ) (end : ℕ) (units : ℤ) → BeginsUnits D
 held D bs end units b = subst (λ u. BeginsUnits D bs u end) (sym (held-is units b.fits)) b
 
 -- a sign, digits and a rest are one run
-number-run : (negative : Bool) (ws rest : List ℕ) → IsNumeral 10 ws → AllRun rest → IsNumberText (sign_text negative ++ (ws ++ rest))
+pub number-run : (negative : Bool) (ws rest : List ℕ) → IsNumeral 10 ws → AllRun rest → IsNumberText (sign_text negative ++ (ws ++ rest))
 number-run true ws rest h run = (refl, (minus_run, run_append ws rest (digits_are_run ws h.1) run))
 number-run false ws rest h run = number_first ws rest h run
 

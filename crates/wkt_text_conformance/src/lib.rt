@@ -34,3 +34,5 @@ mod reading;
 mod slow_sinks;
 #[cfg(test)]
 mod types_by_hand;
+#[cfg(test)]
+mod windows;
