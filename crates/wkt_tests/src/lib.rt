@@ -27,6 +27,8 @@ mod lines;
 #[cfg(test)]
 mod num;
 #[cfg(test)]
+mod num_windows;
+#[cfg(test)]
 mod read;
 #[cfg(test)]
 mod same_geometry;
