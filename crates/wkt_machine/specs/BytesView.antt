@@ -1,5 +1,6 @@
 -- What is known of bytes as a source.
-use Rattle.std.specs.Prelude.{◌≡◌, ◌≢◌, ℕ, ◌≤◌, length, get_or, List, Bool, true, false, refl, subst}
+use Rattle.std.specs.Prelude.{◌≡◌, ◌≢◌, ℕ, ◌≤◌, length, get_or, List, Bool, true, false, refl}
+use Rattle.std.proofs.Common.{subst}
 use Rattle.std.proofs.Math.Nat.{le_refl}
 use Rattle.wkt_num.specs.Bytes.{Lexeme, Mark, White}
 use Rattle.wkt_events.specs.Left.{class_in, left_placed, TakesOne}
