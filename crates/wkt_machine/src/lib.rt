@@ -12,6 +12,7 @@ mod heads;
 pub mod laws;
 pub mod machine;
 pub mod nothing;
+mod numbers;
 mod part;
 pub mod source;
 pub mod step;
