@@ -16,6 +16,8 @@ mod ByteViews
 mod Leading
 mod ByteSteps
 mod TakeNext
+mod Reaching
+mod Shown
 mod HeadSteps
 mod Grown
 mod Holding

@@ -13,6 +13,7 @@ mod heads;
 pub mod laws;
 pub mod machine;
 pub mod nothing;
+mod numbers;
 mod part;
 mod refused;
 pub mod source;
