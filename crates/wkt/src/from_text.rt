@@ -11,7 +11,7 @@ use std::alloc::Global;
 use wkt_bytes::{ByteSource, ReadAllError, read_all};
 use wkt_convert::FromAny;
 use wkt_num::WktNum;
-use wkt_read::{FromWktStr, ReadError};
+use wkt_read::ReadError;
 use wkt_types::{ConvertError, Wkt};
 
 /// A type that is read from well-known text through a conversion.
@@ -58,8 +58,8 @@ pub trait TryFromWkt<T>: Sized {
 fn read_text<T: WktNum>(alloc: Global, text: &str) -> Result<Wkt<T>, ConvertError>
     ensures { MatchResult result (λ w. IsFront T.read text.now (tree w)) (IsUnread T.read text.now) }
 {
-    match Wkt::<T>::from_str(alloc, text) {
-        Ok(wkt) => Ok(wkt),
+    match wkt_machine::read_text::<T>(alloc, text) {
+        Ok((wkt, _)) => Ok(wkt),
         Err(ReadError::Text(message)) => Err(ConvertError::InvalidWKT(message)),
         Err(ReadError::Memory(error)) => Err(ConvertError::Memory(error)),
     }
