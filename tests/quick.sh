@@ -1,11 +1,11 @@
 #!/usr/bin/env bash
-# Runs every stored text and the tests, and proves nothing: the rows of the table and of crates/wkt_conformance/data, the
+# Runs every stored text and the tests, and proves nothing: the rows of the table and of crates/wkt_tables/data, the
 # tests of each crate that has some, and each program over its stored input; wktline and wktstream over the keys of
 # tests/data/keys.tsv too. quick.sh [CRATE..]: all of these crates, or those that are named.
 #
 # It builds each crate with checks (rt try), two at a time (JOBS=N: N at a time), and says when it begins with a crate and
-# what came of it. Not run here, and said so: wkt_long_conformance, whose texts are too many and too deep for a build with
-# checks.
+# what came of it. Not run here, and said so: the modules deep and short_texts of wkt_tests, whose texts are too deep and too
+# many for a build with checks.
 set -u
 cd "$(dirname "$0")/.." || exit 1
 jobs=${JOBS:-2}
@@ -22,10 +22,22 @@ counted() {
 # ended FILE: whether rt try came to an end, and not to a crash or a limit
 ended() { tail -n 1 "$1" | grep -q '^run=ended '; }
 
+# shortened: a copy of the crates in $dir/short, without the modules of wkt_tests that take too long here: rt try leaves no
+# test out of several modules
+shortened() {
+    local src=$dir/short/crates/wkt_tests/src
+    mkdir "$dir/short"
+    cp crates.txt "$dir/short"
+    tar -c --exclude=out crates | tar -x -C "$dir/short"
+    rm -r "$src"/{deep.rt,short_texts.rt,short_texts}
+    sed -i -z -E 's/#\[cfg\(test\)\]\nmod (deep|short_texts);\n//g' "$src/lib.rt"
+}
+
 # tests CRATE: its tests
 tests() {
-    local said=$dir/$1.said passed failed start=$SECONDS
-    (cd "crates/$1" && rt try --test) > "$said" 2>&1 < /dev/null
+    local said=$dir/$1.said passed failed start=$SECONDS top=.
+    [ "$1" != wkt_tests ] || { shortened; top=$dir/short; }
+    (cd "$top/crates/$1" && rt try --test) > "$said" 2>&1 < /dev/null
     passed=$(sed -n 's/^test result: .* \([0-9]*\) passed;.*/\1/p' "$said")
     failed=$(sed -n 's/^test result: .*; \([0-9]*\) failed;.*/\1/p' "$said")
     [ -n "$passed" ] || { tail -n 20 "$said"; passed=0 failed=1; }
@@ -36,7 +48,7 @@ tests() {
 # rows: the table and the files of rows, which print what is wrong themselves
 rows() {
     local said=$dir/rows.said data=() args=() passed failed start=$SECONDS
-    cd crates/wkt_conformance || return
+    cd crates/wkt_tables || return
     for file in data/*; do data+=(--data "${file#data/}=$file"); done
     mapfile -t args < args
     rt try --steps 0 "${data[@]}" -- "${args[@]}" < stdin > "$said" 2> "$said.err"
@@ -45,7 +57,7 @@ rows() {
     cat "$said"
     # Each file has its line, and the program came to its end.
     [ "$(grep -c ' rows, ' "$said")" = "$((${#args[@]} + 1))" ] && ended "$said.err" || { tail -n 20 "$said.err"; failed=$((failed + 1)); }
-    counted wkt_conformance "$passed" "$failed" "rows: "
+    counted wkt_tables "$passed" "$failed" "rows: "
 }
 
 # keys: what both programs answer, as cases for rt try
@@ -92,14 +104,14 @@ program() {
 }
 
 # The longest first.
-work=("rows wkt_conformance")
+work=("rows wkt_tables")
 for crate in $(grep -lr '^#\[test\]' crates/*/src | cut -d / -f 2 | sort -u); do
-    [ "$crate" = wkt_long_conformance ] || work+=("tests $crate")
+    work+=("tests $crate")
 done
 for main in crates/*/src/main.rt; do
     crate=$(basename "$(dirname "$(dirname "$main")")")
     case $crate in
-        wkt_conformance) ;;
+        wkt_tables) ;;
         wktline | wktstream) work+=("lines $crate") ;;
         *) [ ! -f "crates/$crate/stdout" ] || work+=("program $crate") ;;
     esac
@@ -130,7 +142,7 @@ for crate in "${begun[@]}"; do
     read -r p f < "$dir/$crate.count" || { echo "$crate: came to no count"; p=0 f=1; }
     passed=$((passed + p)) failed=$((failed + f))
 done
-[ $# != 0 ] || echo "not run here: wkt_long_conformance ($(grep -rh '^#\[test\]' crates/wkt_long_conformance/src | wc -l) tests, which the gate runs)"
+[ $# != 0 ] || echo "not run here: deep and short_texts of wkt_tests ($(cat crates/wkt_tests/src/{deep,short_texts}.rt | grep -c '^#\[test\]') tests, which the gate runs)"
 [ "${#begun[@]}" != 0 ] || failed=1
 echo "$SECONDS s"
 echo "$passed passed, $failed failed"

@@ -93,7 +93,7 @@ class Geometries:
 
 def texts(count):
     """The texts of the tables; geometries, and those with mistakes; and texts that are made of pieces."""
-    known = rows("tests/data/keys.tsv") + rows("crates/wkt_conformance/stdin")
+    known = rows("tests/data/keys.tsv") + rows("crates/wkt_tables/stdin")
     yield from known
     some, geometries = random.Random(11), Geometries(10)
     for _ in range(count - len(known)):

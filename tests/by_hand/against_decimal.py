@@ -2,7 +2,7 @@
 """The arrays of the library for C compared with those of a reader that stands here: against_decimal.py [TEXTS].
 
 The reader follows docs/GRAMMAR.md, with Python's Decimal for the numbers, and shares nothing with the library. It reads
-the texts of crates/wkt_conformance/data, and so many generated ones (100,000), some of them damaged. Each text goes
+the texts of crates/wkt_tables/data, and so many generated ones (100,000), some of them damaged. Each text goes
 through wkt_arrays and, all at once, through wkt_column_arrays; arrays that are read are also written by
 wkt_from_arrays, and their text is that of wkt_canonical. WKT_LIB names another library than capi/out/libwkt.so.
 """
@@ -259,7 +259,7 @@ def damaged(random, text):
 
 
 def kept_texts():
-    folder = f"{TOP}/crates/wkt_conformance/data"
+    folder = f"{TOP}/crates/wkt_tables/data"
     for name in sorted(os.listdir(folder)):
         for row in open(f"{folder}/{name}", encoding="utf-8"):
             try:

@@ -66,4 +66,4 @@ int main()
 }
 CPP
 g++ -O1 -o "$dir/compare" "$dir/compare.cpp" -lgeos_c
-"$dir/compare" < crates/wkt_conformance/stdin
+"$dir/compare" < crates/wkt_tables/stdin

@@ -10,7 +10,7 @@ work=$(mktemp -d)
 removed+=("$work")
 trap 'rm -rf "$work"' EXIT
 # Rows that are read, as hexadecimal digits: a canonical text begins with two capitals, and no message does.
-python3 - crates/wkt_conformance/stdin > "$work/rows" <<'PY'
+python3 - crates/wkt_tables/stdin > "$work/rows" <<'PY'
 import re
 import sys
 

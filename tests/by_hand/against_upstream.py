@@ -1,5 +1,5 @@
 #!/usr/bin/env python3
-"""Compares the Rust crate wkt 0.14.0 with the table of texts that the library answers (crates/wkt_conformance/stdin).
+"""Compares the Rust crate wkt 0.14.0 with the table of texts that the library answers (crates/wkt_tables/stdin).
 
     cargo build --release --manifest-path bench/rust/Cargo.toml
     tests/by_hand/against_upstream.py bench/rust/target/release/cases
@@ -12,7 +12,7 @@ import re
 import subprocess
 import sys
 
-TABLE = "crates/wkt_conformance/stdin"
+TABLE = "crates/wkt_tables/stdin"
 
 
 def difference(text, here, there):

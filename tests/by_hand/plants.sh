@@ -23,12 +23,12 @@ wkt_events (point_head|collection_head|opens_behind): \{ None \}
 wkt_events near_point: \{ (None|self::near_point::<D>\(&\[\]\)) \}
 wkt_events is_(point|collection): \{ false \}
 # Which of two texts stands first makes no difference.
-wkt_uses same_place: \{ .*\(alloc, other, one\) \}
+wkt_tests same_place: \{ .*\(alloc, other, one\) \}
 # The sink that it makes may have no room, and memory may run out: both are answers that its contract allows at any time.
-wkt_uses answers: \{ Err\(RunError::(Write|Memory)\(.*\)\) \}
-wkt_uses answers: \{ .*\(alloc, input, 0\) \}
+wkt_tests answers: \{ Err\(RunError::(Write|Memory)\(.*\)\) \}
+wkt_tests answers: \{ .*\(alloc, input, 0\) \}
 # That two calls differ says nothing of the text: the tables take it for wrong.
-wkt_test_support answer: \{ Err\(AnswerError::Differ\) \}
+wkt_tests answer: \{ Err\(AnswerError::Differ\) \}
 # Which error a sink gives is no part of a contract. That it comes unchanged is tested.
 wkt_bytes put_all: \{ .*Err\(_\) => Err\(io::Error::from\(.*\)\) .*\}
 # What an explanation is displayed as is tested, as the texts of errors are.
@@ -41,9 +41,8 @@ RIGHT
 
 crates=("$@")
 if [ "${#crates[@]}" = 0 ]; then
-    # The crates of tests have no function of their own.
     while read -r name _; do
-        case $name in '' | '#'* | *_conformance*) continue ;; esac
+        case $name in '' | '#'*) continue ;; esac
         name=${name%:}
         [ -e "crates/$name/src/lib.rt" ] && crates+=("$name")
     done < crates.txt

@@ -1,5 +1,5 @@
 #!/usr/bin/env python3
-"""Writes the table of texts that wkt_conformance checks: table.py > crates/wkt_conformance/stdin.
+"""Writes the table of texts that wkt_tables checks: table.py > crates/wkt_tables/stdin.
 
 Each row is a text, a tab, and what reading it over decimals gives: one of the thirteen messages, or the canonical
 text. Refused texts are made one for each kind, dimension, place of the grammar and cause that can be met there, alone

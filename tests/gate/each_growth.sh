@@ -1,16 +1,16 @@
 #!/usr/bin/env bash
 # Refuses each growth of memory of the five built programs in turn, and of the built tests of the macros and of the
-# callers of wkt_uses over rows, and of values made of events, until a run meets none.
+# callers of wkt_tests over rows, and of values made of events, until a run meets none.
 #
 # wktline, wktstream and the command wkt answer lines of every kind: each refusal has to end them with their words and status, after the
-# whole answers to some first lines. wkt_conformance reads each text by three calls, copies the geometry, puts the copy together again from
+# whole answers to some first lines. wkt_tables reads each text by three calls, copies the geometry, puts the copy together again from
 # its parts and displays it, converts it to a two-dimensional one and back, reads that from the text, from bytes and
 # from JSON, and writes it in three ways: each refusal has to end it as out of memory, with no row reported as wrong, or to
 # change nothing. Then the same of ten thousand nested collections, at growths all over the run. A test has to end as
 # out of memory, which no wrong value does, or to pass.
 #
 # The gate runs it on what it has built; alone, build all of them first (rt run in crates/wktline, crates/wktstream,
-# crates/wkt_command, crates/wkt_conformance and crates/wkt_operations, rt test in crates/wkt, crates/wkt_machine and crates/wkt_use_conformance).
+# crates/wkt_command, crates/wkt_tables and crates/wkt_operations, rt test in crates/wkt, crates/wkt_machine and crates/wkt_tests).
 set -u
 cd "$(dirname "$0")/../.." || exit 1
 dir=$(mktemp -d)
@@ -96,8 +96,8 @@ each_test() {
 cut -f 1 tests/data/growth.tsv > "$dir/lines"
 each wktline "$dir/lines" 1 1
 each wktstream "$dir/lines" 1 1
-each wkt_conformance tests/data/growth.tsv 2 1
-each wkt_conformance /dev/null 2 1 tests/data/growth.jsonl
+each wkt_tables tests/data/growth.tsv 2 1
+each wkt_tables /dev/null 2 1 tests/data/growth.jsonl
 each wkt_operations "$dir/lines" 1 1 decimal canonical to_string display wkt_string
 # The command answers some lines with words for people, and its status says that some were refused.
 each wkt_command "$dir/lines" 2 1 canon --refused refused
@@ -107,7 +107,7 @@ each wkt_command "$dir/lines" 2 1 check --max 0
 each wkt_command /dev/null 2 1 same 'LINESTRING(1 2,3 4)' 'linestring ( 1.0 2, 3 +4)'
 each_test wkt
 each_test wkt_machine value_tests::
-each_test wkt_use_conformance table_callers::
+each_test wkt_tests callers::rows::
 
 # nested N: a point in so many collections
 nested() { printf 'GEOMETRYCOLLECTION(%.0s' $(seq "$1"); printf 'POINT(1 2)'; printf ')%.0s' $(seq "$1"); }
@@ -116,4 +116,4 @@ nested 10000 > "$dir/deep"
 each wktline "$dir/deep" 1 199
 each wktstream "$dir/deep" 1 199
 printf '%s\t%s\n' "$(nested 10000)" "$(nested 10000)" > "$dir/deep.tsv"
-each wkt_conformance "$dir/deep.tsv" 2 997
+each wkt_tables "$dir/deep.tsv" 2 997
