@@ -2,7 +2,7 @@
 ghost use Rattle.std.specs.Prelude.{◌≡◌, ◌≢◌, ◌≤◌, ℕ, length, Some};
 ghost use Rattle.std.specs.Bool.{MatchBool};
 ghost use Rattle.std.specs.Str.{IsCharBoundary};
-ghost use Rattle.wkt_num.specs.Bytes.{Comma};
+ghost use Rattle.wkt_num.specs.Bytes.{Close, Comma, Open};
 ghost use Rattle.wkt_read.specs.Lexemes.{lexeme_of};
 ghost use Rattle.wkt_read.specs.Items.{IsItem};
 ghost use Rattle.wkt_read.specs.Tokenizer.Unread.{found, IsNumberIn};
@@ -146,6 +146,36 @@ impl<'a, T: WktNum> Tokens<'a, T> {
     {
         match self.ahead {
             Class::Comma => {
+                self.ahead = Class::White;
+                self.end = self.bytes.taken();
+                true
+            }
+            _ => false,
+        }
+    }
+
+    // The same of a closing parenthesis.
+    #[inline(always)]
+    pub(crate) fn take_close_ahead(&mut self) -> bool
+        ensures { MatchBool result (Steps self.old (Some Close) self.new) (self.new ≡ self.old) }
+    {
+        match self.ahead {
+            Class::Close => {
+                self.ahead = Class::White;
+                self.end = self.bytes.taken();
+                true
+            }
+            _ => false,
+        }
+    }
+
+    // The same of an opening one.
+    #[inline(always)]
+    pub(crate) fn take_open_ahead(&mut self) -> bool
+        ensures { MatchBool result (Steps self.old (Some Open) self.new) (self.new ≡ self.old) }
+    {
+        match self.ahead {
+            Class::Open => {
                 self.ahead = Class::White;
                 self.end = self.bytes.taken();
                 true
