@@ -10,7 +10,6 @@ ghost use Rattle.wkt.specs.FromText.{AreNoText, BytesAnswer, Cause, IsUnread, On
 use std::alloc::Global;
 use wkt_bytes::{ByteSource, ReadAllError, read_all};
 use wkt_convert::FromAny;
-use wkt_machine::FromWktStr;
 use wkt_num::WktNum;
 use wkt_read::ReadError;
 use wkt_types::{ConvertError, Wkt};
@@ -59,8 +58,8 @@ pub trait TryFromWkt<T>: Sized {
 fn read_text<T: WktNum>(alloc: Global, text: &str) -> Result<Wkt<T>, ConvertError>
     ensures { MatchResult result (λ w. IsFront T.read text.now (tree w)) (IsUnread T.read text.now) }
 {
-    match Wkt::<T>::from_str(alloc, text) {
-        Ok(wkt) => Ok(wkt),
+    match wkt_machine::read_text::<T>(alloc, text) {
+        Ok((wkt, _)) => Ok(wkt),
         Err(ReadError::Text(message)) => Err(ConvertError::InvalidWKT(message)),
         Err(ReadError::Memory(error)) => Err(ConvertError::Memory(error)),
     }

@@ -115,6 +115,7 @@ impl<'a, T: WktNum> PeekableTokens<'a, T> {
     pub fn take(&mut self) -> Lexeme<'a>
         ensures goes_on { GoesOn self.old self.new }
         ensures near { OnSome (found result) (IsNear self.new) }
+        ensures moves { Moves self.old (found result) self.new }
         ensures takes { TakesNext (found result) (rest self.old) (rest self.new) }
     {
         self.step()
@@ -234,13 +235,11 @@ impl<'a, T: WktNum> PeekableTokens<'a, T> {
     fn take_open_behind(&mut self) -> bool
         ensures { MatchBool result (Moves self.old (Some Open) self.new) (Looks self.old self.new) }
     {
-        match self.look() {
-            Lexeme::Open => {
-                let _ = self.step();
-                true
-            }
-            _ => false,
+        if let Lexeme::Open = self.look() {
+            let _ = self.step();
+            return true;
         }
+        false
     }
 
     /// The item that `next` gives next. It is returned by value, and a number is read anew by each call.
