@@ -1,5 +1,5 @@
 -- What is read off tokens, by what the machine took of them.
-use Rattle.std.proofs.Common.{◌≡◌, ℕ, ◌≤◌, ◌<◌, List, [], ◌∷◌, ◌++◌, length, refl, sym, ap, ◌∙◌, subst, append_assoc, arith, Option, Some, None, Result, Ok, Err, false}
+use Rattle.std.proofs.Common.{◌≡◌, ℕ, ◌<◌, List, [], ◌∷◌, ◌++◌, length, refl, sym, ap, ◌∙◌, subst, append_assoc, arith, Option, Result, Ok, Err, false}
 use Rattle.std.specs.Prelude.{IfOk}
 use Rattle.std.specs.declared.alloc.AllocError.{AllocError}
 use Rattle.wkt_num.specs.Bytes.{Lexeme}
@@ -15,7 +15,7 @@ use Rattle.wkt_read.specs.Front.{NeedsNoMemory}
 use Rattle.wkt_read.specs.Items.{bad_number}
 use Rattle.wkt_read.specs.Messages.{message_text}
 use Rattle.wkt_read.specs.Parser.Outcome.{value_at}
-use Rattle.wkt_read.specs.Placed.{Placed, lexemes_of, end_after, AreEnds}
+use Rattle.wkt_read.specs.Placed.{Placed, lexemes_of, AreEnds}
 use Rattle.wkt_read.specs.Refusal.{IsRefused as SaysOf, IfText}
 use Rattle.wkt_read.specs.Standing.{Standing}
 use Rattle.wkt_read.specs.declared.error.ReadError.{ReadError}
@@ -28,7 +28,6 @@ use Rattle.wkt_read.proofs.ParserLemmas.Answering.{rest-is, some-taken, to-front
 use Rattle.wkt_read.proofs.ParserLemmas.Blamed.{bad_here}
 use Rattle.wkt_read.proofs.ParserLemmas.Early.{error_early}
 use Rattle.wkt_read.proofs.ParserLemmas.Free.{none_begins}
-use Rattle.wkt_machine.specs.Drives.{start, is_over}
 use Rattle.wkt_machine.specs.Goes.{IsStuck}
 use Rattle.wkt_machine.specs.Machines.{state_of}
 use Rattle.wkt_machine.specs.Refusing.{refused}
