@@ -19,6 +19,8 @@ mod TakeNext
 mod Reaching
 mod Shown
 mod HeadSteps
+mod Items
+mod TokenSteps
 mod Grown
 mod Holding
 mod Valued
