@@ -12,12 +12,12 @@ mod Composing
 mod Depths
 mod TokenViews
 mod Fronting
-mod ByteViews
+pub mod ByteViews
 mod Leading
 mod ByteSteps
 mod TakeNext
 mod HeadSteps
-mod Grown
+pub mod Grown
 mod Holding
-mod Valued
-mod FrontValues
+pub mod Valued
+pub mod FrontValues

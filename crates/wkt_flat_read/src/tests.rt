@@ -1,0 +1,1 @@
+//! Flat values that are read.
