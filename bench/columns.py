@@ -1,8 +1,8 @@
 """Processor time and peak of memory for a column of points of six decimals, beside Shapely: columns.py [ROWS [FEW]]
 
-Each row of the table is a process of its own: the seconds are the least of three calls, and the memory is the peak of the
-first call above what stood before it. Shapely 1.8 has a call a row, so it gets FEW rows (by default a tenth), and its
-figures are scaled up. It needs NumPy and pandas, and Shapely for its rows.
+Each row of the table is a process of its own: the seconds are the least of three calls, and the memory is the peak of
+the first call above what stood before it. Shapely 1.8 has a call a row, so it gets FEW rows (by default a tenth), and
+its figures are scaled up. It needs NumPy and pandas, and Shapely for its rows.
 """
 import os
 import resource

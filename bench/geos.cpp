@@ -14,8 +14,7 @@
 
 static void silent(const char *, ...) {}
 
-int main(int argc, char **argv)
-{
+int main(int argc, char **argv) {
     GEOSContextHandle_t geos = GEOS_init_r();
     GEOSContext_setNoticeHandler_r(geos, silent);
     GEOSContext_setErrorHandler_r(geos, silent);
@@ -29,8 +28,7 @@ int main(int argc, char **argv)
     std::string out;
     for (size_t start = 0; start < input.size();) {
         size_t end = input.find('\n', start);
-        if (end == std::string::npos)
-            end = input.size();
+        if (end == std::string::npos) end = input.size();
         const std::string line = input.substr(start, end - start);
         start = end + 1;
         if (GEOSGeometry *geometry = GEOSWKTReader_read_r(geos, reader, line.c_str())) {

@@ -75,7 +75,9 @@ class Lines:
             return join(self.several(6, lambda: parens(join(self.line(long // 4)))))
         if kind == "MULTIPOLYGON":
             return join(self.several(4, lambda: parens(join(self.polygon(long // 4)))))
-        return join(self.several(4, lambda: self.geometry(["POINT", "LINESTRING", "POLYGON"][self.numbers.below(3)], 12)))
+        return join(
+            self.several(4, lambda: self.geometry(["POINT", "LINESTRING", "POLYGON"][self.numbers.below(3)], 12))
+        )
 
     def geometry(self, kind, long):
         return f"{kind}{self.space}({self.body(kind, long)})"

@@ -29,12 +29,16 @@ def picture():
     most = max(max(figures.values()) for _, figures in table)
     height = TOP_ROOM + len(table) * (BAR * len(DRAWN) + GAP)
     out = [
-        f'<svg xmlns="http://www.w3.org/2000/svg" width="{LEFT + WIDTH + 70}" height="{height}" font-family="sans-serif" font-size="12">',
+        f'<svg xmlns="http://www.w3.org/2000/svg" width="{LEFT + WIDTH + 70}" height="{height}"'
+        ' font-family="sans-serif" font-size="12">',
         '<rect width="100%" height="100%" fill="#ffffff"/>',
         '<text x="8" y="16" font-weight="bold">Instructions per byte, canonical text of lines (less is better)</text>',
     ]
     for at, (name, shade) in enumerate(DRAWN.items()):
-        out.append(f'<rect x="{8 + 90 * at}" y="24" width="10" height="10" fill="{shade}"/><text x="{22 + 90 * at}" y="33">{name}</text>')
+        out.append(
+            f'<rect x="{8 + 90 * at}" y="24" width="10" height="10" fill="{shade}"/>'
+            f'<text x="{22 + 90 * at}" y="33">{name}</text>'
+        )
     y = TOP_ROOM
     for name, figures in table:
         out.append(f'<text x="{LEFT - 8}" y="{y + BAR * len(DRAWN) / 2 + 4:g}" text-anchor="end">{name}</text>')

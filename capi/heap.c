@@ -6,12 +6,15 @@
 #define PUBLIC __attribute__((visibility("default")))
 
 /* An address, and whether there is one, in two registers. */
-typedef struct { uint64_t given; void *at; } answer;
+typedef struct {
+    uint64_t given;
+    void *at;
+} answer;
 
 static char nothing;
 
 static answer give(void *at) {
-    answer a = { at != 0, at ? at : &nothing };
+    answer a = {at != 0, at ? at : &nothing};
     return a;
 }
 

@@ -67,13 +67,11 @@ FUNCTION(wkt_explain, EXPLAIN,
          (text, text_len, places, message, start, stop, expected))
 
 #define HINT(BUFFER, RESULT) BUFFER(text) RESULT(hint)
-FUNCTION(wkt_hint, HINT,
-         (const uint8_t *text, size_t text_len, uint32_t places, uint32_t *hint),
+FUNCTION(wkt_hint, HINT, (const uint8_t *text, size_t text_len, uint32_t places, uint32_t *hint),
          (text, text_len, places, hint))
 
 #define INFER(BUFFER, RESULT) BUFFER(text) RESULT(kind) RESULT(dimension)
-FUNCTION(wkt_infer, INFER,
-         (const uint8_t *text, size_t text_len, uint32_t *kind, uint32_t *dimension),
+FUNCTION(wkt_infer, INFER, (const uint8_t *text, size_t text_len, uint32_t *kind, uint32_t *dimension),
          (text, text_len, kind, dimension))
 
 #define LINES(BUFFER, RESULT) BUFFER(input) BUFFER(out) RESULT(needed)
@@ -87,8 +85,11 @@ FUNCTION(wkt_lines_some, LINES_SOME,
           size_t *taken, size_t *written),
          (input, input_len, places, last, out, out_len, taken, written))
 
+/* clang-format would indent each line of these lists further. */
+/* clang-format off */
 #define COLUMN_CANONICAL(BUFFER, RESULT) BUFFER(texts) BUFFER(offsets) BUFFER(valid) BUFFER(out) BUFFER(out_offsets) \
     BUFFER(statuses) RESULT(needed)
+/* clang-format on */
 FUNCTION(wkt_column_canonical, COLUMN_CANONICAL,
          (const uint8_t *texts, size_t texts_len, const int64_t *offsets, size_t offsets_len, const uint8_t *valid,
           size_t valid_len, uint32_t places, uint8_t *out, size_t out_len, int64_t *out_offsets, size_t out_offsets_len,
@@ -102,9 +103,11 @@ FUNCTION(wkt_arrays, ARRAYS,
           size_t *rings, size_t rings_len, size_t *polygons, size_t polygons_len),
          (text, text_len, places, sizes, numbers, numbers_len, rings, rings_len, polygons, polygons_len))
 
+/* clang-format off */
 #define COLUMN_ARRAYS(BUFFER, RESULT) BUFFER(texts) BUFFER(offsets) BUFFER(valid) RESULT(sizes) BUFFER(kinds) \
     BUFFER(dimensions) BUFFER(numbers) BUFFER(number_offsets) BUFFER(rings) BUFFER(ring_offsets) BUFFER(polygons) \
     BUFFER(polygon_offsets) BUFFER(statuses)
+/* clang-format on */
 FUNCTION(wkt_column_arrays, COLUMN_ARRAYS,
          (const uint8_t *texts, size_t texts_len, const int64_t *offsets, size_t offsets_len, const uint8_t *valid,
           size_t valid_len, uint32_t places, WktColumnSizes *sizes, uint32_t *kinds, size_t kinds_len,
@@ -124,9 +127,11 @@ FUNCTION(wkt_from_arrays, FROM_ARRAYS,
          (kind, dimension, numbers, numbers_len, rings, rings_len, polygons, polygons_len, places, out, out_len,
           needed))
 
+/* clang-format off */
 #define COLUMN_FROM_ARRAYS(BUFFER, RESULT) BUFFER(kinds) BUFFER(dimensions) BUFFER(numbers) BUFFER(number_offsets) \
     BUFFER(rings) BUFFER(ring_offsets) BUFFER(polygons) BUFFER(polygon_offsets) BUFFER(valid) BUFFER(out) \
     BUFFER(out_offsets) BUFFER(statuses) RESULT(needed)
+/* clang-format on */
 FUNCTION(wkt_column_from_arrays, COLUMN_FROM_ARRAYS,
          (const uint32_t *kinds, size_t kinds_len, const uint32_t *dimensions, size_t dimensions_len,
           const int64_t *numbers, size_t numbers_len, const int64_t *number_offsets, size_t number_offsets_len,

@@ -1,5 +1,6 @@
 #!/usr/bin/env python3
-"""build.py NAME PROCESSOR FILE: proves and builds the object of the crate NAME for that processor, over what rt ci left.
+"""build.py NAME PROCESSOR FILE: proves and builds the object of the crate NAME for that processor, over what rt ci
+left.
 
 Of a library for wasm64 it is the archive, which the linker takes.
 
@@ -12,8 +13,8 @@ import sys
 import tempfile
 
 TOP = os.path.dirname(os.path.dirname(os.path.abspath(__file__)))
-sys.path.insert(0, f"{TOP}/tests")
-import lib_for_c as lib
+sys.path.insert(0, f"{TOP}/tests/lib")
+import lib_for_c as lib  # noqa: E402 (found by the line above)
 
 
 def main():
@@ -24,7 +25,13 @@ def main():
     is_library = name in (lib.CRATE, "wkt_web")
     system = "unknown-unknown" if processor == "wasm64" else "unknown-linux-gnu"
     words = ["--crate-name", name, *(["src/lib.rt", "--crate-type", "staticlib"] if is_library else ["src/main.rt"])]
-    words += [*lib.library_words(kit, name, uses, made), "--jobs", os.environ.get("JOBS", "2"), "--toolchain", f"{kit}/toolchain"]
+    words += [
+        *lib.library_words(kit, name, uses, made),
+        "--jobs",
+        os.environ.get("JOBS", "2"),
+        "--toolchain",
+        f"{kit}/toolchain",
+    ]
     words += ["--backend", "llvm", "--target", f"{processor}-{system}"]
     kept = f"{TOP}/crates/{name}/out/incremental"
     with tempfile.TemporaryDirectory() as folder:
@@ -32,7 +39,9 @@ def main():
             shutil.copytree(kept, f"{folder}/kept", symlinks=True)
             words += ["--incremental", f"{folder}/kept"]
         out = f"{folder}/made"
-        status = subprocess.run([f"{kit}/bin/rattle", "build", *words, "-o", out], cwd=f"{TOP}/crates/{name}").returncode
+        status = subprocess.run(
+            [f"{kit}/bin/rattle", "build", *words, "-o", out], cwd=f"{TOP}/crates/{name}"
+        ).returncode
         if status:
             return status
         if is_library and processor != "wasm64":

@@ -67,5 +67,5 @@ for processor in $processors; do
     compared "$processor"
 done
 # With today's header, C and keys. (Of this processor.)
-RUN= WKT_C_LIB=dist make -s -C dist check O="$work/out" > "$work/said" 2>&1 || { tail -n 20 "$work/said"; fail "doesn't fit these sources: dist/refresh.sh renews it"; }
+RUN='' WKT_C_LIB=dist make -s -C dist check O="$work/out" > "$work/said" 2>&1 || { tail -n 20 "$work/said"; fail "doesn't fit these sources: dist/refresh.sh renews it"; }
 sed 's/^/dist: /' "$work/said"

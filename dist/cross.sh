@@ -20,15 +20,15 @@ done
 $RUN "$out/show" > /dev/null
 for example in lines stream; do $RUN "$out/$example" < crates/wktline/stdin | cmp - crates/wktline/stdout; done
 # The shared library, too.
-$CC -O2 -I"$out" -o "$out/shared" tests/keys.c -L"$out" -lwkt
-$RUN -E LD_LIBRARY_PATH="$out" "$out/shared" < tests/keys.tsv
+$CC -O2 -I"$out" -o "$out/shared" tests/gate/keys.c -L"$out" -lwkt
+$RUN -E LD_LIBRARY_PATH="$out" "$out/shared" < tests/data/keys.tsv
 # The command answers the stored texts as that of this machine does.
 make -s -C dist O="$out/here" CC=cc
-cut -f 1 crates/wkt_conformance/stdin | cat - tests/fuzz/corpus.txt > "$out/texts"
+cut -f 1 crates/wkt_tables/stdin | cat - tests/fuzz/corpus.txt > "$out/texts"
 for call in "check -n 0" "check -n 0 -p 6" "canon" "canon -p 6 --front" "kind" "dups"; do
     "$out/here/wkt" $call "$out/texts" > "$out/wanted" 2>&1 || true
     $RUN "$out/wkt" $call "$out/texts" 2>&1 | cmp - "$out/wanted"
 done
 echo "$(wc -l < "$out/texts") lines, by six calls of the command: as on $(uname -m)"
-tests/c_install.sh
+tests/gate/c_install.sh
 echo "$processor: all passed"

@@ -26,8 +26,13 @@ def main():
     old, new = functions(sys.argv[1]), functions(sys.argv[2])
     same = [it for it in new if old.get(it) == new[it]]
     # A hash in a name (::<#..>) is that of a type's arguments.
-    print(f"{len(same)} of {len(new)} functions as before, {sum(len(new[it]) for it in same)} of {sum(map(len, new.values()))} bytes")
-    for sign, names in ("-", set(old) - set(new)), ("+", set(new) - set(old)), ("!", {it for it in new if it in old and old[it] != new[it]}):
+    code = f"{sum(len(new[it]) for it in same)} of {sum(map(len, new.values()))} bytes"
+    print(f"{len(same)} of {len(new)} functions as before, {code}")
+    for sign, names in (
+        ("-", set(old) - set(new)),
+        ("+", set(new) - set(old)),
+        ("!", {it for it in new if it in old and old[it] != new[it]}),
+    ):
         for it in sorted(names):
             print(sign, it)
 

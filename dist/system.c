@@ -47,7 +47,9 @@ void rattle_set_errno(int32_t error) { errno = error; }
 /* What the processor has: main asks for leaf 1 (0) and leaf 0x80000001 (2), as glibc's <sys/platform/x86.h> numbers them,
  * which only glibc 2.33 and later have. */
 #include <cpuid.h>
-typedef struct { unsigned cpuid[4], active[4]; } leaf;
+typedef struct {
+    unsigned cpuid[4], active[4];
+} leaf;
 const leaf *__x86_get_cpuid_feature_leaf(unsigned number) {
     static leaf found[3];
     leaf *it = &found[number < 2 ? number : 2];

@@ -32,6 +32,8 @@
  * docs/ABI.md says what a later version keeps. */
 #ifndef WKT_H
 #define WKT_H
+/* Laid out by hand: each buffer stands beside its size. */
+/* clang-format off */
 #include <stddef.h>
 #include <stdint.h>
 #ifdef __cplusplus
@@ -52,7 +54,7 @@ const char *wkt_version(void);
 #define WKT_WHOLE 256u
 
 typedef uint32_t wkt_status;
-/* names.py: c (tests/names.py --write makes this of docs/names.tsv) */
+/* names.py: c (tests/gate/names.py --write makes this of docs/names.tsv) */
 /* Statuses. 1 to 14: the text begins with no geometry, and WKT_MESSAGES says why. */
 enum {
     WKT_OK = 0, /* Done */

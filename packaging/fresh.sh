@@ -58,7 +58,7 @@ row "make check" "" "$(sed -n 's/^\(make -C dist check\) *#.*/\1/p' "$root/READM
 row Python "$(packages Python)" "python3 -m venv /tmp/venv && . /tmp/venv/bin/activate; $(first Python)
 cd /; python -c \"import wkt; assert wkt.canonical('point ( 1 2.50 )') == '$answer'\"; rm -rf /tmp/venv"
 row "C, C++" "" "$(first "C, C++")"
-row Rust "$(packages Rust) librust-geo-types-dev" "rm -rf /tmp/mine && cargo new -q /tmp/mine && tests/cargo_home.sh ~/.cargo && cd /tmp/mine; $(first Rust | sed 's,CLONE,/clone,')
+row Rust "$(packages Rust) librust-geo-types-dev" "rm -rf /tmp/mine && cargo new -q /tmp/mine && tests/lib/cargo_home.sh ~/.cargo && cd /tmp/mine; $(first Rust | sed 's,CLONE,/clone,')
 echo 'fn main() { print!(\"{}\", wkt_proved::canonical(\"point ( 1 2.50 )\", 6).unwrap()) }' > src/main.rs; [ \"\$(cargo run -q --offline)\" = '$answer' ]"
 printf '%s;\n' "$(cell PostgreSQL 2 | sed -n 2p)" "SELECT wkt_canonical('point ( 1 2.50 )')" 'DROP EXTENSION wkt' > "$debian/row.sql"
 row PostgreSQL "$(packages PostgreSQL)" "$(first PostgreSQL)

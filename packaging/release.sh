@@ -16,7 +16,7 @@ to=$out/wkt-proved-$version
 date=$(sed -n "s/^## \[$version\] - \([0-9-]*\)\$/\1/p" "$root/CHANGELOG.md")
 when=$(if [ -n "$date" ]; then date -u -d "$date" +%s; else git -C "$root" log -1 --format=%ct; fi)
 # What stands in a clone, at the same place there.
-parts=(capi include dist postgres sqlite rust python javascript tests/command tests/command.sh tests/keys.c tests/keys.tsv
+parts=(capi include dist postgres sqlite rust python javascript tests/data/command tests/gate/command.sh tests/gate/keys.c tests/data/keys.tsv
     crates/wktline/stdin crates/wktline/stdout packaging/release/man LICENSE-APACHE LICENSE-MIT CHANGELOG.md)
 
 rm -rf "$to"

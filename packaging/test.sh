@@ -30,7 +30,9 @@ source_release() {
     make -s -C "$dir"/wkt-proved-*/ install DESTDIR="$dir/root" PREFIX=/usr > "$dir/log" 2>&1 || { cat "$dir/log"; fail "make install"; }
     calls env PATH="$dir/root/usr/bin:$PATH"
     export PKG_CONFIG_PATH=$dir/root/usr/lib/pkgconfig PKG_CONFIG_SYSROOT_DIR=$dir/root
-    cc "$root/capi/examples/show.c" $(pkg-config --cflags --libs wkt) -o "$dir/show" || fail "show.c"
+    local flags
+    read -ra flags <<< "$(pkg-config --cflags --libs wkt)"
+    cc "$root/capi/examples/show.c" "${flags[@]}" -o "$dir/show" || fail "show.c"
     LD_LIBRARY_PATH=$dir/root/usr/lib "$dir/show" | grep -q . || fail "show"
     unset PKG_CONFIG_PATH PKG_CONFIG_SYSROOT_DIR
     for page in "$dir"/root/usr/share/man/man1/wkt.1 "$dir"/root/usr/share/man/man1/wktline.1 "$dir"/root/usr/share/man/man3/wkt.3; do
@@ -63,7 +65,7 @@ faces() {
     fi
     skips postgres || make -s -C "$dir/faces/postgres" > "$dir/log" 2>&1 || { cat "$dir/log"; fail "make -C postgres"; }
     if ! skips rust; then
-        "$root/tests/cargo_home.sh" "$dir/cargo" || fail "cargo"
+        "$root/tests/lib/cargo_home.sh" "$dir/cargo" || fail "cargo"
         CARGO_HOME=$dir/cargo CARGO_TARGET_DIR=$dir/target cargo run -q --offline --manifest-path "$dir/faces/rust/Cargo.toml" --example show -- "$text" > "$dir/said" 2> "$dir/log" ||
             { cat "$dir/log"; fail "cargo run"; }
         grep -qF "$answer" "$dir/said" || { cat "$dir/said"; fail "the crate's example"; }

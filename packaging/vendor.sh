@@ -1,14 +1,15 @@
 #!/usr/bin/env bash
 # Brings crates of this library into another repository, with all crates below them, and updates them there.
 #
-# vendor.sh TARGET [CRATE..]: the crate wkt, or these. TARGET is the top of a repository, with its crates.txt and crates/.
-# Brought are src, specs and proofs of each crate to TARGET/crates, the two licences to TARGET/LICENSES/wkt, and the
-# lines of crates.txt between two comments. Called again, it puts the newest in place of what it brought, and takes away
-# crates that aren't needed any more. A crate that was changed there, or that it didn't bring, stops it before it writes.
+# vendor.sh TARGET [CRATE..]: the crate wkt, or these. TARGET is the top of a repository. It needs a file crates.txt there,
+# which may be empty. Brought are src, specs and proofs of each crate to TARGET/crates, the two licences to
+# TARGET/LICENSES/wkt, and lines of crates.txt between two comments. Called again, it puts the newest in place of what it
+# brought, and takes away crates that aren't needed any more. A crate that was changed there, or that it didn't bring,
+# stops it before it writes.
 # The first `rt check` there of a crate over wkt proves them all: 50 minutes of one processor. `rt try` needs no proof.
 set -eu
 root=$(cd "$(dirname "$0")/.." && pwd)
-[ $# -ge 1 ] || { sed -n '2,9s/^# \{0,1\}//p' "$0"; exit 2; }
+case ${1:-} in '' | -*) sed -n '2,/^set /s/^# \{0,1\}//p' "$0"; exit 2 ;; esac
 target=$(cd "$1" && pwd)
 shift
 [ $# -gt 0 ] || set -- wkt

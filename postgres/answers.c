@@ -50,9 +50,7 @@ static bool is_refusal(wkt_status status) {
 
 /* Room in which nearly every answer fits: a text of n bytes is answered in some 2n + 8. Room that isn't filled costs
  * nothing, and an answer that doesn't fit would be made twice. */
-static size_t room_for(size_t length) {
-    return Min(2 * length + 16, MaxAllocSize - VARHDRSZ);
-}
+static size_t room_for(size_t length) { return Min(2 * length + 16, MaxAllocSize - VARHDRSZ); }
 
 /* The canonical text of a whole text, if `answer` is asked for; false where it is refused. */
 bool canonical_of(const Question *asked, text **answer) {
@@ -61,8 +59,8 @@ bool canonical_of(const Question *asked, text **answer) {
     wkt_status status;
 
     CHECK_FOR_INTERRUPTS();
-    status = wkt_canonical(asked->utf8, asked->length, asked->places | WKT_WHOLE, made ? (uint8_t *)VARDATA(made) : NULL,
-                           room, &needed, &end);
+    status = wkt_canonical(asked->utf8, asked->length, asked->places | WKT_WHOLE,
+                           made ? (uint8_t *)VARDATA(made) : NULL, room, &needed, &end);
     CHECK_FOR_INTERRUPTS(); /* what came during the call, which looks for none */
     if (status == WKT_TOO_SMALL && answer)
         ereport(ERROR, (errcode(ERRCODE_PROGRAM_LIMIT_EXCEEDED),
@@ -83,7 +81,8 @@ bool are_same(const Question asked[2], bool *same) {
     wkt_status status;
 
     CHECK_FOR_INTERRUPTS();
-    status = wkt_same(asked[0].utf8, asked[0].length, asked[1].utf8, asked[1].length, asked[0].places | WKT_WHOLE, &answer);
+    status =
+        wkt_same(asked[0].utf8, asked[0].length, asked[1].utf8, asked[1].length, asked[0].places | WKT_WHOLE, &answer);
     CHECK_FOR_INTERRUPTS();
     if (status != WKT_OK && !is_refusal(status)) fail_with(status);
     *same = answer;
@@ -95,5 +94,7 @@ text *kind_of(const Question *asked) {
     uint32_t kind = 0, dimension = 0;
     wkt_status status = wkt_infer(asked->utf8, asked->length, &kind, &dimension);
     if (status == WKT_NO_MEMORY) fail_with(status);
-    return status == WKT_OK ? cstring_to_text(psprintf("%s%s%s", kinds[kind], dimension ? " " : "", dimensions[dimension])) : NULL;
+    return status == WKT_OK
+               ? cstring_to_text(psprintf("%s%s%s", kinds[kind], dimension ? " " : "", dimensions[dimension]))
+               : NULL;
 }

@@ -10,7 +10,8 @@ set -eu
 library "${1:-}"
 rows=${2:-1000000}
 root=$(cd "$(dirname "$0")/.." && pwd)
-start_server -c shared_buffers=1GB -c max_wal_size=8GB -c wal_level=minimal -c max_wal_senders=0 -c jit=off -c autovacuum=off
+server_flags=(-c shared_buffers=1GB -c max_wal_size=8GB -c wal_level=minimal -c max_wal_senders=0 -c jit=off -c autovacuum=off)
+start_server
 sql() { "$bin/psql" -X -q -v ON_ERROR_STOP=1 "$@"; }
 sql -c "create extension wkt"
 sql -c "create extension postgis" 2> /dev/null || { echo "no PostGIS: not run"; exit 0; }

@@ -4,11 +4,9 @@
 
 #include "utils/fmgrprotos.h"
 
-#define IS_NOW(name, other)        \
-    PG_FUNCTION_INFO_V1(name);     \
-    Datum name(PG_FUNCTION_ARGS) { \
-        return other(fcinfo);      \
-    }
+#define IS_NOW(name, other) \
+    PG_FUNCTION_INFO_V1(name); \
+    Datum name(PG_FUNCTION_ARGS) { return other(fcinfo); }
 IS_NOW(pg_wkt_cmp, byteacmp)
 IS_NOW(pg_wkt_eq, byteaeq)
 IS_NOW(pg_wkt_ne, byteane)

@@ -50,8 +50,9 @@ Datum refuse(Node *context, const Question *asked) {
     } else
         detail = psprintf("%s.", wkt_message(status));
     ereturn(context, (Datum)0,
-            (errcode(ERRCODE_INVALID_TEXT_REPRESENTATION), errmsg("invalid well-known text: \"%.*s%s\"", shown, asked->given, more),
-             errdetail("%s", detail), hint ? errhint("%s", hint) : 0));
+            (errcode(ERRCODE_INVALID_TEXT_REPRESENTATION),
+             errmsg("invalid well-known text: \"%.*s%s\"", shown, asked->given, more), errdetail("%s", detail),
+             hint ? errhint("%s", hint) : 0));
 }
 
 /* From the place back, or on, so many characters at most, and not past the line. */

@@ -21,7 +21,8 @@ static Known *known_of(FmgrInfo *function) {
     if (function->fn_extra == NULL) {
         Known *known = MemoryContextAllocZero(function->fn_mcxt, 2 * sizeof(Known));
         if (function->fn_expr && IsA(function->fn_expr, FuncExpr))
-            for (int i = 0; i < 2; i++) known[i].is_fixed = !contain_var_clause(list_nth(((FuncExpr *)function->fn_expr)->args, i));
+            for (int i = 0; i < 2; i++)
+                known[i].is_fixed = !contain_var_clause(list_nth(((FuncExpr *)function->fn_expr)->args, i));
         function->fn_extra = known;
     }
     return function->fn_extra;
@@ -56,7 +57,8 @@ static text *key_of(Known *known, MemoryContext where, const Question *asked) {
 PG_FUNCTION_INFO_V1(pg_wkt_same);
 Datum pg_wkt_same(PG_FUNCTION_ARGS) {
     uint32_t places = places_of(PG_GETARG_INT32(2));
-    Question asked[2] = {question_of_text(PG_GETARG_TEXT_PP(0), places), question_of_text(PG_GETARG_TEXT_PP(1), places)};
+    Question asked[2] = {question_of_text(PG_GETARG_TEXT_PP(0), places),
+                         question_of_text(PG_GETARG_TEXT_PP(1), places)};
     Known *known = known_of(fcinfo->flinfo);
     text *keys[2];
     bool keeps = false, same;

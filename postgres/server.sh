@@ -1,12 +1,12 @@
-# Sourced: start_server [FLAG..] starts a PostgreSQL server of its own, and `library` before it gives it the extension.
+# Sourced: start_server starts a PostgreSQL server of its own, and `library` before it gives it the extension.
 #
 # Nothing outside a temporary folder is written, and no root is needed: the server's programs are copied there, and find
 # their share folder, and so the extension, relative to themselves. The one socket is in that folder, there is no port,
 # and no other user can reach the folder, since whoever connects is superuser. As root the server runs as the user
 # postgres. It sets dir, bin, from, PGHOST, PGUSER and PGDATABASE. When the shell ends the server is stopped, and its
-# folder and those that the caller put into `removed` are removed. Run psql as "$bin/psql", the client's other programs
-# as "$from/pg_dump".
-removed=()
+# folder and those that the caller put into `removed` are removed; what it put into `server_flags` are flags of the server.
+# Run psql as "$bin/psql", the client's other programs as "$from/pg_dump".
+removed=() server_flags=()
 ended() {
     [ -z "${started:-}" ] || as "$bin/pg_ctl" -D "$dir/base/data" -m immediate stop > /dev/null
     rm -rf "${removed[@]}"
@@ -64,8 +64,8 @@ start_server() {
     [ -z "${wkt:-}" ] || build_extension
     [ "$(id -u)" != 0 ] || chown -R postgres "$dir"
     export PGHOST=$dir/base PGUSER=wkt PGDATABASE=postgres
-    cd "$dir/base"
+    cd "$dir/base" || exit 1
     as "$bin/initdb" -D data -A trust -U wkt -E UTF8 --locale C.UTF-8 --no-sync > init.log 2>&1 || { cat init.log; exit 1; }
-    as "$bin/pg_ctl" -D data -w -o "-k $PGHOST -h '' -F $*" -l log start > /dev/null || { cat log; exit 1; }
+    as "$bin/pg_ctl" -D data -w -o "-k $PGHOST -h '' -F ${server_flags[*]}" -l log start > /dev/null || { cat log; exit 1; }
     started=yes
 }

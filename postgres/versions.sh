@@ -16,9 +16,9 @@ if [ ! -x "$root/usr/lib/postgresql/17/bin/postgres" ]; then
         > "$dir/log" 2>&1 || { tail -n 20 "$dir/log"; exit 1; }
 fi
 rm -rf "$root/wkt"
-mkdir -p "$root/wkt/tests"
+mkdir -p "$root/wkt/tests/data"
 cp -r "$here" "$root/wkt/postgres"
-cp "$here"/../tests/key*.tsv "$root/wkt/tests/"
+cp "$here"/../tests/data/key*.tsv "$root/wkt/tests/data/"
 cp -r "$wkt" "$root/wkt/library"
 # inside COMMAND..: in that Debian, with its own processes and shared memory
 inside() {

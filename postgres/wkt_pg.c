@@ -45,6 +45,4 @@ Datum pg_wkt_kind(PG_FUNCTION_ARGS) {
 }
 
 PG_FUNCTION_INFO_V1(pg_wkt_version);
-Datum pg_wkt_version(PG_FUNCTION_ARGS) {
-    PG_RETURN_TEXT_P(cstring_to_text(wkt_version()));
-}
+Datum pg_wkt_version(PG_FUNCTION_ARGS) { PG_RETURN_TEXT_P(cstring_to_text(wkt_version())); }

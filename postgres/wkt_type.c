@@ -16,9 +16,7 @@
 #endif
 
 /* The places of a modifier; -1 is none. */
-static uint32_t places_of_modifier(int32 modifier) {
-    return modifier < 0 ? MOST_PLACES : places_of(modifier);
-}
+static uint32_t places_of_modifier(int32 modifier) { return modifier < 0 ? MOST_PLACES : places_of(modifier); }
 
 /* Whether some number of a canonical text has so many digits in a row that it may not fit with 18 places. */
 #define MANY_DIGITS 21
@@ -56,9 +54,7 @@ Datum pg_wkt_in(PG_FUNCTION_ARGS) {
 }
 
 PG_FUNCTION_INFO_V1(pg_wkt_out);
-Datum pg_wkt_out(PG_FUNCTION_ARGS) {
-    PG_RETURN_CSTRING(TextDatumGetCString(PG_GETARG_DATUM(0)));
-}
+Datum pg_wkt_out(PG_FUNCTION_ARGS) { PG_RETURN_CSTRING(TextDatumGetCString(PG_GETARG_DATUM(0))); }
 
 PG_FUNCTION_INFO_V1(pg_wkt_recv);
 Datum pg_wkt_recv(PG_FUNCTION_ARGS) {
@@ -87,9 +83,7 @@ Datum pg_wkt_typmod_in(PG_FUNCTION_ARGS) {
 }
 
 PG_FUNCTION_INFO_V1(pg_wkt_typmod_out);
-Datum pg_wkt_typmod_out(PG_FUNCTION_ARGS) {
-    PG_RETURN_CSTRING(psprintf("(%d)", PG_GETARG_INT32(0)));
-}
+Datum pg_wkt_typmod_out(PG_FUNCTION_ARGS) { PG_RETURN_CSTRING(psprintf("(%d)", PG_GETARG_INT32(0))); }
 
 /* A text as a wkt, or a wkt under another modifier: more digits than that has places for are refused. */
 PG_FUNCTION_INFO_V1(pg_wkt_cast);
@@ -116,7 +110,8 @@ Datum pg_wkt_support(PG_FUNCTION_ARGS) {
         Node *value = linitial(given), *modifier = lsecond(given);
         if (IsA(modifier, Const) && !((Const *)modifier)->constisnull) {
             int32 from = exprTypmod(value), to = DatumGetInt32(((Const *)modifier)->constvalue);
-            if (to == MOST_PLACES || (from >= 0 && from <= to && to < MOST_PLACES)) answer = relabel_to_typmod(value, to);
+            if (to == MOST_PLACES || (from >= 0 && from <= to && to < MOST_PLACES))
+                answer = relabel_to_typmod(value, to);
         }
     }
     PG_RETURN_POINTER(answer);

@@ -1,10 +1,13 @@
-"""Builds the package with nothing but Python and a C compiler: PEP 517's build_wheel and build_sdist, PEP 660's build_editable.
+"""Builds the package with nothing but Python and a C compiler: PEP 517's build_wheel and build_sdist, PEP 660's
+build_editable.
 
-A wheel has wkt/, the shared library, the command `wkt`, and `wkt/_fast.abi3.so` where the Python that builds is 3.11 or later
-and has its headers: it then serves 3.11 and each later Python. WKT_FAST=0 makes one for Python 3.8 on, which calls the library
-by ctypes alone; WKT_FAST=1 fails where the fast module can't be compiled. WKT_LIB_DIR names the folder with libwkt.so, and
-with the command `wkt` if it has one; without it capi/build.sh and dist/Makefile make both of the proved objects, in a second
-and without the prover. CC names the C compiler; CFLAGS and LDFLAGS are those of the fast module and of the command.
+A wheel has wkt/, the shared library, the command `wkt`, and `wkt/_fast.abi3.so` where the Python that builds is 3.11 or
+later
+and has its headers: it then serves 3.11 and each later Python. WKT_FAST=0 makes one for Python 3.8 on, which calls the
+library by ctypes alone; WKT_FAST=1 fails where the fast module can't be compiled. WKT_LIB_DIR names the folder with
+libwkt.so, and with the command `wkt` if it has one; without it capi/build.sh and dist/Makefile make both of the proved
+objects, in a second and without the prover. CC names the C compiler; CFLAGS and LDFLAGS are those of the fast module
+and of the command.
 
 A source package has the proved objects and the C files in native/, so it needs neither a clone nor the prover.
 The bytes of a package depend on its files alone; its times are SOURCE_DATE_EPOCH, or 1980.
@@ -28,7 +31,8 @@ import time
 import zipfile
 
 here = os.path.dirname(os.path.abspath(__file__))
-# Where capi/, dist/ and include/ are: in a source package, or in a clone. pip before 21.3 builds in a copy of this folder.
+# Where capi/, dist/ and include/ are: in a source package, or in a clone. pip before 21.3 builds in a copy of this
+# folder.
 top = os.path.join(here, "native")
 if not os.path.exists(top):
     top = os.path.join(here, os.pardir)
@@ -38,10 +42,10 @@ with open(os.path.join(here, "wkt", "_version.py"), encoding="utf-8") as file:
     VERSION = re.search('"(.*)"', file.read()).group(1)
 INFO = "%s-%s.dist-info/" % (NAME, VERSION)
 # What a source package has of the rest of a clone.
-NATIVE = ("include/wkt.h", "capi/build.sh", "capi/*.c", "capi/*.h", "dist/Makefile", "dist/NOTICE", "dist/objects.sh", "dist/system.c",
-          "dist/*/*.xz", "dist/*/PROVENANCE", "LICENSE-*")  # fmt: skip
-OWN = ("pyproject.toml", "backend.py", "README.md", "DASK.md", "show.py", "wkt/*.py", "wkt/*.pyi", "wkt/py.typed", "src/*.[ch]",
-       "examples/*.py", "tests/*.py", "tests/*.[ch]", "tests/*.sh")  # fmt: skip
+NATIVE = ("include/wkt.h", "capi/build.sh", "capi/*.c", "capi/*.h", "dist/Makefile", "dist/NOTICE", "dist/objects.sh",
+          "dist/system.c", "dist/*/*.xz", "dist/*/PROVENANCE", "LICENSE-*")  # fmt: skip
+OWN = ("pyproject.toml", "backend.py", "README.md", "DASK.md", "show.py", "wkt/*.py", "wkt/*.pyi", "wkt/py.typed",
+       "src/*.[ch]", "examples/*.py", "tests/*.py", "tests/*.[ch]", "tests/*.sh")  # fmt: skip
 # The command, as pip puts it beside Python: it becomes the proved program.
 SCRIPT = b'''#!python
 """The command wkt: the proved program of the package wkt."""
@@ -66,8 +70,10 @@ def _library(folder):
             return named
         raise SystemExit("WKT_LIB_DIR: there is no libwkt.so in %s: capi/build.sh in a clone of wkt makes it" % named)
     if not os.path.exists(build):
-        raise SystemExit("this package needs libwkt.so: run capi/build.sh in a clone of wkt, and name its folder, capi/out, by "
-                         "WKT_LIB_DIR (pip before 21.3 builds in a copy of this folder)")
+        raise SystemExit(
+            "this package needs libwkt.so: run capi/build.sh in a clone of wkt, and name its folder, capi/out, by "
+            "WKT_LIB_DIR (pip before 21.3 builds in a copy of this folder)"
+        )
     # Its own words say what is lacking.
     if subprocess.run([build, folder], check=False).returncode:
         raise SystemExit("capi/build.sh fails, which makes the library of this package")
@@ -80,7 +86,10 @@ def _command(folder, library):
     if os.path.exists(made):
         return made
     if not os.path.exists(os.path.join(top, "dist", "Makefile")):
-        raise SystemExit("this package needs the command wkt: make -C dist in a clone of wkt makes it, in the folder that WKT_LIB_DIR names")
+        raise SystemExit(
+            "this package needs the command wkt: make -C dist in a clone of wkt makes it, "
+            "in the folder that WKT_LIB_DIR names"
+        )
     out = os.path.join(folder, "command")
     made = os.path.join(out, "wkt")
     if subprocess.run(["make", "-s", "-C", os.path.join(top, "dist"), "O=" + out, made], check=False).returncode:
@@ -113,7 +122,9 @@ def _compiled(folder):
     made = os.path.join(folder, "_fast.abi3.so")
     words = ["-O2", "-fPIC", "-fvisibility=hidden", "-fstack-protector-strong", *_flags("CFLAGS"), "-I", headers]
     sources = sorted(glob.glob(os.path.join(here, "src", "*.c")))
-    subprocess.run([*compiler, *words, *sources, "-shared", "-Wl,-z,relro,-z,now", *_flags("LDFLAGS"), "-o", made], check=True)
+    subprocess.run(
+        [*compiler, *words, *sources, "-shared", "-Wl,-z,relro,-z,now", *_flags("LDFLAGS"), "-o", made], check=True
+    )
     return made
 
 
@@ -144,7 +155,7 @@ def _platform(built):
     named = os.environ.get("WKT_PLATFORM")
     if named or not asked or not platform.startswith("linux_"):
         return named or platform
-    return "manylinux_2_%d_%s" % (max(17, *asked), platform[len("linux_"):])
+    return "manylinux_2_%d_%s" % (max(17, *asked), platform[len("linux_") :])
 
 
 def _parts(built, library):
@@ -155,13 +166,21 @@ def _parts(built, library):
     licence = [{"expression": "MIT OR Apache-2.0"}]
     parts = []
     for name, path in sorted(built.items()):
-        part = {"type": "application" if name == "_command" else "library", "name": name, "version": VERSION, "licenses": licence,
-                "hashes": [{"alg": "SHA-256", "content": hashlib.sha256(_bytes(path)).hexdigest()}]}
+        part = {
+            "type": "application" if name == "_command" else "library",
+            "name": name,
+            "version": VERSION,
+            "licenses": licence,
+            "hashes": [{"alg": "SHA-256", "content": hashlib.sha256(_bytes(path)).hexdigest()}],
+        }
         if name == "libwkt.so":
             part["properties"] = [{"name": "wkt:from", "value": made_of}]
         parts.append(part)
     whole = {"type": "library", "name": "wkt-proved", "version": VERSION, "licenses": licence}
-    return json.dumps({"bomFormat": "CycloneDX", "specVersion": "1.5", "metadata": {"component": whole}, "components": parts}, indent=1)
+    return json.dumps(
+        {"bomFormat": "CycloneDX", "specVersion": "1.5", "metadata": {"component": whole}, "components": parts},
+        indent=1,
+    )
 
 
 def _licences():
@@ -170,7 +189,10 @@ def _licences():
 
 
 def _about():
-    head = "Metadata-Version: 2.4\nName: wkt-proved\nVersion: %s\nSummary: %s\nLicense-Expression: MIT OR Apache-2.0\n" % (VERSION, SUMMARY)
+    head = (
+        "Metadata-Version: 2.4\nName: wkt-proved\nVersion: %s\nSummary: %s\nLicense-Expression: MIT OR Apache-2.0\n"
+        % (VERSION, SUMMARY)
+    )
     head += "".join("License-File: %s\n" % os.path.basename(it) for it in _licences())
     head += "Requires-Python: >=3.8\nClassifier: Typing :: Typed\nClassifier: Operating System :: POSIX :: Linux\n"
     head += "Provides-Extra: columns\nRequires-Dist: numpy; extra == 'columns'\n"
@@ -228,7 +250,7 @@ def build_wheel(wheel_directory, config_settings=None, metadata_directory=None):
 
 
 def build_editable(wheel_directory, config_settings=None, metadata_directory=None):
-    """A wheel that names this folder. What is compiled is put beside the sources: after an edit of them, install it again."""
+    """A wheel that names this folder, with what is compiled beside the sources: after an edit of C, install again."""
     with tempfile.TemporaryDirectory() as folder:
         built, library = _built(folder)
         for name, path in built.items():
@@ -241,7 +263,9 @@ def build_editable(wheel_directory, config_settings=None, metadata_directory=Non
 
 def _own(front=""):
     """The files of this folder that a source package has."""
-    return [path for pattern in OWN if pattern.startswith(front) for path in sorted(glob.glob(os.path.join(here, pattern)))]
+    return [
+        path for pattern in OWN if pattern.startswith(front) for path in sorted(glob.glob(os.path.join(here, pattern)))
+    ]
 
 
 def build_sdist(sdist_directory, config_settings=None):

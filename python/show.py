@@ -3,7 +3,7 @@ import os
 import sys
 
 sys.path.insert(0, os.path.dirname(os.path.abspath(__file__)))
-import wkt
+import wkt  # noqa: E402 (found by the line above)
 
 print(wkt.canonical("point ( 10 -20.50 )"))
 print(wkt.same("POINT(1 2)", "point (1.0 +2)"))

@@ -7,7 +7,7 @@ cd "$(dirname "$0")" || exit 1
 fail() { echo "rust: $*"; exit 1; }
 dir=$(mktemp -d)
 trap 'rm -rf "$dir"' EXIT
-../tests/cargo_home.sh "$dir/home" || fail "no crates"
+../tests/lib/cargo_home.sh "$dir/home" || fail "no crates"
 export CARGO_HOME=$dir/home WKT_LIB_DIR=${WKT_LIB_DIR:-$PWD/../capi/out}
 
 # run WORDS COMMAND..: says the words, and how many tests passed

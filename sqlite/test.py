@@ -48,21 +48,47 @@ same(db.execute("select count(*) from t").fetchone(), (1,))
 with open(library + "/wkt.h", encoding="utf-8") as header:
     said = header.read()
 same(ask(db, "wkt_version()"), re.search('#define WKT_VERSION "(.*)"', said)[1])
-for text, places, key in (("point(1 2.0)", 18, "POINT(1 2)"), ("POINT(1)", 18, None), ("POINT(1.5 2)", 0, None), ("POINT(1.0 2)", 0, "POINT(1 2)"),
-                          ("POINT(1 2) x", 6, None), ("", 6, None), (None, 6, None), ("POINT(1 2)", None, None),
-                          ("POINT(1 2)", 19, "error: places must be between 0 and 18")):
+for text, places, key in (
+    ("point(1 2.0)", 18, "POINT(1 2)"),
+    ("POINT(1)", 18, None),
+    ("POINT(1.5 2)", 0, None),
+    ("POINT(1.0 2)", 0, "POINT(1 2)"),
+    ("POINT(1 2) x", 6, None),
+    ("", 6, None),
+    (None, 6, None),
+    ("POINT(1 2)", None, None),
+    ("POINT(1 2)", 19, "error: places must be between 0 and 18"),
+):
     same(ask(db, "wkt_or_null(?, ?)", text, places), key)
 same(ask(db, "wkt_or_null(?)", "POINT(1"), None)
-db.execute("create table short as with n(i) as (select 0 union all select i + 1 from n where i < 199) select i, 'point(' || (i % 10) || '.0 1)' as t from n")
+db.execute(
+    "create table short as with n(i) as (select 0 union all select i + 1 from n where i < 199) "
+    "select i, 'point(' || (i % 10) || '.0 1)' as t from n"
+)
 for call in "wkt_same(t, ?)", "wkt_same(?, t)":
     same(db.execute(f"select count(*) from short where {call}", ("POINT ( 3 1 )",)).fetchone(), (20,))
-    same(db.execute(f"select group_concat(wkt_same('POINT(' || i || ' 1)', 'POINT(3 1)'), '') from short where i < 10").fetchone(), ("0001000000",))
+    same(
+        db.execute(
+            "select group_concat(wkt_same('POINT(' || i || ' 1)', 'POINT(3 1)'), '') from short where i < 10"
+        ).fetchone(),
+        ("0001000000",),
+    )
 same(db.execute("select count(*) from short a, short b where a.i < 10 and wkt_same(a.t, b.t)").fetchone(), (200,))
 same(ask(db, "group_concat(wkt_same('POINT(1.5 2)', 'POINT(1.50 2)', 3 - i), '') from short where i < 3"), "111")
 for order in "i", "-i":
-    same(ask(db, "max(wkt_same('POINT(1.5 2)', 'POINT(1.50 2)', i)) from (select i from short where i < 3 order by %s)" % order),
-         "error: invalid well-known text: at character 7: a first number was expected (numbers have at most 0 places here)")
-same(ask(db, "max(wkt_same(t, 'POINT(1')) from short"), "error: invalid well-known text: at character 8: a second number was expected")
+    same(
+        ask(
+            db,
+            "max(wkt_same('POINT(1.5 2)', 'POINT(1.50 2)', i)) from (select i from short where i < 3 order by %s)"
+            % order,
+        ),
+        "error: invalid well-known text: at character 7: a first number was expected "
+        "(numbers have at most 0 places here)",
+    )
+same(
+    ask(db, "max(wkt_same(t, 'POINT(1')) from short"),
+    "error: invalid well-known text: at character 8: a second number was expected",
+)
 long = "LINESTRING(" + "12.345678 34.567891," * 100_000 + "0 0)"
 
 
@@ -76,7 +102,9 @@ each = seconds("select count(*) from short where wkt_reads(?1 || t)")
 for call in "wkt_same(t, ?1)", "wkt_same(?1, t)":
     once = seconds(f"select count(*) from short where {call}")
     assert once * 5 < each, (call, once, each)
-print(f"Python: wkt_same of a constant of 2 MB and 200 rows takes {once:.2f} s, and {each:.2f} s where each row's is read")
+print(
+    f"Python: wkt_same of a constant of 2 MB and 200 rows takes {once:.2f} s, and {each:.2f} s where each row's is read"
+)
 
 # A database in UTF-16, and one in a file that is opened again.
 for encoding in ("UTF-16le", "UTF-16be"):
@@ -98,18 +126,21 @@ with tempfile.TemporaryDirectory() as there:
 
 # The tables of keys.
 rows = 0
-with open(repository + "/tests/key_rules.tsv", encoding="utf-8", newline="\n") as table:
+with open(repository + "/tests/data/key_rules.tsv", encoding="utf-8", newline="\n") as table:
     for row in table:
         if not row.startswith("#"):
             places, text, key = row.rstrip("\n").split("\t")
             for escape, character in ((r"\n", "\n"), (r"\r", "\r"), (r"\t", "\t"), (r"\\", "\\")):
                 text = text.replace(escape, character)
             answer = ask(db, "wkt_canonical(?, ?)", text, int(places))
-            assert answer == key or key == "refused" and answer.startswith("error: invalid well-known text"), (text, answer)
+            assert answer == key or key == "refused" and answer.startswith("error: invalid well-known text"), (
+                text,
+                answer,
+            )
             same(ask(db, "wkt_reads(?, ?)", text, int(places)), int(key != "refused"))
             rows += 1
 assert rows > 40
-with open(repository + "/tests/keys.tsv", encoding="utf-8", newline="\n") as table:
+with open(repository + "/tests/data/keys.tsv", encoding="utf-8", newline="\n") as table:
     for row in table:
         if not row.startswith("#"):
             text, *keys = row.rstrip("\n").split("\t")
@@ -117,8 +148,11 @@ with open(repository + "/tests/keys.tsv", encoding="utf-8", newline="\n") as tab
                 answer = ask(db, "wkt_canonical(?, ?)", text, places)
                 if answer != key:
                     # that table's keys are of the front of a text
-                    assert answer.endswith("the end of the text was expected") or key == "refused" and answer.startswith(
-                        "error: invalid well-known text"), (text, answer)
+                    assert (
+                        answer.endswith("the end of the text was expected")
+                        or key == "refused"
+                        and answer.startswith("error: invalid well-known text")
+                    ), (text, answer)
                 rows += 1
 print("Python:", rows, "keys")
 

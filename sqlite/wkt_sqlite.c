@@ -37,7 +37,8 @@ static int some_null(int count, sqlite3_value **values) {
 /* The argument `at` as places, or 18 where it isn't given; what is no whole number from 0 to 18 is one too many. */
 static uint32_t places_of(int count, sqlite3_value **values, int at) {
     sqlite3_int64 places = MOST_PLACES;
-    if (count > at) places = sqlite3_value_numeric_type(values[at]) == SQLITE_INTEGER ? sqlite3_value_int64(values[at]) : -1;
+    if (count > at)
+        places = sqlite3_value_numeric_type(values[at]) == SQLITE_INTEGER ? sqlite3_value_int64(values[at]) : -1;
     return places < 0 || places > MOST_PLACES ? MOST_PLACES + 1 : (uint32_t)places;
 }
 
@@ -57,7 +58,8 @@ static wkt_status canonical_of(sqlite3_value *value, uint32_t places, Question *
     if (status != WKT_OK) return status;
     room = out ? 2 * asked->length + 16 : 0;
     if (out && (*out = sqlite3_malloc64(room)) == NULL) return WKT_NO_MEMORY;
-    status = wkt_canonical(asked->text, asked->length, places | WKT_WHOLE, out ? (uint8_t *)*out : NULL, room, length, &end);
+    status =
+        wkt_canonical(asked->text, asked->length, places | WKT_WHOLE, out ? (uint8_t *)*out : NULL, room, length, &end);
     if (status == WKT_TOO_SMALL && !out) status = WKT_OK;
     if (status != WKT_OK && out) sqlite3_free(*out);
     return status;
@@ -68,7 +70,8 @@ static const char *expected_of(const Question *asked, size_t *start) {
     static const char *const expected[] = WKT_EXPECTED;
     uint32_t message, what;
     size_t stop;
-    wkt_status status = wkt_explain(asked->text, asked->length, asked->places | WKT_WHOLE, &message, start, &stop, &what);
+    wkt_status status =
+        wkt_explain(asked->text, asked->length, asked->places | WKT_WHOLE, &message, start, &stop, &what);
     return status == WKT_OK ? expected[what] : status == WKT_NOT_WHOLE ? "the end of the text" : NULL;
 }
 
@@ -113,8 +116,8 @@ static void refuse(sqlite3_context *context, const Question *asked, wkt_status s
     }
     if (wkt_hint(asked->text, asked->length, asked->places, &hint) != WKT_OK) hint = WKT_HINT_NONE;
     why = sqlite3_mprintf(hints[hint], asked->places);
-    fail_with(context, why ? sqlite3_mprintf(hint ? "invalid well-known text: at character %llu: %s was expected (%s)" :
-                                                    "invalid well-known text: at character %llu: %s was expected",
+    fail_with(context, why ? sqlite3_mprintf(hint ? "invalid well-known text: at character %llu: %s was expected (%s)"
+                                                  : "invalid well-known text: at character %llu: %s was expected",
                                              (sqlite3_uint64)characters(asked->text, start) + 1, expected, why)
                            : NULL);
     sqlite3_free(why);
@@ -195,7 +198,8 @@ static void same(sqlite3_context *context, int count, sqlite3_value **values) {
         keys[i] = made[i];
     }
     if (status == WKT_OK)
-        sqlite3_result_int(context, keys[0]->length == keys[1]->length && memcmp(keys[0]->text, keys[1]->text, keys[0]->length) == 0);
+        sqlite3_result_int(context, keys[0]->length == keys[1]->length &&
+                                        memcmp(keys[0]->text, keys[1]->text, keys[0]->length) == 0);
     else
         refuse(context, &asked, status);
     /* At last, since one that isn't kept is freed here. */
@@ -259,7 +263,8 @@ static void explain(sqlite3_context *context, int count, sqlite3_value **values)
     said = sqlite3_str_new(sqlite3_context_db_handle(context));
     if (from > 0 && asked.text[from - 1] != '\n') sqlite3_str_appendall(said, "..");
     sqlite3_str_append(said, (const char *)asked.text + from, (int)(to - from));
-    if (to < asked.length && asked.text[to] && asked.text[to] != '\n' && asked.text[to] != '\r') sqlite3_str_appendall(said, "..");
+    if (to < asked.length && asked.text[to] && asked.text[to] != '\n' && asked.text[to] != '\r')
+        sqlite3_str_appendall(said, "..");
     sqlite3_str_appendchar(said, 1, '\n');
     if (from > 0 && asked.text[from - 1] != '\n') sqlite3_str_appendall(said, "  ");
     for (i = from; i < start; i++)
@@ -285,7 +290,9 @@ int sqlite3_wkt_init(sqlite3 *db, char **error, const sqlite3_api_routines *api)
     int status = SQLITE_OK;
     SQLITE_EXTENSION_INIT2(api);
     if (!wkt_supported()) {
-        if (error) *error = sqlite3_mprintf("wkt: the processor is not supported: the library is built for x86-64 processors with SSE4.2 and POPCNT");
+        if (error)
+            *error = sqlite3_mprintf("wkt: the processor is not supported: the library is built for x86-64 processors "
+                                     "with SSE4.2 and POPCNT");
         return SQLITE_ERROR;
     }
     for (size_t i = 0; status == SQLITE_OK && i < sizeof functions / sizeof *functions; i++)

@@ -20,6 +20,7 @@ there() {
         types) command -v tsc ;;
         page) command -v chromium && command -v chromedriver && module selenium ;;
         fuzz) command -v clang && command -v ld.lld ;;
+        flake8 | shellcheck | clang-format) command -v "$1" ;;
     esac > /dev/null 2>&1
 }
 # module NAME: the system's Python has it, for which the packages are
@@ -47,6 +48,9 @@ packages=(
     "types node-typescript"
     "page chromium chromium-driver python3-selenium"
     "fuzz clang lld libclang-rt-dev"
+    "flake8 flake8"
+    "shellcheck shellcheck"
+    "clang-format clang-format"
 )
 
 lacking=() wanted=()

@@ -29,6 +29,7 @@ built() {
 built "$work/wkt.wasm"
 [ -z "$twice" ] || { built "$work/again.wasm" && cmp "$work/wkt.wasm" "$work/again.wasm" || stop "a second build gave other bytes"; }
 # What stands in it: no import, and the functions that the crate exports.
+mapfile -t names < <(sed -n 's/^pub extern "C" fn \(wkt_[a-z_]*\)(.*/\1/p' crates/wkt_web/src/*.rt)
 node -e '
     const module = new WebAssembly.Module(require("fs").readFileSync(process.argv[1]));
     const names = WebAssembly.Module.exports(module).map((one) => one.name);
@@ -37,7 +38,7 @@ node -e '
         console.error(`it has an import, or no ${wanted}`);
         process.exit(1);
     }
-' "$work/wkt.wasm" memory __heap_base $(sed -n 's/^pub extern "C" fn \(wkt_[a-z_]*\)(.*/\1/p' crates/wkt_web/src/*.rt) || stop "the module isn't whole"
+' "$work/wkt.wasm" memory __heap_base "${names[@]}" || stop "the module isn't whole"
 
 if [ "$1" != --dist ]; then
     cp "$work/wkt.wasm" "$1"

@@ -3,12 +3,14 @@
 
     web/make.py [--check] [--module FILE] [--javascript FOLDER] [PAGE]
 
-FILE is dist/wasm/wkt.wasm, FOLDER javascript/src, and PAGE dist/web/index.html where they are left out. The same files and
-the same zlib give the same bytes. --check makes nothing: it says whether PAGE is the page of these files, by any zlib.
+FILE is dist/wasm/wkt.wasm, FOLDER javascript/src, and PAGE dist/web/index.html where they are left out. The same files
+and the same zlib give the same bytes. --check makes nothing: it says whether PAGE is the page of these files, by any
+zlib.
 
-The modules of JavaScript are joined: each becomes a function that is called once and returns what the module exports. So
-only these forms are understood, each at the beginning of a line: `import { a, b as c } from './x.js';`,
-`export { a, b as c };`, the same with `from './x.js'`, and `export` before function, async function, class, const and let.
+The modules of JavaScript are joined: each becomes a function that is called once and returns what the module exports.
+So only these forms are understood, each at the beginning of a line: `import { a, b as c } from './x.js';`,
+`export { a, b as c };`, the same with `from './x.js'`, and `export` before function, async function, class, const and
+let.
 """
 import argparse
 import base64
@@ -49,11 +51,19 @@ class Modules:
     def path(self, importer, name):
         """The path of an imported module. The package may stand in another folder."""
         path = os.path.normpath(os.path.join(os.path.dirname(importer), name))
-        return os.path.join(self.package, os.path.relpath(path, TOP + "/javascript/src")) if path.startswith(TOP + "/javascript/src/") else path
+        return (
+            os.path.join(self.package, os.path.relpath(path, TOP + "/javascript/src"))
+            if path.startswith(TOP + "/javascript/src/")
+            else path
+        )
 
     def name(self, path):
         """What the module is called in the page."""
-        short = os.path.relpath(path, self.package) if path.startswith(self.package + "/") else "page/" + os.path.relpath(path, HERE)
+        short = (
+            os.path.relpath(path, self.package)
+            if path.startswith(self.package + "/")
+            else "page/" + os.path.relpath(path, HERE)
+        )
         return re.sub(r"\W", "_", short.removesuffix(".js")) + "_js"
 
     def load(self, path, wanted):
@@ -133,7 +143,8 @@ def made(module, package):
     }
     scripts = " ".join(sum_of(parts[name]) for name in ("first", "core", "main"))
     parts["policy"] = (
-        f"default-src 'none'; script-src {scripts} 'wasm-unsafe-eval'; worker-src blob:; style-src {sum_of(parts['style'])}; "
+        f"default-src 'none'; script-src {scripts} 'wasm-unsafe-eval'; worker-src blob:; "
+        f"style-src {sum_of(parts['style'])}; "
         "img-src data:; connect-src 'none'; base-uri 'none'; form-action 'none'"
     )
     with open(HERE + "/page.html", encoding="utf-8") as file:

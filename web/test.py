@@ -1,9 +1,9 @@
 #!/usr/bin/python3
 """Tests the page in headless Chromium: web/test.py [--size MB] [--shots FOLDER] [PAGE]
 
-PAGE is dist/web/index.html where it is left out. It is opened without a server, but for the test that looks at a server's
-log. MB is the size of the large file, 8 where it is left out. FOLDER gets pictures of the page, light and dark, wide and
-narrow. It needs the Debian packages chromium, chromium-driver and python3-selenium.
+PAGE is dist/web/index.html where it is left out. It is opened without a server, but for the test that looks at a
+server's log. MB is the size of the large file, 8 where it is left out. FOLDER gets pictures of the page, light and
+dark, wide and narrow. It needs the Debian packages chromium, chromium-driver and python3-selenium.
 """
 import argparse
 import functools
@@ -23,7 +23,7 @@ from selenium.webdriver.common.keys import Keys
 from selenium.webdriver.support.ui import Select
 
 sys.path.insert(0, os.path.dirname(os.path.abspath(__file__)) + "/test")
-from chromium import CONTRAST, Page, Quiet
+from chromium import CONTRAST, Page, Quiet  # noqa: E402 (found by the line above)
 
 TOP = os.path.dirname(os.path.dirname(os.path.abspath(__file__)))
 ASKED = argparse.Namespace(page=TOP + "/dist/web/index.html", size=8, shots=None)
@@ -33,31 +33,55 @@ REFUSED = [
     ("POINT (1 2", "Refused at line 1, column 11", "The text ends there, and ) was expected.", "", ""),
     ("POINT(1)", "Refused at line 1, column 8", "It says ), and a second number was expected.", ")", ""),
     ("point z ( 1.50 -0 two )", "Refused at line 1, column 19", "It says two, and a number z was expected.", "two", ""),
-    ("POINT (7.1 50.73 64)", "Refused at line 1, column 18", "It says 64, and ) was expected.", "64", "a third number needs Z or M"),
-    ("SRID=4326;POINT(1 2)", "Refused at line 1, column 1", "It says SRID=4326;POINT, and a kind of geometry, such as POINT, was expected.", "SRID=4326;POINT", "ST_AsText leaves it out"),
-    ("POINT (1e-7 50)", "Refused at line 1, column 8", "It says 1e-7, and a first number", "1e-7", "exponents are not read"),
-    ("POINT(1 2) POINT(3 4)", "Refused at line 1, column 12", "It says POINT(3, and the end of the text was expected.", "POINT(3 4)", ""),
-    ("POLYGON ((0 0, 4 0,\n 2 4, 0 0)", "Refused at line 2, column 11", "The text ends there, and , or ) was expected.", "", ""),
-]
+    ("POINT (7.1 50.73 64)", "Refused at line 1, column 18", "It says 64, and ) was expected.", "64",
+     "a third number needs Z or M"),
+    ("SRID=4326;POINT(1 2)", "Refused at line 1, column 1",
+     "It says SRID=4326;POINT, and a kind of geometry, such as POINT, was expected.", "SRID=4326;POINT",
+     "ST_AsText leaves it out"),
+    ("POINT (1e-7 50)", "Refused at line 1, column 8", "It says 1e-7, and a first number", "1e-7",
+     "exponents are not read"),
+    ("POINT(1 2) POINT(3 4)", "Refused at line 1, column 12", "It says POINT(3, and the end of the text was expected.",
+     "POINT(3 4)", ""),
+    ("POLYGON ((0 0, 4 0,\n 2 4, 0 0)", "Refused at line 2, column 11", "The text ends there, and , or ) was expected.",
+     "", ""),
+]  # fmt: skip
 # A text; the head of the answer; its canonical text; facts, as words that stand there.
 ACCEPTED = [
-    ("point z ( 1.50 -0 2.0 ) ", "Accepted: Point with Z", "POINT Z(1.5 0 2)", ["Dimension XYZ", "Points 1", "x 1.5 to 1.5 · y 0 to 0 · z 2 to 2"]),
-    ("POLYGON((0 0,10 0,10 10,0 10,0 0),(2 2,2 4,4 4,4 2,2 2))", "Accepted: Polygon", "POLYGON((0 0,10 0,10 10,0 10,0 0),(2 2,2 4,4 4,4 2,2 2))",
+    ("point z ( 1.50 -0 2.0 ) ", "Accepted: Point with Z", "POINT Z(1.5 0 2)",
+     ["Dimension XYZ", "Points 1", "x 1.5 to 1.5 · y 0 to 0 · z 2 to 2"]),
+    ("POLYGON((0 0,10 0,10 10,0 10,0 0),(2 2,2 4,4 4,4 2,2 2))", "Accepted: Polygon",
+     "POLYGON((0 0,10 0,10 10,0 10,0 0),(2 2,2 4,4 4,4 2,2 2))",
      ["Points 10", "Polygons 1", "Rings 2", "x 0 to 10 · y 0 to 10"]),
-    ("GEOMETRYCOLLECTION (\nPOINT(1 2),\nPOINT(3 4)\n)", "Accepted: GeometryCollection", "GEOMETRYCOLLECTION(POINT(1 2),POINT(3 4))", ["Members 2", "Points 2"]),
+    ("GEOMETRYCOLLECTION (\nPOINT(1 2),\nPOINT(3 4)\n)", "Accepted: GeometryCollection",
+     "GEOMETRYCOLLECTION(POINT(1 2),POINT(3 4))", ["Members 2", "Points 2"]),
     ("linestring m empty", "Accepted: LineString with M", "LINESTRING M EMPTY", ["Points 0", "Empty parts 1"]),
-    ("POINT(0.1 0.100000000000000001)", "Accepted: Point", "POINT(0.1 0.100000000000000001)", ["y 0.100000000000000001 to 0.100000000000000001"]),
-]
+    ("POINT(0.1 0.100000000000000001)", "Accepted: Point", "POINT(0.1 0.100000000000000001)",
+     ["y 0.100000000000000001 to 0.100000000000000001"]),
+]  # fmt: skip
 # What a page could send or load, and the directive of the policy that refuses it.
 LEAVING = {
-    "connect-src": ["fetch('http://127.0.0.1:9/a').catch(() => {})", "new XMLHttpRequest().open('GET', 'http://127.0.0.1:9/b'); x = new XMLHttpRequest(); x.open('GET', 'http://127.0.0.1:9/b'); x.send()",
-                    "navigator.sendBeacon('http://127.0.0.1:9/c', 'x')", "new WebSocket('ws://127.0.0.1:9/d')", "new EventSource('http://127.0.0.1:9/e')"],
+    "connect-src": [
+        "fetch('http://127.0.0.1:9/a').catch(() => {})",
+        "new XMLHttpRequest().open('GET', 'http://127.0.0.1:9/b'); x = new XMLHttpRequest();"
+        " x.open('GET', 'http://127.0.0.1:9/b'); x.send()",
+        "navigator.sendBeacon('http://127.0.0.1:9/c', 'x')",
+        "new WebSocket('ws://127.0.0.1:9/d')",
+        "new EventSource('http://127.0.0.1:9/e')",
+    ],
     "img-src": ["new Image().src = 'http://127.0.0.1:9/f'"],
-    "script-src-elem": ["s = document.createElement('script'); s.src = 'http://127.0.0.1:9/g'; document.head.append(s)", "s = document.createElement('script'); s.textContent = '1'; document.head.append(s)"],
-    "style-src-elem": ["s = document.createElement('link'); s.rel = 'stylesheet'; s.href = 'http://127.0.0.1:9/h'; document.head.append(s)"],
+    "script-src-elem": [
+        "s = document.createElement('script'); s.src = 'http://127.0.0.1:9/g'; document.head.append(s)",
+        "s = document.createElement('script'); s.textContent = '1'; document.head.append(s)",
+    ],
+    "style-src-elem": [
+        "s = document.createElement('link'); s.rel = 'stylesheet'; s.href = 'http://127.0.0.1:9/h';"
+        " document.head.append(s)"
+    ],
     "frame-src": ["s = document.createElement('iframe'); s.src = 'http://127.0.0.1:9/i'; document.body.append(s)"],
     "font-src": ["new FontFace('x', 'url(http://127.0.0.1:9/j)').load().catch(() => {})"],
-    "form-action": ["s = document.createElement('form'); s.action = 'http://127.0.0.1:9/k'; document.body.append(s); s.submit()"],
+    "form-action": [
+        "s = document.createElement('form'); s.action = 'http://127.0.0.1:9/k'; document.body.append(s); s.submit()"
+    ],
 }
 CONTROLS = "button, a[href], input, select, textarea, [tabindex='0'], progress, [role=region]"
 
@@ -105,7 +129,10 @@ class Tests(Page):
 
     def test_copies(self):
         self.open()
-        for button, copied in (("copy", "POINT(1 2)"), ("copy-link", self.script("return location.href.split('#')[0]") + "#wkt=point+%281.0+2%29")):
+        for button, copied in (
+            ("copy", "POINT(1 2)"),
+            ("copy-link", self.script("return location.href.split('#')[0]") + "#wkt=point+%281.0+2%29"),
+        ):
             with self.subTest(button):
                 self.type("point (1.0 2)")
                 self.by_id(button).click()
@@ -128,7 +155,15 @@ class Tests(Page):
         self.assertEqual("1 of 4 lines refused", self.said("say"))
         self.assertIn("Line 3, column 8.", self.said("why"))
         rows = [" ".join(row.text.split()) for row in self.driver.find_elements(By.CSS_SELECTOR, "#rows tr")]
-        self.assertEqual(["1 Point 1 POINT(1 2)", "2 Point = line 1 1 point (1.0 2)", "3 refused at 8 POINT(1)", "5 LineString 2 LINESTRING(0 0,4 4)"], rows)
+        self.assertEqual(
+            [
+                "1 Point 1 POINT(1 2)",
+                "2 Point = line 1 1 point (1.0 2)",
+                "3 refused at 8 POINT(1)",
+                "5 LineString 2 LINESTRING(0 0,4 4)",
+            ],
+            rows,
+        )
         self.assertEqual(3, len(self.driver.find_elements(By.CSS_SELECTOR, "#svg .g")))
         self.driver.find_elements(By.CSS_SELECTOR, "#rows tr")[3].click()
         self.assertEqual("LINESTRING(0 0,4 4)", self.said("out"))
@@ -137,8 +172,14 @@ class Tests(Page):
 
     def test_splitting(self):
         self.open()
-        for text, split, said in (("POINT(1 2)\nPOINT(3 4)", "auto", "All 2 lines accepted"), ("POINT(1\n2)", "auto", "Accepted: Point"), ("POINT\n(1 2)", "auto", "Accepted: Point"),
-                                  ("POLYGON((0 0,1 1\nPOINT(1 2)", "auto", "1 of 2 lines refused"), ("POINT(1\n2)", "lines", "2 of 2 lines refused"), ("POINT(1 2)\nPOINT(3 4)", "one", "Refused at line 2, column 1")):
+        for text, split, said in (
+            ("POINT(1 2)\nPOINT(3 4)", "auto", "All 2 lines accepted"),
+            ("POINT(1\n2)", "auto", "Accepted: Point"),
+            ("POINT\n(1 2)", "auto", "Accepted: Point"),
+            ("POLYGON((0 0,1 1\nPOINT(1 2)", "auto", "1 of 2 lines refused"),
+            ("POINT(1\n2)", "lines", "2 of 2 lines refused"),
+            ("POINT(1 2)\nPOINT(3 4)", "one", "Refused at line 2, column 1"),
+        ):
             with self.subTest(text + " " + split):
                 self.driver.find_element(By.CSS_SELECTOR, f"input[value={split}] + span").click()
                 self.paste(text)
@@ -162,7 +203,10 @@ class Tests(Page):
 
     def test_picture(self):
         self.open()
-        shape = "return [...document.querySelectorAll('#svg .area, #svg .edge')].map((p) => { const b = p.getBBox(); return [b.width, b.height, p.getAttribute('d'), p.getAttribute('fill-rule')] })"
+        shape = (
+            "return [...document.querySelectorAll('#svg .area, #svg .edge')].map((p) => { const b = p.getBBox();"
+            " return [b.width, b.height, p.getAttribute('d'), p.getAttribute('fill-rule')] })"
+        )
         self.paste("POLYGON((0 0,10 0,10 10,0 10,0 0),(2 2,2 4,4 4,4 2,2 2))")
         area = self.wait(lambda: [p for p in self.script(shape) if p[3]])[0]
         self.assertAlmostEqual(area[0], area[1], 1)  # to scale
@@ -196,7 +240,11 @@ class Tests(Page):
 
     def test_no_text(self):
         self.open()
-        for content, words in ((b"\xff\xfeP\0O\0", "It is UTF-16."), (b"\x1f\x8b\x08\0\xff", "It is compressed by gzip."), (b"POINT(1 2)\nPOINT(\xff 2)\n", "1 of 2 lines refused")):
+        for content, words in (
+            (b"\xff\xfeP\0O\0", "It is UTF-16."),
+            (b"\x1f\x8b\x08\0\xff", "It is compressed by gzip."),
+            (b"POINT(1 2)\nPOINT(\xff 2)\n", "1 of 2 lines refused"),
+        ):
             with self.subTest(words):
                 self.drop(self.file(content))
                 self.wait(lambda: words in self.said("verdict"))
@@ -210,8 +258,16 @@ class Tests(Page):
             n = len(lines)
             lines.append(f"point ({n}.50 -{n})")
             wanted.append(f"POINT({n}.5 -{n})" if n else "POINT(0.5 0)")
-        for at, line, answer in ((1000, "POINT (1 2", "refused"), (2000, "POINT Z(0.10 7 9)", "POINT Z(0.1 7 9)"), (3000, " POINT Z ( 0.1 7 9.0)", "POINT Z(0.1 7 9)"),
-                                 (4000, "", "refused"), (5000, "POINT(1 2) 3", "refused"), (6000, "point empty x", "refused"), (7000, "POINT(1e5 2)", "refused"), (8000, "LineString Empty ", "LINESTRING EMPTY")):
+        for at, line, answer in (
+            (1000, "POINT (1 2", "refused"),
+            (2000, "POINT Z(0.10 7 9)", "POINT Z(0.1 7 9)"),
+            (3000, " POINT Z ( 0.1 7 9.0)", "POINT Z(0.1 7 9)"),
+            (4000, "", "refused"),
+            (5000, "POINT(1 2) 3", "refused"),
+            (6000, "point empty x", "refused"),
+            (7000, "POINT(1e5 2)", "refused"),
+            (8000, "LineString Empty ", "LINESTRING EMPTY"),
+        ):
             lines.insert(at, line)
             wanted.insert(at, answer)
         self.drop(self.file("\r\n".join(lines)))
@@ -219,8 +275,18 @@ class Tests(Page):
         self.assertEqual(f"4 of {len(lines) - 1:,} lines refused", self.said("say"))
         self.assertEqual("1 line repeats the geometry of an earlier line.", self.said("why"))
         said = self.said("file-out")
-        for words in (f"{len(lines) - 5:,}\naccepted", "line 3,001 = line 2,001", "line 1,001, column 11: ) was expected\nPOINT (1 2", "line 5,001, column 12: the end of the text was expected, and not 3",
-                      "line 6,001, column 13: the end of the text was expected, and not x", "line 7,001, column 7: a first number", "z 9 to 9", f"Point {len(lines) - 6:,}", "LineString 1", "1\nblank"):
+        for words in (
+            f"{len(lines) - 5:,}\naccepted",
+            "line 3,001 = line 2,001",
+            "line 1,001, column 11: ) was expected\nPOINT (1 2",
+            "line 5,001, column 12: the end of the text was expected, and not 3",
+            "line 6,001, column 13: the end of the text was expected, and not x",
+            "line 7,001, column 7: a first number",
+            "z 9 to 9",
+            f"Point {len(lines) - 6:,}",
+            "LineString 1",
+            "1\nblank",
+        ):
             self.assertIn(words, said)
         self.by_id("save").click()
         saved = os.path.join(self.folder.name, "texts.canonical.wkt")
@@ -260,12 +326,18 @@ class Tests(Page):
             while file.tell() < ASKED.size * 1e6:
                 file.write(made)
         # The longest time in which the page doesn't come to a timer.
-        self.script("window.longest = 0; let last = performance.now(); setInterval(() => { const now = performance.now(); window.longest = Math.max(window.longest, now - last); last = now }, 10)")
+        self.script(
+            "window.longest = 0; let last = performance.now(); setInterval(() => { const now = performance.now();"
+            " window.longest = Math.max(window.longest, now - last); last = now }, 10)"
+        )
         begun = time.time()
         self.drop(path)
         self.wait(lambda: "accepted" in self.said("say"), 120 + 10 * ASKED.size)
         seconds, longest = time.time() - begun, self.script("return window.longest")
-        print(f"{ASKED.size} MB: {seconds:.1f} s; the page was busy for {longest:.0f} ms at most; {self.said('told')}", file=sys.stderr)
+        print(
+            f"{ASKED.size} MB: {seconds:.1f} s; the page was busy for {longest:.0f} ms at most; {self.said('told')}",
+            file=sys.stderr,
+        )
         # Far above what it is (0.1 to 0.8 s): other work on the machine counts, too.
         self.assertLess(longest, 15000)
         self.drop(path)
@@ -275,7 +347,9 @@ class Tests(Page):
 
     # ---- Nothing leaves; no errors.
     def test_nothing_leaves(self):
-        server = http.server.ThreadingHTTPServer(("127.0.0.1", 0), functools.partial(Quiet, directory=os.path.dirname(os.path.abspath(ASKED.page))))
+        server = http.server.ThreadingHTTPServer(
+            ("127.0.0.1", 0), functools.partial(Quiet, directory=os.path.dirname(os.path.abspath(ASKED.page)))
+        )
         threading.Thread(target=server.serve_forever, daemon=True).start()
         self.driver.get_log("performance")
         address = f"http://127.0.0.1:{server.server_port}/{os.path.basename(ASKED.page)}"
@@ -285,10 +359,17 @@ class Tests(Page):
         self.wait(lambda: "accepted" in self.said("say"))
         self.assertEqual([], self.console())
         sent = [json.loads(line["message"])["message"] for line in self.driver.get_log("performance")]
-        urls = {event["params"]["request"]["url"].split("#")[0] for event in sent if event["method"] == "Network.requestWillBeSent"}
+        urls = {
+            event["params"]["request"]["url"].split("#")[0]
+            for event in sent
+            if event["method"] == "Network.requestWillBeSent"
+        }
         self.assertEqual({address}, {url for url in urls if not url.startswith(("blob:", "data:", "about:"))})
         self.assertEqual(1, len(Quiet.asked), Quiet.asked)
-        self.script("window.refused = []; addEventListener('securitypolicyviolation', (event) => window.refused.push(event.effectiveDirective))")
+        self.script(
+            "window.refused = [];"
+            "addEventListener('securitypolicyviolation', (event) => window.refused.push(event.effectiveDirective))"
+        )
         for directive, tries in LEAVING.items():
             for attempt in tries:
                 with self.subTest(attempt):
@@ -304,7 +385,9 @@ class Tests(Page):
     def test_no_console_error(self):
         self.open()
         self.console()
-        for option in self.script("return [...document.getElementById('examples').options].map((o) => o.value).filter(Boolean)"):
+        for option in self.script(
+            "return [...document.getElementById('examples').options].map((o) => o.value).filter(Boolean)"
+        ):
             self.choose_example(option)
         for name in ("in", "out-zoom", "fit", "copy", "copy-link", "theme", "clear"):
             self.by_id(name).click() if self.by_id(name).is_displayed() else None
@@ -326,7 +409,11 @@ class Tests(Page):
             for state in self.states():
                 if self.script("return document.documentElement.dataset.theme") != theme:
                     self.by_id("theme").click()
-                self.wait(lambda: self.script("return !document.getElementById('svg').getAnimations({ subtree: true }).length"))
+                self.wait(
+                    lambda: self.script(
+                        "return !document.getElementById('svg').getAnimations({ subtree: true }).length"
+                    )
+                )
                 with self.subTest(theme + state):
                     self.assertEqual([], self.script(CONTRAST))
         self.script("localStorage.clear()")
@@ -335,14 +422,23 @@ class Tests(Page):
         """Tab comes to every control in its order, and each shows that it has the focus."""
         for state in self.states():
             self.script("document.activeElement.blur(); window.scrollTo(0, 0)")
-            wanted = self.script("return [...document.querySelectorAll(arguments[0])].filter((e) => e.tabIndex >= 0 && !e.disabled && e.tagName !== 'PROGRESS'"
-                                 " && (e.checkVisibility()) && !(e.type === 'radio' && !e.checked)).length", CONTROLS)
+            wanted = self.script(
+                "return [...document.querySelectorAll(arguments[0])].filter((e) => e.tabIndex >= 0 && !e.disabled"
+                " && e.tagName !== 'PROGRESS' && (e.checkVisibility()) && !(e.type === 'radio' && !e.checked)).length",
+                CONTROLS,
+            )
             seen = []
             self.script("document.getElementById('skip').focus()")
             for _ in range(wanted - 1):
                 self.press(Keys.TAB)
-                self.assertTrue(self.script("const e = document.activeElement; const shown = e.type === 'radio' ? e.nextElementSibling : e; const s = getComputedStyle(shown);"
-                                            " return s.outlineStyle !== 'none' && parseFloat(s.outlineWidth) >= 2"), f"{state}: {self.driver.switch_to.active_element.get_attribute('outerHTML')[:80]}")
+                self.assertTrue(
+                    self.script(
+                        "const e = document.activeElement; const shown = e.type === 'radio' ? e.nextElementSibling : e;"
+                        " const s = getComputedStyle(shown);"
+                        " return s.outlineStyle !== 'none' && parseFloat(s.outlineWidth) >= 2"
+                    ),
+                    f"{state}: {self.driver.switch_to.active_element.get_attribute('outerHTML')[:80]}",
+                )
                 seen.append(self.driver.switch_to.active_element.id)
             self.assertEqual(wanted - 1, len(set(seen)), state)
 
@@ -350,9 +446,14 @@ class Tests(Page):
         self.open()
         self.press(Keys.TAB, Keys.ENTER)  # to the text
         self.assertEqual("text", self.driver.switch_to.active_element.get_attribute("id"))
-        webdriver.ActionChains(self.driver).key_down(Keys.CONTROL).send_keys("a").key_up(Keys.CONTROL).send_keys("POINT(1 2)\nPOINT(1)\nPOINT(3 4)\nPOINT(4,5)").perform()
+        webdriver.ActionChains(self.driver).key_down(Keys.CONTROL).send_keys("a").key_up(Keys.CONTROL).send_keys(
+            "POINT(1 2)\nPOINT(1)\nPOINT(3 4)\nPOINT(4,5)"
+        ).perform()
         self.assertEqual("2 of 4 lines refused", self.said("say"))
-        alt = lambda key: webdriver.ActionChains(self.driver).key_down(Keys.ALT).send_keys(key).key_up(Keys.ALT).perform()
+
+        def alt(key):
+            webdriver.ActionChains(self.driver).key_down(Keys.ALT).send_keys(key).key_up(Keys.ALT).perform()
+
         selected = "const t = document.getElementById('text'); return t.value.slice(t.selectionStart, t.selectionEnd)"
         alt("n")
         self.assertEqual((")", "Line 2, column 8."), (self.script(selected), self.said("why").split(" It")[0]))
@@ -362,7 +463,11 @@ class Tests(Page):
         before = self.script("return document.querySelector('#svg .dot').getAttribute('d')")
         for key in (Keys.ARROW_LEFT, "+", "0"):
             self.by_id("svg").send_keys(key)
-            now = self.wait(lambda before=before: (lambda d: d if d != before else "")(self.script("return document.querySelector('#svg .dot').getAttribute('d')")))
+            now = self.wait(
+                lambda before=before: (lambda d: d if d != before else "")(
+                    self.script("return document.querySelector('#svg .dot').getAttribute('d')")
+                )
+            )
             before = now
         self.driver.find_element(By.CSS_SELECTOR, "#rows [tabindex='0']").send_keys(Keys.ARROW_UP)
         self.assertEqual("POINT(3 4)", self.said("out"))
@@ -371,7 +476,9 @@ class Tests(Page):
         self.wait(lambda: self.said("copy") == "Copied")
         self.driver.find_element(By.CSS_SELECTOR, "#rows [tabindex='0']").send_keys("")
         self.press(Keys.ARROW_DOWN, Keys.ENTER)
-        self.assertEqual(("text", ","), (self.driver.switch_to.active_element.get_attribute("id"), self.script(selected)))
+        self.assertEqual(
+            ("text", ","), (self.driver.switch_to.active_element.get_attribute("id"), self.script(selected))
+        )
 
     # ---- Pictures for people.
     def test_shots(self):
@@ -381,17 +488,27 @@ class Tests(Page):
         self.script("localStorage.clear()")
         for theme in ("light", "dark"):
             for width in (1280, 400):
-                self.driver.execute_cdp_cmd("Emulation.setDeviceMetricsOverride", {"width": width, "height": 800, "deviceScaleFactor": 1, "mobile": False})
-                self.driver.execute_cdp_cmd("Emulation.setEmulatedMedia", {"features": [{"name": "prefers-color-scheme", "value": theme}]})
+                self.driver.execute_cdp_cmd(
+                    "Emulation.setDeviceMetricsOverride",
+                    {"width": width, "height": 800, "deviceScaleFactor": 1, "mobile": False},
+                )
+                self.driver.execute_cdp_cmd(
+                    "Emulation.setEmulatedMedia", {"features": [{"name": "prefers-color-scheme", "value": theme}]}
+                )
                 for state in self.states():
                     self.assertLessEqual(self.script("return document.documentElement.scrollWidth"), width)
                     if width == 400:
                         height = self.script("return document.documentElement.scrollHeight")
-                        self.driver.execute_cdp_cmd("Emulation.setDeviceMetricsOverride", {"width": width, "height": height, "deviceScaleFactor": 1, "mobile": False})
+                        self.driver.execute_cdp_cmd(
+                            "Emulation.setDeviceMetricsOverride",
+                            {"width": width, "height": height, "deviceScaleFactor": 1, "mobile": False},
+                        )
                     time.sleep(0.3)
                     self.driver.save_screenshot(f"{ASKED.shots}/{state}-{theme}-{width}.png")
         for command in ("clearDeviceMetricsOverride", "setEmulatedMedia"):
-            self.driver.execute_cdp_cmd("Emulation." + command, {"features": []} if command == "setEmulatedMedia" else {})
+            self.driver.execute_cdp_cmd(
+                "Emulation." + command, {"features": []} if command == "setEmulatedMedia" else {}
+            )
 
 
 if __name__ == "__main__":

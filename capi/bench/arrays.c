@@ -32,7 +32,8 @@ int main(int argc, char **argv) {
         for (size_t i = 0; i < rows; i++) {
             WktSizes sizes;
             /* With its line feed, which is white space behind the geometry. */
-            if (wkt_arrays(text + offsets[i], offsets[i + 1] - offsets[i], places, &sizes, numbers, most, rings, most, polygons, most))
+            if (wkt_arrays(text + offsets[i], offsets[i + 1] - offsets[i], places, &sizes, numbers, most, rings, most,
+                           polygons, most))
                 refused++;
             else
                 total += sizes.numbers;
@@ -41,8 +42,9 @@ int main(int argc, char **argv) {
         WktColumnSizes sizes;
         uint32_t *kinds = (uint32_t *)room(3 * rows + 1, sizeof *kinds);
         size_t *ends = (size_t *)room(3 * (rows + 1), sizeof *ends);
-        if (wkt_column_arrays(text, n, offsets, rows + 1, 0, 0, places, &sizes, kinds, rows, kinds + rows, rows, numbers, most, ends, rows + 1,
-                              rings, most, ends + rows + 1, rows + 1, polygons, most, ends + 2 * (rows + 1), rows + 1, kinds + 2 * rows, rows))
+        if (wkt_column_arrays(text, n, offsets, rows + 1, 0, 0, places, &sizes, kinds, rows, kinds + rows, rows,
+                              numbers, most, ends, rows + 1, rings, most, ends + rows + 1, rows + 1, polygons, most,
+                              ends + 2 * (rows + 1), rows + 1, kinds + 2 * rows, rows))
             return 1;
         for (size_t i = 0; i < rows; i++) refused += kinds[2 * rows + i] != 0;
         total = sizes.numbers;

@@ -42,7 +42,8 @@ int main(int argc, char **argv) {
         if (g) GEOSGeom_destroy_r(h, g);
         p = q + 1;
     }
-    fprintf(stderr, "GEOS %s: %zu lines, %zu bytes in, %zu out, %.3f s\n", GEOSversion(), lines, n, (size_t)(o - out), now() - t);
+    fprintf(stderr, "GEOS %s: %zu lines, %zu bytes in, %zu out, %.3f s\n", GEOSversion(), lines, n, (size_t)(o - out),
+            now() - t);
     fwrite(out, 1, o - out, stdout);
     return 0;
 }

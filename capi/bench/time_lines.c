@@ -38,6 +38,7 @@ int main(int argc, char **argv) {
             p = q + 1;
         }
     }
-    fprintf(stderr, "%s: %zu bytes in, %zu %s out, %.3f s\n", what, n, total, strcmp(what, "arrays") ? "bytes" : "numbers", now() - t);
+    fprintf(stderr, "%s: %zu bytes in, %zu %s out, %.3f s\n", what, n, total,
+            strcmp(what, "arrays") ? "bytes" : "numbers", now() - t);
     return 0;
 }

@@ -37,7 +37,8 @@ int main(void) {
     wkt_status s = wkt_arrays(TEXT(text), 6, &z, NULL, 0, NULL, 0, NULL, 0);
     printf("arrays: status %u, kind %u, %zu numbers, %zu and %zu offsets\n", s, z.kind, z.numbers, z.rings, z.polygons);
     int64_t *numbers = (int64_t *)malloc(z.numbers * sizeof *numbers);
-    size_t *rings = (size_t *)malloc(z.rings * sizeof *rings), *polygons = (size_t *)malloc(z.polygons * sizeof *polygons);
+    size_t *rings = (size_t *)malloc(z.rings * sizeof *rings),
+           *polygons = (size_t *)malloc(z.polygons * sizeof *polygons);
     s = wkt_arrays(TEXT(text), 6, &z, numbers, z.numbers, rings, z.rings, polygons, z.polygons);
     printf("status %u\nnumbers", s);
     for (size_t i = 0; i < z.numbers; i++) printf(" %" PRId64, numbers[i]);
@@ -61,6 +62,8 @@ int main(void) {
     const char *lines = "point(1 2.50)\nnonsense\nPOINT EMPTY\n";
     s = wkt_lines(TEXT(lines), 6, out, sizeof out, &needed);
     printf("lines: status %u\n%.*s", s, (int)needed, out);
-    free(numbers); free(rings); free(polygons);
+    free(numbers);
+    free(rings);
+    free(polygons);
     return 0;
 }

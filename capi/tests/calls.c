@@ -52,8 +52,8 @@ int untouched(void) {
 /* One call of each function over a text that takes memory. */
 static wkt_status call(int which) {
     /* More than 200 bytes: a shorter one takes no memory. */
-    static const char text[] = "MULTIPOLYGON(((0 0,4 0,0 4,0 0),(1 1,2 1,1 2,1 1)),EMPTY)                                                      "
-                               "                                                                                                      ";
+#define SPACES "                                                  "
+    static const char text[] = "MULTIPOLYGON(((0 0,4 0,0 4,0 0),(1 1,2 1,1 2,1 1)),EMPTY)" SPACES SPACES SPACES;
     static const int64_t numbers[6] = {1, 2, 3, 4, 5, 6};
     static const size_t rings[2] = {0, 3}, polygons[2] = {0, 1};
     uint8_t got_some[ROOM];
@@ -78,8 +78,8 @@ static wkt_status call(int which) {
     case 5: {
         static const uint32_t kinds[2] = {1, 1}, dimensions[2] = {0, 0};
         static const int64_t number_ends[3] = {0, 6, 6}, list_ends[3] = {0, 2, 2};
-        return wkt_column_from_arrays(kinds, 2, dimensions, 2, numbers, 6, number_ends, 3, rings, 2, list_ends, 3, polygons,
-                                      2, list_ends, 3, NULL, 0, 6, out, ROOM, ends, 3, statuses, 2, &needed);
+        return wkt_column_from_arrays(kinds, 2, dimensions, 2, numbers, 6, number_ends, 3, rings, 2, list_ends, 3,
+                                      polygons, 2, list_ends, 3, NULL, 0, 6, out, ROOM, ends, 3, statuses, 2, &needed);
     }
     case 7: {
         size_t taken, written;

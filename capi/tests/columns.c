@@ -8,8 +8,8 @@ static wkt_status column(const char *texts, const int64_t *offsets, const uint8_
     for (i = 0; i < ROWS; i++) ends[i] = -7, statuses[i] = 77;
     ends[ROWS] = -7;
     needed = 99;
-    return wkt_column_canonical(BYTES(texts), offsets, rows + 1, valid, valid ? (rows + 7) / 8 : 0, 18, out, room,
-                                ends, rows + 1, statuses, rows, &needed);
+    return wkt_column_canonical(BYTES(texts), offsets, rows + 1, valid, valid ? (rows + 7) / 8 : 0, 18, out, room, ends,
+                                rows + 1, statuses, rows, &needed);
 }
 
 static int column_untouched(void) {
@@ -44,7 +44,7 @@ static void columns(void) {
     CHECK(column(texts, many, valid, ROWS, ROOM) == WKT_OK && statuses[8] == WKT_NULL && statuses[9] == WKT_NULL);
     CHECK(column(texts, many, NULL, ROWS, ROOM) == WKT_OK && statuses[9] == WKT_OK && holds("POINT(1 2.5)"));
     column(texts, offsets, NULL, 7, ROOM);
-#define WITH(offset_count, bits, places, end_count, status_count)                                                     \
+#define WITH(offset_count, bits, places, end_count, status_count) \
     wkt_column_canonical(BYTES(texts), many, offset_count, valid, bits, places, out, ROOM, ends, end_count, statuses, \
                          status_count, &needed)
     CHECK(WITH(ROWS + 1, 2, 18, ROWS + 1, ROWS) == WKT_OK);
@@ -60,8 +60,8 @@ static void whole_rows(void) {
     static const int64_t offsets[5] = {0, 11, 23, 33, 44};
     size_t i;
     memset(out, '#', ROOM);
-    CHECK(wkt_column_canonical(BYTES("POINT(1 2)\nPOINT(1 2) xPOINT(3 4)POINT(3 4  )"), offsets, 5, NULL, 0, 6 | WKT_WHOLE, out, ROOM,
-                               ends, 5, statuses, 4, &needed) == WKT_OK);
+    CHECK(wkt_column_canonical(BYTES("POINT(1 2)\nPOINT(1 2) xPOINT(3 4)POINT(3 4  )"), offsets, 5, NULL, 0,
+                               6 | WKT_WHOLE, out, ROOM, ends, 5, statuses, 4, &needed) == WKT_OK);
     CHECK(statuses[0] == WKT_OK && statuses[1] == WKT_NOT_WHOLE && statuses[2] == WKT_OK);
     CHECK(ends[1] == 10 && ends[2] == 10 && ends[3] == 20 && !memcmp(out, "POINT(1 2)POINT(3 4)", 20));
     for (i = 0; i < ROWS; i++) statuses[i] = 77;
@@ -70,7 +70,7 @@ static void whole_rows(void) {
 static void arrays(void) {
     const char *text = "multipolygon(((0 0, 4 0, 0 4, 0 0),(1 1,2 1,1 2,1 1)),empty,((9 9,9.5 9,9 9.5,9 9))) x";
     const char *canon = "MULTIPOLYGON(((0 0,4 0,0 4,0 0),(1 1,2 1,1 2,1 1)),EMPTY,((9 9,9.5 9,9 9.5,9 9)))";
-    static const int64_t want[24] = {0,  0, 40, 0, 0,  40, 0,  0,  10, 10, 20, 10,
+    static const int64_t want[24] = {0,  0,  40, 0,  0,  40, 0,  0,  10, 10, 20, 10,
                                      10, 20, 10, 10, 90, 90, 95, 90, 90, 95, 90, 90};
     static const size_t want_rings[4] = {0, 4, 8, 12}, want_polygons[4] = {0, 2, 2, 3};
     int64_t numbers[24], few[2] = {7, 7}, point[2] = {15, -20};
@@ -108,7 +108,8 @@ static void arrays(void) {
     CHECK(!memcmp(&kept, &sizes, sizeof sizes));
     CHECK(wkt_arrays(BYTES("POINT(1 2)"), 6, &sizes, numbers, 24, rings, 4, polygons, 1) == WKT_TOO_SMALL);
     CHECK(sizes.polygons == 2);
-    CHECK(wkt_arrays(BYTES("POINT(1 2) x"), 6 | WKT_WHOLE, &sizes, numbers, 24, rings, 4, polygons, 4) == WKT_NOT_WHOLE);
+    CHECK(wkt_arrays(BYTES("POINT(1 2) x"), 6 | WKT_WHOLE, &sizes, numbers, 24, rings, 4, polygons, 4) ==
+          WKT_NOT_WHOLE);
     CHECK(sizes.end == 10);
     CHECK(wkt_arrays(BYTES("POINT(1 2) "), 6 | WKT_WHOLE, &sizes, numbers, 24, rings, 4, polygons, 4) == WKT_OK);
     /* Five numbers are none of two coordinates of x and y. */
@@ -126,7 +127,7 @@ static struct {
 
 /* The arrays of a column, into buffers of these sizes. */
 wkt_status fill_of(const char *texts, const int64_t *offsets, const uint8_t *valid, size_t rows, uint32_t places,
-                          size_t numbers, size_t rings, size_t polygons, const size_t sizes[6]) {
+                   size_t numbers, size_t rings, size_t polygons, const size_t sizes[6]) {
     memset(&got, 0x77, sizeof got);
     memcpy(&before, &got, sizeof got);
     return wkt_column_arrays(BYTES(texts), offsets, rows + 1, valid, valid ? (rows + 7) / 8 : 0, places, &got.sizes,
@@ -180,8 +181,8 @@ static void column_arrays(void) {
     static const int64_t numbers[16] = {10, 25, 10, 20, 30, 40, 50, 60, 0, 0, 40, 0, 0, 40, 0, 0};
     static const size_t rings[6] = {0, 1, 0, 2, 0, 4}, polygons[7] = {0, 1, 0, 1, 0, 1, 1};
     static const uint32_t kinds[9] = {0, 0, 0, 0, 1, 0, 0, 0, 5}, dimensions[9] = {0, 0, 0, 0, 1, 0, 0, 0, 0};
-    static const wkt_status want_statuses[9] = {WKT_OK,         3,              WKT_NULL,      WKT_NOT_UTF8, WKT_OK,
-                                                WKT_COLLECTION, WKT_BAD_NUMBER, WKT_TOO_LARGE, WKT_OK};
+    static const wkt_status want_statuses[9] = {
+        WKT_OK, 3, WKT_NULL, WKT_NOT_UTF8, WKT_OK, WKT_COLLECTION, WKT_BAD_NUMBER, WKT_TOO_LARGE, WKT_OK};
     static const uint8_t valid[2] = {0xfb, 1};
     static const int64_t zero = 0;
     size_t fit[6] = {10, 10, 10, 9, 9, 9}, none[6] = {1, 1, 1, 0, 0, 0}, i;
@@ -202,7 +203,8 @@ static void column_arrays(void) {
     CHECK(fill_of(texts, offsets, valid, 9, 1, 16, 5, 7, fit) == WKT_TOO_SMALL && arrays_untouched());
     CHECK(fill_of(texts, offsets, valid, 9, 1, 16, 6, 6, fit) == WKT_TOO_SMALL && arrays_untouched());
     CHECK(fill_of(texts, offsets, valid, 9, 1, 16, 6, 7, fit) == WKT_OK);
-    CHECK(fill_of(texts, offsets, valid, 9, 19, 32, 32, 32, fit) == WKT_NO_PLACES && sizes_untouched() && arrays_untouched());
+    CHECK(fill_of(texts, offsets, valid, 9, 19, 32, 32, 32, fit) == WKT_NO_PLACES && sizes_untouched() &&
+          arrays_untouched());
     CHECK(fill_of(texts, &zero, NULL, 0, 1, 0, 0, 0, none) == WKT_OK);
     CHECK(got.sizes.numbers == 0 && got.number_ends[0] == 0);
     for (i = 0; i < 6; i++) {
@@ -214,7 +216,8 @@ static void column_arrays(void) {
     }
     fit[0] = fit[1] = fit[2] = 3;
     fit[3] = fit[4] = fit[5] = 2;
-    CHECK(fill_of(texts, back, NULL, 2, 1, 32, 32, 32, fit) == WKT_NOT_COLUMN && sizes_untouched() && arrays_untouched());
+    CHECK(fill_of(texts, back, NULL, 2, 1, 32, 32, 32, fit) == WKT_NOT_COLUMN && sizes_untouched() &&
+          arrays_untouched());
     CHECK(fill_of(texts, whole, NULL, 2, 1 | WKT_WHOLE, 32, 32, 32, fit) == WKT_OK && got.statuses[0] == WKT_NOT_WHOLE);
     CHECK(got.statuses[1] == WKT_OK && got.number_ends[1] == 0 && got.number_ends[2] == 2);
 }
@@ -266,9 +269,9 @@ static void column_text_sizes(void) {
     size_t n[8] = {2, 2, 3, 3, 3, 1, 3, 2}, i, step;
     static const uint8_t valid = 3;
     CHECK(fill_of("POINT(1 2)POINT(3 4)", offsets, NULL, 2, 1, 32, 32, 32, fit) == WKT_OK);
-#define SIZED                                                                                                         \
-    wkt_column_from_arrays(got.kinds, n[0], got.dimensions, n[1], got.numbers, 32, got.number_ends, n[2], got.rings,   \
-                           32, got.ring_ends, n[3], got.polygons, 32, got.polygon_ends, n[4], &valid, n[5], 1, out,    \
+#define SIZED \
+    wkt_column_from_arrays(got.kinds, n[0], got.dimensions, n[1], got.numbers, 32, got.number_ends, n[2], got.rings, \
+                           32, got.ring_ends, n[3], got.polygons, 32, got.polygon_ends, n[4], &valid, n[5], 1, out, \
                            ROOM, ends, n[6], statuses, n[7], &needed)
     CHECK(SIZED == WKT_OK && statuses[1] == WKT_OK);
     for (i = 0; i < 8; i++)
@@ -280,8 +283,8 @@ static void column_text_sizes(void) {
         }
     n[5] = 0;
     CHECK(SIZED == WKT_OK);
-    CHECK(wkt_column_from_arrays(NULL, 0, NULL, 0, NULL, 0, NULL, 0, NULL, 0, NULL, 0, NULL, 0, NULL, 0, NULL, 0, 1, NULL,
-                                 0, NULL, 0, NULL, 0, &needed) == WKT_NOT_COLUMN);
+    CHECK(wkt_column_from_arrays(NULL, 0, NULL, 0, NULL, 0, NULL, 0, NULL, 0, NULL, 0, NULL, 0, NULL, 0, NULL, 0, 1,
+                                 NULL, 0, NULL, 0, NULL, 0, &needed) == WKT_NOT_COLUMN);
 }
 
 /* Offsets that go to and fro over one long ring are refused before anything is made of them. */

@@ -59,7 +59,8 @@ static uint64_t all_calls(const uint8_t *text, size_t size) {
     status[3] = wkt_infer(text, size, &kind, &dimension);
     status[4] = wkt_lines(text, size, 6, out, 2 * size + 64, &needed);
     sum = mixed(sum, out, status[4] ? 0 : needed);
-    status[5] = wkt_column_canonical(text, size, offsets, 3, NULL, 0, 6, out, 2 * size + 64, ends, 3, statuses, 2, &needed);
+    status[5] =
+        wkt_column_canonical(text, size, offsets, 3, NULL, 0, 6, out, 2 * size + 64, ends, 3, statuses, 2, &needed);
     sum = mixed(sum, out, status[5] ? 0 : needed);
     status[6] = wkt_arrays(text, size, 6, &sizes, NULL, 0, NULL, 0, NULL, 0);
     free(out);
@@ -76,29 +77,39 @@ static uint64_t all_calls(const uint8_t *text, size_t size) {
 static void *deep(void *levels) {
     size_t n = *(size_t *)levels, size, needed = 0, end = 0, start = 0, stop = 0;
     uint32_t same = 9, message = 0, expected = 0;
-    uint8_t *text = nested(n, "POINT(1 2)", 0, &size), *open = nested(n, "POINT(1 2)", 1, &end), *out = (uint8_t *)room(2 * size + 8);
+    uint8_t *text = nested(n, "POINT(1 2)", 0, &size), *open = nested(n, "POINT(1 2)", 1, &end),
+            *out = (uint8_t *)room(2 * size + 8);
     CHECK(wkt_canonical(text, size, 18, out, size, &needed, &end) == WKT_OK);
     CHECK(needed == size && end == size && !memcmp(out, text, size));
     CHECK(wkt_same(text, size, text, size, 18, &same) == WKT_OK && same == 1);
-    CHECK(wkt_lines(text, size, 18, out, size + 1, &needed) == WKT_OK && needed == size + 1 && !memcmp(out, text, size));
+    CHECK(wkt_lines(text, size, 18, out, size + 1, &needed) == WKT_OK && needed == size + 1 &&
+          !memcmp(out, text, size));
     CHECK(wkt_explain(text, size, 18, &message, &start, &stop, &expected) == WKT_ACCEPTED);
     CHECK(wkt_canonical(open, size - 1, 18, out, size, &needed, &end) == 7);
-    CHECK(wkt_explain(open, size - 1, 18, &message, &start, &stop, &expected) == WKT_OK && start == size - 1 && message == 7);
+    CHECK(wkt_explain(open, size - 1, 18, &message, &start, &stop, &expected) == WKT_OK && start == size - 1 &&
+          message == 7);
     all_calls(text, size);
     free(text);
     free(open);
     text = nested(n, "POINT(1 x)", 0, &size);
     CHECK(wkt_canonical(text, size, 18, out, size, &needed, &end) == 9);
-    CHECK(wkt_explain(text, size, 18, &message, &start, &stop, &expected) == WKT_OK && start == 19 * n + 8 && expected == 6);
+    CHECK(wkt_explain(text, size, 18, &message, &start, &stop, &expected) == WKT_OK && start == 19 * n + 8 &&
+          expected == 6);
     free(text);
     free(out);
     return NULL;
 }
 
-static const char *const texts[] = {
-    "POINT(1 2)", "point z empty", "LINESTRING(0 0,1 1.50,2 2)", "POLYGON((0 0,4 0,0 4,0 0),(1 1,2 1,1 2,1 1)) x",
-    "MULTIPOINT(1 2,(3 4),EMPTY)", "GEOMETRYCOLLECTION(POINT(1 2),LINESTRING EMPTY)", "POINT(1", "POINT(1 2)\nPOINT(3 4)\nno",
-    "POINT(1.1234567 2)", "\xff"};
+static const char *const texts[] = {"POINT(1 2)",
+                                    "point z empty",
+                                    "LINESTRING(0 0,1 1.50,2 2)",
+                                    "POLYGON((0 0,4 0,0 4,0 0),(1 1,2 1,1 2,1 1)) x",
+                                    "MULTIPOINT(1 2,(3 4),EMPTY)",
+                                    "GEOMETRYCOLLECTION(POINT(1 2),LINESTRING EMPTY)",
+                                    "POINT(1",
+                                    "POINT(1 2)\nPOINT(3 4)\nno",
+                                    "POINT(1.1234567 2)",
+                                    "\xff"};
 enum { TEXTS = sizeof texts / sizeof *texts, THREADS = 8, TURNS = 2000 };
 
 static uint64_t all_texts(void) {

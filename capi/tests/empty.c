@@ -23,16 +23,17 @@ wkt_status proved_wkt_canonical(const uint8_t *text, size_t text_len, uint32_t p
 }
 
 wkt_status proved_wkt_arrays(const uint8_t *text, size_t text_len, uint32_t places, WktSizes *sizes, int64_t *numbers,
-                             size_t numbers_len, size_t *rings, size_t rings_len, size_t *polygons, size_t polygons_len) {
+                             size_t numbers_len, size_t *rings, size_t rings_len, size_t *polygons,
+                             size_t polygons_len) {
     (void)places, (void)sizes;
     look(text, numbers, text_len + numbers_len);
     look(rings, polygons, rings_len + polygons_len);
     return WKT_OK;
 }
 
-wkt_status proved_wkt_column_canonical(const uint8_t *texts, size_t texts_len, const int64_t *offsets, size_t offsets_len,
-                                       const uint8_t *valid, size_t valid_len, uint32_t places, uint8_t *out,
-                                       size_t out_len, int64_t *out_offsets, size_t out_offsets_len,
+wkt_status proved_wkt_column_canonical(const uint8_t *texts, size_t texts_len, const int64_t *offsets,
+                                       size_t offsets_len, const uint8_t *valid, size_t valid_len, uint32_t places,
+                                       uint8_t *out, size_t out_len, int64_t *out_offsets, size_t out_offsets_len,
                                        wkt_status *statuses, size_t statuses_len, size_t *needed) {
     (void)places, (void)needed;
     look(texts, out, texts_len + out_len);

@@ -3,11 +3,16 @@
 
 /* A text, the number of places, and the hint. For each hint texts that have it and texts that nearly have it; the words of
  * docs/names.tsv say what each hint is. */
-static const struct { const char *text; uint32_t places, hint; } hints[] = {
+static const struct {
+    const char *text;
+    uint32_t places, hint;
+} hints[] = {
     {"\xef\xbb\xbfPOINT(1 2)", 6, WKT_HINT_BYTE_ORDER_MARK},
     {"\xef\xbb\xbf", 6, WKT_HINT_BYTE_ORDER_MARK},
     {"\xef\xbb\xbePOINT(1 2)", 6, WKT_HINT_NONE},
-    {"POINT(\xef\xbb\xbf" "1 2)", 6, WKT_HINT_NONE},
+    {"POINT(\xef\xbb\xbf"
+     "1 2)",
+     6, WKT_HINT_NONE},
     {"0101000000000000000000F03F0000000000000040", 6, WKT_HINT_HEXADECIMAL},
     {"00000000013ff00000000000004000000000000000", 6, WKT_HINT_HEXADECIMAL},
     {"0101000000", 6, WKT_HINT_HEXADECIMAL},
@@ -100,16 +105,13 @@ static void test_no_hints(void) {
 }
 
 /* What follows a geometry: where it begins, or 0 where nothing does. */
-static const struct { const char *text; size_t size, rest; } wholes[] = {
-    {"POINT(1 2)", 10, 0},
-    {"  POINT ( 1 2 ) \t\r\n", 19, 0},
-    {"POINT(1 2) x", 12, 11},
-    {"POINT(1 2)x", 11, 10},
-    {"POINT(1 2) \t\r\n POINT(3 4)", 25, 15},
-    {"POINT(1 2))", 11, 10},
-    {"POINT(1 2)\0", 11, 10},
-    {"POINT EMPTY \xc3\xa9", 14, 12},
-    {"GEOMETRYCOLLECTION(POINT(1 2)) ,", 32, 31},
+static const struct {
+    const char *text;
+    size_t size, rest;
+} wholes[] = {
+    {"POINT(1 2)", 10, 0},    {"  POINT ( 1 2 ) \t\r\n", 19, 0},        {"POINT(1 2) x", 12, 11},
+    {"POINT(1 2)x", 11, 10},  {"POINT(1 2) \t\r\n POINT(3 4)", 25, 15}, {"POINT(1 2))", 11, 10},
+    {"POINT(1 2)\0", 11, 10}, {"POINT EMPTY \xc3\xa9", 14, 12},         {"GEOMETRYCOLLECTION(POINT(1 2)) ,", 32, 31},
 };
 
 static void test_wholes(void) {
@@ -120,7 +122,8 @@ static void test_wholes(void) {
         uint32_t message = 99, expected = 99, hint = 99;
         wkt_status wanted = rest ? WKT_NOT_WHOLE : WKT_ACCEPTED;
         growths = 0;
-        CHECK(wkt_explain(text, size, 6, &message, &start, &stop, &expected) == WKT_ACCEPTED && start == 99 && stop == 99);
+        CHECK(wkt_explain(text, size, 6, &message, &start, &stop, &expected) == WKT_ACCEPTED && start == 99 &&
+              stop == 99);
         CHECK(wkt_explain(text, size, 6 | WKT_WHOLE, &message, &start, &stop, &expected) == wanted);
         CHECK(rest ? start == rest && stop == size : start == 99 && stop == 99);
         CHECK(message == 99 && expected == 99 && growths == 0);

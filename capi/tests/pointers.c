@@ -17,7 +17,9 @@ typedef struct {
     const char *widths;
 } function;
 
-static wkt_status canonical(void) { return wkt_canonical(OF(uint8_t, 0), 6, OF(uint8_t, 1), AT(size_t, 2), AT(size_t, 3)); }
+static wkt_status canonical(void) {
+    return wkt_canonical(OF(uint8_t, 0), 6, OF(uint8_t, 1), AT(size_t, 2), AT(size_t, 3));
+}
 static wkt_status same(void) { return wkt_same(OF(uint8_t, 0), OF(uint8_t, 1), 6, AT(uint32_t, 2)); }
 static wkt_status same_ends(void) {
     return wkt_same_ends(OF(uint8_t, 0), OF(uint8_t, 1), 6, AT(uint32_t, 2), AT(size_t, 3), AT(size_t, 4));
@@ -53,9 +55,19 @@ static wkt_status column_from_arrays(void) {
 }
 
 static const function functions[] = {
-    {canonical, "1100"}, {same, "110"}, {same_ends, "11000"}, {explain, "10000"}, {hint, "10"}, {infer, "100"}, {lines, "110"},
-    {lines_some, "1100"}, {column_canonical, "1811840"}, {arrays, "10888"}, {column_arrays, "1810448888884"},
-    {from_arrays, "88810"}, {column_from_arrays, "4488888811840"},
+    {canonical, "1100"},
+    {same, "110"},
+    {same_ends, "11000"},
+    {explain, "10000"},
+    {hint, "10"},
+    {infer, "100"},
+    {lines, "110"},
+    {lines_some, "1100"},
+    {column_canonical, "1811840"},
+    {arrays, "10888"},
+    {column_arrays, "1810448888884"},
+    {from_arrays, "88810"},
+    {column_from_arrays, "4488888811840"},
 };
 #define FUNCTIONS (sizeof functions / sizeof *functions)
 

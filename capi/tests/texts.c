@@ -41,8 +41,15 @@ static void last_bytes(void) {
 
 /* No answer is longer than the header says: an empty geometry of one letter a name, a row of points without points. */
 static void bounds(void) {
-    static const char *const texts[] = {"POINT(1 2)", "POINT EMPTY", "MULTIPOINT(1 2,3 4,5 6,7 8,9 0)", "MULTIPOINT(1 2,EMPTY,3 4)",
-        "GEOMETRYCOLLECTION EMPTY", "POLYGON(EMPTY)", "MULTIPOLYGON((EMPTY))", "POINT(-.5 +.5)", "POINT(.1 .2)"};
+    static const char *const texts[] = {"POINT(1 2)",
+                                        "POINT EMPTY",
+                                        "MULTIPOINT(1 2,3 4,5 6,7 8,9 0)",
+                                        "MULTIPOINT(1 2,EMPTY,3 4)",
+                                        "GEOMETRYCOLLECTION EMPTY",
+                                        "POLYGON(EMPTY)",
+                                        "MULTIPOLYGON((EMPTY))",
+                                        "POINT(-.5 +.5)",
+                                        "POINT(.1 .2)"};
     size_t i;
     for (i = 0; i < sizeof texts / sizeof *texts; i++) {
         size_t size = strlen(texts[i]);
@@ -67,7 +74,8 @@ static void short_texts(void) {
 static void whole_texts(void) {
     CHECK(canonical("POINT(1 2)", 6 | WKT_WHOLE, ROOM) == WKT_OK && holds("POINT(1 2)") && end_at == 10);
     CHECK(canonical("\n POINT(1 2) \t\r\n", 6 | WKT_WHOLE, ROOM) == WKT_OK && holds("POINT(1 2)") && end_at == 12);
-    CHECK(canonical("POINT(1 2) x", 6 | WKT_WHOLE, ROOM) == WKT_NOT_WHOLE && untouched() && needed == 99 && end_at == 10);
+    CHECK(canonical("POINT(1 2) x", 6 | WKT_WHOLE, ROOM) == WKT_NOT_WHOLE && untouched() && needed == 99 &&
+          end_at == 10);
     CHECK(canonical("POINT(1 2) x", 6 | WKT_WHOLE, 2) == WKT_NOT_WHOLE && untouched() && needed == 99 && end_at == 10);
     CHECK(canonical("POINT(1 2)\n\nPOINT(3 4)", 6 | WKT_WHOLE, ROOM) == WKT_NOT_WHOLE && end_at == 10);
     CHECK(canonical("POINT(1 2 x", 6 | WKT_WHOLE, ROOM) == 7 && untouched() && not_set());
@@ -79,15 +87,27 @@ static void whole_texts(void) {
     memset(out, '#', ROOM);
     needed = end_at = 99;
     CHECK(wkt_canonical((const uint8_t *)"POINT(1 2)\0", 11, 6, out, ROOM, &needed, &end_at) == WKT_OK && end_at == 10);
-    CHECK(wkt_canonical((const uint8_t *)"POINT(1 2)\0", 11, 6 | WKT_WHOLE, out, ROOM, &needed, &end_at) == WKT_NOT_WHOLE);
+    CHECK(wkt_canonical((const uint8_t *)"POINT(1 2)\0", 11, 6 | WKT_WHOLE, out, ROOM, &needed, &end_at) ==
+          WKT_NOT_WHOLE);
     CHECK(wkt_canonical((const uint8_t *)"POINT\0(1 2)", 11, 6, out, ROOM, &needed, &end_at) == 5);
 }
 
 static void canonicals(void) {
     /* A text for each message, at its number. */
-    static const char *const refused[] = {
-        "",        "1",        "\xc2\xbe",  "X",           "POINT X",      "POINT",       "POINT 1",
-        "POINT(1", "POINT(X)", "POINT(1 X)", "POINT Z(1 2 X)", "POINT M(1 2 X)", "GEOMETRYCOLLECTION(1)", "POINT(2 1.5)"};
+    static const char *const refused[] = {"",
+                                          "1",
+                                          "\xc2\xbe",
+                                          "X",
+                                          "POINT X",
+                                          "POINT",
+                                          "POINT 1",
+                                          "POINT(1",
+                                          "POINT(X)",
+                                          "POINT(1 X)",
+                                          "POINT Z(1 2 X)",
+                                          "POINT M(1 2 X)",
+                                          "GEOMETRYCOLLECTION(1)",
+                                          "POINT(2 1.5)"};
     uint32_t places;
     size_t i;
     CHECK(canonical("point ( 10 -20.50 ) more", 6, ROOM) == WKT_OK && holds("POINT(10 -20.5)") && end_at == 19);
@@ -125,7 +145,8 @@ static void comparisons(void) {
     same = 9, end = other = 99;
     CHECK(wkt_same_ends(BYTES("POINT(1 2)"), BYTES("PINT(2 1)"), 6, &same, &end, &other) == 3);
     CHECK(same == 9 && end == 99 && other == 99);
-    CHECK(wkt_same_ends(BYTES("POINT(1 2)"), BYTES("POINT(1 20) x"), 6 | WKT_WHOLE, &same, &end, &other) == WKT_NOT_WHOLE);
+    CHECK(wkt_same_ends(BYTES("POINT(1 2)"), BYTES("POINT(1 20) x"), 6 | WKT_WHOLE, &same, &end, &other) ==
+          WKT_NOT_WHOLE);
     CHECK(same == 9 && end == 10 && other == 11);
     growths = 0;
     CHECK(wkt_same(BYTES(padded(200)), BYTES(padded(200)), 6, &same) == WKT_OK && same == 1 && growths == 0);
@@ -206,7 +227,8 @@ static void some_lines(void) {
             while (at < size && turns++ < 100) {
                 size_t left = size - at < in_room ? size - at : in_room;
                 memset(piece, '#', ROOM);
-                CHECK(wkt_lines_some((const uint8_t *)input + at, left, 18, left == size - at, piece, out_room, &taken, &written) == WKT_OK);
+                CHECK(wkt_lines_some((const uint8_t *)input + at, left, 18, left == size - at, piece, out_room, &taken,
+                                     &written) == WKT_OK);
                 CHECK(taken > 0 && taken <= left && written <= out_room && piece[out_room] == '#');
                 memcpy(all + n, piece, written);
                 n += written;
@@ -215,11 +237,15 @@ static void some_lines(void) {
             CHECK(n == strlen(answers) && !memcmp(all, answers, n));
         }
     taken = written = 99;
-    CHECK(wkt_lines_some(BYTES("POINT(1 2)"), 18, 0, out, ROOM, &taken, &written) == WKT_OK && taken == 0 && written == 0);
-    CHECK(wkt_lines_some(BYTES("POINT(1 2)"), 18, 1, out, ROOM, &taken, &written) == WKT_OK && taken == 10 && written == 11);
+    CHECK(wkt_lines_some(BYTES("POINT(1 2)"), 18, 0, out, ROOM, &taken, &written) == WKT_OK && taken == 0 &&
+          written == 0);
+    CHECK(wkt_lines_some(BYTES("POINT(1 2)"), 18, 1, out, ROOM, &taken, &written) == WKT_OK && taken == 10 &&
+          written == 11);
     taken = written = 99;
-    CHECK(wkt_lines_some(BYTES("POINT(1 2)\n"), 18, 0, out, 10, &taken, &written) == WKT_TOO_SMALL && taken == 99 && written == 99);
-    CHECK(wkt_lines_some(BYTES("POINT(1 2)\n"), 18, 0, out, 11, &taken, &written) == WKT_OK && taken == 11 && written == 11);
+    CHECK(wkt_lines_some(BYTES("POINT(1 2)\n"), 18, 0, out, 10, &taken, &written) == WKT_TOO_SMALL && taken == 99 &&
+          written == 99);
+    CHECK(wkt_lines_some(BYTES("POINT(1 2)\n"), 18, 0, out, 11, &taken, &written) == WKT_OK && taken == 11 &&
+          written == 11);
     CHECK(wkt_lines_some(BYTES("POINT(1 2)\n"), 19, 0, out, ROOM, &taken, &written) == WKT_NO_PLACES);
     CHECK(wkt_lines_some(NULL, 0, 18, 1, NULL, 0, &taken, &written) == WKT_OK && taken == 0 && written == 0);
 }

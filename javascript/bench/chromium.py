@@ -1,5 +1,5 @@
 #!/usr/bin/python3
-"""The figures of Chromium: chromium.py MODULE FILE.., with those of OpenLayers (Debian's libjs-openlayers) where it is."""
+"""The figures of Chromium: chromium.py MODULE FILE.., with those of OpenLayers (libjs-openlayers) where it is there."""
 import functools
 import http.server
 import os

@@ -45,7 +45,8 @@ static void calls(void) {
         double least = 1e9, end = now() + 2;
         do {
             double start = now(), took;
-            for (k = 0; k < 1000; k++) wkt_canonical((const uint8_t *)texts[i], strlen(texts[i]), 18, out, 200, &needed, &at);
+            for (k = 0; k < 1000; k++)
+                wkt_canonical((const uint8_t *)texts[i], strlen(texts[i]), 18, out, 200, &needed, &at);
             took = now() - start;
             if (took < least) least = took;
         } while (now() < end);

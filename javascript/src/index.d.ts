@@ -1,4 +1,4 @@
-// names.py: types (tests/names.py --write makes this of docs/names.tsv)
+// names.py: types (tests/gate/names.py --write makes this of docs/names.tsv)
 /** A kind that has flat arrays. */
 export type FlatKind = "Point" | "LineString" | "Polygon" | "MultiPoint" | "MultiLineString" | "MultiPolygon";
 export type Kind = FlatKind | "GeometryCollection";

@@ -1,5 +1,5 @@
 // The names and numbers that every language has.
-// names.py: javascript (tests/names.py --write makes this of docs/names.tsv)
+// names.py: javascript (tests/gate/names.py --write makes this of docs/names.tsv)
 /** The words of a status, at its number. */
 export const MESSAGES = Object.freeze([
   "",

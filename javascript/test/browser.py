@@ -1,5 +1,5 @@
 #!/usr/bin/python3
-"""The package in headless Chromium: browser.py PACKAGE. The example of its README, and a stream of lines, from a server."""
+"""The package in headless Chromium, from a server: browser.py PACKAGE. Its README's example, and a stream of lines."""
 import functools
 import http.server
 import os
@@ -15,7 +15,11 @@ const done = arguments[0];
   const { load, WktError, STATUS } = await import('/wkt-proved/src/index.js');
   const wkt = await load();
   let refused;
-  try { wkt.canonical('\\ud800'); } catch (error) { refused = error instanceof WktError && error.status === STATUS.NOT_UTF8; }
+  try {
+    wkt.canonical('\\ud800');
+  } catch (error) {
+    refused = error instanceof WktError && error.status === STATUS.NOT_UTF8;
+  }
   const source = new Blob(['point(1 2.0)\\nx\\n', 'POINT(3']).stream();
   return [refused, await new Response(source.pipeThrough(wkt.lineStream())).text()];
 })().then(done, (error) => done(String(error.stack)));
@@ -34,7 +38,8 @@ def check(driver, address):
     driver.set_script_timeout(60)
     assert driver.execute_async_script(LINES) == [True, "POINT(1 2)\nrefused\nrefused\n"]
     shown = driver.execute_async_script(
-        "const done = arguments[0]; const look = () => document.body.innerText ? done(document.body.innerText) : setTimeout(look, 20); look();"
+        "const done = arguments[0], text = () => document.body.innerText;"
+        "const look = () => text() ? done(text()) : setTimeout(look, 20); look();"
     )
     assert shown == "POINT(1 2.5)", shown
     # That there is no icon is no fault of the package.
@@ -59,7 +64,9 @@ def main():
         driver = webdriver.Chrome(options=options)
         try:
             check(driver, f"http://127.0.0.1:{server.server_port}/index.html")
-            print(f"the package in Chromium {driver.capabilities['browserVersion']}: its example, and a stream of lines")
+            print(
+                f"the package in Chromium {driver.capabilities['browserVersion']}: its example, and a stream of lines"
+            )
         finally:
             driver.quit()
             server.shutdown()

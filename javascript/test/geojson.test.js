@@ -49,7 +49,7 @@ test('what has no form', () => {
 
 test('what is kept of the keys, through GeoJSON', () => {
   let through = 0;
-  for (const row of rowsOf('tests/keys.tsv')) {
+  for (const row of rowsOf('tests/data/keys.tsv')) {
     const key = row[4];
     if (key === 'refused') continue;
     let json;

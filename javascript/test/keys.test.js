@@ -1,10 +1,10 @@
-// The keys that stores keep (tests/keys.tsv), at each number of places.
+// The keys that stores keep (tests/data/keys.tsv), at each number of places.
 import test from 'node:test';
 import assert from 'node:assert/strict';
 import { WktError, STATUS } from '../src/index.js';
 import { bytes, rowsOf, texts, thrown, wkt } from './support.js';
 
-const KEYS = rowsOf('tests/keys.tsv');
+const KEYS = rowsOf('tests/data/keys.tsv');
 const PLACES = [0, 6, 15, 18];
 const beginning = (places) => ({ places, whole: false });
 

@@ -1,9 +1,9 @@
 #!/usr/bin/env python3
 """Writes what the native library answers to made texts, for native.test.js: native.py TEXTS > FILE.
 
-The answers are those of the Python package over the library that WKT_LIB names. Each line is one text, as JSON: its places,
-whether it is to be whole, and what each call answers. Places count UTF-16 units, as JavaScript does. Some lines are made
-arrays, and what they are the arrays of. The same numbers are made on every machine.
+The answers are those of the Python package over the library that WKT_LIB names. Each line is one text, as JSON: its
+places, whether it is to be whole, and what each call answers. Places count UTF-16 units, as JavaScript does. Some lines
+are made arrays, and what they are the arrays of. The same numbers are made on every machine.
 """
 import json
 import os
@@ -13,12 +13,13 @@ import sys
 
 TOP = os.path.dirname(os.path.dirname(os.path.dirname(os.path.abspath(__file__))))
 sys.path.insert(0, f"{TOP}/python")
-import wkt  # noqa: E402
+import wkt  # noqa: E402 (found by the line above)
 
 PIECES = [
-    "POINT", "LINESTRING(", "polygon((", "MULTIPOINT(", "MULTILINESTRING((", "MULTIPOLYGON(((", "GEOMETRYCOLLECTION(", "LINEARRING",
-    " Z", " zm", " M", "(", ")", "),(", ",", " ", "1", "-2.5", "+.5", "007.", "1e5", "EMPTY", "\0", "\n", "\t", "é", "𝄞", "9" * 30,
-    "0." + "0" * 25 + "1", "12345678.87654321", "99999999999999999.5", "SRID=4326;", "CIRCULARSTRING(", "TIN", "nan", "-Inf", "()",
+    "POINT", "LINESTRING(", "polygon((", "MULTIPOINT(", "MULTILINESTRING((", "MULTIPOLYGON(((", "GEOMETRYCOLLECTION(",
+    "LINEARRING", " Z", " zm", " M", "(", ")", "),(", ",", " ", "1", "-2.5", "+.5", "007.", "1e5", "EMPTY", "\0", "\n",
+    "\t", "é", "𝄞", "9" * 30, "0." + "0" * 25 + "1", "12345678.87654321", "99999999999999999.5", "SRID=4326;",
+    "CIRCULARSTRING(", "TIN", "nan", "-Inf", "()",
     "0101000000000000", "\ufeff", "1 2", "1 2 3", "\x85", "\u00a0", "\u2028", "\u3000", "\u0131", "x",
 ]  # fmt: skip
 CHOICES = [(0, True), (1, True), (6, True), (15, True), (18, True), (18, True), (6, False), (18, False)]
@@ -38,8 +39,23 @@ class Geometries:
     def number(self):
         some = self.some
         digits = str(some.randrange(10 ** some.choice([1, 2, 3, 9, 20])))
-        fraction = some.choice(["", "", "", ".", ".5", ".25", f".{some.randrange(10**6):06}", f".{some.randrange(10**some.choice([6, 18]))}"])
-        return some.choice(["", "", "-", "+", "00"]) + some.choice([digits, digits, ""] if len(fraction) > 1 else [digits]) + fraction
+        fraction = some.choice(
+            [
+                "",
+                "",
+                "",
+                ".",
+                ".5",
+                ".25",
+                f".{some.randrange(10**6):06}",
+                f".{some.randrange(10**some.choice([6, 18]))}",
+            ]
+        )
+        return (
+            some.choice(["", "", "-", "+", "00"])
+            + some.choice([digits, digits, ""] if len(fraction) > 1 else [digits])
+            + fraction
+        )
 
     def space(self, least=""):
         return self.some.choice([least, least, least, " ", "\t", " \n "])
@@ -67,8 +83,9 @@ class Geometries:
             return self.some.choice([coordinate, lambda: f"({coordinate()})", lambda: "EMPTY"])()
 
         bodies = {
-            "Point": lambda: self.listed(coordinate, 2), "LineString": ring, "Polygon": polygon, "MultiPoint": lambda: self.listed(point),
-            "MultiLineString": polygon, "MultiPolygon": lambda: self.listed(polygon),
+            "Point": lambda: self.listed(coordinate, 2), "LineString": ring, "Polygon": polygon,
+            "MultiPoint": lambda: self.listed(point), "MultiLineString": polygon,
+            "MultiPolygon": lambda: self.listed(polygon),
             "GeometryCollection": lambda: self.listed(lambda: self.text(depth + 1)),
         }  # fmt: skip
         return self.space() + self.some.choice([kind, kind.upper(), kind.lower()]) + after + bodies[kind]()
@@ -76,7 +93,7 @@ class Geometries:
 
 def texts(count):
     """The texts of the tables; geometries, and those with mistakes; and texts that are made of pieces."""
-    known = rows("tests/keys.tsv") + rows("crates/wkt_conformance/stdin")
+    known = rows("tests/data/keys.tsv") + rows("crates/wkt_tables/stdin")
     yield from known
     some, geometries = random.Random(11), Geometries(10)
     for _ in range(count - len(known)):
@@ -109,14 +126,28 @@ def explained(text, places, whole):
     place = [units(text[: why.start]), units(text[: why.stop]), why.line, why.column]
     # What is white space to Python isn't all so to JavaScript, and a control character isn't shown there.
     plain = not re.search("[\0-\x08\x0b-\x1f\x7f\x85\ufeff]", text)
-    return [why.status, why.message, *place, why.expected, why.hint, why.cause if plain else None, str(why) if plain else None]
+    return [
+        why.status,
+        why.message,
+        *place,
+        why.expected,
+        why.hint,
+        why.cause if plain else None,
+        str(why) if plain else None,
+    ]
 
 
 def arrays(text, places, whole):
     made = answer(wkt.to_arrays, text, places, whole=whole)
     if isinstance(made, int):
         return made
-    return [made.kind, made.dimension, [str(it) for it in made.numbers], list(map(int, made.rings)), list(map(int, made.polygons))]
+    return [
+        made.kind,
+        made.dimension,
+        [str(it) for it in made.numbers],
+        list(map(int, made.rings)),
+        list(map(int, made.polygons)),
+    ]
 
 
 def made_arrays(count):

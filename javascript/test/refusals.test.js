@@ -7,7 +7,7 @@ import { bytes, rowsOf, thrown, wkt } from './support.js';
 
 test('the message of each refused text of the table', () => {
   let refused = 0;
-  for (const [text, answer] of rowsOf('crates/wkt_conformance/stdin')) {
+  for (const [text, answer] of rowsOf('crates/wkt_tables/stdin')) {
     const message = MESSAGES.indexOf(answer);
     if (message < 0) {
       assert.equal(wkt.canonical(text, { whole: false }), answer, text);

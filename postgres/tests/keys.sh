@@ -8,7 +8,7 @@ ask keys "create extension wkt" \
             exception when invalid_text_representation then return 'refused'; end \$\$"
 
 # The rules of docs/KEYS.md. The table has \n, \t, \r and \\ as COPY has them.
-grep -v '^#' "$here/../tests/key_rules.tsv" > "$dir/rules"
+grep -v '^#' "$here/../tests/data/key_rules.tsv" > "$dir/rules"
 chmod 644 "$dir/rules"
 ask keys "create table rules (places int, t text, key text)" "copy rules from '$dir/rules'"
 # The type refuses what 18 places don't hold.
@@ -20,8 +20,8 @@ is "rules: two rows are the same exactly if their keys are" 0 "$(ask keys "selec
 echo "rules: $(wc -l < "$dir/rules") keys"
 
 # The keys that stores keep: a text with more after its geometry is refused here, and any other has its key.
-if [ -f "$here/../tests/keys.tsv" ]; then
-    grep -v '^#' "$here/../tests/keys.tsv" | sed 's/\\/\\\\/g' > "$dir/kept"
+if [ -f "$here/../tests/data/keys.tsv" ]; then
+    grep -v '^#' "$here/../tests/data/keys.tsv" | sed 's/\\/\\\\/g' > "$dir/kept"
     chmod 644 "$dir/kept"
     ask keys "create table kept (t text, p0 text, p6 text, p15 text, p18 text)" "copy kept from '$dir/kept'" \
         "create view each_kept as select t, places, key, by_text(t, places) answer, by_type(t, places) by_type

@@ -2,14 +2,18 @@
 
     python3 python/examples/same_geometries.py [TABLE.csv [COLUMN [PLOT.png]]]
 
-TABLE.csv has a column of well-known text, by default `geometry`; with no table a small one is made, of stations that were
-entered twice. It needs pandas, and matplotlib for the plot.
+TABLE.csv has a column of well-known text, by default `geometry`; with no table a small one is made, of stations that
+were entered twice. It needs pandas, and matplotlib for the plot.
 """
+import argparse
 import io
 import sys
 
-import pandas
-import wkt
+try:
+    import pandas
+    import wkt
+except ImportError as error:
+    sys.exit(f"{__doc__}\n{error}")
 
 STATIONS = """station,geometry
 Altona,POINT(9.935 53.552)
@@ -69,15 +73,25 @@ def plot(counts, path):
     figure.savefig(path, dpi=120)
 
 
-def main(path=None, column="geometry", picture="same_geometries.png"):
-    table = read(path)
-    counts = spelled_differently(table, column)
-    texts = int((table[column].value_counts() > 1).sum())
+def main():
+    parser = argparse.ArgumentParser(description=__doc__.split("\n")[0])
+    parser.add_argument("table", nargs="?", metavar="TABLE.csv", help="the table; else a small one is made")
+    parser.add_argument("column", nargs="?", metavar="COLUMN", default="geometry", help="of texts (%(default)s)")
+    parser.add_argument("plot", nargs="?", metavar="PLOT.png", default="same_geometries.png", help="(%(default)s)")
+    asked = parser.parse_args()
+    try:
+        table = read(asked.table)
+    except OSError as error:
+        parser.error(str(error))
+    if asked.column not in table:
+        parser.error(f"there is no column {asked.column}, but {', '.join(table)}")
+    counts = spelled_differently(table, asked.column)
+    texts = int((table[asked.column].value_counts() > 1).sum())
     print("%d rows; %d geometries stand in more than one row, and %d texts do" % (len(table), len(counts), texts))
     print(counts.to_string())
-    plot(counts, picture)
-    print("the plot: " + picture)
+    plot(counts, asked.plot)
+    print("the plot: " + asked.plot)
 
 
 if __name__ == "__main__":
-    main(*sys.argv[1:])
+    main()

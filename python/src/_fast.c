@@ -30,7 +30,8 @@ static int is_null(Rows *rows, PyObject *row) {
         PyErr_Clear();
         return 0;
     }
-    is = PyUnicode_CompareWithASCIIString(name, "NAType") == 0 || PyUnicode_CompareWithASCIIString(name, "NaTType") == 0;
+    is =
+        PyUnicode_CompareWithASCIIString(name, "NAType") == 0 || PyUnicode_CompareWithASCIIString(name, "NaTType") == 0;
     Py_DECREF(name);
     if (is) rows->null_type = type;
     return is;
@@ -186,10 +187,13 @@ static PyMethodDef methods[] = {
     {"arrow_array", arrow_array, METH_VARARGS,
      "arrow_array(schema, array) -> ((is of UTF-8, metadata), (data, int64 offsets, bits or b'', rows))"},
     {"arrow_stream", arrow_stream, METH_O, "arrow_stream(stream) -> (what arrow_next takes, (is of UTF-8, metadata))"},
-    {"arrow_next", arrow_next, METH_O, "arrow_next(stream) -> (data, int64 offsets, bits or b'', rows), or None at the end"},
-    {"export", arrow_export, METH_O, "export((format, name, metadata, flags, length, nulls, buffers, columns)) -> (schema, array)"},
+    {"arrow_next", arrow_next, METH_O,
+     "arrow_next(stream) -> (data, int64 offsets, bits or b'', rows), or None at the end"},
+    {"export", arrow_export, METH_O,
+     "export((format, name, metadata, flags, length, nulls, buffers, columns)) -> (schema, array)"},
     {"export_schema", arrow_export_schema, METH_O, "export_schema(such a tuple) -> schema"},
-    {"export_stream", arrow_export_stream, METH_VARARGS, "export_stream(such a tuple, iterator of such tuples) -> stream"},
+    {"export_stream", arrow_export_stream, METH_VARARGS,
+     "export_stream(such a tuple, iterator of such tuples) -> stream"},
     {NULL, NULL, 0, NULL}};
 
 static struct PyModuleDef module = {PyModuleDef_HEAD_INIT, "wkt._fast", NULL, 0, methods, NULL, NULL, NULL, NULL};

@@ -26,10 +26,9 @@ static int lent_buffer(PyObject *self, Py_buffer *view, int flags) {
     return PyBuffer_FillInfo(view, self, (void *)((Lent *)self)->data, ((Lent *)self)->length, 1, flags);
 }
 
-static PyType_Slot lent_slots[] = {
-    {Py_tp_dealloc, lent_dealloc}, {Py_bf_getbuffer, lent_buffer}, {0, NULL}};
-static PyType_Spec lent_spec = {"wkt._fast.Lent", sizeof(Lent), 0, Py_TPFLAGS_DEFAULT | Py_TPFLAGS_DISALLOW_INSTANTIATION,
-                                lent_slots};
+static PyType_Slot lent_slots[] = {{Py_tp_dealloc, lent_dealloc}, {Py_bf_getbuffer, lent_buffer}, {0, NULL}};
+static PyType_Spec lent_spec = {"wkt._fast.Lent", sizeof(Lent), 0,
+                                Py_TPFLAGS_DEFAULT | Py_TPFLAGS_DISALLOW_INSTANTIATION, lent_slots};
 
 int arrow_ready(void) {
     if (lent_type == NULL) lent_type = (PyTypeObject *)PyType_FromSpec(&lent_spec);
@@ -113,7 +112,9 @@ static int type_of(const struct ArrowSchema *schema, Type *type, const struct Ar
         }
     }
     if (type->texts->format == NULL || !is_of_texts(type->texts) || (type->texts != schema) != (type->index != 0)) {
-        PyErr_Format(PyExc_TypeError, "an Arrow column of texts is of utf8, large_utf8, string_view, binary, or a dictionary of these, and not of %.100s",
+        PyErr_Format(PyExc_TypeError,
+                     "an Arrow column of texts is of utf8, large_utf8, string_view, binary, or a dictionary of these, "
+                     "and not of %.100s",
                      schema->format == NULL ? "no format" : schema->format);
         return -1;
     }
@@ -181,7 +182,8 @@ static void say(struct ArrowArrayStream *stream, int error) {
         PyErr_NoMemory();
         return;
     }
-    value = Py_BuildValue("iN", error, PyUnicode_FromFormat("the Arrow stream: %s", words == NULL ? strerror(error) : words));
+    value = Py_BuildValue("iN", error,
+                          PyUnicode_FromFormat("the Arrow stream: %s", words == NULL ? strerror(error) : words));
     if (value != NULL) PyErr_SetObject(PyExc_OSError, value);
     Py_XDECREF(value);
 }

@@ -21,8 +21,8 @@ static int read_tree(PyObject *given, Tree *tree) {
         PyErr_SetString(PyExc_TypeError, "a column is described by a tuple");
         return -1;
     }
-    if (!PyArg_ParseTuple(given, "ssy#iLLOO", &tree->format, &tree->name, &tree->metadata, &tree->metadata_length, &tree->flags,
-                          &tree->length, &tree->nulls, &tree->buffers, &tree->columns))
+    if (!PyArg_ParseTuple(given, "ssy#iLLOO", &tree->format, &tree->name, &tree->metadata, &tree->metadata_length,
+                          &tree->flags, &tree->length, &tree->nulls, &tree->buffers, &tree->columns))
         return -1;
     if (!PyTuple_Check(tree->buffers) || !PyTuple_Check(tree->columns)) {
         PyErr_SetString(PyExc_TypeError, "the buffers and the columns of a column are tuples");
@@ -70,10 +70,15 @@ static int make_schema(PyObject *given, struct ArrowSchema *schema) {
     memcpy(part->strings, tree.format, format);
     memcpy(part->strings + format, tree.name, name);
     memcpy(part->strings + format + name, tree.metadata, (size_t)tree.metadata_length);
-    *schema = (struct ArrowSchema){.format = part->strings, .name = part->strings + format, .flags = tree.flags,
+    *schema = (struct ArrowSchema){.format = part->strings,
+                                   .name = part->strings + format,
+                                   .flags = tree.flags,
                                    .metadata = tree.metadata_length ? part->strings + format + name : NULL,
-                                   .release = release_schema, .private_data = part};
-    if (room_for(PyTuple_Size(tree.columns), sizeof *part->column, (void ***)&part->children, (void **)&part->column) < 0) goto failed;
+                                   .release = release_schema,
+                                   .private_data = part};
+    if (room_for(PyTuple_Size(tree.columns), sizeof *part->column, (void ***)&part->children, (void **)&part->column) <
+        0)
+        goto failed;
     schema->children = part->children;
     schema->n_children = PyTuple_Size(tree.columns);
     for (int64_t i = 0; i < schema->n_children; i++)
@@ -126,12 +131,19 @@ static int make_array(PyObject *given, struct ArrowArray *array) {
     Tree tree;
     ArrayPart *part;
     if (read_tree(given, &tree) < 0) return -1;
-    if (PyTuple_Size(tree.buffers) > MOST) return PyErr_SetString(PyExc_ValueError, "a column has three buffers at most"), -1;
+    if (PyTuple_Size(tree.buffers) > MOST)
+        return PyErr_SetString(PyExc_ValueError, "a column has three buffers at most"), -1;
     if ((part = calloc(1, sizeof *part)) == NULL) return PyErr_NoMemory(), -1;
-    *array = (struct ArrowArray){.length = tree.length, .null_count = tree.nulls, .n_buffers = PyTuple_Size(tree.buffers),
-                                 .buffers = part->buffers, .release = release_array, .private_data = part};
+    *array = (struct ArrowArray){.length = tree.length,
+                                 .null_count = tree.nulls,
+                                 .n_buffers = PyTuple_Size(tree.buffers),
+                                 .buffers = part->buffers,
+                                 .release = release_array,
+                                 .private_data = part};
     if (hold(part, tree.buffers) < 0) goto failed;
-    if (room_for(PyTuple_Size(tree.columns), sizeof *part->column, (void ***)&part->children, (void **)&part->column) < 0) goto failed;
+    if (room_for(PyTuple_Size(tree.columns), sizeof *part->column, (void ***)&part->children, (void **)&part->column) <
+        0)
+        goto failed;
     array->children = part->children;
     array->n_children = PyTuple_Size(tree.columns);
     for (int64_t i = 0; i < array->n_children; i++)
@@ -203,7 +215,10 @@ static int kept(StreamPart *part) {
     said = value == NULL ? NULL : PyObject_Str(value);
     if (said != NULL) words = PyUnicode_AsUTF8AndSize(said, NULL);
     PyErr_Clear();
-    PyOS_snprintf(part->words, sizeof part->words, "%s", words != NULL && *words ? words : memory ? "out of memory" : "an error");
+    PyOS_snprintf(part->words, sizeof part->words, "%s",
+                  words != NULL && *words ? words
+                  : memory                ? "out of memory"
+                                          : "an error");
     Py_XDECREF(said);
     Py_XDECREF(kind);
     Py_XDECREF(value);
@@ -266,7 +281,8 @@ PyObject *arrow_export_stream(PyObject *self, PyObject *args) {
     (void)self;
     if (!PyArg_ParseTuple(args, "OO", &type, &arrays)) return NULL;
     if (!PyIter_Check(arrays)) return PyErr_SetString(PyExc_TypeError, "the arrays of a stream are an iterator"), NULL;
-    if ((capsule = capsule_of(sizeof(struct ArrowArrayStream), "arrow_array_stream", free_stream, &stream)) == NULL) return NULL;
+    if ((capsule = capsule_of(sizeof(struct ArrowArrayStream), "arrow_array_stream", free_stream, &stream)) == NULL)
+        return NULL;
     if ((part = calloc(1, sizeof *part)) == NULL) {
         Py_DECREF(capsule);
         return PyErr_NoMemory();
@@ -274,6 +290,7 @@ PyObject *arrow_export_stream(PyObject *self, PyObject *args) {
     Py_INCREF(type);
     Py_INCREF(arrays);
     part->type = type, part->arrays = arrays;
-    *(struct ArrowArrayStream *)stream = (struct ArrowArrayStream){stream_schema, stream_next, stream_error, release_stream, part};
+    *(struct ArrowArrayStream *)stream =
+        (struct ArrowArrayStream){stream_schema, stream_next, stream_error, release_stream, part};
     return capsule;
 }

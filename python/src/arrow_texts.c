@@ -135,7 +135,8 @@ static int cells_of(const Type *type, const struct ArrowArray *array, int64_t fi
     int views = type->texts->format[0] == 'v', is_64 = type->texts->format[0] == 'U' || type->texts->format[0] == 'Z';
     if (!has(array, 3, views ? INT32_MAX : 3, first, rows)) return -1;
     if (rows > 0 && array->buffers[1] == NULL) return wrong("it has rows and no offsets"), -1;
-    if (views && array->n_buffers > 3 && array->buffers[array->n_buffers - 1] == NULL) return wrong("its views have no sizes"), -1;
+    if (views && array->n_buffers > 3 && array->buffers[array->n_buffers - 1] == NULL)
+        return wrong("its views have no sizes"), -1;
     for (int64_t i = 0; i < rows; i++) {
         int64_t at = array->offset + first + i;
         cells[i] = (Cell){NULL, 0};
@@ -149,17 +150,20 @@ static int cells_of(const Type *type, const struct ArrowArray *array, int64_t fi
 /* An index of a dictionary; -1 where it is none. */
 static int64_t index_at(const Type *type, const void *indices, int64_t at) {
     uint64_t value = 0;
-    memcpy(&value, (const char *)indices + type->index * at, (size_t)type->index); /* both processors are little-endian */
+    memcpy(&value, (const char *)indices + type->index * at,
+           (size_t)type->index); /* both processors are little-endian */
     if (type->is_signed && value >> (8 * type->index - 1)) return -1;
     return value > INT64_MAX ? -1 : (int64_t)value;
 }
 
-static int cells_of_dictionary(const Type *type, const struct ArrowArray *array, int64_t first, int64_t rows, Cell *cells) {
+static int cells_of_dictionary(const Type *type, const struct ArrowArray *array, int64_t first, int64_t rows,
+                               Cell *cells) {
     const struct ArrowArray *values = array->dictionary;
     Cell *known;
     int status = -1;
     if (!has(array, 2, 2, first, rows)) return -1;
-    if (values == NULL || values->length < 0 || values->length > INT64_MAX / 32) return wrong("it has no dictionary"), -1;
+    if (values == NULL || values->length < 0 || values->length > INT64_MAX / 32)
+        return wrong("it has no dictionary"), -1;
     if (rows > 0 && array->buffers[1] == NULL) return wrong("it has rows and no indices"), -1;
     if ((known = calloc((size_t)values->length + 1, sizeof *known)) == NULL) return PyErr_NoMemory(), -1;
     if (cells_of(type, values, 0, values->length, known) == 0) status = 0;
@@ -237,7 +241,8 @@ PyObject *arrow_texts(const Type *type, const struct ArrowArray *array, PyObject
     }
     if (rows < 0 || rows > INT64_MAX / 32) return wrong("its length or its offset");
     if ((cells = calloc((size_t)rows + 1, sizeof *cells)) == NULL) return PyErr_NoMemory();
-    if ((type->index ? cells_of_dictionary : cells_of)(type, column, first, rows, cells) == 0) texts = gathered(cells, rows);
+    if ((type->index ? cells_of_dictionary : cells_of)(type, column, first, rows, cells) == 0)
+        texts = gathered(cells, rows);
     free(cells);
     return texts;
 }

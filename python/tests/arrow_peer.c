@@ -56,8 +56,10 @@ static const void *bits_of(Part *part, PyObject *rows, int64_t *nulls) {
     memset(bits, 0, (size_t)(count + 7) / 8);
     *nulls = 0;
     for (Py_ssize_t i = 0; i < count; i++) {
-        if (PyList_GetItem(rows, i) == Py_None) ++*nulls;
-        else bits[i / 8] |= (uint8_t)(1 << i % 8);
+        if (PyList_GetItem(rows, i) == Py_None)
+            ++*nulls;
+        else
+            bits[i / 8] |= (uint8_t)(1 << i % 8);
     }
     return *nulls ? bits : NULL;
 }
@@ -75,8 +77,10 @@ static void plain_buffers(Part *part, PyObject *rows, int is_64, const void **bu
     for (Py_ssize_t i = 0; i <= count; i++) {
         int64_t wide = at;
         int32_t narrow = (int32_t)at;
-        if (is_64) memcpy(offsets + 8 * i, &wide, 8);
-        else memcpy(offsets + 4 * i, &narrow, 4);
+        if (is_64)
+            memcpy(offsets + 8 * i, &wide, 8);
+        else
+            memcpy(offsets + 4 * i, &narrow, 4);
         if (i == count || length_of(rows, i) == 0) continue;
         memcpy(data + at, PyBytes_AsString(PyList_GetItem(rows, i)), (size_t)length_of(rows, i));
         at += length_of(rows, i);
@@ -124,12 +128,15 @@ static void texts(Part *part, PyObject *rows, const char *format, const char *sp
     array->buffers = buffers;
     buffers[0] = bits_of(part, rows, &array->null_count);
     array->n_buffers = 3;
-    if (format[0] == 'v') array->n_buffers = view_buffers(part, rows, spoil, buffers);
-    else plain_buffers(part, rows, format[0] == 'U' || format[0] == 'Z', buffers);
+    if (format[0] == 'v')
+        array->n_buffers = view_buffers(part, rows, spoil, buffers);
+    else
+        plain_buffers(part, rows, format[0] == 'U' || format[0] == 'Z', buffers);
 }
 
 /* A dictionary of the rows, each at its own index. */
-static void dictionary(Part *part, PyObject *rows, char index, const char *format, const char *spoil, struct ArrowArray *array) {
+static void dictionary(Part *part, PyObject *rows, char index, const char *format, const char *spoil,
+                       struct ArrowArray *array) {
     static const char indices[] = "cCsSiIlL";
     const char *known = strchr(indices, index);
     int size = known == NULL ? 4 : 1 << (known - indices) / 2;
@@ -198,7 +205,8 @@ static void make_schema(const char *format, const char *spoil, PyObject *metadat
     }
     if (is(spoil, "no_format")) texts->format = NULL;
     texts->name = "column";
-    if (PyBytes_Size(metadata)) texts->metadata = copied(part, PyBytes_AsString(metadata), (size_t)PyBytes_Size(metadata));
+    if (PyBytes_Size(metadata))
+        texts->metadata = copied(part, PyBytes_AsString(metadata), (size_t)PyBytes_Size(metadata));
     schema->release = release_schema, schema->private_data = part;
     if (is(spoil, "released_type")) schema->release = NULL, free_part(part), schema->private_data = NULL;
 }
@@ -219,8 +227,10 @@ static void make_array(const char *format, PyObject *rows, int first, const char
         array->children = part->children;
         format += 2;
     }
-    if (format[0] && format[1] == ':') dictionary(part, rows, format[0], format + 2, spoil, column);
-    else texts(part, rows, format, spoil, column);
+    if (format[0] && format[1] == ':')
+        dictionary(part, rows, format[0], format + 2, spoil, column);
+    else
+        texts(part, rows, format, spoil, column);
     if (column != array) {
         array->length = column->length - first;
         array->offset = first;
@@ -255,7 +265,8 @@ static PyObject *lend_array(PyObject *self, PyObject *args) {
     schema = malloc(sizeof *schema), array = malloc(sizeof *array);
     make_schema(format, spoil, metadata, schema);
     make_array(format, rows, first, spoil, array);
-    return Py_BuildValue("NN", PyCapsule_New(schema, "arrow_schema", end_schema), PyCapsule_New(array, "arrow_array", end_array));
+    return Py_BuildValue("NN", PyCapsule_New(schema, "arrow_schema", end_schema),
+                         PyCapsule_New(array, "arrow_array", end_array));
 }
 
 /* A stream lends its chunks in turn. It is called without the lock of the interpreter, and takes it. */
@@ -278,10 +289,14 @@ static int give_next(struct ArrowArrayStream *stream, struct ArrowArray *out) {
     PyGILState_STATE state = PyGILState_Ensure();
     const char *spoil = PyBytes_AsString(all->spoil);
     int error = 0;
-    if (all->next == PyList_Size(all->chunks)) memset(out, 0, sizeof *out);
-    else if (is(spoil, "no_next") && all->next == 1) error = ENOMEM;
-    else if (is(spoil, "no_words") && all->next == 1) error = EIO;
-    else make_array(PyBytes_AsString(all->format), PyList_GetItem(all->chunks, all->next++), all->first, spoil, out);
+    if (all->next == PyList_Size(all->chunks))
+        memset(out, 0, sizeof *out);
+    else if (is(spoil, "no_next") && all->next == 1)
+        error = ENOMEM;
+    else if (is(spoil, "no_words") && all->next == 1)
+        error = EIO;
+    else
+        make_array(PyBytes_AsString(all->format), PyList_GetItem(all->chunks, all->next++), all->first, spoil, out);
     PyGILState_Release(state);
     return error;
 }
@@ -311,7 +326,8 @@ static PyObject *lend_stream(PyObject *self, PyObject *args) {
     struct ArrowArrayStream *stream;
     Chunks made = {0}, *all;
     (void)self;
-    if (!PyArg_ParseTuple(args, "SOiSO", &made.format, &made.chunks, &made.first, &made.spoil, &made.metadata)) return NULL;
+    if (!PyArg_ParseTuple(args, "SOiSO", &made.format, &made.chunks, &made.first, &made.spoil, &made.metadata))
+        return NULL;
     stream = malloc(sizeof *stream), all = malloc(sizeof *all);
     Py_INCREF(made.format);
     Py_INCREF(made.spoil);
@@ -328,11 +344,16 @@ static PyObject *buffer_of(const struct ArrowArray *array, int i, const char *fo
     int64_t rows = array->offset + array->length;
     Py_ssize_t size = 0;
     if (array->buffers[i] == NULL) Py_RETURN_NONE;
-    if (i == 0) size = (Py_ssize_t)(rows + 7) / 8;
-    else if (i == 1 && format[0] == 'U') size = (Py_ssize_t)(8 * (rows + 1));
-    else if (i == 1 && format[0] == 'g') size = (Py_ssize_t)(8 * rows);
-    else if (i == 1) size = (Py_ssize_t)(4 * (rows + 1));
-    else size = (Py_ssize_t)((const int64_t *)array->buffers[1])[rows];
+    if (i == 0)
+        size = (Py_ssize_t)(rows + 7) / 8;
+    else if (i == 1 && format[0] == 'U')
+        size = (Py_ssize_t)(8 * (rows + 1));
+    else if (i == 1 && format[0] == 'g')
+        size = (Py_ssize_t)(8 * rows);
+    else if (i == 1)
+        size = (Py_ssize_t)(4 * (rows + 1));
+    else
+        size = (Py_ssize_t)((const int64_t *)array->buffers[1])[rows];
     return PyBytes_FromStringAndSize(array->buffers[i], size);
 }
 static PyObject *seen(const struct ArrowSchema *schema, const struct ArrowArray *array) {
@@ -350,8 +371,8 @@ static PyObject *seen(const struct ArrowSchema *schema, const struct ArrowArray 
         Py_DECREF(column);
     }
     if (schema->metadata != NULL) memcpy(&pairs, schema->metadata, sizeof pairs);
-    return Py_BuildValue("ssiLLLNN", schema->format, schema->name, pairs, (long long)schema->flags, (long long)array->length,
-                         (long long)array->null_count, buffers, columns);
+    return Py_BuildValue("ssiLLLNN", schema->format, schema->name, pairs, (long long)schema->flags,
+                         (long long)array->length, (long long)array->null_count, buffers, columns);
 }
 
 static int moved(PyObject *args, struct ArrowSchema *schema, struct ArrowArray *array, int *when) {
@@ -441,8 +462,10 @@ static PyObject *keep(PyObject *self, PyObject *args) {
     struct ArrowArray array;
     (void)self;
     if (moved(args, &last_schema, &array, &when) < 0) return NULL;
-    if (when) python_array = array, Py_AtExit(at_python_exit);
-    else last_array = array;
+    if (when)
+        python_array = array, Py_AtExit(at_python_exit);
+    else
+        last_array = array;
     Py_RETURN_NONE;
 }
 static PyObject *live(PyObject *self, PyObject *args) {
@@ -450,10 +473,13 @@ static PyObject *live(PyObject *self, PyObject *args) {
     return PyLong_FromLong(alive);
 }
 
-static PyMethodDef methods[] = {{"array", lend_array, METH_VARARGS, NULL}, {"stream", lend_stream, METH_VARARGS, NULL},
-                                {"take", take, METH_VARARGS, NULL},        {"take_stream", take_stream, METH_O, NULL},
+static PyMethodDef methods[] = {{"array", lend_array, METH_VARARGS, NULL},
+                                {"stream", lend_stream, METH_VARARGS, NULL},
+                                {"take", take, METH_VARARGS, NULL},
+                                {"take_stream", take_stream, METH_O, NULL},
                                 {"drain", drain, METH_O, NULL},
-                                {"keep", keep, METH_VARARGS, NULL},        {"live", live, METH_NOARGS, NULL},
+                                {"keep", keep, METH_VARARGS, NULL},
+                                {"live", live, METH_NOARGS, NULL},
                                 {NULL, NULL, 0, NULL}};
 static struct PyModuleDef module = {PyModuleDef_HEAD_INIT, "arrow_peer", NULL, -1, methods, NULL, NULL, NULL, NULL};
 PyMODINIT_FUNC PyInit_arrow_peer(void) { return PyModule_Create(&module); }

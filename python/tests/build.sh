@@ -14,7 +14,7 @@ export WKT_C_LIB=${WKT_C_LIB:-dist}
 
 # A clone that has nothing built, with what isn't committed yet.
 mkdir "$work/clone"
-(cd "$top" && git ls-files -co --exclude-standard -- python capi dist include 'LICENSE-*' tests/command tests/command.sh |
+(cd "$top" && git ls-files -co --exclude-standard -- python capi dist include 'LICENSE-*' tests/data/command tests/gate/command.sh |
     while read -r file; do [ ! -e "$file" ] || echo "$file"; done | tar -c -T - | tar -x -C "$work/clone")
 git -C "$work/clone" init -q
 git -C "$work/clone" add -A
@@ -44,7 +44,7 @@ done
 echo '# an edit' >> "$work/clone/python/wkt/_version.py"
 [ "$(cd / && "$work/editable/bin/python" -c 'import wkt; print(wkt.__file__)')" = "$work/clone/python/wkt/__init__.py" ] || fail "editable: another folder"
 git -C "$work/clone" checkout -q .
-REST=yes "$top/tests/command.sh" "$work/folder/bin/wkt" > "$work/said" || { cat "$work/said"; fail "the script wkt: other answers"; }
+REST=yes "$top/tests/gate/command.sh" "$work/folder/bin/wkt" > "$work/said" || { cat "$work/said"; fail "the script wkt: other answers"; }
 echo "the script wkt: $(tail -n 1 "$work/said")"
 # A name that isn't UTF-8 is said, whichever way the command is called.
 for command in "$work/folder/bin/wkt" "$work/folder/bin/python -m wkt"; do
@@ -74,7 +74,7 @@ grep -q debug_info "$work/said" && grep -q 'soname: \[named\]' "$work/said" || f
 (cd "$work/one" && "$python" -m zipfile -e ./*.whl . && cd wkt_proved-*.dist-info && ls licenses/LICENSE-APACHE licenses/LICENSE-MIT > /dev/null) || fail "licences"
 newest=$( (cd "$work/one/wkt" && objdump -T libwkt.so _command _fast.abi3.so) | grep -o 'GLIBC_2\.[0-9]*' | cut -d. -f2 | sort -n | tail -n 1)
 [ "$newest" -ge 17 ] || newest=17
-ls "$work/one" | grep -q "^wkt_proved-.*-cp311-abi3-manylinux_2_${newest}_$(uname -m).whl$" || fail "the tag isn't that of glibc 2.$newest"
+compgen -G "$work/one/wkt_proved-*-cp311-abi3-manylinux_2_${newest}_$(uname -m).whl" > /dev/null || fail "the tag isn't that of glibc 2.$newest"
 (cd "$work/one" && "$python" - <<'PY') || fail "the parts list other files"
 import glob, hashlib, json
 parts = json.load(open(glob.glob("*.dist-info/sboms/*.json")[0]))["components"]

@@ -1,4 +1,4 @@
-"""Runs the sessions of a page, and compares what they print: pages.py PAGE.md [NAME=MODULE..], each NAME being there."""
+"""Runs the sessions of a page, and compares what they print: pages.py PAGE.md [NAME=MODULE..]. Each NAME is there."""
 import doctest
 import importlib
 import re

@@ -50,7 +50,8 @@ static PyObject *stop(PyObject *self, PyObject *none) {
     return PyBool_FromLong(refused);
 }
 
-static PyMethodDef methods[] = {{"after", after, METH_O, NULL}, {"stop", stop, METH_NOARGS, NULL}, {NULL, NULL, 0, NULL}};
+static PyMethodDef methods[] = {
+    {"after", after, METH_O, NULL}, {"stop", stop, METH_NOARGS, NULL}, {NULL, NULL, 0, NULL}};
 static struct PyModuleDef module = {PyModuleDef_HEAD_INIT, "refuse", NULL, -1, methods, NULL, NULL, NULL, NULL};
 PyMODINIT_FUNC PyInit_refuse(void) {
     for (int i = 0; i < 3; i++) {

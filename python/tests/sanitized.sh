@@ -6,7 +6,7 @@ here=$(cd "$(dirname "$0")" && pwd)
 python=${PYTHON:-/usr/bin/python3}
 work=$(mktemp -d)
 trap 'rm -rf "$work"' EXIT
-flags=(-g -O1 -Wall -Wextra -fsanitize=address,undefined -fno-sanitize-recover=undefined -fno-omit-frame-pointer -fPIC -shared
+flags=(-g -O1 -Wall -Wextra "-fsanitize=address,undefined" -fno-sanitize-recover=undefined -fno-omit-frame-pointer -fPIC -shared
     -I"$("$python" -c 'import sysconfig; print(sysconfig.get_paths()["include"])')")
 cp -r "$here/../wkt" "$work"
 rm -f "$work"/wkt/*.so

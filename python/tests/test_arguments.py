@@ -180,7 +180,9 @@ class Rows(unittest.TestCase):
                 with self.assertRaises(TypeError, msg=repr(wrong)):
                     call(["POINT(1 2)", wrong])
         self.assertEqual(wkt.canonical(bytearray(b"POINT(1 2)")), "POINT(1 2)")
-        self.assertEqual(wkt.canonical(["POINT(1 2)", bytearray(b"POINT(1 2)"), memoryview(b"POINT(1 2)")]), ["POINT(1 2)"] * 3)
+        self.assertEqual(
+            wkt.canonical(["POINT(1 2)", bytearray(b"POINT(1 2)"), memoryview(b"POINT(1 2)")]), ["POINT(1 2)"] * 3
+        )
 
     def test_nulls(self):
         nulls = [None, float("nan"), -float("nan")]
@@ -201,7 +203,8 @@ class Rows(unittest.TestCase):
 
 class Errors(unittest.TestCase):
     def test_copies(self):
-        for status, call in [(13, lambda: wkt.canonical("POINT(1 2.5)", 0)), (3, lambda: wkt.canonical(["POINT(1 2)", "x"])),
+        for status, call in [(13, lambda: wkt.canonical("POINT(1 2.5)", 0)),
+                             (3, lambda: wkt.canonical(["POINT(1 2)", "x"])),
                              (1, lambda: wkt.infer("PINT(")), (26, lambda: point([1]))]:  # fmt: skip
             with self.assertRaises(wkt.WktError) as raised:
                 call()

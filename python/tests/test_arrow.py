@@ -1,4 +1,4 @@
-"""Arrow's C interfaces, with a producer and a consumer in C (arrow_peer.c): what is taken, refused and lent, and when it ends."""
+"""Arrow's C interfaces, with a peer in C (arrow_peer.c): what is taken, refused and lent, and when that ends."""
 import subprocess
 import sys
 import unittest
@@ -98,22 +98,33 @@ class Taken(Arrow):
         for format in FORMATS:
             self.assertEqual(wkt.canonical(Lent([], format)).to_pylist(), [])
         self.assertEqual(wkt.canonical(Lent([], "u", spoil="no_offsets")).to_pylist(), [])
-        self.assertEqual(wkt.canonical(Lent([None, b""], "u", spoil="no_bytes"), invalid="null").to_pylist(), [None, None])
+        self.assertEqual(
+            wkt.canonical(Lent([None, b""], "u", spoil="no_bytes"), invalid="null").to_pylist(), [None, None]
+        )
         self.assertEqual(wkt.canonical(Streamed([])).to_pylist(), [])
 
     def test_streams(self):
         for format in FORMATS:
             for chunks in ([HELD], [HELD, [], HELD[3:], [None] * 3], [HELD] * 9):
-                wanted = [None if row is None else {a: b for a, b in zip(HELD, ANSWERS)}[row] for rows in chunks for row in rows]
+                wanted = [
+                    None if row is None else {a: b for a, b in zip(HELD, ANSWERS)}[row]
+                    for rows in chunks
+                    for row in rows
+                ]
                 answers = wkt.canonical(Streamed(chunks, format), invalid="null")
                 self.assertEqual(answers.to_pylist(), wanted)
-                self.assertEqual(list(wkt.to_arrays_column(Streamed(chunks, format)).statuses), answers.statuses.tolist())
+                self.assertEqual(
+                    list(wkt.to_arrays_column(Streamed(chunks, format)).statuses), answers.statuses.tolist()
+                )
 
     def test_every_call(self):
         """Each call takes a column that can be read once alone, and answers as of a list."""
         good = [text for text, answer in zip(TEXTS, ANSWERS) if answer or text is None]
         held = [None if text is None else text.encode() for text in good]
-        plain = lambda it: [row and (row[:2] + tuple(list(values) for values in row[2:5])) for row in it]  # noqa: E731
+
+        def plain(rows):
+            return [row and (row[:2] + tuple(list(values) for values in row[2:5])) for row in rows]
+
         calls = [
             lambda it: list(wkt.canonical(it)),
             wkt.canonical_column,
@@ -134,7 +145,12 @@ class Taken(Arrow):
 
     def test_errors_name_rows(self):
         for column in (Lent(HELD[2:]), Streamed([[HELD[2]], HELD[3:]]), Lent(HELD, "i:u", 2)):
-            for call in (wkt.canonical, wkt.to_arrays, lambda it: wkt.same(it, it and "POINT(1 2)"), lambda it: list(wkt.batches(it))):
+            for call in (
+                wkt.canonical,
+                wkt.to_arrays,
+                lambda it: wkt.same(it, it and "POINT(1 2)"),
+                lambda it: list(wkt.batches(it)),
+            ):
                 with self.assertRaises(wkt.WktError) as raised:
                     call(column)
                 self.assertEqual((raised.exception.row, raised.exception.status), (1, 3))
@@ -155,7 +171,11 @@ class Taken(Arrow):
 
     def test_metadata(self):
         metadata = wkt._arrow.metadata_of(NAMED)
-        for column in (Lent(metadata=metadata), Lent(format="+su", metadata=metadata), Streamed([HELD], metadata=metadata)):
+        for column in (
+            Lent(metadata=metadata),
+            Lent(format="+su", metadata=metadata),
+            Streamed([HELD], metadata=metadata),
+        ):
             answers = wkt.canonical(column, invalid="null")
             self.assertEqual(answers.metadata, NAMED)
             self.assertEqual(arrow_peer.take(*answers.__arrow_c_array__())[2], 2)
@@ -169,13 +189,14 @@ class Taken(Arrow):
 class Refused(Arrow):
     def test_arrays(self):
         """Whatever of an array can't be is seen before a byte of it is read."""
-        plain = ["length", "long", "offset", "far", "buffers", "no_buffers", "columns", "nulls", "nulls_below", "no_bits",
-                 "no_offsets", "no_bytes", "below", "order", "end", "released"]  # fmt: skip
+        plain = ["length", "long", "offset", "far", "buffers", "no_buffers", "columns", "nulls", "nulls_below",
+                 "no_bits", "no_offsets", "no_bytes", "below", "order", "end", "released"]  # fmt: skip
         views = ["view_buffer", "view_below", "view_start", "view_end", "view_null", "view_sizes"]
         cases = [("u", spoil) for spoil in plain] + [("vu", spoil) for spoil in views]
         cases += [("U", spoil) for spoil in plain if spoil not in ("below", "order", "end")]
         cases += [("vu", spoil) for spoil in ("length", "buffers", "no_buffers", "nulls", "no_bits", "no_offsets")]
-        cases += [("i:u", spoil) for spoil in ("length", "offset", "no_buffers", "nulls", "no_bits", "no_offsets", "index", "index_below", "dictionary")]
+        indexed = "length offset no_buffers nulls no_bits no_offsets index index_below dictionary"
+        cases += [("i:u", spoil) for spoil in indexed.split()]
         cases += [("L:u", "index"), ("L:u", "index_below"), ("c:u", "index_below"), ("C:u", "index_below")]
         cases += [("+su", spoil) for spoil in ("table_nulls", "no_column", "short")]
         for format, spoil in cases:
@@ -221,7 +242,11 @@ class Refused(Arrow):
 
     def test_own_buffers(self):
         """Buffers that a user makes of the wrong type, length or order."""
-        data, offsets, statuses = numpy.frombuffer(b"POINT(1 2)", numpy.uint8), numpy.array([0, 10]), numpy.zeros(1, numpy.uint32)
+        data, offsets, statuses = (
+            numpy.frombuffer(b"POINT(1 2)", numpy.uint8),
+            numpy.array([0, 10]),
+            numpy.zeros(1, numpy.uint32),
+        )
         wkt.ArrowTexts(data, offsets, statuses)
         wrong = [
             (data, offsets.astype(numpy.int32), statuses),
@@ -281,15 +306,23 @@ class Given(Arrow):
 
     def test_kept_to_the_end(self):
         """A consumer keeps an array after Python has ended, and releases it then."""
-        words = "import sys, arrow_peer, numpy, wkt; t = wkt.canonical(wkt.ArrowTexts(numpy.frombuffer(b'POINT(1 2)', numpy.uint8), numpy.array([0, 10]), numpy.zeros(1, numpy.uint32))); arrow_peer.keep(*t.__arrow_c_array__(), int(sys.argv[1]))"
+        words = (
+            "import sys, arrow_peer, numpy, wkt\n"
+            "point = numpy.frombuffer(b'POINT(1 2)', numpy.uint8)\n"
+            "texts = wkt.ArrowTexts(point, numpy.array([0, 10]), numpy.zeros(1, numpy.uint32))\n"
+            "arrow_peer.keep(*wkt.canonical(texts).__arrow_c_array__(), int(sys.argv[1]))"
+        )
         for when in "01":
             done = subprocess.run([sys.executable, "-c", words, when], stderr=subprocess.PIPE)
             self.assertEqual((done.returncode, done.stderr), (0, b""))
 
     def test_sequence(self):
         column = made(TEXTS)
-        self.assertEqual((len(column), list(column), column[0], column[1], column[-1]), (7, TEXTS, TEXTS[0], None, TEXTS[-1]))
-        for part in (slice(1, 3), slice(None), slice(5, 2), slice(-2, None), slice(0, 100), slice(None, None, 2), slice(None, None, -1)):
+        self.assertEqual(
+            (len(column), list(column), column[0], column[1], column[-1]), (7, TEXTS, TEXTS[0], None, TEXTS[-1])
+        )
+        ends = (1, 3), (None, None), (5, 2), (-2, None), (0, 100), (None, None, 2), (None, None, -1)
+        for part in (slice(*it) for it in ends):
             self.assertEqual(list(column[part]), TEXTS[part])
         self.assertEqual(rows_in(arrow_peer.take(*column[2:5].__arrow_c_array__())), TEXTS[2:5])
         self.assertIn("POINT(3 4)", column)
@@ -332,9 +365,12 @@ class Given(Arrow):
             ("POINT(1 2)", "+w:2", [], [1, 2]),
             ("LINESTRING(1 2,3 4)", "+l", [("vertices", [0, 2, 2])], [1, 2, 3, 4]),
             ("MULTIPOINT(1 2,3 4)", "+l", [("points", [0, 2, 2])], [1, 2, 3, 4]),
-            ("POLYGON((1 2,3 4,5 6,1 2))", "+l", [("rings", [0, 1, 1]), ("vertices", [0, 4])], [1, 2, 3, 4, 5, 6, 1, 2]),
-            ("MULTILINESTRING((1 2,3 4),(5 6,7 8))", "+l", [("linestrings", [0, 2, 2]), ("vertices", [0, 2, 4])], [1, 2, 3, 4, 5, 6, 7, 8]),
-            ("MULTIPOLYGON(((1 2,3 4,5 6,1 2)))", "+l", [("polygons", [0, 1, 1]), ("rings", [0, 1]), ("vertices", [0, 4])], [1, 2, 3, 4, 5, 6, 1, 2]),
+            ("POLYGON((1 2,3 4,5 6,1 2))", "+l", [("rings", [0, 1, 1]), ("vertices", [0, 4])],
+             [1, 2, 3, 4, 5, 6, 1, 2]),
+            ("MULTILINESTRING((1 2,3 4),(5 6,7 8))", "+l", [("linestrings", [0, 2, 2]), ("vertices", [0, 2, 4])],
+             [1, 2, 3, 4, 5, 6, 7, 8]),
+            ("MULTIPOLYGON(((1 2,3 4,5 6,1 2)))", "+l",
+             [("polygons", [0, 1, 1]), ("rings", [0, 1]), ("vertices", [0, 4])], [1, 2, 3, 4, 5, 6, 1, 2]),
         ]  # fmt: skip
         for text, format, lists, numbers in cases:
             taken = arrow_peer.take(*wkt.to_arrays_column([text, None]).geoarrow().__arrow_c_array__())
@@ -347,7 +383,9 @@ class Given(Arrow):
             self.assertEqual(taken[0], "+w:2")
             ((format, name, _, _, length, _, buffers, _),) = taken[7]
             got = numpy.frombuffer(buffers[1]).tolist()
-            self.assertEqual((format, name, got[: len(numbers)], length), ("g", "xy", numbers, len(numbers) + (0 if lists else 2)))
+            self.assertEqual(
+                (format, name, got[: len(numbers)], length), ("g", "xy", numbers, len(numbers) + (0 if lists else 2))
+            )
         taken = arrow_peer.take(*wkt.to_arrays_column(["POINT ZM(1 2 3 4)"]).geoarrow().__arrow_c_array__())
         self.assertEqual((taken[0], taken[7][0][1]), ("+w:4", "xyzm"))
 
@@ -365,7 +403,8 @@ class Without(unittest.TestCase):
 
     def test_errors(self):
         with unittest.mock.patch("wkt._arrow._fast", None):
-            for call in (wkt.canonical, wkt.same, wkt.reads, wkt.explain, wkt.infer, wkt.lines, wkt.to_arrays, wkt.to_arrays_column, wkt.batches):
+            calls = "canonical same reads explain infer lines to_arrays to_arrays_column batches"
+            for call in (getattr(wkt, name) for name in calls.split()):
                 given = (self.Lends(), "POINT(1 2)") if call is wkt.same else (self.Lends(),)
                 with self.assertRaises(TypeError) as raised:
                     call(*given)
@@ -440,7 +479,9 @@ class Memory(Arrow):
         tree, points = column._tree(), wkt.to_arrays_column(["POLYGON((1 2,3 4,5 6,1 2))"]).geoarrow()._tree()
         self.assertEqual(rows_in(arrow_peer.take(*self.each(lambda: _fast.export(tree)))), TEXTS)
         self.assertEqual(arrow_peer.take(*self.each(lambda: _fast.export(points)))[0], "+l")
-        self.assertEqual(self.each(lambda: arrow_peer.drain(_fast.export_stream(tree, iter([tree, points])))), len(TEXTS) + 1)
+        self.assertEqual(
+            self.each(lambda: arrow_peer.drain(_fast.export_stream(tree, iter([tree, points])))), len(TEXTS) + 1
+        )
 
 
 if __name__ == "__main__":

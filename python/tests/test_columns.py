@@ -96,8 +96,19 @@ class Kinds(unittest.TestCase):
         """Answers that are no texts have the index and the name of their Series too."""
         index = [7, 5, 3, 1, 9]
         series = pandas.Series(TEXTS, index, name="geometry", dtype=object)
-        same, kinds, why = wkt.same(series, TEXTS[0], invalid="null"), wkt.infer(series, invalid="null"), wkt.explain(series)
-        for answers in (same, kinds, why, wkt.lines(series), wkt.reads(series), wkt.same(TEXTS[0], series, invalid="null")):
+        same, kinds, why = (
+            wkt.same(series, TEXTS[0], invalid="null"),
+            wkt.infer(series, invalid="null"),
+            wkt.explain(series),
+        )
+        for answers in (
+            same,
+            kinds,
+            why,
+            wkt.lines(series),
+            wkt.reads(series),
+            wkt.same(TEXTS[0], series, invalid="null"),
+        ):
             self.assertIsInstance(answers, pandas.Series)
             self.assertEqual((answers.index.tolist(), answers.name), (index, "geometry"))
         self.assertEqual([None if it is pandas.NA else it for it in same], [True, None, False, None, False])
@@ -119,11 +130,17 @@ class Kinds(unittest.TestCase):
 
     @unittest.skipIf(pandas is None, "no pandas")
     def test_accessor(self):
-        import wkt.pandas  # noqa: F401
+        import wkt.pandas  # noqa: F401 (it gives a Series its `.wkt`)
 
         series = pandas.Series(TEXTS, [7, 5, 3, 1, 9], name="geometry", dtype=object)
         self.assertEqual(series.wkt.canonical(invalid="null").tolist(), ANSWERS)
-        for name, more in (("canonical", ("null",)), ("same", ("POINT(3 4)", 18, "null")), ("reads", ()), ("explain", ()), ("infer", ("null",))):
+        for name, more in (
+            ("canonical", ("null",)),
+            ("same", ("POINT(3 4)", 18, "null")),
+            ("reads", ()),
+            ("explain", ()),
+            ("infer", ("null",)),
+        ):
             given = (18, *more) if name == "canonical" else more
             made, wanted = getattr(series.wkt, name)(*given), getattr(wkt, name)(series, *given)
             pandas.testing.assert_series_equal(made, wanted)
@@ -143,9 +160,11 @@ class Kinds(unittest.TestCase):
     @unittest.skipIf(pandas is None, "no pandas")
     def test_every_call_takes_every_column(self):
         good = ["point(1 2)", None, "POINT(3 4)"]
-        columns = [good, tuple(good), numpy.array(good, object), numpy.ma.array(["point(1 2)", "x", "POINT(3 4)"], object, mask=[0, 1, 0]),
-                   numpy.ma.array(numpy.array(["point(1 2)", "x", "POINT(3 4)"], "S"), mask=[0, 1, 0]), pandas.Series(good),
-                   pandas.Series(good, dtype="string"), pandas.Index(good), pandas.Series(good, dtype="category")]  # fmt: skip
+        masked = ["point(1 2)", "x", "POINT(3 4)"]
+        columns = [good, tuple(good), numpy.array(good, object), numpy.ma.array(masked, object, mask=[0, 1, 0]),
+                   numpy.ma.array(numpy.array(masked, "S"), mask=[0, 1, 0]), pandas.Series(good),
+                   pandas.Series(good, dtype="string"), pandas.Index(good),
+                   pandas.Series(good, dtype="category")]  # fmt: skip
         if hasattr(numpy.dtypes if hasattr(numpy, "dtypes") else None, "StringDType"):
             columns.append(numpy.array(good, numpy.dtypes.StringDType(na_object=None)))
         if compiled is not None:
@@ -156,7 +175,10 @@ class Kinds(unittest.TestCase):
 
         def texts(it):
             rows = it.tolist() if hasattr(it, "tolist") else it
-            return [row.decode() if isinstance(row, bytes) else None if row is pandas.NA or row != row else row for row in rows]
+            return [
+                row.decode() if isinstance(row, bytes) else None if row is pandas.NA or row != row else row
+                for row in rows
+            ]
 
         answers = [
             (lambda it: texts(wkt.canonical(it)), ["POINT(1 2)", None, "POINT(3 4)"]),
@@ -167,7 +189,10 @@ class Kinds(unittest.TestCase):
             (lambda it: texts(wkt.infer(it)), [("Point", "XY"), None, ("Point", "XY")]),
             (lambda it: texts(wkt.explain(it)), [None, None, None]),
             (lambda it: texts(wkt.lines(it)), ["POINT(1 2)", None, "POINT(3 4)"]),
-            (lambda it: plain(wkt.to_arrays(it, 1)), [["Point", "XY", [10, 20], 1], None, ["Point", "XY", [30, 40], 1]]),
+            (
+                lambda it: plain(wkt.to_arrays(it, 1)),
+                [["Point", "XY", [10, 20], 1], None, ["Point", "XY", [30, 40], 1]],
+            ),
             (lambda it: list(wkt.to_arrays_column(it).statuses), [0, 28, 0]),
         ]
         for column in columns:
@@ -177,6 +202,7 @@ class Kinds(unittest.TestCase):
 
     def test_geometries(self):
         """What is no text: the error names the call that gives texts."""
+
         class Point:
             geom_type = "Point"
 
@@ -315,7 +341,9 @@ class Long(unittest.TestCase):
     def test_bar(self):
         rows = 1_000_001
         for count, shown in ((1000, False), (rows, True)):
-            with unittest.mock.patch("tqdm.tqdm", wraps=tqdm.tqdm) as bar, unittest.mock.patch("sys.stderr", io.StringIO()) as said:
+            with unittest.mock.patch("tqdm.tqdm", wraps=tqdm.tqdm) as bar, unittest.mock.patch(
+                "sys.stderr", io.StringIO()
+            ) as said:
                 wkt.reads(["POINT(1 2)"] * count, progress=True)
             self.assertEqual(bar.called, shown)
             self.assertEqual("100%" in said.getvalue(), shown)

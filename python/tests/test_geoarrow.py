@@ -39,8 +39,8 @@ def theirs(geometry):
 @unittest.skipIf(numpy is None, "no NumPy")
 class GeoArrow(unittest.TestCase):
     def texts(self, kind, z, make):
-        number = lambda: "%.3f" % make.uniform(-180, 180)  # noqa: E731
-        place = lambda: " ".join(number() for _ in range(3 if z else 2))  # noqa: E731
+        def place():
+            return " ".join("%.3f" % make.uniform(-180, 180) for _ in range(3 if z else 2))
 
         def line(least=2):
             return "(" + ",".join(place() for _ in range(make.randrange(least, 6))) + ")"
@@ -98,15 +98,18 @@ class GeoArrow(unittest.TestCase):
         nothing = numpy.broadcast_to(numpy.int64(0), (2**33 + 2,))  # it takes no memory
         one = numpy.array([0, 1], numpy.uint64)
         for last in (2**32, 2**32 + 2, 2**33 + 2):
-            held = wkt.ColumnArrays(numpy.array([1], numpy.uint32), numpy.zeros(1, numpy.uint32), nothing[:last], numpy.array([0, last]),
-                                    one, numpy.array([0, 2]), one, numpy.array([0, 2]), numpy.zeros(1, numpy.uint32))  # fmt: skip
+            zero = numpy.zeros(1, numpy.uint32)
+            held = wkt.ColumnArrays(numpy.array([1], numpy.uint32), zero, nothing[:last], numpy.array([0, last]),
+                                    one, numpy.array([0, 2]), one, numpy.array([0, 2]), zero)  # fmt: skip
             for kind in (1, 2, 3, 4, 5):
                 with self.assertRaises(OverflowError):
                     held._replace(kinds=numpy.array([kind], numpy.uint32)).geoarrow()
 
     def test_halves(self):
         """The doubles are the nearest ones."""
-        texts = ["POINT(%s %s)" % (a, b) for a, b in (("0.1", "0.3"), ("2.675", "-1.005"), ("9007199254.740991", "0.000001"))]
+        texts = [
+            "POINT(%s %s)" % (a, b) for a, b in (("0.1", "0.3"), ("2.675", "-1.005"), ("9007199254.740991", "0.000001"))
+        ]
         made = wkt.to_arrays_column(texts, 6).geoarrow(6)
         self.assertEqual(made.coordinates.tolist(), [[0.1, 0.3], [2.675, -1.005], [9007199254.740991, 0.000001]])
 

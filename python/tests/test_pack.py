@@ -46,7 +46,9 @@ class Pack(unittest.TestCase):
                 return self
 
         for said in (1, 1000):
-            self.assertEqual(wkt.canonical(Itself(["point(1 2)", None, "POINT(3 4)"], said)), ["POINT(1 2)", None, "POINT(3 4)"])
+            self.assertEqual(
+                wkt.canonical(Itself(["point(1 2)", None, "POINT(3 4)"], said)), ["POINT(1 2)", None, "POINT(3 4)"]
+            )
 
     def test_offsets_that_are_wrong(self):
         if _blocks._fast is None:

@@ -56,7 +56,11 @@ class Whole(unittest.TestCase):
         self.assertEqual(list(wkt.to_arrays_column(column).statuses), [30])
         found = wkt.explain("pöint(1 2)")
         self.assertEqual((found.start, found.stop), (0, 5))
-        for given, at in ((text, (11, 15)), ("POINT(1 2)  \n \u00e4\u00f6", (14, 16)), ("POINT(1 2)  \n \u00e4".encode(), (14, 16))):
+        for given, at in (
+            (text, (11, 15)),
+            ("POINT(1 2)  \n \u00e4\u00f6", (14, 16)),
+            ("POINT(1 2)  \n \u00e4".encode(), (14, 16)),
+        ):
             found = wkt.explain(given)
             self.assertEqual((found.status, found.message), (30, "More than white space follows the geometry"))
             self.assertEqual(((found.start, found.stop), found.expected), (at, "the end of the text"))
@@ -64,7 +68,9 @@ class Whole(unittest.TestCase):
         # Lines are answered by their fronts, as by the program wktstream.
         sink = io.BytesIO()
         wkt.stream(io.BytesIO(text.encode()), sink)
-        self.assertEqual((sink.getvalue(), wkt.lines(text), wkt.lines(column)), (b"POINT(1 2)\n", b"POINT(1 2)\n", ["POINT(1 2)"]))
+        self.assertEqual(
+            (sink.getvalue(), wkt.lines(text), wkt.lines(column)), (b"POINT(1 2)\n", b"POINT(1 2)\n", ["POINT(1 2)"])
+        )
 
 
 class Words(unittest.TestCase):
@@ -74,7 +80,9 @@ class Words(unittest.TestCase):
         self.assertEqual((found.line, found.column), (1, 18))
         self.assertEqual(str(found), "LINESTRING(1 2,3 x)\n                 ^ a second number was expected")
         self.assertIsNone(wkt.explain("POINT(1 2) and more", whole=False))
-        self.assertEqual(wkt.explain("POINT(1 2.55)", places=1).message, "Unable to parse input number as the desired output type")
+        self.assertEqual(
+            wkt.explain("POINT(1 2.55)", places=1).message, "Unable to parse input number as the desired output type"
+        )
         found = wkt.explain("POINT(\n\t1.x")
         self.assertEqual((found.line, found.column), (2, 2))
         self.assertEqual(str(found).split("\n")[1], "\t^^^ a first number was expected")
@@ -95,7 +103,9 @@ class Words(unittest.TestCase):
 
     def test_columns_of_explanations(self):
         found = wkt.explain(TEXTS + [b"\xff"])
-        self.assertEqual([it and it.expected for it in found], [None, None, None, "a kind of geometry, such as POINT,", None, None])
+        self.assertEqual(
+            [it and it.expected for it in found], [None, None, None, "a kind of geometry, such as POINT,", None, None]
+        )
 
     def test_errors_say_where(self):
         with self.assertRaises(wkt.WktError) as raised:
@@ -147,7 +157,10 @@ class Words(unittest.TestCase):
             self.assertEqual((made.dtype, made.tolist()), (numpy.dtype(bool), [True, False, True, False, True]))
 
     def test_version(self):
-        with open(os.path.join(os.path.dirname(os.path.abspath(__file__)), os.pardir, os.pardir, "include", "wkt.h"), encoding="utf-8") as file:
+        with open(
+            os.path.join(os.path.dirname(os.path.abspath(__file__)), os.pardir, os.pardir, "include", "wkt.h"),
+            encoding="utf-8",
+        ) as file:
             self.assertIn('#define WKT_VERSION "%s"' % wkt.__version__, file.read())
 
     def test_documented(self):

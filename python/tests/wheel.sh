@@ -66,8 +66,8 @@ echo "libraries that don't suit are refused"
 
 export PYTHONPATH=$work/installed1
 # The wheel carries the proved program.
-if [ -d "$here/../../tests/command" ]; then
-    "$here/../../tests/command.sh" "$python" -m wkt > "$work/said" 2>&1 || { cat "$work/said"; echo "python -m wkt: other answers"; exit 1; }
+if [ -d "$here/../../tests/data/command" ]; then
+    "$here/../../tests/gate/command.sh" "$python" -m wkt > "$work/said" 2>&1 || { cat "$work/said"; echo "python -m wkt: other answers"; exit 1; }
     echo "python -m wkt: $(tail -n 1 "$work/said")"
 fi
 rm "$work/bare/wkt/_command"
@@ -75,6 +75,17 @@ rm "$work/bare/wkt/_command"
 (cd "$work" && "$python" "$here/../examples/same_geometries.py" > said 2>&1 && [ -s same_geometries.png ]) || { cat "$work/said"; echo "the example fails"; exit 1; }
 grep -q '^POINT(10.0067 53.553) * 3 * 3 ' "$work/said" || { cat "$work/said"; echo "the example: other counts"; exit 1; }
 echo "the example: $(head -n 1 <(grep geometries "$work/said"))"
+# example STATUS WORDS WORD..: called so, it ends so and says the words, and nothing of its insides
+example() {
+    local status=0
+    (cd "$work" && "$python" "${@:3}") > "$work/said" 2>&1 || status=$?
+    [ "$status" = "$1" ] && grep -q "$2" "$work/said" && ! grep -q Traceback "$work/said" || { cat "$work/said"; echo "the example: ${*:3}: not as it should be"; exit 1; }
+}
+example 0 '^usage: .*TABLE' "$here/../examples/same_geometries.py" --help
+example 2 'No such file' "$here/../examples/same_geometries.py" nowhere.csv
+echo 'a,b' > "$work/other.csv"
+example 2 'no column geometry, but a, b' "$here/../examples/same_geometries.py" other.csv
+example 1 "No module named '" -I -S "$here/../examples/same_geometries.py" --help
 # The pages' sessions, as they are pasted. That of Dask over the files that it names.
 "$python" "$here/pages.py" "$here/../README.md" numpy || { echo "README.md: other answers"; exit 1; }
 if "$python" -c 'import dask.dataframe' 2> /dev/null; then

@@ -1,9 +1,11 @@
 """Canonical keys over Dask, on workers that are processes of their own: with_dask.py [ROWS [hosts|processes]]
 
-It starts a scheduler and three workers, as hosts of their own where network namespaces can be made (root, Linux, iproute2),
-and compares with one run: the bytes of all keys (a bag of a text file), the counts of a group-by (a dataframe), the rows
-that are refused, by their number; then a worker is killed in the middle, and the counts have to be the same. Status 0: all
-of it holds. The package has to be there for the workers as it is here: PYTHONPATH and WKT_LIB are handed on.
+It starts a scheduler and three workers, as hosts of their own where network namespaces can be made (root, Linux,
+iproute2),
+and compares with one run: the bytes of all keys (a bag of a text file), the counts of a group-by (a dataframe), the
+rows that are refused, by their number; then a worker is killed in the middle, and the counts have to be the same.
+Status 0: all of it holds. The package has to be there for the workers as it is here: PYTHONPATH and WKT_LIB are handed
+on.
 """
 import csv
 import glob
@@ -107,7 +109,8 @@ class Hosts:
     def can_be_made(self):
         try:
             return self.ip("link", "add", self.bridge, "type", "bridge", check=False) and (
-                self.ip("addr", "add", "10.77.0.254/24", "dev", self.bridge) and self.ip("link", "set", self.bridge, "up")
+                self.ip("addr", "add", "10.77.0.254/24", "dev", self.bridge)
+                and self.ip("link", "set", self.bridge, "up")
             )
         except OSError:
             return False
@@ -116,7 +119,11 @@ class Hosts:
         """A process on a host of its own, and the address of that host."""
         if not self.apart:
             return subprocess.Popen(words, **how)
-        name, inside, outside = "%s-%d" % (self.bridge, number), "%si%d" % (self.bridge, number), "%so%d" % (self.bridge, number)
+        name, inside, outside = (
+            "%s-%d" % (self.bridge, number),
+            "%si%d" % (self.bridge, number),
+            "%so%d" % (self.bridge, number),
+        )
         self.made.append(name)
         self.ip("netns", "add", name)
         self.ip("link", "add", outside, "type", "veth", "peer", "name", inside)
@@ -150,7 +157,8 @@ class Cluster:
             self.start(0, "dask_scheduler", "--host", self.hosts.address(0), "--port", str(port), "--no-dashboard")
             for number in range(1, WORKERS + 1):
                 self.start(number, "dask_worker", self.address, "--host", self.hosts.address(number), "--no-nanny",
-                           "--nthreads", "1", "--memory-limit", "4GB", "--no-dashboard", "--local-directory", folder)  # fmt: skip
+                           "--nthreads", "1", "--memory-limit", "4GB", "--no-dashboard",
+                           "--local-directory", folder)  # fmt: skip
         except BaseException:
             self.end()
             raise

@@ -9,7 +9,10 @@ def program() -> Optional[str]:
     """Where the proved program is."""
     here = os.path.dirname(os.path.abspath(__file__))
     clone = os.path.join(here, os.pardir, os.pardir)
-    built = [os.path.join(clone, "dist", "out", "wkt"), os.path.join(clone, "crates", "wkt_command", "out", "wkt_command")]
+    built = [
+        os.path.join(clone, "dist", "out", "wkt"),
+        os.path.join(clone, "crates", "wkt_command", "out", "wkt_command"),
+    ]
     for path in [os.path.join(here, "_command"), *built]:
         if os.access(path, os.X_OK):
             return path

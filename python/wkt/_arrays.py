@@ -82,7 +82,7 @@ class ColumnArrays(NamedTuple):
         return Arrays(KINDS[self.kinds[i]], DIMENSIONS[self.dimensions[i]], numbers, rings, polygons, self.places)
 
     def geoarrow(self, places: Optional[int] = None) -> Any:
-        """The rows as GeoArrow has them, with coordinates as doubles: see `wkt.GeoArrow`. places: as of `from_arrays`."""
+        """The rows as GeoArrow has them, with doubles as coordinates: `wkt.GeoArrow`. places: as of `from_arrays`."""
         from ._geoarrow import geoarrow
 
         return geoarrow(self, _places_in(self, places))
@@ -139,9 +139,7 @@ def _text_arrays(text: Text, places: int) -> Arrays:
     return Arrays(KINDS[sizes.kind], DIMENSIONS[sizes.dimension], *three, places=places % WHOLE)
 
 
-def to_arrays(
-    text: Any, places: int = 6, invalid: str = "raise", progress: Progress = None, whole: bool = True
-) -> Any:
+def to_arrays(text: Any, places: int = 6, invalid: str = "raise", progress: Progress = None, whole: bool = True) -> Any:
     """The geometry that a text names as `Arrays`; of a column a list of them, with None of a null row.
 
     places: digits after the point, 0 to 18; a number is whole units of ten to the minus `places`.
@@ -234,7 +232,9 @@ class _Filling:
         """All of it, with numbers of so many places."""
         three = [values[:used] for values, used in zip(self.three, self.used)]
         kinds, dimensions, statuses = self.words
-        return ColumnArrays(*[kinds, dimensions, *itertools.chain.from_iterable(zip(three, self.ends)), statuses, places])
+        return ColumnArrays(
+            *[kinds, dimensions, *itertools.chain.from_iterable(zip(three, self.ends)), statuses, places]
+        )
 
 
 def to_arrays_column(texts: Any, places: int = 6, progress: Progress = None, whole: bool = True) -> ColumnArrays:
@@ -289,8 +289,8 @@ def from_arrays(arrays: Any, places: Optional[int] = None) -> Any:
     """The canonical text of the geometry of `Arrays`; of a list of them a list, with None of a None.
 
     Each of the numbers, rings and polygons is an int: a list of int or an array of integers. They are copied before
-    they are looked at. places: digits after the point that the text may have, and that the numbers have where the arrays
-    don't say it (None: those of the arrays, or 6).
+    they are looked at. places: digits after the point that the text may have, and that the numbers have where the
+    arrays don't say it (None: those of the arrays, or 6).
     ValueError: the arrays have more places, and a number needs them.
     TypeError: one is a float, a bool or another type. OverflowError: one is out of the range of its 64 bits.
     WktError: the arrays are of no geometry (26); in a list it names the row.
@@ -330,9 +330,7 @@ def _column_texts(arrays: ColumnArrays, places: int) -> Tuple[Any, int, Any, Any
     answers = list(_parts(ends, statuses))
 
     def call(out: Any, length: int, needed: Any) -> int:
-        status: int = _library.wkt_column_from_arrays(
-            *eight, valid, len(valid), places, out, length, *answers, needed
-        )
+        status: int = _library.wkt_column_from_arrays(*eight, valid, len(valid), places, out, length, *answers, needed)
         return status
 
     room = Room(12 * held["numbers"].length + 24 * rows + 64)

@@ -1,7 +1,8 @@
 """Columns that Arrow's C data interface and C stream interface lend, in and out, with no object for a row.
 
-What has `__arrow_c_array__` or `__arrow_c_stream__` lends its buffers, with no import of pyarrow. wkt/_fast takes and checks
-them, and lends what comes back. The bytes of the texts are not copied: they must not change during a call, as Arrow has it.
+What has `__arrow_c_array__` or `__arrow_c_stream__` lends its buffers, with no import of pyarrow. wkt/_fast takes and
+checks them, and lends what comes back. The bytes of the texts are not copied: they must not change during a call, as
+Arrow has it.
 """
 import struct
 from collections.abc import Sequence
@@ -13,7 +14,10 @@ from ._names import NOT_UTF8
 from ._values import numpy
 
 _NULLABLE = 2
-LACKING = "Arrow columns need NumPy and wkt._fast, the module in C that a wheel for Python 3.11 and later has; a list works without"
+LACKING = (
+    "Arrow columns need NumPy and wkt._fast, the module in C that a wheel for Python 3.11 and later has; "
+    "a list works without"
+)
 
 
 def lends(values: Any) -> bool:
@@ -32,7 +36,12 @@ def is_texts(values: Any) -> bool:
 
 def _packed(parts: Any) -> Packed:
     data, offsets, bits, rows = parts
-    return Packed(numpy.frombuffer(data, numpy.uint8), numpy.frombuffer(offsets, numpy.int64), numpy.frombuffer(bits, numpy.uint8), rows)
+    return Packed(
+        numpy.frombuffer(data, numpy.uint8),
+        numpy.frombuffer(offsets, numpy.int64),
+        numpy.frombuffer(bits, numpy.uint8),
+        rows,
+    )
 
 
 def _chunks(stream: Any) -> Iterator[Packed]:
@@ -79,7 +88,11 @@ def metadata_of(pairs: Dict[str, str]) -> bytes:
 def _checked(data: Any, offsets: Any, statuses: Any) -> Texts:
     """Copies of buffers that somebody made, each of its type, and in order. A row that isn't UTF-8 has status 20."""
     held = []
-    for values, kind, what in ((data, "uint8", "data"), (offsets, "int64", "offsets"), (statuses, "uint32", "statuses")):
+    for values, kind, what in (
+        (data, "uint8", "data"),
+        (offsets, "int64", "offsets"),
+        (statuses, "uint32", "statuses"),
+    ):
         if not isinstance(values, numpy.ndarray) or values.dtype != kind or values.ndim != 1:
             raise TypeError("%s is an array of %s in one dimension" % (what, kind))
         held.append(numpy.array(values, kind))
@@ -157,7 +170,12 @@ class ArrowTexts(Sequence):  # type: ignore[type-arg]
     def __repr__(self) -> str:
         shown = [text if text is None or len(text) < 60 else text[:57] + "..." for text in self[:5].to_pylist()]
         more = ", ..." if len(self) > 5 else ""
-        return "<wkt.ArrowTexts: %d rows, %d null: [%s%s]>" % (len(self), self._nulls(), ", ".join(map(repr, shown)), more)
+        return "<wkt.ArrowTexts: %d rows, %d null: [%s%s]>" % (
+            len(self),
+            self._nulls(),
+            ", ".join(map(repr, shown)),
+            more,
+        )
 
     def to_pylist(self) -> List[Optional[str]]:
         """The texts as a list of str and None."""
@@ -219,6 +237,9 @@ def canonical(column: Any, places: int, invalid: str, progress: Progress) -> Any
 
 def statuses(column: Any, places: int, progress: Progress = None) -> Any:
     """The status of each row, as an array of the column's shape."""
-    parts = [numpy.empty(0, numpy.uint32), *(texts.statuses for texts in answered(taken(column), places, "null", progress))]
+    parts = [
+        numpy.empty(0, numpy.uint32),
+        *(texts.statuses for texts in answered(taken(column), places, "null", progress)),
+    ]
     result = numpy.concatenate(parts)
     return result.reshape(column.shape) if is_fixed(column) else result

@@ -50,7 +50,9 @@ def pack(rows: Sequence[Any], first: int = 0) -> Packed:
     except TypeError:
         joined = "\x80"
     if joined.isascii():
-        return Packed(joined.encode(), array.array("q", itertools.accumulate(map(len, rows), initial=0)), b"", len(rows))
+        return Packed(
+            joined.encode(), array.array("q", itertools.accumulate(map(len, rows), initial=0)), b"", len(rows)
+        )
     held = [b"" if is_null(row) else encoded(row, first + i) for i, row in enumerate(rows)]
     ends = array.array("q", itertools.accumulate(map(len, held), initial=0))
     return Packed(b"".join(held), ends, _bits(rows), len(rows))
@@ -114,7 +116,9 @@ class Room:
 Block = Tuple[int, List[Optional[str]], Any]
 
 
-def canonical_blocks(rows: Sequence[Any], places: int, progress: Progress = None, texts: bool = True) -> Iterator[Block]:
+def canonical_blocks(
+    rows: Sequence[Any], places: int, progress: Progress = None, texts: bool = True
+) -> Iterator[Block]:
     """Of each block of rows where it begins, the canonical texts (if they are wanted), and the status of each row."""
     room = Room(1)
     with shown(progress, len(rows)) as report:

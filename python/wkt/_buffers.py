@@ -20,7 +20,7 @@ class Texts(NamedTuple):
 
 
 class Buffers(NamedTuple):
-    """A column as its chunks. rows: how many they have, or None where only the end tells. metadata: that of Arrow's type."""
+    """A column as its chunks. rows: how many they have; None: only the end tells. metadata: that of Arrow's type."""
 
     chunks: Iterator[Packed]
     rows: Optional[int]
@@ -67,7 +67,11 @@ def whole(held: Buffers) -> Packed:
         return chunks[0]
     valid = []
     for chunk in chunks:
-        bits = numpy.unpackbits(chunk.bits, bitorder="little")[: chunk.rows] if len(chunk.bits) else numpy.ones(chunk.rows, numpy.uint8)
+        bits = (
+            numpy.unpackbits(chunk.bits, bitorder="little")[: chunk.rows]
+            if len(chunk.bits)
+            else numpy.ones(chunk.rows, numpy.uint8)
+        )
         valid.append(bits)
     data = numpy.concatenate([numpy.empty(0, numpy.uint8), *(chunk.data for chunk in chunks)])
     all_valid = numpy.concatenate([numpy.empty(0, numpy.uint8), *valid])
@@ -118,7 +122,7 @@ def refused(texts: Texts) -> Any:
 
 
 def kept(held: Packed, texts: Texts, bytes_too: bool) -> Texts:
-    """The same, with each refused row as it was given; without `bytes_too` one that isn't UTF-8 stays without a text."""
+    """The same, with each refused row as it was given; without `bytes_too` one that isn't UTF-8 has no text still."""
     rows = refused(texts)
     if not bytes_too:
         rows = rows[texts.statuses[rows] != NOT_UTF8]

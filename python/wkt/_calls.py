@@ -4,13 +4,27 @@ from typing import Any, List, Optional, Sequence, Tuple
 
 from . import _arrow, _library
 from ._blocks import Progress, Room, canonical_blocks
+
 from ._columns import (
-    canonical_like, canonical_rows, check_invalid, column_of, is_column, is_series, like, or_null, refused_of, series_like,
+    canonical_like, canonical_rows, check_invalid, column_of, is_column, is_series, like, or_null, refused_of,
+    series_like,
 )  # fmt: skip
 from ._errors import check
 from ._explain import Explanation, explained, refusal
 from ._library import size, u32
-from ._names import DIMENSIONS, HEADER_MESSAGES, KINDS, LAST_REFUSAL, MESSAGES, NO_MEMORY, NO_PLACES, NOT_UTF8, NOT_WHOLE, NULL, TOO_SMALL
+from ._names import (
+    DIMENSIONS,
+    HEADER_MESSAGES,
+    KINDS,
+    LAST_REFUSAL,
+    MESSAGES,
+    NO_MEMORY,
+    NO_PLACES,
+    NOT_UTF8,
+    NOT_WHOLE,
+    NULL,
+    TOO_SMALL,
+)
 from ._values import Text, encoded, is_null, places_of
 
 _INFERRED = HEADER_MESSAGES + MESSAGES[len(HEADER_MESSAGES) :]
@@ -36,18 +50,19 @@ def canonical(
 ) -> Any:
     """The one text of the geometry that a text names; of a column a column of the same kind.
 
-    text: str or bytes; or a column: a list or a tuple (a list comes back), a NumPy array of any shape (objects come back
-    as objects, bytes as bytes, masked arrays masked), a Series or an Index of pandas (with its index and name), or what
-    has `__arrow_c_array__` or `__arrow_c_stream__` (`ArrowTexts` comes back, with no object for a row). A row that is
-    None, NaN or pandas.NA is null and stays so: it is None.
+    text: str or bytes; or a column: a list or a tuple (a list comes back), a NumPy array of any shape (objects come
+    back as objects, bytes as bytes, masked arrays masked), a Series or an Index of pandas (with its index and name), or
+    what has `__arrow_c_array__` or `__arrow_c_stream__` (`ArrowTexts` comes back, with no object for a row). A row that
+    is None, NaN or pandas.NA is null and stays so: it is None.
     places: digits after the point, 0 to 18: a text with more is refused, since nothing is rounded.
-    invalid: what becomes of a refused text: "raise" (a WktError), "null": None, or "keep": the text as it was given. In an
-    Arrow column one that isn't UTF-8 can't be kept, and is null.
+    invalid: what becomes of a refused text: "raise" (a WktError), "null": None, or "keep": the text as it was given. In
+    an Arrow column one that isn't UTF-8 can't be kept, and is null.
     progress: a function that is called with how many rows are done, or True: tqdm's bar above a million rows.
     whole: a text with more than white space behind its geometry is refused. With False anything may follow.
 
     WktError: the text is refused (1 to 14, or 30: more follows), isn't UTF-8 (20), or there are no such places (23). It
-    has the row, and as `explanation` where in the text, and why. TypeError: a text or a row is no text, or places no int.
+    has the row, and as `explanation` where in the text, and why. TypeError: a text or a row is no text, or places no
+    int.
     OverflowError: places is below 0, or too large for 32 bits.
     """
     places = places_of(places, whole)
@@ -64,14 +79,18 @@ def batches(
 ) -> _arrow.Batches:
     """The canonical texts of an Arrow stream, batch by batch: it is read as they are taken, and one batch is held.
 
-    column: what has `__arrow_c_stream__` or `__arrow_c_array__`, such as a reader of Parquet files. What comes back is an
-    iterator of `ArrowTexts`, and has `__arrow_c_stream__`. The other arguments, and errors: as of `canonical`; an error
-    comes with the batch that it is in.
+    column: what has `__arrow_c_stream__` or `__arrow_c_array__`, such as a reader of Parquet files. What comes back is
+    an iterator of `ArrowTexts`, and has `__arrow_c_stream__`. The other arguments, and errors: as of `canonical`; an
+    error comes with the batch that it is in.
     """
     places = places_of(places, whole)
     check_invalid(invalid)
     if not _arrow.is_texts(column) or not _arrow.lends(column):
-        raise TypeError(_arrow.LACKING if _arrow.lends(column) else "batches are of an Arrow stream, and not of %s" % type(column).__name__)
+        raise TypeError(
+            _arrow.LACKING
+            if _arrow.lends(column)
+            else "batches are of an Arrow stream, and not of %s" % type(column).__name__
+        )
     return _arrow.Batches(_arrow.taken(column), places, invalid, progress)
 
 
@@ -103,10 +122,11 @@ def same(
 ) -> Any:
     """Whether two texts name one geometry: whether their canonical texts are equal.
 
-    Of two columns of one length, or a column and a text, a list of bool, and None where a row is null in either. Where a
-    column is a Series of pandas, a Series of `boolean`; two Series have one index.
-    invalid: "raise" or "null": None where a text is refused in either. places, progress, whole, errors: as of `canonical`;
-    the WktError of a column names the first row that is refused. ValueError: the columns have different lengths or indexes.
+    Of two columns of one length, or a column and a text, a list of bool, and None where a row is null in either. Where
+    a column is a Series of pandas, a Series of `boolean`; two Series have one index.
+    invalid: "raise" or "null": None where a text is refused in either. places, progress, whole, errors: as of
+    `canonical`; the WktError of a column names the first row that is refused. ValueError: the columns have different
+    lengths or indexes.
     """
     places = places_of(places, whole)
     if type(one) is type(other) is str and invalid == "raise":
@@ -118,7 +138,9 @@ def same(
     series = [it for it, column in zip((one, other), columns) if column and is_series(it)]
     ones, others = (column_of(it) if column else None for it, column in zip((one, other), columns))
     if ones is None or others is None:
-        answers = _same_as(ones if ones is not None else others or (), other if others is None else one, places, invalid, progress)
+        answers = _same_as(
+            ones if ones is not None else others or (), other if others is None else one, places, invalid, progress
+        )
     elif len(others) != len(ones):
         raise ValueError("columns of %d and of %d rows" % (len(ones), len(others)))
     elif len(series) == 2 and not series[0].index.equals(series[1].index):
@@ -171,16 +193,16 @@ def _text_kind(text: Text, row: Optional[int] = None) -> Tuple[str, str]:
 def infer(text: Any, invalid: str = "raise") -> Any:
     """The kind and the dimension that the header of a text names, by their names in KINDS and DIMENSIONS.
 
-    The rest isn't read. Of a column a list, and of a Series of pandas a Series, with None of a null row. invalid: "raise"
-    or "null": None of a text without a header. WktError: the text begins with no kind word (1), EMPTY comes first with no
-    space before it (2), there is neither a parenthesis nor EMPTY (3), or it isn't UTF-8 (20).
+    The rest isn't read. Of a column a list, and of a Series of pandas a Series, with None of a null row. invalid:
+    "raise" or "null": None of a text without a header. WktError: the text begins with no kind word (1), EMPTY comes
+    first with no space before it (2), there is neither a parenthesis nor EMPTY (3), or it isn't UTF-8 (20).
     """
     check_invalid(invalid, ("raise", "null"))
     if not is_column(text):
         return or_null(invalid, None, lambda: _text_kind(text))
 
     rows = enumerate(column_of(text))
-    kinds = [None if is_null(row) else or_null(invalid, None, lambda: _text_kind(row, i)) for i, row in rows]  # noqa: B023
+    kinds = [None if is_null(row) else or_null(invalid, None, lambda: _text_kind(row, i)) for i, row in rows]
     return series_like(text, kinds)
 
 
@@ -188,8 +210,8 @@ def reads(text: Any, places: int = 18, progress: Progress = None, whole: bool = 
     """Whether a text is read: whether `canonical` answers it.
 
     Of a column a bool of each row, as an array or a Series of bool where the column is one, and else a list; of a null
-    row False. It says nothing on what Shapely calls valid: a polygon that crosses itself reads. places, progress, whole:
-    as of `canonical`.
+    row False. It says nothing on what Shapely calls valid: a polygon that crosses itself reads. places, progress,
+    whole: as of `canonical`.
     """
     places = places_of(places, whole)
     if not is_column(text):
@@ -226,11 +248,12 @@ def explain(text: Any, places: int = 18, progress: Progress = None, whole: bool 
 
 
 def lines(data: Any, places: int = 18) -> Any:
-    """For each line of some bytes the canonical text of the geometry that it begins with, or `refused`, and a line feed.
+    """For each line of some bytes the canonical text of the geometry that it begins with, or `refused`, and a line
+    feed.
 
     What follows a geometry in its line isn't looked at. data: str or bytes; bytes come back. Of a column, none of whose
-    texts holds a line feed, a list of the answers, and of a Series of pandas a Series, with None of a null row. places: as
-    of `canonical`. ValueError: a text of a column holds a line feed.
+    texts holds a line feed, a list of the answers, and of a Series of pandas a Series, with None of a null row. places:
+    as of `canonical`. ValueError: a text of a column holds a line feed.
     """
     places = places_of(places)
     if not is_column(data):

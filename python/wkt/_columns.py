@@ -89,12 +89,12 @@ def _array(answers: List[Any], kind: Any) -> Any:
 
 
 def _texts_type(values: Any) -> Any:
-    """The type of a Series or an Index of pandas' own strings, by its class: its name is `string`, or `str` in pandas 3."""
+    """The type of a Series or Index of pandas' own strings, by its class: its name is `string`, in pandas 3 `str`."""
     return values.dtype if isinstance(values.dtype, _pandas("StringDtype")) else None
 
 
 def series_like(values: Any, answers: List[Any], kind: Any = None) -> Any:
-    """Answers that are no texts: a Series with the index and the name of what was given, if that is one, and else a list."""
+    """Answers that are no texts: a Series with index and name of what was given, if that is one; else a list."""
     if not is_series(values):
         return answers
     held = answers if kind else _array(answers, None)

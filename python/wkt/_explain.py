@@ -20,9 +20,10 @@ class Explanation(NamedTuple):
     """Why a text is refused, and where.
 
     `start` to `stop` is what can't stand there; where the text ends too early, it is empty. Both count the characters
-    of a str and the bytes of bytes, from 0 on, as slices do. `expected` says what could stand there, `hint` why the text
-    is refused, where that is known ("" where not), `message` is that of the `WktError`, and `status` its number. `cause`
-    is one line, with the place, which counts from 1. `str()` shows the line of the text with a mark below the place.
+    of a str and the bytes of bytes, from 0 on, as slices do. `expected` says what could stand there, `hint` why the
+    text is refused, where that is known ("" where not), `message` is that of the `WktError`, and `status` its number.
+    `cause` is one line, with the place, which counts from 1. `str()` shows the line of the text with a mark below the
+    place.
     """
 
     text: Union[str, bytes]

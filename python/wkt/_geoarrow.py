@@ -65,7 +65,9 @@ class GeoArrow(NamedTuple):
 def _int32(values: Any) -> Any:
     """Offsets as GeoArrow has them. An OverflowError where one is too large."""
     if len(values) and int(values[-1]) > 2**31 - 1:
-        raise OverflowError("GeoArrow's offsets are of 0 to 2147483647, and not %d: give it fewer rows at once" % int(values[-1]))
+        raise OverflowError(
+            "GeoArrow's offsets are of 0 to 2147483647, and not %d: give it fewer rows at once" % int(values[-1])
+        )
     return values.astype(numpy.int32)
 
 

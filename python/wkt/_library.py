@@ -53,7 +53,9 @@ def _load() -> ctypes.CDLL:
             return ctypes.CDLL(name)
         except OSError:
             pass
-    raise ImportError("libwkt.so is missing: capi/build.sh in a clone of wkt makes it, and WKT_LIB_DIR may name its folder")
+    raise ImportError(
+        "libwkt.so is missing: capi/build.sh in a clone of wkt makes it, and WKT_LIB_DIR may name its folder"
+    )
 
 
 _library = _load()

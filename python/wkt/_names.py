@@ -1,5 +1,5 @@
 """The names that the package shares with the other languages."""
-# names.py: python (tests/names.py --write makes this of docs/names.tsv)
+# names.py: python (tests/gate/names.py --write makes this of docs/names.tsv)
 # The words of a status, at its number.
 MESSAGES = (
     "",

@@ -24,7 +24,7 @@ def _pieces(source: Any, report: Callable[[int], None]) -> Iterator[bytes]:
 
 
 def _write(sink: Any, data: bytes) -> None:
-    """Writes all of it: a file without a buffer may take a part. What the sink gets never changes, so it may keep it."""
+    """Writes all of it: a file without a buffer may take a part. The sink may keep what it gets: it never changes."""
     rest: Any = data
     while rest:
         taken = sink.write(rest)
@@ -51,7 +51,8 @@ def _whole_lines(source: Any, report: Callable[[int], None]) -> Iterator[bytes]:
 
 
 def stream(source: Any, sink: Any, places: int = 18, progress: Progress = None) -> int:
-    """Writes to a sink, for each line of a source, the canonical text of the geometry that it begins with, or `refused`.
+    """Writes to a sink, for each line of a source, the canonical text of the geometry that it begins with, or
+    `refused`.
 
     Each answer ends with a line feed. What follows a geometry in its line isn't looked at.
 

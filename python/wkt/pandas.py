@@ -25,7 +25,9 @@ class Accessor:
     def canonical(self, places: int = 18, invalid: str = "raise", progress: Any = None, whole: bool = True) -> Any:
         return _calls.canonical(self._values, places, invalid, progress, whole)
 
-    def same(self, other: Any, places: int = 18, invalid: str = "raise", progress: Any = None, whole: bool = True) -> Any:
+    def same(
+        self, other: Any, places: int = 18, invalid: str = "raise", progress: Any = None, whole: bool = True
+    ) -> Any:
         return _calls.same(self._values, other, places, invalid, progress, whole)
 
     def reads(self, places: int = 18, progress: Any = None, whole: bool = True) -> Any:

@@ -1,6 +1,6 @@
 //! The names that the crate shares with the other languages.
 #![allow(dead_code)]
-// names.py: rust (tests/names.py --write makes this of docs/names.tsv)
+// names.py: rust (tests/gate/names.py --write makes this of docs/names.tsv)
 /// The words of a status, at its number.
 pub const MESSAGES: [&str; 34] = [
     "",

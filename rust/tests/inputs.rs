@@ -121,7 +121,7 @@ fn printed(name: &str, input: &str, places: u32) -> String {
     out + &format!("{refused} of {count} {lines} refused\n")
 }
 
-/// The lines of a case of a transcript that begin with the mark; `tests/command.sh` says what stands there.
+/// The lines of a case of a transcript that begin with the mark; `tests/gate/command.sh` says what stands there.
 fn marked(transcript: &str, case: &str, mark: &str) -> String {
     let (_, from) = transcript
         .split_once(&format!("# {case}\n"))
@@ -152,7 +152,7 @@ fn plain(text: &str) -> String {
 
 #[test]
 fn as_the_command_shows_it() {
-    let path = Path::new(env!("CARGO_MANIFEST_DIR")).join("../tests/command/check.txt");
+    let path = Path::new(env!("CARGO_MANIFEST_DIR")).join("../tests/data/command/check.txt");
     let transcript = std::fs::read_to_string(path).unwrap();
     for (case, name, input, places) in [
         ("check-columns", "standard input", "<", 18),

@@ -2,7 +2,10 @@
  * --wrap, so that the calls of the Rattle code come here, and from here go to the toolchain's functions. */
 #include <stdint.h>
 #include <stddef.h>
-typedef struct { uint64_t ok; void *at; } heap_answer;
+typedef struct {
+    uint64_t ok;
+    void *at;
+} heap_answer;
 heap_answer __real_rattle_alloc(size_t size, size_t align);
 heap_answer __real_rattle_realloc(void *p, size_t old, size_t size, size_t align);
 void __real_rattle_dealloc(void *p, size_t size, size_t align);

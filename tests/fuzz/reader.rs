@@ -1,5 +1,6 @@
 //! A plain reader and writer of well-known text, from docs/GRAMMAR.md alone: what the fuzz compares the library with. It
-//! goes by recursion, makes a `String` of each number, and shares nothing with the library.
+//! goes by recursion, makes a `String` of each number, and shares nothing with the library. For short lists alone there is
+//! a program that tries every cut of the lexemes: `crates/wkt_tests/src/short_texts/reference.rt`.
 
 pub const KINDS: [&str; 7] =
     ["POINT", "LINESTRING", "POLYGON", "MULTIPOINT", "MULTILINESTRING", "MULTIPOLYGON", "GEOMETRYCOLLECTION"];
@@ -7,7 +8,7 @@ pub const DIMENSIONS: [&str; 4] = ["", "Z", "M", "ZM"];
 /// The messages of a coordinate's places, by its dimension.
 const AXES: [&[usize]; 4] = [&[8, 9], &[8, 9, 10], &[8, 9, 11], &[8, 9, 10, 11]];
 
-/// The text of the one number of `Long` (crates/wkt_test_support).
+/// The text of the one number of `Long` (crates/wkt_tests).
 const LONG: &str = ".llllllllllllllllllll";
 
 /// A number type: what it reads is kept as the text that it prints.

@@ -4,13 +4,17 @@ seeds.py OUT FILE..: writes the lines of the files to the folder OUT: of a table
 seeds.py --keep FOLDER.. > corpus.txt: the files of the folders as corpus.txt has them, the shortest first.
 
 In corpus.txt each line after the first is an input, in ASCII: a backslash, a line feed, a return, a tab and each byte
-that isn't printable ASCII are written as in Python's bytes (\\\\, \\n, \\r, \\t, \\x00), and so is a space at an end (\\x20).
+that isn't printable ASCII are written as in Python's bytes (\\\\, \\n, \\r, \\t, \\x00), and so is a space at an end
+(\\x20).
 """
 import hashlib
 import os
 import sys
 
-HEAD = "# An input a line; \\\\, \\n, \\r, \\t and \\xNN stand for bytes, \\x20 for a space at an end of the line (seeds.py).\n"
+HEAD = (
+    "# An input a line; \\\\, \\n, \\r, \\t and \\xNN stand for bytes, "
+    "\\x20 for a space at an end of the line (seeds.py).\n"
+)
 
 
 def escaped(data):

@@ -13,16 +13,28 @@ from selenium.webdriver.common.keys import Keys
 # The least contrast between a text and what is behind it, by element; in two colours.
 CONTRAST = """
 const pixel = document.createElement('canvas').getContext('2d', { willReadFrequently: true });
-const rgba = (color) => { pixel.clearRect(0, 0, 1, 1); pixel.fillStyle = color; pixel.fillRect(0, 0, 1, 1); const d = pixel.getImageData(0, 0, 1, 1).data; return [d[0], d[1], d[2], d[3] / 255]; };
+const rgba = (color) => {
+  pixel.clearRect(0, 0, 1, 1);
+  pixel.fillStyle = color;
+  pixel.fillRect(0, 0, 1, 1);
+  const d = pixel.getImageData(0, 0, 1, 1).data;
+  return [d[0], d[1], d[2], d[3] / 255];
+};
 const over = (a, b) => [0, 1, 2].map((i) => a[i] * a[3] + b[i] * (1 - a[3])).concat(1);
-const light = (c) => [0.2126, 0.7152, 0.0722].reduce((sum, k, i) => { const v = c[i] / 255; return sum + k * (v <= 0.04045 ? v / 12.92 : ((v + 0.055) / 1.055) ** 2.4); }, 0);
-const behind = (node) => node ? over(rgba(getComputedStyle(node).backgroundColor), behind(node.parentElement)) : [255, 255, 255, 1];
+const light = (c) => [0.2126, 0.7152, 0.0722].reduce((sum, k, i) => {
+  const v = c[i] / 255;
+  return sum + k * (v <= 0.04045 ? v / 12.92 : ((v + 0.055) / 1.055) ** 2.4);
+}, 0);
+const white = [255, 255, 255, 1];
+const behind = (node) =>
+  node ? over(rgba(getComputedStyle(node).backgroundColor), behind(node.parentElement)) : white;
 const poor = [];
 const texts = document.createTreeWalker(document.body, NodeFilter.SHOW_TEXT);
 while (texts.nextNode()) {
   const node = texts.currentNode.parentElement;
   const style = getComputedStyle(node);
-  if (!texts.currentNode.data.trim() || !node.checkVisibility() || node.closest('.mirror, .quiet, [disabled], script, .drop, .skip')) continue;
+  if (!texts.currentNode.data.trim() || !node.checkVisibility()) continue;
+  if (node.closest('.mirror, .quiet, [disabled], script, .drop, .skip')) continue;
   const back = behind(node);
   const color = node.closest('svg') ? style.fill : style.color;
   const [a, b] = [light(over(rgba(color), back)), light(back)].sort((x, y) => y - x);
@@ -36,7 +48,14 @@ return poor;
 def browser(downloads):
     options = webdriver.ChromeOptions()
     options.binary_location = "/usr/bin/chromium"
-    for word in ("headless=new", "no-sandbox", "disable-gpu", "disable-dev-shm-usage", "window-size=1280,800", "hide-scrollbars"):
+    for word in (
+        "headless=new",
+        "no-sandbox",
+        "disable-gpu",
+        "disable-dev-shm-usage",
+        "window-size=1280,800",
+        "hide-scrollbars",
+    ):
         options.add_argument("--" + word)
     options.set_capability("goog:loggingPrefs", {"browser": "ALL", "performance": "ALL"})
     driver = webdriver.Chrome(service=Service("/usr/bin/chromedriver"), options=options)
@@ -100,7 +119,10 @@ class Page(unittest.TestCase):
 
     def paste(self, text):
         """Puts a text in the field at once, and waits until it is drawn."""
-        self.script("const t = document.getElementById('text'); t.value = arguments[0]; t.dispatchEvent(new Event('input'))", text)
+        self.script(
+            "const t = document.getElementById('text'); t.value = arguments[0]; t.dispatchEvent(new Event('input'))",
+            text,
+        )
         self.driver.execute_async_script("requestAnimationFrame(() => requestAnimationFrame(arguments[0]))")
 
     def press(self, *keys):
@@ -109,7 +131,15 @@ class Page(unittest.TestCase):
     def drop(self, *paths):
         """Drops files on the page, as a file manager does."""
         for kind in ("dragEnter", "dragOver", "drop"):
-            self.driver.execute_cdp_cmd("Input.dispatchDragEvent", {"type": kind, "x": 300, "y": 300, "data": {"items": [], "files": list(paths), "dragOperationsMask": 1}})
+            self.driver.execute_cdp_cmd(
+                "Input.dispatchDragEvent",
+                {
+                    "type": kind,
+                    "x": 300,
+                    "y": 300,
+                    "data": {"items": [], "files": list(paths), "dragOperationsMask": 1},
+                },
+            )
             if kind == "dragOver":
                 self.wait(lambda: self.script("return document.body.classList.contains('dropping')"))
 
@@ -123,7 +153,11 @@ class Page(unittest.TestCase):
         return " ".join(self.said("facts").split())
 
     def choose_example(self, name):
-        self.script("const e = document.getElementById('examples'); e.value = arguments[0]; e.dispatchEvent(new Event('change'))", name)
+        self.script(
+            "const e = document.getElementById('examples'); e.value = arguments[0];"
+            " e.dispatchEvent(new Event('change'))",
+            name,
+        )
 
     def console(self):
         return [line["message"] for line in self.driver.get_log("browser") if line["level"] in ("SEVERE", "WARNING")]

@@ -21,8 +21,9 @@ use std::fmt::Display;
 use thiserror::Error;
 use wkt_convert::mismatch;
 use wkt_flat::{Geometry, Point};
+use wkt_machine::FromWktStr;
 use wkt_num::WktNum;
-use wkt_read::{FromWktStr, ReadError};
+use wkt_read::ReadError;
 use wkt_types::{ConvertError, Wkt};
 
 /// Why a JSON value gives no geometry.

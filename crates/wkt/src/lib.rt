@@ -94,8 +94,9 @@ pub use whole::{WholeError, read_whole};
 pub use wkt_convert::{ToWkt, ToWktError};
 pub use wkt_events::{TextWritten, canonical_into, front_end};
 pub use wkt_explain::{Expected, Explanation, Hint, Problem, Refusal, check, explain, refusal};
+pub use wkt_machine::FromWktStr;
 pub use wkt_num::{Decimal, WktNum};
-pub use wkt_read::{FromWktStr, InferError, Message, ReadError, infer_type};
+pub use wkt_read::{InferError, Message, ReadError, infer_type};
 
 /// A geometry as well-known text has it: with up to four numbers a coordinate, of any of the seven kinds.
 // A name of this crate's own: of a recursive enum that is handed on by `pub use`, the checker asks each caller for the

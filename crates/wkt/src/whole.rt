@@ -10,9 +10,10 @@ ghost use Rattle.wkt.specs.WholeText.{IsWhole, HasRest, OnUnread, OnRest};
 
 use std::alloc::Global;
 use thiserror::Error;
+use wkt_machine::FromWktStr;
 use wkt_num::WktNum;
+use wkt_read::ReadError;
 use wkt_read::words::is_blank;
-use wkt_read::{FromWktStr, ReadError};
 use wkt_types::Wkt;
 
 /// Why a text isn't one geometry as a whole.

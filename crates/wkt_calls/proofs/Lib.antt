@@ -3,7 +3,6 @@ pub mod Tails
 pub mod Filled
 pub mod FlatPoints
 pub mod Pieces
-pub mod Calls
 pub mod Blames
 pub mod Padded
 pub mod AsciiWindows

@@ -1,12 +1,12 @@
-mod Marks
+pub mod Marks
 mod Marked
-mod Steps
-mod Counts
+pub mod Steps
+pub mod Counts
 mod Closings
-mod Refusals
+pub mod Refusals
 mod Whites
-mod Named
-mod Finding
+pub mod Named
+pub mod Finding
 mod Streams
 mod Borders
 mod OnePlace

@@ -8,10 +8,10 @@ mod expected;
 mod explanation;
 mod hint;
 pub mod laws;
-mod place;
-mod seen;
-mod shape;
-mod table;
+pub mod place;
+pub mod seen;
+pub mod shape;
+pub mod table;
 mod walk;
 mod whole;
 

@@ -12,7 +12,7 @@ use wkt_types::GeometryType;
 
 /// A place in the text of a geometry.
 #[derive(Clone, Copy)]
-pub(crate) enum Place {
+pub enum Place {
     /// A geometry begins here.
     Kind,
     /// After a kind word alone.
@@ -31,9 +31,9 @@ pub(crate) enum Place {
 
 /// A place, and in how many collections it is.
 #[derive(Clone, Copy)]
-pub(crate) struct Walk {
-    pub(crate) place: Place,
-    pub(crate) depth: usize,
+pub struct Walk {
+    pub place: Place,
+    pub depth: usize,
 }
 
 #[inline(always)]

@@ -8,7 +8,7 @@ use wkt_read::words::Lexeme;
 
 /// A lexeme, as far as a walk looks at it.
 #[derive(Clone, Copy)]
-pub(crate) enum Seen<'a> {
+pub enum Seen<'a> {
     Open,
     Close,
     Comma,

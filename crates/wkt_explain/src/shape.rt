@@ -2,7 +2,7 @@
 
 /// A part of a geometry that stands in parentheses.
 #[derive(Clone, Copy)]
-pub(crate) enum Part {
+pub enum Part {
     /// The coordinate of a point.
     Point,
     /// The coordinates of a line string.

@@ -13,7 +13,8 @@ use crate::shape::Part;
 use wkt_num::WktNum;
 use wkt_read::{Message, Tokens};
 
-fn at_end(expected: Expected) -> Message
+/// The message where nothing stands.
+pub fn at_end(expected: Expected) -> Message
     ensures { result ≡ at_end expected }
 {
     match expected {
@@ -29,7 +30,8 @@ fn at_end(expected: Expected) -> Message
     }
 }
 
-fn at_other(expected: Expected) -> Message
+/// The message where a mark stands, or a number of the type.
+pub fn at_other(expected: Expected) -> Message
     ensures { result ≡ at_other expected }
 {
     match expected {
@@ -48,7 +50,8 @@ fn at_first_word(word: &str) -> Message
     }
 }
 
-fn at_word(expected: Expected, word: &str) -> Message
+/// The message where a word stands.
+pub fn at_word(expected: Expected, word: &str) -> Message
     ensures { result ≡ at_word expected word.now }
 {
     match expected {
@@ -59,7 +62,8 @@ fn at_word(expected: Expected, word: &str) -> Message
     }
 }
 
-fn at_bad(expected: Expected) -> Message
+/// The message where a number stands that its type refuses.
+pub fn at_bad(expected: Expected) -> Message
     ensures { result ≡ at_bad expected }
 {
     match expected {

@@ -21,6 +21,9 @@ pub trait Nested: Sized {
 }
 
 /// Drops the geometries, with all that they hold.
+///
+/// It has no clause, for nothing of them is left to speak of. A `Nested` has no `Drop` here, so a body that leaves one
+/// undropped is refused, and `destroy_empty` takes an empty list alone.
 pub fn drop_all<G: Nested>(geometries: Vec<G>) {
     let mut waiting = geometries;
     while let Some(geometry) = waiting.pop() {

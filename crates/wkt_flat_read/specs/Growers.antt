@@ -8,7 +8,7 @@ use Rattle.wkt_machine.specs.Growers.{grow_append}
 use Rattle.wkt_machine.specs.Growing.{Growing, grow, grow_all, MayAll}
 use Rattle.wkt_machine.specs.Makers.{Maker}
 use Rattle.wkt_flat_read.specs.Trees.{Holds, IsLost, Grew}
-use Rattle.wkt_flat_read.specs.declared.tree.FlatGrower.{FlatGrower}
+use Rattle.wkt_flat_read.specs.declared.grower.FlatGrower.{FlatGrower}
 use Rattle.wkt_flat_read.specs.declared.tree.FlatTree.{FlatTree}
 
 -- the tree that is lent

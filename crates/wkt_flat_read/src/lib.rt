@@ -3,6 +3,7 @@
 //! Below stand `wkt_machine`, with the walk and its events, and `wkt_convert`, with what is flat; above, `wkt`.
 #![tactic(auto)]
 
+mod grower;
 mod text;
 mod tree;
 

@@ -9,7 +9,8 @@ ghost use Rattle.wkt_machine.specs.Values.{IsRefused, OnRefused};
 ghost use Rattle.wkt_flat_read.specs.Growers.{tree_of};
 ghost use Rattle.wkt_flat_read.specs.Read.{Answers, IsFlatRead, IsFlatFront};
 
-use crate::tree::{FlatGrower, FlatTree};
+use crate::grower::FlatGrower;
+use crate::tree::FlatTree;
 use std::alloc::{AllocError, Global};
 use wkt_convert::Flattened;
 use wkt_explain::message;

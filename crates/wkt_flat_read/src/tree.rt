@@ -9,13 +9,12 @@ ghost use Rattle.wkt_flat_read.specs.Trees.{Becomes, Gives, GivesCollection, Giv
 
 use std::alloc::{AllocError, Global};
 use std::mem;
-use wkt_access::Dimension;
 use wkt_convert::{Flattened, Found};
 use wkt_flat::{
     Coord, Geometry, GeometryCollection, LineString, MultiLineString, MultiPoint, MultiPolygon,
     Point, Polygon,
 };
-use wkt_machine::{Axis, Builder, Part};
+use wkt_machine::{Axis, Part};
 use wkt_num::WktNum;
 
 /// A geometry that ended, by where its parts are kept.
@@ -155,7 +154,7 @@ impl<T: WktNum> FlatTree<T> {
 
     /// A number of a coordinate. The third and fourth are dropped.
     #[inline(always)]
-    fn put_number(&mut self, axis: Axis, number: T)
+    pub(crate) fn put_number(&mut self, axis: Axis, number: T)
         ensures { Becomes (coord_eq T.eq) (λ w. w.grown ≡ None) (λ w. record w { hand = with_number axis number w.hand }) self.old self.new }
     {
         match axis {
@@ -220,7 +219,7 @@ impl<T: WktNum> FlatTree<T> {
 
     /// A collection opens.
     #[inline(always)]
-    fn open_collection(&mut self)
+    pub(crate) fn open_collection(&mut self)
         ensures { Becomes (coord_eq T.eq) (MayOpen kind.Collection) (opened kind.Collection) self.old self.new }
     {
         if !add(&mut self.outer, Vec::new(self.alloc)) {
@@ -380,7 +379,7 @@ impl<T: WktNum> FlatTree<T> {
 
     /// An item of a part is whole; whether it is the last matters to collections alone.
     #[inline(always)]
-    fn end_item(&mut self, part: Part, is_last: bool)
+    pub(crate) fn end_item(&mut self, part: Part, is_last: bool)
         ensures { Becomes (coord_eq T.eq) (MayJoin part) (with_item part) self.old self.new }
     {
         match part {
@@ -400,7 +399,7 @@ impl<T: WktNum> FlatTree<T> {
 
     /// A part ends whose items are whole.
     #[inline(always)]
-    fn end(&mut self, part: Part)
+    pub(crate) fn end(&mut self, part: Part)
         ensures { Becomes (coord_eq T.eq) (MayEnd part) (ended part) self.old self.new }
     {
         match part {
@@ -419,7 +418,7 @@ impl<T: WktNum> FlatTree<T> {
 
     /// A part without items.
     #[inline(always)]
-    fn put_empty(&mut self, part: Part)
+    pub(crate) fn put_empty(&mut self, part: Part)
         ensures { Becomes (coord_eq T.eq) (MayBeEmpty part) (λ w. ended part (without_items part w)) self.old self.new }
     {
         self.x = None;
@@ -427,75 +426,5 @@ impl<T: WktNum> FlatTree<T> {
             Part::Collection => self.end_whole(Ended::NoMembers),
             _ => self.end(part),
         }
-    }
-}
-
-/// Makes a flat tree, which is lent to it.
-#[derive(Drop)]
-pub struct FlatGrower<'a, T> {
-    tree: &'a mut FlatTree<T>,
-}
-
-impl<'a, T: WktNum> FlatGrower<'a, T> {
-    ghost use Rattle.wkt_flat_read.specs.Growers.{tree_of};
-
-    #[inline(always)]
-    pub fn new(tree: &'a mut FlatTree<T>) -> Self
-        ensures { tree_of result ≡ tree.entry }
-    {
-        FlatGrower { tree }
-    }
-
-    /// The tree.
-    #[inline(always)]
-    pub fn into_tree(self) -> &'a mut FlatTree<T>
-        ensures { result ≡ tree_of self.entry }
-    {
-        self.tree
-    }
-}
-
-impl<T: WktNum> Builder<T> for FlatGrower<'_, T> {
-    ghost use Rattle.wkt_flat.specs.Equal.{coord_eq};
-    ghost use Rattle.wkt_flat_read.specs.Growers.{tree_maker};
-
-    ghost maker = { tree_maker (coord_eq T.eq) };
-
-    #[inline(always)]
-    fn begin(self, _whole: Part, _dim: Dimension) -> Self {
-        self
-    }
-
-    #[inline(always)]
-    fn open(self, part: Part) -> Self {
-        if let Part::Collection = part {
-            self.tree.open_collection();
-        }
-        self
-    }
-
-    #[inline(always)]
-    fn comma(self, part: Part) -> Self {
-        self.tree.end_item(part, false);
-        self
-    }
-
-    #[inline(always)]
-    fn close(self, part: Part) -> Self {
-        self.tree.end_item(part, true);
-        self.tree.end(part);
-        self
-    }
-
-    #[inline(always)]
-    fn empty(self, part: Part) -> Self {
-        self.tree.put_empty(part);
-        self
-    }
-
-    #[inline(always)]
-    fn number(self, number: T, axis: Axis) -> Self {
-        self.tree.put_number(axis, number);
-        self
     }
 }

@@ -116,7 +116,8 @@ module _ {N B : Type 0} (read : List ℕ → Option N) (maker : Maker N B) {n : 
     behind = stays.behind;
     ran = refl;
     is_open = over_number read (bytes_view {n = n} feed) maker m a at_a;
-    stuck = λ k. unread_stuck read m a at_a (left_placed feed t.text.now t.at) (bytes.none_unread feed t.text.now t.at read (stays.legible k) dark none);
+    keeps = stays.keeps;
+    stuck = λ j k. unread_stuck read m a at_a (left_placed feed t.text.now t.at) (bytes.none_unread feed t.text.now t.at read (stays.keeps j k) dark none);
   }
 
   -- the same, past white space

@@ -175,7 +175,7 @@ module _ {n : ℕ} (feed : Bool) where
       order = let before = k.order in omega (arith, before, order);
       same = subst (λ x. left_placed feed x.now end ≡ left_placed feed t.text.now t.at) text (k.same ∙ same);
     };
-    legible = legible;
+    keeps = λ j. legible;
   }
 
   -- a lexeme that stands there is taken
@@ -184,7 +184,7 @@ module _ {n : ℕ} (feed : Bool) where
     lexeme = record { lexeme = l; end = t.at };
     left = takes.next ∙ ap (λ x. record { lexeme = l; end = t.at } ∷ left_placed feed x.now t.at) (sym text);
     place = refl;
-    legible = λ k. subst (λ x. Legible feed x.now t.at) (sym text) (legible-one feed s.text.now s.at l t.at takes k);
+    keeps = λ j k. subst (λ x. Legible feed x.now t.at) (sym text) (legible-one feed s.text.now s.at l t.at takes k);
   }
 
   -- the lexeme that was looked at is taken
@@ -209,7 +209,7 @@ module _ {n : ℕ} (feed : Bool) where
         end = t.at;
         left = same ∙ takes.next ∙ ap (λ x. record { lexeme = Num (without_plus (slice_range s.text.now at t.at)); end = t.at } ∷ left_placed feed x.now t.at) (sym text);
         place = refl;
-        legible = λ k. subst (λ x. Legible feed x.now t.at) (sym text) (legible-one feed s.text.now at _ t.at takes (further k));
+        keeps = λ j k. subst (λ x. Legible feed x.now t.at) (sym text) (legible-one feed s.text.now at _ t.at takes (further k));
         reads = h.there.reads;
         makes = h.makes;
       }

@@ -40,7 +40,7 @@ module _ {N S B : Type 0} (read : List ℕ → Option N) (view : View S) (maker 
         ∙ runs (h.given ++ (h.last ∷ [])) (k.given ++ (k.last ∷ [])) (state_of m) (state_of a.machine) (state_of c.machine) h.events k.events h.ran k.ran;
     makes = maker.more b a.builder c.builder h.events k.events h.makes k.makes;
     sound = k.sound;
-    legible = λ l. k.legible (h.legible l);
+    keeps = λ j l. k.keeps j (h.keeps j l);
   }
 
   pub refuses_after : (m : Machine) (s : S) (b : B) (a c : At S B) → Goes read view maker m s b a → Refuses read view maker a.machine a.source a.builder c → Refuses read view maker m s b c
@@ -49,11 +49,12 @@ module _ {N S B : Type 0} (read : List ℕ → Option N) (view : View S) (maker 
     events = h.events ++ k.events;
     split = h.split ∙ ap (λ l. h.given ++ (h.last ∷ l)) k.split ∙ sym (append_assoc h.given (h.last ∷ []) (k.taken ++ view.left c.source)) ∙ sym (append_assoc (h.given ++ (h.last ∷ [])) k.taken (view.left c.source));
     behind = λ end at.
-        subst (view.behind c.source) (ap (λ n. end_after n k.taken) (h.place ∙ sym (end_last end h.given h.last)) ∙ sym (end_append end (h.given ++ (h.last ∷ [])) k.taken))
-        (k.behind (view.place a.source) (view.here a.source));
+        subst (view.behind c.source) (ap (λ n. end_after n k.taken) (sym (end_last end h.given h.last)) ∙ sym (end_append end (h.given ++ (h.last ∷ [])) k.taken))
+        (k.behind h.last.end (view.here a.source h.last.end h.place));
     ran = runs (h.given ++ (h.last ∷ [])) k.taken (state_of m) (state_of a.machine) (state_of c.machine) h.events k.events h.ran k.ran;
     is_open = k.is_open;
-    stuck = λ l. k.stuck (h.legible l);
+    keeps = λ j l. k.keeps j (h.keeps j l);
+    stuck = λ j l. k.stuck j (h.keeps j l);
   }
 
   pub from_start : (s : S) (b : B) (a c : At S B) → GoesFrom read view maker s b a → Goes read view maker a.machine a.source a.builder c → GoesFrom read view maker s b c

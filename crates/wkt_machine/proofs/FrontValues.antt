@@ -32,18 +32,22 @@ begin = record { state = state.Kind; part = part.Point; dim = XY; depth = 0 }
 
 module _ {N S : Type 0} (read : List ℕ → Option N) (view : View S) (text : List ℕ) (s : S) (begins : view.left s ≡ placed text) where
   -- the front that was taken
-  pub front_taken : (v : Value N) (t : S) → Takes read view s v t → Front read text v (view.place t)
-  front_taken v t h =
+  pub front_whole : (v : Value N) (t : S) (h : Takes read view s v t) → Front read text v h.last.end
+  front_whole v t h =
       let given : List Placed = h.given ++ (h.last ∷ []) in
       let all : placed text ≡ given ++ view.left t = sym begins ∙ h.split ∙ sym (append_assoc h.given (h.last ∷ []) (view.left t)) in
-      subst (Front read text v) (end_last 0 h.given h.last ∙ sym h.place)
+      subst (Front read text v) (end_last 0 h.given h.last)
       (front-of-lexemes read text given (view.left t) v (subst (AreEnds text) all (placed-ends text)) h.stands)
 
+  -- the same, by where the source is behind it
+  pub front_taken : (v : Value N) (t : S) (at : ℕ) → ((end : ℕ) → view.place t end → at ≡ end) → Takes read view s v t → Front read text v at
+  front_taken v t at ends h = subst (Front read text v) (sym (ends h.last.end h.place)) (front_whole v t h)
+
   -- no front where the machine stops
-  pub no_front_refused : view.legible s → (m : Machine) (t : S) → IsRefused read view s m t → HasNoFront read text
-  no_front_refused legible m t h =
+  pub no_front_refused : (j : ℕ) → view.keeps s j → (m : Machine) (t : S) → IsRefused read view s m t → HasNoFront read text
+  no_front_refused j keeps m t h =
       let to : At S (Unit {0}) = record { source = t; machine = m; builder = tt } in
-      no_front_there read view made_none text s tt to begins legible (
+      no_front_there read view made_none text s tt to begins j keeps (
         begin,
         refl,
         record {
@@ -53,22 +57,23 @@ module _ {N S : Type 0} (read : List ℕ → Option N) (view : View S) (text : L
           behind = h.behind;
           ran = h.ran;
           is_open = h.is_open;
+          keeps = h.keeps;
           stuck = h.stuck;
         },
       )
 
   -- what `read` answers, by its cases
-  pub found_in : (t : S) (w : Wkt N) (a : Result (Wkt N) Unread) → a ≡ Ok w → IfOk a (λ w. IsRead read view s (tree w) t) → IsFrontTo read text (tree w) (view.place t)
-  found_in t w a e h =
+  pub found_in : (t : S) (at : ℕ) → ((end : ℕ) → view.place t end → at ≡ end) → (w : Wkt N) (a : Result (Wkt N) Unread) → a ≡ Ok w → IfOk a (λ w. IsRead read view s (tree w) t) → IsFrontTo read text (tree w) at
+  found_in t at ends w a e h =
       let (v, takes, is) : IsRead read view s (tree w) t = subst (λ a. IfOk a (λ w. IsRead read view s (tree w) t)) e h in
-      (v, front_taken v t takes, is)
+      (v, front_taken v t at ends takes, is)
 
   pub memory_in : (t : S) (x : AllocError) (u : Unread) (a : Result (Wkt N) Unread) → a ≡ Err u → u ≡ Memory x → OnMemory a (WantsMemory read view s t) → (P : Type 0) → (v : Value N) (end : ℕ) → Front read text v end → NeedsNoMemory v → P
   memory_in t x u a e is h P v end front free =
       let (w, takes, wants) : WantsMemory read view s t = subst (λ u. OnMemory {X = Wkt N} (Err u) (WantsMemory read view s t)) is (subst (λ a. OnMemory a (WantsMemory read view s t)) e h) in
-      let same = front_one read text v w end (view.place t) front (front_taken w t takes) in
+      let same = front_one read text v w end _ front (front_whole w t takes) in
       absurd (wants (subst NeedsNoMemory same.0 free))
 
-  pub refused_in : (t : S) (m : Machine) (u : Unread) (a : Result (Wkt N) Unread) → a ≡ Err u → u ≡ Refused m → OnRefused a (λ m. IsRefused read view s m t) → view.legible s → HasNoFront read text
-  refused_in t m u a e is h legible =
-      no_front_refused legible m t (subst (λ u. OnRefused {X = Wkt N} (Err u) (λ m. IsRefused read view s m t)) is (subst (λ a. OnRefused a (λ m. IsRefused read view s m t)) e h))
+  pub refused_in : (t : S) (m : Machine) (u : Unread) (a : Result (Wkt N) Unread) → a ≡ Err u → u ≡ Refused m → OnRefused a (λ m. IsRefused read view s m t) → (j : ℕ) → view.keeps s j → HasNoFront read text
+  refused_in t m u a e is h j keeps =
+      no_front_refused j keeps m t (subst (λ u. OnRefused {X = Wkt N} (Err u) (λ m. IsRefused read view s m t)) is (subst (λ a. OnRefused a (λ m. IsRefused read view s m t)) e h))

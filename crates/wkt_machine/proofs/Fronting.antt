@@ -45,14 +45,14 @@ module _ {N : Type 0} (read : List ℕ → Option N) where
 
   module _ {S B : Type 0} (view : View S) (maker : Maker N B) (text : List ℕ) (s : S) (b : B) (to : At S B) (begins : view.left s ≡ placed text) where
     -- a front, and what was made of it
-    pub front_made : GoesFrom read view maker s b to → is_over (state_of to.machine) ≡ true → (v : Value N) × Front read text v (view.place to.source) × maker.makes b (events v) to.builder
-    front_made (m, from, h) o =
+    pub front_made : (at : ℕ) → ((end : ℕ) → view.place to.source end → at ≡ end) → GoesFrom read view maker s b to → is_over (state_of to.machine) ≡ true → (v : Value N) × Front read text v at × maker.makes b (events v) to.builder
+    front_made at ends (m, from, h) o =
         let taken : List Placed = h.given ++ (h.last ∷ []) in
         let all : placed text ≡ taken ++ view.left to.source = sym begins ∙ h.split ∙ sym (append_assoc h.given (h.last ∷ []) (view.left to.source)) in
         let ran : run read start (lexemes_of taken) ≡ Some (state_of to.machine, h.events) = ap (λ s. run read s (lexemes_of taken)) (sym from) ∙ h.ran in
         let (v, g, made_is) = exact read (lexemes_of taken) (state_of to.machine) h.events ran o in (
           v,
-          subst (Front read text v) (end_last 0 h.given h.last ∙ sym h.place)
+          subst (Front read text v) (end_last 0 h.given h.last ∙ sym (ends h.last.end h.place))
               (front-of-lexemes read text taken (view.left to.source) v (subst (AreEnds text) all (placed-ends text)) g),
           subst (λ es. maker.makes b es to.builder) made_is h.makes,
         )
@@ -62,8 +62,8 @@ module _ {N : Type 0} (read : List ℕ → Option N) where
         let (more, is) = taken_begin text front.rest front.lexemes front.taken in
         none front.lexemes more v (split_one text _ _ (placed-split text) is) front.reads
 
-    pub no_front_there : view.legible s → RefusesFrom read view maker s b to → HasNoFront read text
-    no_front_there legible (m, from, h) = go (view.left to.source) refl
+    pub no_front_there : (j : ℕ) → view.keeps s j → RefusesFrom read view maker s b to → HasNoFront read text
+    no_front_there j keeps (m, from, h) = go (view.left to.source) refl
       where
         ran : run read start (lexemes_of h.taken) ≡ Some (state_of to.machine, h.events)
         ran = ap (λ s. run read s (lexemes_of h.taken)) (sym from) ∙ h.ran
@@ -76,5 +76,5 @@ module _ {N : Type 0} (read : List ℕ → Option N) where
             let none = (goes_on read (lexemes_of h.taken) (state_of to.machine) h.events ran h.is_open).1 in
             none_in (subst (NoneBegins read) (sym (lexemes ∙ ap (λ ps. lexemes_of h.taken ++ lexemes_of ps) e ∙ append-nil (lexemes_of h.taken))) none)
         go (p ∷ ps) e =
-            let stops : move read (state_of to.machine) p.lexeme ≡ None = subst (IsStuck read to.machine) e (h.stuck legible) in
+            let stops : move read (state_of to.machine) p.lexeme ≡ None = subst (IsStuck read to.machine) e (h.stuck j keeps) in
             none_in (subst (NoneBegins read) (sym (lexemes ∙ ap (λ ps. lexemes_of h.taken ++ lexemes_of ps) e)) (stopped_none (lexemes_of h.taken) (lexemes_of ps) p.lexeme (state_of to.machine) h.events ran h.is_open stops))

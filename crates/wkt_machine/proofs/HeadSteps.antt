@@ -129,6 +129,6 @@ module _ {N B : Type 0} (read : List ℕ → Option N) (maker : Maker N B) {n : 
       let here : left_placed feed s.text.now s.at ≡ word ∷ left_placed feed s.text.now head.mid = between.same ∙ head.takes.next in
       let behind : left_placed feed s.text.now head.mid ≡ opens ∷ left_placed feed t.text.now t.at = head.opens.next ∙ ap (λ x. opens ∷ left_placed feed x.now t.at) (sym text) in
       goes_on_to read (bytes_view feed) maker m s b (record { source = mid; machine = alone; builder = b }) (record { source = t; machine = k; builder = c })
-      (goes_one read (bytes_view feed) maker m alone s mid b b word [] here refl (λ l. legible-one feed s.text.now start (Word head.word) head.mid head.takes (further l)) first (maker.none b) tt)
+      (goes_one read (bytes_view feed) maker m alone s mid b b word [] here refl (λ j l. legible-one feed s.text.now start (Word head.word) head.mid head.takes (further l)) first (maker.none b) tt)
       (goes_one read (bytes_view feed) maker alone k mid t b c opens (Event.Header p XY ∷ Event.Open p ∷ []) behind refl
-      (λ l. subst (λ x. Legible feed x.now t.at) (sym text) (legible-one feed s.text.now head.mid Open t.at head.opens l)) second makes sound)
+      (λ j l. subst (λ x. Legible feed x.now t.at) (sym text) (legible-one feed s.text.now head.mid Open t.at head.opens l)) second makes sound)

@@ -21,7 +21,7 @@ module _ {N S B : Type 0} (read : List ℕ → Option N) (view : View S) (maker 
     behind = λ end k. k;
     ran = refl;
     makes = maker.none b;
-    legible = λ k. k;
+    keeps = λ j k. k;
   }
 
   pub goes_leads : (m : Machine) (s : S) (b : B) (to : At S B) → Goes read view maker m s b to → Leads read view maker m s b to.machine to.source to.builder
@@ -29,10 +29,10 @@ module _ {N S B : Type 0} (read : List ℕ → Option N) (view : View S) (maker 
     taken = h.given ++ (h.last ∷ []);
     events = h.events;
     split = h.split ∙ sym (append_assoc h.given (h.last ∷ []) (view.left to.source));
-    behind = λ end k. subst (view.behind to.source) (h.place ∙ sym (end_last end h.given h.last)) (view.here to.source);
+    behind = λ end k. subst (view.behind to.source) (sym (end_last end h.given h.last)) (view.here to.source h.last.end h.place);
     ran = h.ran;
     makes = h.makes;
-    legible = h.legible;
+    keeps = h.keeps;
   }
 
   pub leads_goes : (m : Machine) (s : S) (b : B) (n : Machine) (t : S) (c : B) (to : At S B) → Leads read view maker m s b n t c → Goes read view maker n t c to → Goes read view maker m s b to
@@ -46,7 +46,7 @@ module _ {N S B : Type 0} (read : List ℕ → Option N) (view : View S) (maker 
         ∙ runs read view maker l.taken (h.given ++ (h.last ∷ [])) (state_of m) (state_of n) (state_of to.machine) l.events h.events l.ran h.ran;
     makes = maker.more b c to.builder l.events h.events l.makes h.makes;
     sound = h.sound;
-    legible = λ k. h.legible (l.legible k);
+    keeps = λ j k. h.keeps j (l.keeps j k);
   }
 
   pub leads_refuses : (m : Machine) (s : S) (b : B) (n : Machine) (t : S) (c : B) (to : At S B) → Leads read view maker m s b n t c → Refuses read view maker n t c to → Refuses read view maker m s b to
@@ -57,7 +57,8 @@ module _ {N S B : Type 0} (read : List ℕ → Option N) (view : View S) (maker 
     behind = λ end k. subst (view.behind to.source) (sym (end_append end l.taken h.taken)) (h.behind (end_after end l.taken) (l.behind end k));
     ran = runs read view maker l.taken h.taken (state_of m) (state_of n) (state_of to.machine) l.events h.events l.ran h.ran;
     is_open = h.is_open;
-    stuck = λ k. h.stuck (l.legible k);
+    keeps = λ j k. h.keeps j (l.keeps j k);
+    stuck = λ j k. h.stuck j (l.keeps j k);
   }
 
   pub leads_refused : (m : Machine) (s : S) (b : B) (n : Machine) (t : S) (c : B) (r : Result (At S B) (At S B)) → Leads read view maker m s b n t c → IfErr r (Refuses read view maker n t c) → IfErr r (Refuses read view maker m s b)

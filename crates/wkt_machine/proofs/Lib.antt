@@ -16,8 +16,13 @@ pub mod ByteViews
 mod Leading
 mod ByteSteps
 mod TakeNext
+mod Reaching
+mod Shown
 mod HeadSteps
 pub mod Grown
 mod Holding
 pub mod Valued
 pub mod FrontValues
+mod Walking
+mod Refusing
+mod Reading

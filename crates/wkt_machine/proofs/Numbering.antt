@@ -105,7 +105,7 @@ module _ {N S B : Type 0} (read : List ℕ → Option N) (view : View S) (maker 
 
   -- A number that isn't read stays.
   pub unread : (m : Machine) (s t : S) (b c : B) (r : Result (At S B) (At S B)) → r ≡ Err (record { source = t; machine = m; builder = c }) → seen.Number ≡ sight (view.left s) → is_over (state_of m) ≡ false
-      → Stays view s t → (view.legible s → IsUnread read (view.left s)) → IfErr r (Refuses read view maker m s b)
+      → Stays view s t → ((n : ℕ) → view.keeps s n → IsUnread read (view.left s)) → IfErr r (Refuses read view maker m s b)
   unread m s t b c r is sees o stays never = subst (λ r. IfErr r (Refuses read view maker m s b)) (sym is) (record {
     taken = [];
     events = [];
@@ -113,7 +113,8 @@ module _ {N S B : Type 0} (read : List ℕ → Option N) (view : View S) (maker 
     behind = stays.behind;
     ran = refl;
     is_open = o;
-    stuck = λ k. subst (IsStuck read m) (sym stays.left) (unread_stuck m (view.left s) sees (never k));
+    keeps = stays.keeps;
+    stuck = λ j k. subst (IsStuck read m) (sym stays.left) (unread_stuck m (view.left s) sees (never j k));
   })
 
   pub over_number : (m : Machine) (a : Axis) → m.state ≡ state_for a → is_over (state_of m) ≡ false
@@ -143,7 +144,7 @@ module _ {N S B : Type 0} (read : List ℕ → Option N) (view : View S) (maker 
         let moves : move read (state_of m) (Num h.run) ≡ Some (state_of n, Event.Number a h.number ∷ []) =
         moves_at (suc k) q1 ∙ ap (λ a. Some (at m.depth (place.Number m.part m.dim k), Event.Number a h.number ∷ [])) q2 ∙ ap (λ s. Some (s, Event.Number a h.number ∷ [])) there in
         subst (λ r. IfOk r (Goes read view maker m s b)) (sym is)
-        (goes_one read view maker m n s t b c (record { lexeme = Num h.run; end = h.end }) (Event.Number a h.number ∷ []) h.left h.place h.legible moves h.makes (subst IsSound (sym e) next_has))
+        (goes_one read view maker m n s t b c (record { lexeme = Num h.run; end = h.end }) (Event.Number a h.number ∷ []) h.left h.place h.keeps moves h.makes (subst IsSound (sym e) next_has))
 
     pub last_number : (r : Result (At S B) (At S B)) → next_after a m.dim ≡ next.Item → EndsPoint maker m t c r → IfOk r (Goes read view maker m s b)
     last_number (Err to) i k = absurd k
@@ -153,7 +154,7 @@ module _ {N S B : Type 0} (read : List ℕ → Option N) (view : View S) (maker 
         moves_at 0 q1 ∙ ap (λ es. Some (at m.depth (last_place m.part m.dim), es)) (last_made m.part m.dim h.number)
         ∙ ap (λ a. Some (at m.depth (last_place m.part m.dim), Event.Number a h.number ∷ closes m.part)) q2 ∙ ap (λ s. Some (s, Event.Number a h.number ∷ closes m.part)) (sym there) in
         goes_one read view maker m to.machine s to.source b to.builder (record { lexeme = Num h.run; end = h.end }) (Event.Number a h.number ∷ closes m.part)
-        (h.left ∙ ap (λ s. record { lexeme = Num h.run; end = h.end } ∷ view.left s) (sym same)) (ap view.place same ∙ h.place) (λ k. subst view.legible (sym same) (h.legible k))
+        (h.left ∙ ap (λ s. record { lexeme = Num h.run; end = h.end } ∷ view.left s) (sym same)) (subst (λ x. view.place x h.end) (sym same) h.place) (λ j k. subst (λ x. view.keeps x j) (sym same) (h.keeps j k))
         moves (maker.more b c to.builder (Event.Number a h.number ∷ []) (closes m.part) h.makes closed) to_sound
 
     pub no_err : (r : Result (At S B) (At S B)) → EndsPoint maker m t c r → IfErr r (Refuses read view maker m s b)
@@ -170,7 +171,7 @@ module _ {N S B : Type 0} (read : List ℕ → Option N) (view : View S) (maker 
       ∙ ap (λ o. moved read (bare_step part.Member m.dim m.depth) (said read o)) h.reads
       ∙ ap (λ s. Some (s, Event.Open part.Member ∷ Event.Number axis.X h.number ∷ [])) (ap state_of (sym e)) in
       subst (λ r. IfOk r (Goes read view maker m s b)) (sym is)
-      (goes_one read view maker m n s t b c (record { lexeme = Num h.run; end = h.end }) (Event.Open part.Member ∷ Event.Number axis.X h.number ∷ []) h.left h.place h.legible moves
+      (goes_one read view maker m n s t b c (record { lexeme = Num h.run; end = h.end }) (Event.Open part.Member ∷ Event.Number axis.X h.number ∷ []) h.left h.place h.keeps moves
       (maker.more b o c (Event.Open part.Member ∷ []) (Event.Number axis.X h.number ∷ []) makes h.makes) (subst IsSound (sym e) tt))
 
 -- where a number comes next, nothing else does

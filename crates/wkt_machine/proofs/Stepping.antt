@@ -284,7 +284,7 @@ module _ {N S B : Type 0} (read : List ℕ → Option N) (view : View S) (maker 
     ran = h.ran;
     makes = h.makes;
     sound = h.sound;
-    legible = λ k. h.legible (stays.legible k);
+    keeps = λ j k. h.keeps j (stays.keeps j k);
   }
 
   pub from_refuses : (m : Machine) (s t : S) (b : B) (to : At S B) → Stays view s t → Refuses read view maker m t b to → Refuses read view maker m s b to
@@ -295,13 +295,14 @@ module _ {N S B : Type 0} (read : List ℕ → Option N) (view : View S) (maker 
     behind = λ end k. h.behind end (stays.behind end k);
     ran = h.ran;
     is_open = h.is_open;
-    stuck = λ k. h.stuck (stays.legible k);
+    keeps = λ j k. h.keeps j (stays.keeps j k);
+    stuck = λ j k. h.stuck j (stays.keeps j k);
   }
 
   -- One lexeme is taken.
-  pub goes_one : (m n : Machine) (s t : S) (b c : B) (l : Placed) (es : List (Event N)) → view.left s ≡ l ∷ view.left t → view.place t ≡ l.end → (view.legible s → view.legible t)
+  pub goes_one : (m n : Machine) (s t : S) (b c : B) (l : Placed) (es : List (Event N)) → view.left s ≡ l ∷ view.left t → view.place t l.end → ((n : ℕ) → view.keeps s n → view.keeps t n)
       → move read (state_of m) l.lexeme ≡ Some (state_of n, es) → maker.makes b es c → IsSound n → Goes read view maker m s b (record { source = t; machine = n; builder = c })
-  goes_one m n s t b c l es split place legible moves makes sound = record {
+  goes_one m n s t b c l es split place keeps moves makes sound = record {
     given = [];
     last = l;
     events = es ++ [];
@@ -310,7 +311,7 @@ module _ {N S B : Type 0} (read : List ℕ → Option N) (view : View S) (maker 
     ran = ap (λ o. and_then o (λ t. run read t [])) moves;
     makes = subst (λ es. maker.makes b es c) (sym (append-nil es)) makes;
     sound = sound;
-    legible = legible;
+    keeps = keeps;
   }
 
   -- A lexeme that is seen is taken.
@@ -320,11 +321,11 @@ module _ {N S B : Type 0} (read : List ℕ → Option N) (view : View S) (maker 
       let sees : k ≡ seen_of skips.lexeme.lexeme = is ∙ ap sight skips.left in
       let step : step_at (state_of m).place m.depth skips.lexeme.lexeme ≡ Some (state_of n, a) = sym (seen_is (state_of m).place m.depth skips.lexeme.lexeme) ∙ ap (seen_at (state_of m).place m.depth) (sym sees) ∙ steps in
       let none : number_of read skips.lexeme.lexeme ≡ Some None = no_number skips.lexeme.lexeme (λ e. other (sees ∙ e)) in
-      goes_one m n s t b c skips.lexeme (made a None) skips.left skips.place skips.legible
+      goes_one m n s t b c skips.lexeme (made a None) skips.left skips.place skips.keeps
       (ap (λ o. moved read o (number_of read skips.lexeme.lexeme)) step ∙ ap (λ x. moved read (Some (state_of n, a)) x) none) makes sound
 
   -- No lexeme is taken.
-  pub stands : (m : Machine) (s : S) (b : B) (c : B) → is_over (state_of m) ≡ false → (view.legible s → IsStuck read m (view.left s)) → Refuses read view maker m s b (record { source = s; machine = m; builder = c })
+  pub stands : (m : Machine) (s : S) (b : B) (c : B) → is_over (state_of m) ≡ false → ((n : ℕ) → view.keeps s n → IsStuck read m (view.left s)) → Refuses read view maker m s b (record { source = s; machine = m; builder = c })
   stands m s b c o stuck = record {
     taken = [];
     events = [];
@@ -332,6 +333,7 @@ module _ {N S B : Type 0} (read : List ℕ → Option N) (view : View S) (maker 
     behind = λ end k. k;
     ran = refl;
     is_open = o;
+    keeps = λ j k. k;
     stuck = stuck;
   }
 
@@ -341,7 +343,7 @@ module _ {N S B : Type 0} (read : List ℕ → Option N) (view : View S) (maker 
 
   -- A lexeme that is seen isn't taken.
   pub stands_at : (m : Machine) (s : S) (b : B) (k : Seen) → k ≡ sight (view.left s) → is_over (state_of m) ≡ false → seen_at (state_of m).place m.depth k ≡ None → Refuses read view maker m s b (record { source = s; machine = m; builder = b })
-  stands_at m s b k is o e = stands m s b b o (λ h. unmoved m (view.left s) (ap (seen_at (state_of m).place m.depth) (sym is) ∙ e))
+  stands_at m s b k is o e = stands m s b b o (λ j h. unmoved m (view.left s) (ap (seen_at (state_of m).place m.depth) (sym is) ∙ e))
 
   -- The same where the code has it: it is seen as j, at the state x.
   pub taken : (m n : Machine) (s t : S) (b c : B) (r : Result (At S B) (At S B)) (to : State) (a : Action) (k j : Seen) (x : Next) → r ≡ Ok (record { source = t; machine = n; builder = c })

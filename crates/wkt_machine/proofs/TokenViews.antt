@@ -1,5 +1,5 @@
 -- What the tokenizer's clauses say of tokens as a source.
-use Rattle.std.proofs.Common.{◌≡◌, ◌≢◌, ℕ, List, [], ◌∷◌, sym, refl, ap, ◌∙◌, subst, Option, Some, None, false}
+use Rattle.std.proofs.Common.{◌≡◌, ◌≢◌, ℕ, List, [], ◌∷◌, sym, refl, ap, ◌∙◌, subst, arith, Option, Some, None, false}
 use Rattle.wkt_num.specs.Bytes.{Open, Close, Comma, Word, Num}
 use Rattle.wkt_read.specs.Ahead.{left, end_of}
 use Rattle.wkt_machine.specs.Drives.{is_over}
@@ -37,8 +37,8 @@ module _ {T : Type 0} (read : List ℕ → Option T) where
   skips s t (Some l, h) some = record {
     lexeme = record { lexeme = l; end = end_of t.tokens };
     left = h.0;
-    place = refl;
-    legible = λ h. tt;
+    place = (refl, record { low = h.1; high = h.2 });
+    keeps = λ j k. let more = h.3 in omega (arith, k, more);
   }
 
   -- the number that comes next is taken, and made
@@ -50,8 +50,8 @@ module _ {T : Type 0} (read : List ℕ → Option T) where
       number = x;
       end = end_of t.tokens;
       left = h.0;
-      place = refl;
-      legible = λ h. tt;
+      place = (refl, record { low = h.1; high = h.2 });
+      keeps = λ j k. let more = h.3 in omega (arith, k, more);
       reads = sym (ap (number_next read) h.0) ∙ sym looked ∙ is;
       makes = made;
     }

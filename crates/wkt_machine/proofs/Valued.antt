@@ -51,7 +51,7 @@ module _ {N S B : Type 0} (read : List ℕ → Option N) (view : View S) (maker 
       let ran : run read start ls ≡ Some (state_of to.machine, h.events) = ap (λ s. run read s ls) (sym from) ∙ h.ran in
       let (v, stands, made_is) = exact read ls (state_of to.machine) h.events ran o in (
         v,
-        record { given = h.given; last = h.last; split = h.split; place = h.place; stands = stands; legible = h.legible },
+        record { given = h.given; last = h.last; split = h.split; place = h.place; stands = stands; keeps = h.keeps },
         subst (λ es. maker.makes b es to.builder) made_is h.makes,
       )
 
@@ -63,6 +63,7 @@ module _ {N S B : Type 0} (read : List ℕ → Option N) (view : View S) (maker 
     behind = h.behind;
     ran = ap (λ s. run read s (lexemes_of h.taken)) (sym from) ∙ h.ran;
     is_open = h.is_open;
+    keeps = h.keeps;
     stuck = h.stuck;
   }
 

@@ -59,7 +59,7 @@ module _ {N : Type 0} (read : List ℕ → Option N) where
       subst (λ k. At read m.0.place m.0.depth k) (append_assoc pre (l ∷ []) ls) (subst (λ (t : State). At read t.place t.depth ((pre ++ (l ∷ [])) ++ ls)) same end)
 
   -- nothing moves where a geometry is over
-  over_stops : (s : State) (l : Lexeme) → is_over s ≡ true → move read s l ≡ None
+  pub over_stops : (s : State) (l : Lexeme) → is_over s ≡ true → move read s l ≡ None
   over_stops s l o = at_place s.place s.depth l o
     where
       at_place : (p : Place) (n : ℕ) (l : Lexeme) → over_at p n ≡ true → move read (at n p) l ≡ None

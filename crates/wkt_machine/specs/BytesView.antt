@@ -1,5 +1,6 @@
 -- What is known of bytes as a source.
 use Rattle.std.specs.Prelude.{◌≡◌, ◌≢◌, ℕ, ◌≤◌, length, get_or, List, Bool, true, false, refl}
+use Rattle.std.proofs.Common.{subst}
 use Rattle.std.proofs.Math.Nat.{le_refl}
 use Rattle.wkt_num.specs.Bytes.{Lexeme, Mark, White}
 use Rattle.wkt_events.specs.Left.{class_in, left_placed, TakesOne}
@@ -40,10 +41,10 @@ pub record IsBetween (feed : Bool) (text : List ℕ) (from to : ℕ) : Type 0 wh
 abbrev pub bytes_view : {n : ℕ} → Bool → View (Bytes n)
 bytes_view feed = record {
   left = λ s. left_placed feed s.text.now s.at;
-  place = λ s. s.at;
+  place = λ s end. s.at ≡ end;
   behind = λ s end. IsBetween feed s.text.now end s.at;
-  here = λ s. record { order = le_refl s.at; same = refl };
-  legible = λ s. Legible feed s.text.now s.at;
+  here = λ s end e. subst (λ end. IsBetween feed s.text.now end s.at) e (record { order = le_refl s.at; same = refl });
+  keeps = λ s n. Legible feed s.text.now s.at;
   looked = λ s. IsLooked feed s.text.now s.at s.end;
 }
 

@@ -7,6 +7,16 @@ use Rattle.wkt_machine.specs.Machines.{state_of}
 use Rattle.wkt_machine.specs.Makers.{Maker}
 use Rattle.wkt_machine.specs.View.{View}
 use Rattle.wkt_machine.specs.declared.machine.Machine.{Machine}
+use Rattle.wkt_machine.specs.declared.machine.State.{State as Next}
+use Rattle.wkt_machine.specs.declared.source.At.{At}
+
+-- The machine in another state of the same part.
+abbrev pub standing : Machine → Next → Machine
+standing m s = record { state = s; part = m.part; dim = m.dim; depth = m.depth }
+
+-- A source and what was made, with such a machine.
+abbrev pub reached : {S B : Type 0} → Machine → Next → S → B → At S B
+reached m s source builder = record { source = source; machine = standing m s; builder = builder }
 
 pub record Leads {N S B : Type 0} (read : List ℕ → Option N) (view : View S) (maker : Maker N B) (m : Machine) (s : S) (b : B) (n : Machine) (t : S) (c : B) : Type 0 where
   pub taken : List Placed
@@ -15,4 +25,4 @@ pub record Leads {N S B : Type 0} (read : List ℕ → Option N) (view : View S)
   pub behind : (end : ℕ) → view.behind s end → view.behind t (end_after end taken)
   pub ran : run read (state_of m) (lexemes_of taken) ≡ Some (state_of n, events)
   pub makes : maker.makes b events c
-  pub legible : view.legible s → view.legible t
+  pub keeps : (n : ℕ) → view.keeps s n → view.keeps t n

@@ -19,3 +19,4 @@ pub mod Growing
 pub mod Trees
 pub mod Growers
 pub mod Values
+pub mod Refusing

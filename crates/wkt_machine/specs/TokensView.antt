@@ -1,5 +1,5 @@
 -- What is known of tokens as a source.
-use Rattle.std.specs.Prelude.{◌≡◌, ℕ, List, [], ◌∷◌, Option, Some, None, Result, Ok, Err, refl}
+use Rattle.std.specs.Prelude.{◌≡◌, ◌≤◌, ℕ, List, [], ◌∷◌, Option, Some, None, Result, Ok, Err}
 use Rattle.std.specs.Borrow.{Bor}
 use Rattle.wkt_num.specs.Bytes.{Lexeme}
 use Rattle.wkt_num.specs.Bytes as lex
@@ -43,13 +43,13 @@ number_next read (p ∷ ps) = number_said read p.lexeme
 abbrev pub Passes : {T : Type 0} → OneByOne T → OneByOne T → Type 0
 Passes s t = (l : Option Lexeme) × ahead.Moves s.tokens l t.tokens
 
--- Of what was looked at the number is at hand. No byte is passed that isn't a part of a lexeme that was taken.
+-- Of what was looked at the number is at hand. No byte is passed that isn't a part of a lexeme that was taken, but for one.
 abbrev pub tokens_view : {T : Type 0} → (List ℕ → Option T) → View (OneByOne T)
 tokens_view read = record {
   left = λ s. ahead.left s.tokens;
-  place = λ s. ahead.end_of s.tokens;
+  place = λ s end. (ahead.end_of s.tokens ≡ end) × ahead.IsNear s.tokens;
   behind = λ s end. ahead.end_of s.tokens ≡ end;
-  here = λ s. refl;
-  legible = λ s. Unit {0};
+  here = λ s end h. h.0;
+  keeps = λ s n. n ≤ ahead.taken_of s.tokens;
   looked = λ s. s.number ≡ number_next read (ahead.left s.tokens);
 }

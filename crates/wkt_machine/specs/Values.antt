@@ -43,9 +43,9 @@ module _ {N S : Type 0} (read : List ℕ → Option N) (view : View S) where
     pub given : List Placed
     pub last : Placed
     pub split : view.left s ≡ given ++ (last ∷ view.left t)
-    pub place : view.place t ≡ last.end
+    pub place : view.place t last.end
     pub stands : StandFor read (lexemes_of (given ++ (last ∷ []))) v
-    pub legible : view.legible s → view.legible t
+    pub keeps : (n : ℕ) → view.keeps s n → view.keeps t n
 
   -- The tree is what the value is read as that the lexemes which are taken stand for.
   abbrev pub IsRead : S → Kept N → S → Type 0
@@ -63,4 +63,5 @@ module _ {N S : Type 0} (read : List ℕ → Option N) (view : View S) where
     pub behind : (end : ℕ) → view.behind s end → view.behind t (end_after end taken)
     pub ran : run read start (lexemes_of taken) ≡ Some (state_of m, events)
     pub is_open : is_over (state_of m) ≡ false
-    pub stuck : view.legible s → IsStuck read m (view.left t)
+    pub keeps : (n : ℕ) → view.keeps s n → view.keeps t n
+    pub stuck : (n : ℕ) → view.keeps s n → IsStuck read m (view.left t)

@@ -5,13 +5,13 @@ use Rattle.wkt_read.specs.Placed.{Placed}
 pub record View (S : Type 0) : Type 1 where
   -- The lexemes that are left, each with its end.
   pub left : S → List Placed
-  -- The place of the source in its text.
-  pub place : S → ℕ
+  -- The source stands right behind a lexeme that ends there, and nothing was looked at since.
+  pub place : S → ℕ → Type 0
   -- The lexeme before ends there, or none was taken, and the text begins there.
   pub behind : S → ℕ → Type 0
-  -- What was taken ends at the place of the source, if nothing was looked at since.
-  pub here : (s : S) → behind s (place s)
-  -- A number that is left is a text.
-  pub legible : S → Type 0
+  -- Then that lexeme is the one before.
+  pub here : (s : S) (end : ℕ) → place s end → behind s end
+  -- What stays so as lexemes are taken, for any number: that so many bytes were passed, or that a number that is left is a text.
+  pub keeps : S → ℕ → Type 0
   -- The lexeme that comes next was looked at.
   pub looked : S → Type 0

@@ -4,9 +4,9 @@ ghost use Rattle.wkt_machine.specs.Events.{Event};
 ghost use Rattle.wkt_machine.specs.Makers.{Maker, MakesNumber};
 ghost use Rattle.wkt_events.specs.Numbers.{NoNumber};
 
+use crate::numbers::read_at;
 use crate::part::{Axis, Part};
 use wkt_access::Dimension;
-use wkt_events::number_there;
 use wkt_num::WktNum;
 
 /// What is made. It is held by value: each call takes it and gives it back. A call that goes wrong is remembered by what
@@ -44,7 +44,7 @@ pub trait Builder<T: WktNum>: Sized + Drop {
         ensures some { IfSome result.1 (λ end. MakesNumber T.read maker self text.now at axis result.0 end) }
         ensures none { IfNone result.1 (NoNumber T.read text.now at) }
     {
-        match number_there::<T>(text, at) {
+        match read_at::<T>(text, at) {
             Some((number, end)) => (self.number(number, axis), Some(end)),
             None => (self, None),
         }

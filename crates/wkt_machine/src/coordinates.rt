@@ -1,13 +1,15 @@
 //! Coordinates in bytes, as far as the parenthesis behind them.
 ghost use Rattle.std.specs.Prelude.{◌≡◌, ◌≤◌, length, IfOk, IfErr, true};
+ghost use Rattle.std.specs.Bool.{OnTrue, OnFalse};
 ghost use Rattle.wkt_machine.specs.BytesView.{bytes_view, has_coordinates};
 ghost use Rattle.wkt_machine.specs.Goes.{Goes, Refuses};
-ghost use Rattle.wkt_machine.specs.Machines.{state_for, next_after, IsSound};
+ghost use Rattle.wkt_machine.specs.Leads.{reached, standing};
+ghost use Rattle.wkt_machine.specs.Machines.{state_for, next_after, HasNext};
 ghost use Rattle.wkt_machine.specs.declared.machine.State.TheVariants as next;
 
 use crate::builder::Builder;
 use crate::bytes::Bytes;
-use crate::machine::{Machine, State, after, is_single};
+use crate::machine::{Machine, State, is_single};
 use crate::part::{Axis, Part};
 use crate::source::{At, Walked};
 use crate::step::{on, refused};
@@ -42,11 +44,12 @@ pub(crate) fn coordinates<'a, T: WktNum, B: Builder<T>, const FEED_ENDS: bool>(
     let single = is_single(machine.part);
     let (mut source, mut builder) = (source, builder);
     'coordinates: loop {
-        let At {
-            source: behind,
-            machine: item,
-            builder: made,
-        } = coordinate::<T, B, FEED_ENDS>(machine, source, builder)?;
+        let (is_whole, state, behind, made) = coordinate::<T, B, FEED_ENDS>(
+            machine, source, builder,
+        );
+        if !is_whole {
+            return refused(behind, machine.to(state), made);
+        }
         let text = behind.text;
         let byte = byte_at(text, behind.at);
         if byte == b')' {
@@ -57,67 +60,100 @@ pub(crate) fn coordinates<'a, T: WktNum, B: Builder<T>, const FEED_ENDS: bool>(
             );
         }
         if byte != b',' || single {
-            return on(behind, item, made);
+            return on(behind, machine.to(State::Item), made);
         }
         source = Bytes::new(text, behind.at + 1);
         builder = made.comma(machine.part);
     }
 }
 
-/// The coordinate that comes next.
+/// The coordinate that comes next, and that it is whole; or up to the number that isn't read, and in which state.
+///
+/// What is carried round the loop is told apart from the machine, so that what fills that up isn't carried along.
 #[inline(always)]
 fn coordinate<'a, T: WktNum, B: Builder<T>, const FEED_ENDS: bool>(
     machine: Machine,
     source: Bytes<'a, FEED_ENDS>,
     builder: B,
-) -> Walked<Bytes<'a, FEED_ENDS>, B>
+) -> (bool, State, Bytes<'a, FEED_ENDS>, B)
     requires state { machine.state ≡ next.X }
     requires part { has_coordinates machine.part ≡ true }
     requires inside { source.at ≤ length source.text.now }
-    ensures on { IfOk result (Goes T.read (bytes_view FEED_ENDS) B.maker machine source.entry builder) }
-    ensures item { IfOk result (λ to. to.machine ≡ record { state = next.Item; part = machine.part; dim = machine.dim; depth = machine.depth }) }
-    ensures inside { IfOk result (λ to. to.source.at ≤ length to.source.text.now) }
-    ensures refused { IfErr result (Refuses T.read (bytes_view FEED_ENDS) B.maker machine source.entry builder) }
+    ensures on { OnTrue result.0 (Goes T.read (bytes_view FEED_ENDS) B.maker machine source.entry builder (reached machine next.Item result.2 result.3)) }
+    ensures inside { OnTrue result.0 (result.2.at ≤ length result.2.text.now) }
+    ensures refused { OnFalse result.0 (Refuses T.read (bytes_view FEED_ENDS) B.maker machine source.entry builder (reached machine result.1 result.2 result.3)) }
 {
-    let x = number::<T, B, FEED_ENDS>(Axis::X, machine, source, builder)?;
-    let y = number::<T, B, FEED_ENDS>(Axis::Y, x.machine, x.source, x.builder)?;
+    let (has_x, source, builder) = number::<T, B, FEED_ENDS>(Axis::X, machine, source, builder);
+    if !has_x {
+        return (false, State::X, source, builder);
+    }
+    let (has_y, source, builder) = number::<T, B, FEED_ENDS>(Axis::Y, machine, source, builder);
+    if !has_y {
+        return (false, State::Y, source, builder);
+    }
     match machine.dim {
-        Dimension::XY => Ok(y),
-        Dimension::XYZ => number::<T, B, FEED_ENDS>(Axis::Z, y.machine, y.source, y.builder),
-        Dimension::XYM => number::<T, B, FEED_ENDS>(Axis::M, y.machine, y.source, y.builder),
+        Dimension::XY => (true, State::Item, source, builder),
+        Dimension::XYZ => {
+            let (has_z, source, builder) = number::<T, B, FEED_ENDS>(
+                Axis::Z,
+                machine,
+                source,
+                builder,
+            );
+            (has_z, State::Z, source, builder)
+        }
+        Dimension::XYM => {
+            let (has_m, source, builder) = number::<T, B, FEED_ENDS>(
+                Axis::M,
+                machine,
+                source,
+                builder,
+            );
+            (has_m, State::M, source, builder)
+        }
         Dimension::XYZM => {
-            let z = number::<T, B, FEED_ENDS>(Axis::Z, y.machine, y.source, y.builder)?;
-            number::<T, B, FEED_ENDS>(Axis::M, z.machine, z.source, z.builder)
+            let (has_z, source, builder) = number::<T, B, FEED_ENDS>(
+                Axis::Z,
+                machine,
+                source,
+                builder,
+            );
+            if !has_z {
+                return (false, State::Z, source, builder);
+            }
+            let (has_m, source, builder) = number::<T, B, FEED_ENDS>(
+                Axis::M,
+                machine,
+                source,
+                builder,
+            );
+            (has_m, State::M, source, builder)
         }
     }
 }
 
-/// The number that comes next.
+/// The number that comes next, and whether one is read.
 #[inline(always)]
 fn number<'a, T: WktNum, B: Builder<T>, const FEED_ENDS: bool>(
     axis: Axis,
     machine: Machine,
     source: Bytes<'a, FEED_ENDS>,
     builder: B,
-) -> Walked<Bytes<'a, FEED_ENDS>, B>
-    requires axis { machine.state ≡ state_for axis }
-    requires sound { IsSound machine }
+) -> (bool, Bytes<'a, FEED_ENDS>, B)
+    requires sound { HasNext (state_for axis) machine.dim }
     requires part { has_coordinates machine.part ≡ true }
     requires inside { source.at ≤ length source.text.now }
-    ensures on { IfOk result (Goes T.read (bytes_view FEED_ENDS) B.maker machine source.entry builder) }
-    ensures next { IfOk result (λ to. to.machine ≡ record { state = next_after axis machine.dim; part = machine.part; dim = machine.dim; depth = machine.depth }) }
-    ensures inside { IfOk result (λ to. to.source.at ≤ length to.source.text.now) }
-    ensures refused { IfErr result (Refuses T.read (bytes_view FEED_ENDS) B.maker machine source.entry builder) }
+    ensures on { OnTrue result.0 (Goes T.read (bytes_view FEED_ENDS) B.maker (standing machine (state_for axis)) source.entry builder (reached machine (next_after axis machine.dim) result.1 result.2)) }
+    ensures inside { OnTrue result.0 (result.1.at ≤ length result.1.text.now) }
+    ensures refused { OnFalse result.0 (Refuses T.read (bytes_view FEED_ENDS) B.maker (standing machine (state_for axis)) source.entry builder (reached machine (state_for axis) result.1 result.2)) }
 {
+    // No effect at run time. What is ensured names the machine.
+    let _ = machine;
     let text = source.text;
     let at = skip_white::<FEED_ENDS>(text, source.at);
     let (made, end) = builder.number_in(text, at, axis);
     match end {
-        Some(end) => on(
-            Bytes::new(text, end),
-            machine.to(after(axis, machine.dim)),
-            made,
-        ),
-        None => refused(Bytes::new(text, at), machine, made),
+        Some(end) => (true, Bytes::new(text, end), made),
+        None => (false, Bytes::new(text, at), made),
     }
 }

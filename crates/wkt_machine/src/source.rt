@@ -1,5 +1,5 @@
 //! Where lexemes come from.
-ghost use Rattle.std.specs.Prelude.{◌≡◌, ◌≢◌, ◌+◌, ◌≤◌, [], length, IfOk, IfErr, false};
+ghost use Rattle.std.specs.Prelude.{◌≡◌, ◌≢◌, ◌+◌, ◌≤◌, ℕ, [], length, IfOk, IfErr, false};
 ghost use Rattle.wkt_machine.specs.Goes.{Stays, Skips, Numbers, IsUnread, Goes, Refuses};
 ghost use Rattle.wkt_machine.specs.Machines.{state_of, IsSound};
 ghost use Rattle.wkt_machine.specs.Sight.{sight};
@@ -47,7 +47,7 @@ pub trait Source<T: WktNum>: Sized + Drop {
         requires seen { sight (view.left self) ≡ seen.Number }
         ensures takes { IfOk result (λ r. Numbers T.read view B.maker self builder axis r.0 r.1) }
         ensures stays { IfErr result (λ r. Stays view self r.0) }
-        ensures unread { IfErr result (λ r. view.legible self → IsUnread T.read (view.left self)) };
+        ensures unread { IfErr result (λ r. (n : ℕ) → view.keeps self n → IsUnread T.read (view.left self)) };
 }
 
 /// A source that takes in one go what begins in it.

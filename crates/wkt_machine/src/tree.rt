@@ -6,6 +6,7 @@ ghost use Rattle.wkt_machine.specs.Trees.{Becomes, Gives, GivesLast, Holds, Join
 ghost use Rattle.wkt_machine.specs.declared.part.Part.TheVariants as kind;
 
 use crate::builder::Builder;
+use crate::numbers::read_at;
 use crate::part::{Axis, Part};
 use std::alloc::Global;
 use std::mem;
@@ -179,9 +180,12 @@ impl<T: WktNum> Tree<T> {
     fn end_coord(&mut self)
         ensures { Becomes true HasNumbers with_coord self.old self.new }
     {
-        if let Some(coord) = self.coord() {
-            if !add(&mut self.coords, coord) {
-                self.is_lost = true;
+        if let Some(x) = self.x {
+            if let Some(y) = self.y {
+                let (z, m) = (self.z, self.m);
+                if !add(&mut self.coords, Coord { x, y, z, m }) {
+                    self.is_lost = true;
+                }
             }
         }
     }
@@ -412,5 +416,16 @@ impl<T: WktNum> Builder<T> for Grower<'_, T> {
     fn number(self, number: T, axis: Axis) -> Self {
         self.tree.put_number(axis, number);
         self
+    }
+
+    #[inline(always)]
+    fn number_in(self, text: &[u8], at: usize, axis: Axis) -> (Self, Option<usize>) {
+        match read_at::<T>(text, at) {
+            Some((number, end)) => {
+                self.tree.put_number(axis, number);
+                (self, Some(end))
+            }
+            None => (self, None),
+        }
     }
 }

@@ -2,7 +2,10 @@
 use Rattle.std.proofs.Common.{◌≡◌, ℕ, zero, suc, ◌+◌, ◌-◌, ◌*◌, ◌/◌, ◌%◌, ◌^◌, ◌<◌, ◌≤◌, Bool, true, false, cond, nat_lt, List, [], ◌∷◌, ◌++◌, length, take, drop, map, replicate, get_or, slice_range, refl, sym, ap, ap₂, subst, ◌∙◌, arith, length-append, length-drop, Fits, w8}
 use Rattle.std.specs.Prelude.{not}
 use Rattle.std.specs.List.{prefix_len}
+use Rattle.std.specs.Char.{digit_value}
+use Rattle.std.specs.Int.{IsInRange}
 use Rattle.std.specs.Str.Parse.{AllDigits, digits_value}
+use Rattle.std.proofs.lemmas.Str.Parse.{digit_from_value}
 use Rattle.std.proofs.lemmas.List.{take-append-drop, length-take-le, length-replicate, length-map, take-map, take-take}
 use Rattle.std.proofs.lemmas.Nat.{pow-add}
 use Rattle.std.proofs.lemmas.Simd.{chunk-fits, trailing_mask_l, zip2_splat}
@@ -133,47 +136,66 @@ lowest-is xs few some = go (mask_l (map (λ x. nat_lt 9 x) xs)) refl
     go zero e = let none : count_trailing_zeros 64 0 ≡ 64 = refl in absurd (omega (arith, some, ap (count_trailing_zeros 64) e, none))
     go (suc m) e = trailing_mask_l (λ x. nat_lt 9 x) 64 xs few (omega (arith, e))
 
+-- ---- the bytes from a place on, in eight lanes
+
+digit-low : (b : ℕ) → digit_value b < 10 → digit b ≤ 9
+digit-low b h = let r : IsInRange 48 57 b = digit_from_value b h in omega (arith, r)
+
+digits-lanes : (bs : List ℕ) → AllDigits 10 bs → DigitLanes (map digit bs)
+digits-lanes [] h = tt
+digits-lanes (b ∷ bs) h = (digit-low b h.0, digits-lanes bs h.1)
+
+module _ (bs : List ℕ) (from count : ℕ) (lanes : List ℕ) (fits : (k : ℕ) → Fits w8 (get_or bs k 0)) (window : from + 8 ≤ length bs)
+    (e : lanes ≡ zip2 (λ a b. (a + (256 - b)) % 256) (chunk from 8 bs) (replicate 8 48)) (few : count ≤ 8) where
+  abbrev bytes : List ℕ
+  bytes = take count (chunk from 8 bs)
+
+  long-eight : length (chunk from 8 bs) ≡ 8
+  long-eight = length-take-le 8 (drop from bs) (omega (arith, length-drop from bs, window))
+
+  lanes-are : lanes ≡ map digit (chunk from 8 bs)
+  lanes-are = e ∙ zip2_splat (λ a b. (a + (256 - b)) % 256) (chunk from 8 bs) 8 48 long-eight
+
+  long-lanes : length lanes ≡ 8
+  long-lanes = ap length lanes-are ∙ length-map (chunk from 8 bs) digit ∙ long-eight
+
+  first-are : take count lanes ≡ map digit bytes
+  first-are = ap (take count) lanes-are ∙ take-map digit count (chunk from 8 bs)
+
+  range-is : bytes ≡ slice_range bs from (from + count)
+  range-is = take-take count 8 (drop from bs) few ∙ ap (λ (n : ℕ). take n (drop from bs)) {x = count} {y = from + count - from} (omega arith)
+
+  bytes-fit : Each1 (Fits w8) bytes
+  bytes-fit = fits-take count (chunk from 8 bs) (chunk-fits w8 from 8 bs fits)
+
+  -- digits as lanes, and back
+  pub given-lanes : AllDigits 10 (slice_range bs from (from + count)) → DigitLanes (take count lanes)
+  given-lanes h = subst DigitLanes (sym first-are) (digits-lanes bytes (subst (AllDigits 10) (sym range-is) h))
+
+  given-digits : DigitLanes (take count lanes) → AllDigits 10 (slice_range bs from (from + count))
+  given-digits h = subst (AllDigits 10) range-is (all-digits bytes bytes-fit (subst DigitLanes first-are h))
+
+  pub given-value : DigitLanes (take count lanes) → lanes_value (take count lanes) ≡ digits_value 10 (slice_range bs from (from + count))
+  given-value h = ap lanes_value first-are ∙ same-value 0 bytes bytes-fit (subst DigitLanes first-are h) ∙ ap (digits_value 10) range-is
+
 -- ---- the digits that begin there
 
 module _ (bs : List ℕ) (from count m : ℕ) (lanes : List ℕ) (fits : (k : ℕ) → Fits w8 (get_or bs k 0)) (window : from + 8 ≤ length bs)
     (e : lanes ≡ zip2 (λ a b. (a + (256 - b)) % 256) (chunk from 8 bs) (replicate 8 48))
     (mask : m ≡ mask_l (map (top (hbits w8)) (zip2 (λ a b. cond (nat_lt a b) (2 ^ bits w8 - 1) 0) (replicate 8 9) lanes)) % 2 ^ 64)
     (is : count ≡ count_trailing_zeros 64 m) (few : count ≤ 7) where
-  abbrev eight : List ℕ
-  eight = chunk from 8 bs
-
-  long-eight : length eight ≡ 8
-  long-eight = length-take-le 8 (drop from bs) (omega (arith, length-drop from bs, window))
-
-  lanes-are : lanes ≡ map digit eight
-  lanes-are = e ∙ zip2_splat (λ a b. (a + (256 - b)) % 256) eight 8 48 long-eight
-
-  long-lanes : length lanes ≡ 8
-  long-lanes = ap length lanes-are ∙ length-map eight digit ∙ long-eight
-
   lowest : count ≡ prefix_len (λ x. not (nat_lt 9 x)) lanes
   lowest =
-      let bit : count ≡ count_trailing_zeros 64 (mask_l (map (λ x. nat_lt 9 x) lanes)) = is ∙ ap (count_trailing_zeros 64) (mask ∙ over-mask 8 lanes long-lanes (omega arith)) in
-      bit ∙ lowest-is lanes (omega (arith, long-lanes)) (omega (arith, bit, few))
+      let long : length lanes ≡ 8 = long-lanes bs from count lanes fits window e (omega (arith, few)) in
+      let bit : count ≡ count_trailing_zeros 64 (mask_l (map (λ x. nat_lt 9 x) lanes)) = is ∙ ap (count_trailing_zeros 64) (mask ∙ over-mask 8 lanes long (omega arith)) in
+      bit ∙ lowest-is lanes (omega (arith, long)) (omega (arith, bit, few))
 
   -- these lanes are digits
   pub first-lanes : DigitLanes (take count lanes)
   first-lanes = subst (λ (n : ℕ). DigitLanes (take n lanes)) (sym lowest) (before-first lanes)
 
-  first-are : take count lanes ≡ map digit (take count eight)
-  first-are = ap (take count) lanes-are ∙ take-map digit count eight
-
-  range-is : take count eight ≡ slice_range bs from (from + count)
-  range-is = take-take count 8 (drop from bs) (omega (arith, few)) ∙ ap (λ (n : ℕ). take n (drop from bs)) {x = count} {y = from + count - from} (omega arith)
-
-  bytes-fit : Each1 (Fits w8) (take count eight)
-  bytes-fit = fits-take count eight (chunk-fits w8 from 8 bs fits)
-
   pub first-digits : AllDigits 10 (slice_range bs from (from + count))
-  first-digits = subst (AllDigits 10) range-is (all-digits (take count eight) bytes-fit (subst DigitLanes first-are first-lanes))
+  first-digits = given-digits bs from count lanes fits window e (omega (arith, few)) first-lanes
 
   pub first-value : lanes_value (take count lanes) ≡ digits_value 10 (slice_range bs from (from + count))
-  first-value =
-      ap lanes_value first-are
-      ∙ same-value 0 (take count eight) bytes-fit (subst DigitLanes first-are first-lanes)
-      ∙ ap (digits_value 10) range-is
+  first-value = given-value bs from count lanes fits window e (omega (arith, few)) first-lanes

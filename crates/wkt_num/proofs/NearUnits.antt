@@ -20,6 +20,7 @@ use Rattle.wkt_num.specs.ReadDecimal.{read-near}
 use Rattle.wkt_num.specs.Units.{after_split, ten_pos}
 use Rattle.wkt_num.proofs.Placed.{take-range, length-range, stops-at}
 use Rattle.wkt_num.proofs.Shown.{reads-fraction, reads-whole}
+use Rattle.wkt_num.specs.Kept.{BeginsNumber}
 use Rattle.wkt_num.specs.Near.{BeginsUnits, signed}
 
 -- the magnitude and the sign
@@ -35,12 +36,13 @@ reads-signed D m false body few fits range reads =
     ∙ ap (λ o. and_then o (with_sign 127 false)) reads
     ∙ ap (λ b. keep_if b (pos m)) (lt-ltb m (2 ^ 127) fits)
 
--- units of 64 bits as they are held
-signed-small : (negative : Bool) (m : ℕ) → m < 2 ^ 63 → IsSigned 63 (signed negative m)
-signed-small false m h = h
-signed-small true zero h = omega (arith, h)
-signed-small true (suc n) h = omega (arith, h)
+-- magnitudes that fit
+pub signed-small : (negative : Bool) (m k : ℕ) → m < 2 ^ k → IsSigned k (signed negative m)
+signed-small false m k h = h
+signed-small true zero k h = h
+signed-small true (suc n) k h = omega (arith, h)
 
+-- units of 64 bits as they are held
 pub held-is : (u : ℤ) → IsSigned 63 u → to_z w64 (of_z w64 u) ≡ u
 held-is u h = to_z-of_z w64 u (fits u h)
   where
@@ -52,17 +54,21 @@ pub held : (D : ℕ) (bs : List ℕ) (end : ℕ) (units : ℤ) → BeginsUnits D
 held D bs end units b = subst (λ u. BeginsUnits D bs u end) (sym (held-is units b.fits)) b
 
 -- a sign, digits and a rest are one run
-number-run : (negative : Bool) (ws rest : List ℕ) → IsNumeral 10 ws → AllRun rest → IsNumberText (sign_text negative ++ (ws ++ rest))
+pub number-run : (negative : Bool) (ws rest : List ℕ) → IsNumeral 10 ws → AllRun rest → IsNumberText (sign_text negative ++ (ws ++ rest))
 number-run true ws rest h run = (refl, (minus_run, run_append ws rest (digits_are_run ws h.1) run))
 number-run false ws rest h run = number_first ws rest h run
 
--- so few digits and zeros fit 64 bits
-product-small : (n t a b : ℕ) → n < 10 ^ a → t ≡ 10 ^ b → a + b ≤ 19 → n * t < 2 ^ 64
-product-small n t a b less ten few =
+-- so many digits and zeros
+pub product-less : (n t a b k : ℕ) → n < 10 ^ a → t ≡ 10 ^ b → a + b ≤ k → n * t < 10 ^ k
+product-less n t a b k less ten few =
     let one : (n + 1) * t ≤ 10 ^ a * t = mul-le-mul_right {m = n + 1} {n = 10 ^ a} t (omega (arith, less)) in
     let all : 10 ^ a * t ≡ 10 ^ (a + b) = ap (λ y. 10 ^ a * y) ten ∙ sym (pow-add 10 a b) in
-    let most : 10 ^ (a + b) ≤ 10 ^ 19 = pow-le-pow_right {n = 10} (omega arith) {i = a + b} {j = 19} few in
+    let most : 10 ^ (a + b) ≤ 10 ^ k = pow-le-pow_right {n = 10} (omega arith) {i = a + b} {j = k} few in
     omega (arith, one, all, most, ten, ten_pos b)
+
+-- few fit 64 bits
+product-small : (n t a b : ℕ) → n < 10 ^ a → t ≡ 10 ^ b → a + b ≤ 19 → n * t < 2 ^ 64
+product-small n t a b less ten few = omega (arith, product-less n t a b 19 less ten few)
 
 product : (w f P T : ℕ) → (w * P + f) * T ≡ w * (P * T) + f * T
 product w f P T = omega arith
@@ -77,20 +83,29 @@ module _ (D : ℕ) (bs : List ℕ) (first point : ℕ) (few : D ≤ 18) (sign : 
   numeral : IsNumeral 10 ws
   numeral = (omega (arith, length-range bs first point (omega (arith, some)) within, some), whole)
 
-  begins : (end m : ℕ) (rest : List ℕ) → end ≤ length bs → take end bs ≡ sign_text negative ++ (ws ++ rest) → AllRun rest → m < 2 ^ 63 → read_magnitude (2 ^ 127) D (ws ++ rest) ≡ Some m
-      → (class_of (get_or bs end 0) ≡ Run → ⊥) → (units : ℤ) → units ≡ signed negative m → BeginsUnits D bs units end
-  begins end m rest inside text run fits reads stops units e = record {
+  begins : (end m : ℕ) (rest : List ℕ) → end ≤ length bs → take end bs ≡ sign_text negative ++ (ws ++ rest) → AllRun rest → m < 2 ^ 127 → read_magnitude (2 ^ 127) D (ws ++ rest) ≡ Some m
+      → (class_of (get_or bs end 0) ≡ Run → ⊥) → BeginsNumber (read_decimal 127 36 D) bs (signed negative m) end
+  begins end m rest inside text run fits reads stops = record {
+    within = inside;
+    run = subst IsNumberText (sym text) (number-run negative ws rest numeral run);
+    stops = stops-at bs end (λ _. stops);
+    reads = ap (read_decimal 127 36 D) text ∙ reads-signed D m negative (ws ++ rest) (omega (arith, few)) fits (first_of ws rest numeral) reads;
+  }
+
+  -- a number of 64 bits
+  in-units : (end m : ℕ) (units : ℤ) → BeginsNumber (read_decimal 127 36 D) bs (signed negative m) end → m < 2 ^ 63 → units ≡ signed negative m → BeginsUnits D bs units end
+  in-units end m units b fits e = record {
     keeps = record {
       number = signed negative m;
-      within = inside;
+      within = b.within;
       shorter = omega arith;
-      run = subst IsNumberText (sym text) (number-run negative ws rest numeral run);
-      stops = stops-at bs end (λ _. stops);
-      reads = ap (read_decimal 127 36 D) text ∙ reads-signed D m negative (ws ++ rest) (omega (arith, few)) (omega (arith, fits)) (first_of ws rest numeral) reads;
+      run = b.run;
+      stops = b.stops;
+      reads = b.reads;
       text = refl;
     };
     is = sym e;
-    fits = subst (IsSigned 63) (sym e) (signed-small negative m fits);
+    fits = subst (IsSigned 63) (sym e) (signed-small negative m 63 fits);
   }
 
   to-point : take point bs ≡ sign_text negative ++ (ws ++ [])
@@ -112,56 +127,61 @@ module _ (D : ℕ) (bs : List ℕ) (first point : ℕ) (few : D ≤ 18) (sign : 
       (omega (arith, length-append ws gs, long-whole, length-range bs (point + 1) end (omega (arith, after)) inside, few, most))
 
   -- without a point
+  pub whole-number : (m : ℕ) → m ≡ digits_value 10 ws * 10 ^ D → m < 2 ^ 127 → (class_of (get_or bs point 0) ≡ Run → ⊥) → BeginsNumber (read_decimal 127 36 D) bs (signed negative m) point
+  whole-number m same fits stops =
+      begins point m [] within to-point tt fits
+      (ap (read_magnitude (2 ^ 127) D) (append-nil ws) ∙ reads-whole D ws numeral (omega (arith, fits, same)) ∙ ap (λ (m : ℕ). Some m) (sym same))
+      stops
+
   pub whole-units : (n t : ℕ) (units : ℤ) → n ≡ digits_value_after 10 0 ws → t ≡ 10 ^ D → n * t < 2 ^ 63 → units ≡ signed negative (n * t) → (class_of (get_or bs point 0) ≡ Run → ⊥) → BeginsUnits D bs units point
   whole-units n t units value ten fits e stops =
       let same : n * t ≡ digits_value 10 ws * 10 ^ D = ap (λ x. x * t) value ∙ ap (λ y. digits_value 10 ws * y) ten in
-      begins point (n * t) [] within to-point tt fits
-      (ap (read_magnitude (2 ^ 127) D) (append-nil ws) ∙ reads-whole D ws numeral (omega (arith, fits, same)) ∙ ap (λ (m : ℕ). Some m) (sym same))
-      stops units e
+      in-units point (n * t) units (whole-number (n * t) same (omega (arith, fits)) stops) fits e
 
   -- with one, after which stand so few digits
-  pub fraction-units : (end n t : ℕ) (units : ℤ) → point < end → end ≤ length bs → get_or bs point 0 ≡ 46 → AllDigits 10 (slice_range bs (point + 1) end) → end - point - 1 ≤ D
-      → n ≡ digits_value_after 10 (digits_value_after 10 0 ws) (slice_range bs (point + 1) end) → t ≡ 10 ^ (D - (end - point - 1)) → n * t < 2 ^ 63 → units ≡ signed negative (n * t)
-      → (class_of (get_or bs end 0) ≡ Run → ⊥) → BeginsUnits D bs units end
-  fraction-units end n t units after inside is digits most value ten fits e stops =
-      begins end (n * t) (46 ∷ gs) inside text (point_run, digits_are_run gs digits) fits reads stops units e
-    where
-      gs : List ℕ
-      gs = slice_range bs (point + 1) end
+  module _ (end : ℕ) (after : point < end) (inside : end ≤ length bs) (is : get_or bs point 0 ≡ 46) (digits : AllDigits 10 (slice_range bs (point + 1) end)) (most : end - point - 1 ≤ D) (stops : class_of (get_or bs end 0) ≡ Run → ⊥) where
+    abbrev gs : List ℕ
+    gs = slice_range bs (point + 1) end
 
-      w : ℕ
-      w = digits_value 10 ws
+    abbrev w : ℕ
+    w = digits_value 10 ws
 
-      f : ℕ
-      f = digits_value 10 gs
+    abbrev f : ℕ
+    f = digits_value 10 gs
 
-      a : ℕ
-      a = D - (end - point - 1)
+    abbrev a : ℕ
+    a = D - (end - point - 1)
 
-      long : length gs ≡ end - point - 1
-      long = omega (arith, length-range bs (point + 1) end (omega (arith, after)) inside)
+    long : length gs ≡ end - point - 1
+    long = omega (arith, length-range bs (point + 1) end (omega (arith, after)) inside)
 
-      text : take end bs ≡ sign_text negative ++ (ws ++ 46 ∷ gs)
-      text =
-          take-range bs (point + 1) end (omega (arith, after))
-          ∙ ap (λ l. l ++ gs) (take_more bs point 0 (omega (arith, after, inside)))
-          ∙ ap (λ b. take point bs ++ b ∷ [] ++ gs) is
-          ∙ append_assoc (take point bs) (46 ∷ []) gs
-          ∙ ap (λ l. l ++ 46 ∷ gs) (take-range bs first point (omega (arith, some)) ∙ ap (λ l. l ++ ws) sign)
-          ∙ append_assoc (sign_text negative) ws (46 ∷ gs)
+    text : take end bs ≡ sign_text negative ++ (ws ++ 46 ∷ gs)
+    text =
+        take-range bs (point + 1) end (omega (arith, after))
+        ∙ ap (λ l. l ++ gs) (take_more bs point 0 (omega (arith, after, inside)))
+        ∙ ap (λ b. take point bs ++ b ∷ [] ++ gs) is
+        ∙ append_assoc (take point bs) (46 ∷ []) gs
+        ∙ ap (λ l. l ++ 46 ∷ gs) (take-range bs first point (omega (arith, some)) ∙ ap (λ l. l ++ ws) sign)
+        ∙ append_assoc (sign_text negative) ws (46 ∷ gs)
 
-      scale : 10 ^ length gs * 10 ^ a ≡ 10 ^ D
-      scale = sym (pow-add 10 (length gs) a) ∙ ap (λ n. 10 ^ n) {x = length gs + a} {y = D} (omega (arith, long, most))
+    pub fraction-number : (m : ℕ) → m ≡ w * 10 ^ D + f * 10 ^ a → m < 2 ^ 127 → BeginsNumber (read_decimal 127 36 D) bs (signed negative m) end
+    fraction-number m same fits = begins end m (46 ∷ gs) inside text (point_run, digits_are_run gs digits) fits reads stops
+      where
+        reads : read_magnitude (2 ^ 127) D (ws ++ 46 ∷ gs) ≡ Some m
+        reads =
+            ap (λ l. read_magnitude (2 ^ 127) D (ws ++ 46 ∷ l)) (sym (append-nil gs))
+            ∙ reads-fraction D a 0 ws gs numeral digits (omega (arith, long, most)) (omega (arith, fits, same))
+            ∙ ap (λ (m : ℕ). Some m) (sym same)
 
-      same : n * t ≡ w * 10 ^ D + f * 10 ^ a
-      same =
-          ap (λ x. x * t) (value ∙ after_split w gs)
-          ∙ ap (λ y. (w * 10 ^ length gs + f) * y) ten
-          ∙ product w f (10 ^ length gs) (10 ^ a)
-          ∙ ap (λ y. w * y + f * 10 ^ a) scale
+    pub fraction-units : (n t : ℕ) (units : ℤ) → n ≡ digits_value_after 10 (digits_value_after 10 0 ws) gs → t ≡ 10 ^ a → n * t < 2 ^ 63 → units ≡ signed negative (n * t) → BeginsUnits D bs units end
+    fraction-units n t units value ten fits e = in-units end (n * t) units (fraction-number (n * t) same (omega (arith, fits))) fits e
+      where
+        scale : 10 ^ length gs * 10 ^ a ≡ 10 ^ D
+        scale = sym (pow-add 10 (length gs) a) ∙ ap (λ n. 10 ^ n) {x = length gs + a} {y = D} (omega (arith, long, most))
 
-      reads : read_magnitude (2 ^ 127) D (ws ++ 46 ∷ gs) ≡ Some (n * t)
-      reads =
-          ap (λ l. read_magnitude (2 ^ 127) D (ws ++ 46 ∷ l)) (sym (append-nil gs))
-          ∙ reads-fraction D a 0 ws gs numeral digits (omega (arith, long, most)) (omega (arith, fits, same))
-          ∙ ap (λ (m : ℕ). Some m) (sym same)
+        same : n * t ≡ w * 10 ^ D + f * 10 ^ a
+        same =
+            ap (λ x. x * t) (value ∙ after_split w gs)
+            ∙ ap (λ y. (w * 10 ^ length gs + f) * y) ten
+            ∙ product w f (10 ^ length gs) (10 ^ a)
+            ∙ ap (λ y. w * y + f * 10 ^ a) scale

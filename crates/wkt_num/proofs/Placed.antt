@@ -58,7 +58,7 @@ stops-at (b ∷ bs) zero h = h (omega arith)
 stops-at (b ∷ bs) (suc end) h = stops-at bs end (λ k. h (omega (arith, k)))
 
 -- two ranges side by side
-range-split : (bs : List ℕ) (i j k : ℕ) → i ≤ j → j ≤ k → slice_range bs i k ≡ slice_range bs i j ++ slice_range bs j k
+pub range-split : (bs : List ℕ) (i j k : ℕ) → i ≤ j → j ≤ k → slice_range bs i k ≡ slice_range bs i j ++ slice_range bs j k
 range-split bs i j k h l =
     ap (λ (n : ℕ). take n (drop i bs)) {x = k - i} {y = j - i + (k - j)} (omega arith)
     ∙ take-add (j - i) (k - j) (drop i bs)
@@ -67,7 +67,7 @@ range-split bs i j k h l =
 
 -- ---- digits
 
-digits-parts : (xs ys : List ℕ) → AllDigits 10 (xs ++ ys) → AllDigits 10 xs × AllDigits 10 ys
+pub digits-parts : (xs ys : List ℕ) → AllDigits 10 (xs ++ ys) → AllDigits 10 xs × AllDigits 10 ys
 digits-parts [] ys h = (tt, h)
 digits-parts (x ∷ xs) ys h = let more = digits-parts xs ys h.1 in ((h.0, more.0), more.1)
 

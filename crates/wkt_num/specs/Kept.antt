@@ -18,6 +18,13 @@ pub record KeepsText {T : Type 0} (read : List ℕ → Option T) (num : T → Li
   pub reads : read (take end bs) ≡ Some number
   pub text : num number ≡ take kept bs
 
+-- The bytes begin with a number run of `end` bytes, which is read as x.
+pub record BeginsNumber {T : Type 0} (read : List ℕ → Option T) (bs : List ℕ) (x : T) (end : ℕ) : Type 0 where
+  pub within : end ≤ length bs
+  pub run : IsNumberText (take end bs)
+  pub stops : StopsRun (drop end bs)
+  pub reads : read (take end bs) ≡ Some x
+
 -- The bytes begin with the text, and no run goes on behind it.
 pub record StandsFirst (text bs : List ℕ) : Type 0 where
   pub rest : List ℕ

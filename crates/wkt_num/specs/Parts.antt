@@ -1,8 +1,8 @@
 -- The parts of a decimal's text, by their places in the bytes. Only private contracts cite this file.
-use Rattle.std.specs.Prelude.{zero, suc, false, [], ◌∷◌, bit_and, ◌≡◌, ◌≢◌, ◌⊎◌, ℕ, ◌+◌, ◌-◌, ◌%◌, ◌<◌, ◌≤◌, ◌==◌, Bool, List, take, map, length, nat_lt, slice_index, slice_range}
+use Rattle.std.specs.Prelude.{zero, suc, false, [], ◌∷◌, bit_and, ◌≡◌, ◌≢◌, ◌⊎◌, ℕ, ◌+◌, ◌-◌, ◌%◌, ◌<◌, ◌≤◌, ◌^◌, ◌==◌, Bool, List, take, map, length, nat_lt, slice_index, slice_range}
 use Rattle.std.specs.Fmt.{sign_text}
 use Rattle.std.specs.Char.{is_ascii_digit}
-use Rattle.std.specs.Str.Parse.{AllDigits}
+use Rattle.std.specs.Str.Parse.{AllDigits, digits_value}
 use Rattle.wkt_num.specs.Bytes.{class_of, Run}
 use lib.Lanes.{mask_l}
 use Rattle.wkt_num.specs.Padded.{zeros}
@@ -50,6 +50,15 @@ pub record IsWholeText (most : ℕ) (bs : List ℕ) (end : ℕ) : Type 0 where
   pub within : end ≤ length bs
   pub digits : AllDigits 10 (slice_range bs first end)
   pub stops : end < length bs → class_of (slice_index bs end) ≢ Run
+
+-- Digits end in a window, from `first` to `end`, and are this number, which has at most so many.
+pub record ShowsWhole (most : ℕ) (bs : List ℕ) (first number end : ℕ) : Type 0 where
+  pub some : first < end
+  pub within : end < 32
+  pub digits : AllDigits 10 (slice_range bs first end)
+  pub value : number ≡ digits_value 10 (slice_range bs first end)
+  pub small : number < 10 ^ most
+  pub stops : class_of (slice_index bs end) ≢ Run
 
 -- No zero stands first or last, nor the point, and all is so short that the units fit.
 pub record IsPlain (D : ℕ) (bs : List ℕ) (first end : ℕ) : Type 0 where

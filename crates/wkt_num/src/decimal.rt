@@ -8,6 +8,7 @@ ghost use Rattle.wkt_num.specs.Halves.{upper_half, lower_half, upper_back, lower
 ghost use Rattle.wkt_num.specs.DecimalLaws.{decimal_reads_back, decimal_reads_values, decimal_number_text, decimal_same};
 
 use crate::formatted::FormatterText;
+use crate::in_window::units_in_window;
 use crate::kept::{kept_decimal, kept_in_window};
 use crate::number::WktNum;
 use crate::printing::write_units;
@@ -171,6 +172,14 @@ impl<const D: u32> WktNum for Decimal<D> {
         ensures finds { FindsShort (decimal_text D) (IsShortDecimal D) bytes.now result }
     {
         kept_in_window(D, bytes)
+    }
+
+    #[inline(always)]
+    fn read_in_window(bytes: &[u8]) -> Option<(Decimal<D>, usize)> {
+        match units_in_window(D, bytes) {
+            Some((units, end)) => Some((Decimal::from_units(units), end)),
+            None => None,
+        }
     }
 
     #[inline(always)]

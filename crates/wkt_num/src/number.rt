@@ -2,7 +2,7 @@
 ghost use Rattle.std.specs.Prelude.{◌≡◌, ◌≤◌, ◌<◌, ℕ, true, List, Option, Some, IfSome, length, ◌↔◌};
 ghost use Rattle.wkt_num.specs.Sink.{Puts};
 ghost use Rattle.wkt_num.specs.Number.{IsNumberText, ReadsTexts};
-ghost use Rattle.wkt_num.specs.Kept.{KeepsText};
+ghost use Rattle.wkt_num.specs.Kept.{KeepsText, BeginsNumber};
 
 use crate::sink::TextSink;
 use std::fmt;
@@ -45,6 +45,16 @@ pub trait WktNum: Copy + PartialEq + PartialOrd + Debug {
         requires { 32 ≤ length bytes.now }
         ensures keeps { IfSome result (λ r. KeepsText read num bytes.now r.0 r.1) }
         ensures within { IfSome result (λ r. r.0 < 32) }
+    {
+        None
+    }
+
+    /// The number that 32 bytes or more begin with, and where its run ends, which it does within the first 32. `None` implies
+    /// nothing about the bytes.
+    fn read_in_window(bytes: &[u8]) -> Option<(Self, usize)>
+        requires { 32 ≤ length bytes.now }
+        ensures reads { IfSome result (λ r. BeginsNumber read bytes.now r.0 r.1) }
+        ensures within { IfSome result (λ r. r.1 < 32) }
     {
         None
     }

@@ -7,6 +7,7 @@ ghost use Rattle.wkt_num.specs.Whole.{read_signed, IsSigned};
 ghost use Rattle.wkt_num.specs.WholeLaws.{signed_reads_back, signed_reads_values, signed_text, signed_same};
 
 use crate::digits::write_whole;
+use crate::in_window;
 use crate::kept_whole::{kept_signed, signed_in_window};
 use crate::number::WktNum;
 use crate::sink::TextSink;
@@ -51,6 +52,14 @@ impl WktNum for i8 {
         ensures finds { FindsShort signed_decimal (λ x. unsigned_abs x < 10 ^ 2) bytes.now result }
     {
         signed_in_window(7, 2, bytes)
+    }
+
+    #[inline(always)]
+    fn read_in_window(bytes: &[u8]) -> Option<(i8, usize)> {
+        match in_window::signed_in_window(2, bytes) {
+            Some((number, end)) => Some((number as i8, end)),
+            None => None,
+        }
     }
 
     #[inline(always)]
@@ -105,6 +114,14 @@ impl WktNum for i16 {
     }
 
     #[inline(always)]
+    fn read_in_window(bytes: &[u8]) -> Option<(i16, usize)> {
+        match in_window::signed_in_window(4, bytes) {
+            Some((number, end)) => Some((number as i16, end)),
+            None => None,
+        }
+    }
+
+    #[inline(always)]
     fn reads_texts() -> bool {
         true
     }
@@ -153,6 +170,14 @@ impl WktNum for i32 {
         ensures finds { FindsShort signed_decimal (λ x. unsigned_abs x < 10 ^ 9) bytes.now result }
     {
         signed_in_window(31, 9, bytes)
+    }
+
+    #[inline(always)]
+    fn read_in_window(bytes: &[u8]) -> Option<(i32, usize)> {
+        match in_window::signed_in_window(9, bytes) {
+            Some((number, end)) => Some((number as i32, end)),
+            None => None,
+        }
     }
 
     #[inline(always)]
@@ -207,6 +232,14 @@ impl WktNum for i64 {
     }
 
     #[inline(always)]
+    fn read_in_window(bytes: &[u8]) -> Option<(i64, usize)> {
+        match in_window::signed_in_window(16, bytes) {
+            Some((number, end)) => Some((number, end)),
+            None => None,
+        }
+    }
+
+    #[inline(always)]
     fn reads_texts() -> bool {
         true
     }
@@ -255,6 +288,14 @@ impl WktNum for i128 {
         ensures finds { FindsShort signed_decimal (λ x. unsigned_abs x < 10 ^ 38) bytes.now result }
     {
         signed_in_window(127, 38, bytes)
+    }
+
+    #[inline(always)]
+    fn read_in_window(bytes: &[u8]) -> Option<(i128, usize)> {
+        match in_window::signed_in_window(16, bytes) {
+            Some((number, end)) => Some((i128::from(number), end)),
+            None => None,
+        }
     }
 
     #[inline(always)]

@@ -7,6 +7,7 @@ ghost use Rattle.wkt_num.specs.Whole.{read_unsigned};
 ghost use Rattle.wkt_num.specs.WholeLaws.{unsigned_reads_back, unsigned_reads_values, unsigned_text, unsigned_same};
 
 use crate::digits::write_whole;
+use crate::in_window;
 use crate::kept_whole::{kept_unsigned, unsigned_in_window};
 use crate::number::WktNum;
 use crate::sink::TextSink;
@@ -51,6 +52,14 @@ impl WktNum for u8 {
         ensures finds { FindsShort decimal (λ x. x < 10 ^ 2) bytes.now result }
     {
         unsigned_in_window(8, 2, bytes)
+    }
+
+    #[inline(always)]
+    fn read_in_window(bytes: &[u8]) -> Option<(u8, usize)> {
+        match in_window::unsigned_in_window(2, bytes) {
+            Some((number, end)) => Some((number as u8, end)),
+            None => None,
+        }
     }
 
     #[inline(always)]
@@ -105,6 +114,14 @@ impl WktNum for u16 {
     }
 
     #[inline(always)]
+    fn read_in_window(bytes: &[u8]) -> Option<(u16, usize)> {
+        match in_window::unsigned_in_window(4, bytes) {
+            Some((number, end)) => Some((number as u16, end)),
+            None => None,
+        }
+    }
+
+    #[inline(always)]
     fn reads_texts() -> bool {
         true
     }
@@ -153,6 +170,14 @@ impl WktNum for u32 {
         ensures finds { FindsShort decimal (λ x. x < 10 ^ 9) bytes.now result }
     {
         unsigned_in_window(32, 9, bytes)
+    }
+
+    #[inline(always)]
+    fn read_in_window(bytes: &[u8]) -> Option<(u32, usize)> {
+        match in_window::unsigned_in_window(9, bytes) {
+            Some((number, end)) => Some((number as u32, end)),
+            None => None,
+        }
     }
 
     #[inline(always)]
@@ -207,6 +232,14 @@ impl WktNum for u64 {
     }
 
     #[inline(always)]
+    fn read_in_window(bytes: &[u8]) -> Option<(u64, usize)> {
+        match in_window::unsigned_in_window(16, bytes) {
+            Some((number, end)) => Some((number, end)),
+            None => None,
+        }
+    }
+
+    #[inline(always)]
     fn reads_texts() -> bool {
         true
     }
@@ -255,6 +288,14 @@ impl WktNum for u128 {
         ensures finds { FindsShort decimal (λ x. x < 10 ^ 38) bytes.now result }
     {
         unsigned_in_window(128, 38, bytes)
+    }
+
+    #[inline(always)]
+    fn read_in_window(bytes: &[u8]) -> Option<(u128, usize)> {
+        match in_window::unsigned_in_window(16, bytes) {
+            Some((number, end)) => Some((u128::from(number), end)),
+            None => None,
+        }
     }
 
     #[inline(always)]

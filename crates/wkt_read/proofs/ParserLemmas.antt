@@ -14,6 +14,5 @@ pub mod Free
 pub mod Answering
 pub mod OneMessage
 pub mod Valued
-pub mod Refusals
 pub mod Ascii
 pub mod Empty

@@ -4,3 +4,4 @@ pub mod Steps
 pub mod Afters
 pub mod Cursors
 pub mod Blanks
+pub mod Most

@@ -41,6 +41,13 @@ impl<'a> Cursor<'a> {
         self.left.len()
     }
 
+    /// More than the bytes that are left, by two.
+    pub(crate) fn most_left(&self) -> usize
+        ensures { result ≡ length self.now.left.now + 2 }
+    {
+        self.left.len() + 2
+    }
+
     /// The next byte.
     #[inline(always)]
     pub(crate) fn next_byte(&mut self) -> Option<u8>

@@ -1,12 +1,15 @@
 //! The lexemes of a text, of which one may be looked at ahead.
-ghost use Rattle.std.specs.Prelude.{◌≡◌, ◌+◌, ◌≤◌, ℕ, [], ◌∷◌, Some, None, OnSome, IfNone};
+ghost use Rattle.std.specs.Prelude.{◌≡◌, ◌+◌, ◌≤◌, ℕ, length, [], ◌∷◌, Some, None, OnSome, IfNone, MatchOption};
 ghost use Rattle.std.specs.Bool.{MatchBool, OnFalse};
-ghost use Rattle.wkt_num.specs.Bytes.{Lexeme, Comma};
+ghost use Rattle.wkt_num.specs.Bytes.{Lexeme, Close, Comma, Open};
 ghost use Rattle.wkt_read.specs.Tokenizer.Unread.{found};
 
+use crate::keywords::kind_of;
 use crate::tokenizer::tokens::{Lexeme, Token, Tokens, item_of};
 use std::marker::Model;
+use wkt_access::Dimension;
 use wkt_num::WktNum;
+use wkt_types::GeometryType;
 
 /// The lexemes of a text, one after the other, of which one may be looked at ahead.
 #[derive(Drop)]
@@ -14,6 +17,21 @@ pub struct PeekableTokens<'a, T> {
     tokens: Tokens<'a, T>,
     ahead: Option<Lexeme<'a>>,
     end: usize,
+}
+
+// None, which comes through memory: its place is cleared here, away from what is answered in registers.
+#[inline(always)]
+fn none<T>() -> Option<T>
+    ensures { result ≡ None }
+{
+    none_apart()
+}
+
+#[inline(never)]
+fn none_apart<T>() -> Option<T>
+    ensures { result ≡ None }
+{
+    None
 }
 
 impl<'a, T> Model for PeekableTokens<'a, T> {
@@ -35,6 +53,7 @@ impl<'a, T: WktNum> PeekableTokens<'a, T> {
     ghost use Rattle.wkt_read.specs.Ahead.{left, taken_of, end_of, rest, first_of, Moves};
     ghost use Rattle.wkt_read.specs.Parser.Walks.{TakesNext, IsFirst, BeginsWithoutComma, GoesOn};
     ghost use Rattle.wkt_read.specs.Ahead.{IsNear};
+    ghost use Rattle.wkt_read.specs.Taking.{Looks, StaysUnread, TakesNumber, TakesKind};
 
     /// The lexemes that the stream has still to give; none is looked at yet.
     pub fn new(tokens: Tokens<'a, T>) -> Self
@@ -64,9 +83,16 @@ impl<'a, T: WktNum> PeekableTokens<'a, T> {
         self.end
     }
 
-    // The next lexeme, which stays.
+    /// No more lexemes are left than this. It reads none of them.
+    pub fn most_left(&self) -> usize
+        ensures { length (left self.now) ≤ result }
+    {
+        self.tokens.most_left()
+    }
+
+    /// The next lexeme, which stays.
     #[inline(always)]
-    pub(crate) fn look(&mut self) -> Lexeme<'a>
+    pub fn look(&mut self) -> Lexeme<'a>
         ensures left { left self.new ≡ left self.old }
         ensures end { end_of self.new ≡ end_of self.old }
         ensures goes_on { GoesOn self.old self.new }
@@ -84,9 +110,9 @@ impl<'a, T: WktNum> PeekableTokens<'a, T> {
         }
     }
 
-    // The next lexeme, which is taken.
+    /// The next lexeme, which is taken.
     #[inline(always)]
-    pub(crate) fn take(&mut self) -> Lexeme<'a>
+    pub fn take(&mut self) -> Lexeme<'a>
         ensures goes_on { GoesOn self.old self.new }
         ensures near { OnSome (found result) (IsNear self.new) }
         ensures takes { TakesNext (found result) (rest self.old) (rest self.new) }
@@ -110,6 +136,110 @@ impl<'a, T: WktNum> PeekableTokens<'a, T> {
                 self.end = self.tokens.end();
                 lexeme
             }
+        }
+    }
+
+    /// Takes the next lexeme if it is a number that is read.
+    #[inline(always)]
+    pub fn take_number(&mut self) -> Option<T>
+        ensures { MatchOption result (StaysUnread T.read self.old self.new) (λ n. TakesNumber T.read self.old n self.new) }
+    {
+        let lexeme = match self.ahead {
+            Some(lexeme) => lexeme,
+            None => self.tokens.next_lexeme(),
+        };
+        match lexeme {
+            Lexeme::Number(digits) => match T::read_number(digits) {
+                Some(number) => {
+                    self.ahead = None;
+                    self.end = self.tokens.end();
+                    Some(number)
+                }
+                None => {
+                    self.ahead = Some(lexeme);
+                    none()
+                }
+            },
+            _ => {
+                self.ahead = Some(lexeme);
+                none()
+            }
+        }
+    }
+
+    /// Takes the next lexeme if it is a kind word.
+    #[inline(always)]
+    pub fn take_kind(&mut self) -> Option<(GeometryType, Option<Dimension>)>
+        ensures { MatchOption result (Looks self.old self.new) (λ k. TakesKind self.old k self.new) }
+    {
+        let lexeme = match self.ahead {
+            Some(lexeme) => lexeme,
+            None => self.tokens.next_lexeme(),
+        };
+        if let Lexeme::Word(word) = lexeme {
+            if let Some(kind) = kind_of(word) {
+                self.ahead = None;
+                self.end = self.tokens.end();
+                return Some(kind);
+            }
+        }
+        self.ahead = Some(lexeme);
+        None
+    }
+
+    /// Takes the next lexeme if it is a comma right behind a run.
+    #[inline(always)]
+    pub fn take_comma_near(&mut self) -> bool
+        ensures { MatchBool result (Moves self.old (Some Comma) self.new) (self.new ≡ self.old) }
+    {
+        if let None = self.ahead {
+            if self.tokens.take_comma_ahead() {
+                self.end = self.tokens.end();
+                return true;
+            }
+        }
+        false
+    }
+
+    /// The same of a closing parenthesis.
+    #[inline(always)]
+    pub fn take_close_near(&mut self) -> bool
+        ensures { MatchBool result (Moves self.old (Some Close) self.new) (self.new ≡ self.old) }
+    {
+        if let None = self.ahead {
+            if self.tokens.take_close_ahead() {
+                self.end = self.tokens.end();
+                return true;
+            }
+        }
+        false
+    }
+
+    /// Takes the next lexeme if it is an opening parenthesis.
+    #[inline(always)]
+    pub fn take_open(&mut self) -> bool
+        ensures { MatchBool result (Moves self.old (Some Open) self.new) (Looks self.old self.new) }
+    {
+        if let None = self.ahead {
+            if self.tokens.take_open_ahead() {
+                self.end = self.tokens.end();
+                return true;
+            }
+        }
+        self.take_open_behind()
+    }
+
+    // The same of one anywhere.
+    #[inline(never)]
+    fn take_open_behind(&mut self) -> bool
+        ensures { MatchBool result (Moves self.old (Some Open) self.new) (Looks self.old self.new) }
+    {
+        match self.look() {
+            Lexeme::Open => {
+                let _ = self.step();
+                true
+            }
+            _ => false,
         }
     }
 

@@ -1,8 +1,8 @@
 //! Lexemes, and the lexemes of a text one after the other.
-ghost use Rattle.std.specs.Prelude.{◌≡◌, ◌≢◌, ◌≤◌, ℕ, length, Some};
+ghost use Rattle.std.specs.Prelude.{◌≡◌, ◌≢◌, ◌≤◌, ◌<◌, ℕ, length, Some};
 ghost use Rattle.std.specs.Bool.{MatchBool};
 ghost use Rattle.std.specs.Str.{IsCharBoundary};
-ghost use Rattle.wkt_num.specs.Bytes.{Comma};
+ghost use Rattle.wkt_num.specs.Bytes.{Close, Comma, Open};
 ghost use Rattle.wkt_read.specs.Lexemes.{lexeme_of};
 ghost use Rattle.wkt_read.specs.Items.{IsItem};
 ghost use Rattle.wkt_read.specs.Tokenizer.Unread.{found, IsNumberIn};
@@ -139,6 +139,13 @@ impl<'a, T: WktNum> Tokens<'a, T> {
         self.end
     }
 
+    // More lexemes than are left.
+    pub(crate) fn most_left(&self) -> usize
+        ensures { length (coming self.now) < result }
+    {
+        self.bytes.most_left()
+    }
+
     // Gives the next lexeme if it is a comma that was taken with the run before it.
     #[inline(always)]
     pub(crate) fn take_comma_ahead(&mut self) -> bool
@@ -146,6 +153,36 @@ impl<'a, T: WktNum> Tokens<'a, T> {
     {
         match self.ahead {
             Class::Comma => {
+                self.ahead = Class::White;
+                self.end = self.bytes.taken();
+                true
+            }
+            _ => false,
+        }
+    }
+
+    // The same of a closing parenthesis.
+    #[inline(always)]
+    pub(crate) fn take_close_ahead(&mut self) -> bool
+        ensures { MatchBool result (Steps self.old (Some Close) self.new) (self.new ≡ self.old) }
+    {
+        match self.ahead {
+            Class::Close => {
+                self.ahead = Class::White;
+                self.end = self.bytes.taken();
+                true
+            }
+            _ => false,
+        }
+    }
+
+    // The same of an opening one.
+    #[inline(always)]
+    pub(crate) fn take_open_ahead(&mut self) -> bool
+        ensures { MatchBool result (Steps self.old (Some Open) self.new) (self.new ≡ self.old) }
+    {
+        match self.ahead {
+            Class::Open => {
                 self.ahead = Class::White;
                 self.end = self.bytes.taken();
                 true

@@ -26,13 +26,13 @@ pub message-requires : goal.message-requires
 message-requires g c =
     let text = ap (λ x. x.now) c.new-source.ensures.text ∙ c.as_bytes.ensures.value in
     let at = c.new-source.ensures.at in
-    refused_in g.T.WktNum.read (coord_eq g.T.PartialEq.eq) (bytes_view false) c.args.text.now c.new-source.result (whole_left c.args.text.now c.new-source.result text at) _ _ _ c.read-answer.result.0 c.in-Err.is c.in-Refused.is c.read-answer.ensures.refused (subst IsUtf8 (sym text) c.utf8.text, omega (arith, at))
+    refused_in g.T.WktNum.read (coord_eq g.T.PartialEq.eq) (bytes_view false) c.args.text.now c.new-source.result (whole_left c.args.text.now c.new-source.result text at) _ _ _ c.read-answer.result.0 c.in-Err.is c.in-Refused.is c.read-answer.ensures.refused 0 (subst IsUtf8 (sym text) c.utf8.text, omega (arith, at))
 
 pub returns-in-Refused-clause-no_front : goal.returns-in-Refused-clause-no_front
 returns-in-Refused-clause-no_front g c =
     let text = ap (λ x. x.now) c.new-source.ensures.text ∙ c.as_bytes.ensures.value in
     let at = c.new-source.ensures.at in
-    refused_in g.T.WktNum.read (coord_eq g.T.PartialEq.eq) (bytes_view false) c.args.text.now c.new-source.result (whole_left c.args.text.now c.new-source.result text at) _ _ _ c.read-answer.result.0 c.in-Err.is c.in-Refused.is c.read-answer.ensures.refused (subst IsUtf8 (sym text) c.utf8.text, omega (arith, at))
+    refused_in g.T.WktNum.read (coord_eq g.T.PartialEq.eq) (bytes_view false) c.args.text.now c.new-source.result (whole_left c.args.text.now c.new-source.result text at) _ _ _ c.read-answer.result.0 c.in-Err.is c.in-Refused.is c.read-answer.ensures.refused 0 (subst IsUtf8 (sym text) c.utf8.text, omega (arith, at))
 
 pub returns-in-Refused-clause-bad : goal.returns-in-Refused-clause-bad
 returns-in-Refused-clause-bad g c = λ is.

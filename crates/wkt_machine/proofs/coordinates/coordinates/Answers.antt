@@ -1,10 +1,13 @@
 -- A coordinate goes on from the one before.
-use Rattle.std.proofs.Common.{◌≤◌, length, IfOk, IfErr, sym, ◌∙◌, subst, arith, rules}
+use Rattle.std.proofs.Common.{◌≤◌, length, IfOk, IfErr, sym, refl, ◌∙◌, subst, arith}
+use Rattle.std.proofs.lemmas.Bool.{OnTrue_at, OnFalse_at}
 use Rattle.std.specs.Prelude.{not, ◌==◌}
 use Rattle.wkt_machine.specs.BytesView.{bytes_view}
 use Rattle.wkt_machine.specs.Goes.{Goes, Refuses}
+use Rattle.wkt_machine.specs.Leads.{reached}
+use Rattle.wkt_machine.specs.declared.machine.State.TheVariants as next
 use Rattle.wkt_machine.proofs.ByteSteps.{turn_goes, last_goes, goes_less}
-use Rattle.wkt_machine.proofs.Leading.{leads_none, goes_leads, leads_goes, leads_refused}
+use Rattle.wkt_machine.proofs.Leading.{leads_none, goes_leads, leads_goes, leads_refuses}
 use Rattle.wkt_machine.proofs.coordinates.coordinates.Goals as goal
 
 pub coordinates-init : goal.coordinates-init
@@ -13,33 +16,39 @@ coordinates-init g c = record {
   inside = c.requires.inside;
 }
 
-pub returns-in_err-behind-clause-refused : goal.returns-in_err-behind-clause-refused
-returns-in_err-behind-clause-refused g c =
-    let refused : IfErr c.from_residual.result (Refuses g.T.WktNum.read (bytes_view _) g.B.Builder.maker c.args.machine c.coordinates.source c.coordinates.builder) = search rules in
-    leads_refused g.T.WktNum.read (bytes_view _) g.B.Builder.maker c.args.machine c.args.source c.args.builder c.args.machine c.coordinates.source c.coordinates.builder c.from_residual.result c.coordinates.invariant.leads refused
+pub returns-then-not-is_whole-clause-refused : goal.returns-then-not-is_whole-clause-refused
+returns-then-not-is_whole-clause-refused g c =
+    let there = Refuses g.T.WktNum.read (bytes_view _) g.B.Builder.maker c.args.machine c.args.source c.args.builder in
+    subst (λ r. IfErr r there) (sym c.refused.ensures)
+    (subst (λ m. there (record { source = c.coordinate-is_whole.result.2; machine = m; builder = c.coordinate-is_whole.result.3 })) (sym c.to.ensures)
+    (leads_refuses g.T.WktNum.read (bytes_view _) g.B.Builder.maker c.args.machine c.args.source c.args.builder c.args.machine c.coordinates.source c.coordinates.builder
+    (reached c.args.machine c.coordinate-is_whole.result.1 c.coordinate-is_whole.result.2 c.coordinate-is_whole.result.3) c.coordinates.invariant.leads
+    (OnFalse_at c.if-not-is_whole.true c.coordinate-is_whole.ensures.refused)))
 
 pub returns-then-byte-eq41-clause-on : goal.returns-then-byte-eq41-clause-on
 returns-then-byte-eq41-clause-on g c =
-    let way = leads_goes g.T.WktNum.read (bytes_view _) g.B.Builder.maker c.args.machine c.args.source c.args.builder c.args.machine c.coordinates.source c.coordinates.builder c.in_ok-behind.field-0 c.coordinates.invariant.leads c.in_ok-behind.ensures.on in
+    let way = leads_goes g.T.WktNum.read (bytes_view _) g.B.Builder.maker c.args.machine c.args.source c.args.builder c.args.machine c.coordinates.source c.coordinates.builder (reached c.args.machine next.Item c.coordinate-is_whole.result.2 c.coordinate-is_whole.result.3) c.coordinates.invariant.leads (OnTrue_at c.if-not-is_whole.false c.coordinate-is_whole.ensures.on) in
     subst (λ r. IfOk r (Goes g.T.WktNum.read (bytes_view _) g.B.Builder.maker c.args.machine c.args.source c.args.builder)) (sym c.on.ensures)
-    (last_goes g.T.WktNum.read g.B.Builder.maker _ c.args.machine c.outside.result c.args.source c.new.result c.args.builder c.close.result c.in_ok-behind.field-0 way c.in_ok-behind.ensures.item
+    (last_goes g.T.WktNum.read g.B.Builder.maker _ c.args.machine c.outside.result c.args.source c.new.result c.args.builder c.close.result (reached c.args.machine next.Item c.coordinate-is_whole.result.2 c.coordinate-is_whole.result.3) way refl
     (sym c.byte_at-byte.ensures.value ∙ c.if-byte-eq41.true) c.new.ensures.text c.new.ensures.at c.outside.ensures.state c.outside.ensures.sound c.close.ensures)
 
 pub returns-then-byte-ne44-clause-on : goal.returns-then-byte-ne44-clause-on
 returns-then-byte-ne44-clause-on g c =
-    subst (λ r. IfOk r (Goes g.T.WktNum.read (bytes_view _) g.B.Builder.maker c.args.machine c.args.source c.args.builder)) (sym c.on-then-byte-ne44.ensures)
-    (leads_goes g.T.WktNum.read (bytes_view _) g.B.Builder.maker c.args.machine c.args.source c.args.builder c.args.machine c.coordinates.source c.coordinates.builder c.in_ok-behind.field-0 c.coordinates.invariant.leads c.in_ok-behind.ensures.on)
+    let there = Goes g.T.WktNum.read (bytes_view _) g.B.Builder.maker c.args.machine c.args.source c.args.builder in
+    subst (λ r. IfOk r there) (sym c.on-then-byte-ne44.ensures)
+    (subst (λ m. there (record { source = c.coordinate-is_whole.result.2; machine = m; builder = c.coordinate-is_whole.result.3 })) (sym c.to-then-byte-ne44.ensures)
+    (leads_goes g.T.WktNum.read (bytes_view _) g.B.Builder.maker c.args.machine c.args.source c.args.builder c.args.machine c.coordinates.source c.coordinates.builder (reached c.args.machine next.Item c.coordinate-is_whole.result.2 c.coordinate-is_whole.result.3) c.coordinates.invariant.leads (OnTrue_at c.if-not-is_whole.false c.coordinate-is_whole.ensures.on)))
 
 pub coordinates-smaller : goal.coordinates-smaller
 coordinates-smaller g c =
     goes_less g.T.WktNum.read g.B.Builder.maker _ c.args.machine c.coordinates.source c.coordinates.builder _
-    (turn_goes g.T.WktNum.read g.B.Builder.maker _ c.args.machine c.coordinates.source c.new-source.result c.coordinates.builder c.comma-builder.result c.in_ok-behind.field-0 c.in_ok-behind.ensures.on c.in_ok-behind.ensures.item
+    (turn_goes g.T.WktNum.read g.B.Builder.maker _ c.args.machine c.coordinates.source c.new-source.result c.coordinates.builder c.comma-builder.result (reached c.args.machine next.Item c.coordinate-is_whole.result.2 c.coordinate-is_whole.result.3) (OnTrue_at c.if-not-is_whole.false c.coordinate-is_whole.ensures.on) refl
     c.requires.state c.requires.part (sym c.is_single-single.ensures ∙ c.if-single.false) (sym c.byte_at-byte.ensures.value ∙ c.if-byte-ne44.false) c.new-source.ensures.text c.new-source.ensures.at c.comma-builder.ensures)
 
 pub coordinates-preserved : goal.coordinates-preserved
 coordinates-preserved g c =
     let turn =
-    turn_goes g.T.WktNum.read g.B.Builder.maker (not (g.row.FEED_ENDS == 0)) c.args.machine c.coordinates.source c.new-source.result c.coordinates.builder c.comma-builder.result c.in_ok-behind.field-0 c.in_ok-behind.ensures.on c.in_ok-behind.ensures.item
+    turn_goes g.T.WktNum.read g.B.Builder.maker (not (g.row.FEED_ENDS == 0)) c.args.machine c.coordinates.source c.new-source.result c.coordinates.builder c.comma-builder.result (reached c.args.machine next.Item c.coordinate-is_whole.result.2 c.coordinate-is_whole.result.3) (OnTrue_at c.if-not-is_whole.false c.coordinate-is_whole.ensures.on) refl
     c.requires.state c.requires.part (sym c.is_single-single.ensures ∙ c.if-single.false) (sym c.byte_at-byte.ensures.value ∙ c.if-byte-ne44.false) c.new-source.ensures.text c.new-source.ensures.at c.comma-builder.ensures in
     let some = c.byte_at-byte.ensures.some in
     let comma = c.if-byte-ne44.false in

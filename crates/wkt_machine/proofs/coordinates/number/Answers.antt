@@ -1,9 +1,9 @@
 -- A number is taken, or isn't read.
-use Rattle.std.proofs.Common.{sym, ap, ◌∙◌, subst, IfOk, IfErr}
+use Rattle.std.proofs.Common.{sym, refl, subst}
 use Rattle.std.specs.Prelude.{IfSome, IfNone}
 use Rattle.wkt_events.specs.Numbers.{NoNumber}
-use Rattle.wkt_machine.specs.BytesView.{bytes_view}
-use Rattle.wkt_machine.specs.Goes.{Goes, Refuses}
+use Rattle.wkt_machine.specs.Leads.{standing}
+use Rattle.wkt_machine.specs.Machines.{state_for, next_after}
 use Rattle.wkt_machine.specs.Makers.{MakesNumber}
 use Rattle.wkt_machine.proofs.ByteViews.{numbers_after}
 use Rattle.wkt_machine.proofs.ByteSteps.{number_goes, number_stays_at}
@@ -14,14 +14,11 @@ returns-in-Some-clause-on g c =
     let made = MakesNumber g.T.WktNum.read g.B.Builder.maker c.args.builder c.args.source.text.now c.skip_white-at.result c.args.axis c.number_in-made.result.0 in
     let takes = numbers_after _ g.T.WktNum.read g.B.Builder.maker c.args.source c.new.result c.args.builder c.number_in-made.result.0 c.args.axis c.skip_white-at.result c.skip_white-at.ensures.same (λ k. (k.0, c.skip_white-at.ensures.line k.1))
     (subst made (sym c.new.ensures.at) (subst (λ o. IfSome o made) c.in-Some.is c.number_in-made.ensures.some)) c.new.ensures.text in
-    subst (λ r. IfOk r (Goes g.T.WktNum.read (bytes_view _) g.B.Builder.maker c.args.machine c.args.source c.args.builder)) (sym c.on.ensures)
-    (number_goes g.T.WktNum.read g.B.Builder.maker _ c.args.machine c.to.result c.args.source c.new.result c.args.builder c.number_in-made.result.0 c.args.axis c.requires.axis c.requires.sound c.requires.part takes
-    (c.to.ensures ∙ ap (λ s. record { state = s; part = c.args.machine.part; dim = c.args.machine.dim; depth = c.args.machine.depth }) c.after.ensures))
+    number_goes g.T.WktNum.read g.B.Builder.maker _ (standing c.args.machine (state_for c.args.axis)) (standing c.args.machine (next_after c.args.axis c.args.machine.dim)) c.args.source c.new.result c.args.builder c.number_in-made.result.0 c.args.axis refl c.requires.sound c.requires.part takes refl
 
 pub returns-in-None-clause-refused : goal.returns-in-None-clause-refused
 returns-in-None-clause-refused g c =
-    subst (λ r. IfErr r (Refuses g.T.WktNum.read (bytes_view _) g.B.Builder.maker c.args.machine c.args.source c.args.builder)) (sym c.refused.ensures)
-    (number_stays_at g.T.WktNum.read g.B.Builder.maker _ c.args.machine c.args.source c.new-in-None.result c.args.builder c.number_in-made.result.0 c.args.axis c.skip_white-at.result c.requires.axis
+    number_stays_at g.T.WktNum.read g.B.Builder.maker _ (standing c.args.machine (state_for c.args.axis)) c.args.source c.new-in-None.result c.args.builder c.number_in-made.result.0 c.args.axis c.skip_white-at.result refl
     c.skip_white-at.ensures.order c.skip_white-at.ensures.same (λ k. (k.0, c.skip_white-at.ensures.line k.1)) c.skip_white-at.ensures.stops
     (subst (λ o. IfNone o (NoNumber g.T.WktNum.read c.args.source.text.now c.skip_white-at.result)) c.in-None.is c.number_in-made.ensures.none)
-    c.new-in-None.ensures.text c.new-in-None.ensures.at)
+    c.new-in-None.ensures.text c.new-in-None.ensures.at

@@ -20,7 +20,7 @@ returns-in-Ok-clause-front g c =
     let text = ap (λ x. x.now) c.new.ensures.text ∙ c.as_bytes.ensures.value in
     let (v, front, made) =
     front_made g.T.WktNum.read (bytes_view false) nothing_maker c.args.text.now c.new.result _ c.in-Ok.over
-    (whole_left c.args.text.now c.new.result text c.new.ensures.at) c.in-Ok.ensures.on c.in-Ok.ensures.over in
+    (whole_left c.args.text.now c.new.result text c.new.ensures.at) c.in-Ok.over.source.at (λ end e. e) c.in-Ok.ensures.on c.in-Ok.ensures.over in
     (v, front)
 
 pub returns-in-Ok-clause-some : goal.returns-in-Ok-clause-some
@@ -37,4 +37,4 @@ returns-in-Err-clause-front g c =
     let text = ap (λ x. x.now) c.new.ensures.text ∙ c.as_bytes.ensures.value in
     let at = c.new.ensures.at in
     no_front_there g.T.WktNum.read (bytes_view false) nothing_maker c.args.text.now c.new.result _ c.in-Err.field-0
-    (whole_left c.args.text.now c.new.result text at) (subst IsUtf8 (sym text) c.utf8.text, omega (arith, at)) c.in-Err.ensures.refused
+    (whole_left c.args.text.now c.new.result text at) 0 (subst IsUtf8 (sym text) c.utf8.text, omega (arith, at)) c.in-Err.ensures.refused

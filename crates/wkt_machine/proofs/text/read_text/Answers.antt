@@ -23,7 +23,7 @@ read-answer-requires g c =
 pub returns-in-Ok-clause-found : goal.returns-in-Ok-clause-found
 returns-in-Ok-clause-found g c =
     let text = ap (λ x. x.now) c.new-source.ensures.text ∙ c.as_bytes.ensures.value in
-    found_in g.T.WktNum.read (bytes_view false) c.args.text.now c.new-source.result (whole_left c.args.text.now c.new-source.result text c.new-source.ensures.at) _ _ c.read-answer.result.0 c.in-Ok.is c.read-answer.ensures.found
+    found_in g.T.WktNum.read (bytes_view false) c.args.text.now c.new-source.result (whole_left c.args.text.now c.new-source.result text c.new-source.ensures.at) _ _ (λ end e. e) _ c.read-answer.result.0 c.in-Ok.is c.read-answer.ensures.found
 
 pub returns-in-Ok-clause-some : goal.returns-in-Ok-clause-some
 returns-in-Ok-clause-some g c = let f = returns-in-Ok-clause-found g c in front-some g.T.WktNum.read c.args.text.now f.0 _ f.1
@@ -43,13 +43,13 @@ pub message-requires : goal.message-requires
 message-requires g c =
     let text = ap (λ x. x.now) c.new-source.ensures.text ∙ c.as_bytes.ensures.value in
     let at = c.new-source.ensures.at in
-    refused_in g.T.WktNum.read (bytes_view false) c.args.text.now c.new-source.result (whole_left c.args.text.now c.new-source.result text at) _ _ _ c.read-answer.result.0 c.in-Err.is c.in-Refused.is c.read-answer.ensures.refused (subst IsUtf8 (sym text) c.utf8.text, omega (arith, at))
+    refused_in g.T.WktNum.read (bytes_view false) c.args.text.now c.new-source.result (whole_left c.args.text.now c.new-source.result text at) _ _ _ c.read-answer.result.0 c.in-Err.is c.in-Refused.is c.read-answer.ensures.refused 0 (subst IsUtf8 (sym text) c.utf8.text, omega (arith, at))
 
 pub returns-in-Refused-clause-no_front : goal.returns-in-Refused-clause-no_front
 returns-in-Refused-clause-no_front g c =
     let text = ap (λ x. x.now) c.new-source.ensures.text ∙ c.as_bytes.ensures.value in
     let at = c.new-source.ensures.at in
-    refused_in g.T.WktNum.read (bytes_view false) c.args.text.now c.new-source.result (whole_left c.args.text.now c.new-source.result text at) _ _ _ c.read-answer.result.0 c.in-Err.is c.in-Refused.is c.read-answer.ensures.refused (subst IsUtf8 (sym text) c.utf8.text, omega (arith, at))
+    refused_in g.T.WktNum.read (bytes_view false) c.args.text.now c.new-source.result (whole_left c.args.text.now c.new-source.result text at) _ _ _ c.read-answer.result.0 c.in-Err.is c.in-Refused.is c.read-answer.ensures.refused 0 (subst IsUtf8 (sym text) c.utf8.text, omega (arith, at))
 
 pub returns-in-Refused-clause-bad : goal.returns-in-Refused-clause-bad
 returns-in-Refused-clause-bad g c = λ is.

@@ -24,8 +24,8 @@ returns-then-bytes-point-eq46 c =
     let e = c.fraction_from-all in
     held c.args.places c.args.bytes.now e.result.1 c.in_ok-units.units
     (fraction-units c.args.places c.args.bytes.now c.after_minus-first.result d.result.1 c.requires.places c.after_minus-first.ensures.sign (omega (arith, d.ensures.from, c.if-point-first.false)) (search rules) d.ensures.digits
-    e.result.1 e.result.0 c.ten_to.result _ (omega (arith, e.ensures.from)) (search rules) c.if-bytes-point-eq46.true e.ensures.digits c.if-after-places.false
-    (e.ensures.value ∙ ap (λ n. digits_value_after 10 n (slice_range c.args.bytes.now (d.result.1 + 1) e.result.1)) d.ensures.value) c.ten_to.ensures c.in_ok-units.ensures.fits c.in_ok-units.ensures.is c.if-is_of_run.ensures)
+    e.result.1 (omega (arith, e.ensures.from)) (search rules) c.if-bytes-point-eq46.true e.ensures.digits c.if-after-places.false c.if-is_of_run.ensures e.result.0 c.ten_to.result _
+    (e.ensures.value ∙ ap (λ n. digits_value_after 10 n (slice_range c.args.bytes.now (d.result.1 + 1) e.result.1)) d.ensures.value) c.ten_to.ensures c.in_ok-units.ensures.fits c.in_ok-units.ensures.is)
 
 pub returns : goal.returns
 returns c =

@@ -13,6 +13,6 @@ returns-in-Some-clause-takes g c =
     (subst made (sym c.new.ensures.at) (subst (λ o. IfSome o made) c.in-Some.is c.number_in-made.ensures.some)) c.new.ensures.text
 
 pub returns-in-None-clause-unread : goal.returns-in-None-clause-unread
-returns-in-None-clause-unread g c = λ legible.
+returns-in-None-clause-unread g c = λ n legible.
     none_unread _ c.args.self.text.now c.args.self.at g.T.WktNum.read legible (c.requires.looked.dark c.requires.seen)
     (subst (λ o. IfNone o (NoNumber g.T.WktNum.read c.args.self.text.now c.args.self.at)) c.in-None.is c.number_in-made.ensures.none)

@@ -1,0 +1,5 @@
+pub mod Served
+pub mod Ordered
+pub mod Mine
+pub mod Halves
+pub mod Refusal

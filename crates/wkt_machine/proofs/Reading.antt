@@ -1,0 +1,206 @@
+-- What is read off tokens, by what the machine took of them.
+use Rattle.std.proofs.Common.{◌≡◌, ℕ, ◌≤◌, ◌<◌, List, [], ◌∷◌, ◌++◌, length, refl, sym, ap, ◌∙◌, subst, append_assoc, arith, Option, Some, None, Result, Ok, Err, false}
+use Rattle.std.specs.Prelude.{IfOk}
+use Rattle.std.specs.declared.alloc.AllocError.{AllocError}
+use Rattle.wkt_num.specs.Bytes.{Lexeme}
+use Rattle.wkt_access.specs.Values.{Value}
+use Rattle.wkt_types.specs.Tree.{Tree, tree}
+use Rattle.wkt_types.specs.declared.geometry.Wkt.{Wkt}
+use Rattle.wkt_read.specs.Ahead.{left, rest, end_of, taken_of, Advances, IsNear}
+use Rattle.wkt_read.specs.Answered.{Begins, IsReadOff, IsFront, OnText, OnMessage}
+use Rattle.wkt_read.specs.Bad.{HasBad}
+use Rattle.wkt_read.specs.Begun.{NoneBegins}
+use Rattle.wkt_read.specs.Early.{StopsEarly}
+use Rattle.wkt_read.specs.Front.{NeedsNoMemory}
+use Rattle.wkt_read.specs.Items.{bad_number}
+use Rattle.wkt_read.specs.Messages.{message_text}
+use Rattle.wkt_read.specs.Parser.Outcome.{value_at}
+use Rattle.wkt_read.specs.Placed.{Placed, lexemes_of, end_after, AreEnds}
+use Rattle.wkt_read.specs.Refusal.{IsRefused as SaysOf, IfText}
+use Rattle.wkt_read.specs.Standing.{Standing}
+use Rattle.wkt_read.specs.declared.error.ReadError.{ReadError}
+use Rattle.wkt_read.specs.declared.error.ReadError.TheVariants.{Text, Memory}
+use Rattle.wkt_read.specs.declared.messages.Message.{Message}
+use Rattle.wkt_read.specs.declared.messages.Message.TheVariants as message
+use Rattle.wkt_read.proofs.MessageTexts.{one-text}
+use Rattle.wkt_read.proofs.LawLemmas.OneForm.{geometry_one}
+use Rattle.wkt_read.proofs.ParserLemmas.Answering.{rest-is, some-taken, to-front}
+use Rattle.wkt_read.proofs.ParserLemmas.Blamed.{bad_here}
+use Rattle.wkt_read.proofs.ParserLemmas.Early.{error_early}
+use Rattle.wkt_read.proofs.ParserLemmas.Free.{none_begins}
+use Rattle.wkt_machine.specs.Drives.{start, is_over}
+use Rattle.wkt_machine.specs.Goes.{IsStuck}
+use Rattle.wkt_machine.specs.Machines.{state_of}
+use Rattle.wkt_machine.specs.Refusing.{refused}
+use Rattle.wkt_machine.specs.TokensView.{tokens_view}
+use Rattle.wkt_machine.specs.Values.{Takes, IsRead, IsRefused, OnMemory, OnRefused, WantsMemory}
+use Rattle.wkt_machine.specs.declared.machine.Machine.{Machine}
+use Rattle.wkt_machine.specs.declared.tokens.OneByOne.{OneByOne}
+use Rattle.wkt_machine.specs.declared.value.Unread.{Unread}
+use Rattle.wkt_machine.specs.declared.value.Unread.TheVariants.{Refused}
+use Rattle.wkt_machine.specs.declared.value.Unread.TheVariants.{Memory as Unmade}
+use Rattle.wkt_machine.proofs.Composing.{lexemes_append, end_last}
+use Rattle.wkt_machine.proofs.Refusing.{advances_then}
+use Rattle.wkt_machine.proofs.Walking.{IsStuckAt, refused_as}
+
+-- no other message is that of a bad number
+is-bad : (m : Message) → message_text m ≡ bad_number → m ≡ message.BadNumber
+is-bad m = one-text m message.BadNumber
+
+rest-append : (s : Standing) (given more : List Placed) → left s ≡ given ++ more → rest s ≡ lexemes_of given ++ lexemes_of more
+rest-append s given more e = rest-is s (given ++ more) e ∙ lexemes_append given more
+
+module _ {T : Type 0} (read : List ℕ → Option T) (a b : OneByOne T) where
+  takes_begins : (v : Value T) → Takes read (tokens_view read) a v b → Begins read (rest a.tokens) v (rest b.tokens)
+  takes_begins v h =
+      let given : List Placed = h.given ++ (h.last ∷ []) in
+      (lexemes_of given, rest-append a.tokens given (left b.tokens) (h.split ∙ sym (append_assoc h.given (h.last ∷ []) (left b.tokens))) ∙ ap (λ l. lexemes_of given ++ l) (sym (rest-is b.tokens (left b.tokens) refl)), h.stands)
+
+  -- what is read
+  pub read_found : (w : Tree T) → IsRead read (tokens_view read) a w b → IsReadOff read (rest a.tokens) w (rest b.tokens)
+  read_found w (v, takes, is) = (v, takes_begins v takes, is)
+
+  pub read_taken : (w : Tree T) → IsRead read (tokens_view read) a w b → length (rest b.tokens) < length (rest a.tokens)
+  read_taken w (v, takes, is) = some-taken read (rest a.tokens) v (rest b.tokens) (takes_begins v takes)
+
+  pub takes_advances : (v : Value T) → Takes read (tokens_view read) a v b → Advances a.tokens b.tokens
+  takes_advances v h = record {
+    given = h.given ++ (h.last ∷ []);
+    split = h.split ∙ sym (append_assoc h.given (h.last ∷ []) (left b.tokens));
+    end = h.place.0 ∙ sym (end_last (end_of a.tokens) h.given h.last);
+    grows = h.keeps (taken_of a.tokens) (omega arith);
+  }
+
+  pub read_near : (w : Tree T) → IsRead read (tokens_view read) a w b → IsNear b.tokens
+  read_near w (v, takes, is) = takes.place.1
+
+  -- there is no memory
+  pub wants_free : WantsMemory read (tokens_view read) a b → (v : Value T) (after : List Lexeme) → Begins read (rest a.tokens) v after → NeedsNoMemory v → ⊥
+  wants_free (w, takes, wants) v after (f, split, g) free =
+      let (k, split2, stands) = takes_begins w takes in
+      let one = geometry_one read v w f k after (rest b.tokens) g stands (sym split ∙ split2) in
+      wants (subst NeedsNoMemory one.value free)
+
+  -- no geometry comes next
+  module _ (m : Machine) (h : IsRefused read (tokens_view read) a m b) where
+    pub refused_advances : Advances a.tokens b.tokens
+    refused_advances = record { given = h.taken; split = h.split; end = h.behind (end_of a.tokens) refl; grows = h.keeps (taken_of a.tokens) (omega arith) }
+
+    stuck_at : (ps : List Placed) → IsStuck read m ps → IsStuckAt read (state_of m) (lexemes_of ps)
+    stuck_at [] k = tt
+    stuck_at (p ∷ ps) k = k
+
+    pub refused_reads : value_at read (length (rest a.tokens)) false (rest a.tokens) ≡ Err (refused read (state_of m) (rest b.tokens))
+    refused_reads =
+        let there : rest b.tokens ≡ lexemes_of (left b.tokens) = rest-is b.tokens (left b.tokens) refl in
+        let split = rest-append a.tokens h.taken (left b.tokens) h.split in
+        subst (λ r. value_at read (length (rest a.tokens)) false (rest a.tokens) ≡ Err (refused read (state_of m) r)) (sym there)
+        (refused_as read (lexemes_of h.taken) (lexemes_of (left b.tokens)) (rest a.tokens) (state_of m) h.events split h.ran h.is_open (stuck_at (left b.tokens) (h.stuck 0 (omega arith))))
+
+    -- the message, and what is left behind it
+    module _ (k : Message) (after : Standing) (is : (k, rest after) ≡ refused read (state_of m) (rest b.tokens)) where
+      pub said : value_at read (length (rest a.tokens)) false (rest a.tokens) ≡ Err (k, rest after)
+      said = refused_reads ∙ ap (λ r. Err r) (sym is)
+
+      pub none_there : NoneBegins read (rest a.tokens)
+      none_there = none_begins read (length (rest a.tokens)) false (rest a.tokens) (k, rest after) (omega arith) said
+
+      pub early_there : StopsEarly read (rest a.tokens) (rest after)
+      early_there = error_early read (length (rest a.tokens)) false (rest a.tokens) (k, rest after) (omega arith) said
+
+      pub bad_there : (text : List ℕ) → text ≡ message_text k → text ≡ bad_number → HasBad read (rest a.tokens)
+      bad_there text says bad = bad_here read (length (rest a.tokens)) false (rest a.tokens) (rest after) k said (is-bad k (sym says ∙ bad))
+
+      pub refusal_there : (text : List ℕ) → text ≡ message_text k → SaysOf read (rest a.tokens) text (rest after)
+      refusal_there text says = (k, says, said)
+
+-- what an answer says of its case
+off_ok : {X : Type 0} (P : X → Type 0) (x : X) (r : Result X Unread) → r ≡ Ok x → IfOk r P → P x
+off_ok P x r e h = subst (λ r. IfOk r P) e h
+
+off_memory : {X : Type 0} (P : Type 0) (x : AllocError) (u : Unread) (r : Result X Unread) → r ≡ Err u → u ≡ Unmade x → OnMemory r P → P
+off_memory {X} P x u r e is h = subst (λ u. OnMemory {X = X} (Err u) P) is (subst (λ r. OnMemory r P) e h)
+
+off_refused : {X : Type 0} (P : Machine → Type 0) (m : Machine) (u : Unread) (r : Result X Unread) → r ≡ Err u → u ≡ Refused m → OnRefused r P → P m
+off_refused {X} P m u r e is h = subst (λ u. OnRefused {X = X} (Err u) P) is (subst (λ r. OnRefused r P) e h)
+
+-- The same where the code has it: the source over the tokens at `s` is read, and its tokens are at `t`.
+module _ {T : Type 0} (read : List ℕ → Option T) (a b : OneByOne T) (s t : Standing) (before : a.tokens ≡ s) (behind : t ≡ b.tokens) (r : Result (Wkt T) Unread) where
+  there : (P : Standing → Standing → Type 0) → P a.tokens b.tokens → P s t
+  there P h = subst (λ s. P s t) before (subst (P a.tokens) (sym behind) h)
+
+  module _ (w : Wkt T) (is : r ≡ Ok w) (h : IfOk r (λ w. IsRead read (tokens_view read) a (tree w) b)) where
+    off : IsRead read (tokens_view read) a (tree w) b
+    off = off_ok (λ w. IsRead read (tokens_view read) a (tree w) b) w r is h
+
+    pub ok_found : IsReadOff read (rest s) (tree w) (rest t)
+    ok_found = there (λ s t. IsReadOff read (rest s) (tree w) (rest t)) (read_found read a b (tree w) off)
+
+    pub ok_taken : length (rest t) < length (rest s)
+    ok_taken = there (λ s t. length (rest t) < length (rest s)) (read_taken read a b (tree w) off)
+
+    pub ok_advances : Advances s t
+    ok_advances = let (v, takes, of) = off in there Advances (takes_advances read a b v takes)
+
+    pub ok_near : IsNear t
+    ok_near = there (λ s t. IsNear t) (read_near read a b (tree w) off)
+
+  module _ (u : Unread) (is : r ≡ Err u) where
+    module _ (x : AllocError) (unmade : u ≡ Unmade x) (h : OnMemory r (WantsMemory read (tokens_view read) a b)) where
+      wants : WantsMemory read (tokens_view read) a b
+      wants = off_memory (WantsMemory read (tokens_view read) a b) x u r is unmade h
+
+      pub memory_free : (v : Value T) (after : List Lexeme) → Begins read (rest s) v after → NeedsNoMemory v → ⊥
+      memory_free = there (λ s t. (v : Value T) (after : List Lexeme) → Begins read (rest s) v after → NeedsNoMemory v → ⊥) (wants_free read a b wants)
+
+      pub memory_advances : Advances s t
+      memory_advances = let (v, takes, needs) = wants in there Advances (takes_advances read a b v takes)
+
+    module _ (m : Machine) (stuck : u ≡ Refused m) (h : OnRefused r (λ m. IsRefused read (tokens_view read) a m b)) where
+      at_stuck : IsRefused read (tokens_view read) a m b
+      at_stuck = off_refused (λ m. IsRefused read (tokens_view read) a m b) m u r is stuck h
+
+      pub stuck_advances : (after : Standing) → Advances t after → Advances s after
+      stuck_advances after more = advances_then s t after (there Advances (refused_advances read a b m at_stuck)) more
+
+      -- the message, and what is left behind it
+      module _ (k : Message) (after : Standing) (says : (k, rest after) ≡ refused read (state_of m) (rest t)) where
+        said_there : (k, rest after) ≡ refused read (state_of m) (rest b.tokens)
+        said_there = says ∙ ap (λ (t : Standing). refused read (state_of m) (rest t)) behind
+
+        pub stuck_none : NoneBegins read (rest s)
+        stuck_none = there (λ s t. NoneBegins read (rest s)) (none_there read a b m at_stuck k after said_there)
+
+        pub stuck_early : StopsEarly read (rest s) (rest after)
+        stuck_early = there (λ s t. StopsEarly read (rest s) (rest after)) (early_there read a b m at_stuck k after said_there)
+
+        pub stuck_bad : (text : List ℕ) → text ≡ message_text k → text ≡ bad_number → HasBad read (rest s)
+        stuck_bad text is bad = there (λ s t. HasBad read (rest s)) (bad_there read a b m at_stuck k after said_there text is bad)
+
+        pub stuck_refusal : (text : List ℕ) → text ≡ message_text k → SaysOf read (rest s) text (rest after)
+        stuck_refusal text is = there (λ s t. SaysOf read (rest s) text (rest after)) (refusal_there read a b m at_stuck k after said_there text is)
+
+module _ {T : Type 0} (read : List ℕ → Option T) (text : List ℕ) (s t : Standing) where
+  -- what was read off all lexemes of a text is its front's
+  pub front : (r : Result (Wkt T) ReadError) → AreEnds text (left s) → end_of s ≡ 0 → Advances s t → IfOk r (λ w. IsReadOff read (rest s) (tree w) (rest t)) → IfOk r (λ w. IsFront read text (tree w))
+  front (Ok w) are zero advances (v, begins, is) = (end_of t, (v, to-front read text s t v are zero advances begins, is))
+  front (Err e) are zero advances h = tt
+
+pub on-text : {X : Type 0} (r : Result X ReadError) (P Q : Type 0) → (P → Q) → OnText r P → OnText r Q
+on-text (Ok x) P Q f h = tt
+on-text (Err (Text m)) P Q f h = f h
+on-text (Err (Memory e)) P Q f h = tt
+
+pub on-message : {X : Type 0} (r : Result X ReadError) (m : List ℕ) (P Q : Type 0) → (P → Q) → OnMessage r m P → OnMessage r m Q
+on-message (Ok x) m P Q f h = tt
+on-message (Err (Text t)) m P Q f h = λ e. f (h e)
+on-message (Err (Memory e)) m P Q f h = tt
+
+pub if-text : {X : Type 0} (r : Result X ReadError) (P Q : List ℕ → Type 0) → ((said : List ℕ) → P said → Q said) → IfText r P → IfText r Q
+if-text (Ok x) P Q f h = tt
+if-text (Err (Text m)) P Q f h = f m.now h
+if-text (Err (Memory e)) P Q f h = tt
+
+pub if-text-err : (X Y : Type 0) (e : ReadError) (P Q : List ℕ → Type 0) → ((said : List ℕ) → P said → Q said) → IfText {X = X} (Err e) P → IfText {X = Y} (Err e) Q
+if-text-err X Y (Text m) P Q f h = f m.now h
+if-text-err X Y (Memory e) P Q f h = tt

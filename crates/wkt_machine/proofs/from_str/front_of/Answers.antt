@@ -1,0 +1,50 @@
+-- What was read of a text's lexemes is what the text has at its front, in bytes.
+use Rattle.std.proofs.Common.{◌∙◌, sym, subst}
+use Rattle.wkt_types.specs.declared.geometry.Wkt.{Wkt}
+use Rattle.wkt_read.specs.Ahead.{rest}
+use Rattle.wkt_read.specs.Begun.{NoneBegins}
+use Rattle.wkt_read.specs.Bad.{HasBad}
+use Rattle.wkt_read.specs.Front.{Front, HasNoFront}
+use Rattle.wkt_read.specs.Answered.{HasBadNumber}
+use Rattle.wkt_read.specs.Items.{bad_number}
+use Rattle.wkt_read.specs.Placed.{AreEnds}
+use Rattle.wkt_read.proofs.LawLemmas.FrontEnds.{front-some, front-within, front-boundary}
+use Rattle.wkt_read.proofs.LawLemmas.OnePlacing.{placed-only}
+use Rattle.wkt_read.proofs.ParserLemmas.Answering.{to-front, from-front, no-front, split-of, text-map, message-map}
+use Rattle.wkt_read.specs.Refusal.{IsRefused, IsTextRefused}
+use Rattle.wkt_machine.proofs.Reading.{if-text-err}
+use Rattle.wkt_machine.proofs.from_str.front_of.Goals as goal
+
+pub returns-in-Ok-clause-found : goal.returns-in-Ok-clause-found
+returns-in-Ok-clause-found g c =
+    let (v, begins, is) = c.in-Ok.ensures.found in
+    (v, subst (Front g.T.WktNum.read c.args.text.now v) (sym c.end.ensures) (to-front g.T.WktNum.read c.args.text.now _ _ v (subst (AreEnds c.args.text.now) (sym c.new-tokens.ensures.left) c.from_str.ensures.ends) (c.new-tokens.ensures.end ∙ c.from_str.ensures.start) c.in-Ok.ensures.advances begins), is)
+
+pub returns-in-Ok-clause-some : goal.returns-in-Ok-clause-some
+returns-in-Ok-clause-some g c = let (v, front, is) = returns-in-Ok-clause-found g c in front-some g.T.WktNum.read c.args.text.now v _ front
+
+pub returns-in-Ok-clause-within : goal.returns-in-Ok-clause-within
+returns-in-Ok-clause-within g c = let (v, front, is) = returns-in-Ok-clause-found g c in front-within g.T.WktNum.read c.args.text.now v _ front
+
+pub returns-in-Ok-clause-boundary : goal.returns-in-Ok-clause-boundary
+returns-in-Ok-clause-boundary g c = let (v, front, is) = returns-in-Ok-clause-found g c in front-boundary g.T.WktNum.read c.args.text.now v _ c.utf8.text front
+
+pub returns-in-Err-clause-no_front : goal.returns-in-Err-clause-no_front
+returns-in-Err-clause-no_front g c =
+    text-map (Wkt g.row.T.Denot) (Wkt g.row.T.Denot) c.in-Err.error (NoneBegins g.T.WktNum.read (rest c.new-tokens.result)) (HasNoFront g.T.WktNum.read c.args.text.now)
+    (no-front g.T.WktNum.read c.args.text.now c.new-tokens.result (c.new-tokens.ensures.left ∙ placed-only _ _ c.from_str.ensures.split c.from_str.ensures.ends)) c.in-Err.ensures.no_geometry
+
+pub returns-in-Err-clause-bad : goal.returns-in-Err-clause-bad
+returns-in-Err-clause-bad g c =
+    message-map (Wkt g.row.T.Denot) (Wkt g.row.T.Denot) c.in-Err.error bad_number (HasBad g.T.WktNum.read (rest c.new-tokens.result)) (HasBadNumber g.T.WktNum.read c.args.text.now)
+    (λ bad. (rest c.new-tokens.result, split-of g.T.WktNum.read c.args.text.now c.new-tokens.result (c.new-tokens.ensures.left ∙ placed-only _ _ c.from_str.ensures.split c.from_str.ensures.ends), bad)) c.in-Err.ensures.bad
+
+pub returns-in-Err-clause-refusal : goal.returns-in-Err-clause-refusal
+returns-in-Err-clause-refusal g c =
+    if-text-err (Wkt g.row.T.Denot) (Wkt g.row.T.Denot) c.in-Err.error (λ said. IsRefused g.T.WktNum.read (rest c.new-tokens.result) said (rest c.read_off.new.tokens)) (IsTextRefused g.T.WktNum.read c.args.text.now)
+    (λ said (m, says, e). (m, says, (rest c.new-tokens.result, rest c.read_off.new.tokens, split-of g.T.WktNum.read c.args.text.now c.new-tokens.result (c.new-tokens.ensures.left ∙ placed-only _ _ c.from_str.ensures.split c.from_str.ensures.ends), e))) c.in-Err.ensures.refusal
+
+pub returns-in-Err-clause-free : goal.returns-in-Err-clause-free
+returns-in-Err-clause-free g c = λ v end front small.
+    let (after, begins) = from-front g.T.WktNum.read c.args.text.now c.new-tokens.result v end (c.new-tokens.ensures.left ∙ placed-only _ _ c.from_str.ensures.split c.from_str.ensures.ends) front in
+    c.in-Err.ensures.free v after begins small

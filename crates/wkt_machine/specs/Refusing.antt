@@ -1,0 +1,41 @@
+-- With which message lexemes are refused at a place, and which of them are left.
+use Rattle.std.specs.Prelude.{◌≡◌, ℕ, ◌+◌, List, [], ◌∷◌, Option, Bool, true}
+use Rattle.wkt_num.specs.Bytes.{Lexeme}
+use Rattle.wkt_read.specs.declared.messages.Message.{Message}
+use Rattle.wkt_explain.specs.Table.{at_place, left_at, stays, closings}
+use Rattle.wkt_explain.specs.declared.expected.Expected.{Expected}
+use Rattle.wkt_machine.specs.Expecting.{expected_at}
+use Rattle.wkt_machine.specs.Place.{Place, State}
+use Rattle.wkt_machine.specs.Place as place
+use Rattle.wkt_machine.specs.declared.part.Part.{Part}
+use Rattle.wkt_machine.specs.declared.part.Part.TheVariants as part
+
+-- how many parentheses are open around a part, but those of collections
+abbrev pub around : Part → ℕ
+around part.Member = 1
+around part.Ring = 1
+around part.Line = 1
+around part.Area = 1
+around part.AreaRing = 2
+around p = 0
+
+-- and at a place
+abbrev pub own : Place → ℕ
+own (place.Opening p d) = around p
+own (place.Number p d more) = around p + 1
+own (place.Item p d) = around p + 1
+own p = 0
+
+module _ {N : Type 0} (read : List ℕ → Option N) where
+  -- whether the first of the lexemes isn't taken where it is refused, if there is one
+  abbrev pub stays_first : Expected → List Lexeme → Bool
+  stays_first e [] = true
+  stays_first e (x ∷ r) = stays read e x
+
+  -- the message of the place, and what is left for the places where the open parentheses close
+  abbrev pub blamed : Expected → List Lexeme → Message × List Lexeme
+  blamed e ls = (at_place read e ls, left_at read e ls)
+
+  -- the message behind these places, and what is left
+  abbrev pub refused : State → List Lexeme → Message × List Lexeme
+  refused s ls = closings read (own s.place + s.depth) (at_place read (expected_at s.place s.depth) ls) (left_at read (expected_at s.place s.depth) ls)

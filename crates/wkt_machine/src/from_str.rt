@@ -1,0 +1,162 @@
+//! Types that are read from well-known text.
+ghost use Rattle.std.specs.Prelude.{◌≡◌, ◌≤◌, ◌<◌, ℕ, length, OnOk, IfOk};
+ghost use Rattle.std.specs.Result.{IsOk};
+ghost use Rattle.std.specs.Str.{IsCharBoundary};
+ghost use Rattle.wkt_access.specs.Values.{Value};
+ghost use Rattle.wkt_types.specs.Tree.{Tree, tree};
+ghost use Rattle.wkt_read.specs.Items.{bad_number};
+ghost use Rattle.wkt_read.specs.Front.{Front, HasNoFront, NeedsNoMemory};
+ghost use Rattle.wkt_read.specs.Begun.{NoneBegins};
+ghost use Rattle.wkt_read.specs.Early.{StopsEarly};
+ghost use Rattle.wkt_read.specs.Bad.{HasBad};
+ghost use Rattle.wkt_read.specs.Ahead.{rest, Advances, IsNear};
+ghost use Rattle.wkt_read.specs.Refusal.{IsRefused, IsTextRefused, IfText};
+ghost use Rattle.wkt_read.specs.Answered.{IsFront, IsFrontTo, Begins, IsReadOff, HasBadNumber, OnText, OnMessage};
+
+use crate::refused::refused;
+use crate::tokens::OneByOne;
+use crate::value::{Unread, read};
+use std::alloc::Global;
+use std::mem;
+use wkt_num::WktNum;
+use wkt_read::{Message, PeekableTokens, ReadError, Tokens};
+use wkt_types::Wkt;
+
+/// The geometry at the front of the tokens.
+#[inline(always)]
+fn read_off<T: WktNum>(
+    alloc: Global,
+    tokens: &mut PeekableTokens<'_, T>,
+) -> Result<Wkt<T>, ReadError>
+    ensures found { IfOk result (λ w. IsReadOff T.read (rest tokens.old) (tree w) (rest tokens.new)) }
+    ensures no_geometry { OnText result (NoneBegins T.read (rest tokens.old)) }
+    ensures early { OnText result (StopsEarly T.read (rest tokens.old) (rest tokens.new)) }
+    ensures bad { OnMessage result bad_number (HasBad T.read (rest tokens.old)) }
+    ensures refusal { IfText result (λ said. IsRefused T.read (rest tokens.old) said (rest tokens.new)) }
+    ensures free { (v after : _) → Begins T.read (rest tokens.old) v after → NeedsNoMemory v → IsOk result }
+    ensures taken { OnOk result (length (rest tokens.new) < length (rest tokens.old)) }
+    ensures advances { Advances tokens.old tokens.new }
+    ensures near { OnOk result (IsNear tokens.new) }
+{
+    // The machine counts open collections, of which there are no more than tokens.
+    let _ = tokens.most_left();
+    let none = PeekableTokens::new(Tokens::from_str(""));
+    let source = OneByOne::new(mem::replace(tokens, none));
+    let (answer, behind) = read::<T, OneByOne<'_, T>>(alloc, source);
+    *tokens = behind.into_tokens();
+    match answer {
+        Ok(geometry) => Ok(geometry),
+        Err(unread) => match unread {
+            Unread::Memory(error) => Err(ReadError::Memory(error)),
+            Unread::Refused(machine) => Err(ReadError::Text(refused(machine, tokens).text())),
+        },
+    }
+}
+
+/// The geometry at the front of the text, and where its last token ends.
+fn front_of<T: WktNum>(alloc: Global, text: &str) -> Result<(Wkt<T>, usize), ReadError>
+    ensures found { IfOk result (λ r. IsFrontTo T.read text.now (tree r.0) r.1) }
+    ensures some { IfOk result (λ r. 0 < r.1) }
+    ensures within { IfOk result (λ r. r.1 ≤ length text.now) }
+    ensures boundary { IfOk result (λ r. IsCharBoundary text.now r.1) }
+    ensures no_front { OnText result (HasNoFront T.read text.now) }
+    ensures bad { OnMessage result bad_number (HasBadNumber T.read text.now) }
+    ensures refusal { IfText result (λ said. IsTextRefused T.read text.now said) }
+    ensures free { (v end : _) → Front T.read text.now v end → NeedsNoMemory v → IsOk result }
+{
+    let mut tokens = PeekableTokens::new(Tokens::from_str(text));
+    match read_off(alloc, &mut tokens) {
+        Ok(geometry) => Ok((geometry, tokens.end())),
+        Err(error) => Err(error),
+    }
+}
+
+/// A type that is read from well-known text.
+///
+/// ```text
+/// let geometry = Wkt::<Decimal<6>>::from_str(alloc, "linestring z (1 2 3, 4 5.50 6)")?;
+/// // LINESTRING Z(1 2 3,4 5.5 6)
+/// ```
+pub trait FromWktStr {
+    /// The type of its numbers.
+    type Num: WktNum;
+
+    /// What it holds.
+    ghost tree: { Self → Tree Self.Num };
+
+    /// The geometry at the front of the text; what follows it is not looked at.
+    ///
+    /// # Errors
+    /// `Text` where no beginning of the text is a geometry, with what was found amiss; `Memory` where
+    /// memory ran out.
+    fn from_str(alloc: Global, text: &str) -> Result<Self, ReadError>
+        ensures found { IfOk result (λ w. IsFront Self.Num.read text.now (tree w)) }
+        ensures no_front { OnText result (HasNoFront Self.Num.read text.now) }
+        ensures bad { OnMessage result bad_number (HasBadNumber Self.Num.read text.now) }
+        ensures refusal { IfText result (λ said. IsTextRefused Self.Num.read text.now said) }
+        ensures free { (v end : _) → Front Self.Num.read text.now v end → NeedsNoMemory v → IsOk result };
+
+    /// The geometry at the front of the text, and where its last lexeme ends, in bytes. The end is past
+    /// the text's start, and a character boundary of the text: so a text of several geometries is read
+    /// one after the other, each time from `&text[end..]`.
+    ///
+    /// ```text
+    /// let (first, end) = Wkt::<i32>::read_front(alloc, "POINT(1 2) POINT(3 4)")?;
+    /// // POINT(1 2), and 10
+    /// ```
+    ///
+    /// # Errors
+    /// Those of `from_str`.
+    fn read_front(alloc: Global, text: &str) -> Result<(Self, usize), ReadError>
+        ensures found { IfOk result (λ r. IsFrontTo Self.Num.read text.now (tree r.0) r.1) }
+        ensures some { IfOk result (λ r. 0 < r.1) }
+        ensures within { IfOk result (λ r. r.1 ≤ length text.now) }
+        ensures boundary { IfOk result (λ r. IsCharBoundary text.now r.1) }
+        ensures no_front { OnText result (HasNoFront Self.Num.read text.now) }
+        ensures bad { OnMessage result bad_number (HasBadNumber Self.Num.read text.now) }
+        ensures refusal { IfText result (λ said. IsTextRefused Self.Num.read text.now said) }
+        ensures free { (v end : _) → Front Self.Num.read text.now v end → NeedsNoMemory v → IsOk result };
+
+    /// The geometry at the front of the lexemes, which are taken; those after it are left.
+    ///
+    /// # Errors
+    /// `Text` where no beginning of the lexemes is a geometry; then no more of them are taken than it
+    /// takes to see that. `Memory` where memory ran out. Both leave the stream after some of its
+    /// lexemes, or where it was.
+    fn read_tokens(
+        alloc: Global,
+        tokens: &mut PeekableTokens<'_, Self::Num>,
+    ) -> Result<Self, ReadError>
+        ensures found { IfOk result (λ w. IsReadOff Self.Num.read (rest tokens.old) (tree w) (rest tokens.new)) }
+        ensures no_geometry { OnText result (NoneBegins Self.Num.read (rest tokens.old)) }
+        ensures early { OnText result (StopsEarly Self.Num.read (rest tokens.old) (rest tokens.new)) }
+        ensures bad { OnMessage result bad_number (HasBad Self.Num.read (rest tokens.old)) }
+        ensures refusal { IfText result (λ said. IsRefused Self.Num.read (rest tokens.old) said (rest tokens.new)) }
+        ensures free { (v after : _) → Begins Self.Num.read (rest tokens.old) v after → NeedsNoMemory v → IsOk result }
+        ensures taken { OnOk result (length (rest tokens.new) < length (rest tokens.old)) }
+        ensures advances { Advances tokens.old tokens.new }
+        ensures near { OnOk result (IsNear tokens.new) };
+}
+
+impl<T: WktNum> FromWktStr for Wkt<T> {
+    type Num = T;
+
+    ghost tree = { tree };
+
+    // A text of no bytes, as of a blank cell, is refused before there is a stream.
+    fn from_str(alloc: Global, text: &str) -> Result<Self, ReadError> {
+        if text.is_empty() {
+            return Err(ReadError::Text(Message::Format.text()));
+        }
+        let mut tokens = PeekableTokens::new(Tokens::from_str(text));
+        read_off(alloc, &mut tokens)
+    }
+
+    fn read_front(alloc: Global, text: &str) -> Result<(Self, usize), ReadError> {
+        front_of(alloc, text)
+    }
+
+    fn read_tokens(alloc: Global, tokens: &mut PeekableTokens<'_, T>) -> Result<Self, ReadError> {
+        read_off(alloc, tokens)
+    }
+}

@@ -1,0 +1,62 @@
+//! Numbers in bytes.
+ghost use Rattle.std.specs.Prelude.{◌≡◌, ◌<◌, ◌≤◌, length, slice_index_or, take, IfSome, IfNone};
+ghost use Rattle.wkt_events.specs.Numbers.{IsNumberAt, NoNumber};
+
+use wkt_events::number_there;
+use wkt_num::WktNum;
+
+/// How many bytes a window has.
+const WINDOW: usize = 32;
+
+/// The number that stands there, and where it ends.
+#[inline(always)]
+pub(crate) fn read_at<T: WktNum>(text: &[u8], at: usize) -> Option<(T, usize)>
+    requires { at ≤ length text.now }
+    ensures some { IfSome result (λ p. IsNumberAt T.read text.now at p.1 p.0) }
+    ensures none { IfNone result (NoNumber T.read text.now at) }
+{
+    let rest = &text[at..];
+    if rest.len() >= WINDOW {
+        if let Some((number, count)) = T::read_in_window(rest) {
+            return Some((number, at + count));
+        }
+    }
+    read_apart(text, at)
+}
+
+/// The same for a number that no window shows whole. What it answers comes through memory, whose place is cleared here.
+#[inline(always)]
+fn read_apart<T: WktNum>(text: &[u8], at: usize) -> Option<(T, usize)>
+    requires { at ≤ length text.now }
+    ensures some { IfSome result (λ p. IsNumberAt T.read text.now at p.1 p.0) }
+    ensures none { IfNone result (NoNumber T.read text.now at) }
+{
+    read_anywhere(text, at)
+}
+
+#[inline(never)]
+fn read_anywhere<T: WktNum>(text: &[u8], at: usize) -> Option<(T, usize)>
+    requires { at ≤ length text.now }
+    ensures some { IfSome result (λ p. IsNumberAt T.read text.now at p.1 p.0) }
+    ensures none { IfNone result (NoNumber T.read text.now at) }
+{
+    let rest = &text[at..];
+    if rest.len() < WINDOW {
+        if let Some((number, count)) = T::read_in_window(&padded(rest)) {
+            return Some((number, at + count));
+        }
+    }
+    number_there(text, at)
+}
+
+/// Fewer bytes than a window has, as one, with NULs behind them, which end a run as the text's end does.
+#[inline(always)]
+fn padded(bytes: &[u8]) -> [u8; WINDOW]
+    requires { length bytes.now < 32 }
+    ensures front { take (length bytes.now) result ≡ bytes.now }
+    ensures nul { slice_index_or result (length bytes.now) 0 ≡ 0 }
+{
+    let mut window = [0; WINDOW];
+    window[..bytes.len()].copy_from_slice(bytes);
+    window
+}

@@ -1,0 +1,10 @@
+-- So few digits are as they are held.
+use Rattle.std.proofs.Common.{sym, ap, subst, ◌∙◌, arith, to_z, of_z}
+use Rattle.std.specs.Int.{w32}
+use Rattle.wkt_num.specs.Kept.{BeginsNumber}
+use Rattle.wkt_num.specs.Whole.{read_signed}
+use Rattle.wkt_num.proofs.Windowed.{held-31, held-63}
+use Rattle.wkt_num.proofs.signed_whole.I32WktNum.read_in_window.Goals as goal
+
+pub returns-in-Some-clause-reads : goal.returns-in-Some-clause-reads
+returns-in-Some-clause-reads c = subst (λ z. BeginsNumber (read_signed 31) c.args.bytes.now z c.in-Some.end) (sym (ap (λ z. to_z w32 (of_z w32 z)) (held-63 c.in-Some.number (omega (arith, c.in-Some.ensures.small))) ∙ held-31 c.in-Some.number (omega (arith, c.in-Some.ensures.small)))) (c.in-Some.ensures.reads 31 (omega arith))

@@ -1,0 +1,39 @@
+//! The tables of texts, which this program checks.
+//!
+//! Below stand `wkt`, `wkt_lines` and `wkt_tests`, whose `support` asks all calls for a text.
+//!
+//! Each line of standard input is a text, a tab, and what reading the text over decimals of eighteen
+//! places gives: the text of its geometry, or the message. The table that stands beside the sources
+//! has one text for each kind, dimension, place and cause that can be met there; it was made by a
+//! program written from the rules alone, in another language.
+//!
+//! Each argument names a file of rows, one a call with what it gives: those of `data/`, each with a head that says
+//! what its columns are.
+#![tactic(auto)]
+
+mod built;
+mod calls;
+mod flat_calls;
+mod json_calls;
+mod made;
+mod numbers;
+mod parts;
+mod refusals;
+mod rows;
+mod shown;
+mod table;
+
+use std::process::ExitCode;
+use table::check_all;
+
+fn main(rt: HostRuntime) -> ExitCode {
+    match check_all(&rt) {
+        Ok(0) => ExitCode::SUCCESS,
+        Ok(_) => ExitCode::from(1),
+        Err(e) => {
+            // If standard error fails too, the status still reports it.
+            let _ = eprintln!(rt; "wkt_tables: {e}");
+            ExitCode::from(2)
+        }
+    }
+}

@@ -1,0 +1,128 @@
+//! The table of texts on standard input, and the files of rows that the arguments name.
+ghost use Rattle.std.specs.Prelude.{◌≡◌, ◌↔◌, IfOk, IsTrue};
+
+use crate::rows::row_of;
+use std::alloc::{AllocError, Global};
+use std::io::{self, ErrorKind, Read};
+use std::{env, fs};
+use thiserror::Error;
+use wkt::Decimal;
+use wkt::to_wkt::{Counted, ReadAllError, read_all};
+use wkt_tests::support::{answer, text_or_message};
+
+/// Why a table isn't checked to its end.
+#[derive(Debug, Drop, Error)]
+pub enum TableError {
+    #[error("the table can't be read")]
+    Read(io::Error),
+    #[error("the table isn't UTF-8")]
+    NotText,
+    #[error("standard output fails")]
+    Print(io::Error),
+    #[error("out of memory")]
+    Memory(AllocError),
+}
+
+/// Checks the table on standard input, and each file that an argument names, and answers how many rows are wrong.
+pub fn check_all(rt: &HostRuntime) -> Result<u64, TableError> {
+    let alloc = rt.alloc();
+    let bytes = bytes_of(alloc, rt.stdin())?;
+    let mut wrong = check_table(rt, alloc, text_of(&bytes)?)?;
+    for name in env::args(rt).map_err(unread)?.skip(1) {
+        wrong = wrong.wrapping_add(check_file(rt, alloc, &name)?);
+    }
+    Ok(wrong)
+}
+
+/// Why the arguments or a file aren't there; out of memory is an error by itself.
+fn unread(error: io::Error) -> TableError {
+    match error.kind() {
+        ErrorKind::OutOfMemory => TableError::Memory(AllocError),
+        _ => TableError::Read(error),
+    }
+}
+
+/// All bytes of an input.
+fn bytes_of<R: Read + Drop>(alloc: Global, input: R) -> Result<Vec<u8>, TableError> {
+    match read_all(alloc, &mut Counted::new(input)) {
+        Ok(bytes) => Ok(bytes),
+        Err(ReadAllError::Read(e)) => Err(TableError::Read(e)),
+        Err(ReadAllError::Memory(e)) => Err(TableError::Memory(e)),
+    }
+}
+
+fn text_of(bytes: &[u8]) -> Result<&str, TableError> {
+    match str::from_utf8(bytes) {
+        Ok(text) => Ok(text),
+        Err(_) => Err(TableError::NotText),
+    }
+}
+
+/// Checks each row of a table of texts, and prints which are wrong, and how many.
+fn check_table(rt: &impl Print, alloc: Global, table: &str) -> Result<u64, TableError> {
+    let mut rows = 0u64;
+    let mut wrong = 0u64;
+    for row in table.lines() {
+        rows = rows.wrapping_add(1);
+        if !check_text(rt, alloc, row)? {
+            wrong = wrong.wrapping_add(1);
+        }
+    }
+    printed(println!(rt; "{rows} rows, {wrong} wrong"))?;
+    Ok(wrong)
+}
+
+/// Whether the row of a text is right. Prints one that isn't.
+fn check_text(rt: &impl Print, alloc: Global, row: &str) -> Result<bool, TableError> {
+    let (text, want) = row.split_once('\t').unwrap_or((row, ""));
+    match text_or_message(alloc, answer::<Decimal<18>>(alloc, text)) {
+        Ok(given) => is_right(rt, text, &given, want),
+        Err(e) => Err(TableError::Memory(e)),
+    }
+}
+
+/// Checks each row of a file, and prints which are wrong, and how many.
+fn check_file(rt: &HostRuntime, alloc: Global, name: &str) -> Result<u64, TableError> {
+    let bytes = bytes_of(alloc, fs::open(rt, name).map_err(unread)?)?;
+    check_rows(rt, alloc, name, text_of(&bytes)?)
+}
+
+/// Checks each row of a file's text, but for its head.
+fn check_rows(rt: &impl Print, alloc: Global, name: &str, text: &str) -> Result<u64, TableError> {
+    let mut rows = 0u64;
+    let mut wrong = 0u64;
+    for line in text.lines() {
+        if line.starts_with('#') {
+            continue;
+        }
+        rows = rows.wrapping_add(1);
+        if !check_line(rt, alloc, line)? {
+            wrong = wrong.wrapping_add(1);
+        }
+    }
+    printed(println!(rt; "{name}: {rows} rows, {wrong} wrong"))?;
+    Ok(wrong)
+}
+
+/// Whether the row of a line is right. Prints one that isn't.
+fn check_line(rt: &impl Print, alloc: Global, line: &str) -> Result<bool, TableError> {
+    match row_of(alloc, line) {
+        Ok(row) => is_right(rt, line, &row.given, &row.want),
+        Err(e) => Err(TableError::Memory(e)),
+    }
+}
+
+/// Whether the answer is the wanted one. Prints both if it isn't.
+fn is_right(rt: &impl Print, row: &str, given: &str, want: &str) -> Result<bool, TableError>
+    ensures { IfOk result (λ right. IsTrue right ↔ (given.now ≡ want.now)) }
+{
+    if given == want {
+        return Ok(true);
+    }
+    printed(println!(rt; "{row}: {given}, but wanted {want}"))?;
+    Ok(false)
+}
+
+fn printed(print: io::Result<()>) -> Result<(), TableError> {
+    print.map_err(TableError::Print)
+}

@@ -1,4 +1,0 @@
-pub mod Answer
-pub mod Numbers
-pub mod NumberLaws
-pub mod WrongNumbers

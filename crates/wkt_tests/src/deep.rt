@@ -1,0 +1,285 @@
+//! Texts that are deep or long.
+use crate::support::asserts::equal;
+use crate::support::{answer, text_or_message};
+use std::alloc::{AllocError, Global};
+use std::process::Abort;
+use std::test::Fail;
+use wkt::geo_types::{Coord, Geometry};
+use wkt::tokenizer::Tokens;
+use wkt::walks::{Mapper, map_coords, num_coords};
+use wkt::{Decimal, FromWktStr, ToWkt, TryFromWkt, Wkt, infer_type, same_geometry};
+
+const NO_KIND: &str = "Invalid type encountered";
+
+const NO_CLOSING: &str = "Missing closing parenthesis for type";
+
+// What a text over decimals of six places gives.
+fn gives(alloc: Global, text: &str) -> Result<String, AllocError> {
+    text_or_message(alloc, answer::<Decimal<6>>(alloc, text))
+}
+
+// A point in so many collections, with so many closing parentheses after it.
+fn nested(alloc: Global, opened: usize, closed: usize) -> Result<String, AllocError> {
+    let mut text = String::new(alloc);
+    for _ in 0..opened {
+        text.push_str("GEOMETRYCOLLECTION(")?;
+    }
+    text.push_str("POINT(1 2)")?;
+    for _ in 0..closed {
+        text.push(')')?;
+    }
+    Ok(text)
+}
+
+#[test]
+fn depth(rt: HostRuntime) -> Result<(), Fail> {
+    let alloc = rt.alloc();
+    let text = nested(alloc, 300, 300)?;
+    equal(&rt, text.len(), 6010);
+    assert!(rt; gives(alloc, &text)?.as_str() == text.as_str());
+    let open = nested(alloc, 300, 299)?;
+    equal(&rt, gives(alloc, &open)?.as_str(), NO_CLOSING);
+    for text in [text.as_str(), open.as_str()] {
+        let (kind, dimension) = infer_type(alloc, text)?;
+        equal(
+            &rt,
+            format!(in alloc; "{kind:?} {dimension:?}")?.as_str(),
+            "GeometryCollection XY",
+        );
+    }
+    Ok(())
+}
+
+// The text of a copy of the geometry made canonical, if the copy is equal by both calls that compare.
+fn copied(alloc: Global, text: &str) -> Result<String, Fail> {
+    let geometry = Wkt::<Decimal<6>>::from_str(alloc, text)?;
+    copy_text(alloc, &geometry)
+}
+
+fn copy_text(alloc: Global, geometry: &Wkt<Decimal<6>>) -> Result<String, Fail> {
+    let copy = geometry.try_clone(alloc)?;
+    if copy == *geometry && same_geometry(&copy, geometry) {
+        Ok(copy.into_canonical().to_string(alloc)?)
+    } else {
+        Err(Fail::from("a copy that is equal"))
+    }
+}
+
+// The text of the two-dimensional geometry of the text, if its `Wkt` has the same.
+fn converted(alloc: Global, text: &str) -> Result<String, Fail> {
+    let geometry = Geometry::<Decimal<6>>::try_from_wkt_str(alloc, text)?;
+    flat_text(alloc, &geometry)
+}
+
+fn flat_text(alloc: Global, geometry: &Geometry<Decimal<6>>) -> Result<String, Fail> {
+    let text = geometry.wkt_string(alloc)?;
+    if back_text(alloc, geometry)?.as_str() == text.as_str() {
+        Ok(text)
+    } else {
+        Err(Fail::from("a text that is the same"))
+    }
+}
+
+fn back_text(alloc: Global, geometry: &Geometry<Decimal<6>>) -> Result<String, AllocError> {
+    geometry.to_wkt(alloc)?.to_string(alloc)
+}
+
+// Each coordinate with x for y.
+#[derive(Drop)]
+struct Swapped;
+
+impl Mapper<i32, i32> for Swapped {
+    ghost maps = { λ _ c. record { x = c.y; y = c.x } };
+
+    fn coord(&self, coord: &Coord<i32>) -> Coord<i32> {
+        Coord {
+            x: coord.y,
+            y: coord.x,
+        }
+    }
+}
+
+// How many coordinates the two-dimensional geometry of the text has, and its text with x for y.
+fn walked(alloc: Global, text: &str) -> Result<(usize, String), Fail> {
+    let geometry = Geometry::<i32>::try_from_wkt_str(alloc, text)?;
+    Ok((num_coords(&geometry), turned(alloc, &geometry)?))
+}
+
+fn turned(alloc: Global, geometry: &Geometry<i32>) -> Result<String, Fail> {
+    let turned = map_coords(alloc, geometry, &Swapped)?;
+    Ok(turned.wkt_string(alloc)?)
+}
+
+// As many levels as README says that a stack of 8 MB carries.
+#[test]
+fn great_depth(rt: HostRuntime) -> Result<(), Fail> {
+    let alloc = rt.alloc();
+    let text = nested(alloc, 10000, 10000)?;
+    assert!(rt; copied(alloc, &text)?.as_str() == text.as_str());
+    assert!(rt; converted(alloc, &text)?.as_str() == text.as_str());
+    let (coordinates, turned) = walked(alloc, &text)?;
+    equal(&rt, coordinates, 1);
+    equal(&rt, turned.len(), text.len());
+    assert!(rt; turned.contains("POINT(2 1)"));
+    let open = nested(alloc, 10000, 9999)?;
+    assert!(rt; Wkt::<Decimal<6>>::from_str(alloc, &open).is_err());
+    Ok(())
+}
+
+// How many collections of one member hold each other here, counted to `most`.
+fn levels<T>(wkt: &Wkt<T>, most: usize) -> usize {
+    let mut here = wkt;
+    for level in 0..most {
+        match here {
+            Wkt::GeometryCollection(c) => match c.geometries() {
+                [inner] => here = inner,
+                _ => return level,
+            },
+            _ => return level,
+        }
+    }
+    most
+}
+
+// Deeper than any recursion would carry.
+#[test]
+fn conversions_at_any_depth(rt: HostRuntime) -> Result<(), Fail> {
+    let alloc = rt.alloc();
+    let text = nested(alloc, 200_000, 200_000)?;
+    let flat = Geometry::<i32>::try_from_wkt_str(alloc, &text)?;
+    let back = flat.to_wkt(alloc)?;
+    equal(&rt, levels(&back, 200_001), 200_000);
+    Ok(())
+}
+
+// The canonical text of a kind word and so many members.
+fn members(alloc: Global, word: &str, member: &str, n: usize) -> Result<String, AllocError> {
+    let mut text = String::from_str(alloc, word)?;
+    text.push('(')?;
+    for i in 0..n {
+        if i > 0 {
+            text.push(',')?;
+        }
+        text.push_str(member)?;
+    }
+    text.push(')')?;
+    Ok(text)
+}
+
+const LISTS: [(&str, &str); 6] = [
+    ("LINESTRING", "1 2"),
+    ("POLYGON", "(1 2)"),
+    ("MULTIPOINT", "(1 2)"),
+    ("MULTILINESTRING", "(1 2)"),
+    ("MULTIPOLYGON", "((1 2))"),
+    ("GEOMETRYCOLLECTION", "POINT(1 2)"),
+];
+
+// Lists of so many members give themselves, as two-dimensional geometries too.
+fn lists_of(rt: &impl Abort, alloc: Global, n: usize) -> Result<(), Fail> {
+    for (word, member) in LISTS {
+        let text = members(alloc, word, member, n)?;
+        let given = gives(alloc, &text)?;
+        assert!(rt; given == text, "{n} of {word}");
+        let flat = converted(alloc, &text)?;
+        assert!(rt; flat == text, "{n} of {word} without z and m");
+    }
+    Ok(())
+}
+
+// A reader, a copy or a constructor that gives up above a size fails here.
+#[test]
+fn ample_memory(rt: HostRuntime) -> Result<(), Fail> {
+    for n in 1..=300 {
+        lists_of(&rt, rt.alloc(), n)?;
+    }
+    lists_of(&rt, rt.alloc(), 100000)
+}
+
+#[test]
+fn multi_polygons_of_many_rings(rt: HostRuntime) -> Result<(), Fail> {
+    let alloc = rt.alloc();
+    for n in 1..=300 {
+        rings_of(&rt, alloc, n)?;
+    }
+    rings_of(&rt, alloc, 100_000)
+}
+
+// A polygon of so many rings gives itself, as a two-dimensional geometry too.
+fn rings_of(rt: &impl Abort, alloc: Global, n: usize) -> Result<(), Fail> {
+    let mut text = members(alloc, "MULTIPOLYGON(", "(1 2)", n)?;
+    text.push(')')?;
+    let given = gives(alloc, &text)?;
+    assert!(rt; given == text, "{n} rings");
+    let flat = converted(alloc, &text)?;
+    assert!(rt; flat == text, "{n} rings without z and m");
+    Ok(())
+}
+
+#[test]
+fn long_numbers(rt: HostRuntime) -> Result<(), Fail> {
+    let alloc = rt.alloc();
+    let zeros = "0".repeat(alloc, 100000)?;
+    let text = format!(in alloc; "POINT({zeros}1 0.5{zeros})")?;
+    equal(&rt, gives(alloc, &text)?.as_str(), "POINT(1 0.5)");
+    let word = "A".repeat(alloc, 100000)?;
+    equal(&rt, gives(alloc, &word)?.as_str(), NO_KIND);
+    Ok(())
+}
+
+// Whether a text has just so many lexemes.
+fn has_lexemes(text: &str, count: usize) -> bool {
+    let mut tokens = Tokens::<Decimal<6>>::from_str(text);
+    for _ in 0..count {
+        if tokens.next().is_none() {
+            return false;
+        }
+    }
+    tokens.next().is_none() && tokens.next().is_none()
+}
+
+// Whether a text is one number that has no reading.
+fn is_one_bad_number(text: &str) -> bool {
+    let mut tokens = Tokens::<Decimal<6>>::from_str(text);
+    match tokens.next() {
+        Some(Err(_)) => tokens.next().is_none(),
+        _ => false,
+    }
+}
+
+// Of these, a long run is a number that no type reads.
+const BAD_NUMBERS: [&str; 5] = ["+", "-", ".", "1", "9"];
+
+const CLASSES: [(&str, usize); 17] = [
+    (" ", 0),
+    ("\n", 0),
+    ("\r", 0),
+    ("\t", 0),
+    ("\0", 0),
+    ("0", 1),
+    ("1", 1),
+    ("9", 1),
+    ("+", 1),
+    ("-", 1),
+    (".", 1),
+    ("A", 1),
+    ("z", 1),
+    ("¾", 1),
+    ("(", 100000),
+    (")", 100000),
+    (",", 100000),
+];
+
+#[test]
+fn long_runs_of_each_class(rt: HostRuntime) -> Result<(), Fail> {
+    let alloc = rt.alloc();
+    for (piece, lexemes) in CLASSES {
+        let text = piece.repeat(alloc, 100000)?;
+        assert!(rt; has_lexemes(&text, lexemes), "of {piece}");
+    }
+    for piece in BAD_NUMBERS {
+        let text = piece.repeat(alloc, 100000)?;
+        assert!(rt; is_one_bad_number(&text), "a number of {piece}");
+    }
+    Ok(())
+}

@@ -1,6 +1,0 @@
--- Each front that is read leaves less of the text.
-use Rattle.std.proofs.Common.{length}
-use Rattle.wkt_text_conformance.proofs.reading.rewrite.Given as goal
-
-abbrev pub decreases-fronts : goal.decreases-fronts
-decreases-fronts l = length l.rest

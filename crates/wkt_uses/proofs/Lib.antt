@@ -1,8 +1,0 @@
-pub mod Groups
-pub mod Lining
-pub mod Shows
-pub mod Ordering
-pub mod FlatKeys
-pub mod Counted
-pub mod KeyLists
-pub mod Layers

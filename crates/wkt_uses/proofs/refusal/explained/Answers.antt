@@ -1,6 +1,0 @@
--- A text without a front is refused.
-use Rattle.wkt.proofs.Blamed.{some_of}
-use Rattle.wkt_uses.proofs.refusal.explained.Goals as goal
-
-pub unwrap-requires : goal.unwrap-requires
-unwrap-requires g c = some_of c.in_ok-why.why c.in_ok-why.ensures.front (λ f. c.requires f.0 f.1 f.2)

@@ -1,0 +1,101 @@
+#!/usr/bin/env bash
+# Builds the library for C by tests/gate/c_library.sh, which says what that needs, and runs its callers in C, C++ and
+# Python, and compares the keys of tests/data/keys.tsv. With WKT_C_BUILT=1 the library in capi/out is taken as it is.
+#
+# What a machine lacks fails (tests/needs.sh installs it), unless SKIP names it: SKIP=python,numpy tests/gate/c_callers.sh.
+# Names: valgrind, c++, python, numpy. The last line says what was skipped.
+set -u
+cd "$(dirname "$0")/../.." || exit 1
+fail() { echo "$*"; exit 1; }
+skips() { case ",${SKIP:-}," in *",$1,"*) true ;; *) false ;; esac; }
+# needs NAME COMMAND: the command is there, or SKIP names it
+needs() { skips "$1" || command -v "$2" > /dev/null || fail "no $2: tests/needs.sh installs it, SKIP=$1 passes it over"; }
+# has_numpy PYTHON
+has_numpy() { "$1" -c 'import numpy' 2> /dev/null; }
+
+skip=${SKIP:-}
+for name in ${skip//,/ }; do
+    case $name in valgrind | c++ | python | numpy) ;; *) echo "SKIP: $name is skipped by other scripts, or no name" ;; esac
+done
+cc=${CC:-$(command -v gcc || command -v clang || command -v cc)}
+[ -n "$cc" ] || fail "no C compiler: tests/needs.sh installs one"
+needs valgrind valgrind
+needs c++ g++
+needs python python3
+# The tests run by python3, and where that has no NumPy, by the system's, if that has it.
+pythons=()
+if ! skips python; then
+    pythons=(python3)
+    if ! skips numpy && ! has_numpy python3; then
+        has_numpy /usr/bin/python3 || fail "no Python with NumPy: tests/needs.sh installs it, SKIP=numpy passes it over"
+        pythons+=(/usr/bin/python3)
+    fi
+fi
+
+dir=$(mktemp -d)
+trap 'rm -rf "$dir"' EXIT
+out=$PWD/capi/out
+[ -n "${WKT_C_BUILT:-}" ] || CC=$cc tests/gate/c_library.sh || fail "no library for C"
+
+# The exported names are those of the header.
+sed -n 's/.*\(wkt_[a-z_]*\)(.*/\1/p' include/wkt.h | grep -vx wkt_status | sort -u > "$dir/declared"
+nm -D --defined-only "$out/libwkt.so" | sed 's/.* //' | grep -vx WKT_0 > "$dir/versioned"
+grep -vqE '@@WKT_0$' "$dir/versioned" && fail "libwkt.so: a name of another version"
+sed 's/@.*//' "$dir/versioned" | sort > "$dir/exported"
+cmp -s "$dir/declared" "$dir/exported" || { diff "$dir/declared" "$dir/exported"; fail "libwkt.so: other names"; }
+echo "libwkt.so exports the $(wc -l < "$dir/exported") functions of wkt.h, and nothing else"
+while read -r name; do
+    grep -qw "$name" packaging/release/man/wkt.3 || fail "wkt.3 doesn't name $name"
+done < "$dir/declared"
+
+wrap="-Wl,--wrap=malloc -Wl,--wrap=realloc"
+# each NAME COMPILER FLAG..: the tests in C, compiled so
+each() {
+    local name=$1
+    shift
+    "$@" -Wall -Wextra -Werror -I"$out" -o "$dir/calls" capi/tests/{calls,texts,explain,columns,pointers}.c -x none "$out/libwkt.a" $wrap || fail "$name: not compiled"
+    "$dir/calls" > "$dir/said" 2>&1 || { cat "$dir/said"; fail "$name: the tests fail"; }
+    echo "$name: $(cat "$dir/said")"
+}
+each C "$cc" -O2
+if ! skips valgrind; then
+    valgrind -q --leak-check=full --error-exitcode=9 "$dir/calls" > "$dir/said" 2>&1 || { cat "$dir/said"; fail "valgrind: errors"; }
+    [ "$(wc -l < "$dir/said")" = 1 ] || { cat "$dir/said"; fail "valgrind: words"; }
+    echo "valgrind: no word"
+fi
+each "C under ASan and UBSan" "$cc" -O1 -g -fsanitize=address,undefined -fno-sanitize-recover
+skips c++ || each C++ g++ -O2 -x c++
+each "C on a processor that lacks something" "$cc" -O2 -DPROCESSOR capi/tests/processor.c
+"$cc" -O1 -g -no-pie -fsanitize=undefined -fno-sanitize-recover -Wall -Wextra -Werror -o "$dir/empty" capi/tests/empty.c \
+    -Wl,--unresolved-symbols=ignore-all || fail "empty: not compiled"
+"$dir/empty" > "$dir/said" 2>&1 || { cat "$dir/said"; fail "NULL of size 0 is passed on"; }
+echo "NULL of size 0: never passed on"
+
+# A million levels on a small stack, and eight threads at once.
+for flags in "-O2" "-O1 -g -fsanitize=thread"; do
+    "$cc" $flags -Wall -Wextra -Werror -I"$out" -o "$dir/deep" capi/tests/deep.c "$out/libwkt.a" -pthread || fail "deep: not compiled"
+    "$dir/deep" > "$dir/said" 2>&1 || { cat "$dir/said"; fail "deep: the tests fail ($flags)"; }
+    echo "nesting and threads ($flags): $(cat "$dir/said")"
+done
+
+# The keys that stores keep.
+"$cc" -O2 -Wall -Wextra -Werror -I"$out" -o "$dir/keys" tests/gate/keys.c "$out/libwkt.a" || fail "keys: not compiled"
+"$dir/keys" < tests/data/keys.tsv > "$dir/said" || { cat "$dir/said"; fail "keys: a release must not change one"; }
+cat "$dir/said"
+
+# The examples, and the output of wktline.
+for example in show lines stream; do
+    "$cc" -O2 -I"$out" -o "$dir/$example" capi/examples/$example.c "$out/libwkt.a" || fail "$example: not compiled"
+done
+"$dir/show" > /dev/null || fail "show fails"
+"$dir/lines" < crates/wktline/stdin | cmp - crates/wktline/stdout || fail "lines: another output than wktline's"
+"$dir/stream" < crates/wktline/stdin | cmp - crates/wktline/stdout || fail "stream: another output than wktline's"
+echo "examples: the output of wktline"
+
+for python in "${pythons[@]}"; do
+    WKT_LIB=$out/libwkt.so PYTHONDONTWRITEBYTECODE=1 PYTHONPATH=python "$python" -W error -m unittest discover -q -s python/tests > "$dir/said" 2>&1 ||
+        { cat "$dir/said"; fail "$python: the tests fail"; }
+    with=$(has_numpy "$python" && echo with || echo without)
+    echo "Python ($python, $with NumPy): $(grep '^Ran' "$dir/said"), $(tail -n 1 "$dir/said")"
+done
+echo "callers of the library for C: all passed; skipped: ${SKIP:-nothing}"

@@ -1,0 +1,73 @@
+#!/usr/bin/env bash
+# `make -C dist` and `make install` as a user calls them, and what is said where the library isn't there.
+#
+# It needs gcc, binutils, make and pkg-config; PostgreSQL's headers, and cargo, where SKIP=postgres,rust doesn't name them.
+# CC=aarch64-linux-gnu-gcc looks at what is made for another processor.
+set -u
+cd "$(dirname "$0")/../.." || exit 1
+dir=$(mktemp -d)
+trap 'rm -rf "$dir"' EXIT
+export LC_ALL=C
+failed=0
+skips() { case ",${SKIP:-}," in *",$1,"*) true ;; *) false ;; esac; }
+wrong() { echo "wrong: $*"; failed=1; }
+make_dist() { make -s -C dist O="$dir/out" "$@" > "$dir/said" 2>&1 || { tail -n 20 "$dir/said"; wrong "make $*"; }; }
+
+# What is right stays as it is, and what was made of other objects is made anew.
+made() { stat -c %y "$dir/out/libwkt.a" "$dir/out/libwkt.so.0" "$dir/out/wkt"; }
+make_dist
+before=$(made)
+make_dist
+[ "$(made)" = "$before" ] || wrong "make makes anew what is right"
+echo "of other objects" > "$dir/out/FROM"
+make_dist
+[ "$(made | sort - <(echo "$before") | uniq -d)" = "" ] || wrong "make leaves what was made of other objects"
+
+# The prefix may come with `install` alone: then the pkg-config file has it, too.
+make_dist install prefix="$dir/there"
+for name in prefix libdir includedir; do
+    case $name in prefix) want=$dir/there ;; libdir) want=$dir/there/lib ;; *) want=$dir/there/include ;; esac
+    has=$(PKG_CONFIG_PATH=$dir/there/lib/pkgconfig pkg-config --variable=$name wkt)
+    [ "$has" = "$want" ] || wrong "wkt.pc: $name is $has, not $want"
+done
+grep -q 'ldconfig' "$dir/said" || wrong "make install doesn't say ldconfig"
+make_dist uninstall prefix="$dir/there"
+left=$(find "$dir/there" ! -type d)
+[ -z "$left" ] || wrong "make uninstall leaves $left"
+make_dist install PREFIX=/usr DESTDIR="$dir/root" LIBDIR=/usr/lib/here
+[ -e "$dir/root/usr/lib/here/libwkt.so.0" ] && [ -x "$dir/root/usr/bin/wkt" ] || wrong "DESTDIR, LIBDIR or PREFIX"
+grep -qx 'prefix=/usr' "$dir/root/usr/lib/here/pkgconfig/wkt.pc" || wrong "wkt.pc names another prefix"
+! grep -q 'ldconfig' "$dir/said" || wrong "ldconfig is said below DESTDIR"
+
+# They run on glibc 2.17 and later, look all their names up before they begin, and write no table of addresses later.
+for file in libwkt.so.0 wkt wktline wktstream; do
+    newest=$(readelf -W --version-info "$dir/out/$file" | grep -o 'GLIBC_[0-9.]*' | sort -u -V | tail -n 1)
+    [ "$(printf '%s\n' GLIBC_2.17 "$newest" | sort -V | tail -n 1)" = GLIBC_2.17 ] || wrong "$file needs $newest"
+    readelf -W -d "$dir/out/$file" | grep -q 'BIND_NOW' || wrong "$file isn't linked with -z now"
+    readelf -W -l "$dir/out/$file" | grep -q 'GNU_RELRO' || wrong "$file isn't linked with -z relro"
+done
+
+# Where the library isn't there, or can't be made, the error names what makes it.
+says() {
+    local words=$1
+    shift
+    ! "$@" > "$dir/said" 2>&1 && grep -q "$words" "$dir/said" || { tail -n 5 "$dir/said"; wrong "$* doesn't say: $words"; }
+}
+cp -r sqlite postgres "$dir"
+rm -f "$dir"/{sqlite,postgres}/*.{o,so}
+for folder in sqlite postgres; do
+    ! skips $folder || continue
+    says 'capi/build.sh in a clone of wkt makes it' make -C "$dir/$folder" WKT_LIB_DIR=/nowhere
+    says 'capi/build.sh in a clone of wkt makes it' env PKG_CONFIG_LIBDIR=/nowhere make -C "$dir/$folder"
+done
+says 'install gcc.*then run capi/build.sh again' env CC=nowhere-gcc capi/build.sh "$dir/none"
+printf '#!/bin/sh\necho riscv64-linux-gnu\n' > "$dir/cc" && chmod 755 "$dir/cc"
+says 'dist/refresh.sh riscv64 proves and builds them' env CC="$dir/cc" WKT_C_LIB=dist capi/build.sh "$dir/none"
+says 'capi/build.sh in a clone of wkt makes it' env WKT_LIB_DIR=/nowhere python3 -c 'import sys; sys.path.insert(0, "python"); import backend; backend.build_wheel(sys.argv[1])' "$dir"
+if ! skips rust; then
+    tests/lib/cargo_home.sh "$dir/cargo" || failed=1
+    says 'capi/build.sh in a clone of wkt makes it' env WKT_LIB_DIR=/nowhere CARGO_HOME="$dir/cargo" CARGO_TARGET_DIR="$dir/target" \
+        cargo build -q --offline --manifest-path rust/Cargo.toml
+fi
+[ $failed = 0 ] && echo "make install, and the words where the library isn't there: as a user wants them"
+exit $failed

@@ -1,0 +1,170 @@
+#!/usr/bin/env python3
+"""Checks the pages: README's size, long sentences, links that lead nowhere, commands that don't exist, counts, API.md.
+
+    tests/gate/pages.py      prints what is wrong, a line each; status 1 where anything is
+"""
+import os
+import re
+import subprocess
+import sys
+
+TOP = os.path.dirname(os.path.dirname(os.path.dirname(os.path.abspath(__file__))))
+README_BYTES = 7 * 1024
+ALL_BYTES = 152 * 1024
+WORDS = 35
+# Made from the sources, so neither read by sentences nor counted.
+MADE = {"docs/API.md"}
+# Programs of the toolchain and of the system that README's commands begin with.
+KNOWN = {
+    "rt",
+    "cd",
+    "cc",
+    "c++",
+    "python3",
+    "pip",
+    "cargo",
+    "printf",
+    "make",
+    "wkt",
+    "wktline",
+    "wktstream",
+    "apt",
+    "sqlite3",
+    "psql",
+    "parallel",
+    "pkg-config",
+    "git",
+}
+
+
+def pages():
+    """The pages of the repository, by their paths."""
+    listed = subprocess.run(["git", "ls-files", "*.md"], cwd=TOP, capture_output=True, text=True, check=True)
+    return listed.stdout.split()
+
+
+def text_of(path):
+    with open(f"{TOP}/{path}", encoding="utf-8") as page:
+        return page.read()
+
+
+def blocks(text):
+    """The code blocks of a page, without their fences."""
+    return re.findall(r"^```[^\n]*\n(.*?)^```", text, re.S | re.M)
+
+
+def sentences(text):
+    """The sentences of a page's running text (no code, tables or headings), which end after a full stop or a colon."""
+    text = re.sub(r"^```.*?^```[^\n]*$", "", text, flags=re.S | re.M)
+    for paragraph in re.split(r"\n\s*\n|^[-*] |^\d+\. ", text, flags=re.M):
+        if re.match(r"\s*[|#<]", paragraph):
+            continue
+        flat = " ".join(paragraph.split())
+        yield from re.split(r"(?<=[.:?!])\s+", flat)
+
+
+def anchors(text):
+    """What a link into a page may name: its headings, as the usual sites write them."""
+    heads = re.findall(r"^#+ (.*)$", text, re.M)
+    return {re.sub(r"[^\w\- ]", "", head.lower()).strip().replace(" ", "-") for head in heads}
+
+
+def lost_links(path, text):
+    """The links of a page that lead nowhere."""
+    for target in re.findall(r"\]\(([^)\s]+)\)", text):
+        if re.match(r"[a-z]+:", target):
+            continue
+        file, _, anchor = target.partition("#")
+        to = os.path.normpath(os.path.join(os.path.dirname(path), file)) if file else path
+        if not os.path.exists(f"{TOP}/{to}"):
+            yield f"{path}: the link {target} leads nowhere"
+        elif anchor and anchor not in anchors(text_of(to)):
+            yield f"{path}: {to} has no heading {anchor}"
+
+
+def commands(text):
+    """The commands of a page's shell blocks, each as its words. In a block of a session they stand after a `$`."""
+    for kind, block in re.findall(r"^```(sh|console)\n(.*?)^```", text, re.S | re.M):
+        for line in block.split("\n"):
+            if kind == "console" and not line.startswith("$ "):
+                continue
+            line = re.sub(r"'[^']*'", "''", re.sub(r"(^|\s)#.*$", "", line.removeprefix("$ ")))
+            for command in re.split(r"&&|\|\||[|;()]", line):
+                words = command.split()
+                while words and re.match(r"\w+=", words[0]):
+                    words = words[1:]
+                if words:
+                    yield words
+
+
+def lost_commands(path, text):
+    """The commands of a page whose program isn't here."""
+    for words in commands(text):
+        program = words[0]
+        if program == "cd":
+            if len(words) > 1 and not os.path.isdir(f"{TOP}/{words[1]}"):
+                yield f"{path}: there is no folder {words[1]}"
+        elif "/" in program:
+            made = "/out/" in program or program.startswith("./")
+            if not made and not os.path.exists(f"{TOP}/{program}"):
+                yield f"{path}: there is no {program}"
+        elif program not in KNOWN:
+            yield f"{path}: {program} is no command that this page may use"
+
+
+def lines_to_believe(*words):
+    """What tests/gate/trusted_lines.py counts: lines and files."""
+    command = [sys.executable, f"{TOP}/tests/gate/trusted_lines.py", *words]
+    said = subprocess.run(command, capture_output=True, text=True, check=True).stdout
+    return re.findall(r"\d+", said.splitlines()[-1])
+
+
+def stale_counts():
+    """The counts of the definitions that a reader has to believe, where a page has others."""
+    lines, files = lines_to_believe()
+    read_lines, read_files = lines_to_believe("--reading")
+    all_lines, all_files = lines_to_believe("--calls")
+    trust = text_of("docs/TRUST.md")
+    for count in (
+        f"{lines} lines of code in {files} files",
+        f"{read_lines} lines in {read_files} files",
+        f"{all_lines} lines in {all_files} files",
+    ):
+        if count not in trust:
+            yield f"docs/TRUST.md: it has to say {count}"
+    if f"the {lines} lines" not in text_of("README.md"):
+        yield f"README.md: it has to say the {lines} lines"
+
+
+def wrong():
+    total = 0
+    for path in pages():
+        text = text_of(path)
+        if path not in MADE:
+            yield from lost_links(path, text)
+            total += len(text.encode())
+    readme = text_of("README.md")
+    size = len(readme.encode())
+    if size > README_BYTES:
+        yield f"README.md: {size} bytes, of {README_BYTES} at most"
+    for sentence in sentences(readme):
+        count = len(sentence.split())
+        if count > WORDS:
+            yield f"README.md: a sentence of {count} words: {sentence[:60]}.."
+    yield from lost_commands("README.md", readme)
+    yield from stale_counts()
+    if total > ALL_BYTES:
+        yield f"all pages: {total} bytes, of {ALL_BYTES} at most"
+    made = subprocess.run([sys.executable, f"{TOP}/tests/gate/api.py"], capture_output=True, text=True, check=True)
+    if made.stdout != text_of("docs/API.md"):
+        yield "docs/API.md: not what tests/gate/api.py makes of the sources"
+
+
+def main():
+    found = list(wrong())
+    print("\n".join(found) if found else f"the pages are in order: {len(pages())} of them")
+    return 1 if found else 0
+
+
+if __name__ == "__main__":
+    sys.exit(main())

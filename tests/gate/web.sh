@@ -1,0 +1,83 @@
+#!/usr/bin/env bash
+# Tests what is made for JavaScript: the module wkt.wasm, the package over it, and the page.
+#
+# It builds the module by web/build.sh, over the libraries that rt ci left, and compares it with dist/wasm/wkt.wasm. WKT_WASM
+# names a module that is built already: WKT_WASM=dist/wasm/wkt.wasm needs nothing of the prover. The package has to give the
+# answers of the native library to 40,000 texts: LIB names it (capi/out/libwkt.so).
+#
+# It needs Node 18 or later, tsc, Python and, for the page, Chromium and Selenium (tests/needs.sh installs them). SKIP=types
+# passes tsc over, SKIP=page the page.
+set -u
+cd "$(dirname "$0")/../.." || exit 1
+fail() { echo "web: $*"; exit 1; }
+skips() { case ",${SKIP:-}," in *",$1,"*) true ;; *) false ;; esac; }
+command -v node > /dev/null || fail "no node: tests/needs.sh installs it"
+skips types || command -v tsc > /dev/null || fail "no tsc: tests/needs.sh installs it"
+lib=$(readlink -f "${LIB:-capi/out/libwkt.so}")
+[ -e "$lib" ] || fail "no native library: $lib"
+dir=$(mktemp -d)
+trap 'rm -rf "$dir"' EXIT
+
+module=${WKT_WASM:-$dir/wkt.wasm}
+[ -n "${WKT_WASM:-}" ] || web/build.sh "$module" || fail "the module isn't built"
+module=$(readlink -f "$module")
+[ -e "$module" ] || fail "no module: $module"
+export WKT_WASM=$module
+# of NAME: what dist/wasm says of itself
+of() { sed -n "s/^$1  *//p" dist/wasm/PROVENANCE 2> /dev/null; }
+if cmp -s "$module" dist/wasm/wkt.wasm; then
+    echo "web: the module has the bytes of dist/wasm"
+elif [ "$(git rev-parse HEAD:crates) $(git rev-parse HEAD:crates.txt)" = "$(of crates) $(of crates.txt)" ]; then
+    fail "these sources gave another module than dist/wasm has"
+else
+    echo "web: dist/wasm has the module of other sources"
+fi
+
+# No regular expression runs over a text, where it may take time that grows faster than the text: the sources have none.
+! grep -nE '[(=,:] */[^/*].*/[a-z]*[,;.)]|RegExp|\.(match|matchAll|search)\(' javascript/src/*.js || fail "a regular expression"
+
+# The answers of the native library, while the types are checked.
+export WKT_NATIVE=$dir/native
+WKT_LIB=$lib python3 javascript/test/native.py 40000 > "$WKT_NATIVE" &
+writing=$!
+
+# The package as it is given away, where nothing of the repository is.
+package=$(javascript/pack.sh "$module" "$dir") || fail "pack.sh"
+app=$dir/app
+mkdir -p "$app/node_modules/wkt-proved"
+tar -C "$app/node_modules/wkt-proved" --strip-components=1 -xzf "$package"
+for name in package.json README.md LICENSE-MIT LICENSE-APACHE NOTICE wkt.wasm src/index.js src/index.d.ts; do
+    [ -s "$app/node_modules/wkt-proved/$name" ] || fail "the package has no $name"
+done
+echo '{ "type": "module" }' > "$app/package.json"
+cp javascript/test/types.ts "$app"
+echo "import { load } from 'wkt-proved'; console.log((await load()).canonical('point ( 1 2.50 )'));" > "$app/app.js"
+[ "$(cd "$app" && node app.js)" = "POINT(1 2.5)" ] || fail "the package by its name"
+echo "web: $(basename "$package"): $(stat -c %s "$package") bytes, called by its name"
+# types WORD..: the compiler of TypeScript finds the package so, and has no word about it
+types() { (cd "$app" && tsc --strict --noEmit --target es2022 --lib es2022,dom,dom.iterable "$@" types.ts) || fail "types: $*"; }
+if ! skips types; then
+    types --module node16 --moduleResolution node16
+    types --module es2022 --moduleResolution node
+    echo "web: types: no word of tsc $(tsc --version | tr -dc 0-9.) --strict"
+fi
+
+wait $writing || fail "native.py"
+node --test --test-reporter=tap javascript/test/*.test.js > "$dir/said" 2>&1 || { grep -E -A 24 '^ *not ok' "$dir/said"; fail "the tests of the package"; }
+grep -q '^# skipped 0$' "$dir/said" || { grep SKIP "$dir/said"; fail "a test was skipped"; }
+echo "web: node $(node --version): $(sed -n 's/^# pass //p' "$dir/said") tests of the package passed"
+# The example of docs/CALLING.md, which takes the module of the clone.
+if [ -e dist/wasm/wkt.wasm ]; then
+    example=$(sed -n '/^```js$/,/^```$/{//!p}' docs/CALLING.md)
+    [ "$(node --input-type=module -e "$example" | head -n 1)" = "POINT(1 2.5)" ] || fail "the example of docs/CALLING.md"
+fi
+
+if ! skips page; then
+    said=$(javascript/test/browser.py "$app/node_modules/wkt-proved" 2>&1) || { echo "$said"; fail "the package in Chromium"; }
+    echo "web: $said"
+fi
+if [ -e web/make.py ] && ! skips page; then
+    node --test --test-reporter=tap web/ > "$dir/said" 2>&1 || { cat "$dir/said"; fail "the parts of the page"; }
+    web/make.py --module "$module" "$dir/index.html" && web/test.py "$dir/index.html" || fail "the page"
+    if [ -e dist/web/index.html ] && cmp -s "$module" dist/wasm/wkt.wasm; then web/make.py --check || fail "the page in dist/web"; fi
+fi
