@@ -31,6 +31,7 @@ chosen = os.environ.get("OPERATIONS", "").split()
 # A row: the operation, the one before it, the type of the numbers, and what is called.
 ROWS = [
     ("parse", "lines", "decimal", "`from_str`"),
+    ("whole", "lines", "decimal", "`read_whole`"),
     ("to_string", "parse", "decimal", "`to_string`"),
     ("display", "parse", "decimal", "`Display`"),
     ("push", "parse", "decimal", "`push_geometry`"),
@@ -54,8 +55,8 @@ LINE_ROWS = [
     ("canonical", "lines", "decimal", "`canonical_text`"),
     ("flat", "lines", "decimal", "`try_from_wkt_str`"),
 ]
-# What the crate doesn't let its users call.
-PRIVATE = ["tokens"]
+# What the crate doesn't have, or doesn't let its users call.
+PRIVATE = ["tokens", "whole"]
 
 
 @lru_cache(maxsize=None)

@@ -167,7 +167,7 @@ int wkt_supported(void);
 const char *wkt_message(wkt_status status);
 
 /* Of a text that begins with no geometry the message is proved to be that of the table in docs/GRAMMAR.md; 14 never
- * comes. After WKT_TOO_SMALL *needed and the other results that are no buffers are set. WKT_NULL is of a row alone. A
+ * comes. After WKT_TOO_SMALL *needed and the other non-buffer results are set. WKT_NULL is of a row alone. A
  * coordinate has 2, 3, 3 and 4 numbers, by its dimension. */
 
 /* The canonical text of the geometry that the text begins with. *end: where the geometry ends in the text; what

@@ -29,7 +29,7 @@ GEOMETRYCOLLECTION(POINT(1 2),GEOMETRYCOLLECTION(LINESTRING(0 0,1 1)))
 GEOMETRYCOLLECTION EMPTY
 TEXTS
 is "no SRID comes in" "POINT(1 2)" "$(ask places "select ST_SetSRID('POINT(1 2)'::geometry, 4326)::wkt")"
-is "no SRID goes out" 0 "$(ask places "select ST_SRID('POINT(1 2)'::wkt::geometry)")"
+is "the geometry has no SRID" 0 "$(ask places "select ST_SRID('POINT(1 2)'::wkt::geometry)")"
 is "a modifier" "POINT(1.5 2)" "$(ask places "select ST_MakePoint(1.5, 2)::wkt(1)")"
 is "rounded by PostGIS" "POINT(0.3 0.333333)" "$(ask places "select ST_AsText(ST_MakePoint(0.1 + 0.2::float8, 1 / 3::float8), 6)::wkt(6)")"
 is "null" "" "$(ask places "select null::geometry::wkt, null::wkt::geometry" | tr -d '|')"

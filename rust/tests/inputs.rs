@@ -51,7 +51,7 @@ fn streams() {
     assert_eq!(error.kind(), io::ErrorKind::InvalidInput);
 }
 
-/// Fails once so many bytes are out.
+/// Fails after that many bytes were written.
 struct Full(usize);
 
 impl Write for Full {

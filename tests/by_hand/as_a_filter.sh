@@ -118,7 +118,7 @@ put('longest', 'POINT(1 2)\nPOINT(3 4)' + ' ' * 100_000_000 + '\n' + 'x' * 100_0
 put('longest_answers', 'POINT(1 2)\nPOINT(3 4)\nrefused\nPOINT(5 6)\n')
 P
 
-# cases NAME READ WRITES LONG: what both do; what is out after the second read failed, and how many writes three lines
+# cases NAME READ WRITES LONG: what both do; what was written when the second read failed, and how many writes three lines
 # and one of 412 bytes take
 cases() {
 name=$1
@@ -204,7 +204,7 @@ echo "${PIPESTATUS[1]}" > "$dir/status"
 same "an input that stops for a second within a line" "$dir/three_answers"
 
 run bash -c "ulimit -v 50000; exec $program < $dir/wide"
-says "out of memory: the answers to the lines before are out" "1 | POINT(1 2) | wkt: out of memory"
+says "out of memory: the answers to the lines before were written" "1 | POINT(1 2) | wkt: out of memory"
 
 for stack in 8192 256; do
   for case in open open_but_one points_before points_behind side_by_side; do

@@ -31,7 +31,6 @@ KNOWN = {
     "apt",
     "sqlite3",
     "psql",
-    "parallel",
     "pkg-config",
     "git",
 }

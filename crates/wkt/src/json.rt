@@ -21,7 +21,7 @@ use std::fmt::Display;
 use thiserror::Error;
 use wkt_convert::mismatch;
 use wkt_flat::{Geometry, Point};
-use wkt_machine::FromWktStr;
+use wkt_machine::read_text;
 use wkt_num::WktNum;
 use wkt_read::ReadError;
 use wkt_types::{ConvertError, Wkt};
@@ -62,8 +62,8 @@ pub fn wkt_from_value<T: WktNum>(
         (λ text r. (v end : _) → Front T.read text v end → NeedsNoMemory v → IsOk r) }
 {
     match value.as_str() {
-        Some(text) => match Wkt::<T>::from_str(alloc, text) {
-            Ok(geometry) => Ok(geometry),
+        Some(text) => match read_text::<T>(alloc, text) {
+            Ok((geometry, _)) => Ok(geometry),
             Err(error) => Err(ValueError::Fault(error)),
         },
         None => Err(ValueError::NotAString),

@@ -10,7 +10,7 @@ ghost use Rattle.wkt.specs.WholeText.{IsWhole, HasRest, OnUnread, OnRest};
 
 use std::alloc::Global;
 use thiserror::Error;
-use wkt_machine::FromWktStr;
+use wkt_machine::read_text;
 use wkt_num::WktNum;
 use wkt_read::ReadError;
 use wkt_read::words::is_blank;
@@ -48,7 +48,7 @@ pub fn read_whole<T: WktNum>(alloc: Global, text: &str) -> Result<Wkt<T>, WholeE
     ensures refusal { OnUnread result (λ r. IfText r (IsTextRefused T.read text.now)) }
     ensures free { (v end : _) → Front T.read text.now v end → NeedsNoMemory v → OnUnread result (λ r. ⊥) }
 {
-    match Wkt::<T>::read_front(alloc, text) {
+    match read_text::<T>(alloc, text) {
         Ok((geometry, end)) => {
             if is_blank(&text.as_bytes()[end..]) {
                 Ok(geometry)

@@ -13,7 +13,6 @@ use Rattle.wkt_types.specs.Tree.{tree}
 use Rattle.wkt_types.specs.Values.{value_of, point_numbers, line_string_numbers, polygon_numbers}
 use Rattle.wkt_types.specs.declared.coord.Coord.{Coord}
 use Rattle.wkt_types.specs.declared.geometry.Wkt.TheVariants as variants
-use Rattle.wkt_read.proofs.ParserLemmas.Many.{all-push}
 use Rattle.wkt_c.proofs.PartsOf.{tree-point, tree-line_string, tree-polygon, tree-multi_point, tree-multi_line_string, tree-multi_polygon}
 
 module _ (D : ℕ) (d : Dimension) (out : List ℤ) (x y : ℤ) (ux : IsUnits D x) (uy : IsUnits D y) where
@@ -25,6 +24,10 @@ module _ (D : ℕ) (d : Dimension) (out : List ℤ) (x y : ℤ) (ux : IsUnits D 
 
   pub fits-four : (z m : ℤ) → IsUnits D z → IsUnits D m → out ≡ x ∷ y ∷ z ∷ m ∷ [] → size d ≡ 4 → CoordFits (IsUnits D) d out
   fits-four z m uz um e s = subst (CoordFits (IsUnits D) d) (sym e) ((ux, (uy, (uz, (um, tt)))), omega (arith, s))
+
+all-push : {A : Type 0} (P : A → Type 0) (xs : List A) (x : A) → AllByRecursion P xs → P x → AllByRecursion P (xs ++ x ∷ [])
+all-push P [] x h p = (p, tt)
+all-push P (y ∷ xs) x h p = (h.0, all-push P xs x h.1 p)
 
 -- one part more
 pub all-more : {X A : Type 0} (P : A → Type 0) (f : X → A) (xs ys : List X) (x : X) → AllByRecursion P (map f xs) → P (f x) → ys ≡ xs ++ x ∷ [] → AllByRecursion P (map f ys)

@@ -6,11 +6,10 @@ use Rattle.wkt_access.specs.declared.dimensions.Dimension.{Dimension}
 use Rattle.wkt_access.specs.Values.{size, Value, Values}
 use Rattle.wkt_types.specs.declared.geometry_type.GeometryType.{GeometryType}
 use Rattle.wkt_types.specs.declared.geometry_type.GeometryType.TheVariants as kind
-use Rattle.wkt_read.specs.Parser.Outcome.{Outcome, Reader, ◌>>=◌, opening_at, framed, closed, many_at, header_at, body_at, geometry_at as value_at, is_empty_word, members_read}
+use Rattle.wkt_read.specs.Parser.Outcome.{Outcome, Reader, ◌>>=◌, opening_at, framed, closed, many_at, header_at, body_at, geometry_at as value_at, is_empty_word, members_read, shut_at}
 use Rattle.wkt_read.specs.Parser.Outcome as outcome
 use Rattle.wkt_read.specs.declared.messages.Message.{Message}
 use Rattle.wkt_read.specs.declared.messages.Message.TheVariants as message
-use Rattle.wkt_read.specs.Parser.Frames.{shut_at}
 use Rattle.wkt_events.specs.declared.builder.At.{At}
 use Rattle.wkt_events.specs.declared.builder.Part.TheVariants as part
 use Rattle.wkt_events.specs.Left.{left}

@@ -4,9 +4,8 @@ use Rattle.std.specs.Result.{IsErr}
 use Rattle.wkt_num.specs.Bytes.{Lexeme, Close, Comma}
 use Rattle.wkt_access.specs.declared.dimensions.Dimension.{Dimension}
 use Rattle.wkt_access.specs.Values.{Value}
-use Rattle.wkt_read.specs.Parser.Outcome.{Outcome, ◌>>=◌, with_front, closing_at, closed, tail_at, many_at, geometry_at as value_at, members_read}
+use Rattle.wkt_read.specs.Parser.Outcome.{Outcome, ◌>>=◌, with_front, closing_at, closed, tail_at, many_at, geometry_at as value_at, members_read, shut_at}
 use Rattle.wkt_read.specs.declared.messages.Message.{Message}
-use Rattle.wkt_read.specs.Parser.Frames.{shut_at}
 use Rattle.wkt_events.specs.Events.{Event, events}
 use Rattle.wkt_events.specs.Left.{BeginsOther}
 use Rattle.wkt_events.specs.Whole.{opening_made, comma_made, closing_made, members_made, put_in, Nest}

@@ -5,8 +5,7 @@ use Rattle.wkt_access.specs.declared.dimensions.Dimension.{Dimension}
 use Rattle.wkt_access.specs.Values.{Value}
 use Rattle.wkt_types.specs.declared.geometry_type.GeometryType.{GeometryType}
 use Rattle.wkt_types.specs.declared.geometry_type.GeometryType.TheVariants as kind
-use Rattle.wkt_read.specs.Parser.Outcome.{Outcome, ◌>>=◌, with_front, tail_at, many_at, geometry_at as value_at}
-use Rattle.wkt_read.specs.Parser.Frames.{shut_at}
+use Rattle.wkt_read.specs.Parser.Outcome.{Outcome, ◌>>=◌, with_front, tail_at, many_at, geometry_at as value_at, shut_at}
 use Rattle.wkt_events.specs.declared.builder.At.{At}
 use Rattle.wkt_events.specs.declared.builder.Part.TheVariants as part
 use Rattle.wkt_events.specs.declared.walk.Started.{Started}

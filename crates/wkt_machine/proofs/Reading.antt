@@ -1,5 +1,5 @@
 -- What is read off tokens, by what the machine took of them.
-use Rattle.std.proofs.Common.{◌≡◌, ℕ, ◌≤◌, ◌<◌, List, [], ◌∷◌, ◌++◌, length, refl, sym, ap, ◌∙◌, subst, append_assoc, arith, Option, Some, None, Result, Ok, Err, false}
+use Rattle.std.proofs.Common.{◌≡◌, ℕ, ◌<◌, List, [], ◌∷◌, ◌++◌, length, refl, sym, ap, ◌∙◌, subst, append_assoc, arith, Option, Result, Ok, Err, false}
 use Rattle.std.specs.Prelude.{IfOk}
 use Rattle.std.specs.declared.alloc.AllocError.{AllocError}
 use Rattle.wkt_num.specs.Bytes.{Lexeme}
@@ -15,7 +15,7 @@ use Rattle.wkt_read.specs.Front.{NeedsNoMemory}
 use Rattle.wkt_read.specs.Items.{bad_number}
 use Rattle.wkt_read.specs.Messages.{message_text}
 use Rattle.wkt_read.specs.Parser.Outcome.{value_at}
-use Rattle.wkt_read.specs.Placed.{Placed, lexemes_of, end_after, AreEnds}
+use Rattle.wkt_read.specs.Placed.{Placed, lexemes_of, AreEnds}
 use Rattle.wkt_read.specs.Refusal.{IsRefused as SaysOf, IfText}
 use Rattle.wkt_read.specs.Standing.{Standing}
 use Rattle.wkt_read.specs.declared.error.ReadError.{ReadError}
@@ -28,11 +28,11 @@ use Rattle.wkt_read.proofs.ParserLemmas.Answering.{rest-is, some-taken, to-front
 use Rattle.wkt_read.proofs.ParserLemmas.Blamed.{bad_here}
 use Rattle.wkt_read.proofs.ParserLemmas.Early.{error_early}
 use Rattle.wkt_read.proofs.ParserLemmas.Free.{none_begins}
-use Rattle.wkt_machine.specs.Drives.{start, is_over}
 use Rattle.wkt_machine.specs.Goes.{IsStuck}
 use Rattle.wkt_machine.specs.Machines.{state_of}
 use Rattle.wkt_machine.specs.Refusing.{refused}
 use Rattle.wkt_machine.specs.TokensView.{tokens_view}
+use Rattle.wkt_machine.specs.View.{View}
 use Rattle.wkt_machine.specs.Values.{Takes, IsRead, IsRefused, OnMemory, OnRefused, WantsMemory}
 use Rattle.wkt_machine.specs.declared.machine.Machine.{Machine}
 use Rattle.wkt_machine.specs.declared.tokens.OneByOne.{OneByOne}
@@ -47,76 +47,80 @@ use Rattle.wkt_machine.proofs.Walking.{IsStuckAt, refused_as}
 is-bad : (m : Message) → message_text m ≡ bad_number → m ≡ message.BadNumber
 is-bad m = one-text m message.BadNumber
 
+-- how tokens that are lent are seen
+abbrev lent : {T : Type 0} → (List ℕ → Option T) → View (OneByOne T)
+lent read = tokens_view read
+
 rest-append : (s : Standing) (given more : List Placed) → left s ≡ given ++ more → rest s ≡ lexemes_of given ++ lexemes_of more
 rest-append s given more e = rest-is s (given ++ more) e ∙ lexemes_append given more
 
 module _ {T : Type 0} (read : List ℕ → Option T) (a b : OneByOne T) where
-  takes_begins : (v : Value T) → Takes read (tokens_view read) a v b → Begins read (rest a.tokens) v (rest b.tokens)
+  takes_begins : (v : Value T) → Takes read (lent read) a v b → Begins read (rest a.tokens.now) v (rest b.tokens.now)
   takes_begins v h =
       let given : List Placed = h.given ++ (h.last ∷ []) in
-      (lexemes_of given, rest-append a.tokens given (left b.tokens) (h.split ∙ sym (append_assoc h.given (h.last ∷ []) (left b.tokens))) ∙ ap (λ l. lexemes_of given ++ l) (sym (rest-is b.tokens (left b.tokens) refl)), h.stands)
+      (lexemes_of given, rest-append a.tokens.now given (left b.tokens.now) (h.split ∙ sym (append_assoc h.given (h.last ∷ []) (left b.tokens.now))) ∙ ap (λ l. lexemes_of given ++ l) (sym (rest-is b.tokens.now (left b.tokens.now) refl)), h.stands)
 
   -- what is read
-  pub read_found : (w : Tree T) → IsRead read (tokens_view read) a w b → IsReadOff read (rest a.tokens) w (rest b.tokens)
+  pub read_found : (w : Tree T) → IsRead read (lent read) a w b → IsReadOff read (rest a.tokens.now) w (rest b.tokens.now)
   read_found w (v, takes, is) = (v, takes_begins v takes, is)
 
-  pub read_taken : (w : Tree T) → IsRead read (tokens_view read) a w b → length (rest b.tokens) < length (rest a.tokens)
-  read_taken w (v, takes, is) = some-taken read (rest a.tokens) v (rest b.tokens) (takes_begins v takes)
+  pub read_taken : (w : Tree T) → IsRead read (lent read) a w b → length (rest b.tokens.now) < length (rest a.tokens.now)
+  read_taken w (v, takes, is) = some-taken read (rest a.tokens.now) v (rest b.tokens.now) (takes_begins v takes)
 
-  pub takes_advances : (v : Value T) → Takes read (tokens_view read) a v b → Advances a.tokens b.tokens
+  pub takes_advances : (v : Value T) → Takes read (lent read) a v b → Advances a.tokens.now b.tokens.now
   takes_advances v h = record {
     given = h.given ++ (h.last ∷ []);
-    split = h.split ∙ sym (append_assoc h.given (h.last ∷ []) (left b.tokens));
-    end = h.place.0 ∙ sym (end_last (end_of a.tokens) h.given h.last);
-    grows = h.keeps (taken_of a.tokens) (omega arith);
+    split = h.split ∙ sym (append_assoc h.given (h.last ∷ []) (left b.tokens.now));
+    end = h.place.0 ∙ sym (end_last (end_of a.tokens.now) h.given h.last);
+    grows = h.keeps (taken_of a.tokens.now) (omega arith);
   }
 
-  pub read_near : (w : Tree T) → IsRead read (tokens_view read) a w b → IsNear b.tokens
+  pub read_near : (w : Tree T) → IsRead read (lent read) a w b → IsNear b.tokens.now
   read_near w (v, takes, is) = takes.place.1
 
   -- there is no memory
-  pub wants_free : WantsMemory read (tokens_view read) a b → (v : Value T) (after : List Lexeme) → Begins read (rest a.tokens) v after → NeedsNoMemory v → ⊥
+  pub wants_free : WantsMemory read (lent read) a b → (v : Value T) (after : List Lexeme) → Begins read (rest a.tokens.now) v after → NeedsNoMemory v → ⊥
   wants_free (w, takes, wants) v after (f, split, g) free =
       let (k, split2, stands) = takes_begins w takes in
-      let one = geometry_one read v w f k after (rest b.tokens) g stands (sym split ∙ split2) in
+      let one = geometry_one read v w f k after (rest b.tokens.now) g stands (sym split ∙ split2) in
       wants (subst NeedsNoMemory one.value free)
 
   -- no geometry comes next
-  module _ (m : Machine) (h : IsRefused read (tokens_view read) a m b) where
-    pub refused_advances : Advances a.tokens b.tokens
-    refused_advances = record { given = h.taken; split = h.split; end = h.behind (end_of a.tokens) refl; grows = h.keeps (taken_of a.tokens) (omega arith) }
+  module _ (m : Machine) (h : IsRefused read (lent read) a m b) where
+    pub refused_advances : Advances a.tokens.now b.tokens.now
+    refused_advances = record { given = h.taken; split = h.split; end = h.behind (end_of a.tokens.now) refl; grows = h.keeps (taken_of a.tokens.now) (omega arith) }
 
     stuck_at : (ps : List Placed) → IsStuck read m ps → IsStuckAt read (state_of m) (lexemes_of ps)
     stuck_at [] k = tt
     stuck_at (p ∷ ps) k = k
 
-    pub refused_reads : value_at read (length (rest a.tokens)) false (rest a.tokens) ≡ Err (refused read (state_of m) (rest b.tokens))
+    pub refused_reads : value_at read (length (rest a.tokens.now)) false (rest a.tokens.now) ≡ Err (refused read (state_of m) (rest b.tokens.now))
     refused_reads =
-        let there : rest b.tokens ≡ lexemes_of (left b.tokens) = rest-is b.tokens (left b.tokens) refl in
-        let split = rest-append a.tokens h.taken (left b.tokens) h.split in
-        subst (λ r. value_at read (length (rest a.tokens)) false (rest a.tokens) ≡ Err (refused read (state_of m) r)) (sym there)
-        (refused_as read (lexemes_of h.taken) (lexemes_of (left b.tokens)) (rest a.tokens) (state_of m) h.events split h.ran h.is_open (stuck_at (left b.tokens) (h.stuck 0 (omega arith))))
+        let there : rest b.tokens.now ≡ lexemes_of (left b.tokens.now) = rest-is b.tokens.now (left b.tokens.now) refl in
+        let split = rest-append a.tokens.now h.taken (left b.tokens.now) h.split in
+        subst (λ r. value_at read (length (rest a.tokens.now)) false (rest a.tokens.now) ≡ Err (refused read (state_of m) r)) (sym there)
+        (refused_as read (lexemes_of h.taken) (lexemes_of (left b.tokens.now)) (rest a.tokens.now) (state_of m) h.events split h.ran h.is_open (stuck_at (left b.tokens.now) (h.stuck 0 (omega arith))))
 
     -- the message, and what is left behind it
-    module _ (k : Message) (after : Standing) (is : (k, rest after) ≡ refused read (state_of m) (rest b.tokens)) where
-      pub said : value_at read (length (rest a.tokens)) false (rest a.tokens) ≡ Err (k, rest after)
+    module _ (k : Message) (after : Standing) (is : (k, rest after) ≡ refused read (state_of m) (rest b.tokens.now)) where
+      pub said : value_at read (length (rest a.tokens.now)) false (rest a.tokens.now) ≡ Err (k, rest after)
       said = refused_reads ∙ ap (λ r. Err r) (sym is)
 
-      pub none_there : NoneBegins read (rest a.tokens)
-      none_there = none_begins read (length (rest a.tokens)) false (rest a.tokens) (k, rest after) (omega arith) said
+      pub none_there : NoneBegins read (rest a.tokens.now)
+      none_there = none_begins read (length (rest a.tokens.now)) false (rest a.tokens.now) (k, rest after) (omega arith) said
 
-      pub early_there : StopsEarly read (rest a.tokens) (rest after)
-      early_there = error_early read (length (rest a.tokens)) false (rest a.tokens) (k, rest after) (omega arith) said
+      pub early_there : StopsEarly read (rest a.tokens.now) (rest after)
+      early_there = error_early read (length (rest a.tokens.now)) false (rest a.tokens.now) (k, rest after) (omega arith) said
 
-      pub bad_there : (text : List ℕ) → text ≡ message_text k → text ≡ bad_number → HasBad read (rest a.tokens)
-      bad_there text says bad = bad_here read (length (rest a.tokens)) false (rest a.tokens) (rest after) k said (is-bad k (sym says ∙ bad))
+      pub bad_there : (text : List ℕ) → text ≡ message_text k → text ≡ bad_number → HasBad read (rest a.tokens.now)
+      bad_there text says bad = bad_here read (length (rest a.tokens.now)) false (rest a.tokens.now) (rest after) k said (is-bad k (sym says ∙ bad))
 
-      pub refusal_there : (text : List ℕ) → text ≡ message_text k → SaysOf read (rest a.tokens) text (rest after)
+      pub refusal_there : (text : List ℕ) → text ≡ message_text k → SaysOf read (rest a.tokens.now) text (rest after)
       refusal_there text says = (k, says, said)
 
 -- what an answer says of its case
-off_ok : {X : Type 0} (P : X → Type 0) (x : X) (r : Result X Unread) → r ≡ Ok x → IfOk r P → P x
-off_ok P x r e h = subst (λ r. IfOk r P) e h
+pub if_ok : {X E : Type 0} (P : X → Type 0) (x : X) (r : Result X E) → r ≡ Ok x → IfOk r P → P x
+if_ok P x r e h = subst (λ r. IfOk r P) e h
 
 off_memory : {X : Type 0} (P : Type 0) (x : AllocError) (u : Unread) (r : Result X Unread) → r ≡ Err u → u ≡ Unmade x → OnMemory r P → P
 off_memory {X} P x u r e is h = subst (λ u. OnMemory {X = X} (Err u) P) is (subst (λ r. OnMemory r P) e h)
@@ -125,13 +129,13 @@ off_refused : {X : Type 0} (P : Machine → Type 0) (m : Machine) (u : Unread) (
 off_refused {X} P m u r e is h = subst (λ u. OnRefused {X = X} (Err u) P) is (subst (λ r. OnRefused r P) e h)
 
 -- The same where the code has it: the source over the tokens at `s` is read, and its tokens are at `t`.
-module _ {T : Type 0} (read : List ℕ → Option T) (a b : OneByOne T) (s t : Standing) (before : a.tokens ≡ s) (behind : t ≡ b.tokens) (r : Result (Wkt T) Unread) where
-  there : (P : Standing → Standing → Type 0) → P a.tokens b.tokens → P s t
-  there P h = subst (λ s. P s t) before (subst (P a.tokens) (sym behind) h)
+module _ {T : Type 0} (read : List ℕ → Option T) (a b : OneByOne T) (s t : Standing) (before : a.tokens.now ≡ s) (behind : t ≡ b.tokens.now) (r : Result (Wkt T) Unread) where
+  there : (P : Standing → Standing → Type 0) → P a.tokens.now b.tokens.now → P s t
+  there P h = subst (λ s. P s t) before (subst (P a.tokens.now) (sym behind) h)
 
-  module _ (w : Wkt T) (is : r ≡ Ok w) (h : IfOk r (λ w. IsRead read (tokens_view read) a (tree w) b)) where
-    off : IsRead read (tokens_view read) a (tree w) b
-    off = off_ok (λ w. IsRead read (tokens_view read) a (tree w) b) w r is h
+  module _ (w : Wkt T) (is : r ≡ Ok w) (h : IfOk r (λ w. IsRead read (lent read) a (tree w) b)) where
+    off : IsRead read (lent read) a (tree w) b
+    off = if_ok (λ w. IsRead read (lent read) a (tree w) b) w r is h
 
     pub ok_found : IsReadOff read (rest s) (tree w) (rest t)
     ok_found = there (λ s t. IsReadOff read (rest s) (tree w) (rest t)) (read_found read a b (tree w) off)
@@ -146,9 +150,9 @@ module _ {T : Type 0} (read : List ℕ → Option T) (a b : OneByOne T) (s t : S
     ok_near = there (λ s t. IsNear t) (read_near read a b (tree w) off)
 
   module _ (u : Unread) (is : r ≡ Err u) where
-    module _ (x : AllocError) (unmade : u ≡ Unmade x) (h : OnMemory r (WantsMemory read (tokens_view read) a b)) where
-      wants : WantsMemory read (tokens_view read) a b
-      wants = off_memory (WantsMemory read (tokens_view read) a b) x u r is unmade h
+    module _ (x : AllocError) (unmade : u ≡ Unmade x) (h : OnMemory r (WantsMemory read (lent read) a b)) where
+      wants : WantsMemory read (lent read) a b
+      wants = off_memory (WantsMemory read (lent read) a b) x u r is unmade h
 
       pub memory_free : (v : Value T) (after : List Lexeme) → Begins read (rest s) v after → NeedsNoMemory v → ⊥
       memory_free = there (λ s t. (v : Value T) (after : List Lexeme) → Begins read (rest s) v after → NeedsNoMemory v → ⊥) (wants_free read a b wants)
@@ -156,16 +160,16 @@ module _ {T : Type 0} (read : List ℕ → Option T) (a b : OneByOne T) (s t : S
       pub memory_advances : Advances s t
       memory_advances = let (v, takes, needs) = wants in there Advances (takes_advances read a b v takes)
 
-    module _ (m : Machine) (stuck : u ≡ Refused m) (h : OnRefused r (λ m. IsRefused read (tokens_view read) a m b)) where
-      at_stuck : IsRefused read (tokens_view read) a m b
-      at_stuck = off_refused (λ m. IsRefused read (tokens_view read) a m b) m u r is stuck h
+    module _ (m : Machine) (stuck : u ≡ Refused m) (h : OnRefused r (λ m. IsRefused read (lent read) a m b)) where
+      at_stuck : IsRefused read (lent read) a m b
+      at_stuck = off_refused (λ m. IsRefused read (lent read) a m b) m u r is stuck h
 
       pub stuck_advances : (after : Standing) → Advances t after → Advances s after
       stuck_advances after more = advances_then s t after (there Advances (refused_advances read a b m at_stuck)) more
 
       -- the message, and what is left behind it
       module _ (k : Message) (after : Standing) (says : (k, rest after) ≡ refused read (state_of m) (rest t)) where
-        said_there : (k, rest after) ≡ refused read (state_of m) (rest b.tokens)
+        said_there : (k, rest after) ≡ refused read (state_of m) (rest b.tokens.now)
         said_there = says ∙ ap (λ (t : Standing). refused read (state_of m) (rest t)) behind
 
         pub stuck_none : NoneBegins read (rest s)

@@ -1,10 +1,10 @@
 -- The tokens that are taken where they are refused.
-use Rattle.std.proofs.Common.{◌≡◌, ◌≤◌, ℕ, zero, suc, ◌+◌, List, [], ◌∷◌, ◌++◌, append_assoc, refl, sym, ap, ◌∙◌, subst, arith, Option, Some, None, Result, Bool, true, false, if◌then◌else◌}
+use Rattle.std.proofs.Common.{◌≡◌, ◌≤◌, ℕ, zero, suc, ◌+◌, List, [], ◌∷◌, ◌++◌, append_assoc, refl, sym, ap, ◌∙◌, subst, arith, Option, Some, None, Result, true, false, if◌then◌else◌}
 use Rattle.std.specs.Borrow.{Bor}
-use Rattle.wkt_num.specs.Bytes.{Lexeme, Open, Close, Comma, Word, Num}
+use Rattle.wkt_num.specs.Bytes.{Lexeme, Open}
 use Rattle.wkt_read.specs.Ahead.{left, rest, end_of, taken_of, first_of, Moves, GivesAhead, Advances}
 use Rattle.wkt_read.specs.Items.{IsItem}
-use Rattle.wkt_read.specs.Placed.{Placed, lexemes_of, end_after}
+use Rattle.wkt_read.specs.Placed.{lexemes_of, end_after}
 use Rattle.wkt_read.specs.Standing.{Standing}
 use Rattle.wkt_read.specs.declared.messages.Message.{Message}
 use Rattle.wkt_read.specs.declared.tokenizer.tokens.Token.{Token}

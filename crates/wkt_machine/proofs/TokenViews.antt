@@ -32,23 +32,23 @@ x_sound m e = subst (λ k. HasNext k m.dim) (sym e) tt
 
 module _ {T : Type 0} (read : List ℕ → Option T) where
   -- the lexeme that comes next is skipped
-  pub skips : (s t : OneByOne T) → Passes s t → sight (left s.tokens) ≢ seen.Other → Skips (tokens_view read) s t
+  pub skips : (s t : OneByOne T) → Passes s t → sight (left s.tokens.now) ≢ seen.Other → Skips (tokens_view read) s t
   skips s t (None, h) some = absurd (some (ap sight h.0))
   skips s t (Some l, h) some = record {
-    lexeme = record { lexeme = l; end = end_of t.tokens };
+    lexeme = record { lexeme = l; end = end_of t.tokens.now };
     left = h.0;
     place = (refl, record { low = h.1; high = h.2 });
     keeps = λ j k. let more = h.3 in omega (arith, k, more);
   }
 
   -- the number that comes next is taken, and made
-  module _ {B : Type 0} (maker : Maker T B) (s t : OneByOne T) (b c : B) (axis : Axis) (x : T) (looked : s.number ≡ number_next read (left s.tokens)) (is : s.number ≡ Some x) (made : maker.makes b (Event.Number axis x ∷ []) c) where
+  module _ {B : Type 0} (maker : Maker T B) (s t : OneByOne T) (b c : B) (axis : Axis) (x : T) (looked : s.number ≡ number_next read (left s.tokens.now)) (is : s.number ≡ Some x) (made : maker.makes b (Event.Number axis x ∷ []) c) where
     pub numbers : Passes s t → Numbers read (tokens_view read) maker s b axis t c
     numbers (None, h) = let clash : ◌≡◌ {A = Option T} (Some x) None = sym is ∙ looked ∙ ap (number_next read) h.0 in cc
     numbers (Some (Num run), h) = record {
       run = run;
       number = x;
-      end = end_of t.tokens;
+      end = end_of t.tokens.now;
       left = h.0;
       place = (refl, record { low = h.1; high = h.2 });
       keeps = λ j k. let more = h.3 in omega (arith, k, more);

@@ -1,15 +1,13 @@
 -- The machine is where a walk of `wkt_explain` is over the same lexemes, so that what is known of a refusal there holds here.
 use Rattle.std.proofs.Common.{◌≡◌, ◌-◌, ℕ, zero, suc, ◌+◌, List, [], ◌∷◌, ◌++◌, length, refl, sym, ap, ◌∙◌, subst, append_assoc, append-nil, arith, Option, Some, None, Err, Bool, true, false, cond}
 use Rattle.std.specs.Borrow.{Bor}
-use Rattle.wkt_num.specs.Bytes.{Lexeme, Open, Close, Comma, Word, Num}
+use Rattle.wkt_num.specs.Bytes.{Lexeme}
 use Rattle.wkt_access.specs.declared.dimensions.Dimension.{Dimension}
 use Rattle.wkt_access.specs.declared.dimensions.Dimension.TheVariants.{XY, XYZ, XYM, XYZM}
 use Rattle.wkt_types.specs.declared.geometry_type.GeometryType.{GeometryType}
 use Rattle.wkt_types.specs.declared.geometry_type.GeometryType.TheVariants as kind
 use Rattle.wkt_read.specs.Grammar.{KindWord, kind_word, dim_word}
 use Rattle.wkt_read.specs.Parser.Outcome.{is_empty_word, value_at}
-use Rattle.wkt_read.specs.declared.messages.Message.{Message}
-use Rattle.wkt_explain.specs.declared.expected.Expected.{Expected}
 use Rattle.wkt_explain.specs.declared.place.Place.TheVariants as there
 use Rattle.wkt_explain.specs.declared.place.Place.{Place as There}
 use Rattle.wkt_explain.specs.declared.place.Walk.{Walk}

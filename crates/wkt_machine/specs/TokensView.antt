@@ -41,15 +41,15 @@ number_next read (p ∷ ps) = number_said read p.lexeme
 
 -- The lexeme that comes next is taken, if there is one.
 abbrev pub Passes : {T : Type 0} → OneByOne T → OneByOne T → Type 0
-Passes s t = (l : Option Lexeme) × ahead.Moves s.tokens l t.tokens
+Passes s t = (l : Option Lexeme) × ahead.Moves s.tokens.now l t.tokens.now
 
 -- Of what was looked at the number is at hand. No byte is passed that isn't a part of a lexeme that was taken, but for one.
 abbrev pub tokens_view : {T : Type 0} → (List ℕ → Option T) → View (OneByOne T)
 tokens_view read = record {
-  left = λ s. ahead.left s.tokens;
-  place = λ s end. (ahead.end_of s.tokens ≡ end) × ahead.IsNear s.tokens;
-  behind = λ s end. ahead.end_of s.tokens ≡ end;
+  left = λ s. ahead.left s.tokens.now;
+  place = λ s end. (ahead.end_of s.tokens.now ≡ end) × ahead.IsNear s.tokens.now;
+  behind = λ s end. ahead.end_of s.tokens.now ≡ end;
   here = λ s end h. h.0;
-  keeps = λ s n. n ≤ ahead.taken_of s.tokens;
-  looked = λ s. s.number ≡ number_next read (ahead.left s.tokens);
+  keeps = λ s n. n ≤ ahead.taken_of s.tokens.now;
+  looked = λ s. s.number ≡ number_next read (ahead.left s.tokens.now);
 }

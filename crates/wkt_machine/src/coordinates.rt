@@ -67,9 +67,9 @@ pub(crate) fn coordinates<'a, T: WktNum, B: Builder<T>, const FEED_ENDS: bool>(
     }
 }
 
-/// The coordinate that comes next, and that it is whole; or up to the number that isn't read, and in which state.
+/// The coordinate that comes next, and whether it is whole. If it isn't: in which state the number that isn't read stands.
 ///
-/// What is carried round the loop is told apart from the machine, so that what fills that up isn't carried along.
+/// What is carried round the loop stands apart from the machine, since what fills that up would be carried along.
 #[inline(always)]
 fn coordinate<'a, T: WktNum, B: Builder<T>, const FEED_ENDS: bool>(
     machine: Machine,
@@ -83,51 +83,31 @@ fn coordinate<'a, T: WktNum, B: Builder<T>, const FEED_ENDS: bool>(
     ensures inside { OnTrue result.0 (result.2.at ≤ length result.2.text.now) }
     ensures refused { OnFalse result.0 (Refuses T.read (bytes_view FEED_ENDS) B.maker machine source.entry builder (reached machine result.1 result.2 result.3)) }
 {
-    let (has_x, source, builder) = number::<T, B, FEED_ENDS>(Axis::X, machine, source, builder);
+    let (has_x, source, made) = number::<T, B, FEED_ENDS>(Axis::X, machine, source, builder);
     if !has_x {
-        return (false, State::X, source, builder);
+        return (false, State::X, source, made);
     }
-    let (has_y, source, builder) = number::<T, B, FEED_ENDS>(Axis::Y, machine, source, builder);
+    let (has_y, source, made) = number::<T, B, FEED_ENDS>(Axis::Y, machine, source, made);
     if !has_y {
-        return (false, State::Y, source, builder);
+        return (false, State::Y, source, made);
     }
     match machine.dim {
-        Dimension::XY => (true, State::Item, source, builder),
+        Dimension::XY => (true, State::Item, source, made),
         Dimension::XYZ => {
-            let (has_z, source, builder) = number::<T, B, FEED_ENDS>(
-                Axis::Z,
-                machine,
-                source,
-                builder,
-            );
-            (has_z, State::Z, source, builder)
+            let (has_z, source, made) = number::<T, B, FEED_ENDS>(Axis::Z, machine, source, made);
+            (has_z, State::Z, source, made)
         }
         Dimension::XYM => {
-            let (has_m, source, builder) = number::<T, B, FEED_ENDS>(
-                Axis::M,
-                machine,
-                source,
-                builder,
-            );
-            (has_m, State::M, source, builder)
+            let (has_m, source, made) = number::<T, B, FEED_ENDS>(Axis::M, machine, source, made);
+            (has_m, State::M, source, made)
         }
         Dimension::XYZM => {
-            let (has_z, source, builder) = number::<T, B, FEED_ENDS>(
-                Axis::Z,
-                machine,
-                source,
-                builder,
-            );
+            let (has_z, source, made) = number::<T, B, FEED_ENDS>(Axis::Z, machine, source, made);
             if !has_z {
-                return (false, State::Z, source, builder);
+                return (false, State::Z, source, made);
             }
-            let (has_m, source, builder) = number::<T, B, FEED_ENDS>(
-                Axis::M,
-                machine,
-                source,
-                builder,
-            );
-            (has_m, State::M, source, builder)
+            let (has_m, source, made) = number::<T, B, FEED_ENDS>(Axis::M, machine, source, made);
+            (has_m, State::M, source, made)
         }
     }
 }

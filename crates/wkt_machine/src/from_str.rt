@@ -22,33 +22,35 @@ use wkt_num::WktNum;
 use wkt_read::{Message, PeekableTokens, ReadError, Tokens};
 use wkt_types::Wkt;
 
-/// The geometry at the front of the tokens.
+/// The geometry at the front of the tokens, which are lent; and the tokens behind it.
 #[inline(always)]
-fn read_off<T: WktNum>(
+fn read_off<'t, 'a, T: WktNum>(
     alloc: Global,
-    tokens: &mut PeekableTokens<'_, T>,
-) -> Result<Wkt<T>, ReadError>
-    ensures found { IfOk result (λ w. IsReadOff T.read (rest tokens.old) (tree w) (rest tokens.new)) }
-    ensures no_geometry { OnText result (NoneBegins T.read (rest tokens.old)) }
-    ensures early { OnText result (StopsEarly T.read (rest tokens.old) (rest tokens.new)) }
-    ensures bad { OnMessage result bad_number (HasBad T.read (rest tokens.old)) }
-    ensures refusal { IfText result (λ said. IsRefused T.read (rest tokens.old) said (rest tokens.new)) }
-    ensures free { (v after : _) → Begins T.read (rest tokens.old) v after → NeedsNoMemory v → IsOk result }
-    ensures taken { OnOk result (length (rest tokens.new) < length (rest tokens.old)) }
-    ensures advances { Advances tokens.old tokens.new }
-    ensures near { OnOk result (IsNear tokens.new) }
+    tokens: &'t mut PeekableTokens<'a, T>,
+) -> (Result<Wkt<T>, ReadError>, &'t mut PeekableTokens<'a, T>)
+    ensures found { IfOk result.0 (λ w. IsReadOff T.read (rest tokens.entry.now) (tree w) (rest result.1.now)) }
+    ensures no_geometry { OnText result.0 (NoneBegins T.read (rest tokens.entry.now)) }
+    ensures early { OnText result.0 (StopsEarly T.read (rest tokens.entry.now) (rest result.1.now)) }
+    ensures bad { OnMessage result.0 bad_number (HasBad T.read (rest tokens.entry.now)) }
+    ensures refusal { IfText result.0 (λ said. IsRefused T.read (rest tokens.entry.now) said (rest result.1.now)) }
+    ensures free { (v after : _) → Begins T.read (rest tokens.entry.now) v after → NeedsNoMemory v → IsOk result.0 }
+    ensures taken { OnOk result.0 (length (rest result.1.now) < length (rest tokens.entry.now)) }
+    ensures advances { Advances tokens.entry.now result.1.now }
+    ensures near { OnOk result.0 (IsNear result.1.now) }
 {
     // The machine counts open collections, of which there are no more than tokens.
     let _ = tokens.most_left();
-    let none = PeekableTokens::new(Tokens::from_str(""));
-    let source = OneByOne::new(mem::replace(tokens, none));
-    let (answer, behind) = read::<T, OneByOne<'_, T>>(alloc, source);
-    *tokens = behind.into_tokens();
+    let source = OneByOne::new(tokens);
+    let (answer, behind) = read::<T, OneByOne<'_, '_, T>>(alloc, source);
+    let lent = behind.into_tokens();
     match answer {
-        Ok(geometry) => Ok(geometry),
+        Ok(geometry) => (Ok(geometry), lent),
         Err(unread) => match unread {
-            Unread::Memory(error) => Err(ReadError::Memory(error)),
-            Unread::Refused(machine) => Err(ReadError::Text(refused(machine, tokens).text())),
+            Unread::Memory(error) => (Err(ReadError::Memory(error)), lent),
+            Unread::Refused(machine) => {
+                let message = refused(machine, lent);
+                (Err(ReadError::Text(message.text())), lent)
+            }
         },
     }
 }
@@ -65,8 +67,9 @@ fn front_of<T: WktNum>(alloc: Global, text: &str) -> Result<(Wkt<T>, usize), Rea
     ensures free { (v end : _) → Front T.read text.now v end → NeedsNoMemory v → IsOk result }
 {
     let mut tokens = PeekableTokens::new(Tokens::from_str(text));
-    match read_off(alloc, &mut tokens) {
-        Ok(geometry) => Ok((geometry, tokens.end())),
+    let (answer, behind) = read_off(alloc, &mut tokens);
+    match answer {
+        Ok(geometry) => Ok((geometry, behind.end())),
         Err(error) => Err(error),
     }
 }
@@ -149,7 +152,8 @@ impl<T: WktNum> FromWktStr for Wkt<T> {
             return Err(ReadError::Text(Message::Format.text()));
         }
         let mut tokens = PeekableTokens::new(Tokens::from_str(text));
-        read_off(alloc, &mut tokens)
+        let (answer, _) = read_off(alloc, &mut tokens);
+        answer
     }
 
     fn read_front(alloc: Global, text: &str) -> Result<(Self, usize), ReadError> {
@@ -157,6 +161,9 @@ impl<T: WktNum> FromWktStr for Wkt<T> {
     }
 
     fn read_tokens(alloc: Global, tokens: &mut PeekableTokens<'_, T>) -> Result<Self, ReadError> {
-        read_off(alloc, tokens)
+        let mut own = mem::replace(tokens, PeekableTokens::new(Tokens::from_str("")));
+        let (answer, behind) = read_off(alloc, &mut own);
+        *tokens = mem::replace(behind, PeekableTokens::new(Tokens::from_str("")));
+        answer
     }
 }

@@ -32,8 +32,8 @@ pub fn front_end_by_tokens<T: WktNum>(text: &str) -> Option<usize>
     ensures within { IfSome result (λ end. end ≤ length text.now) }
     ensures boundary { IfSome result (λ end. IsCharBoundary text.now end) }
 {
-    let tokens = PeekableTokens::<T>::new(Tokens::<T>::from_str(text));
-    match drive::<T, OneByOne<'_, T>, Nothing>(OneByOne::new(tokens), Nothing) {
+    let mut tokens = PeekableTokens::<T>::new(Tokens::<T>::from_str(text));
+    match drive::<T, OneByOne<'_, '_, T>, Nothing>(OneByOne::new(&mut tokens), Nothing) {
         Ok(over) => Some(over.source.into_tokens().end()),
         Err(_) => None,
     }

@@ -14,14 +14,14 @@ use wkt_read::{PeekableTokens, Token};
 
 /// The tokens of a text, one after another.
 #[derive(Drop)]
-pub struct OneByOne<'a, T> {
-    tokens: PeekableTokens<'a, T>,
+pub struct OneByOne<'t, 'a, T> {
+    tokens: &'t mut PeekableTokens<'a, T>,
     // The number that was looked at.
     number: Option<T>,
 }
 
-impl<'a, T: WktNum> OneByOne<'a, T> {
-    pub fn new(tokens: PeekableTokens<'a, T>) -> Self
+impl<'t, 'a, T: WktNum> OneByOne<'t, 'a, T> {
+    pub fn new(tokens: &'t mut PeekableTokens<'a, T>) -> Self
         ensures { result.tokens ≡ tokens.entry }
     {
         OneByOne {
@@ -31,7 +31,7 @@ impl<'a, T: WktNum> OneByOne<'a, T> {
     }
 
     /// The tokens that are left.
-    pub fn into_tokens(self) -> PeekableTokens<'a, T>
+    pub fn into_tokens(self) -> &'t mut PeekableTokens<'a, T>
         ensures { result ≡ self.entry.tokens }
     {
         self.tokens
@@ -72,10 +72,10 @@ fn seen_item<T: WktNum>(item: Option<Result<Token<'_, T>, &'static str>>) -> (Se
 
 /// Takes the token that was looked at.
 #[inline(always)]
-fn passed<'a, T: WktNum>(source: OneByOne<'a, T>) -> OneByOne<'a, T>
+fn passed<'t, 'a, T: WktNum>(source: OneByOne<'t, 'a, T>) -> OneByOne<'t, 'a, T>
     ensures { Passes source.entry result }
 {
-    let OneByOne { mut tokens, .. } = source;
+    let OneByOne { tokens, .. } = source;
     let _ = tokens.next();
     OneByOne {
         tokens,
@@ -83,14 +83,14 @@ fn passed<'a, T: WktNum>(source: OneByOne<'a, T>) -> OneByOne<'a, T>
     }
 }
 
-impl<'a, T: WktNum> Source<T> for OneByOne<'a, T> {
+impl<'t, 'a, T: WktNum> Source<T> for OneByOne<'t, 'a, T> {
     ghost use Rattle.wkt_machine.specs.TokensView.{tokens_view};
 
     ghost view = { tokens_view T.read };
 
     #[inline(always)]
     fn look(self) -> (Seen, Self) {
-        let OneByOne { mut tokens, .. } = self;
+        let OneByOne { tokens, .. } = self;
         let (seen, number) = seen_item(tokens.peek());
         (seen, OneByOne { tokens, number })
     }
@@ -109,7 +109,7 @@ impl<'a, T: WktNum> Source<T> for OneByOne<'a, T> {
     }
 }
 
-impl<'a, T: WktNum> Walk<T> for OneByOne<'a, T> {
+impl<'t, 'a, T: WktNum> Walk<T> for OneByOne<'t, 'a, T> {
     #[inline(always)]
     #[tactic(auto, using(crate::proofs::TokenViews::kind_open, crate::proofs::TokenViews::kind_sound))]
     fn header<B: Builder<T>>(self, machine: Machine, builder: B) -> Walked<Self, B> {

@@ -14,8 +14,8 @@ type Made = Result<Wkt<i32>, AllocError>;
 
 /// What the text is read as by its tokens; nothing where it is refused.
 fn value(alloc: Global, text: &str) -> Result<Option<Wkt<i32>>, AllocError> {
-    let tokens = PeekableTokens::<i32>::new(Tokens::from_str(text));
-    match read::<i32, OneByOne<'_, i32>>(alloc, OneByOne::new(tokens)).0 {
+    let mut tokens = PeekableTokens::<i32>::new(Tokens::from_str(text));
+    match read::<i32, OneByOne<'_, '_, i32>>(alloc, OneByOne::new(&mut tokens)).0 {
         Ok(value) => Ok(Some(value)),
         Err(Unread::Refused(_)) => Ok(None),
         Err(Unread::Memory(error)) => Err(error),

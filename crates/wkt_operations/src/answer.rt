@@ -6,7 +6,9 @@ use wkt::geo_types_from_wkt::try_into_geometry;
 use wkt::to_wkt::{Counted, push_geometry};
 use wkt::tokenizer::Tokens;
 use wkt::types::Dimension;
-use wkt::{AnyError, FromWktStr, ToWkt, TryFromWkt, Wkt, WktNum, canonical_text, infer_type};
+use wkt::{
+    AnyError, FromWktStr, ToWkt, TryFromWkt, Wkt, WktNum, canonical_text, infer_type, read_whole,
+};
 
 /// Does the operation to a line, and returns the size of its answer: the bytes of a text, the count of lexemes, 1 for what
 /// was read and, so that it is looked at, a small number for what was converted. The buffer is empty.
@@ -26,6 +28,10 @@ pub fn answer<T: WktNum>(
         | Operation::Display
         | Operation::Push
         | Operation::ToFlat => { from_wkt(alloc, operation, &Wkt::<T>::from_str(alloc, line)?) }
+        Operation::Whole => {
+            let geometry = read_whole::<T>(alloc, line)?;
+            from_wkt(alloc, operation, &geometry)
+        }
         Operation::Canonical => Ok(canonical_text::<T>(alloc, line)?.len()),
         Operation::Flat | Operation::ToWkt | Operation::WktString | Operation::WriteWkt => {
             let flat = Geometry::<T>::try_from_wkt_str(alloc, line)?;

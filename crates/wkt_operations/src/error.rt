@@ -5,7 +5,7 @@ use thiserror::Error;
 use wkt::error::Error as WriteError;
 use wkt::geo_types_from_wkt::Error as ConvertError;
 use wkt::to_wkt::ReadAllError;
-use wkt::{AnyError, InferError, ReadError, ToWktError};
+use wkt::{AnyError, InferError, ReadError, ToWktError, WholeError};
 
 /// Why a run can't go on.
 #[derive(Debug, Drop, Error)]
@@ -50,6 +50,7 @@ pub fn is_out_of_memory(error: &AnyError) -> bool {
     match error {
         AnyError::Memory(_)
         | AnyError::Read(ReadError::Memory(_))
+        | AnyError::Whole(WholeError::Read(ReadError::Memory(_)))
         | AnyError::Infer(InferError::Memory(_))
         | AnyError::Convert(ConvertError::Memory(_))
         | AnyError::Write(WriteError::Memory(_) | WriteError::FmtError(_))

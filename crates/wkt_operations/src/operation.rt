@@ -7,6 +7,8 @@ pub enum Operation {
     Lines,
     /// `Wkt::from_str`.
     Parse,
+    /// `read_whole`.
+    Whole,
     /// `to_string` (parse).
     ToString,
     /// `Display`, by `format!` (parse).
@@ -37,6 +39,7 @@ impl Operation {
         match word {
             "lines" => Some(Operation::Lines),
             "parse" => Some(Operation::Parse),
+            "whole" => Some(Operation::Whole),
             "to_string" => Some(Operation::ToString),
             "display" => Some(Operation::Display),
             "push" => Some(Operation::Push),

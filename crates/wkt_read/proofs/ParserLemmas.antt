@@ -3,9 +3,6 @@ pub mod Parts
 pub mod Blamed
 pub mod Coords
 pub mod Readings
-pub mod Many
-pub mod Frames
-pub mod Wkts
 pub mod Reporting
 pub mod Reported
 pub mod Reaches
@@ -13,6 +10,5 @@ pub mod Early
 pub mod Free
 pub mod Answering
 pub mod OneMessage
-pub mod Valued
 pub mod Ascii
 pub mod Empty

@@ -1,4 +1,4 @@
-"""GDAL's texts: gdal.py DOUBLES KINDS"""
+"""GDAL's texts: gdal.py DOUBLES GIVEN KINDS"""
 import csv
 import subprocess
 import tempfile

@@ -1,21 +1,18 @@
-"""What the programs in Python share: NAME.py DOUBLES KINDS prints the lines that from_other_tools.sh takes."""
+"""What the programs in Python share: NAME.py DOUBLES GIVEN KINDS prints the lines that from_other_tools.sh takes."""
 import sys
 
 import wkt
 
 
-def key_of(text, places=18):
-    """The key of a whole text, or None where it is refused."""
-    try:
-        return wkt.canonical(text, places)
-    except wkt.WktError:
-        return None
+def keys_of(texts, places=18):
+    """The keys of whole texts, with None where one is refused."""
+    return wkt.canonical(texts, places, invalid="null")
 
 
 def rows(program, call, write, read, is_refused, places=18):
     """A line for each sort of doubles.
 
-    write(x, y) gives the texts of points; read(texts) gives their numbers again. is_refused(x) is the rule.
+    write(points) gives their texts; read(texts) gives the points again. is_refused(x) is the rule.
     """
     sorts = {}
     with open(sys.argv[1], encoding="utf-8") as doubles:
@@ -24,21 +21,34 @@ def rows(program, call, write, read, is_refused, places=18):
             sorts.setdefault(sort, []).append((float(x), float(y)))
     for sort, points in sorts.items():
         texts = write(points)
-        keys = [key_of(text, places) for text in texts]
+        keys = keys_of(texts, places)
         against = sum((key is None) != (is_refused(x) or is_refused(y)) for key, (x, y) in zip(keys, points))
         kept = [(key, point) for key, point in zip(keys, points) if key is not None]
         again = read([key for key, _ in kept])
-        same = sum(key_of(text, places) == key for text, (key, _) in zip(write(again), kept))
+        same = sum(found == key for found, (key, _) in zip(keys_of(write(again), places), kept))
         exact = sum(found == point for found, (_, point) in zip(again, kept))
         print(program, call, sort, len(texts), len(kept), same, exact, against, sep="\t")
+    given(program, call, write, read)
+
+
+def given(program, call, write, read):
+    """Of each sort of given keys how many stay the same, where the program reads them and writes them by the call."""
+    sorts = {}
+    with open(sys.argv[2], encoding="utf-8") as keys:
+        for line in keys:
+            sort, key = line.rstrip("\n").split("\t")
+            sorts.setdefault(sort, []).append(key)
+    for sort, keys in sorts.items():
+        same = sum(found == key for found, key in zip(keys_of(write(read(keys))), keys))
+        print(program, call, sort, len(keys), same, sep="\t")
 
 
 def kinds(program, again):
-    """The keys of the file `kinds` that don't stay the same: again(key) is the text of what it reads, or None."""
-    with open(sys.argv[2], encoding="utf-8") as keys:
+    """The keys of the file `kinds` that don't stay the same: again(key) is the text of what the program reads, or None."""
+    with open(sys.argv[3], encoding="utf-8") as keys:
         for key in keys.read().splitlines():
             text = again(key)
-            found = "not read there" if text is None else key_of(text) or "refused"
+            found = "not read there" if text is None else keys_of([text])[0] or "refused"
             if found != key:
                 print(program, key, found, sep="\t")
 

@@ -1,4 +1,4 @@
-"""Shapely's texts: shapely.py DOUBLES KINDS"""
+"""Shapely's texts: shapely.py DOUBLES GIVEN KINDS"""
 import os
 import sys
 
@@ -10,20 +10,32 @@ from shapely.geometry import Point  # noqa: E402
 sys.path.append(os.path.dirname(os.path.abspath(__file__)))
 from rows import TOO_LARGE, kinds, rows  # noqa: E402 (found by the line above)
 
-for places in 15, 6:
+
+def dumps(**how):
+    return lambda g: shapely.wkt.dumps(g, **how)
+
+
+CALLS = (
+    ("g.wkt", lambda g: g.wkt, 18),
+    ("shapely.wkt.dumps(g)", dumps(), 18),
+    ("shapely.wkt.dumps(g, trim=True, rounding_precision=18)", dumps(trim=True, rounding_precision=18), 18),
+    ("shapely.wkt.dumps(g, trim=True, rounding_precision=6)", dumps(trim=True, rounding_precision=6), 6),
+    ("shapely.wkt.dumps(g, rounding_precision=6)", dumps(rounding_precision=6), 6),
+)
+for call, write, places in CALLS:
     rows(
         "Shapely",
-        f"shapely.wkt.dumps(g, True, {places})",
-        lambda points: [shapely.wkt.dumps(Point(*p), trim=True, rounding_precision=places) for p in points],
+        call,
+        lambda points: [write(Point(*p)) for p in points],
         lambda keys: [shapely.wkt.loads(key).coords[0] for key in keys],
         lambda x: abs(x) >= TOO_LARGE,
-        places if places < 15 else 18,
+        places,
     )
 
 
 def again(key):
     try:
-        return shapely.wkt.dumps(shapely.wkt.loads(key), trim=True, rounding_precision=15)
+        return shapely.wkt.loads(key).wkt
     except Exception:  # Each version has other errors.
         return None
 

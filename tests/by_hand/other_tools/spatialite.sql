@@ -11,6 +11,11 @@ select 'SpatiaLite', call, sort, count(*), count(key),
        count(*) filter (where X(GeomFromText(key)) = x and Y(GeomFromText(key)) = y),
        count(*) filter (where key is null)
 from keys group by call, sort order by call, sort;
+create table passes as
+    select sort, key, AsText(GeomFromText(key)) as six, AsWKT(GeomFromText(key), 12) as twelve, AsWKT(GeomFromText(key)) as most from given;
+select 'SpatiaLite', 'AsText(g)', sort, count(*), count(*) filter (where wkt_or_null(six) = key) from passes group by sort;
+select 'SpatiaLite', 'AsWKT(g, 12)', sort, count(*), count(*) filter (where wkt_or_null(twelve) = key) from passes group by sort;
+select 'SpatiaLite', 'AsWKT(g)', sort, count(*), count(*) filter (where wkt_or_null(most) = key) from passes group by sort;
 create table again as select key, AsText(GeomFromText(key)) as t from kinds;
 select 'SpatiaLite', key, case when t is null then 'not read there' when wkt_reads(t) then wkt_canonical(t) else 'refused' end as again
 from again where again <> key order by again.rowid;

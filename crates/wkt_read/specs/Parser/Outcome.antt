@@ -245,3 +245,7 @@ module _ {N : Type 0} (read : List ℕ → Option N) where
   -- After the header of a kind other than Point stands a parenthesis.
   abbrev pub HasMembers : Bool → List Lexeme → Type 0
   HasMembers inside lexemes = (k : GeometryType) × (d : Dimension) × (rest : List Lexeme) × (header_at inside lexemes ≡ Ok ((k, d), rest)) × (k ≢ kind.Point) × IsOpened rest
+
+-- The members of a collection, as they are read, with what is after them and the closing place: the collection.
+abbrev pub shut_at : {N : Type 0} → (List ℕ → Option N) → Dimension → Outcome (List (Value N)) → Outcome (Value N)
+shut_at read d body = closed read body >>= λ p. Ok (Value.collection d (members_read p.0), p.1)

@@ -1,6 +1,6 @@
 -- How readers go over the lexemes of a stream. Only private contracts cite this file.
 use Rattle.std.specs.Prelude.{◌≡◌, ◌≤◌, ◌∷◌, [], List, length, Option, Some, None}
-use Rattle.wkt_num.specs.Bytes.{Lexeme, Open, Close, Comma, Word, Num}
+use Rattle.wkt_num.specs.Bytes.{Lexeme}
 use Rattle.wkt_read.specs.Placed.{Placed}
 use Rattle.wkt_read.specs.Ahead.{rest, taken_of, IsAfter}
 use Rattle.wkt_read.specs.Standing.{Standing}
@@ -14,15 +14,6 @@ TakesNext (Some l) old new = old ≡ l ∷ new
 abbrev pub IsFirst : Option Lexeme → List Lexeme → Type 0
 IsFirst None ls = ls ≡ []
 IsFirst (Some l) ls = (later : List Lexeme) × (ls ≡ l ∷ later)
-
--- the first of these lexemes, if there is one, is no comma
-abbrev pub BeginsWithoutComma : List Lexeme → Type 0
-BeginsWithoutComma [] = Unit {0}
-BeginsWithoutComma (Comma ∷ later) = ⊥
-BeginsWithoutComma (Open ∷ later) = Unit {0}
-BeginsWithoutComma (Close ∷ later) = Unit {0}
-BeginsWithoutComma (Word run ∷ later) = Unit {0}
-BeginsWithoutComma (Num run ∷ later) = Unit {0}
 
 -- A reader goes on: the new stream is after whatever lexemes the old one was after, no byte is given back, and no lexeme comes back.
 pub record GoesOn (old new : Standing) : Type 0 where

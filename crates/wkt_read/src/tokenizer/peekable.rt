@@ -51,7 +51,7 @@ impl<'a, T: WktNum> PeekableTokens<'a, T> {
     ghost use Rattle.wkt_read.specs.Stream.{coming, bytes_taken, end_of_last};
     ghost use Rattle.wkt_read.specs.Items.{IsItem};
     ghost use Rattle.wkt_read.specs.Ahead.{left, taken_of, end_of, rest, first_of, Moves};
-    ghost use Rattle.wkt_read.specs.Parser.Walks.{TakesNext, IsFirst, BeginsWithoutComma, GoesOn};
+    ghost use Rattle.wkt_read.specs.Parser.Walks.{TakesNext, IsFirst, GoesOn};
     ghost use Rattle.wkt_read.specs.Ahead.{IsNear};
     ghost use Rattle.wkt_read.specs.Taking.{Looks, StaysUnread, TakesNumber, TakesKind};
 
@@ -115,6 +115,7 @@ impl<'a, T: WktNum> PeekableTokens<'a, T> {
     pub fn take(&mut self) -> Lexeme<'a>
         ensures goes_on { GoesOn self.old self.new }
         ensures near { OnSome (found result) (IsNear self.new) }
+        ensures moves { Moves self.old (found result) self.new }
         ensures takes { TakesNext (found result) (rest self.old) (rest self.new) }
     {
         self.step()
@@ -234,46 +235,11 @@ impl<'a, T: WktNum> PeekableTokens<'a, T> {
     fn take_open_behind(&mut self) -> bool
         ensures { MatchBool result (Moves self.old (Some Open) self.new) (Looks self.old self.new) }
     {
-        match self.look() {
-            Lexeme::Open => {
-                let _ = self.step();
-                true
-            }
-            _ => false,
+        if let Lexeme::Open = self.look() {
+            let _ = self.step();
+            return true;
         }
-    }
-
-    // Takes the next lexeme if it is a comma.
-    #[inline(always)]
-    pub(crate) fn take_comma(&mut self) -> bool
-        ensures goes_on { GoesOn self.old self.new }
-        ensures takes { MatchBool result (rest self.old ≡ Comma ∷ rest self.new) (rest self.new ≡ rest self.old) }
-        ensures none { OnFalse result (BeginsWithoutComma (rest self.old)) }
-    {
-        // Most commas stand right after a run, and were taken with it.
-        if let None = self.ahead {
-            if self.tokens.take_comma_ahead() {
-                self.end = self.tokens.end();
-                return true;
-            }
-        }
-        self.take_comma_behind()
-    }
-
-    // The same of a comma anywhere.
-    #[inline(never)]
-    fn take_comma_behind(&mut self) -> bool
-        ensures goes_on { GoesOn self.old self.new }
-        ensures takes { MatchBool result (rest self.old ≡ Comma ∷ rest self.new) (rest self.new ≡ rest self.old) }
-        ensures none { OnFalse result (BeginsWithoutComma (rest self.old)) }
-    {
-        match self.look() {
-            Lexeme::Comma => {
-                let _ = self.take();
-                true
-            }
-            _ => false,
-        }
+        false
     }
 
     /// The item that `next` gives next. It is returned by value, and a number is read anew by each call.

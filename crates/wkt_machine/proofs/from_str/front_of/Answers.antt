@@ -5,20 +5,22 @@ use Rattle.wkt_read.specs.Ahead.{rest}
 use Rattle.wkt_read.specs.Begun.{NoneBegins}
 use Rattle.wkt_read.specs.Bad.{HasBad}
 use Rattle.wkt_read.specs.Front.{Front, HasNoFront}
-use Rattle.wkt_read.specs.Answered.{HasBadNumber}
+use Rattle.std.specs.Result.{IsOk}
+use Rattle.wkt_types.specs.Tree.{tree}
+use Rattle.wkt_read.specs.Answered.{HasBadNumber, IsReadOff, OnText, OnMessage}
 use Rattle.wkt_read.specs.Items.{bad_number}
 use Rattle.wkt_read.specs.Placed.{AreEnds}
 use Rattle.wkt_read.proofs.LawLemmas.FrontEnds.{front-some, front-within, front-boundary}
 use Rattle.wkt_read.proofs.LawLemmas.OnePlacing.{placed-only}
 use Rattle.wkt_read.proofs.ParserLemmas.Answering.{to-front, from-front, no-front, split-of, text-map, message-map}
-use Rattle.wkt_read.specs.Refusal.{IsRefused, IsTextRefused}
-use Rattle.wkt_machine.proofs.Reading.{if-text-err}
+use Rattle.wkt_read.specs.Refusal.{IsRefused, IsTextRefused, IfText}
+use Rattle.wkt_machine.proofs.Reading.{if_ok, if-text-err}
 use Rattle.wkt_machine.proofs.from_str.front_of.Goals as goal
 
 pub returns-in-Ok-clause-found : goal.returns-in-Ok-clause-found
 returns-in-Ok-clause-found g c =
-    let (v, begins, is) = c.in-Ok.ensures.found in
-    (v, subst (Front g.T.WktNum.read c.args.text.now v) (sym c.end.ensures) (to-front g.T.WktNum.read c.args.text.now _ _ v (subst (AreEnds c.args.text.now) (sym c.new-tokens.ensures.left) c.from_str.ensures.ends) (c.new-tokens.ensures.end ∙ c.from_str.ensures.start) c.in-Ok.ensures.advances begins), is)
+    let (v, begins, is) = if_ok (λ w. IsReadOff g.T.WktNum.read (rest c.new-tokens.result) (tree w) (rest c.read_off-answer.result.1.now)) c.in-Ok.geometry c.read_off-answer.result.0 c.in-Ok.is c.read_off-answer.ensures.found in
+    (v, subst (Front g.T.WktNum.read c.args.text.now v) (sym c.end.ensures) (to-front g.T.WktNum.read c.args.text.now _ _ v (subst (AreEnds c.args.text.now) (sym c.new-tokens.ensures.left) c.from_str.ensures.ends) (c.new-tokens.ensures.end ∙ c.from_str.ensures.start) c.read_off-answer.ensures.advances begins), is)
 
 pub returns-in-Ok-clause-some : goal.returns-in-Ok-clause-some
 returns-in-Ok-clause-some g c = let (v, front, is) = returns-in-Ok-clause-found g c in front-some g.T.WktNum.read c.args.text.now v _ front
@@ -32,19 +34,19 @@ returns-in-Ok-clause-boundary g c = let (v, front, is) = returns-in-Ok-clause-fo
 pub returns-in-Err-clause-no_front : goal.returns-in-Err-clause-no_front
 returns-in-Err-clause-no_front g c =
     text-map (Wkt g.row.T.Denot) (Wkt g.row.T.Denot) c.in-Err.error (NoneBegins g.T.WktNum.read (rest c.new-tokens.result)) (HasNoFront g.T.WktNum.read c.args.text.now)
-    (no-front g.T.WktNum.read c.args.text.now c.new-tokens.result (c.new-tokens.ensures.left ∙ placed-only _ _ c.from_str.ensures.split c.from_str.ensures.ends)) c.in-Err.ensures.no_geometry
+    (no-front g.T.WktNum.read c.args.text.now c.new-tokens.result (c.new-tokens.ensures.left ∙ placed-only _ _ c.from_str.ensures.split c.from_str.ensures.ends)) (subst (λ r. OnText r (NoneBegins g.T.WktNum.read (rest c.new-tokens.result))) c.in-Err.is c.read_off-answer.ensures.no_geometry)
 
 pub returns-in-Err-clause-bad : goal.returns-in-Err-clause-bad
 returns-in-Err-clause-bad g c =
     message-map (Wkt g.row.T.Denot) (Wkt g.row.T.Denot) c.in-Err.error bad_number (HasBad g.T.WktNum.read (rest c.new-tokens.result)) (HasBadNumber g.T.WktNum.read c.args.text.now)
-    (λ bad. (rest c.new-tokens.result, split-of g.T.WktNum.read c.args.text.now c.new-tokens.result (c.new-tokens.ensures.left ∙ placed-only _ _ c.from_str.ensures.split c.from_str.ensures.ends), bad)) c.in-Err.ensures.bad
+    (λ bad. (rest c.new-tokens.result, split-of g.T.WktNum.read c.args.text.now c.new-tokens.result (c.new-tokens.ensures.left ∙ placed-only _ _ c.from_str.ensures.split c.from_str.ensures.ends), bad)) (subst (λ r. OnMessage r bad_number (HasBad g.T.WktNum.read (rest c.new-tokens.result))) c.in-Err.is c.read_off-answer.ensures.bad)
 
 pub returns-in-Err-clause-refusal : goal.returns-in-Err-clause-refusal
 returns-in-Err-clause-refusal g c =
-    if-text-err (Wkt g.row.T.Denot) (Wkt g.row.T.Denot) c.in-Err.error (λ said. IsRefused g.T.WktNum.read (rest c.new-tokens.result) said (rest c.read_off.new.tokens)) (IsTextRefused g.T.WktNum.read c.args.text.now)
-    (λ said (m, says, e). (m, says, (rest c.new-tokens.result, rest c.read_off.new.tokens, split-of g.T.WktNum.read c.args.text.now c.new-tokens.result (c.new-tokens.ensures.left ∙ placed-only _ _ c.from_str.ensures.split c.from_str.ensures.ends), e))) c.in-Err.ensures.refusal
+    if-text-err (Wkt g.row.T.Denot) (Wkt g.row.T.Denot) c.in-Err.error (λ said. IsRefused g.T.WktNum.read (rest c.new-tokens.result) said (rest c.read_off-answer.result.1.now)) (IsTextRefused g.T.WktNum.read c.args.text.now)
+    (λ said (m, says, e). (m, says, (rest c.new-tokens.result, rest c.read_off-answer.result.1.now, split-of g.T.WktNum.read c.args.text.now c.new-tokens.result (c.new-tokens.ensures.left ∙ placed-only _ _ c.from_str.ensures.split c.from_str.ensures.ends), e))) (subst (λ r. IfText r (λ said. IsRefused g.T.WktNum.read (rest c.new-tokens.result) said (rest c.read_off-answer.result.1.now))) c.in-Err.is c.read_off-answer.ensures.refusal)
 
 pub returns-in-Err-clause-free : goal.returns-in-Err-clause-free
 returns-in-Err-clause-free g c = λ v end front small.
     let (after, begins) = from-front g.T.WktNum.read c.args.text.now c.new-tokens.result v end (c.new-tokens.ensures.left ∙ placed-only _ _ c.from_str.ensures.split c.from_str.ensures.ends) front in
-    c.in-Err.ensures.free v after begins small
+    subst IsOk c.in-Err.is (c.read_off-answer.ensures.free v after begins small)

@@ -1,5 +1,5 @@
 -- The message of the place, and then of the parentheses that are open there, those of the geometry before those of collections.
-use Rattle.std.proofs.Common.{◌≡◌, ℕ, ◌+◌, sym, ap, ◌∙◌}
+use Rattle.std.proofs.Common.{◌≡◌, ℕ, sym, ap, ◌∙◌}
 use Rattle.wkt_num.specs.Bytes.{Lexeme}
 use Rattle.std.specs.Prelude.{List}
 use Rattle.wkt_read.specs.Ahead.{rest}

@@ -1,0 +1,23 @@
+"""Whether the page's table has the numbers of kept keys: page.py EXPECTED PAGE. The status is 1 where it hasn't."""
+import sys
+
+with open(sys.argv[1], encoding="utf-8") as file:
+    lines = [line.rstrip("\n").split("\t") for line in file]
+with open(sys.argv[2], encoding="utf-8") as file:
+    rows = [line for line in file if line.startswith("|")]
+
+
+def word(keys, kept):
+    return "all" if kept == keys else "none" if kept == "0" else f"{int(kept):,}"
+
+
+calls = {}
+for program, call, sort, keys, kept in lines:
+    calls.setdefault((program, call), {})[sort] = word(keys, kept)
+status = 0
+for (program, call), kept in calls.items():
+    cells = f"| {kept['six']} | {kept['all']} |"
+    if not any(program in row.split("|")[1] and f"`{call}`" in row and cells in row for row in rows):
+        print(f"wrong: no row of the page has {program} `{call}` {cells}")
+        status = 1
+sys.exit(status)
