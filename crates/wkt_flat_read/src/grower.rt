@@ -1,4 +1,5 @@
 //! A flat tree that grows by the events of a walk.
+ghost use Rattle.std.specs.Prelude.{◌≡◌};
 
 use crate::tree::FlatTree;
 use wkt_access::Dimension;
