@@ -12,7 +12,7 @@ mod Composing
 mod Depths
 mod TokenViews
 mod Fronting
-mod ByteViews
+pub mod ByteViews
 mod Leading
 mod ByteSteps
 mod TakeNext
@@ -21,10 +21,10 @@ mod Shown
 mod HeadSteps
 mod Items
 mod TokenSteps
-mod Grown
+pub mod Grown
 mod Holding
-mod Valued
-mod FrontValues
+pub mod Valued
+pub mod FrontValues
 mod Walking
 mod Refusing
 mod Reading
