@@ -1,7 +1,7 @@
 -- Kind words, numbers and marks of tokens, as steps of the machine.
 use Rattle.std.proofs.Common.{◌≡◌, ◌<◌, ◌≤◌, ◌+◌, ℕ, List, [], ◌∷◌, length, length-append, Option, Some, None, false, true, arith, refl, sym, ap, ◌∙◌, subst}
 use Rattle.std.specs.Prelude.{Result, Ok, Err, IfOk, IfErr}
-use Rattle.wkt_num.specs.Bytes.{Lexeme, Open, Close, Comma, Word}
+use Rattle.wkt_num.specs.Bytes.{Open, Close, Comma, Word}
 use Rattle.wkt_access.specs.declared.dimensions.Dimension.{Dimension}
 use Rattle.wkt_access.specs.declared.dimensions.Dimension.TheVariants.{XY}
 use Rattle.wkt_types.specs.declared.geometry_type.GeometryType.{GeometryType}
@@ -10,7 +10,7 @@ use Rattle.wkt_read.specs.Standing.{Standing}
 use Rattle.wkt_read.specs.Taking.{Looks, StaysUnread, TakesNumber, TakesKind}
 use Rattle.wkt_machine.specs.BytesView.{has_coordinates}
 use Rattle.wkt_machine.specs.Events.{Event}
-use Rattle.wkt_machine.specs.Goes.{Stays, Skips, Numbers, IsUnread, Goes, Refuses}
+use Rattle.wkt_machine.specs.Goes.{Goes, Refuses}
 use Rattle.wkt_machine.specs.Leads.{Leads}
 use Rattle.wkt_machine.specs.Machine.{at, part_of, inside, outside, kind_step, joined_step, move, moved}
 use Rattle.wkt_machine.specs.Machines.{state_of, place_of, next_after, is_single, HasNext, IsSound}

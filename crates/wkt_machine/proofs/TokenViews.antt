@@ -1,6 +1,6 @@
 -- What the tokenizer's clauses say of tokens as a source.
 use Rattle.std.proofs.Common.{◌≡◌, ◌≢◌, ◌≤◌, ◌+◌, ℕ, List, [], ◌∷◌, arith, sym, refl, ap, ◌∙◌, subst, Option, Some, None, false}
-use Rattle.wkt_num.specs.Bytes.{Lexeme, Num}
+use Rattle.wkt_num.specs.Bytes.{Lexeme}
 use Rattle.wkt_read.specs.Ahead.{left, end_of, first_of, Moves}
 use Rattle.wkt_read.specs.Placed.{Placed}
 use Rattle.wkt_read.specs.Taking.{Looks, StaysUnread, TakesNumber}

@@ -1,7 +1,7 @@
 -- A coordinate goes on from the one before.
-use Rattle.std.proofs.Common.{IfErr, ap, sym, ◌∙◌, subst}
+use Rattle.std.proofs.Common.{sym, ◌∙◌}
 use Rattle.wkt_machine.specs.TokensView.{tokens_view}
-use Rattle.wkt_machine.proofs.Leading.{leads_none, leads_goes, leads_ok, leads_refused}
+use Rattle.wkt_machine.proofs.Leading.{leads_none, leads_ok, leads_refused}
 use Rattle.wkt_machine.proofs.TokenSteps.{there_in, no_y, item_goes, last_goes, turn_leads}
 use Rattle.wkt_machine.proofs.pairs.pairs.Goals as goal
 
