@@ -156,6 +156,7 @@ fn close<T: WktNum>(message: Message, parens: usize, tokens: &mut PeekableTokens
 
 /// The message of tokens that are refused at the place, by the table of `docs/GRAMMAR.md`. As many of them are taken as
 /// it takes to say so.
+#[inline(never)]
 pub(crate) fn refused<T: WktNum>(machine: Machine, tokens: &mut PeekableTokens<'_, T>) -> Message
     ensures message { (result, rest tokens.new) ≡ refused T.read (state_of machine) (rest tokens.old) }
     ensures advances { Advances tokens.old tokens.new }
