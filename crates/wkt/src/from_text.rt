@@ -3,16 +3,17 @@ ghost use Rattle.std.specs.Prelude.{◌≡◌, ℕ, List, MatchResult, Result, I
 ghost use Rattle.std.specs.Io.KnownBytes.{IsAtEnd};
 ghost use Rattle.std.specs.String.{string_bytes};
 ghost use Rattle.wkt_num.specs.Sink.{next_count};
-ghost use Rattle.wkt_types.specs.Tree.{tree};
-ghost use Rattle.wkt_read.specs.Answered.{IsFront};
+ghost use Rattle.wkt_flat.specs.Equal.{coord_eq};
+ghost use Rattle.wkt_flat_read.specs.Read.{IsFlatFront};
 ghost use Rattle.wkt.specs.FromText.{AreNoText, BytesAnswer, Cause, IsUnread, OnAllRead, OnSource, TextAnswers, UnlessFailed, cause_of};
 
 use std::alloc::Global;
 use wkt_bytes::{ByteSource, ReadAllError, read_all};
-use wkt_convert::FromAny;
+use wkt_convert::{Flattened, FromAny};
+use wkt_flat_read::read_text;
 use wkt_num::WktNum;
 use wkt_read::ReadError;
-use wkt_types::{ConvertError, Wkt};
+use wkt_types::ConvertError;
 
 /// A type that is read from well-known text through a conversion.
 ///
@@ -54,12 +55,12 @@ pub trait TryFromWkt<T>: Sized {
         ensures count { UnlessFailed cause result (R.failures reader.new ≡ R.failures reader.old) };
 }
 
-/// The geometry at the front of the text.
-fn read_text<T: WktNum>(alloc: Global, text: &str) -> Result<Wkt<T>, ConvertError>
-    ensures { MatchResult result (λ w. IsFront T.read text.now (tree w)) (IsUnread T.read text.now) }
+/// The geometry at the front of the text, as a flat value.
+fn read_flat<T: WktNum>(alloc: Global, text: &str) -> Result<Flattened<T>, ConvertError>
+    ensures { MatchResult result (IsFlatFront T.read (coord_eq T.eq) text.now) (IsUnread T.read text.now) }
 {
-    match wkt_machine::read_text::<T>(alloc, text) {
-        Ok((wkt, _)) => Ok(wkt),
+    match read_text::<T>(alloc, text) {
+        Ok(flattened) => Ok(flattened),
         Err(ReadError::Text(message)) => Err(ConvertError::InvalidWKT(message)),
         Err(ReadError::Memory(error)) => Err(ConvertError::Memory(error)),
     }
@@ -91,8 +92,8 @@ impl<T: WktNum, G: FromAny<T = T>> TryFromWkt<T> for G {
     ghost cause = { cause_of };
 
     fn try_from_wkt_str(alloc: Global, text: &str) -> Result<Self, ConvertError> {
-        match read_text(alloc, text) {
-            Ok(wkt) => G::from_any(alloc, &wkt),
+        match read_flat(alloc, text) {
+            Ok(flattened) => G::from_flattened(flattened),
             Err(e) => Err(e),
         }
     }

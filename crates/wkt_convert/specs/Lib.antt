@@ -5,3 +5,4 @@ pub mod Back
 pub mod Pieces
 pub mod Sent
 pub mod Laws
+pub mod Flattening

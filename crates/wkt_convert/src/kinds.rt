@@ -4,10 +4,12 @@ ghost use Rattle.wkt_types.specs.Outcome.{Outcome, Answers, refused, mismatched}
 ghost use Rattle.wkt_flat.specs.Tree.{Flat, Flats, flat_tree, flat_trees};
 ghost use Rattle.wkt_flat.specs.Equal.{coord_eq};
 ghost use Rattle.wkt_convert.specs.Flatten.{flat, flat_collection};
+ghost use Rattle.wkt_convert.specs.Flattening.{AnswersAny};
 ghost use Rattle.wkt_convert.specs.Kinds.{FlatKind, IsOfKind, only_flat, flat_name, point_kind, line_kind, line_string_kind, polygon_kind, multi_point_kind, multi_line_string_kind, multi_polygon_kind, rect_kind, triangle_kind};
 
 use crate::convert::ConvertFrom;
 use crate::flatten;
+use crate::flattened::Flattened;
 use std::alloc::Global;
 use wkt_flat as flat;
 use wkt_flat::Geometry;
@@ -32,6 +34,13 @@ pub trait FromAny: Sized {
     /// Those of `ConvertFrom::convert_from`.
     fn from_any(alloc: Global, source: &Wkt<Self::T>) -> Result<Self, ConvertError>
         ensures { Answers content (outcome (tree source.now)) result };
+
+    /// The value of a geometry that was read as a flat one.
+    ///
+    /// # Errors
+    /// Those of `from_any`, but for memory.
+    fn from_flattened(source: Flattened<Self::T>) -> Result<Self, ConvertError>
+        ensures { AnswersAny (coord_eq Self.T.eq) source content outcome result };
 }
 
 /// The eleven flat types.
@@ -54,6 +63,12 @@ impl<T: WktNum> FromAny for Geometry<T> {
 
     fn from_any(alloc: Global, source: &Wkt<T>) -> Result<Self, ConvertError> {
         flatten::geometry(alloc, source)
+    }
+
+    fn from_flattened(source: Flattened<T>) -> Result<Self, ConvertError>
+        ensures { AnswersAny (coord_eq T.eq) source flat_tree (flat (coord_eq T.eq)) result }
+    {
+        source.into_geometry()
     }
 }
 
@@ -82,6 +97,12 @@ impl<T: WktNum> FromAny for flat::GeometryCollection<T> {
             found,
         })
     }
+
+    fn from_flattened(source: Flattened<T>) -> Result<Self, ConvertError>
+        ensures { AnswersAny (coord_eq T.eq) source flat_trees (flat_collection (coord_eq T.eq)) result }
+    {
+        source.into_collection()
+    }
 }
 
 /// A flat type of one kind. The whole `Wkt` is converted first, so a refused member is reported before a mismatch.
@@ -109,6 +130,12 @@ impl<T: WktNum, G: OneKind<T = T>> FromAny for G {
 
     fn from_any(alloc: Global, source: &Wkt<T>) -> Result<Self, ConvertError> {
         G::of_kind(flatten::geometry(alloc, source)?)
+    }
+
+    fn from_flattened(source: Flattened<T>) -> Result<Self, ConvertError>
+        ensures { AnswersAny (coord_eq T.eq) source (λ x. x) (only_flat G.kind T.eq) result }
+    {
+        G::of_kind(source.into_geometry()?)
     }
 }
 

@@ -7,6 +7,7 @@ mod back;
 mod convert;
 mod flat_values;
 mod flatten;
+mod flattened;
 mod kinds;
 pub mod laws;
 mod parts;
@@ -15,6 +16,7 @@ mod string_text;
 mod to_text;
 
 pub use convert::{ConvertFrom, try_into_geometry, try_into_geometry_collection};
+pub use flattened::{Flattened, Found};
 pub use kinds::{FromAny, mismatch};
 pub use send::ToWktError;
 pub use to_text::ToWkt;

@@ -32,7 +32,7 @@ begin = record { state = state.Kind; part = part.Point; dim = XY; depth = 0 }
 
 module _ {N S : Type 0} (read : List ℕ → Option N) (view : View S) (text : List ℕ) (s : S) (begins : view.left s ≡ placed text) where
   -- the front that was taken
-  front_whole : (v : Value N) (t : S) (h : Takes read view s v t) → Front read text v h.last.end
+  pub front_whole : (v : Value N) (t : S) (h : Takes read view s v t) → Front read text v h.last.end
   front_whole v t h =
       let given : List Placed = h.given ++ (h.last ∷ []) in
       let all : placed text ≡ given ++ view.left t = sym begins ∙ h.split ∙ sym (append_assoc h.given (h.last ∷ []) (view.left t)) in

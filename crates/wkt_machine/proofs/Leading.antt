@@ -61,6 +61,10 @@ module _ {N S B : Type 0} (read : List ℕ → Option N) (view : View S) (maker 
     stuck = λ j k. h.stuck j (l.keeps j k);
   }
 
+  pub leads_ok : (m : Machine) (s : S) (b : B) (n : Machine) (t : S) (c : B) (r : Result (At S B) (At S B)) → Leads read view maker m s b n t c → IfOk r (Goes read view maker n t c) → IfOk r (Goes read view maker m s b)
+  leads_ok m s b n t c (Ok to) l h = leads_goes m s b n t c to l h
+  leads_ok m s b n t c (Err to) l h = tt
+
   pub leads_refused : (m : Machine) (s : S) (b : B) (n : Machine) (t : S) (c : B) (r : Result (At S B) (At S B)) → Leads read view maker m s b n t c → IfErr r (Refuses read view maker n t c) → IfErr r (Refuses read view maker m s b)
   leads_refused m s b n t c (Ok to) l h = tt
   leads_refused m s b n t c (Err to) l h = leads_refuses m s b n t c to l h

@@ -12,17 +12,19 @@ mod Composing
 mod Depths
 mod TokenViews
 mod Fronting
-mod ByteViews
+pub mod ByteViews
 mod Leading
 mod ByteSteps
 mod TakeNext
 mod Reaching
 mod Shown
 mod HeadSteps
-mod Grown
+mod Items
+mod TokenSteps
+pub mod Grown
 mod Holding
-mod Valued
-mod FrontValues
+pub mod Valued
+pub mod FrontValues
 mod Walking
 mod Refusing
 mod Reading

@@ -1,5 +1,5 @@
 -- What is read off tokens, by what the machine took of them.
-use Rattle.std.proofs.Common.{◌≡◌, ℕ, ◌<◌, List, [], ◌∷◌, ◌++◌, length, refl, sym, ap, ◌∙◌, subst, append_assoc, arith, Option, Result, Ok, Err, false}
+use Rattle.std.proofs.Common.{◌≡◌, ℕ, ◌≤◌, ◌<◌, List, [], ◌∷◌, ◌++◌, length, refl, sym, ap, ◌∙◌, subst, append_assoc, arith, Option, Some, None, Result, Ok, Err, false}
 use Rattle.std.specs.Prelude.{IfOk}
 use Rattle.std.specs.declared.alloc.AllocError.{AllocError}
 use Rattle.wkt_num.specs.Bytes.{Lexeme}
@@ -15,7 +15,7 @@ use Rattle.wkt_read.specs.Front.{NeedsNoMemory}
 use Rattle.wkt_read.specs.Items.{bad_number}
 use Rattle.wkt_read.specs.Messages.{message_text}
 use Rattle.wkt_read.specs.Parser.Outcome.{value_at}
-use Rattle.wkt_read.specs.Placed.{Placed, lexemes_of, AreEnds}
+use Rattle.wkt_read.specs.Placed.{Placed, lexemes_of, end_after, AreEnds}
 use Rattle.wkt_read.specs.Refusal.{IsRefused as SaysOf, IfText}
 use Rattle.wkt_read.specs.Standing.{Standing}
 use Rattle.wkt_read.specs.declared.error.ReadError.{ReadError}
@@ -28,11 +28,11 @@ use Rattle.wkt_read.proofs.ParserLemmas.Answering.{rest-is, some-taken, to-front
 use Rattle.wkt_read.proofs.ParserLemmas.Blamed.{bad_here}
 use Rattle.wkt_read.proofs.ParserLemmas.Early.{error_early}
 use Rattle.wkt_read.proofs.ParserLemmas.Free.{none_begins}
+use Rattle.wkt_machine.specs.Drives.{start, is_over}
 use Rattle.wkt_machine.specs.Goes.{IsStuck}
 use Rattle.wkt_machine.specs.Machines.{state_of}
 use Rattle.wkt_machine.specs.Refusing.{refused}
 use Rattle.wkt_machine.specs.TokensView.{tokens_view}
-use Rattle.wkt_machine.specs.View.{View}
 use Rattle.wkt_machine.specs.Values.{Takes, IsRead, IsRefused, OnMemory, OnRefused, WantsMemory}
 use Rattle.wkt_machine.specs.declared.machine.Machine.{Machine}
 use Rattle.wkt_machine.specs.declared.tokens.OneByOne.{OneByOne}
@@ -47,27 +47,23 @@ use Rattle.wkt_machine.proofs.Walking.{IsStuckAt, refused_as}
 is-bad : (m : Message) → message_text m ≡ bad_number → m ≡ message.BadNumber
 is-bad m = one-text m message.BadNumber
 
--- how tokens that are lent are seen
-abbrev lent : {T : Type 0} → (List ℕ → Option T) → View (OneByOne T)
-lent read = tokens_view read
-
 rest-append : (s : Standing) (given more : List Placed) → left s ≡ given ++ more → rest s ≡ lexemes_of given ++ lexemes_of more
 rest-append s given more e = rest-is s (given ++ more) e ∙ lexemes_append given more
 
 module _ {T : Type 0} (read : List ℕ → Option T) (a b : OneByOne T) where
-  takes_begins : (v : Value T) → Takes read (lent read) a v b → Begins read (rest a.tokens.now) v (rest b.tokens.now)
+  takes_begins : (v : Value T) → Takes read tokens_view a v b → Begins read (rest a.tokens.now) v (rest b.tokens.now)
   takes_begins v h =
       let given : List Placed = h.given ++ (h.last ∷ []) in
       (lexemes_of given, rest-append a.tokens.now given (left b.tokens.now) (h.split ∙ sym (append_assoc h.given (h.last ∷ []) (left b.tokens.now))) ∙ ap (λ l. lexemes_of given ++ l) (sym (rest-is b.tokens.now (left b.tokens.now) refl)), h.stands)
 
   -- what is read
-  pub read_found : (w : Tree T) → IsRead read (lent read) a w b → IsReadOff read (rest a.tokens.now) w (rest b.tokens.now)
+  pub read_found : (w : Tree T) → IsRead read tokens_view a w b → IsReadOff read (rest a.tokens.now) w (rest b.tokens.now)
   read_found w (v, takes, is) = (v, takes_begins v takes, is)
 
-  pub read_taken : (w : Tree T) → IsRead read (lent read) a w b → length (rest b.tokens.now) < length (rest a.tokens.now)
+  pub read_taken : (w : Tree T) → IsRead read tokens_view a w b → length (rest b.tokens.now) < length (rest a.tokens.now)
   read_taken w (v, takes, is) = some-taken read (rest a.tokens.now) v (rest b.tokens.now) (takes_begins v takes)
 
-  pub takes_advances : (v : Value T) → Takes read (lent read) a v b → Advances a.tokens.now b.tokens.now
+  pub takes_advances : (v : Value T) → Takes read tokens_view a v b → Advances a.tokens.now b.tokens.now
   takes_advances v h = record {
     given = h.given ++ (h.last ∷ []);
     split = h.split ∙ sym (append_assoc h.given (h.last ∷ []) (left b.tokens.now));
@@ -75,18 +71,18 @@ module _ {T : Type 0} (read : List ℕ → Option T) (a b : OneByOne T) where
     grows = h.keeps (taken_of a.tokens.now) (omega arith);
   }
 
-  pub read_near : (w : Tree T) → IsRead read (lent read) a w b → IsNear b.tokens.now
+  pub read_near : (w : Tree T) → IsRead read tokens_view a w b → IsNear b.tokens.now
   read_near w (v, takes, is) = takes.place.1
 
   -- there is no memory
-  pub wants_free : WantsMemory read (lent read) a b → (v : Value T) (after : List Lexeme) → Begins read (rest a.tokens.now) v after → NeedsNoMemory v → ⊥
+  pub wants_free : WantsMemory read tokens_view a b → (v : Value T) (after : List Lexeme) → Begins read (rest a.tokens.now) v after → NeedsNoMemory v → ⊥
   wants_free (w, takes, wants) v after (f, split, g) free =
       let (k, split2, stands) = takes_begins w takes in
       let one = geometry_one read v w f k after (rest b.tokens.now) g stands (sym split ∙ split2) in
       wants (subst NeedsNoMemory one.value free)
 
   -- no geometry comes next
-  module _ (m : Machine) (h : IsRefused read (lent read) a m b) where
+  module _ (m : Machine) (h : IsRefused read tokens_view a m b) where
     pub refused_advances : Advances a.tokens.now b.tokens.now
     refused_advances = record { given = h.taken; split = h.split; end = h.behind (end_of a.tokens.now) refl; grows = h.keeps (taken_of a.tokens.now) (omega arith) }
 
@@ -119,8 +115,8 @@ module _ {T : Type 0} (read : List ℕ → Option T) (a b : OneByOne T) where
       refusal_there text says = (k, says, said)
 
 -- what an answer says of its case
-pub if_ok : {X E : Type 0} (P : X → Type 0) (x : X) (r : Result X E) → r ≡ Ok x → IfOk r P → P x
-if_ok P x r e h = subst (λ r. IfOk r P) e h
+off_ok : {X : Type 0} (P : X → Type 0) (x : X) (r : Result X Unread) → r ≡ Ok x → IfOk r P → P x
+off_ok P x r e h = subst (λ r. IfOk r P) e h
 
 off_memory : {X : Type 0} (P : Type 0) (x : AllocError) (u : Unread) (r : Result X Unread) → r ≡ Err u → u ≡ Unmade x → OnMemory r P → P
 off_memory {X} P x u r e is h = subst (λ u. OnMemory {X = X} (Err u) P) is (subst (λ r. OnMemory r P) e h)
@@ -133,9 +129,9 @@ module _ {T : Type 0} (read : List ℕ → Option T) (a b : OneByOne T) (s t : S
   there : (P : Standing → Standing → Type 0) → P a.tokens.now b.tokens.now → P s t
   there P h = subst (λ s. P s t) before (subst (P a.tokens.now) (sym behind) h)
 
-  module _ (w : Wkt T) (is : r ≡ Ok w) (h : IfOk r (λ w. IsRead read (lent read) a (tree w) b)) where
-    off : IsRead read (lent read) a (tree w) b
-    off = if_ok (λ w. IsRead read (lent read) a (tree w) b) w r is h
+  module _ (w : Wkt T) (is : r ≡ Ok w) (h : IfOk r (λ w. IsRead read tokens_view a (tree w) b)) where
+    off : IsRead read tokens_view a (tree w) b
+    off = off_ok (λ w. IsRead read tokens_view a (tree w) b) w r is h
 
     pub ok_found : IsReadOff read (rest s) (tree w) (rest t)
     ok_found = there (λ s t. IsReadOff read (rest s) (tree w) (rest t)) (read_found read a b (tree w) off)
@@ -150,9 +146,9 @@ module _ {T : Type 0} (read : List ℕ → Option T) (a b : OneByOne T) (s t : S
     ok_near = there (λ s t. IsNear t) (read_near read a b (tree w) off)
 
   module _ (u : Unread) (is : r ≡ Err u) where
-    module _ (x : AllocError) (unmade : u ≡ Unmade x) (h : OnMemory r (WantsMemory read (lent read) a b)) where
-      wants : WantsMemory read (lent read) a b
-      wants = off_memory (WantsMemory read (lent read) a b) x u r is unmade h
+    module _ (x : AllocError) (unmade : u ≡ Unmade x) (h : OnMemory r (WantsMemory read tokens_view a b)) where
+      wants : WantsMemory read tokens_view a b
+      wants = off_memory (WantsMemory read tokens_view a b) x u r is unmade h
 
       pub memory_free : (v : Value T) (after : List Lexeme) → Begins read (rest s) v after → NeedsNoMemory v → ⊥
       memory_free = there (λ s t. (v : Value T) (after : List Lexeme) → Begins read (rest s) v after → NeedsNoMemory v → ⊥) (wants_free read a b wants)
@@ -160,9 +156,9 @@ module _ {T : Type 0} (read : List ℕ → Option T) (a b : OneByOne T) (s t : S
       pub memory_advances : Advances s t
       memory_advances = let (v, takes, needs) = wants in there Advances (takes_advances read a b v takes)
 
-    module _ (m : Machine) (stuck : u ≡ Refused m) (h : OnRefused r (λ m. IsRefused read (lent read) a m b)) where
-      at_stuck : IsRefused read (lent read) a m b
-      at_stuck = off_refused (λ m. IsRefused read (lent read) a m b) m u r is stuck h
+    module _ (m : Machine) (stuck : u ≡ Refused m) (h : OnRefused r (λ m. IsRefused read tokens_view a m b)) where
+      at_stuck : IsRefused read tokens_view a m b
+      at_stuck = off_refused (λ m. IsRefused read tokens_view a m b) m u r is stuck h
 
       pub stuck_advances : (after : Standing) → Advances t after → Advances s after
       stuck_advances after more = advances_then s t after (there Advances (refused_advances read a b m at_stuck)) more

@@ -1,15 +1,17 @@
 -- What the tokenizer's clauses say of tokens as a source.
-use Rattle.std.proofs.Common.{◌≡◌, ◌≢◌, ℕ, List, [], ◌∷◌, sym, refl, ap, ◌∙◌, subst, arith, Option, Some, None, false}
-use Rattle.wkt_num.specs.Bytes.{Open, Close, Comma, Word, Num}
-use Rattle.wkt_read.specs.Ahead.{left, end_of}
+use Rattle.std.proofs.Common.{◌≡◌, ◌≢◌, ◌≤◌, ◌+◌, ℕ, List, [], ◌∷◌, arith, sym, refl, ap, ◌∙◌, subst, Option, Some, None, false}
+use Rattle.wkt_num.specs.Bytes.{Lexeme, Num}
+use Rattle.wkt_read.specs.Ahead.{left, end_of, first_of, Moves}
+use Rattle.wkt_read.specs.Placed.{Placed}
+use Rattle.wkt_read.specs.Taking.{Looks, StaysUnread, TakesNumber}
 use Rattle.wkt_machine.specs.Drives.{is_over}
 use Rattle.wkt_machine.specs.Events.{Event}
-use Rattle.wkt_machine.specs.Goes.{Skips, Numbers}
+use Rattle.wkt_machine.specs.Goes.{Stays, Skips, Numbers, IsUnread}
 use Rattle.wkt_machine.specs.Machine.{at}
 use Rattle.wkt_machine.specs.Machines.{place_of, state_of, HasNext, IsSound}
 use Rattle.wkt_machine.specs.Makers.{Maker}
 use Rattle.wkt_machine.specs.Sight.{sight}
-use Rattle.wkt_machine.specs.TokensView.{number_next, Passes, tokens_view}
+use Rattle.wkt_machine.specs.TokensView.{seen_found, tokens_view}
 use Rattle.wkt_machine.specs.declared.machine.Machine.{Machine}
 use Rattle.wkt_machine.specs.declared.machine.Seen.TheVariants as seen
 use Rattle.wkt_machine.specs.declared.machine.State.TheVariants as next
@@ -30,32 +32,50 @@ x_open m e = ap (λ k. is_over (at m.depth (place_of k m.part m.dim))) e
 pub x_sound : (m : Machine) → m.state ≡ next.X → IsSound m
 x_sound m e = subst (λ k. HasNext k m.dim) (sym e) tt
 
-module _ {T : Type 0} (read : List ℕ → Option T) where
-  -- the lexeme that comes next is skipped
-  pub skips : (s t : OneByOne T) → Passes s t → sight (left s.tokens.now) ≢ seen.Other → Skips (tokens_view read) s t
-  skips s t (None, h) some = absurd (some (ap sight h.0))
-  skips s t (Some l, h) some = record {
+-- what comes first is what is seen
+pub sees_first : (ps : List Placed) → seen_found (first_of ps) ≡ sight ps
+sees_first [] = refl
+sees_first (p ∷ ps) = refl
+
+module _ {T : Type 0} where
+  -- nothing is taken
+  pub looks : (s t : OneByOne T) → Looks s.tokens.now t.tokens.now → Stays tokens_view s t
+  looks s t h = record { left = h.left; behind = λ end e. h.end ∙ e; keeps = λ j k. let more = h.grows in omega (arith, k, more) }
+
+  -- the source stands right behind a lexeme that is taken
+  pub stands : (s t : OneByOne T) (l : Lexeme) → Moves s.tokens.now (Some l) t.tokens.now → tokens_view.place t (end_of t.tokens.now)
+  stands s t l h = (refl, record { low = h.1; high = h.2 })
+
+  pub passed : (s t : OneByOne T) (l : Lexeme) → Moves s.tokens.now (Some l) t.tokens.now → (n : ℕ) → tokens_view.keeps s n → tokens_view.keeps t n
+  passed s t l h = λ j k. let more = h.3 in omega (arith, k, more)
+
+  -- a lexeme is taken
+  pub takes : (s t : OneByOne T) (l : Lexeme) → Moves s.tokens.now (Some l) t.tokens.now → Skips tokens_view s t
+  takes s t l h = record {
     lexeme = record { lexeme = l; end = end_of t.tokens.now };
     left = h.0;
     place = (refl, record { low = h.1; high = h.2 });
     keeps = λ j k. let more = h.3 in omega (arith, k, more);
   }
 
-  -- the number that comes next is taken, and made
-  module _ {B : Type 0} (maker : Maker T B) (s t : OneByOne T) (b c : B) (axis : Axis) (x : T) (looked : s.number ≡ number_next read (left s.tokens.now)) (is : s.number ≡ Some x) (made : maker.makes b (Event.Number axis x ∷ []) c) where
-    pub numbers : Passes s t → Numbers read (tokens_view read) maker s b axis t c
-    numbers (None, h) = let clash : ◌≡◌ {A = Option T} (Some x) None = sym is ∙ looked ∙ ap (number_next read) h.0 in cc
-    numbers (Some (Num run), h) = record {
-      run = run;
+  pub skips : (s t : OneByOne T) (o : Option Lexeme) → Moves s.tokens.now o t.tokens.now → sight (left s.tokens.now) ≢ seen.Other → Skips tokens_view s t
+  skips s t None h some = absurd (some (ap sight h.0))
+  skips s t (Some l) h some = takes s t l h
+
+  module _ (read : List ℕ → Option T) where
+    -- a number is taken, and made
+    pub numbers : {B : Type 0} (maker : Maker T B) (s t : OneByOne T) (b c : B) (axis : Axis) (x : T) → TakesNumber read s.tokens.now x t.tokens.now → maker.makes b (Event.Number axis x ∷ []) c → Numbers read tokens_view maker s b axis t c
+    numbers maker s t b c axis x h made = record {
+      run = h.run;
       number = x;
       end = end_of t.tokens.now;
-      left = h.0;
-      place = (refl, record { low = h.1; high = h.2 });
-      keeps = λ j k. let more = h.3 in omega (arith, k, more);
-      reads = sym (ap (number_next read) h.0) ∙ sym looked ∙ is;
+      left = h.moves.0;
+      place = (refl, record { low = h.moves.1; high = h.moves.2 });
+      keeps = λ j k. let more = h.moves.3 in omega (arith, k, more);
+      reads = h.reads;
       makes = made;
     }
-    numbers (Some Open, h) = let clash : ◌≡◌ {A = Option T} (Some x) None = sym is ∙ looked ∙ ap (number_next read) h.0 in cc
-    numbers (Some Close, h) = let clash : ◌≡◌ {A = Option T} (Some x) None = sym is ∙ looked ∙ ap (number_next read) h.0 in cc
-    numbers (Some Comma, h) = let clash : ◌≡◌ {A = Option T} (Some x) None = sym is ∙ looked ∙ ap (number_next read) h.0 in cc
-    numbers (Some (Word w), h) = let clash : ◌≡◌ {A = Option T} (Some x) None = sym is ∙ looked ∙ ap (number_next read) h.0 in cc
+
+    -- what stays is no number that is read
+    pub unread : (s t : OneByOne T) → StaysUnread read s.tokens.now t.tokens.now → IsUnread read (left s.tokens.now)
+    unread s t h = λ run end more is. h.unread run (ap first_of is)

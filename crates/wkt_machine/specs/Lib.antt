@@ -12,6 +12,7 @@ pub mod View
 pub mod Goes
 pub mod NothingMaker
 pub mod TokensView
+pub mod Marks
 pub mod BytesView
 pub mod Leads
 pub mod HeadBytes

@@ -22,7 +22,7 @@ use wkt_num::WktNum;
 use wkt_read::{Message, PeekableTokens, ReadError, Tokens};
 use wkt_types::Wkt;
 
-/// The geometry at the front of the tokens, which are lent; and the tokens behind it.
+/// The geometry at the front of the tokens, which come back.
 #[inline(always)]
 fn read_off<'t, 'a, T: WktNum>(
     alloc: Global,
@@ -42,14 +42,14 @@ fn read_off<'t, 'a, T: WktNum>(
     let _ = tokens.most_left();
     let source = OneByOne::new(tokens);
     let (answer, behind) = read::<T, OneByOne<'_, '_, T>>(alloc, source);
-    let lent = behind.into_tokens();
+    let left = behind.into_tokens();
     match answer {
-        Ok(geometry) => (Ok(geometry), lent),
+        Ok(geometry) => (Ok(geometry), left),
         Err(unread) => match unread {
-            Unread::Memory(error) => (Err(ReadError::Memory(error)), lent),
+            Unread::Memory(error) => (Err(ReadError::Memory(error)), left),
             Unread::Refused(machine) => {
-                let message = refused(machine, lent);
-                (Err(ReadError::Text(message.text())), lent)
+                let said = refused(machine, left).text();
+                (Err(ReadError::Text(said)), left)
             }
         },
     }
@@ -67,9 +67,9 @@ fn front_of<T: WktNum>(alloc: Global, text: &str) -> Result<(Wkt<T>, usize), Rea
     ensures free { (v end : _) → Front T.read text.now v end → NeedsNoMemory v → IsOk result }
 {
     let mut tokens = PeekableTokens::new(Tokens::from_str(text));
-    let (answer, behind) = read_off(alloc, &mut tokens);
+    let (answer, left) = read_off(alloc, &mut tokens);
     match answer {
-        Ok(geometry) => Ok((geometry, behind.end())),
+        Ok(geometry) => Ok((geometry, left.end())),
         Err(error) => Err(error),
     }
 }
@@ -152,18 +152,18 @@ impl<T: WktNum> FromWktStr for Wkt<T> {
             return Err(ReadError::Text(Message::Format.text()));
         }
         let mut tokens = PeekableTokens::new(Tokens::from_str(text));
-        let (answer, _) = read_off(alloc, &mut tokens);
-        answer
+        read_off(alloc, &mut tokens).0
     }
 
     fn read_front(alloc: Global, text: &str) -> Result<(Self, usize), ReadError> {
         front_of(alloc, text)
     }
 
+    // Taken out and put back, so that what is left is known.
     fn read_tokens(alloc: Global, tokens: &mut PeekableTokens<'_, T>) -> Result<Self, ReadError> {
-        let mut own = mem::replace(tokens, PeekableTokens::new(Tokens::from_str("")));
-        let (answer, behind) = read_off(alloc, &mut own);
-        *tokens = mem::replace(behind, PeekableTokens::new(Tokens::from_str("")));
+        let mut lent = mem::replace(tokens, PeekableTokens::new(Tokens::from_str("")));
+        let (answer, left) = read_off(alloc, &mut lent);
+        *tokens = mem::replace(left, PeekableTokens::new(Tokens::from_str("")));
         answer
     }
 }

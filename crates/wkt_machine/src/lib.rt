@@ -3,6 +3,7 @@
 //! Below stands `wkt_read`, with the grammar.
 #![tactic(auto)]
 
+mod adding;
 pub mod builder;
 pub mod bytes;
 mod coordinates;
@@ -14,6 +15,7 @@ pub mod laws;
 pub mod machine;
 pub mod nothing;
 mod numbers;
+mod pairs;
 mod part;
 mod refused;
 pub mod source;

@@ -1,45 +1,50 @@
 //! Tokens as a source.
 ghost use Rattle.std.specs.Prelude.{◌≡◌};
+ghost use Rattle.wkt_num.specs.Bytes.{Lexeme};
 ghost use Rattle.wkt_read.specs.Grammar.{kind_word};
+ghost use Rattle.wkt_read.specs.Taking.{StaysUnread, TakesNumber};
+ghost use Rattle.wkt_read.specs.Tokenizer.Unread.{found};
 ghost use Rattle.wkt_machine.specs.Sight.{seen_word};
-ghost use Rattle.wkt_machine.specs.TokensView.{seen_item, number_item, Passes};
+ghost use Rattle.wkt_machine.specs.TokensView.{seen_found, tokens_of};
+ghost use Rattle.std.specs.Prelude.{MatchOption};
 
 use crate::builder::Builder;
-use crate::machine::{Machine, Seen};
-use crate::part::Axis;
+use crate::coordinates::has_coordinates;
+use crate::machine::{Machine, Seen, State, part_of};
+use crate::pairs::pairs;
+use crate::part::{Axis, Part};
 use crate::source::{Source, Walk, Walked};
+use crate::step::on;
+use wkt_access::Dimension;
 use wkt_num::WktNum;
-use wkt_read::words::{dimension_of, is_empty, kind_of};
-use wkt_read::{PeekableTokens, Token};
+use wkt_read::PeekableTokens;
+use wkt_read::words::{Lexeme, dimension_of, is_empty, kind_of};
 
-/// The tokens of a text, one after another.
+/// The tokens of a text, one after another, which are lent.
 #[derive(Drop)]
 pub struct OneByOne<'t, 'a, T> {
-    tokens: &'t mut PeekableTokens<'a, T>,
-    // The number that was looked at.
-    number: Option<T>,
+    pub(crate) tokens: &'t mut PeekableTokens<'a, T>,
 }
 
 impl<'t, 'a, T: WktNum> OneByOne<'t, 'a, T> {
+    #[inline(always)]
     pub fn new(tokens: &'t mut PeekableTokens<'a, T>) -> Self
-        ensures { result.tokens ≡ tokens.entry }
+        ensures { tokens_of result ≡ tokens.entry }
     {
-        OneByOne {
-            tokens,
-            number: None,
-        }
+        OneByOne { tokens }
     }
 
-    /// The tokens that are left.
+    /// The tokens, of which some are left.
+    #[inline(always)]
     pub fn into_tokens(self) -> &'t mut PeekableTokens<'a, T>
-        ensures { result ≡ self.entry.tokens }
+        ensures { result ≡ tokens_of self.entry }
     {
         self.tokens
     }
 }
 
 /// A word.
-#[inline(always)]
+#[inline(never)]
 fn seen_word(word: &str) -> Seen
     ensures { result ≡ seen_word (kind_word word.now) word.now }
 {
@@ -53,57 +58,50 @@ fn seen_word(word: &str) -> Seen
     }
 }
 
-/// An item, and its number.
+/// A lexeme, or the end of the text.
 #[inline(always)]
-fn seen_item<T: WktNum>(item: Option<Result<Token<'_, T>, &'static str>>) -> (Seen, Option<T>)
-    ensures seen { result.0 ≡ seen_item item.entry }
-    ensures number { result.1 ≡ number_item item.entry }
+fn seen(lexeme: Lexeme<'_>) -> Seen
+    ensures { result ≡ seen_found (found lexeme.entry) }
 {
-    match item {
-        None => (Seen::Other, None),
-        Some(Ok(Token::Comma)) => (Seen::Comma, None),
-        Some(Ok(Token::Number(number))) => (Seen::Number, Some(number)),
-        Some(Ok(Token::ParenClose)) => (Seen::Close, None),
-        Some(Ok(Token::ParenOpen)) => (Seen::Open, None),
-        Some(Ok(Token::Word(word))) => (seen_word(word), None),
-        Some(Err(_)) => (Seen::Number, None),
+    match lexeme {
+        Lexeme::End => Seen::Other,
+        Lexeme::Comma => Seen::Comma,
+        Lexeme::Close => Seen::Close,
+        Lexeme::Open => Seen::Open,
+        Lexeme::Word(word) => seen_word(word),
+        Lexeme::Number(_) => Seen::Number,
     }
 }
 
-/// Takes the token that was looked at.
-#[inline(always)]
-fn passed<'t, 'a, T: WktNum>(source: OneByOne<'t, 'a, T>) -> OneByOne<'t, 'a, T>
-    ensures { Passes source.entry result }
+/// The number that comes next, where speed isn't wanted.
+#[inline(never)]
+fn take_number<T: WktNum>(tokens: &mut PeekableTokens<'_, T>) -> Option<T>
+    ensures { MatchOption result (StaysUnread T.read tokens.old tokens.new) (λ n. TakesNumber T.read tokens.old n tokens.new) }
 {
-    let OneByOne { tokens, .. } = source;
-    let _ = tokens.next();
-    OneByOne {
-        tokens,
-        number: None,
-    }
+    tokens.take_number()
 }
 
 impl<'t, 'a, T: WktNum> Source<T> for OneByOne<'t, 'a, T> {
     ghost use Rattle.wkt_machine.specs.TokensView.{tokens_view};
 
-    ghost view = { tokens_view T.read };
+    ghost view = { tokens_view };
 
     #[inline(always)]
     fn look(self) -> (Seen, Self) {
-        let OneByOne { tokens, .. } = self;
-        let (seen, number) = seen_item(tokens.peek());
-        (seen, OneByOne { tokens, number })
+        let seen = seen(self.tokens.look());
+        (seen, self)
     }
 
     #[inline(always)]
     fn skip(self) -> Self {
-        passed(self)
+        let _ = self.tokens.take();
+        self
     }
 
     #[inline(always)]
     fn number<B: Builder<T>>(self, builder: B, axis: Axis) -> Result<(Self, B), (Self, B)> {
-        match self.number {
-            Some(number) => Ok((passed(self), builder.number(number, axis))),
+        match take_number(self.tokens) {
+            Some(number) => Ok((self, builder.number(number, axis))),
             None => Err((self, builder)),
         }
     }
@@ -113,12 +111,38 @@ impl<'t, 'a, T: WktNum> Walk<T> for OneByOne<'t, 'a, T> {
     #[inline(always)]
     #[tactic(auto, using(crate::proofs::TokenViews::kind_open, crate::proofs::TokenViews::kind_sound))]
     fn header<B: Builder<T>>(self, machine: Machine, builder: B) -> Walked<Self, B> {
-        machine.step(self, builder)
+        let (kind, joined) = match self.tokens.take_kind() {
+            Some(found) => found,
+            None => return machine.step(self, builder),
+        };
+        let part = part_of(kind);
+        if let Some(dim) = joined {
+            return on(
+                self,
+                machine.begun(State::Opening, part, dim),
+                builder.begin(part, dim),
+            );
+        }
+        if !self.tokens.take_open() {
+            // It was looked at.
+            let alone = machine.begun(State::Dimension, part, Dimension::XY);
+            return alone.step(self, builder);
+        }
+        let made = builder.begin(part, Dimension::XY).open(part);
+        if let Part::Point = part {
+            let within = machine.begun(State::X, Part::Point, Dimension::XY);
+            return pairs(within, self, made);
+        }
+        let within = machine.begun(State::Opening, part, Dimension::XY).inside();
+        on(self, within, made)
     }
 
     #[inline(always)]
     #[tactic(auto, using(crate::proofs::TokenViews::x_open, crate::proofs::TokenViews::x_sound))]
     fn coordinates<B: Builder<T>>(self, machine: Machine, builder: B) -> Walked<Self, B> {
-        machine.step(self, builder)
+        match machine.dim {
+            Dimension::XY if has_coordinates(machine.part) => pairs(machine, self, builder),
+            _ => machine.step(self, builder),
+        }
     }
 }

@@ -5,11 +5,11 @@ ghost use Rattle.wkt_machine.specs.Growing.{HasMember, HasNumbers, HasPoint, May
 ghost use Rattle.wkt_machine.specs.Trees.{Becomes, Gives, GivesLast, Holds, Joins, coord_of};
 ghost use Rattle.wkt_machine.specs.declared.part.Part.TheVariants as kind;
 
+use crate::adding::{add, add_flat, add_one, taken};
 use crate::builder::Builder;
 use crate::numbers::read_at;
 use crate::part::{Axis, Part};
 use std::alloc::Global;
-use std::mem;
 use wkt_access::Dimension;
 use wkt_num::WktNum;
 use wkt_types::{
@@ -59,49 +59,6 @@ pub struct Tree<T> {
     lines: Vec<LineString<T>>,
     areas: Vec<Polygon<T>>,
     outer: Vec<OpenCollection<T>>,
-}
-
-/// The list, in whose place a new one stands.
-#[inline(always)]
-fn taken<V>(list: &mut Vec<V>, alloc: Global) -> Vec<V>
-    ensures value { result ≡ list.old }
-    ensures after { list.new.items ≡ [] }
-{
-    mem::replace(list, Vec::new(alloc))
-}
-
-/// Adds an item; or there was no memory for it.
-#[inline(always)]
-fn add<V: Drop>(list: &mut Vec<V>, item: V) -> bool
-    ensures { list.new.items ≡ (if result then list.old.items ++ item ∷ [] else list.old.items) }
-{
-    match list.push(item) {
-        Ok(()) => true,
-        Err(_) => false,
-    }
-}
-
-/// The same with room for this item alone.
-#[inline(always)]
-fn add_last<V: Drop>(list: &mut Vec<V>, item: V) -> bool
-    ensures { list.new.items ≡ (if result then list.old.items ++ item ∷ [] else list.old.items) }
-{
-    match list.reserve_exact(1) {
-        Ok(()) => add(list, item),
-        Err(_) => false,
-    }
-}
-
-/// Adds an item to those before it, the last one with room for itself alone.
-#[inline(always)]
-fn add_one<V: Drop>(list: &mut Vec<V>, item: V, is_last: bool) -> bool
-    ensures { list.new.items ≡ (if result then list.old.items ++ item ∷ [] else list.old.items) }
-{
-    if is_last {
-        add_last(list, item)
-    } else {
-        add(list, item)
-    }
 }
 
 impl<T: WktNum> Tree<T> {
@@ -180,12 +137,26 @@ impl<T: WktNum> Tree<T> {
     fn end_coord(&mut self)
         ensures { Becomes true HasNumbers with_coord self.old self.new }
     {
+        if self.z.is_some() || self.m.is_some() {
+            return self.end_high_coord();
+        }
         if let Some(x) = self.x {
             if let Some(y) = self.y {
-                let (z, m) = (self.z, self.m);
-                if !add(&mut self.coords, Coord { x, y, z, m }) {
+                if !add_flat(&mut self.coords, x, y) {
                     self.is_lost = true;
                 }
+            }
+        }
+    }
+
+    /// The same of any dimension.
+    #[inline(never)]
+    fn end_high_coord(&mut self)
+        ensures { Becomes true HasNumbers with_coord self.old self.new }
+    {
+        if let Some(coord) = self.coord() {
+            if !add(&mut self.coords, coord) {
+                self.is_lost = true;
             }
         }
     }

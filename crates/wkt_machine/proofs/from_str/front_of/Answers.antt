@@ -1,12 +1,13 @@
 -- What was read of a text's lexemes is what the text has at its front, in bytes.
 use Rattle.std.proofs.Common.{◌∙◌, sym, subst}
+use Rattle.std.specs.Prelude.{IfOk}
+use Rattle.std.specs.Result.{IsOk}
+use Rattle.wkt_types.specs.Tree.{tree}
 use Rattle.wkt_types.specs.declared.geometry.Wkt.{Wkt}
 use Rattle.wkt_read.specs.Ahead.{rest}
 use Rattle.wkt_read.specs.Begun.{NoneBegins}
 use Rattle.wkt_read.specs.Bad.{HasBad}
 use Rattle.wkt_read.specs.Front.{Front, HasNoFront}
-use Rattle.std.specs.Result.{IsOk}
-use Rattle.wkt_types.specs.Tree.{tree}
 use Rattle.wkt_read.specs.Answered.{HasBadNumber, IsReadOff, OnText, OnMessage}
 use Rattle.wkt_read.specs.Items.{bad_number}
 use Rattle.wkt_read.specs.Placed.{AreEnds}
@@ -14,12 +15,12 @@ use Rattle.wkt_read.proofs.LawLemmas.FrontEnds.{front-some, front-within, front-
 use Rattle.wkt_read.proofs.LawLemmas.OnePlacing.{placed-only}
 use Rattle.wkt_read.proofs.ParserLemmas.Answering.{to-front, from-front, no-front, split-of, text-map, message-map}
 use Rattle.wkt_read.specs.Refusal.{IsRefused, IsTextRefused, IfText}
-use Rattle.wkt_machine.proofs.Reading.{if_ok, if-text-err}
+use Rattle.wkt_machine.proofs.Reading.{if-text-err}
 use Rattle.wkt_machine.proofs.from_str.front_of.Goals as goal
 
 pub returns-in-Ok-clause-found : goal.returns-in-Ok-clause-found
 returns-in-Ok-clause-found g c =
-    let (v, begins, is) = if_ok (λ w. IsReadOff g.T.WktNum.read (rest c.new-tokens.result) (tree w) (rest c.read_off-answer.result.1.now)) c.in-Ok.geometry c.read_off-answer.result.0 c.in-Ok.is c.read_off-answer.ensures.found in
+    let (v, begins, is) = subst (λ r. IfOk r (λ w. IsReadOff g.T.WktNum.read (rest c.new-tokens.result) (tree w) (rest c.read_off-answer.result.1.now))) c.in-Ok.is c.read_off-answer.ensures.found in
     (v, subst (Front g.T.WktNum.read c.args.text.now v) (sym c.end.ensures) (to-front g.T.WktNum.read c.args.text.now _ _ v (subst (AreEnds c.args.text.now) (sym c.new-tokens.ensures.left) c.from_str.ensures.ends) (c.new-tokens.ensures.end ∙ c.from_str.ensures.start) c.read_off-answer.ensures.advances begins), is)
 
 pub returns-in-Ok-clause-some : goal.returns-in-Ok-clause-some
@@ -49,4 +50,4 @@ returns-in-Err-clause-refusal g c =
 pub returns-in-Err-clause-free : goal.returns-in-Err-clause-free
 returns-in-Err-clause-free g c = λ v end front small.
     let (after, begins) = from-front g.T.WktNum.read c.args.text.now c.new-tokens.result v end (c.new-tokens.ensures.left ∙ placed-only _ _ c.from_str.ensures.split c.from_str.ensures.ends) front in
-    subst IsOk c.in-Err.is (c.read_off-answer.ensures.free v after begins small)
+    subst (λ r. IsOk r) c.in-Err.is (c.read_off-answer.ensures.free v after begins small)

@@ -1,8 +1,6 @@
 -- A drive that keeps nothing ends where the front does.
 use Rattle.std.proofs.Common.{ap, sym, ◌∙◌, subst, arith}
-use Rattle.std.specs.Borrow.{MutBor}
 use Rattle.wkt_read.specs.Ahead as ahead
-use Rattle.wkt_read.specs.Standing.{Standing}
 use Rattle.wkt_read.specs.Front.{Front}
 use Rattle.wkt_read.proofs.LawLemmas.FrontEnds.{front-some, front-within, front-boundary}
 use Rattle.wkt_read.proofs.LawLemmas.OnePlacing.{placed-only}
@@ -14,9 +12,9 @@ use Rattle.wkt_machine.proofs.front.front_end_by_tokens.Goals as goal
 pub returns-in-Ok-clause-front : goal.returns-in-Ok-clause-front
 returns-in-Ok-clause-front g c =
     let (v, front, made) =
-    front_made g.T.WktNum.read (tokens_view g.T.WktNum.read) nothing_maker c.args.text.now c.new.result _ c.in-Ok.over
-    (ap (λ (b : MutBor Standing). ahead.left b.now) c.new.ensures ∙ c.new-tokens.ensures.left ∙ placed-only _ _ c.from_str.ensures.split c.from_str.ensures.ends) (ahead.end_of c.in-Ok.over.source.tokens.now) (λ end h. h.0) c.in-Ok.ensures.on c.in-Ok.ensures.over in
-    (v, subst (Front g.T.WktNum.read c.args.text.now v) (sym (c.end.ensures ∙ ap (λ (b : MutBor Standing). ahead.end_of b.now) c.into_tokens.ensures)) front)
+    front_made g.T.WktNum.read tokens_view nothing_maker c.args.text.now c.new.result _ c.in-Ok.over
+    (ap (λ t. ahead.left t.now) c.new.ensures ∙ c.new-tokens.ensures.left ∙ placed-only _ _ c.from_str.ensures.split c.from_str.ensures.ends) (ahead.end_of c.in-Ok.over.source.tokens.now) (λ end h. h.0) c.in-Ok.ensures.on c.in-Ok.ensures.over in
+    (v, subst (Front g.T.WktNum.read c.args.text.now v) (sym (c.end.ensures ∙ ap (λ t. ahead.end_of t.now) c.into_tokens.ensures)) front)
 
 pub returns-in-Ok-clause-some : goal.returns-in-Ok-clause-some
 returns-in-Ok-clause-some g c = let f = returns-in-Ok-clause-front g c in front-some g.T.WktNum.read c.args.text.now f.0 _ f.1
@@ -29,5 +27,5 @@ returns-in-Ok-clause-boundary g c = let f = returns-in-Ok-clause-front g c in fr
 
 pub returns-in-Err-clause-front : goal.returns-in-Err-clause-front
 returns-in-Err-clause-front g c =
-    no_front_there g.T.WktNum.read (tokens_view g.T.WktNum.read) nothing_maker c.args.text.now c.new.result _ c.in-Err.field-0
-    (ap (λ (b : MutBor Standing). ahead.left b.now) c.new.ensures ∙ c.new-tokens.ensures.left ∙ placed-only _ _ c.from_str.ensures.split c.from_str.ensures.ends) 0 (omega arith) c.in-Err.ensures.refused
+    no_front_there g.T.WktNum.read tokens_view nothing_maker c.args.text.now c.new.result _ c.in-Err.field-0
+    (ap (λ t. ahead.left t.now) c.new.ensures ∙ c.new-tokens.ensures.left ∙ placed-only _ _ c.from_str.ensures.split c.from_str.ensures.ends) 0 (omega arith) c.in-Err.ensures.refused

@@ -16,27 +16,27 @@ use Rattle.wkt_machine.proofs.from_str.WktFromWktStr.from_str.Goals as goal
 
 pub returns-clause-found : goal.returns-clause-found
 returns-clause-found g c =
-    front g.T.WktNum.read c.args.text.now c.new-tokens.result c.read_off-answer.result.1.now c.read_off-answer.result.0 (subst (AreEnds c.args.text.now) (sym c.new-tokens.ensures.left) c.from_str.ensures.ends) (c.new-tokens.ensures.end ∙ c.from_str.ensures.start) c.read_off-answer.ensures.advances c.read_off-answer.ensures.found
+    front g.T.WktNum.read c.args.text.now c.new-tokens.result c.read_off.result.1.now c.read_off.result.0 (subst (AreEnds c.args.text.now) (sym c.new-tokens.ensures.left) c.from_str.ensures.ends) (c.new-tokens.ensures.end ∙ c.from_str.ensures.start) c.read_off.ensures.advances c.read_off.ensures.found
 
 pub returns-clause-no_front : goal.returns-clause-no_front
 returns-clause-no_front g c =
-    on-text c.read_off-answer.result.0 (NoneBegins g.T.WktNum.read (rest c.new-tokens.result)) (HasNoFront g.T.WktNum.read c.args.text.now)
-    (no-front g.T.WktNum.read c.args.text.now c.new-tokens.result (c.new-tokens.ensures.left ∙ placed-only _ _ c.from_str.ensures.split c.from_str.ensures.ends)) c.read_off-answer.ensures.no_geometry
+    on-text c.read_off.result.0 (NoneBegins g.T.WktNum.read (rest c.new-tokens.result)) (HasNoFront g.T.WktNum.read c.args.text.now)
+    (no-front g.T.WktNum.read c.args.text.now c.new-tokens.result (c.new-tokens.ensures.left ∙ placed-only _ _ c.from_str.ensures.split c.from_str.ensures.ends)) c.read_off.ensures.no_geometry
 
 pub returns-clause-bad : goal.returns-clause-bad
 returns-clause-bad g c =
-    on-message c.read_off-answer.result.0 bad_number (HasBad g.T.WktNum.read (rest c.new-tokens.result)) (HasBadNumber g.T.WktNum.read c.args.text.now)
-    (λ has. (rest c.new-tokens.result, split-of g.T.WktNum.read c.args.text.now c.new-tokens.result (c.new-tokens.ensures.left ∙ placed-only _ _ c.from_str.ensures.split c.from_str.ensures.ends), has)) c.read_off-answer.ensures.bad
+    on-message c.read_off.result.0 bad_number (HasBad g.T.WktNum.read (rest c.new-tokens.result)) (HasBadNumber g.T.WktNum.read c.args.text.now)
+    (λ has. (rest c.new-tokens.result, split-of g.T.WktNum.read c.args.text.now c.new-tokens.result (c.new-tokens.ensures.left ∙ placed-only _ _ c.from_str.ensures.split c.from_str.ensures.ends), has)) c.read_off.ensures.bad
 
 pub returns-clause-free : goal.returns-clause-free
 returns-clause-free g c = λ v end front small.
     let (after, begins) = from-front g.T.WktNum.read c.args.text.now c.new-tokens.result v end (c.new-tokens.ensures.left ∙ placed-only _ _ c.from_str.ensures.split c.from_str.ensures.ends) front in
-    c.read_off-answer.ensures.free v after begins small
+    c.read_off.ensures.free v after begins small
 
 pub returns-clause-refusal : goal.returns-clause-refusal
 returns-clause-refusal g c =
-    if-text c.read_off-answer.result.0 (λ said. IsRefused g.T.WktNum.read (rest c.new-tokens.result) said (rest c.read_off-answer.result.1.now)) (IsTextRefused g.T.WktNum.read c.args.text.now)
-    (λ said (m, says, e). (m, says, (rest c.new-tokens.result, rest c.read_off-answer.result.1.now, split-of g.T.WktNum.read c.args.text.now c.new-tokens.result (c.new-tokens.ensures.left ∙ placed-only _ _ c.from_str.ensures.split c.from_str.ensures.ends), e))) c.read_off-answer.ensures.refusal
+    if-text c.read_off.result.0 (λ said. IsRefused g.T.WktNum.read (rest c.new-tokens.result) said (rest c.read_off.result.1.now)) (IsTextRefused g.T.WktNum.read c.args.text.now)
+    (λ said (m, says, e). (m, says, (rest c.new-tokens.result, rest c.read_off.result.1.now, split-of g.T.WktNum.read c.args.text.now c.new-tokens.result (c.new-tokens.ensures.left ∙ placed-only _ _ c.from_str.ensures.split c.from_str.ensures.ends), e))) c.read_off.ensures.refusal
 
 pub returns-then-is_empty-clause-no_front : goal.returns-then-is_empty-clause-no_front
 returns-then-is_empty-clause-no_front g c = empty.no-front g.T.WktNum.read c.args.text.now (empty.no-bytes _ (sym c.is_empty.ensures ∙ c.if-is_empty.true))

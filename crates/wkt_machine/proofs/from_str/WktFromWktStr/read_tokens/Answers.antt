@@ -1,11 +1,9 @@
--- What is read of the tokens that were taken out is read of these.
-use Rattle.std.proofs.Common.{sym, ap, subst}
-use Rattle.std.specs.Result.{IsOk}
+-- What needs no memory is read.
+use Rattle.std.proofs.Common.{sym, subst}
 use Rattle.wkt_read.specs.Ahead.{rest}
 use Rattle.wkt_read.specs.Answered.{Begins}
 use Rattle.wkt_read.specs.Standing.{Standing}
 use Rattle.wkt_machine.proofs.from_str.WktFromWktStr.read_tokens.Goals as goal
 
 pub returns-clause-free : goal.returns-clause-free
-returns-clause-free g c = λ v after begins small.
-    c.read_off-answer.ensures.free v after (subst (λ (s : Standing). Begins g.T.WktNum.read (rest s) v after) (sym c.replace-own.ensures.value) begins) small
+returns-clause-free g c = λ v after begins small. c.read_off-answer.ensures.free v after (subst (λ (s : Standing). Begins g.T.WktNum.read (rest s) v after) (sym c.replace-lent.ensures.value) begins) small

@@ -1,0 +1,19 @@
+-- What has grown where the machine is over, or where it is refused.
+use Rattle.std.proofs.Common.{[], None}
+use Rattle.wkt_flat.specs.Equal.{coord_eq}
+use Rattle.wkt_machine.specs.Growing.{rest}
+use Rattle.wkt_machine.proofs.Valued.{taken}
+use Rattle.wkt_flat_read.specs.Growers.{tree_maker, tree_of}
+use Rattle.wkt_flat_read.proofs.Flats.{lent, flat_off, never_refused}
+use Rattle.wkt_flat_read.proofs.text.read.Goals as goal
+
+pub returns-in-Ok : goal.returns-in-Ok
+returns-in-Ok g c =
+    let num = g.T.WktNum in
+    let E = coord_eq g.T.PartialEq.eq in
+    let view = g.S.Source.view in
+    let begins = lent E (tree_of c.new.result) _ (rest [] None) c.new.ensures c.new-tree.ensures in
+    let (v, takes, grew) = taken num.read view (tree_maker E) c.args.source c.new.result c.in-Ok.over c.in-Ok.ensures.on c.in-Ok.ensures.over in record {
+      found = flat_off num.is_value num.read g.met.T.WktNum.reads_values E view _ _ c.args.source c.in-Ok.over.source begins (v, takes, grew) c.answer.result c.answer.ensures;
+      refused = never_refused E _ _ c.answer.result c.answer.ensures;
+    }

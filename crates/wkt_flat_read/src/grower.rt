@@ -1,0 +1,77 @@
+//! A flat tree that grows by the events of a walk.
+ghost use Rattle.std.specs.Prelude.{◌≡◌};
+
+use crate::tree::FlatTree;
+use wkt_access::Dimension;
+use wkt_machine::{Axis, Builder, Part};
+use wkt_num::WktNum;
+
+/// Makes a flat tree, which is lent to it.
+#[derive(Drop)]
+pub struct FlatGrower<'a, T> {
+    tree: &'a mut FlatTree<T>,
+}
+
+impl<'a, T: WktNum> FlatGrower<'a, T> {
+    ghost use Rattle.wkt_flat_read.specs.Growers.{tree_of};
+
+    #[inline(always)]
+    pub fn new(tree: &'a mut FlatTree<T>) -> Self
+        ensures { tree_of result ≡ tree.entry }
+    {
+        FlatGrower { tree }
+    }
+
+    /// The tree.
+    #[inline(always)]
+    pub fn into_tree(self) -> &'a mut FlatTree<T>
+        ensures { result ≡ tree_of self.entry }
+    {
+        self.tree
+    }
+}
+
+impl<T: WktNum> Builder<T> for FlatGrower<'_, T> {
+    ghost use Rattle.wkt_flat.specs.Equal.{coord_eq};
+    ghost use Rattle.wkt_flat_read.specs.Growers.{tree_maker};
+
+    ghost maker = { tree_maker (coord_eq T.eq) };
+
+    #[inline(always)]
+    fn begin(self, _whole: Part, _dim: Dimension) -> Self {
+        self
+    }
+
+    #[inline(always)]
+    fn open(self, part: Part) -> Self {
+        if let Part::Collection = part {
+            self.tree.open_collection();
+        }
+        self
+    }
+
+    #[inline(always)]
+    fn comma(self, part: Part) -> Self {
+        self.tree.end_item(part, false);
+        self
+    }
+
+    #[inline(always)]
+    fn close(self, part: Part) -> Self {
+        self.tree.end_item(part, true);
+        self.tree.end(part);
+        self
+    }
+
+    #[inline(always)]
+    fn empty(self, part: Part) -> Self {
+        self.tree.put_empty(part);
+        self
+    }
+
+    #[inline(always)]
+    fn number(self, number: T, axis: Axis) -> Self {
+        self.tree.put_number(axis, number);
+        self
+    }
+}
