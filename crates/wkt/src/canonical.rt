@@ -83,6 +83,10 @@ pub fn canonical_text<T: WktNum>(alloc: Global, text: &str) -> Result<String, Re
     ensures bad { OnMessage result bad_number (HasBadNumber T.read text.now) }
     ensures refusal { IfText result (λ said. IsTextRefused T.read text.now said) }
 {
+    // A text of no bytes, as of a blank cell, is refused before anything is walked.
+    if text.is_empty() {
+        return Err(ReadError::Text(Message::Format.text()));
+    }
     if text.len() <= SHORT {
         let mut near = [0u8; SHORT_ROOM];
         match canonical_into::<T>(text, &mut near) {

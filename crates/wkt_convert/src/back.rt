@@ -13,13 +13,14 @@ use wkt_flat::Geometry;
 use wkt_num::WktNum;
 use wkt_types::{Coord, Dimension, GeometryCollection, LineString, Point, Polygon, Wkt};
 
-/// A coordinate without z and m.
-fn coord<T: Copy>(c: flat::Coord<T>) -> Coord<T>
-    ensures { result ≡ flat_xy c }
+/// A coordinate without z and m. Its numbers are given by value, so that they go where it is to stand with no copy between.
+#[inline(always)]
+fn coord<T>(x: T, y: T) -> Coord<T>
+    ensures { result ≡ flat_xy (record { x = x; y = y }) }
 {
     Coord {
-        x: c.x,
-        y: c.y,
+        x,
+        y,
         z: None,
         m: None,
     }
@@ -29,7 +30,7 @@ fn coord<T: Copy>(c: flat::Coord<T>) -> Coord<T>
 pub(crate) fn point<T: Copy>(p: flat::Point<T>) -> Point<T>
     ensures { result ≡ point_back p }
 {
-    Point::new(Some(coord(p.0)), Dimension::XY)
+    Point::new(Some(coord(p.0.x, p.0.y)), Dimension::XY)
 }
 
 /// The coordinates without z and m. Each is made where it is to stand, with no result between.
@@ -38,12 +39,7 @@ fn coords<T: Copy + Drop>(alloc: Global, cs: &[flat::Coord<T>]) -> Result<Vec<Co
 {
     let mut all = Vec::with_capacity(alloc, cs.len())?;
     for c in cs {
-        all.push_reserved(Coord {
-            x: c.x,
-            y: c.y,
-            z: None,
-            m: None,
-        });
+        all.push_reserved(coord(c.x, c.y));
     }
     Ok(all)
 }
@@ -87,8 +83,8 @@ pub(crate) fn two<T: Copy + Drop>(
     ensures { IfOk result (λ r. r ≡ line_string_back (l.now.start ∷ l.now.end ∷ [])) }
 {
     let mut all = Vec::with_capacity(alloc, 2)?;
-    all.push(coord(l.start))?;
-    all.push(coord(l.end))?;
+    all.push(coord(l.start.x, l.start.y))?;
+    all.push(coord(l.end.x, l.end.y))?;
     Ok(LineString::new(all, Dimension::XY))
 }
 
@@ -115,8 +111,19 @@ fn piece_of<'a, T: WktNum>(
     }
 }
 
-/// The `Wkt` of a geometry.
+/// The `Wkt` of a geometry. A point's is made in place: it has no part in what other kinds need.
 pub(crate) fn geometry<T: WktNum>(alloc: Global, g: &Geometry<T>) -> Result<Wkt<T>, AllocError>
+    ensures { IfOk result (λ w. trees.tree w ≡ back (flat_tree g.now)) }
+{
+    match g {
+        Geometry::Point(p) => Ok(Wkt::Point(point(*p))),
+        _ => by_piece(alloc, g),
+    }
+}
+
+/// The `Wkt` of a geometry of any kind.
+#[inline(never)]
+fn by_piece<T: WktNum>(alloc: Global, g: &Geometry<T>) -> Result<Wkt<T>, AllocError>
     ensures { IfOk result (λ w. trees.tree w ≡ back (flat_tree g.now)) }
 {
     match piece_of(alloc, g)? {
