@@ -13,7 +13,7 @@ use crate::value::{Unread, read};
 use std::alloc::Global;
 use wkt_explain::message;
 use wkt_num::WktNum;
-use wkt_read::ReadError;
+use wkt_read::{Message, ReadError};
 use wkt_types::Wkt;
 
 /// The geometry at the front of the text, and where its last lexeme ends, in bytes: what `Wkt::read_front` answers. It
@@ -22,6 +22,25 @@ use wkt_types::Wkt;
 /// # Errors
 /// `Text` where no beginning of the text is a geometry, with what was found amiss; `Memory` where memory ran out.
 pub fn read_text<T: WktNum>(alloc: Global, text: &str) -> Result<(Wkt<T>, usize), ReadError>
+    ensures found { IfOk result (λ r. IsFrontTo T.read text.now (tree r.0) r.1) }
+    ensures some { IfOk result (λ r. 0 < r.1) }
+    ensures within { IfOk result (λ r. r.1 ≤ length text.now) }
+    ensures boundary { IfOk result (λ r. IsCharBoundary text.now r.1) }
+    ensures no_front { OnText result (HasNoFront T.read text.now) }
+    ensures bad { OnMessage result bad_number (HasBadNumber T.read text.now) }
+    ensures refusal { IfText result (λ said. IsTextRefused T.read text.now said) }
+    ensures free { (v end : _) → Front T.read text.now v end → NeedsNoMemory v → IsOk result }
+{
+    // A text of no bytes, as of a blank cell, is refused before anything is looked at.
+    if text.is_empty() {
+        return Err(ReadError::Text(Message::Format.text()));
+    }
+    front_of(alloc, text)
+}
+
+/// The same, by the machine, of any text.
+#[inline(always)]
+fn front_of<T: WktNum>(alloc: Global, text: &str) -> Result<(Wkt<T>, usize), ReadError>
     ensures found { IfOk result (λ r. IsFrontTo T.read text.now (tree r.0) r.1) }
     ensures some { IfOk result (λ r. 0 < r.1) }
     ensures within { IfOk result (λ r. r.1 ≤ length text.now) }
