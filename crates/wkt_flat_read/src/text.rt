@@ -17,7 +17,7 @@ use wkt_explain::message;
 use wkt_machine::drive::drive;
 use wkt_machine::{At, Bytes, Unread, Walk};
 use wkt_num::WktNum;
-use wkt_read::ReadError;
+use wkt_read::{Message, ReadError};
 
 /// What has grown.
 #[inline(always)]
@@ -71,6 +71,21 @@ fn read<T: WktNum, S: Walk<T>>(alloc: Global, source: S) -> (Result<Flattened<T>
 /// # Errors
 /// `Text` where no beginning of the text is a geometry, with what was found amiss; `Memory` where memory ran out.
 pub fn read_text<T: WktNum>(alloc: Global, text: &str) -> Result<Flattened<T>, ReadError>
+    ensures found { IfOk result (IsFlatFront T.read (coord_eq T.eq) text.now) }
+    ensures no_front { OnText result (HasNoFront T.read text.now) }
+    ensures bad { OnMessage result bad_number (HasBadNumber T.read text.now) }
+    ensures refusal { IfText result (λ said. IsTextRefused T.read text.now said) }
+{
+    // A text of no bytes, as of a blank cell, is refused before anything is looked at.
+    if text.is_empty() {
+        return Err(ReadError::Text(Message::Format.text()));
+    }
+    front_of(alloc, text)
+}
+
+/// The same, by the machine, of any text.
+#[inline(always)]
+fn front_of<T: WktNum>(alloc: Global, text: &str) -> Result<Flattened<T>, ReadError>
     ensures found { IfOk result (IsFlatFront T.read (coord_eq T.eq) text.now) }
     ensures no_front { OnText result (HasNoFront T.read text.now) }
     ensures bad { OnMessage result bad_number (HasBadNumber T.read text.now) }
