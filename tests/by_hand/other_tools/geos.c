@@ -34,7 +34,8 @@ static GEOSGeometry *point(double x, double y) {
 /* The key of a whole text with a 0 behind it, or 0 where it is refused. */
 static int key_of(const char *text, uint32_t places, char *key, size_t room) {
     size_t length = strlen(text), needed, end;
-    if (wkt_canonical((const uint8_t *)text, length, places | WKT_WHOLE, (uint8_t *)key, room - 1, &needed, &end) != WKT_OK)
+    if (wkt_canonical((const uint8_t *)text, length, places | WKT_WHOLE, (uint8_t *)key, room - 1, &needed, &end) !=
+        WKT_OK)
         return 0;
     key[needed] = 0;
     return 1;
@@ -135,7 +136,8 @@ int main(int count_of_words, char **words) {
     for (int i = 0; i < CALLS; i++) {
         for (int s = 0; s < sorts; s++) {
             Counts *c = &counts[i][s];
-            printf("GEOS\t%s\t%s\t%d\t%d\t%d\t%d\t%d\n", calls[i].name, c->sort, c->texts, c->read, c->same, c->exact, c->against);
+            printf("GEOS\t%s\t%s\t%d\t%d\t%d\t%d\t%d\n", calls[i].name, c->sort, c->texts, c->read, c->same, c->exact,
+                   c->against);
         }
         given(words[2], &calls[i], writers[i], reader);
     }

@@ -44,7 +44,7 @@ def given(program, call, write, read):
 
 
 def kinds(program, again):
-    """The keys of the file `kinds` that don't stay the same: again(key) is the text of what the program reads, or None."""
+    """The keys of the file `kinds` that change: again(key) is the text of what the program reads, or None."""
     with open(sys.argv[3], encoding="utf-8") as keys:
         for key in keys.read().splitlines():
             text = again(key)
