@@ -1,7 +1,7 @@
 """Prints keys that none of the programs wrote: given.py DOUBLES.
 
-Of the points in degrees it takes the first 10,000 whose numbers have at most eighteen places: a line `six` with the key of
-six places, and a line `all` with that of all digits.
+Of the points in degrees it takes the first 10,000 whose numbers have at most eighteen places: a line `six` with the
+key of six places, and a line `all` with that of all digits.
 """
 import sys
 from decimal import Decimal
