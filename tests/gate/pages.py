@@ -10,7 +10,7 @@ import sys
 
 TOP = os.path.dirname(os.path.dirname(os.path.dirname(os.path.abspath(__file__))))
 README_BYTES = 7 * 1024
-ALL_BYTES = 152 * 1024
+ALL_BYTES = 156 * 1024
 WORDS = 35
 # Made from the sources, so neither read by sentences nor counted.
 MADE = {"docs/API.md"}
