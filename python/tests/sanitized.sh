@@ -17,6 +17,6 @@ gcc "${flags[@]}" "$here/arrow_peer.c" -o arrow_peer.so
 gcc "${flags[@]}" "$here/refuse.c" -o refuse.so
 # The process has the sanitizer's allocator from its start, and Python's own goes there.
 LD_PRELOAD="$(gcc -print-file-name=libasan.so) $(gcc -print-file-name=libubsan.so)" ASAN_OPTIONS=detect_leaks=0 UBSAN_OPTIONS=print_stacktrace=1 PYTHONMALLOC=malloc \
-    PYTHONPATH="$work:$here" WKT_LIB=$1 "$python" -W error -m unittest -v test_arrow test_pack > said 2>&1 || { cat said; echo "under sanitizers: the tests fail"; exit 1; }
+    PYTHONPATH="$work:$here" WKT_LIB=$1 "$python" -W error -m unittest -v test_arrow test_arrow_lent test_pack > said 2>&1 || { cat said; echo "under sanitizers: the tests fail"; exit 1; }
 ! grep -E "skipped|ERROR: AddressSanitizer|runtime error" said || { echo "under sanitizers: a test was skipped, or something is wrong"; exit 1; }
 echo "under sanitizers: $(grep '^Ran' said), $(tail -n 1 said)"

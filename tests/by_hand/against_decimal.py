@@ -4,7 +4,9 @@
 The reader follows docs/GRAMMAR.md, with Python's Decimal for the numbers, and shares nothing with the library. It reads
 the texts of crates/wkt_tables/data, and so many generated ones (100,000), some of them damaged. Each text goes
 through wkt_arrays and, all at once, through wkt_column_arrays; arrays that are read are also written by
-wkt_from_arrays, and their text is that of wkt_canonical. WKT_LIB names another library than capi/out/libwkt.so.
+wkt_from_arrays, and their text is that of wkt_canonical.
+
+It needs Python alone, and the library in capi/out (capi/build.sh); WKT_LIB names another.
 """
 
 import ctypes
@@ -377,6 +379,9 @@ def column(texts, places):
 
 
 def main():
+    if sys.argv[1:2] in (["-h"], ["--help"]):
+        print(__doc__.strip())
+        return 0
     count = int(sys.argv[1]) if len(sys.argv) > 1 else 100_000
     chance = random.Random(1)
     texts = [(text, places) for text in kept_texts() for places in (0, 6, 18)]

@@ -5,14 +5,15 @@
     tests/by_hand/against_upstream.py bench/rust/target/release/cases
 
 Every row that is answered otherwise there has to fall under a row of docs/DIFFERENCES.md; one that doesn't is printed,
-and the status is 1.
+and the status is 1. It needs cargo, and the crate from its registry.
 """
 import collections
+import os
 import re
 import subprocess
 import sys
 
-TABLE = "crates/wkt_tables/stdin"
+TABLE = os.path.join(os.path.dirname(os.path.abspath(__file__)), "../../crates/wkt_tables/stdin")
 
 
 def difference(text, here, there):
@@ -36,6 +37,9 @@ def difference(text, here, there):
 
 
 def main():
+    if sys.argv[1:2] in (["-h"], ["--help"]):
+        print(__doc__.strip())
+        return 0
     with open(TABLE, encoding="utf-8", newline="\n") as table:
         rows = [row.split("\t", 1) for row in table.read().removesuffix("\n").split("\n")]
     texts = "".join(text + "\n" for text, _ in rows)

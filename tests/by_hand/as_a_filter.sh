@@ -1,7 +1,7 @@
 #!/usr/bin/env bash
 # Shows how both programs behave as filters: what the README says of them, one line a case.
 #
-# Build them first (rt run in crates/wktline and in crates/wktstream). It needs a C compiler, for the cases that count
+# It needs both programs (rt run in crates/wktline and in crates/wktstream), and a C compiler for the cases that count
 # calls or fail one.
 set -u
 cd "$(dirname "$0")/../.." || exit 1

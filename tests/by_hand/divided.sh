@@ -1,7 +1,7 @@
 #!/usr/bin/env bash
 # Shows that an input that is cut at line feeds, over processes or within a database, is answered with the bytes of one run.
 #
-# Build wktstream first (rt run in crates/wktstream); it needs python3. The parts are answered side by side by GNU
+# It needs wktstream (rt run in crates/wktstream) and python3. The parts are answered side by side by GNU
 # parallel where it is installed, else by split and xargs; then PostgreSQL reads the answers by COPY .. FROM PROGRAM,
 # where one is installed (as the user postgres if this runs as root).
 set -eu

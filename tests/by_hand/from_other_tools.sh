@@ -5,8 +5,12 @@
 # call of docs/FROM_OTHER_TOOLS.md 100,000 doubles of each sort are written by it. A text is read as a key, the program
 # reads the key and writes it by the same call, and the key of that has to be the same. Which texts are refused is a rule
 # of the page, and is compared with what is refused. Then the program reads 20,000 keys that it didn't write, and writes
-# them by the call: how many keep their key is compared with other_tools/kept.expected and the page's table. What isn't
-# installed is said to be missing. It is no part of the gate; it takes some five minutes.
+# them by the call: how many keep their key is compared with other_tools/kept.expected and the page's table. It is no part
+# of the gate; it takes some five minutes.
+#
+# It needs python3 with Shapely (python3-shapely) and GDAL (python3-gdal, gdal-bin), a C compiler, GEOS (libgeos-dev),
+# SQLite with SpatiaLite (sqlite3, libsqlite3-dev, libsqlite3-mod-spatialite), and PostgreSQL with PostGIS and its
+# headers (as the user postgres if it runs as root). What isn't installed is said to be missing.
 set -eu
 root=$(cd "$(dirname "$0")/../.." && pwd)
 . "$root/postgres/server.sh"

@@ -3,7 +3,8 @@
 # of them the contracts refuse and how many they let through. Each that they let through has to be one of those listed
 # here, which are right, with the reason; any other fails.
 #
-# It isn't part of the gate: over all libraries it takes hours. What a plant is, `rt plant --help` says.
+# It isn't part of the gate: over all libraries it takes hours. What a plant is, `rt plant --help` says. It needs
+# the toolchain.
 set -u
 cd "$(dirname "$0")/../.." || exit 1
 dir=$(mktemp -d)
@@ -23,10 +24,10 @@ wkt_events (point_head|collection_head|opens_behind): \{ None \}
 wkt_events near_point: \{ (None|self::near_point::<D>\(&\[\]\)) \}
 wkt_events is_(point|collection): \{ false \}
 # Which of two texts stands first makes no difference.
-wkt_tests same_place: \{ .*\(alloc, other, one\) \}
+wkt_callers same_place: \{ .*\(alloc, other, one\) \}
 # The sink that it makes may have no room, and memory may run out: both are answers that its contract allows at any time.
-wkt_tests answers: \{ Err\(RunError::(Write|Memory)\(.*\)\) \}
-wkt_tests answers: \{ .*\(alloc, input, 0\) \}
+wkt_callers answers: \{ Err\(RunError::(Write|Memory)\(.*\)\) \}
+wkt_callers answers: \{ .*\(alloc, input, 0\) \}
 # That two calls differ says nothing of the text: the tables take it for wrong.
 wkt_tests answer: \{ Err\(AnswerError::Differ\) \}
 # Which error a sink gives is no part of a contract. That it comes unchanged is tested.

@@ -6,7 +6,7 @@ text. Refused texts are made one for each kind, dimension, place of the grammar 
 and as a collection's first member, once broken off after the cause and once with each parenthesis closed. Accepted
 texts are made one for each kind, dimension, spelling and body.
 
-The reader below is written from docs/GRAMMAR.md alone, and shares nothing with the library.
+The reader below is written from docs/GRAMMAR.md alone, and shares nothing with the library. It needs Python alone.
 """
 import os
 import re
@@ -332,13 +332,17 @@ def accepted_texts():
 
 
 def main():
+    if sys.argv[1:2] in (["-h"], ["--help"]):
+        print(__doc__.strip())
+        return 0
     rows, seen = [], set()
     for text in [*refused_texts(), *accepted_texts()]:
         if text not in seen:
             seen.add(text)
             rows.append(f"{text}\t{answer(text)}")
     sys.stdout.write("\n".join(rows) + "\n")
+    return 0
 
 
 if __name__ == "__main__":
-    main()
+    sys.exit(main())

@@ -5,7 +5,7 @@
 #
 # It works in a copy of the tree, over what rt check kept in out/ (run that first: else the crates are proved once
 # more). tests/lib/edits.py says where they stand, and how they are written. One that is stale fails here before anything
-# is proved.
+# is proved. It needs the toolchain.
 set -u
 cd "$(dirname "$0")/../.." || exit 1
 crates=("$@")

@@ -5,6 +5,8 @@ wrong_functions.py [CRATE[/NAME]..]
 tests/by_hand/wrong_bodies.sh checks the whole crate with each of them. This checks the functions alone, in seconds,
 several at a time, and proves no library again: so all can be tried after a gate. A wrong body that its functions let
 through is tried by its file and then by its crate, since a function without clauses is held by those that call it.
+
+It needs the toolchain, and what `rt ci` left in crates/CRATE/out.
 """
 
 import concurrent.futures
@@ -83,6 +85,9 @@ def tried(edit, words):
 
 
 def main():
+    if sys.argv[1:2] in (["-h"], ["--help"]):
+        print(__doc__.strip())
+        return 0
     uses = uses_of()
     with open(f"{TOP}/crates.txt", encoding="utf-8") as rows:
         static = {row.split()[0] for row in rows if " staticlib:" in row}

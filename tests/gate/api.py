@@ -156,6 +156,17 @@ def uses_of(lines):
     return found
 
 
+def crate_with(crates, name, item):
+    """The crate that defines an item: this one, or the one whose item it hands on."""
+    if name not in crates:
+        crates[name] = Crate(name)
+    if item not in crates[name].items:
+        for _, where, given, here in uses_of(lines_of(os.path.join(ROOT, "crates", name, "src", "lib.rt"))):
+            if here == item and where.startswith("wkt_"):
+                return crate_with(crates, where.split("::")[0], given)
+    return crates[name]
+
+
 def named(text):
     """The text with each type as a caller names it."""
     return re.sub(r"[\w:]+", lambda it: NAMED.get(it.group(), it.group()), text)
@@ -217,9 +228,7 @@ def main():
         sections = {}
         for path, where, name, here in uses_of(lines_of(os.path.join(base, "lib.rt"))):
             crate = door if where.split("::")[0] in ("crate",) or not where.startswith("wkt") else where.split("::")[0]
-            found = crates.setdefault(crate, Crate(crate)) if crate not in crates else crates[crate]
-            if name not in found.items and name == "Dimension":
-                found = crates.setdefault("wkt_access", Crate("wkt_access"))
+            found = crate_with(crates, crate, name)
             sections.setdefault("::".join((door,) + path), []).append(
                 (here, found.items[name], found.calls.get(name, []))
             )

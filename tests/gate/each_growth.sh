@@ -1,6 +1,6 @@
 #!/usr/bin/env bash
-# Refuses each growth of memory of the five built programs in turn, and of the built tests of the macros and of the
-# callers of wkt_tests over rows, and of values made of events, until a run meets none.
+# Refuses each growth of memory of the five built programs in turn, and of the built tests of the macros, of the callers
+# over rows, and of values made of events, until a run meets none.
 #
 # wktline, wktstream and the command wkt answer lines of every kind: each refusal has to end them with their words and status, after the
 # whole answers to some first lines. wkt_tables reads each text by three calls, copies the geometry, puts the copy together again from
@@ -10,7 +10,7 @@
 # out of memory, which no wrong value does, or to pass.
 #
 # The gate runs it on what it has built; alone, build all of them first (rt run in crates/wktline, crates/wktstream,
-# crates/wkt_command, crates/wkt_tables and crates/wkt_operations, rt test in crates/wkt, crates/wkt_machine and crates/wkt_tests).
+# crates/wkt_command, crates/wkt_tables and crates/wkt_operations, rt test in crates/wkt, crates/wkt_machine and crates/wkt_callers).
 set -u
 cd "$(dirname "$0")/../.." || exit 1
 dir=$(mktemp -d)
@@ -107,7 +107,7 @@ each wkt_command "$dir/lines" 2 1 check --max 0
 each wkt_command /dev/null 2 1 same 'LINESTRING(1 2,3 4)' 'linestring ( 1.0 2, 3 +4)'
 each_test wkt
 each_test wkt_machine value_tests::
-each_test wkt_tests callers::rows::
+each_test wkt_callers rows::
 
 # nested N: a point in so many collections
 nested() { printf 'GEOMETRYCOLLECTION(%.0s' $(seq "$1"); printf 'POINT(1 2)'; printf ')%.0s' $(seq "$1"); }

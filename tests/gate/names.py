@@ -251,8 +251,8 @@ def by_hand(groups):
         (spec, "texts", r'^message_text (\w+) = codes "(.*)"$', [it for it in text if it[0] != "BadNumber"]),
         (spec, "numbers", r"^message_number (\w+) = (\d+)$", number),
         ("crates/wkt_read/specs/Items.antt", "the message of a number", r'^bad_number = codes "(.*)"$', bad),
-        ("crates/wkt_explain/specs/Words.antt", "words", r'^words (\w+) = codes "(.*)"$', expected),
-        ("crates/wkt_explain/src/expected.rt", "words", r'Expected::(\w+) => "(.*)",$', expected),
+        ("crates/wkt_read/specs/Words.antt", "words", r'^words (\w+) = codes "(.*)"$', expected),
+        ("crates/wkt_read/src/expected.rt", "words", r'Expected::(\w+) => "(.*)",$', expected),
         (answer, "kinds", r"^kind_number kind\.(\w+) = (\d+)$", [(row.name, str(row.number)) for row in kinds]),
         (
             answer,

@@ -5,11 +5,12 @@ lines.
     trusted_lines.py            a line a file, and the sum
     trusted_lines.py --reading  with the clauses of `Wkt::from_str` and of the writers
     trusted_lines.py --calls    for the calls that people make: reading, writing, decimals, canonical text, lines
+    trusted_lines.py --messages for the message of a refusal, and its place
     trusted_lines.py -v         each definition
 
-It begins at `Headline` in crates/wkt_read/specs/Headline.antt, or at the definitions of CALLS, and follows the names
-that each definition uses through the imports of its file. Lines are those of code: blank lines, comments and imports
-aren't counted. What std defines isn't followed.
+It begins at `Headline` in crates/wkt_read/specs/Headline.antt, or at the definitions that are listed below, and follows
+the names that each definition uses through the imports of its file. Lines are those of code: blank lines, comments and
+imports aren't counted. What std defines isn't followed.
 """
 import os
 import re
@@ -29,9 +30,14 @@ CALLS = [
     ("wkt_write.specs.Writes", "Writes"),
     ("wkt_num.specs.Decimal", "read_decimal"),
     ("wkt_num.specs.Decimal", "decimal_text"),
-    ("wkt_events.specs.Canonical", "IsCanonical"),
+    ("wkt_canonical.specs.Canonical", "IsCanonical"),
     ("wkt_lines.specs.Output", "IsOutput"),
 ]
+MESSAGES = [
+    ("wkt_read.specs.Refusal", "IsRefusedWith"),
+    ("wkt_read.specs.Table", "IsReportedAt"),
+]
+STARTS = {"--reading": READING, "--calls": CALLS, "--messages": MESSAGES}
 NAME = r"[^\s(){};,.:λ∀→×≡]+"
 
 
@@ -98,11 +104,7 @@ class File:
 
 
 def main():
-    files, seen, todo = (
-        {},
-        {},
-        CALLS[:] if "--calls" in sys.argv else READING[:] if "--reading" in sys.argv else [HEADLINE],
-    )
+    files, seen, todo = {}, {}, next((STARTS[word][:] for word in sys.argv if word in STARTS), [HEADLINE])
     while todo:
         module, name = todo.pop()
         if ".declared." in module or not os.path.exists(path_of(module)):

@@ -66,11 +66,13 @@ wait $writing || fail "native.py"
 node --test --test-reporter=tap javascript/test/*.test.js > "$dir/said" 2>&1 || { grep -E -A 24 '^ *not ok' "$dir/said"; fail "the tests of the package"; }
 grep -q '^# skipped 0$' "$dir/said" || { grep SKIP "$dir/said"; fail "a test was skipped"; }
 echo "web: node $(node --version): $(sed -n 's/^# pass //p' "$dir/said") tests of the package passed"
-# The example of docs/CALLING.md, which takes the module of the clone.
-if [ -e dist/wasm/wkt.wasm ]; then
-    example=$(sed -n '/^```js$/,/^```$/{//!p}' docs/CALLING.md)
-    [ "$(node --input-type=module -e "$example" | head -n 1)" = "POINT(1 2.5)" ] || fail "the example of docs/CALLING.md"
-fi
+# The examples of javascript/README.md: each line `CALL; // VALUE` returns that value.
+example=$(sed -n '/^```js$/,/^```$/{//!p}' javascript/README.md |
+    sed -E 's,^( *)((wkt|error)\.[^;]*); // (.*)$,\1assert.deepEqual(\2\, \4); compared++;,')
+compared=$(cd "$app" && { echo "import assert from 'node:assert/strict'; let compared = 0;"; echo "$example"; echo "console.log(compared);"; } |
+    node --input-type=module -) || fail "the examples of javascript/README.md"
+[ "$compared" -ge 7 ] || fail "javascript/README.md: $compared examples"
+echo "web: javascript/README.md: $compared examples, each as it says"
 
 if ! skips page; then
     said=$(javascript/test/browser.py "$app/node_modules/wkt-proved" 2>&1) || { echo "$said"; fail "the package in Chromium"; }

@@ -1,20 +1,13 @@
 -- Tests of what is written of two geometries: only private contracts cite them.
-use Rattle.std.specs.Prelude.{Bool, true, false, ◌&&◌, List, [], ◌∷◌, Option, slice_get}
+use Rattle.std.specs.Prelude.{Bool, true, false, ◌&&◌, List, [], ◌∷◌, Option}
 use Rattle.std.specs.Cmp.Lexicographic.{pointwise}
 use Rattle.wkt_access.specs.declared.dimensions.Dimension.{Dimension}
 use Rattle.wkt_access.specs.declared.dimensions.Dimension.TheVariants.{XY, XYZ, XYM, XYZM}
 use Rattle.wkt_types.specs.Held.{Held, HeldPoint}
-use Rattle.wkt_types.specs.Coords.{numbers_of}
+use Rattle.wkt_types.specs.Canonical.{third_number, fourth_number}
 use Rattle.wkt_types.specs.Exact.{option_eq, dim_eq}
 use Rattle.wkt_types.specs.Tree.{Tree, Trees, point, line_string, polygon, multi_point, multi_line_string, multi_polygon, collection, no_trees, more_trees}
 use Rattle.wkt_types.specs.declared.coord.Coord.{Coord}
-
--- The number after x and y, if there is one, and the number after that.
-abbrev pub third : {T : Type 0} → Coord T → Option T
-third c = slice_get (numbers_of c) 2
-
-abbrev pub fourth : {T : Type 0} → Coord T → Option T
-fourth c = slice_get (numbers_of c) 3
 
 -- Nothing where the first list is empty.
 abbrev pub unless_empty : {A X : Type 0} → List A → List X → List X
@@ -30,9 +23,9 @@ module _ {T : Type 0} (E : T → T → Bool) where
   -- Two coordinates are written alike under a header of this dimension, which says how many of their numbers count.
   abbrev pub coord_alike : Dimension → Coord T → Coord T → Bool
   coord_alike XY a b = E a.x b.x && E a.y b.y
-  coord_alike XYZ a b = E a.x b.x && (E a.y b.y && option_eq E (third a) (third b))
-  coord_alike XYM a b = E a.x b.x && (E a.y b.y && option_eq E (third a) (third b))
-  coord_alike XYZM a b = E a.x b.x && (E a.y b.y && (option_eq E (third a) (third b) && option_eq E (fourth a) (fourth b)))
+  coord_alike XYZ a b = E a.x b.x && (E a.y b.y && option_eq E (third_number a) (third_number b))
+  coord_alike XYM a b = E a.x b.x && (E a.y b.y && option_eq E (third_number a) (third_number b))
+  coord_alike XYZM a b = E a.x b.x && (E a.y b.y && (option_eq E (third_number a) (third_number b) && option_eq E (fourth_number a) (fourth_number b)))
 
   -- The same of points, lines and polygons; their own dimensions aren't looked at.
   abbrev pub point_alike : Dimension → HeldPoint (Coord T) → HeldPoint (Coord T) → Bool

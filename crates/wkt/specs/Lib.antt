@@ -60,16 +60,22 @@ pub use Rattle.wkt_read.specs.declared.error.ReadError
 pub use Rattle.wkt_read.specs.declared.messages.Message
 pub use Rattle.wkt_read.specs.declared.infer.InferError
 -- canonical texts, and geometries as events
-pub use Rattle.wkt_events.specs.Canonical as CanonicalText
-pub use Rattle.wkt_events.specs.LongTexts
-pub use Rattle.wkt_events.specs.Makers
-pub use Rattle.wkt_events.specs.Events
-pub use Rattle.wkt_events.specs.Walking
+pub use Rattle.wkt_canonical.specs.Canonical as CanonicalText
+pub use Rattle.wkt_canonical.specs.LongTexts
+pub use Rattle.wkt_machine.specs.Makers
+pub use Rattle.wkt_machine.specs.Room
+pub use Rattle.wkt_machine.specs.Events
+pub use Rattle.wkt_machine.specs.View
+pub use Rattle.wkt_machine.specs.Goes
+pub use Rattle.wkt_machine.specs.Drives
+pub use Rattle.wkt_machine.specs.Machines
+pub use Rattle.wkt_machine.specs.BytesView
 -- where a text is refused
-pub use Rattle.wkt_explain.specs.Explained
-pub use Rattle.wkt_explain.specs.Table
-pub use Rattle.wkt_explain.specs.Words
-pub use Rattle.wkt_explain.specs.declared.expected.Expected
+pub use Rattle.wkt_read.specs.Explained
+pub use Rattle.wkt_read.specs.Context
+pub use Rattle.wkt_read.specs.Table
+pub use Rattle.wkt_read.specs.Words
+pub use Rattle.wkt_read.specs.declared.expected.Expected
 pub use Rattle.wkt_explain.specs.declared.explanation.Explanation
 -- what a `Wkt` holds
 pub use Rattle.wkt_types.specs.Tree

@@ -1,13 +1,13 @@
 //! The canonical text of a text, as a string.
-ghost use Rattle.std.specs.Prelude.{◌≡◌, ◌+◌, ◌*◌, ◌≤◌, IfOk, OnOk, IsUtf8, length, string_bytes, vec_len};
+ghost use Rattle.std.specs.Prelude.{◌≡◌, IfOk, IsUtf8, string_bytes};
 ghost use Rattle.wkt_read.specs.Answered.{HasBadNumber, OnText, OnMessage};
 ghost use Rattle.wkt_read.specs.Front.{HasNoFront};
 ghost use Rattle.wkt_read.specs.Items.{bad_number};
 ghost use Rattle.wkt_read.specs.Refusal.{IsRefusedWith, IsTextRefused, IfText};
-ghost use Rattle.wkt_events.specs.Canonical.{IsCanonical};
+ghost use Rattle.wkt_canonical.specs.Canonical.{IsCanonical};
 
 use std::alloc::{AllocError, Global};
-use wkt_events::{NoRoom, TextWritten, canonical_into};
+use wkt_canonical::{NoRoom, TextWritten, canonical_into, write_growing};
 use wkt_explain::refusal;
 use wkt_num::WktNum;
 use wkt_read::{Message, ReadError};
@@ -17,21 +17,6 @@ const SHORT: usize = 64;
 
 const SHORT_ROOM: usize = 2 * SHORT + 65;
 
-/// Room for what a text of so many bytes is written as, unless a number's text is very long.
-fn room_for(alloc: Global, n: usize) -> Result<Vec<u8>, AllocError>
-    ensures { IfOk result (λ v. 2 * n + 65 ≤ vec_len v) }
-{
-    let mut bytes = Vec::new(alloc);
-    let Some(twice) = n.checked_mul(2) else {
-        return Err(AllocError);
-    };
-    let Some(room) = twice.checked_add(65) else {
-        return Err(AllocError);
-    };
-    bytes.resize(room, 0)?;
-    Ok(bytes)
-}
-
 /// These bytes as a string, in one allocation of their length.
 fn string_of(alloc: Global, bytes: &[u8]) -> Result<String, AllocError>
     requires { IsUtf8 bytes.now }
@@ -40,19 +25,6 @@ fn string_of(alloc: Global, bytes: &[u8]) -> Result<String, AllocError>
     let mut copied = Vec::with_capacity(alloc, bytes.len())?;
     copied.extend_from_slice(bytes)?;
     Ok(unsafe { String::from_utf8_unchecked(copied) })
-}
-
-/// Makes twice the room.
-#[cold]
-#[inline(never)]
-fn widen(bytes: &mut Vec<u8>) -> Result<(), AllocError>
-    requires { 65 ≤ vec_len bytes.old }
-    ensures { OnOk result (2 * vec_len bytes.old ≤ vec_len bytes.new) }
-{
-    match bytes.len().checked_mul(2) {
-        Some(room) => bytes.resize(room, 0),
-        None => Err(AllocError),
-    }
 }
 
 /// The message of a text that has no geometry at its front: such a text is always refused.
@@ -95,17 +67,13 @@ pub fn canonical_text<T: WktNum>(alloc: Global, text: &str) -> Result<String, Re
             Err(NoRoom) => {}
         }
     }
-    let mut bytes = room_for(alloc, text.len())?;
-    'room: loop {
-        match canonical_into::<T>(text, bytes.as_mut_slice()) {
-            Ok(Some(TextWritten { end: _, len })) => {
-                bytes.truncate(len);
-                bytes.shrink_to_fit();
-                return Ok(unsafe { String::from_utf8_unchecked(bytes) });
-            }
-            Ok(None) => return Err(ReadError::Text(message_of::<T>(text).text())),
-            Err(NoRoom) => {}
+    let mut bytes = Vec::new(alloc);
+    match write_growing::<T>(text, &mut bytes)? {
+        Some(TextWritten { end: _, len }) => {
+            bytes.truncate(len);
+            bytes.shrink_to_fit();
+            Ok(unsafe { String::from_utf8_unchecked(bytes) })
         }
-        widen(&mut bytes)?;
+        None => Err(ReadError::Text(message_of::<T>(text).text())),
     }
 }

@@ -91,10 +91,10 @@ pub use json::{
 };
 pub use same::same_geometry;
 pub use whole::{WholeError, read_whole};
+pub use wkt_canonical::{TextWritten, canonical_into};
 pub use wkt_convert::{ToWkt, ToWktError};
-pub use wkt_events::{TextWritten, canonical_into, front_end};
 pub use wkt_explain::{Expected, Explanation, Hint, Problem, Refusal, check, explain, refusal};
-pub use wkt_machine::FromWktStr;
+pub use wkt_machine::{FromWktStr, front_end};
 pub use wkt_num::{Decimal, WktNum};
 pub use wkt_read::{InferError, Message, ReadError, infer_type};
 
@@ -193,7 +193,9 @@ pub mod tokenizer {
 /// A geometry as events, in the order of its text: what a caller makes of a text that isn't read as a geometry. No memory
 /// is taken but what a [`Builder`](events::Builder) takes, and no stack for nesting.
 pub mod events {
-    pub use wkt_events::{At, Builder, NoRoom, Part, geometry, read_number_at, write_canonical};
+    pub use wkt_canonical::{NoRoom, write_canonical};
+    pub use wkt_machine::drive::drive;
+    pub use wkt_machine::{At, Axis, Builder, Bytes, Part, read_at};
 }
 
 /// Geometries out of JSON, where each is a string of well-known text.
@@ -222,18 +224,18 @@ pub mod laws {
         counted_grows, formatter_writes, gathered_grows, revealing_grows, string_grows,
         wrapper_grows,
     };
+    pub use wkt_canonical::laws::texts_are_short;
     pub use wkt_convert::laws::{flat_and_back, plain_comes_back};
-    pub use wkt_events::laws::texts_are_short;
     pub use wkt_explain::laws::{one_refusal, refused_has_no_front};
     pub use wkt_flat::laws::{flat_is_writable, rings_are_closed};
+    pub use wkt_machine::laws::one_message;
     pub use wkt_num::earlier::{finer_keeps, wider_keeps};
     pub use wkt_num::laws::reading_is_equation;
     pub use wkt_read::earlier::old_forms;
     pub use wkt_read::laws::{
         canon_once, dead_for_good, few_lexemes, front_is_writable, front_of_lexemes, header_names,
-        headline, one_form, one_front, one_message, one_reading, one_split, one_text,
-        one_value_text, one_wkt, read_values_are_writable, reads_back, stable_front,
-        value_reads_back, whole_characters,
+        headline, one_form, one_front, one_reading, one_split, one_text, one_value_text, one_wkt,
+        read_values_are_writable, reads_back, stable_front, value_reads_back, whole_characters,
     };
     pub use wkt_types::laws::canonical_is_one;
 }

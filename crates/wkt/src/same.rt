@@ -7,13 +7,13 @@ ghost use Rattle.wkt_access.specs.declared.dimensions.Dimension.{Dimension};
 ghost use Rattle.wkt_types.specs.Tree.{tree, members};
 ghost use Rattle.wkt_types.specs.Values.{tree_shape};
 ghost use Rattle.wkt.specs.Same.{IsWritable};
-ghost use Rattle.wkt.specs.Alike.{third, fourth, written_rings, coord_alike, point_alike, line_alike, polygon_alike, tree_alike, trees_alike};
+ghost use Rattle.wkt.specs.Alike.{written_rings, coord_alike, point_alike, line_alike, polygon_alike, tree_alike, trees_alike};
 
 use wkt_access::Dimension;
 use wkt_num::WktNum;
 use wkt_read::laws::one_text;
 use wkt_types::dimension::is_same;
-use wkt_types::{Coord, LineString, Point, Polygon, Wkt};
+use wkt_types::{Coord, LineString, Point, Polygon, Wkt, fourth_number, third_number};
 
 /// A part of a geometry, compared by what is written of it under a header of some dimension.
 trait Alike {
@@ -41,26 +41,6 @@ fn are_alike<X: Alike>(a: &[X], b: &[X], dim: Dimension) -> bool
     a.len() == b.len()
 }
 
-/// The number after x and y, by which z and m are held.
-fn third<T: WktNum>(coord: &Coord<T>) -> Option<T>
-    ensures { result ≡ third coord.now }
-{
-    match coord.z {
-        Some(z) => Some(z),
-        None => coord.m,
-    }
-}
-
-/// The number after that.
-fn fourth<T: WktNum>(coord: &Coord<T>) -> Option<T>
-    ensures { result ≡ fourth coord.now }
-{
-    match coord.z {
-        Some(_) => coord.m,
-        None => None,
-    }
-}
-
 impl<T: WktNum> Alike for Coord<T> {
     ghost alike = { coord_alike T.eq };
 
@@ -68,13 +48,13 @@ impl<T: WktNum> Alike for Coord<T> {
         match dim {
             Dimension::XY => self.x == other.x && self.y == other.y,
             Dimension::XYZ | Dimension::XYM => {
-                self.x == other.x && self.y == other.y && third(self) == third(other)
+                self.x == other.x && self.y == other.y && third_number(self) == third_number(other)
             }
             Dimension::XYZM => {
                 self.x == other.x
                     && self.y == other.y
-                    && third(self) == third(other)
-                    && fourth(self) == fourth(other)
+                    && third_number(self) == third_number(other)
+                    && fourth_number(self) == fourth_number(other)
             }
         }
     }

@@ -3,13 +3,13 @@ ghost use Rattle.std.specs.Prelude.{◌+◌, ◌*◌, ◌≤◌, MatchResult, If
 ghost use Rattle.wkt_calls.specs.Calls.{AnswersCanonical, AreCompared, WritesCanonical};
 ghost use Rattle.wkt_calls.specs.Answer.{read_at, places_in, RefusesOne};
 
-use crate::room::{make_room, no_room};
 use std::alloc::Global;
 use wkt_calls::canonical::{
     Compared, SHORT, SHORTEST, canonical_short, canonical_shortest, hand_out_front, judge,
     same_short, write_within,
 };
-use wkt_calls::status::NOT_TEXT;
+use wkt_calls::status::{MEMORY, NOT_TEXT};
+use wkt_canonical::make_room;
 
 /// Writes the canonical text of what a text begins with to the front of a room, which grows as it has to.
 pub(crate) fn write_long(text: &str, asked: u32, room: &mut Vec<u8>) -> Result<(usize, usize), u32>
@@ -19,9 +19,8 @@ pub(crate) fn write_long(text: &str, asked: u32, room: &mut Vec<u8>) -> Result<(
     ensures within { IfOk result (λ r. r.1 ≤ vec_len room.new) }
     ensures bound { IfOk result (λ r. r.1 ≤ 2 * length text.now + 1) }
 {
-    match make_room(room, text.len()) {
-        Ok(()) => {}
-        Err(status) => return Err(status),
+    if make_room(room, text.len()).is_err() {
+        return Err(MEMORY);
     }
     write_within(text, asked, room.as_mut_slice())
 }
@@ -64,7 +63,7 @@ fn canonical_long(
     requires utf8 { IsUtf8 text.now }
     ensures { AnswersCanonical asked text.now result out.old out.new needed.old needed.new end.old end.new }
 {
-    let mut room = no_room(alloc);
+    let mut room = Vec::new(alloc);
     match write_long(text, asked, &mut room) {
         Ok((at, n)) => {
             *end = at;
@@ -82,12 +81,12 @@ fn same_long(alloc: Global, one: &str, other: &str, asked: u32) -> Result<Compar
     requires other_utf8 { IsUtf8 other.now }
     ensures { MatchResult result (AreCompared asked one.now other.now) (RefusesOne (read_at (places_in asked)) one.now other.now) }
 {
-    let mut first = no_room(alloc);
+    let mut first = Vec::new(alloc);
     let (end, n) = match write_long(one, asked, &mut first) {
         Ok(written) => written,
         Err(status) => return Err(status),
     };
-    let mut second = no_room(alloc);
+    let mut second = Vec::new(alloc);
     let (other_end, m) = match write_long(other, asked, &mut second) {
         Ok(written) => written,
         Err(status) => return Err(status),

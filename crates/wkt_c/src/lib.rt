@@ -21,5 +21,4 @@ mod gathered;
 mod joined;
 mod lines;
 mod rebuild;
-mod room;
 mod sizes;

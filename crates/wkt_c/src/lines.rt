@@ -1,16 +1,53 @@
 //! Many lines answered at once.
-ghost use Rattle.std.specs.Prelude.{◌≡◌, ◌⊎◌, MatchResult};
+ghost use Rattle.std.specs.Prelude.{◌≡◌, ◌⊎◌, ◌≤◌, ◌<◌, MatchResult, IfSome, take, vec_len};
 ghost use Rattle.wkt_lines.specs.Output.{IsOutput};
 ghost use Rattle.wkt_calls.specs.Answer.{read_at, print_at, HasNoPlaces};
 
-use crate::room::widen;
 use std::alloc::Global;
 use wkt_calls::at_places;
 use wkt_calls::lines::{Answered, answer_lines};
 use wkt_calls::status::{MEMORY, NO_PLACES};
+use wkt_lines::line_end;
 
 /// How much more room than for the input is asked for at first.
 const PLUS: usize = 4096;
+
+/// How much room is made at once, mostly.
+const AHEAD: usize = 65536;
+
+/// Makes more room behind the first `len` bytes, so that the answer to the first line of these bytes fits, and mostly those
+/// to some more.
+#[cold]
+#[inline(never)]
+fn widen(room: &mut Vec<u8>, len: usize, rest: &[u8]) -> Result<(), u32>
+    requires { len ≤ vec_len room.old }
+    ensures kept { take len room.new.items ≡ take len room.old.items }
+    ensures grows { MatchResult result (λ _. vec_len room.old < vec_len room.new) (λ s. s ≡ MEMORY) }
+{
+    let Some(needed) = wider(room.len(), len, rest) else {
+        return Err(MEMORY);
+    };
+    // The C library clears more than 2 KiB byte by byte.
+    'pieces: while needed - room.len() > 2000 {
+        let piece = room.len() + 2000;
+        if room.resize(piece, 0).is_err() {
+            return Err(MEMORY);
+        }
+    }
+    match room.resize(needed, 0) {
+        Ok(()) => Ok(()),
+        Err(_) => Err(MEMORY),
+    }
+}
+
+/// How much room there has to be then.
+fn wider(room: usize, len: usize, rest: &[u8]) -> Option<usize>
+    ensures { IfSome result (λ n. room < n) }
+{
+    let answer = line_end(rest).checked_mul(2)?.checked_add(67)?;
+    let needed = len.checked_add(answer)?.checked_add(rest.len().min(AHEAD))?;
+    Some(needed.max(room.checked_add(1)?))
+}
 
 /// The answers to all lines of the input.
 pub(crate) fn answers<const D: u32>(alloc: Global, input: &[u8]) -> Result<Vec<u8>, u32>

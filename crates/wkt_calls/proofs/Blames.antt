@@ -1,11 +1,11 @@
 -- The status of a refused text is the number of its message.
-use Rattle.std.proofs.Common.{◌≡◌, ◌≤◌, inl, sym, ◌∙◌, ℕ, List, Option, length, refl, arith, false}
+use Rattle.std.proofs.Common.{◌≡◌, ◌≤◌, inl, sym, ◌∙◌, ℕ, List, Option, refl, arith}
 use Rattle.wkt_read.specs.Front.{HasNoFront}
 use Rattle.wkt_read.specs.Messages.{message_number}
 use Rattle.wkt_read.specs.Refusal.{IsRefusedWith}
 use Rattle.wkt_read.specs.declared.messages.Message.{Message}
 use Rattle.wkt_read.specs.declared.messages.Message.TheVariants as message
-use Rattle.wkt_read.proofs.ParserLemmas.Blamed.{bad_here}
+use Rattle.wkt_read.proofs.Refusals.{with_bad}
 use Rattle.wkt_calls.specs.Answer.{Refuses}
 
 bad-number : (m : Message) → message_number m ≡ 13 → m ≡ message.BadNumber
@@ -26,11 +26,10 @@ bad-number message.BadNumber e = refl
 pub refused-with : {N : Type 0} (read : List ℕ → Option N) (text : List ℕ) (m : Message) (status : ℕ) → HasNoFront read text → IsRefusedWith read text m →
     status ≡ message_number m → 1 ≤ status → status ≤ 13 → Refuses read text status
 refused-with read text m status none reported is least most =
-    let (lexemes, left, split, e) = reported in
     record {
       no_front = λ _ _. none;
       message = λ _ _. (m, is, reported);
-      bad = λ k. (lexemes, split, bad_here read (length lexemes) false lexemes left m e (bad-number m (sym is ∙ k)));
+      bad = λ k. with_bad read text m reported (bad-number m (sym is ∙ k));
       not_utf8 = λ k _. omega (arith, k, most);
       others = inl (omega (arith, most));
       some = least;

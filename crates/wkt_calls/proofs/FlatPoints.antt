@@ -6,7 +6,7 @@ use Rattle.wkt_num.specs.DecimalLaws.{decimal_reads_values}
 use Rattle.wkt_access.specs.declared.dimensions.Dimension.TheVariants.{XY}
 use Rattle.wkt_access.specs.Values.{Value}
 use Rattle.wkt_read.proofs.LawLemmas.Fits.{geometry_fits}
-use Rattle.wkt_events.specs.Points.{IsPointFront}
+use Rattle.wkt_machine.specs.Points.{IsPointFront}
 use Rattle.wkt_calls.specs.Arrays.{AreOf}
 
 module _ (places : ℕ) (text : List ℕ) (x y : ℤ) (end : ℕ) (h : IsPointFront places text x y end) where

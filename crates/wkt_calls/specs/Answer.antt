@@ -16,7 +16,7 @@ use Rattle.wkt_read.specs.Infer.{IsUnsupported}
 use Rattle.wkt_read.specs.Messages.{message_number}
 use Rattle.wkt_read.specs.Refusal.{IsRefusedWith}
 use Rattle.wkt_read.specs.declared.messages.Message.{Message}
-use Rattle.wkt_events.specs.Canonical.{IsCanonicalTo}
+use Rattle.wkt_canonical.specs.Canonical.{IsCanonicalTo}
 
 -- What a number of a text is read as, and how it is printed, where numbers are decimals of so many places.
 abbrev pub read_at : ℕ → List ℕ → Option ℤ

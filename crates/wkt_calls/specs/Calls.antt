@@ -1,7 +1,7 @@
 -- What the calls for canonical texts answer.
 use Rattle.std.specs.Prelude.{◌≡◌, ◌≢◌, ◌≤◌, ◌+◌, ◌*◌, ◌++◌, ◌⊎◌, ℕ, List, ◌∷◌, length, take, Option, Some, None, Result, MatchResult}
 use Rattle.wkt_read.specs.Front.{HasNoFront}
-use Rattle.wkt_events.specs.Canonical.{HasWritten}
+use Rattle.wkt_canonical.specs.Canonical.{HasWritten}
 use Rattle.wkt_calls.specs.Answer.{read_at, print_at, places_in, asks_whole, EndsAsAsked, IsCanonical, HasMore, Compares, Refuses, IsHandedOut, HasNoRoom}
 use Rattle.wkt_calls.specs.declared.canonical.Compared.{Compared}
 

@@ -1,6 +1,6 @@
 -- What is known of flat arrays.
 use Rattle.std.specs.Prelude.{ℕ, List, [], ◌∷◌}
-use Rattle.wkt_events.specs.declared.points.NearPoint.{NearPoint}
+use Rattle.wkt_machine.specs.declared.points.NearPoint.{NearPoint}
 use Rattle.wkt_fill.specs.Filled.{view}
 use Rattle.wkt_calls.specs.Arrays.{AreOf}
 use Rattle.wkt_calls.specs.declared.flat.Flat.{Flat}

@@ -11,8 +11,8 @@ use crate::fill::{copy_to_front, put_two};
 use crate::flat::{find_point, flat_asked};
 use crate::sizes::WktSizes;
 use crate::status::{DONE, NOT_WHOLE, SMALL};
-use wkt_events::NearPoint;
 use wkt_fill::Room;
+use wkt_machine::NearPoint;
 
 /// How long a text may be whose arrays are made in a room on the stack.
 const SHORT: usize = 64;

@@ -13,8 +13,8 @@ use crate::fill::hand_out;
 use crate::refusal::refusal;
 use crate::status::{DONE, NOT_TEXT, NOT_WHOLE, SMALL};
 use std::simd::prelude::*;
-use wkt_events::laws::texts_are_short;
-use wkt_events::write_canonical;
+use wkt_canonical::laws::texts_are_short;
+use wkt_canonical::write_canonical;
 use wkt_num::Decimal;
 use wkt_read::laws::{front_is_writable, one_text};
 

@@ -10,8 +10,8 @@ use crate::at_places;
 use crate::infer::{number_of_dimension, number_of_kind};
 use crate::refusal::refusal;
 use crate::status::NOT_TEXT;
-use wkt_events::{NearPoint, near_point};
 use wkt_fill::{Filler, Room, fill_arrays};
+use wkt_machine::{NearPoint, near_point};
 use wkt_num::Decimal;
 
 /// Flat arrays with the kind, the dimension and the end of their geometry.

@@ -1,6 +1,6 @@
 //! The calls on well-known text that take no memory: each works in rooms of its caller's.
 //!
-//! Below stand `wkt_events`, `wkt_explain`, `wkt_fill` and `wkt_lines`; above, the library for C, which makes rooms for
+//! Below stand `wkt_canonical`, `wkt_explain`, `wkt_fill` and `wkt_lines`; above, the library for C, which makes rooms for
 //! them, and the module for WebAssembly, whose callers pass them.
 //!
 //! A status is 0 where a call is done, 1 to 14 where a text is refused, which says why, and 20 or more for the rest.

@@ -1,6 +1,6 @@
 //! Many lines answered at once.
 ghost use Rattle.std.specs.Prelude.{◌≡◌, ◌⊎◌, ◌≤◌, ◌+◌, ◌*◌, ◌-◌, length, take, drop};
-ghost use Rattle.wkt_events.specs.Answers.{AnswersLine};
+ghost use Rattle.wkt_canonical.specs.Answers.{AnswersLine};
 ghost use Rattle.wkt_events.specs.Left.{before_feed};
 ghost use Rattle.wkt_lines.specs.Output.{IsOutput};
 ghost use Rattle.wkt_calls.specs.Answer.{read_at, print_at};
@@ -9,8 +9,8 @@ ghost use Rattle.wkt_calls.specs.Chunks.{AnswersSure, AreWholeLines, IsStuck, en
 use crate::at_places;
 use crate::room::has_room;
 use crate::whole::whole_within;
-use wkt_events::laws::texts_are_short;
-use wkt_events::{Answer, NoRoom, answer_line};
+use wkt_canonical::laws::texts_are_short;
+use wkt_canonical::{Answer, NoRoom, answer_line};
 use wkt_lines::laws::output_of_parts;
 use wkt_num::Decimal;
 

@@ -25,7 +25,7 @@ module _ (o : Options) (text : List ℕ) (old new : Option (List ℕ)) where
   canonizes-read room len (end, w, whole) utf8 out = record {
     read = λ u v e is.
         let same = front_one (read_decimal 127 36 (min o.places 18)) text w.value v end e w.front is.front in
-        subst (λ bs. Appends old new (bs ++ 10 ∷ [])) (w.written ∙ ap (λ x. shape_text (decimal_text (min o.places 18)) (shape_of x)) same.0) out;
+        subst (λ bs. Appends old new (bs ++ 10 ∷ [])) (w.is ∙ ap (λ x. shape_text (decimal_text (min o.places 18)) (shape_of x)) same.0) out;
     refused = λ none. absurd (none utf8 w.value end (record { front = w.front; whole = whole }));
   }
 

@@ -1,7 +1,7 @@
 //! `wkt`: well-known text, for people. Where texts are refused and what was expected there, their canonical texts, their
 //! kinds, and which of them name one geometry.
 //!
-//! Below stand `wkt_lines`, `wkt_explain` and `wkt_events`.
+//! Below stand `wkt_lines`, `wkt_explain` and `wkt_canonical`.
 #![tactic(auto)]
 
 mod canon;

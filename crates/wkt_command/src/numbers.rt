@@ -1,9 +1,9 @@
 //! Numbers of so many places, as the caller says at run time.
 ghost use Rattle.std.specs.Prelude.{IfOk, min};
 ghost use Rattle.wkt_num.specs.Decimal.{decimal_text, read_decimal};
-ghost use Rattle.wkt_command.specs.Verdicts.{IsVerdict, room_bytes};
+ghost use Rattle.wkt_command.specs.Verdicts.{IsVerdict};
 
-use crate::verdict::{Room, Verdict, judge};
+use crate::verdict::{Verdict, judge};
 use std::alloc::{AllocError, Global};
 use wkt_num::Decimal;
 
@@ -17,9 +17,9 @@ pub fn verdict_at<'a>(
     text: &'a str,
     places: u32,
     front: bool,
-    room: &mut Room,
+    room: &mut Vec<u8>,
 ) -> Result<Verdict<'a>, AllocError>
-    ensures { IfOk result (IsVerdict (read_decimal 127 36 (min places 18)) (decimal_text (min places 18)) front text.now (room_bytes room.new)) }
+    ensures { IfOk result (IsVerdict (read_decimal 127 36 (min places 18)) (decimal_text (min places 18)) front text.now room.new.items) }
 {
     match places {
         0 => judge::<Decimal<0>>(alloc, text, front, room),

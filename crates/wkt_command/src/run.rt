@@ -2,7 +2,6 @@
 ghost use Rattle.std.specs.Prelude.{◌≡◌, [], ◌∷◌, ◌++◌, OnOk, take};
 ghost use Rattle.std.specs.Io.KnownBytes.{Appends};
 ghost use Rattle.wkt_command.specs.Canon.{out_bytes, refused_line, Canonizes};
-ghost use Rattle.wkt_command.specs.Verdicts.{room_bytes};
 ghost use Rattle.wkt_command.specs.declared.options.Command.TheVariants.{Canon};
 
 use crate::dups::{self, Seen, Spot};
@@ -14,7 +13,7 @@ use crate::output::Output;
 use crate::place::place_after;
 use crate::progress::{Progress, Tally};
 use crate::report::{Origin, Refusal, Thousands, push_not_utf8, push_refusal};
-use crate::verdict::{Room, Verdict};
+use crate::verdict::{Verdict, written};
 use crate::{canon, kind};
 use std::alloc::Global;
 use std::io::{Stdout, Write};
@@ -27,7 +26,7 @@ pub struct Run<'a, W: Write + Drop> {
     alloc: Global,
     options: &'a Options,
     out: Output<W>,
-    room: Room,
+    room: Vec<u8>,
     report: String,
     seen: Seen,
     tally: Tally,
@@ -54,7 +53,7 @@ impl<'a> Run<'a, Stdout> {
             alloc,
             options,
             out: Output::new(rt, alloc).map_err(RunError::output)?,
-            room: Room::new(alloc),
+            room: Vec::new(alloc),
             report: String::new(alloc),
             seen: Seen::new(rt).map_err(RunError::input)?,
             tally: Tally {
@@ -209,9 +208,9 @@ impl<'a, W: Write + Drop> Run<'a, W> {
     fn put_answer(&mut self, origin: Origin<'_>, text: &str, len: usize) -> Result<(), RunError>
         ensures canon { self.old.options.now.command ≡ Canon → OnOk result
             (Appends (out_bytes W.contents self.old.out) (out_bytes W.contents self.new.out)
-            (take len (room_bytes self.old.room) ++ 10 ∷ [])) }
+            (take len self.old.room.items ++ 10 ∷ [])) }
     {
-        let canonical = self.room.written(len);
+        let canonical = written(&self.room, len);
         let put = match self.options.command {
             Command::Check | Command::Same => Ok(()),
             Command::Canon => canon::put(&mut self.out, canonical),

@@ -3,7 +3,7 @@ use crate::error::RunError;
 use crate::numbers::verdict_at;
 use crate::options::Options;
 use crate::report::{Origin, Refusal, push_refusal};
-use crate::verdict::{Room, Verdict};
+use crate::verdict::{Verdict, written};
 use std::alloc::Global;
 
 /// Whether the two texts name one geometry: 0 or 1; 2 where one of them is refused.
@@ -12,14 +12,14 @@ use std::alloc::Global;
 /// Standard output fails, or out of memory.
 pub fn status(rt: &HostRuntime, options: &Options) -> Result<u8, RunError> {
     let alloc = rt.alloc();
-    let mut one = Room::new(alloc);
-    let mut other = Room::new(alloc);
+    let mut one = Vec::new(alloc);
+    let mut other = Vec::new(alloc);
     let first = canonical(rt, options, 0, &mut one)?;
     let second = canonical(rt, options, 1, &mut other)?;
     let (Some(first), Some(second)) = (first, second) else {
         return Ok(2);
     };
-    let is_one = one.written(first) == other.written(second);
+    let is_one = written(&one, first) == written(&other, second);
     if !options.quiet {
         let said = if is_one {
             "one geometry"
@@ -37,7 +37,7 @@ fn canonical(
     rt: &HostRuntime,
     options: &Options,
     index: usize,
-    room: &mut Room,
+    room: &mut Vec<u8>,
 ) -> Result<Option<usize>, RunError> {
     let alloc: Global = rt.alloc();
     let text = match options.operands.get(index) {

@@ -3,9 +3,8 @@ use Rattle.std.proofs.Common.{◌≡◌, ◌≢◌, ◌↔◌, ℕ, ◌<◌, ref
 use Rattle.std.specs.Prelude.{not}
 use Rattle.std.proofs.lemmas.Bool.{cases_eq, ne_eqb, eq-eqb}
 use Rattle.wkt_num.specs.Bytes.{Lexeme, Open, Close, Comma, Word, Num, Class, Nul, White, Mark, Run, class_of}
-use Rattle.wkt_events.specs.Left.{class_in, left_placed, left, TakesOne, BeginsOther, IsMark}
-use Rattle.wkt_read.specs.Placed.{lexemes_of}
-use Rattle.wkt_events.proofs.Lefts.{placed-white, takes-mark, takes-after, begins-other, within}
+use Rattle.wkt_events.specs.Left.{class_in, left_placed}
+use Rattle.wkt_events.proofs.Lefts.{placed-white, within}
 
 -- another byte than LF is the same in each text
 pub class-same : (feed : Bool) (b : ℕ) → b ≢ 10 → class_in feed b ≡ class_of b
@@ -51,43 +50,6 @@ not-this : (t : Bool) (x y c : Class) → (if t then x else y) ≡ c → x ≢ c
 not-this true x y c e h = absurd (h e)
 not-this false x y c e h = (refl, e)
 
-or-this : (t : Bool) (x y c : Class) → (if t then x else y) ≡ c → y ≢ c → t ≡ true
-or-this true x y c e h = refl
-or-this false x y c e h = absurd (h e)
-
--- the byte of a mark is neither NUL nor white space
-dark-mark : (b : ℕ) (l : Lexeme) → class_of b ≡ Mark l → (if b == 40 then Mark Open else (if b == 41 then Mark Close else (if b == 44 then Mark Comma else Run))) ≡ Mark l
-unfolding class_of
-dark-mark b l e =
-    let some = not-this (b == 0) Nul _ (Mark l) e (λ q. cc) in
-    let dark = not-this (b == 32 || b == 10 || b == 13 || b == 9) White _ (Mark l) some.1 (λ q. cc) in
-    dark.1
-
--- the byte that is a mark's
-only-open : (b : ℕ) → class_of b ≡ Mark Open → (b == 40) ≡ true
-only-open b e = or-this (b == 40) (Mark Open) _ (Mark Open) (dark-mark b Open e) (λ u. let v = not-this (b == 41) (Mark Close) _ (Mark Open) u (λ q. cc) in let w = not-this (b == 44) (Mark Comma) _ (Mark Open) v.1 (λ q. cc) in let r : Run ≡ Mark Open = w.1 in cc)
-
-only-close : (b : ℕ) → class_of b ≡ Mark Close → (b == 41) ≡ true
-only-close b e =
-    let u = not-this (b == 40) (Mark Open) _ (Mark Close) (dark-mark b Close e) (λ q. cc) in
-    or-this (b == 41) (Mark Close) _ (Mark Close) u.1 (λ v. let w = not-this (b == 44) (Mark Comma) _ (Mark Close) v (λ q. cc) in let r : Run ≡ Mark Close = w.1 in cc)
-
-only-comma : (b : ℕ) → class_of b ≡ Mark Comma → (b == 44) ≡ true
-only-comma b e =
-    let u = not-this (b == 40) (Mark Open) _ (Mark Comma) (dark-mark b Comma e) (λ q. cc) in
-    let v = not-this (b == 41) (Mark Close) _ (Mark Comma) u.1 (λ q. cc) in
-    or-this (b == 44) (Mark Comma) _ (Mark Comma) v.1 (λ w. let r : Run ≡ Mark Comma = w in cc)
-
-pub eq-of : (a b : ℕ) → (a == b) ≡ true → a ≡ b
-eq-of a b e = ⊎_elim (λ q. q) (λ q. let f : (a == b) ≡ false = ne_eqb a b q in let c : true ≡ false = sym e ∙ f in cc) (cases_eq a b)
-
-only-mark : (b m : ℕ) (l : Lexeme) → IsMark l → class_of b ≡ Mark l → class_of m ≡ Mark l → b ≡ m
-only-mark b m Open i e f = eq-of b 40 (only-open b e) ∙ sym (eq-of m 40 (only-open m f))
-only-mark b m Close i e f = eq-of b 41 (only-close b e) ∙ sym (eq-of m 41 (only-close m f))
-only-mark b m Comma i e f = eq-of b 44 (only-comma b e) ∙ sym (eq-of m 44 (only-comma m f))
-only-mark b m (Word run) i e f = absurd i
-only-mark b m (Num run) i e f = absurd i
-
 pub class-in-mark : (feed : Bool) (b : ℕ) (l : Lexeme) → class_in feed b ≡ Mark l → class_of b ≡ Mark l
 unfolding class_in
 class-in-mark false b l e = e
@@ -97,18 +59,6 @@ pub class-in-run : (feed : Bool) (b : ℕ) → class_in feed b ≡ Run → class
 unfolding class_in
 class-in-run false b e = e
 class-in-run true b e = (not-this (b == 10) Nul (class_of b) Run e (λ q. cc)).1
-
-of-mark : (t : Bool) (x y : Class) (l : Lexeme) → (x ≡ Mark l → IsMark l) → (y ≡ Mark l → IsMark l) → (if t then x else y) ≡ Mark l → IsMark l
-of-mark true x y l f g e = f e
-of-mark false x y l f g e = g e
-
-mark-is : (k l : Lexeme) → IsMark k → Mark k ≡ Mark l → IsMark l
-mark-is k l h e = let same : k ≡ l = cc in subst IsMark same h
-
-pub is-mark : (m : ℕ) (l : Lexeme) → class_of m ≡ Mark l → IsMark l
-unfolding class_of
-is-mark m l = of-mark (m == 0) Nul _ l (λ e. absurd cc) (of-mark (m == 32 || m == 10 || m == 13 || m == 9) White _ l (λ e. absurd cc)
-    (of-mark (m == 40) (Mark Open) _ l (mark-is Open l tt) (of-mark (m == 41) (Mark Close) _ l (mark-is Close l tt) (of-mark (m == 44) (Mark Comma) Run l (mark-is Comma l tt) (λ e. absurd cc)))))
 
 module _ (feed : Bool) (text : List ℕ) where
   -- white space is no end
@@ -121,15 +71,3 @@ module _ (feed : Bool) (text : List ℕ) where
       let is : class_in feed (get_or text at 0) ≡ White = ap (class_in feed) (sym e) ∙ w in
       let inside = within feed text at White is (λ q. cc) in
       (omega (arith, inside), placed-white feed text at is)
-
-  -- a mark that is there, or not
-  module _ (m : ℕ) (l : Lexeme) (mark : class_of m ≡ Mark l) (at start : ℕ) (order : at ≤ start) (same : left_placed feed text at ≡ left_placed feed text start) (b : ℕ) (byte : b ≡ get_or text start 0) where
-    pub takes-this : b ≡ m → TakesOne feed text at l (start + 1)
-    takes-this e = takes-after feed text at start l (start + 1) order same (takes-mark feed text start l (ap (class_in feed) (sym byte ∙ e) ∙ mark-in feed m l mark))
-
-    pub begins-not : b ≢ m → class_in feed b ≢ White → BeginsOther l (left feed text at)
-    unfolding left
-    begins-not other white = subst (λ ps. BeginsOther l (lexemes_of ps)) (sym same)
-        (begins-other feed text start l (is-mark m l mark)
-        (λ w. white (ap (class_in feed) byte ∙ w))
-        (λ w. other (only-mark b m l (is-mark m l mark) (class-in-mark feed b l (ap (class_in feed) byte ∙ w)) mark)))

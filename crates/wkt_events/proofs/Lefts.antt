@@ -6,7 +6,7 @@ use Rattle.std.proofs.lemmas.List.Folds.{drop_split}
 use Rattle.wkt_num.specs.Bytes.{Lexeme, Open, Close, Comma, Word, Num, Class, Nul, White, Mark, Run, AllRun, class_of}
 use Rattle.wkt_read.specs.Lexemes.{lexeme_of, IsBoundary, starts_number, without_plus}
 use Rattle.wkt_read.specs.Placed.{Placed, lexemes_of, marks, front, after_run, joined, placed_from, placed}
-use Rattle.wkt_events.specs.Left.{before_feed, line_of, class_in, left_placed, left, IsRunEnd, TakesOne, Goes, IsMark, BeginsOther}
+use Rattle.wkt_events.specs.Left.{before_feed, line_of, class_in, left_placed, left, IsRunEnd, TakesOne}
 
 -- a byte that is no part of a run
 joined-other : (c : Class) (b at : ℕ) (run : List ℕ) (later : List Placed) → c ≢ Run → joined c b at run later ≡ ([], marks c (suc at) (after_run (suc at) run later))
@@ -161,93 +161,10 @@ takes-left feed text at l to t = ap lexemes_of t.next
 pub takes-after : (feed : Bool) (text : List ℕ) (before at : ℕ) (l : Lexeme) (to : ℕ) → before ≤ at → left_placed feed text before ≡ left_placed feed text at → TakesOne feed text at l to → TakesOne feed text before l to
 takes-after feed text before at l to order same t = let grows = t.grows in record { grows = omega (arith, grows, order); inside = t.inside; next = same ∙ t.next }
 
--- One lexeme, and then more.
-pub goes-one : (feed : Bool) (text : List ℕ) (at : ℕ) (l : Lexeme) (to : ℕ) → TakesOne feed text at l to → Goes feed text at to
-goes-one feed text at l to t = record { grows = t.grows; inside = t.inside; given = []; last = record { lexeme = l; end = to }; split = t.next; ends = refl }
-
-pub goes-on : (feed : Bool) (text : List ℕ) (at mid to : ℕ) → Goes feed text at mid → Goes feed text mid to → Goes feed text at to
-goes-on feed text at mid to g h =
-    let first = g.grows in let second = h.grows in
-    record {
-      grows = omega (arith, first, second);
-      inside = h.inside;
-      given = g.given ++ (g.last ∷ h.given);
-      last = h.last;
-      split = g.split ∙ ap (λ ls. g.given ++ (g.last ∷ ls)) h.split ∙ sym (append_assoc g.given (g.last ∷ h.given) (h.last ∷ left_placed feed text to));
-      ends = h.ends;
-    }
-
--- White space before the lexemes.
-pub goes-after : (feed : Bool) (text : List ℕ) (before at to : ℕ) → before ≤ at → left_placed feed text before ≡ left_placed feed text at → Goes feed text at to → Goes feed text before to
-goes-after feed text before at to order same g = let grows = g.grows in record { grows = omega (arith, grows, order); inside = g.inside; given = g.given; last = g.last; split = same ∙ g.split; ends = g.ends }
-
-lexemes-append : (xs ys : List Placed) → lexemes_of (xs ++ ys) ≡ lexemes_of xs ++ lexemes_of ys
-lexemes-append [] ys = refl
-lexemes-append (x ∷ xs) ys = ap (λ l. x.lexeme ∷ l) (lexemes-append xs ys)
-
--- Fewer lexemes are left.
-pub goes-fewer : (feed : Bool) (text : List ℕ) (at to : ℕ) → Goes feed text at to → length (left feed text to) < length (left feed text at)
-unfolding left
-goes-fewer feed text at to g =
-    let all : lexemes_of (left_placed feed text at) ≡ lexemes_of g.given ++ (g.last.lexeme ∷ lexemes_of (left_placed feed text to)) = ap lexemes_of g.split ∙ lexemes-append g.given (g.last ∷ left_placed feed text to) in
-    let count : length (lexemes_of (left_placed feed text at)) ≡ length (lexemes_of g.given) + suc (length (lexemes_of (left_placed feed text to))) = ap length all ∙ length-append (lexemes_of g.given) (g.last.lexeme ∷ lexemes_of (left_placed feed text to)) in
-    omega (arith, count)
-
--- A run is a word or a number.
-word-or-number : (t : Bool) (word number : List ℕ) (l : Lexeme) → IsMark l → (if t then Num number else Word word) ≢ l
-word-or-number true word number Open m e = cc
-word-or-number true word number Close m e = cc
-word-or-number true word number Comma m e = cc
-word-or-number true word number (Word run) m e = m
-word-or-number true word number (Num run) m e = m
-word-or-number false word number Open m e = cc
-word-or-number false word number Close m e = cc
-word-or-number false word number Comma m e = cc
-word-or-number false word number (Word run) m e = m
-word-or-number false word number (Num run) m e = m
-
-run-no-mark : (b : ℕ) (run : List ℕ) (l : Lexeme) → IsMark l → lexeme_of (b ∷ run) ≢ l
-run-no-mark b run l m = word-or-number (starts_number b) (b ∷ run) (without_plus (b ∷ run)) l m
-
 placed-begins : (b at : ℕ) (bytes : List ℕ) → class_of b ≡ Run
     → placed_from at (b ∷ bytes) ≡ record { lexeme = lexeme_of (b ∷ (front (suc at) bytes).0); end = at + length (b ∷ (front (suc at) bytes).0) } ∷ (front (suc at) bytes).1
 unfolding placed_from
 placed-begins b at bytes e = ap (λ p. after_run at p.0 p.1) (front-part b at bytes e)
-
-first-is : (l m : Lexeme) (ls rest lexemes : List Lexeme) → lexemes ≡ m ∷ ls → m ≢ l → lexemes ≢ l ∷ rest
-first-is l m ls rest lexemes is other e = let q : m ∷ ls ≡ l ∷ rest = sym is ∙ e in other cc
-
-none-is : (l : Lexeme) (rest lexemes : List Lexeme) → lexemes ≡ [] → lexemes ≢ l ∷ rest
-none-is l rest lexemes is e = let q : [] ≡ l ∷ rest = sym is ∙ e in cc
-
-placed-no-mark : (b at : ℕ) (bytes : List ℕ) (l : Lexeme) → IsMark l → class_of b ≡ Run → BeginsOther l (lexemes_of (placed_from at (b ∷ bytes)))
-placed-no-mark b at bytes l m e rest =
-    first-is l (lexeme_of (b ∷ (front (suc at) bytes).0)) (lexemes_of (front (suc at) bytes).1) rest _ (ap lexemes_of (placed-begins b at bytes e)) (run-no-mark b (front (suc at) bytes).0 l m)
-
-ends-no-mark : (t : Bool) (b at : ℕ) (bytes : List ℕ) (l : Lexeme) → IsMark l → (if t then Nul else class_of b) ≡ Run → BeginsOther l (lexemes_of (placed_from at (if t then [] else b ∷ bytes)))
-ends-no-mark true b at bytes l m e rest = λ h. let q : Nul ≡ Run = e in cc
-ends-no-mark false b at bytes l m e rest = placed-no-mark b at bytes l m e rest
-
-line-no-mark : (feed : Bool) (b at : ℕ) (bytes : List ℕ) (l : Lexeme) → IsMark l → class_in feed b ≡ Run → BeginsOther l (lexemes_of (placed_from at (line_of feed (b ∷ bytes))))
-unfolding class_in
-line-no-mark false b at bytes l m e rest = placed-no-mark b at bytes l m e rest
-line-no-mark true b at bytes l m e rest = ends-no-mark (b == 10) b at (before_feed bytes) l m e rest
-
-left-no-mark : (feed : Bool) (text : List ℕ) (at : ℕ) (l : Lexeme) → IsMark l → class_in feed (get_or text at 0) ≡ Run → BeginsOther l (left feed text at)
-unfolding left left_placed
-left-no-mark feed text at l m e =
-    let inside = within feed text at Run e (λ e. cc) in
-    subst (λ bytes. BeginsOther l (lexemes_of (placed_from at (line_of feed bytes)))) (sym (drop_more text at 0 inside)) (line-no-mark feed (get_or text at 0) at (drop (at + 1) text) l m e)
-
-by-class : (c : Class) (feed : Bool) (text : List ℕ) (at : ℕ) (l : Lexeme) → IsMark l → class_in feed (get_or text at 0) ≡ c → c ≢ White → c ≢ Mark l → BeginsOther l (left feed text at)
-by-class Nul feed text at l m is white other rest = none-is l rest _ (left-nul feed text at is)
-by-class White feed text at l m is white other rest = absurd (white refl)
-by-class (Mark k) feed text at l m is white other rest = first-is l k _ rest _ (takes-left feed text at k (at + 1) (takes-mark feed text at k is)) (λ e. other (ap Mark e))
-by-class Run feed text at l m is white other rest = left-no-mark feed text at l m is rest
-
--- No white space and not this mark: the lexemes do not begin with it.
-pub begins-other : (feed : Bool) (text : List ℕ) (at : ℕ) (l : Lexeme) → IsMark l → class_in feed (get_or text at 0) ≢ White → class_in feed (get_or text at 0) ≢ Mark l → BeginsOther l (left feed text at)
-begins-other feed text at l m white other = by-class (class_in feed (get_or text at 0)) feed text at l m refl white other
 
 -- At the beginning of a whole text, all its lexemes are left.
 pub left-all : (text : List ℕ) → left_placed false text 0 ≡ placed text

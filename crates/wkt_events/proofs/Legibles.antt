@@ -5,37 +5,25 @@ use Rattle.std.proofs.lemmas.List.{length-drop, get_or_past}
 use Rattle.wkt_num.specs.Bytes.{Lexeme, Nul, class_of}
 use Rattle.wkt_read.specs.Placed.{Placed}
 use Rattle.wkt_read.proofs.TokenizerLemmas.Placings.{Stands, stands}
-use Rattle.wkt_events.specs.Left.{before_feed, line_of, class_in, left_placed, TakesOne, Goes}
-use Rattle.wkt_events.specs.Walking.{Legible}
-use Rattle.wkt_events.proofs.Lefts.{goes-one}
+use Rattle.wkt_events.specs.Left.{before_feed, line_of, Legible, class_in, left_placed, TakesOne}
 use Rattle.wkt_events.proofs.Feeds.{drop-line}
 
--- a lexeme ends within the bytes
-stands-within : (at : ℕ) (bytes : List ℕ) (given : List Placed) (last : Placed) (later : List Placed) → Stands at bytes (given ++ (last ∷ later)) → last.end ≤ at + length bytes
-stands-within at bytes [] last later (gap, body, after, e, w, s, n, st) =
+-- the first lexeme ends within the bytes
+first-within : (at : ℕ) (bytes : List ℕ) (first : Placed) (later : List Placed) → Stands at bytes (first ∷ later) → first.end ≤ at + length bytes
+first-within at bytes first later (gap, body, after, e, w, s, n, st) =
     let count = ap length e ∙ length-append gap (body ++ after) in let more = length-append body after in omega (arith, n, count, more)
-stands-within at bytes (p ∷ given) last later (gap, body, after, e, w, s, n, st) =
-    let count = ap length e ∙ length-append gap (body ++ after) in let more = length-append body after in
-    let rest = stands-within p.end after given last later st in
-    omega (arith, n, count, more, rest)
 
 line-length : (feed : Bool) (text : List ℕ) (at : ℕ) → at ≤ length (line_of feed text) → at + length (line_of feed (drop at text)) ≡ length (line_of feed text)
 line-length false text at h = let count = length-drop at text in omega (arith, h, count)
 line-length true text at h = let d = drop-line text at h in let count = d.2 in omega (arith, count)
 
-pub goes-in-line : (feed : Bool) (text : List ℕ) (at to : ℕ) → Goes feed text at to → at ≤ length (line_of feed text) → to ≤ length (line_of feed text)
-unfolding left_placed
-goes-in-line feed text at to g h =
-    let within = stands-within at (line_of feed (drop at text)) g.given g.last (left_placed feed text to) (subst (Stands at (line_of feed (drop at text))) g.split (stands at (line_of feed (drop at text)))) in
-    let count = line-length feed text at h in let ends = g.ends in
-    omega (arith, within, count, ends)
-
--- further on
-pub legible-on : (feed : Bool) (text : List ℕ) (at to : ℕ) → Goes feed text at to → Legible feed text at → Legible feed text to
-legible-on feed text at to g l = (l.0, goes-in-line feed text at to g l.1)
-
+-- behind a lexeme
 pub legible-one : (feed : Bool) (text : List ℕ) (at : ℕ) (l : Lexeme) (to : ℕ) → TakesOne feed text at l to → Legible feed text at → Legible feed text to
-legible-one feed text at l to t = legible-on feed text at to (goes-one feed text at l to t)
+unfolding left_placed
+legible-one feed text at l to t h =
+    let within = first-within at (line_of feed (drop at text)) (record { lexeme = l; end = to }) (left_placed feed text to) (subst (Stands at (line_of feed (drop at text))) t.next (stands at (line_of feed (drop at text)))) in
+    let count = line-length feed text at h.1 in
+    (h.0, omega (arith, within, count))
 
 -- the line ends at LF or at a byte that is none
 feed-or-end : (bs : List ℕ) → (get_or bs (length (before_feed bs)) 0 ≡ 10) ⊎ (length (before_feed bs) ≡ length bs)

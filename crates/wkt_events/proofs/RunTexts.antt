@@ -1,17 +1,28 @@
 -- A number's run in a line that is UTF-8 is text.
-use Rattle.std.proofs.Common.{◌≡◌, ℕ, ◌+◌, ◌-◌, ◌<◌, ◌≤◌, List, [], ◌∷◌, ◌++◌, length, get_or, drop, slice_range, Bool, true, false, ◌==◌, if◌then◌else◌, inl, inr, refl, sym, ap, ◌∙◌, subst, arith, length-append, IsUtf8}
-use Rattle.std.proofs.lemmas.Bool.{cases_lt, eqb-true}
+use Rattle.std.proofs.Common.{◌≡◌, ℕ, ◌+◌, ◌-◌, ◌<◌, ◌≤◌, nat_le, ◌&&◌, List, [], ◌∷◌, ◌++◌, length, get_or, drop, slice_range, Bool, true, false, ◌==◌, if◌then◌else◌, inl, inr, refl, sym, ap, ◌∙◌, subst, arith, length-append, IsUtf8}
+use Rattle.std.proofs.lemmas.Bool.{cases_lt, cases_Bool, eqb-true, ne_eqb, leb-true}
 use Rattle.std.proofs.lemmas.List.{length-drop, get_or-drop}
 use Rattle.std.proofs.lemmas.List.Edits.{length-between, get_or-between}
 use Rattle.std.proofs.lemmas.List.Folds.{drop_split}
 use Rattle.std.proofs.lemmas.Str.{IsUtf8-drop, IsCharBoundary-before_ascii}
 use Rattle.wkt_read.specs.Lexemes.{IsBoundary, starts_number, without_plus}
 use Rattle.wkt_read.proofs.LawLemmas.Characters.{seam, past_ascii}
-use Rattle.wkt_events.specs.Left.{before_feed, line_of, IsRunEnd}
-use Rattle.wkt_events.specs.Walking.{Legible}
+use Rattle.wkt_events.specs.Left.{before_feed, line_of, Legible, IsRunEnd}
 use Rattle.wkt_events.proofs.Feeds.{drop-line}
 use Rattle.wkt_events.proofs.Lefts.{boundary-at, run-before_feed, boundary-before_feed}
-use Rattle.wkt_events.proofs.Words.{letter-starts}
+
+letter-digit : (b : ℕ) → 65 ≤ b → (nat_le 48 b && nat_le b 57) ≡ false
+letter-digit b h = elim (cases_Bool (nat_le 48 b && nat_le b 57)) [
+  | inl e ↦ absurd (let both = yes_both (nat_le 48 b) (nat_le b 57) e in let low = leb-true b 57 both in omega (arith, low, h))
+  | inr e ↦ e
+]
+  where
+    yes_both : (x y : Bool) → (x && y) ≡ true → y ≡ true
+    yes_both true y e = e
+    yes_both false y e = cc
+
+letter-starts : (b : ℕ) → 65 ≤ b → starts_number b ≡ false
+letter-starts b h = rw (letter-digit b h, ne_eqb b 46 (λ e. omega (arith, e, h)), ne_eqb b 45 (λ e. omega (arith, e, h)), ne_eqb b 43 (λ e. omega (arith, e, h))) refl
 
 number-low : (b : ℕ) → starts_number b ≡ true → b < 128
 number-low b h = elim (cases_lt b 128) [

@@ -9,13 +9,7 @@ use Rattle.wkt_num.specs.Number.{begins_number, IsNumberText}
 use Rattle.wkt_num.specs.Kept.{KeepsText, StopsRun}
 use Rattle.wkt_read.specs.Lexemes.{starts_number, without_plus}
 use Rattle.wkt_events.specs.Plus.{plus_len}
-use Rattle.wkt_events.specs.declared.text.Pen.{Pen}
-use Rattle.wkt_events.specs.Written.{Extends, Wrote}
-use Rattle.wkt_events.specs.Numbers.{IsNumberAt, Numbered}
-
--- what was added was written
-pub wrote_of : {N : Type 0} (s t : Pen N) (bs : List ℕ) → Extends s bs t → Wrote s bs t
-wrote_of s t bs h = record { shorter = omega (arith, h.whole); unless = λ _. h }
+use Rattle.wkt_events.specs.Numbers.{IsNumberAt}
 
 -- the text of a number is some bytes
 some-bytes : (bs : List ℕ) → IsNumberText bs → 0 < length bs
@@ -88,24 +82,3 @@ behind-plus text at end start order inside is =
           ∙ ap (λ (b : ℕ). drop (plus_len b) (slice_range text at end)) (sym first)
           ∙ sym (dropped (slice_range text at end)),
     )
-
--- A number's run is some bytes.
-pub run-some : (text : List ℕ) (at end : ℕ) → at < end → end ≤ length text → slice_range text at end ≢ []
-run-some text at end order inside e = omega (arith, ap length e, length-between text at end inside)
-
--- A number that keeps its text was written as it stands.
-pub kept-numbered : {T : Type 0} (read : List ℕ → Option T) (num : T → List ℕ) (utf8 : (run : List ℕ) (x : T) → read run ≡ Some x → IsUtf8 (num x)) (text : List ℕ) (at end kept : ℕ) (before after : Pen T) → at ≤ length text
-    → KeepsText read num (take (length text - at) (drop at text)) end kept → Extends before (take kept (take (length text - at) (drop at text))) after → Numbered read num text at before after (at + end)
-kept-numbered read num utf8 text at end kept before after within keeps written =
-    let rest : take (length text - at) (drop at text) ≡ drop at text = take_rest text at in
-    let k = subst (λ l. KeepsText read num l end kept) rest keeps in
-    let there = kept-there read num text at end kept (at + end) within refl k in
-    let wrote = subst (λ l. Extends before l after) (ap (take kept) rest ∙ sym k.text) written in
-    record {
-      number = k.number;
-      there = there;
-      wrote = wrote_of before after (num k.number) wrote;
-      utf8 = λ _. utf8 (take end (drop at text)) k.number k.reads;
-      stuck = λ less. absurd (omega (arith, less, wrote.whole));
-      room = λ m most h. omega (arith, h, there.order, wrote.len, wrote.whole, k.shorter, ap length k.text, length-take-le kept (drop at text) (omega (arith, k.shorter, k.within)));
-    }

@@ -1,5 +1,5 @@
 -- The lexemes that are left in a text from a place of its bytes. A text ends at its first NUL or with its last byte; where `feed` is true, at its first LF too, which else is white space.
-use Rattle.std.specs.Prelude.{◌≡◌, ◌≢◌, ℕ, ◌≤◌, ◌<◌, List, [], ◌∷◌, ◌++◌, ◌==◌, if◌then◌else◌, Bool, true, false, drop, length, get_or, slice_range}
+use Rattle.std.specs.Prelude.{◌≡◌, ◌≢◌, ℕ, ◌≤◌, ◌<◌, List, [], ◌∷◌, ◌++◌, ◌==◌, if◌then◌else◌, Bool, true, false, drop, length, get_or, slice_range, IsUtf8}
 use Rattle.wkt_num.specs.Bytes.{Lexeme, Open, Close, Comma, Word, Num, Class, Nul, Run, AllRun, class_of}
 use Rattle.wkt_read.specs.Placed.{Placed, lexemes_of, placed_from}
 
@@ -12,6 +12,10 @@ before_feed (b ∷ bs) = if b == 10 then [] else b ∷ before_feed bs
 abbrev pub line_of : Bool → List ℕ → List ℕ
 line_of false bytes = bytes
 line_of true bytes = before_feed bytes
+
+-- The place is in the text's line, which is UTF-8.
+abbrev pub Legible : Bool → List ℕ → ℕ → Type 0
+Legible feed text at = IsUtf8 (line_of feed text) × (at ≤ length (line_of feed text))
 
 -- what a byte is in a text: a line feed that ends it is as a NUL
 unfoldable pub class_in : Bool → ℕ → Class
@@ -39,15 +43,6 @@ pub record TakesOne (feed : Bool) (text : List ℕ) (at : ℕ) (lexeme : Lexeme)
   pub inside : to ≤ length text
   pub next : left_placed feed text at ≡ record { lexeme = lexeme; end = to } ∷ left_placed feed text to
 
--- Some lexemes stand from `at` on, and the last of them ends at `to`.
-pub record Goes (feed : Bool) (text : List ℕ) (at to : ℕ) : Type 0 where
-  pub grows : at < to
-  pub inside : to ≤ length text
-  pub given : List Placed
-  pub last : Placed
-  pub split : left_placed feed text at ≡ given ++ (last ∷ left_placed feed text to)
-  pub ends : last.end ≡ to
-
 -- a parenthesis or a comma
 abbrev pub IsMark : Lexeme → Type 0
 IsMark Open = Unit {0}
@@ -55,7 +50,3 @@ IsMark Close = Unit {0}
 IsMark Comma = Unit {0}
 IsMark (Word run) = ⊥
 IsMark (Num run) = ⊥
-
--- The lexemes do not begin with this one.
-abbrev pub BeginsOther : Lexeme → List Lexeme → Type 0
-BeginsOther l lexemes = (rest : List Lexeme) → lexemes ≢ l ∷ rest

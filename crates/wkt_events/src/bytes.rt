@@ -1,21 +1,13 @@
-//! Bytes at places in a text that ends at NUL or with its last byte, and the marks, EMPTY and coordinates that stand there.
+//! Bytes at places in a text that ends at NUL or with its last byte, and where white space and runs end.
 //! Where `FEED_ENDS`, the text ends at LF too, which else is white space.
 ghost use Rattle.std.specs.Bool.{OnTrue};
-ghost use Rattle.std.specs.Prelude.{◌≡◌, ◌≢◌, ◌↔◌, ◌≤◌, ◌<◌, ◌+◌, ℕ, [], ◌∷◌, Bool, true, false, IsTrue, IsAscii, IfSome, MatchOption, length, get_or, slice_range};
-ghost use Rattle.wkt_num.specs.Bytes.{Lexeme, White, Mark, Run, class_of};
-ghost use Rattle.wkt_events.specs.Left.{line_of, class_in, left_placed, left, IsRunEnd, TakesOne, BeginsOther};
+ghost use Rattle.std.specs.Prelude.{◌≡◌, ◌≢◌, ◌↔◌, ◌≤◌, ◌<◌, ◌+◌, ℕ, IsTrue, IsAscii, length, get_or, slice_range};
+ghost use Rattle.wkt_num.specs.Bytes.{White, Run, class_of};
+ghost use Rattle.wkt_events.specs.Left.{line_of, class_in, left_placed, IsRunEnd};
 ghost use Rattle.wkt_events.specs.Windows.{low_mask, high_mask};
-ghost use Rattle.wkt_read.specs.Parser.Outcome.{closing_at};
-ghost use Rattle.wkt_events.specs.Events.{Event, coordinate};
-ghost use Rattle.wkt_events.specs.Makers.{HasRoom};
-ghost use Rattle.wkt_events.specs.Walking.{GivesIfAny, numbers_at};
-ghost use Rattle.wkt_events.specs.Heads.{TakesEmptyIfAny, LacksEmpty, BeginsWord, empty_at};
 
-use crate::builder::{At, Builder, Part};
 use std::simd::prelude::*;
-use wkt_num::WktNum;
 use wkt_read::words;
-use wkt_read::words::is_empty_in;
 
 /// The bytes of a window, in which most runs end.
 const WINDOW: usize = 32;
@@ -31,7 +23,7 @@ pub fn byte_at(text: &[u8], at: usize) -> u8
 
 /// Whether it may stand between the lexemes of a line.
 #[inline(always)]
-pub(crate) fn is_white<const FEED_ENDS: bool>(byte: u8) -> bool
+fn is_white<const FEED_ENDS: bool>(byte: u8) -> bool
     ensures { IsTrue result ↔ (class_in FEED_ENDS byte ≡ White) }
 {
     if FEED_ENDS && byte == b'\n' {
@@ -48,6 +40,7 @@ pub fn skip_white<const FEED_ENDS: bool>(text: &[u8], at: usize) -> usize
     ensures inside { result ≤ length text.now }
     ensures line { at ≤ length (line_of FEED_ENDS text.now) → result ≤ length (line_of FEED_ENDS text.now) }
     ensures same { left_placed FEED_ENDS text.now at ≡ left_placed FEED_ENDS text.now result }
+    ensures white { (k : ℕ) → at ≤ k → k < result → class_in FEED_ENDS (get_or text.now k 0) ≡ White }
     ensures stops { class_in FEED_ENDS (get_or text.now result 0) ≢ White }
 {
     if byte_at(text, at) > b' ' {
@@ -66,6 +59,7 @@ fn skip_more<const FEED_ENDS: bool>(text: &[u8], from: usize) -> usize
     ensures inside { result ≤ length text.now }
     ensures line { from ≤ length (line_of FEED_ENDS text.now) → result ≤ length (line_of FEED_ENDS text.now) }
     ensures same { left_placed FEED_ENDS text.now from ≡ left_placed FEED_ENDS text.now result }
+    ensures white { (k : ℕ) → from ≤ k → k < result → class_in FEED_ENDS (get_or text.now k 0) ≡ White }
     ensures stops { class_in FEED_ENDS (get_or text.now result 0) ≢ White }
 {
     let mut at = from;
@@ -75,32 +69,10 @@ fn skip_more<const FEED_ENDS: bool>(text: &[u8], from: usize) -> usize
     at
 }
 
-/// Past this mark, where it comes next.
-#[inline(always)]
-pub(crate) fn take<const FEED_ENDS: bool>(mark: u8, text: &[u8], at: usize) -> Option<usize>
-    requires mark { (l : Lexeme) × (class_of mark ≡ Mark l) }
-    requires inside { at ≤ length text.now }
-    ensures { (l : Lexeme) → class_of mark ≡ Mark l → MatchOption result
-        (BeginsOther l (left FEED_ENDS text.now at))
-        (λ to. TakesOne FEED_ENDS text.now at l to) }
-{
-    if byte_at(text, at) == mark {
-        return Some(at + 1);
-    }
-    if byte_at(text, at) > b' ' {
-        return None;
-    }
-    let start = skip_more::<FEED_ENDS>(text, at);
-    if byte_at(text, start) == mark {
-        Some(start + 1)
-    } else {
-        None
-    }
-}
-
+/// Whether it is of a run.
 #[inline(always)]
 #[tactic(auto, unfolding(wkt_num::specs::Bytes::class_of))]
-pub(crate) fn is_of_run(byte: u8) -> bool
+fn is_of_run(byte: u8) -> bool
     ensures { IsTrue result ↔ (class_of byte ≡ Run) }
 {
     byte > b',' || !matches!(byte, 0 | b' ' | b'\n' | b'\r' | b'\t' | b'(' | b')' | b',')
@@ -167,89 +139,4 @@ fn run_end_far(text: &[u8], from: usize) -> usize
         at += 1;
     }
     at
-}
-
-/// The closing parenthesis that has to come next.
-#[inline(always)]
-pub(crate) fn close<T: WktNum, B: Builder<T> + Drop, const FEED_ENDS: bool>(
-    text: &[u8],
-    a: At<B>,
-    part: Part,
-) -> Option<At<B>>
-    requires inside { a.at ≤ length text.now }
-    requires room { HasRoom B.maker text.now 1 a.at a.made }
-    ensures gives { GivesIfAny B.maker FEED_ENDS text.now (λ _. closing_at T.read) (λ _. Event.Close part ∷ []) a.at a.made result }
-    ensures room { IfSome result (λ r. HasRoom B.maker text.now 0 r.at r.made) }
-{
-    let next = take::<FEED_ENDS>(b')', text, a.at)?;
-    Some(At {
-        at: next,
-        made: a.made.close(part),
-    })
-}
-
-/// The word EMPTY, which has to come next.
-#[inline(never)]
-pub(crate) fn empty<T: WktNum, B: Builder<T> + Drop, const FEED_ENDS: bool>(
-    text: &[u8],
-    a: At<B>,
-    part: Part,
-) -> Option<At<B>>
-    requires inside { a.at ≤ length text.now }
-    requires room { HasRoom B.maker text.now 0 a.at a.made }
-    ensures gives { GivesIfAny B.maker FEED_ENDS text.now (λ _. empty_at T.read) (λ _. Event.Empty part ∷ []) a.at a.made result }
-    ensures room { IfSome result (λ r. HasRoom B.maker text.now 0 r.at r.made) }
-{
-    let next = empty_word::<FEED_ENDS>(text, a.at)?;
-    Some(At {
-        at: next,
-        made: a.made.empty(part),
-    })
-}
-
-/// Past the word EMPTY.
-pub(crate) fn empty_word<const FEED_ENDS: bool>(text: &[u8], at: usize) -> Option<usize>
-    requires { at ≤ length text.now }
-    ensures { TakesEmptyIfAny FEED_ENDS text.now at result }
-{
-    let start = skip_white::<FEED_ENDS>(text, at);
-    let end = run_end(text, start);
-    if is_empty_in(&text[start..end]) {
-        Some(end)
-    } else {
-        None
-    }
-}
-
-/// Whether the word EMPTY may come next, where no white space does.
-#[inline(always)]
-pub(crate) fn begins_empty(text: &[u8], at: usize) -> bool
-    ensures some { (feed : Bool) → result ≡ true → BeginsWord (left feed text.now at) }
-    ensures none { (feed : Bool) → class_in feed (get_or text.now at 0) ≢ White → result ≡ false → LacksEmpty (left feed text.now at) }
-{
-    let byte = byte_at(text, at);
-    if byte == b'E' {
-        return true;
-    }
-    byte == b'e'
-}
-
-/// A coordinate of `N` numbers.
-#[inline(always)]
-pub(crate) fn coordinate<T: WktNum, B: Builder<T> + Drop, const N: usize, const FEED_ENDS: bool>(
-    text: &[u8],
-    a: At<B>,
-) -> Option<At<B>>
-    requires some { 1 ≤ N }
-    requires inside { a.at ≤ length text.now }
-    requires room { HasRoom B.maker text.now 1 a.at a.made }
-    ensures gives { GivesIfAny B.maker FEED_ENDS text.now (λ _. numbers_at T.read N) (coordinate N) a.at a.made result }
-    ensures room { IfSome result (λ r. HasRoom B.maker text.now 0 r.at r.made) }
-{
-    let mut a = a;
-    for i in 0..N {
-        let at = skip_white::<FEED_ENDS>(text, a.at);
-        a = a.made.number(text, at, i, N)?;
-    }
-    Some(a)
 }

@@ -1,21 +1,11 @@
 //! Numbers as values.
-ghost use Rattle.std.specs.Prelude.{◌≡◌, ◌≢◌, ◌≤◌, length, get_or, slice_range, Bool, IfSome, IfNone, IsUtf8};
-ghost use Rattle.wkt_num.specs.Bytes.{White};
-ghost use Rattle.wkt_events.specs.Left.{class_in};
-ghost use Rattle.wkt_events.specs.Numbers.{IsNumberAt, EndsNumber, NoNumber, ReadsNumberIfAny};
+ghost use Rattle.std.specs.Prelude.{◌≡◌, ◌≤◌, ◌+◌, length, slice_index, slice_range, IfSome, IfNone, IsUtf8};
+ghost use Rattle.wkt_read.specs.Lexemes.{starts_number};
+ghost use Rattle.wkt_events.specs.Numbers.{IsNumberAt, EndsNumber, NoNumber};
+ghost use Rattle.wkt_events.specs.Plus.{plus_len};
 
 use crate::bytes::{is_near_ascii, run_end};
-use crate::text::{begins_number, past_plus};
 use wkt_num::WktNum;
-
-/// The number that stands there, and where it ends.
-#[inline(always)]
-pub fn read_number_at<T: WktNum>(text: &[u8], at: usize) -> Option<(T, usize)>
-    requires { at ≤ length text.now }
-    ensures { (feed : Bool) → class_in feed (get_or text.now at 0) ≢ White → ReadsNumberIfAny T.read feed text.now at result }
-{
-    number_there(text, at)
-}
 
 /// Where the number ends that stands there.
 #[inline(always)]
@@ -72,4 +62,20 @@ fn text_of(text: &[u8], from: usize, end: usize) -> Option<&str>
         Ok(run) => Some(run),
         Err(_) => None,
     }
+}
+
+/// Whether a number may begin with the byte.
+#[inline(always)]
+pub fn begins_number(byte: u8) -> bool
+    ensures { result ≡ starts_number byte }
+{
+    byte.is_ascii_digit() || byte == b'.' || byte == b'-' || byte == b'+'
+}
+
+/// Past the plus, if one stands here.
+fn past_plus(text: &[u8], at: usize) -> usize
+    requires { at + 1 ≤ length text.now }
+    ensures { result ≡ at + plus_len (slice_index text.now at) }
+{
+    if text[at] == b'+' { at + 1 } else { at }
 }

@@ -108,7 +108,7 @@ fn turned_down<T: WktNum>(alloc: Global, text: &str) -> Result<String, AllocErro
     requires { HasNoFront T.read text.now }
     ensures { IfOk result (λ s. IsTurnedDown T.read T.num text.now (string_bytes s)) }
 {
-    let why = explained::<T>(alloc, text)?;
+    let why = explained::<T>(text);
     refused_at(alloc, why.start)
 }
 

@@ -1,6 +1,6 @@
 //! Examples: callers of `wkt`, proved, each in a file of its own and written to be copied from.
 //!
-//! Below stand `wkt` and `wkt_lines`; above, `wkt_tests`, which calls them.
+//! Below stand `wkt` and `wkt_lines`; above, `wkt_callers`, which calls them.
 //!
 //! `docs/CALLING.md` has the calls that they make, with the clause that each of them rests on.
 #![tactic(auto)]

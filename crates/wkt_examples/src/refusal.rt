@@ -26,7 +26,7 @@ pub fn answer_to<T: WktNum>(alloc: Global, text: &str) -> Result<Answer, AllocEr
     match canonical_text::<T>(alloc, text) {
         Ok(canonical) => Ok(Answer::Text(canonical)),
         Err(ReadError::Text(_)) => {
-            let why = explained::<T>(alloc, text)?;
+            let why = explained::<T>(text);
             Ok(Answer::Refused(why.start, why.end, why.expected))
         }
         Err(ReadError::Memory(error)) => Err(error),
@@ -34,13 +34,9 @@ pub fn answer_to<T: WktNum>(alloc: Global, text: &str) -> Result<Answer, AllocEr
 }
 
 /// Why a text without a geometry at its front is refused. There is always a reason.
-pub(crate) fn explained<'a, T: WktNum>(
-    alloc: Global,
-    text: &'a str,
-) -> Result<Explanation<'a>, AllocError>
+pub(crate) fn explained<'a, T: WktNum>(text: &'a str) -> Explanation<'a>
     requires { HasNoFront T.read text.now }
-    ensures { IfOk result (λ why. IsRefusedAt T.read text.now why.start why.end why.expected) }
+    ensures { IsRefusedAt T.read text.now result.start result.end result.expected }
 {
-    let why = explain::<T>(alloc, text)?;
-    Ok(why.unwrap())
+    explain::<T>(text).unwrap()
 }

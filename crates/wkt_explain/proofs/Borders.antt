@@ -5,8 +5,8 @@ use Rattle.wkt_num.specs.Bytes.{Lexeme}
 use Rattle.wkt_read.specs.Lexemes.{Takes}
 use Rattle.wkt_read.proofs.LawLemmas.Characters.{past_gap, body_characters}
 use Rattle.wkt_read.proofs.LawLemmas.Stable.{prefix}
-use Rattle.wkt_explain.specs.declared.expected.Expected.{Expected}
-use Rattle.wkt_explain.specs.Explained.{IsPart, IsTooMuch, IsTooShort, IsRefusedAt}
+use Rattle.wkt_read.specs.declared.expected.Expected.{Expected}
+use Rattle.wkt_read.specs.Explained.{IsPart, IsTooMuch, IsTooShort, IsRefusedAt}
 
 rest_characters : (ls : List Lexeme) (text rest : List ℕ) → Takes text ls rest → IsUtf8 text → IsUtf8 rest
 rest_characters [] text rest t u = subst IsUtf8 t u

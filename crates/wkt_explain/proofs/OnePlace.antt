@@ -1,29 +1,21 @@
 -- A text is refused at one place at most, and has no front then.
-use Rattle.std.proofs.Common.{◌≡◌, ℕ, List, [], ◌∷◌, ◌++◌, length, length-append, sym, refl, ap, ◌∙◌, subst, append-nil, arith, Option, false, inl, inr}
+use Rattle.std.proofs.Common.{◌≡◌, ℕ, List, [], ◌∷◌, ◌++◌, length, sym, refl, ap, ◌∙◌, subst, arith, Option, inl, inr}
 use Rattle.wkt_num.specs.Bytes.{Lexeme, White}
 use Rattle.wkt_read.specs.Lexemes.{Takes, IsSplit}
-use Rattle.wkt_read.specs.Grammar.{StandFor}
 use Rattle.wkt_read.specs.Begun.{BegunGeometry, NoneBegins}
-use Rattle.wkt_read.specs.Early.{IsJustDead}
 use Rattle.wkt_read.specs.Front.{HasNoFront}
-use Rattle.wkt_read.proofs.LawLemmas.Begun.{CutIn, Later, Earlier, cut_in}
 use Rattle.wkt_read.proofs.LawLemmas.Fronts.{taken_begin}
 use Rattle.wkt_read.proofs.LawLemmas.Splits.{span, spells_first, first_append, first_other, end_other, split_one, takes_append, takes_rest}
-use Rattle.wkt_read.proofs.ParserLemmas.Early.{beginnings}
-use Rattle.wkt_read.proofs.ParserLemmas.Parts.{whole_begun}
-use Rattle.wkt_read.proofs.ParserLemmas.Readings.{value_part}
-use Rattle.wkt_explain.specs.declared.expected.Expected.{Expected}
-use Rattle.wkt_explain.specs.Explained.{IsTooMuch, IsTooShort, IsRefusedAt}
-use Rattle.wkt_explain.proofs.Refusals.{no_front}
+use Rattle.wkt_read.specs.declared.expected.Expected.{Expected}
+use Rattle.wkt_read.specs.Explained.{IsTooMuch, IsTooShort, IsRefusedAt}
+use Rattle.wkt_read.proofs.LawLemmas.Dead.{all_but, dead_none, one_dead}
+use Rattle.wkt_machine.proofs.Dead.{begun_front}
 
--- all but the last
-all_but : (a b : List Lexeme) (x y : Lexeme) → a ++ (x ∷ []) ≡ b ++ (y ∷ []) → a ≡ b
-all_but [] [] x y e = refl
-all_but [] (z ∷ b) x y e = absurd (omega (arith, ap length e, length-append b (y ∷ [])))
-all_but (w ∷ a) [] x y e = absurd (omega (arith, ap length e, length-append a (x ∷ [])))
-all_but (w ∷ a) (z ∷ b) x y e =
-    let same : w ≡ z = cc in
-    let rest : a ≡ b = all_but a b x y (cc) in cc
+-- no front
+no_front : {N : Type 0} (read : List ℕ → Option N) (text : List ℕ) (ls : List Lexeme) → IsSplit text ls → NoneBegins read ls → HasNoFront read text
+no_front read text ls split none v end front =
+    let (more, is) = taken_begin text front.rest front.lexemes front.taken in
+    none front.lexemes more v (split_one text ls (front.lexemes ++ more) split is) front.reads
 
 module _ {N : Type 0} (read : List ℕ → Option N) (text : List ℕ) where
   -- the lexemes up to the one that is too much, and what is after them
@@ -34,30 +26,11 @@ module _ {N : Type 0} (read : List ℕ → Option N) (text : List ℕ) where
     taken_upto : Takes text upto t.after
     taken_upto = takes_append t.before (t.fault ∷ []) text t.rest t.after t.taken (t.gap, t.body, t.after, t.split, t.white, t.spelled, refl)
 
-    -- no beginning of the text's lexemes is a geometry
-    none_split : (ls : List Lexeme) → IsSplit text ls → NoneBegins read ls
-    none_split ls split f later v cut g =
-        let (more, is) = taken_begin text t.after upto taken_upto in
-        go more (cut_in f later upto more (sym cut ∙ split_one text ls (upto ++ more) split is))
-      where
-        go : (more : List Lexeme) → CutIn f later upto more → ⊥
-        go more (Later u e1 e2) = t.dead.dead.none_begins f u v e1 g
-        go more (Earlier u e1 e2) = t.dead.dead.not_begun (beginnings read upto u (subst (BegunGeometry read) e1 (whole_begun (StandFor read) (BegunGeometry read) (value_part read 0 false).cuts f v g)))
-
-  one_dead : (p q c d : List Lexeme) → IsJustDead read p → IsJustDead read q → p ++ c ≡ q ++ d → p ≡ q
-  one_dead p q c d j k e = go (cut_in p c q d e)
-    where
-      go : CutIn p c q d → p ≡ q
-      go (Later [] e1 e2) = sym (e1 ∙ append-nil p)
-      go (Later (z ∷ u) e1 e2) = absurd (k.shortest p u z e1 j.dead)
-      go (Earlier [] e1 e2) = e1 ∙ append-nil q
-      go (Earlier (z ∷ u) e1 e2) = absurd (j.shortest q u z e1 k.dead)
-
   both_too_much : (start end start2 end2 : ℕ) (e e2 : Expected) → IsTooMuch read text start end e → IsTooMuch read text start2 end2 e2 → (start ≡ start2) × (end ≡ end2)
   both_too_much start end start2 end2 e e2 t u =
       let (more, is) = taken_begin text t.after (upto start end e t) (taken_upto start end e t) in
       let (more2, is2) = taken_begin text u.after (upto start2 end2 e2 u) (taken_upto start2 end2 e2 u) in
-      let same = one_dead (upto start end e t) (upto start2 end2 e2 u) more more2 t.dead u.dead (split_one text _ _ is is2) in
+      let same = one_dead read (upto start end e t) (upto start2 end2 e2 u) more more2 t.dead u.dead (split_one text _ _ is is2) in
       let before : t.before ≡ u.before = all_but t.before u.before t.fault u.fault same in
       let rest : t.rest ≡ u.rest = takes_rest t.before u.before text text t.rest u.rest refl before t.taken u.taken in
       let after : t.after ≡ u.after = takes_rest (upto start end e t) (upto start2 end2 e2 u) text text t.after u.after refl same (taken_upto start end e t) (taken_upto start2 end2 e2 u) in
@@ -89,7 +62,7 @@ module _ {N : Type 0} (read : List ℕ → Option N) (text : List ℕ) where
   not_both start end start2 end2 e e2 t u =
       let (more, is) = taken_begin text t.after (upto start end e t) (taken_upto start end e t) in
       let same = split_one text u.lexemes (upto start end e t ++ more) (split_short start2 end2 e2 u) is in
-      t.dead.dead.not_begun (beginnings read (upto start end e t) more (subst (BegunGeometry read) same u.begun))
+      t.dead.dead.not_begun (begun_front read (upto start end e t) more (subst (BegunGeometry read) same u.begun))
 
   pub one_place : (start end start2 end2 : ℕ) (e e2 : Expected) → IsRefusedAt read text start end e → IsRefusedAt read text start2 end2 e2 → (start ≡ start2) × (end ≡ end2)
   one_place start end start2 end2 e e2 (inl t) (inl u) = both_too_much start end start2 end2 e e2 t u
@@ -100,5 +73,5 @@ module _ {N : Type 0} (read : List ℕ → Option N) (text : List ℕ) where
   pub refused_none : (start end : ℕ) (e : Expected) → IsRefusedAt read text start end e → HasNoFront read text
   refused_none start end e (inl t) =
       let (more, is) = taken_begin text t.after (upto start end e t) (taken_upto start end e t) in
-      no_front read text (upto start end e t ++ more) is (none_split start end e t (upto start end e t ++ more) is)
+      no_front read text (upto start end e t ++ more) is (dead_none read (upto start end e t) more t.dead.dead)
   refused_none start end e (inr t) = no_front read text t.lexemes (split_short start end e t) t.none

@@ -5,8 +5,8 @@ use Rattle.std.specs.Char.{is_ascii_digit, is_ascii_hexdigit}
 use Rattle.std.specs.Str.{str_to_ascii_uppercase}
 use Rattle.std.specs.Str.Parse.{without_leading_sign}
 use Rattle.wkt_read.specs.Header.{begins}
-use Rattle.wkt_explain.specs.declared.expected.Expected.{Expected}
-use Rattle.wkt_explain.specs.declared.expected.Expected.TheVariants as expected
+use Rattle.wkt_read.specs.declared.expected.Expected.{Expected}
+use Rattle.wkt_read.specs.declared.expected.Expected.TheVariants as expected
 use Rattle.wkt_explain.specs.declared.hint.Hint.{Hint}
 use Rattle.wkt_explain.specs.declared.hint.Hint.TheVariants as hint
 

@@ -3,8 +3,8 @@ use Rattle.std.specs.Prelude.{◌≡◌, ◌<◌, ℕ, List, length, drop, Optio
 use Rattle.wkt_num.specs.Bytes.{AllWhite}
 use Rattle.wkt_read.specs.Front.{HasNoFront}
 use Rattle.wkt_read.specs.Refusal.{IsRefusedWith}
-use Rattle.wkt_explain.specs.Explained.{EndsFront, IsRefusedAt, IsPart}
-use Rattle.wkt_explain.specs.Table.{IsReportedAt}
+use Rattle.wkt_read.specs.Explained.{EndsFront, IsRefusedAt, IsPart}
+use Rattle.wkt_read.specs.Table.{IsReportedAt}
 use Rattle.wkt_explain.specs.White.{IsPastWhite}
 use Rattle.wkt_explain.specs.declared.explanation.Refusal.{Refusal}
 use Rattle.wkt_explain.specs.declared.whole.Problem.{Problem}

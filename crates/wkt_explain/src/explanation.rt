@@ -2,11 +2,10 @@
 ghost use Rattle.std.specs.Prelude.{◌≡◌};
 ghost use Rattle.wkt_explain.specs.Hints.{hint_at};
 
-use crate::expected::Expected;
 use crate::hint::{Hint, hint_at};
 use std::fmt;
 use std::fmt::Formatter;
-use wkt_read::Message;
+use wkt_read::{Expected, Message};
 
 /// Where a text is refused, with which message, and what could stand there.
 #[derive(Clone, Copy, PartialEq, Eq, Debug)]

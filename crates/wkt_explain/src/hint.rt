@@ -7,9 +7,9 @@ ghost use Rattle.std.specs.Str.Parse.{without_leading_sign};
 ghost use Rattle.wkt_read.specs.Header.{begins};
 ghost use Rattle.wkt_explain.specs.Hints.{begins_word, is_hexadecimal, is_curve, is_surface, kind_hint, begins_number, has_exponent, kept_after, places_in, number_hint, is_empty_pair, word_hint, hint_at};
 
-use crate::expected::Expected;
 use std::fmt;
 use std::fmt::Formatter;
+use wkt_read::Expected;
 
 /// What a lexeme that is refused may come from. Displayed, it says what to write instead.
 #[derive(Clone, Copy, PartialEq, Eq, Debug)]

@@ -1,5 +1,5 @@
 //! Laws of the definitions: each function does nothing, and its contract is the law.
-ghost use Rattle.wkt_explain.specs.Explained.{OneRefusal, RefusedHasNoFront};
+ghost use Rattle.wkt_read.specs.Explained.{OneRefusal, RefusedHasNoFront};
 
 use wkt_num::WktNum;
 

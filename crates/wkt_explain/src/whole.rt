@@ -2,8 +2,8 @@
 ghost use Rattle.std.specs.Prelude.{MatchResult};
 ghost use Rattle.wkt_explain.specs.Problems.{IsAccepted, IsProblem};
 
-use crate::api::{past_white, walked};
 use crate::explanation::Refusal;
+use crate::walked::{past_white, walked};
 use wkt_num::WktNum;
 
 /// Why a text isn't accepted.

@@ -1,17 +1,20 @@
 -- Arrays that hold polygons, rings of the next one, and coordinates of the next ring.
-use Rattle.std.proofs.Common.{◌≡◌, ◌+◌, ◌++◌, ◌≤◌, ℕ, suc, ℤ, List, [], ◌∷◌, length, refl, sym, ap, ◌∙◌, subst, append_assoc, arith, Option, Some, None, false, if◌then◌else◌}
+use Rattle.std.proofs.Common.{◌≡◌, ◌+◌, ◌++◌, ℕ, ℤ, List, [], ◌∷◌, length, refl, sym, ap, ◌∙◌, subst, append_assoc, arith, Option, Some, None, false, if◌then◌else◌}
 use Rattle.std.specs.Prelude.{option_to_list, map}
 use Rattle.std.specs.List.{sum_by, AllByRecursion}
-use Rattle.std.proofs.lemmas.List.{append-nil, take_all, length-append}
+use Rattle.std.proofs.lemmas.List.{append-nil, length-append}
 use Rattle.wkt_access.specs.declared.dimensions.Dimension.{Dimension}
-use Rattle.wkt_access.specs.declared.dimensions.Dimension.TheVariants as dim
+use Rattle.wkt_access.specs.declared.dimensions.Dimension.TheVariants.{XY, XYZ, XYM, XYZM}
 use Rattle.wkt_access.specs.Values.{size}
 use Rattle.wkt_access.specs.WellFormed.{CoordFits, LineStringFits, PolygonFits, PointFits}
 use Rattle.wkt_types.specs.declared.geometry_type.GeometryType.{GeometryType}
-use Rattle.wkt_events.specs.declared.builder.Part.{Part}
-use Rattle.wkt_events.specs.declared.builder.Part.TheVariants as part
+use Rattle.wkt_machine.specs.declared.part.Axis.{Axis}
+use Rattle.wkt_machine.specs.declared.part.Axis.TheVariants as axis
+use Rattle.wkt_machine.specs.declared.part.Part.{Part}
+use Rattle.wkt_machine.specs.declared.part.Part.TheVariants as part
 use Rattle.wkt_fill.specs.Arrays.{joined, numbers_in, offsets}
-use Rattle.wkt_fill.specs.Filling.{Flat, is_collection, push, end_ring, end_polygon, end_part, each, ended, put, put_all, put_coordinate, put_line, put_member, put_polygon}
+use Rattle.wkt_fill.specs.Filling.{Flat, is_collection, push, end_ring, end_polygon, end_part, ended, put}
+use Rattle.wkt_fill.proofs.Doing.{each, put_all, put_line, put_point, put_lines}
 use Rattle.wkt_fill.proofs.Growth.{joined-push, ring-numbers, ring-offsets, ring-count, ring-rings, closed-rings, closed-offsets}
 
 pub record Holds (a : Flat) (ps : List (List (List (List ℤ)))) (last : List (List (List ℤ))) (cs : List (List ℤ)) : Type 0 where
@@ -23,12 +26,6 @@ pub record Holds (a : Flat) (ps : List (List (List (List ℤ)))) (last : List (L
 
 abbrev added : ℕ → List ℤ → Flat → Flat
 added n c a = record { numbers = a.numbers ++ c; rings = a.rings; polygons = a.polygons; coordinates = n; ring_count = a.ring_count }
-
-some-size : (d : Dimension) → 1 ≤ size d
-some-size dim.XY = omega arith
-some-size dim.XYZ = omega arith
-some-size dim.XYM = omega arith
-some-size dim.XYZM = omega arith
 
 -- one coordinate more
 coordinate-more : (a : Flat) (ps : List (List (List (List ℤ)))) (last : List (List (List ℤ))) (cs : List (List ℤ)) (c : List ℤ) → Holds a ps last cs → Holds (added (a.coordinates + 1) c a) ps last (cs ++ c ∷ [])
@@ -62,78 +59,87 @@ polygon-more a ps last h = record {
   ring_count = h.ring_count ∙ ap length (closed-rings ps last);
 }
 
+module _ (k : GeometryType) (flat : is_collection k ≡ false) where
+  put-is : (a : Axis) (x : ℤ) (f : Flat) → put k a x f ≡ push a x f
+  put-is a x f = ap (λ b. if b then f else push a x f) flat
+
+  pub ended-is : (p : Part) (a : Flat) → ended k p a ≡ end_part p a
+  ended-is p a = ap (λ b. if b then a else end_part p a) flat
+
+  two-are : (x y : ℤ) (a : Flat) → put_all k XY (x ∷ y ∷ []) a ≡ added (a.coordinates + 1) (x ∷ y ∷ []) a
+  two-are x y a =
+      ap (put k axis.Y y) (put-is axis.X x a)
+      ∙ put-is axis.Y y (push axis.X x a)
+      ∙ ap (λ ns. record { numbers = ns; rings = a.rings; polygons = a.polygons; coordinates = a.coordinates + 1; ring_count = a.ring_count }) (append_assoc a.numbers (x ∷ []) (y ∷ []))
+
+  -- one number more, which is not the first
+  later : (x : Axis) (z : ℤ) (c : List ℤ) (n : ℕ) (a : Flat) → push x z (added n c a) ≡ added n (c ++ (z ∷ [])) a → (b : Flat) → b ≡ added n c a → put k x z b ≡ added n (c ++ (z ∷ [])) a
+  later x z c n a e b h = ap (put k x z) h ∙ put-is x z (added n c a) ∙ e
+
+  more : (z : ℤ) (c : List ℤ) (n : ℕ) (a : Flat) → added n (z ∷ []) (added n c a) ≡ added n (c ++ (z ∷ [])) a
+  more z c n a = ap (λ ns. record { numbers = ns; rings = a.rings; polygons = a.polygons; coordinates = n; ring_count = a.ring_count }) (append_assoc a.numbers c (z ∷ []))
+
+  third : (x : Axis) (p q z : ℤ) (a : Flat) → ((b : Flat) → push x z b ≡ added b.coordinates (z ∷ []) b) → put k x z (put k axis.Y q (put k axis.X p a)) ≡ added (a.coordinates + 1) (p ∷ q ∷ z ∷ []) a
+  third x p q z a e =
+      let n = a.coordinates + 1 in
+      later x z (p ∷ q ∷ []) n a (e (added n (p ∷ q ∷ []) a) ∙ more z (p ∷ q ∷ []) n a) (put k axis.Y q (put k axis.X p a)) (two-are p q a)
+
+  -- the numbers of a coordinate
+  coordinate-is : (d : Dimension) (c : List ℤ) (a : Flat) → length c ≡ size d → put_all k d c a ≡ added (a.coordinates + 1) c a
+  coordinate-is XY (x ∷ y ∷ []) a e = two-are x y a
+  coordinate-is XYZ (x ∷ y ∷ z ∷ []) a e = third axis.Z x y z a (λ b. refl)
+  coordinate-is XYM (x ∷ y ∷ m ∷ []) a e = third axis.M x y m a (λ b. refl)
+  coordinate-is XYZM (x ∷ y ∷ z ∷ m ∷ []) a e =
+      let n = a.coordinates + 1 in
+      later axis.M m (x ∷ y ∷ z ∷ []) n a (more m (x ∷ y ∷ z ∷ []) n a) (put k axis.Z z (put k axis.Y y (put k axis.X x a))) (third axis.Z x y z a (λ b. refl))
+  coordinate-is d c a e = absurd (omega (arith, e))
+
 module _ (P : ℤ → Type 0) (k : GeometryType) (flat : is_collection k ≡ false) (d : Dimension) where
-  put-is : (place : ℕ) (x : ℤ) (a : Flat) → put k place x a ≡ push place x a
-  put-is place x a = ap (λ b. if b then a else push place x a) flat
-
-  pub ended-is : (p : Part) (a : Flat) → ended k p a ≡ end_part k p a
-  ended-is p a = ap (λ b. if b then a else end_part k p a) flat
-
-  later : (place : ℕ) (xs : List ℤ) (a : Flat) → put_all k (suc place) xs a ≡ added a.coordinates xs a
-  later place [] a = ap (λ ns. record { numbers = ns; rings = a.rings; polygons = a.polygons; coordinates = a.coordinates; ring_count = a.ring_count }) (sym (append-nil a.numbers))
-  later place (x ∷ xs) a =
-      ap (put_all k (suc (suc place)) xs) (put-is (suc place) x a)
-      ∙ later (suc place) xs (push (suc place) x a)
-      ∙ ap (λ ns. record { numbers = ns; rings = a.rings; polygons = a.polygons; coordinates = a.coordinates; ring_count = a.ring_count }) (append_assoc a.numbers (x ∷ []) xs)
-
-  all-is : (c : List ℤ) (a : Flat) → 1 ≤ length c → put_all k 0 c a ≡ added (a.coordinates + 1) c a
-  all-is [] a some = absurd (omega (arith, some))
-  all-is (x ∷ xs) a some =
-      ap (put_all k 1 xs) (put-is 0 x a)
-      ∙ later 0 xs (push 0 x a)
-      ∙ ap (λ ns. record { numbers = ns; rings = a.rings; polygons = a.polygons; coordinates = a.coordinates + 1; ring_count = a.ring_count }) (append_assoc a.numbers (x ∷ []) xs)
-
-  coordinate-is : (c : List ℤ) (a : Flat) → length c ≡ size d → put_coordinate k (size d) c a ≡ added (a.coordinates + 1) c a
-  coordinate-is c a e = let some = some-size d in ap (λ xs. put_all k 0 xs a) (take_all (size d) c (omega (arith, e))) ∙ all-is c a (omega (arith, e, some))
-
   pub coordinates-hold : (cs : List (List ℤ)) → AllByRecursion (CoordFits P d) cs → (a : Flat) (ps : List (List (List (List ℤ)))) (last : List (List (List ℤ))) (ds : List (List ℤ)) → Holds a ps last ds
-      → Holds (each (put_coordinate k (size d)) cs a) ps last (ds ++ cs)
+      → Holds (each (put_all k d) cs a) ps last (ds ++ cs)
   coordinates-hold [] fit a ps last ds h = subst (λ xs. Holds a ps last xs) (sym (append-nil ds)) h
   coordinates-hold (c ∷ cs) fit a ps last ds h =
-      subst (λ xs. Holds (each (put_coordinate k (size d)) (c ∷ cs) a) ps last xs) (append_assoc ds (c ∷ []) cs)
-      (coordinates-hold cs fit.1 (put_coordinate k (size d) c a) ps last (ds ++ c ∷ [])
-      (subst (λ (b : Flat). Holds b ps last (ds ++ c ∷ [])) (sym (coordinate-is c a fit.0.1)) (coordinate-more a ps last ds c h)))
+      subst (λ xs. Holds (each (put_all k d) (c ∷ cs) a) ps last xs) (append_assoc ds (c ∷ []) cs)
+      (coordinates-hold cs fit.1 (put_all k d c a) ps last (ds ++ c ∷ [])
+      (subst (λ (b : Flat). Holds b ps last (ds ++ c ∷ [])) (sym (coordinate-is k flat d c a fit.0.1)) (coordinate-more a ps last ds c h)))
 
-  -- a ring
-  line-holds : (cs : List (List ℤ)) → LineStringFits P d cs → (a : Flat) (ps : List (List (List (List ℤ)))) (last : List (List (List ℤ))) → Holds a ps last [] → Holds (put_line k (size d) cs a) ps (last ++ cs ∷ []) []
-  line-holds cs fit a ps last h =
-      subst (λ (b : Flat). Holds b ps (last ++ cs ∷ []) []) (sym (ended-is part.Line (each (put_coordinate k (size d)) cs a)))
-      (ring-more (each (put_coordinate k (size d)) cs a) ps last cs (coordinates-hold cs fit a ps last [] h))
+  -- A part that is a ring.
+  module _ (q : Part) (is_ring : (a : Flat) → end_part q a ≡ end_ring a) where
+    pub line-holds : (cs : List (List ℤ)) → LineStringFits P d cs → (a : Flat) (ps : List (List (List (List ℤ)))) (last : List (List (List ℤ))) → Holds a ps last [] → Holds (put_line k q d cs a) ps (last ++ cs ∷ []) []
+    line-holds cs fit a ps last h =
+        let all = each (put_all k d) cs a in
+        subst (λ (b : Flat). Holds b ps (last ++ cs ∷ []) []) (sym (ended-is k flat q all ∙ is_ring all))
+        (ring-more all ps last cs (coordinates-hold cs fit a ps last [] h))
 
-  pub lines-hold : (rs : List (List (List ℤ))) → AllByRecursion (LineStringFits P d) rs → (a : Flat) (ps : List (List (List (List ℤ)))) (last : List (List (List ℤ))) → Holds a ps last []
-      → Holds (each (put_line k (size d)) rs a) ps (last ++ rs) []
-  lines-hold [] fit a ps last h = subst (λ xs. Holds a ps xs []) (sym (append-nil last)) h
-  lines-hold (r ∷ rs) fit a ps last h =
-      subst (λ xs. Holds (each (put_line k (size d)) (r ∷ rs) a) ps xs []) (append_assoc last (r ∷ []) rs)
-      (lines-hold rs fit.1 (put_line k (size d) r a) ps (last ++ r ∷ []) (line-holds r fit.0 a ps last h))
+    pub lines-hold : (rs : List (List (List ℤ))) → AllByRecursion (LineStringFits P d) rs → (a : Flat) (ps : List (List (List (List ℤ)))) (last : List (List (List ℤ))) → Holds a ps last []
+        → Holds (each (put_line k q d) rs a) ps (last ++ rs) []
+    lines-hold [] fit a ps last h = subst (λ xs. Holds a ps xs []) (sym (append-nil last)) h
+    lines-hold (r ∷ rs) fit a ps last h =
+        subst (λ xs. Holds (each (put_line k q d) (r ∷ rs) a) ps xs []) (append_assoc last (r ∷ []) rs)
+        (lines-hold rs fit.1 (put_line k q d r a) ps (last ++ r ∷ []) (line-holds r fit.0 a ps last h))
 
   -- the coordinate of a point, or none
   pub point-fits : (c : Option (List ℤ)) → PointFits P d c → AllByRecursion (CoordFits P d) (option_to_list c)
   point-fits None fit = tt
   point-fits (Some c) fit = (fit, tt)
 
-  member-holds : (c : Option (List ℤ)) → PointFits P d c → (a : Flat) (ps : List (List (List (List ℤ)))) (last : List (List (List ℤ))) → Holds a ps last []
-      → Holds (put_member k (size d) c a) ps (last ++ option_to_list c ∷ []) []
-  member-holds c fit a ps last h =
-      subst (λ (b : Flat). Holds b ps (last ++ option_to_list c ∷ []) []) (sym (ended-is part.Point (each (put_coordinate k (size d)) (option_to_list c) a)))
-      (ring-more (each (put_coordinate k (size d)) (option_to_list c) a) ps last (option_to_list c) (coordinates-hold (option_to_list c) (point-fits c fit) a ps last [] h))
-
   pub members-hold : (ms : List (Option (List ℤ))) → AllByRecursion (PointFits P d) ms → (a : Flat) (ps : List (List (List (List ℤ)))) (last : List (List (List ℤ))) → Holds a ps last []
-      → Holds (each (put_member k (size d)) ms a) ps (last ++ map option_to_list ms) []
+      → Holds (each (put_point k part.Member d) ms a) ps (last ++ map option_to_list ms) []
   members-hold [] fit a ps last h = subst (λ xs. Holds a ps xs []) (sym (append-nil last)) h
   members-hold (m ∷ ms) fit a ps last h =
-      subst (λ xs. Holds (each (put_member k (size d)) (m ∷ ms) a) ps xs []) (append_assoc last (option_to_list m ∷ []) (map option_to_list ms))
-      (members-hold ms fit.1 (put_member k (size d) m a) ps (last ++ option_to_list m ∷ []) (member-holds m fit.0 a ps last h))
+      subst (λ xs. Holds (each (put_point k part.Member d) (m ∷ ms) a) ps xs []) (append_assoc last (option_to_list m ∷ []) (map option_to_list ms))
+      (members-hold ms fit.1 (put_point k part.Member d m a) ps (last ++ option_to_list m ∷ []) (line-holds part.Member (λ b. refl) (option_to_list m) (point-fits m fit.0) a ps last h))
 
   -- polygons of several
-  polygon-holds : (rs : List (List (List ℤ))) → PolygonFits P d rs → (a : Flat) (ps : List (List (List (List ℤ)))) → Holds a ps [] [] → Holds (put_polygon k part.Polygon (size d) rs a) (ps ++ rs ∷ []) [] []
+  polygon-holds : (rs : List (List (List ℤ))) → PolygonFits P d rs → (a : Flat) (ps : List (List (List (List ℤ)))) → Holds a ps [] [] → Holds (put_lines k part.Area part.AreaRing d rs a) (ps ++ rs ∷ []) [] []
   polygon-holds rs fit a ps h =
-      subst (λ (b : Flat). Holds b (ps ++ rs ∷ []) [] []) (sym (ended-is part.Polygon (each (put_line k (size d)) rs a)))
-      (polygon-more (each (put_line k (size d)) rs a) ps rs (lines-hold rs fit a ps [] h))
+      let all = each (put_line k part.AreaRing d) rs a in
+      subst (λ (b : Flat). Holds b (ps ++ rs ∷ []) [] []) (sym (ended-is k flat part.Area all))
+      (polygon-more all ps rs (lines-hold part.AreaRing (λ b. refl) rs fit a ps [] h))
 
   pub polygons-hold : (qs : List (List (List (List ℤ)))) → AllByRecursion (PolygonFits P d) qs → (a : Flat) (ps : List (List (List (List ℤ)))) → Holds a ps [] []
-      → Holds (each (put_polygon k part.Polygon (size d)) qs a) (ps ++ qs) [] []
+      → Holds (each (put_lines k part.Area part.AreaRing d) qs a) (ps ++ qs) [] []
   polygons-hold [] fit a ps h = subst (λ xs. Holds a xs [] []) (sym (append-nil ps)) h
   polygons-hold (q ∷ qs) fit a ps h =
-      subst (λ xs. Holds (each (put_polygon k part.Polygon (size d)) (q ∷ qs) a) xs [] []) (append_assoc ps (q ∷ []) qs)
-      (polygons-hold qs fit.1 (put_polygon k part.Polygon (size d) q a) (ps ++ q ∷ []) (polygon-holds q fit.0 a ps h))
+      subst (λ xs. Holds (each (put_lines k part.Area part.AreaRing d) (q ∷ qs) a) xs [] []) (append_assoc ps (q ∷ []) qs)
+      (polygons-hold qs fit.1 (put_lines k part.Area part.AreaRing d q a) (ps ++ q ∷ []) (polygon-holds q fit.0 a ps h))

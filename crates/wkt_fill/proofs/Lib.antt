@@ -1,5 +1,6 @@
 pub mod Growth
 pub mod Doing
 pub mod Holding
+pub mod Outcome
 pub mod Finished
 pub mod Nearby

@@ -1,8 +1,8 @@
 -- What a filler has filled.
 use Rattle.std.specs.Prelude.{◌≡◌, ◌≢◌, ℕ, ℤ, ◌+◌, ◌⊎◌, List, [], ◌++◌, take, true, false}
 use Rattle.std.proofs.Common.{inl, inr, refl, sym, ◌∙◌, ap, subst, arith, zero, suc}
-use Rattle.wkt_events.specs.Events.{Event}
-use Rattle.wkt_events.specs.Makers.{Maker}
+use Rattle.wkt_machine.specs.Events.{Event}
+use Rattle.wkt_machine.specs.Makers.{Maker}
 use Rattle.wkt_fill.specs.Arrays.{HasLarge}
 use Rattle.wkt_fill.specs.Filling.{Flat, Headed, steps, unheaded, is_collection}
 use Rattle.wkt_fill.specs.declared.filler.Filler.{Filler}
@@ -50,9 +50,9 @@ fills_more s t u es fs h k = record {
 -- What is made is arrays; where there is no room, the status says so.
 abbrev pub filler_maker : Maker ℤ Filler
 filler_maker = record {
-  amount = λ f. 0;
   makes = Fills;
   fits = λ f n. Unit {0};
+  takes = λ x. 0;
   none = fills_none;
   more = fills_more;
   less = λ s m n order h. tt;

@@ -1,12 +1,14 @@
 -- Flat arrays, as the events of a geometry fill them.
-use Rattle.std.specs.Prelude.{ℕ, zero, suc, ℤ, ◌+◌, List, [], ◌∷◌, ◌++◌, take, option_to_list, Option, Bool, true, false, if◌then◌else◌}
+use Rattle.std.specs.Prelude.{ℕ, ℤ, ◌+◌, List, [], ◌∷◌, ◌++◌, Bool, true, false, if◌then◌else◌}
 use Rattle.wkt_access.specs.declared.dimensions.Dimension.{Dimension}
 use Rattle.wkt_access.specs.declared.dimensions.Dimension.TheVariants as dim
 use Rattle.wkt_types.specs.declared.geometry_type.GeometryType.{GeometryType}
 use Rattle.wkt_types.specs.declared.geometry_type.GeometryType.TheVariants as kind
-use Rattle.wkt_events.specs.declared.builder.Part.{Part}
-use Rattle.wkt_events.specs.declared.builder.Part.TheVariants as part
-use Rattle.wkt_events.specs.Events.{Event}
+use Rattle.wkt_machine.specs.declared.part.Axis.{Axis}
+use Rattle.wkt_machine.specs.declared.part.Axis.TheVariants as axis
+use Rattle.wkt_machine.specs.declared.part.Part.{Part}
+use Rattle.wkt_machine.specs.declared.part.Part.TheVariants as part
+use Rattle.wkt_machine.specs.Events.{Event}
 
 -- All numbers in order; where each ring begins among the coordinates and each polygon among the rings, with the end of the last; and how many coordinates and rings there are.
 pub record Flat : Type 0 where
@@ -37,29 +39,35 @@ end_ring a = record { numbers = a.numbers; rings = a.rings ++ (a.coordinates ∷
 abbrev pub end_polygon : Flat → Flat
 end_polygon a = record { numbers = a.numbers; rings = a.rings; polygons = a.polygons ++ (a.ring_count ∷ []); coordinates = a.coordinates; ring_count = a.ring_count }
 
--- The number at place 0 begins a coordinate.
-abbrev pub counted : ℕ → ℕ → ℕ
-counted zero n = n + 1
-counted (suc place) n = n
+-- The first number begins a coordinate.
+abbrev pub counted : Axis → ℕ → ℕ
+counted axis.X n = n + 1
+counted a n = n
 
-abbrev pub push : ℕ → ℤ → Flat → Flat
-push place x a = record { numbers = a.numbers ++ (x ∷ []); rings = a.rings; polygons = a.polygons; coordinates = counted place a.coordinates; ring_count = a.ring_count }
+abbrev pub push : Axis → ℤ → Flat → Flat
+push a x f = record { numbers = f.numbers ++ (x ∷ []); rings = f.rings; polygons = f.polygons; coordinates = counted a f.coordinates; ring_count = f.ring_count }
 
--- What the end of a geometry of this kind ends.
-abbrev pub end_whole : GeometryType → Flat → Flat
-end_whole kind.Point a = end_polygon (end_ring a)
-end_whole kind.LineString a = end_polygon (end_ring a)
-end_whole kind.Polygon a = end_polygon a
-end_whole kind.MultiPoint a = end_polygon a
-end_whole kind.MultiLineString a = end_polygon a
-end_whole kind.MultiPolygon a = a
-end_whole kind.GeometryCollection a = a
+-- The kind of a whole geometry.
+abbrev pub kind_of_part : Part → GeometryType
+kind_of_part part.LineString = kind.LineString
+kind_of_part part.Polygon = kind.Polygon
+kind_of_part part.MultiPoint = kind.MultiPoint
+kind_of_part part.MultiLineString = kind.MultiLineString
+kind_of_part part.MultiPolygon = kind.MultiPolygon
+kind_of_part part.Collection = kind.GeometryCollection
+kind_of_part p = kind.Point
 
-abbrev pub end_part : GeometryType → Part → Flat → Flat
-end_part k part.Point a = end_ring a
-end_part k part.Line a = end_ring a
-end_part k part.Polygon a = end_polygon a
-end_part k part.Geometry a = end_whole k a
+-- What the end of a part ends: a point and a line string are a ring, and each whole geometry but a multipolygon is one polygon.
+abbrev pub end_part : Part → Flat → Flat
+end_part part.Point a = end_polygon (end_ring a)
+end_part part.LineString a = end_polygon (end_ring a)
+end_part part.Polygon a = end_polygon a
+end_part part.MultiPoint a = end_polygon a
+end_part part.MultiLineString a = end_polygon a
+end_part part.MultiPolygon a = a
+end_part part.Collection a = a
+end_part part.Area a = end_polygon a
+end_part p a = end_ring a
 
 -- Nothing of a collection is held.
 abbrev pub is_collection : GeometryType → Bool
@@ -71,33 +79,11 @@ is_collection kind.MultiLineString = false
 is_collection kind.MultiPolygon = false
 is_collection kind.GeometryCollection = true
 
-abbrev pub put : GeometryType → ℕ → ℤ → Flat → Flat
-put k place x a = if is_collection k then a else push place x a
+abbrev pub put : GeometryType → Axis → ℤ → Flat → Flat
+put k a x f = if is_collection k then f else push a x f
 
 abbrev pub ended : GeometryType → Part → Flat → Flat
-ended k p a = if is_collection k then a else end_part k p a
-
--- Items one after another.
-abbrev pub each : {A : Type 0} → (A → Flat → Flat) → List A → Flat → Flat
-each g [] a = a
-each g (x ∷ xs) a = each g xs (g x a)
-
--- The numbers of a coordinate, from a place on.
-abbrev pub put_all : GeometryType → ℕ → List ℤ → Flat → Flat
-put_all k place [] a = a
-put_all k place (x ∷ xs) a = put_all k (suc place) xs (put k place x a)
-
-abbrev pub put_coordinate : GeometryType → ℕ → List ℤ → Flat → Flat
-put_coordinate k count c a = put_all k 0 (take count c) a
-
-abbrev pub put_line : GeometryType → ℕ → List (List ℤ) → Flat → Flat
-put_line k count cs a = ended k part.Line (each (put_coordinate k count) cs a)
-
-abbrev pub put_member : GeometryType → ℕ → Option (List ℤ) → Flat → Flat
-put_member k count c a = ended k part.Point (each (put_coordinate k count) (option_to_list c) a)
-
-abbrev pub put_polygon : GeometryType → Part → ℕ → List (List (List ℤ)) → Flat → Flat
-put_polygon k whole count rings a = ended k whole (each (put_line k count) rings a)
+ended k p f = if is_collection k then f else end_part p f
 
 -- Arrays of this kind are changed.
 abbrev pub on : (GeometryType → Flat → Flat) → Headed → Headed
@@ -107,15 +93,14 @@ on f w = record { kind = w.kind; dimension = w.dimension; flat = f w.kind w.flat
 abbrev pub headed : GeometryType → Dimension → Headed → Headed
 headed k d w = if is_collection w.kind then w else record { kind = k; dimension = d; flat = w.flat }
 
--- What an event adds: a hollow polygon has all its rings.
+-- What an event adds.
 abbrev pub step : Event ℤ → Headed → Headed
-step (Event.Header k d) w = headed k d w
+step (Event.Header p d) w = headed (kind_of_part p) d w
 step (Event.Open p) w = w
 step (Event.Comma p) w = w
 step (Event.Close p) w = on (λ k. ended k p) w
 step (Event.Empty p) w = on (λ k. ended k p) w
-step (Event.Number place count x) w = on (λ k. put k place x) w
-step (Event.Hollow p count rings) w = on (λ k. put_polygon k p count ([] ∷ rings)) w
+step (Event.Number a x) w = on (λ k. put k a x) w
 
 -- The arrays after some events.
 abbrev pub steps : List (Event ℤ) → Headed → Headed

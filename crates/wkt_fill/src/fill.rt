@@ -2,8 +2,8 @@
 ghost use Rattle.wkt_fill.specs.Fronts.{FillsFrontIfAny};
 
 use crate::filler::{Filler, Room};
-use wkt_events::builder::At;
-use wkt_events::geometry;
+use wkt_machine::drive::drive;
+use wkt_machine::{At, Bytes};
 use wkt_num::Decimal;
 
 /// Arrays, and where their geometry ends in the text.
@@ -18,17 +18,21 @@ pub struct Filled<'a> {
 pub fn fill_arrays<'a, const D: u32>(text: &[u8], room: Room<'a>) -> Option<Filled<'a>>
     ensures { FillsFrontIfAny D text.now result }
 {
-    let from = At {
-        at: 0,
-        made: Filler::new(room),
-    };
-    match geometry::<Decimal<D>, Filler<'a>, false>(text, from) {
-        Some(after) => {
-            let At { at: end, made } = after;
-            let mut arrays = made;
+    let source = Bytes::<'_, false>::new(text, 0);
+    match drive::<Decimal<D>, Bytes<'_, false>, Filler<'a>>(source, Filler::new(room)) {
+        Ok(over) => {
+            let At {
+                source,
+                builder,
+                ..
+            } = over;
+            let mut arrays = builder;
             arrays.refuse_collection();
-            Some(Filled { arrays, end })
+            Some(Filled {
+                arrays,
+                end: source.at,
+            })
         }
-        None => None,
+        Err(_) => None,
     }
 }

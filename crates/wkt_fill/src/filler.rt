@@ -1,15 +1,14 @@
 //! Flat arrays, filled as the parts of a geometry come.
-ghost use Rattle.std.specs.Prelude.{◌≡◌, ◌≢◌, ◌⊎◌, ℕ, ◌≤◌, [], ◌∷◌, Bool, length, take, get_or};
-ghost use Rattle.wkt_num.specs.Bytes.{White};
+ghost use Rattle.std.specs.Prelude.{◌≡◌, ◌≢◌, ◌⊎◌, ◌≤◌, [], ◌∷◌, length, take, IfSome, IfNone};
 ghost use Rattle.wkt_num.specs.Decimal.{read_decimal};
-ghost use Rattle.wkt_events.specs.Left.{class_in};
-ghost use Rattle.wkt_events.specs.Walking.{GivesNumberIfAny};
-ghost use Rattle.wkt_fill.specs.Filling.{is_collection, push, end_ring, end_polygon, end_whole, ended, put, headed, on};
+ghost use Rattle.wkt_events.specs.Numbers.{NoNumber};
+ghost use Rattle.wkt_machine.specs.Makers.{MakesNumber};
+ghost use Rattle.wkt_fill.specs.Filling.{is_collection, kind_of_part, end_ring, end_polygon, end_part, ended, put, headed, on};
 ghost use Rattle.wkt_fill.specs.Filled.{filler_maker, view, Becomes, Begins, RefusesCollection, with_flat};
 
 use crate::status::{FULL, NOT_FLAT, TOO_LARGE};
-use wkt_events::builder::{At, Builder, Part};
-use wkt_events::read_number_at;
+use wkt_events::number_there;
+use wkt_machine::{Axis, Builder, Part};
 use wkt_num::{Decimal, units_near};
 use wkt_types::{Dimension, GeometryType};
 
@@ -49,6 +48,22 @@ fn holds_nothing(kind: GeometryType) -> bool
         | GeometryType::MultiPoint
         | GeometryType::MultiLineString
         | GeometryType::MultiPolygon => false,
+    }
+}
+
+/// The kind of a whole geometry.
+#[inline(always)]
+fn kind_of(whole: Part) -> GeometryType
+    ensures { result ≡ kind_of_part whole }
+{
+    match whole {
+        Part::LineString => GeometryType::LineString,
+        Part::Polygon => GeometryType::Polygon,
+        Part::MultiPoint => GeometryType::MultiPoint,
+        Part::MultiLineString => GeometryType::MultiLineString,
+        Part::MultiPolygon => GeometryType::MultiPolygon,
+        Part::Collection => GeometryType::GeometryCollection,
+        _ => GeometryType::Point,
     }
 }
 
@@ -163,42 +178,40 @@ impl<'a> Filler<'a> {
         self.polygon_count = place;
     }
 
+    /// Ends what the end of a part ends.
     #[inline(always)]
-    fn end_whole(&mut self)
+    fn end_in(&mut self, part: Part)
         requires { self.old.status ≡ 0 }
-        ensures { Becomes self.old (with_flat self.old (end_whole self.old.kind)) self.new }
+        ensures { Becomes self.old (with_flat self.old (end_part part)) self.new }
     {
-        match self.kind {
-            GeometryType::Point | GeometryType::LineString => {
+        match part {
+            Part::Point | Part::LineString => {
                 self.end_ring();
                 if self.status == 0 {
                     self.end_polygon();
                 }
             }
-            GeometryType::Polygon | GeometryType::MultiPoint | GeometryType::MultiLineString =>
+            Part::Polygon | Part::MultiPoint | Part::MultiLineString | Part::Area =>
                 self.end_polygon(),
-            GeometryType::MultiPolygon | GeometryType::GeometryCollection => {}
+            Part::MultiPolygon | Part::Collection => {}
+            Part::Member | Part::Bare | Part::Ring | Part::Line | Part::AreaRing => self.end_ring(),
         }
     }
 
     #[inline(always)]
-    fn end_part(&mut self, part: Part)
+    fn end(&mut self, part: Part)
         ensures { Becomes self.old (on (λ k. ended k part) (view self.old)) self.new }
     {
         if self.status != 0 || holds_nothing(self.kind) {
             return;
         }
-        match part {
-            Part::Point | Part::Line => self.end_ring(),
-            Part::Polygon => self.end_polygon(),
-            Part::Geometry => self.end_whole(),
-        }
+        self.end_in(part);
     }
 
-    /// Adds the number of a place of a coordinate.
+    /// Adds a number of a coordinate.
     #[inline(always)]
-    fn put(&mut self, number: i64, place: usize)
-        ensures { Becomes self.old (on (λ k. put k place number) (view self.old)) self.new }
+    fn put(&mut self, number: i64, axis: Axis)
+        ensures { Becomes self.old (on (λ k. put k axis number) (view self.old)) self.new }
     {
         if self.status != 0 || holds_nothing(self.kind) {
             return;
@@ -209,7 +222,7 @@ impl<'a> Filler<'a> {
         }
         self.numbers[self.number_count] = number;
         self.number_count += 1;
-        if place == 0 {
+        if let Axis::X = axis {
             if self.coordinates == usize::MAX {
                 self.status = FULL;
                 return;
@@ -219,14 +232,14 @@ impl<'a> Filler<'a> {
     }
 
     /// The same of units of any size.
-    fn push(&mut self, units: i128, place: usize)
-        ensures { Becomes self.old (on (λ k. put k place units) (view self.old)) self.new }
+    fn push(&mut self, units: i128, axis: Axis)
+        ensures { Becomes self.old (on (λ k. put k axis units) (view self.old)) self.new }
     {
         if self.status != 0 || holds_nothing(self.kind) {
             return;
         }
         match i64::try_from(units) {
-            Ok(number) => self.put(number, place),
+            Ok(number) => self.put(number, axis),
             Err(_) => self.status = TOO_LARGE,
         }
     }
@@ -234,28 +247,33 @@ impl<'a> Filler<'a> {
     /// The number that stands there, in any form. What it answers comes through memory, whose place is cleared here, away
     /// from the way before it, which answers in registers.
     #[inline(always)]
-    fn number_apart<const D: u32>(self, text: &[u8], at: usize, place: usize) -> Option<At<Self>>
+    fn number_apart<const D: u32>(self, text: &[u8], at: usize, axis: Axis) -> (Self, Option<usize>)
         requires { at ≤ length text.now }
-        ensures { (feed : Bool) → (count : ℕ) → class_in feed (get_or text.now at 0) ≢ White →
-            GivesNumberIfAny filler_maker feed text.now (read_decimal 127 36 D) place count at self.entry result }
+        ensures some { IfSome result.1 (λ end. MakesNumber (read_decimal 127 36 D) filler_maker self.entry text.now at axis result.0 end) }
+        ensures none { IfNone result.1 (NoNumber (read_decimal 127 36 D) text.now at) }
     {
-        self.number_anywhere::<D>(text, at, place)
+        self.number_anywhere::<D>(text, at, axis)
     }
 
     #[cold]
     #[inline(never)]
-    fn number_anywhere<const D: u32>(self, text: &[u8], at: usize, place: usize) -> Option<At<Self>>
+    fn number_anywhere<const D: u32>(
+        self,
+        text: &[u8],
+        at: usize,
+        axis: Axis,
+    ) -> (Self, Option<usize>)
         requires { at ≤ length text.now }
-        ensures { (feed : Bool) → (count : ℕ) → class_in feed (get_or text.now at 0) ≢ White →
-            GivesNumberIfAny filler_maker feed text.now (read_decimal 127 36 D) place count at self.entry result }
+        ensures some { IfSome result.1 (λ end. MakesNumber (read_decimal 127 36 D) filler_maker self.entry text.now at axis result.0 end) }
+        ensures none { IfNone result.1 (NoNumber (read_decimal 127 36 D) text.now at) }
     {
-        match read_number_at::<Decimal<D>>(text, at) {
+        let mut made = self;
+        match number_there::<Decimal<D>>(text, at) {
             Some((number, end)) => {
-                let mut made = self;
-                made.push(number.units(), place);
-                Some(At { at: end, made })
+                made.push(number.units(), axis);
+                (made, Some(end))
             }
-            None => None,
+            None => (made, None),
         }
     }
 
@@ -286,60 +304,52 @@ impl<const D: u32> Builder<Decimal<D>> for Filler<'_> {
     ghost maker = { filler_maker };
 
     #[inline(always)]
-    fn made(&self) -> usize {
-        0
-    }
-
-    #[inline(always)]
-    fn header(self, kind: GeometryType, dimension: Dimension) -> Self {
+    fn begin(self, whole: Part, dim: Dimension) -> Self {
         let mut made = self;
-        made.head(kind, dimension);
+        made.head(kind_of(whole), dim);
         made
     }
 
     #[inline(always)]
-    fn open(self, part: Part) -> Self {
-        let _ = part;
+    fn open(self, _part: Part) -> Self {
         self
     }
 
     #[inline(always)]
-    fn comma(self, part: Part) -> Self {
-        let _ = part;
+    fn comma(self, _part: Part) -> Self {
         self
     }
 
     #[inline(always)]
     fn close(self, part: Part) -> Self {
         let mut made = self;
-        made.end_part(part);
+        made.end(part);
         made
     }
 
     #[inline(always)]
     fn empty(self, part: Part) -> Self {
         let mut made = self;
-        made.end_part(part);
+        made.end(part);
         made
     }
 
     #[inline(always)]
-    fn hollow(self, before: usize, part: Part) -> Self {
-        let _ = before;
-        let _ = part;
-        self
+    fn number(self, number: Decimal<D>, axis: Axis) -> Self {
+        let mut made = self;
+        made.push(number.units(), axis);
+        made
     }
 
     #[inline(always)]
-    fn number(self, text: &[u8], at: usize, place: usize, count: usize) -> Option<At<Self>> {
-        let _ = count;
+    fn number_in(self, text: &[u8], at: usize, axis: Axis) -> (Self, Option<usize>) {
         match units_near(D, &text[at..]) {
             Some((units, end)) => {
                 let mut made = self;
-                made.put(units, place);
-                Some(At { at: at + end, made })
+                made.put(units, axis);
+                (made, Some(at + end))
             }
-            None => self.number_apart::<D>(text, at, place),
+            None => self.number_apart::<D>(text, at, axis),
         }
     }
 }

@@ -1,6 +1,6 @@
 //! Text to flat arrays, with no value between.
 //!
-//! Below stands `wkt_events`, whose walk calls this builder; above, `wkt_calls`.
+//! Below stands `wkt_machine`, whose `drive` calls this builder; above, `wkt_calls`.
 #![tactic(auto)]
 
 mod fill;

@@ -18,6 +18,6 @@ module _ {N S : Type 0} (read : List ℕ → Option N) (E : Coord N → Coord N 
       let (k, (v, takes, of), flat) : IsFlatRead read E view s f t = subst (λ a. IfOk a (λ f. IsFlatRead read E view s f t)) e h in
       (k, (takes.last.end, (v, front_whole read view text s begins v t takes, of)), flat)
 
-  pub refused_in : (t : S) (m : Machine) (u : Unread) (a : Result (Flattened N) Unread) → a ≡ Err u → u ≡ Refused m → OnRefused a (λ m. IsRefused read view s m t) → (j : ℕ) → view.keeps s j → HasNoFront read text
+  pub refused_in : (t : S) (m : Machine) (u : Unread) (a : Result (Flattened N) Unread) → a ≡ Err u → u ≡ Refused m → OnRefused a (λ m. IsRefused read view s m t) → (j : view.Known) → view.keeps s j → HasNoFront read text
   refused_in t m u a e is h j keeps =
       no_front_refused read view text s begins j keeps m t (subst (λ u. OnRefused {X = Flattened N} (Err u) (λ m. IsRefused read view s m t)) is (subst (λ a. OnRefused a (λ m. IsRefused read view s m t)) e h))

@@ -40,6 +40,9 @@ module _ {T : Type 0} (E : Coord T → Coord T → Bool) where
   abbrev pub tree_maker : Maker T (FlatGrower T)
   tree_maker = record {
     makes = λ g es h. Grew E (tree_of g).now es (tree_of h).now;
+    fits = λ s n. Unit {0};
+    takes = λ x. 0;
     none = λ g. grew_none (tree_of g).now;
     more = λ g h i es fs. grew_more (tree_of g).now (tree_of h).now (tree_of i).now es fs;
+    less = λ s m n order h. tt;
   }

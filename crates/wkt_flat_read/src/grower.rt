@@ -3,7 +3,7 @@ ghost use Rattle.std.specs.Prelude.{◌≡◌};
 
 use crate::tree::FlatTree;
 use wkt_access::Dimension;
-use wkt_machine::{Axis, Builder, Part};
+use wkt_machine::{Axis, Builder, Part, read_at};
 use wkt_num::WktNum;
 
 /// Makes a flat tree, which is lent to it.
@@ -73,5 +73,16 @@ impl<T: WktNum> Builder<T> for FlatGrower<'_, T> {
     fn number(self, number: T, axis: Axis) -> Self {
         self.tree.put_number(axis, number);
         self
+    }
+
+    #[inline(always)]
+    fn number_in(self, text: &[u8], at: usize, axis: Axis) -> (Self, Option<usize>) {
+        match read_at::<T>(text, at) {
+            Some((number, end)) => {
+                self.tree.put_number(axis, number);
+                (self, Some(end))
+            }
+            None => (self, None),
+        }
     }
 }

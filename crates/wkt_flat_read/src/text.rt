@@ -13,9 +13,8 @@ use crate::grower::FlatGrower;
 use crate::tree::FlatTree;
 use std::alloc::{AllocError, Global};
 use wkt_convert::Flattened;
-use wkt_explain::message;
 use wkt_machine::drive::drive;
-use wkt_machine::{At, Bytes, Unread, Walk};
+use wkt_machine::{At, Bytes, Unread, Walk, message_at};
 use wkt_num::WktNum;
 use wkt_read::{Message, ReadError};
 
@@ -92,12 +91,15 @@ fn front_of<T: WktNum>(alloc: Global, text: &str) -> Result<Flattened<T>, ReadEr
     ensures refusal { IfText result (λ said. IsTextRefused T.read text.now said) }
 {
     let source = Bytes::<'_, false>::new(text.as_bytes(), 0);
-    let (answer, _) = read::<T, Bytes<'_, false>>(alloc, source);
+    let (answer, behind) = read::<T, Bytes<'_, false>>(alloc, source);
     match answer {
         Ok(flattened) => Ok(flattened),
         Err(unread) => match unread {
             Unread::Memory(error) => Err(ReadError::Memory(error)),
-            Unread::Refused(_) => Err(ReadError::Text(message::<T>(text).text())),
+            Unread::Refused(machine) => {
+                let said = message_at::<T>(machine, text, behind.at);
+                Err(ReadError::Text(said.text()))
+            }
         },
     }
 }

@@ -11,8 +11,8 @@ use Rattle.wkt_bytes.specs.Sinks.{SinkOfBytes, PutsAll}
 use lib.Utf8.{encode}
 use Rattle.wkt_events.specs.Left.{before_feed}
 use Rattle.wkt_events.specs.Feeds.{after_feed}
-use Rattle.wkt_events.specs.Answers.{IsAnswer}
-use Rattle.wkt_lines.specs.First.{AnswersFirst, WritesText, EndsLine}
+use Rattle.wkt_canonical.specs.Answers.{IsAnswer}
+use Rattle.wkt_lines.specs.First.{AnswersFirst, EndsLine}
 
 drop-one : (b : ℕ) (rest : List ℕ) (n : ℕ) (after : List ℕ) → drop (n + 1) rest ≡ after → drop (suc n + 1) (b ∷ rest) ≡ after
 drop-one b rest n after e = let s : suc n + 1 ≡ suc (n + 1) = omega arith in ap (λ k. drop k (b ∷ rest)) s ∙ e
@@ -89,10 +89,6 @@ puts_on sink out piece more bytes start now next e went count tied (Err x) last 
       keeps = sink.keeps_more start now next tied p.keeps;
     }
 
--- what was written stands in front
-pub text-back : {N : Type 0} (read : List ℕ → Option N) (num : N → List ℕ) (text out rest : List ℕ) (n len : ℕ) → length out ≡ n → WritesText read num text out len → WritesText read num text (take n (out ++ rest)) len
-text-back read num text out rest n len e h = subst (λ l. WritesText read num text l len) (sym (ap (λ k. take k (out ++ rest)) (sym e) ∙ take-append_seam out rest)) h
-
 feed-utf8 : IsUtf8 (10 ∷ [])
 unfolding encode
 feed-utf8 = (10 ∷ [], (refl, refl))
@@ -100,6 +96,3 @@ feed-utf8 = (10 ∷ [], (refl, refl))
 -- an answer and a line feed are text
 pub first-utf8 : {N : Type 0} (read : List ℕ → Option N) (num : N → List ℕ) (rest written : List ℕ) → AnswersFirst read num rest written → IsUtf8 written
 first-utf8 read num rest written h = subst IsUtf8 (sym h.text) (IsUtf8-append h.answer (10 ∷ []) h.utf8 feed-utf8)
-
-pub text-utf8 : {N : Type 0} (read : List ℕ → Option N) (num : N → List ℕ) (text bytes : List ℕ) (len : ℕ) → WritesText read num text bytes len → IsUtf8 (take len bytes)
-text-utf8 read num text bytes len h = subst IsUtf8 (sym h.written) h.utf8

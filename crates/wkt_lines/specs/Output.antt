@@ -5,7 +5,7 @@ use Rattle.wkt_lines.specs.Lines.{input_lines}
 use Rattle.wkt_lines.specs.Replies.{AreReplies, AddsReply, BreaksReply}
 use Rattle.wkt_lines.specs.declared.lines.RunError.{RunError}
 use Rattle.wkt_lines.specs.declared.lines.RunError.TheVariants as run
-pub use Rattle.wkt_events.specs.Answers.{IsText, IsRefusedLine, IsAnswer}
+pub use Rattle.wkt_canonical.specs.Answers.{IsText, IsRefusedLine, IsAnswer}
 
 module _ {N : Type 0} (read : List ℕ → Option N) (num : N → List ℕ) where
   -- Each line's answer, followed by a line feed.

@@ -3,10 +3,11 @@ ghost use Rattle.std.specs.Prelude.{◌≡◌, OnOk, codes};
 ghost use Rattle.wkt_lines.specs.Answer.{AnswersLine, OnSink, OnAnswerMemory};
 ghost use Rattle.wkt_lines.specs.Output.{AddsAnswer, BreaksAnswer};
 
-use crate::first::Room;
+use crate::first::put;
 use std::alloc::{AllocError, Global};
 use std::fmt;
 use thiserror::Error;
+use wkt_canonical::{TextWritten, write_growing};
 use wkt_num::{TextSink, WktNum};
 
 /// Why lines weren't answered.
@@ -46,9 +47,9 @@ fn write_front<T: WktNum, W: TextSink>(
     ensures sink { OnSink result (BreaksAnswer T.read T.num W.sink f.old f.new text.now) }
     ensures memory { OnAnswerMemory result (f.new ≡ f.old) }
 {
-    let mut room = Room::new(alloc);
-    match room.canonical::<T>(text) {
-        Ok(Some(len)) => room.put(len, f),
+    let mut room = Vec::new(alloc);
+    match write_growing::<T>(text, &mut room) {
+        Ok(Some(TextWritten { end: _, len })) => put(&room[..len], f),
         Ok(None) => refuse(f),
         Err(e) => Err(AnswerError::Memory(e)),
     }

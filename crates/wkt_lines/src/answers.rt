@@ -3,7 +3,7 @@ ghost use Rattle.wkt_lines.specs.Output.{IsAnswer};
 ghost use Rattle.wkt_lines.specs.Replies.{RepliesAll};
 
 use crate::answer::AnswerError;
-use crate::first::{Room, write_first};
+use crate::first::write_first;
 use crate::lines::after_line;
 use std::alloc::Global;
 use wkt_num::{TextSink, WktNum};
@@ -19,7 +19,7 @@ pub fn write_answers<T: WktNum, W: TextSink>(
 ) -> Result<(), AnswerError>
     ensures { RepliesAll (IsAnswer T.read T.num) W.sink f.old input.now result f.new }
 {
-    let mut room = Room::new(alloc);
+    let mut room = Vec::new(alloc);
     let mut rest = input;
     'lines: while !rest.is_empty() {
         match write_first::<T, W>(&mut room, rest, f) {

@@ -1,7 +1,7 @@
 //! Inputs that are answered line by line: each line with the text of the geometry that it begins with, or with
 //! `refused`, or with answers of any kind.
 //!
-//! Below stand `wkt_events`, which answers a line, and `wkt_bytes`; above, the programs and `wkt_calls`.
+//! Below stand `wkt_canonical`, which answers a line, and `wkt_bytes`; above, the programs and `wkt_calls`.
 //!
 //! The program `wktline` is the call [`run`] over standard input and output, and `wktstream` is [`stream`], which takes
 //! an input of any size in the memory of the longest line:

@@ -7,7 +7,7 @@ use crate::page::Page;
 use crate::reply::{Reply, reply_to_line};
 use std::alloc::{AllocError, Global};
 use std::marker::PhantomData;
-use wkt_events::NoRoom;
+use wkt_canonical::NoRoom;
 use wkt_events::ends::line_end;
 use wkt_num::WktNum;
 
@@ -38,7 +38,7 @@ impl<T> ByWalk<T> {
 }
 
 impl<T: WktNum> Answers for ByWalk<T> {
-    ghost use Rattle.wkt_events.specs.Answers.{IsAnswer};
+    ghost use Rattle.wkt_canonical.specs.Answers.{IsAnswer};
 
     ghost answers = { λ _. IsAnswer T.read T.num };
 

@@ -5,7 +5,7 @@ ghost use Rattle.std.specs.Bool.{OnTrue};
 use std::alloc::{AllocError, Global};
 use std::fmt;
 use wkt_bytes::copy_piece;
-use wkt_events::{NoRoom, answer_line};
+use wkt_canonical::{NoRoom, answer_line};
 use wkt_num::{TextSink, WktNum};
 
 // How much is gathered, before it is put out, where answers are gathered.

@@ -8,7 +8,7 @@ use Rattle.wkt_types.specs.declared.geometry_type.GeometryType.{GeometryType}
 use Rattle.wkt_types.specs.declared.geometry_type.GeometryType.TheVariants as kind
 use Rattle.wkt_read.specs.Grammar.{DimPart, Header, IsEmptyWord, Within, More, Many, Numbers, Coord, Ring, Poly, Member, StandFor}
 use Rattle.wkt_read.specs.Begun.{BegunNext, BegunMany, BegunWithin, BegunListed, BegunPerhaps, BegunCoord, BegunRing, BegunPoly, BegunMember, BegunBody, BegunAt, BegunGeometry}
-use Rattle.wkt_read.proofs.ParserLemmas.Reported.{is_empty}
+use Rattle.wkt_read.proofs.LawLemmas.Words.{is_empty}
 use Rattle.wkt_machine.specs.Events.{Event, numbers, listed, perhaps, events}
 use Rattle.wkt_machine.specs.Machine.{Move, part_of, numbers_after, last_place, at, inside, outside, after, and_then, move, moved, run, joined_step, kind_step, dimension_step}
 use Rattle.wkt_machine.specs.declared.part.Part.{Part}

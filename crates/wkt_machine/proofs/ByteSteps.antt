@@ -1,15 +1,14 @@
 -- Numbers, commas and parentheses of coordinates in bytes, as steps of the machine.
-use Rattle.std.proofs.Common.{◌≡◌, ℕ, ◌+◌, ◌-◌, ◌<◌, ◌≤◌, List, [], ◌∷◌, length, length-append, get_or, Option, Some, None, Bool, true, false, refl, sym, ap, ◌∙◌, subst, arith}
+use Rattle.std.proofs.Common.{◌≡◌, ℕ, ◌+◌, ◌-◌, ◌<◌, List, [], ◌∷◌, length, length-append, get_or, Option, Some, None, Bool, true, false, refl, sym, ap, ◌∙◌, subst, arith}
 use Rattle.std.specs.Prelude.{Ok}
 use Rattle.wkt_num.specs.Bytes.{Lexeme, Open, Close, Comma, Word, Num, Mark, class_of}
 use Rattle.wkt_access.specs.declared.dimensions.Dimension.{Dimension}
 use Rattle.wkt_read.specs.Placed.{Placed}
-use Rattle.wkt_events.specs.Left.{left_placed}
+use Rattle.wkt_events.specs.Left.{Legible, left_placed}
 use Rattle.wkt_events.specs.Numbers.{NoNumber}
-use Rattle.wkt_events.specs.Walking.{Legible}
 use Rattle.wkt_machine.specs.Action.{Action}
 use Rattle.wkt_machine.specs.Action as act
-use Rattle.wkt_machine.specs.BytesView.{IsDark, bytes_view, has_coordinates}
+use Rattle.wkt_machine.specs.BytesView.{IsBetween, IsDark, bytes_view, has_coordinates}
 use Rattle.wkt_machine.specs.Events.{Event}
 use Rattle.wkt_machine.specs.Goes.{Stays, Numbers, IsUnread, IsStuck, Goes, Refuses, closes}
 use Rattle.wkt_machine.specs.Machine.{at, numbers_after, inside, outside, last_place, number_step, said, moved, move}
@@ -117,16 +116,15 @@ module _ {N B : Type 0} (read : List ℕ → Option N) (maker : Maker N B) {n : 
     ran = refl;
     is_open = over_number read (bytes_view {n = n} feed) maker m a at_a;
     keeps = stays.keeps;
-    stuck = λ j k. unread_stuck read m a at_a (left_placed feed t.text.now t.at) (bytes.none_unread feed t.text.now t.at read (stays.keeps j k) dark none);
+    stuck = λ j k. unread_stuck read m a at_a (left_placed feed t.text.now t.at) (bytes.none_unread feed t.text.now t.at read (stays.keeps j k).1 dark none);
   }
 
   -- the same, past white space
-  pub number_stays_at : (m : Machine) (s t : Bytes n) (b c : B) (a : Axis) (start : ℕ) → m.state ≡ state_for a → s.at ≤ start → left_placed feed s.text.now s.at ≡ left_placed feed s.text.now start
+  pub number_stays_at : (m : Machine) (s t : Bytes n) (b c : B) (a : Axis) (start : ℕ) → m.state ≡ state_for a → IsBetween feed s.text.now s.at start
       → (Legible feed s.text.now s.at → Legible feed s.text.now start) → IsDark feed s.text.now start → NoNumber read s.text.now start → t.text ≡ s.text → t.at ≡ start
       → Refuses read (bytes_view feed) maker m s b (record { source = t; machine = m; builder = c })
-  number_stays_at m s t b c a start at_a order same further dark none text at =
-      let moved : left_placed feed s.text.now s.at ≡ left_placed feed t.text.now t.at = same ∙ ap (left_placed feed s.text.now) (sym at) ∙ ap (λ x. left_placed feed x.now t.at) (sym text) in
-      let stays : Stays (bytes_view {n = n} feed) s t = bytes.stays_on feed s t (sym text) (omega (arith, order, at)) moved
+  number_stays_at m s t b c a start at_a between further dark none text at =
+      let stays : Stays (bytes_view {n = n} feed) s t = bytes.stays_on feed s t (sym text) (subst (IsBetween feed s.text.now s.at) (sym at) between)
       (λ k. subst (λ x. Legible feed x.now t.at) (sym text) (subst (Legible feed s.text.now) (sym at) (further k))) in
       number_stays m s t b c a at_a stays
       (subst (λ x. IsDark feed x.now t.at) (sym text) (subst (IsDark feed s.text.now) (sym at) dark))

@@ -1,24 +1,20 @@
 -- What is seen at a place of bytes, and what is taken there.
 use Rattle.std.proofs.Common.{◌≡◌, ◌≢◌, ℕ, ◌+◌, ◌<◌, ◌≤◌, List, [], ◌∷◌, length, get_or, slice_range, Option, Some, None, Bool, true, false, if◌then◌else◌, ◌&&◌, ◌||◌, ◌==◌, nat_le, inl, inr, refl, sym, ap, ◌∙◌, subst, arith}
-use Rattle.std.specs.Result.{IsErr}
 use Rattle.std.proofs.lemmas.Bool.{cases_lt, cases_eq, cases_Bool, ne_eqb, leb-true}
 use Rattle.std.proofs.lemmas.List.Edits.{get_or-between}
 use Rattle.wkt_num.specs.Bytes.{Lexeme, Open, Close, Comma, Word, Num, Class, Nul, White, Mark, Run, class_of}
 use Rattle.wkt_read.specs.Grammar.{kind_word}
 use Rattle.wkt_read.specs.Lexemes.{lexeme_of, starts_number, without_plus}
-use Rattle.wkt_read.specs.Parser.Outcome.{number_at, number_in}
 use Rattle.wkt_read.specs.Placed.{Placed, lexemes_of, placed}
-use Rattle.wkt_read.specs.declared.messages.Message.TheVariants as message
-use Rattle.wkt_events.specs.Left.{class_in, left_placed, left, IsRunEnd, TakesOne}
+use Rattle.wkt_events.specs.Left.{Legible, class_in, left_placed, left, IsRunEnd, TakesOne}
 use Rattle.wkt_events.specs.Numbers.{NoNumber}
-use Rattle.wkt_events.specs.Walking.{Legible}
 use Rattle.wkt_events.proofs.Classes.{class-same, class-in-mark, class-in-run}
 use Rattle.wkt_events.proofs.Classes as classes
 use Rattle.wkt_events.proofs.Lefts.{left-all, placed-nul, placed-past, left-begins, takes-mark, takes-run}
 use Rattle.wkt_events.proofs.Legibles.{legible-one}
-use Rattle.wkt_events.proofs.PenNumbers.{takes-number, refuses}
+use Rattle.wkt_events.proofs.Numbers.{takes-number, no-number}
 use Rattle.wkt_events.proofs.RunEnds.{late-run}
-use Rattle.wkt_machine.specs.BytesView.{IsDark, IsUnmarked, Sees, IsLooked, bytes_view}
+use Rattle.wkt_machine.specs.BytesView.{IsBetween, IsDark, IsUnmarked, Sees, IsLooked, bytes_view}
 use Rattle.wkt_machine.specs.Goes.{Stays, Skips, Numbers, IsUnread}
 use Rattle.wkt_machine.specs.Makers.{Maker, MakesNumber}
 use Rattle.wkt_machine.specs.Sight.{seen_of, seen_word, sight}
@@ -69,7 +65,7 @@ plus_run : class_of 43 ≡ Run
 unfolding class_of
 plus_run = refl
 
-number_run : (b : ℕ) → starts_number b ≡ true → class_of b ≡ Run
+pub number_run : (b : ℕ) → starts_number b ≡ true → class_of b ≡ Run
 number_run b h = elim (cases_lt 44 b) [
   | inl late ↦ late-run b late
   | inr low ↦ elim (cases_eq b 43) [
@@ -116,13 +112,27 @@ module _ (feed : Bool) (text : List ℕ) (at : ℕ) where
   word_lexeme [] h = refl
   word_lexeme (b ∷ bs) h = ap (λ t. if t then Num (without_plus (b ∷ bs)) else Word (b ∷ bs)) h
 
-  -- a run that is no number
-  pub sees_word : (end : ℕ) (k : Seen) → IsRunEnd text at end → end ≢ at → starts_number (get_or text at 0) ≡ false → k ≡ seen_word (kind_word (slice_range text at end)) (slice_range text at end) → Sees feed text at k end
-  sees_word end k e some starts is =
+  number_lexeme : (run : List ℕ) → starts_number (get_or run 0 0) ≡ true → lexeme_of run ≡ Num (without_plus run)
+  number_lexeme [] h = let clash : false ≡ true = h in cc
+  number_lexeme (b ∷ bs) h = ap (λ t. if t then Num (without_plus (b ∷ bs)) else Word (b ∷ bs)) h
+
+  pub takes_word : (end : ℕ) → IsRunEnd text at end → end ≢ at → starts_number (get_or text at 0) ≡ false → TakesOne feed text at (Word (slice_range text at end)) end
+  takes_word end e some starts =
       let run : List ℕ = slice_range text at end in
       let later : at < end = let order = e.order in omega (arith, order, some) in
       let word : lexeme_of run ≡ Word run = word_lexeme run (ap starts_number (first end later) ∙ starts) in
-      sees_one (Word run) end k (subst (λ l. TakesOne feed text at l end) word (takes-run feed text at end e later)) is
+      subst (λ l. TakesOne feed text at l end) word (takes-run feed text at end e later)
+
+  pub takes_digits : (end : ℕ) → IsRunEnd text at end → end ≢ at → starts_number (get_or text at 0) ≡ true → TakesOne feed text at (Num (without_plus (slice_range text at end))) end
+  takes_digits end e some starts =
+      let run : List ℕ = slice_range text at end in
+      let later : at < end = let order = e.order in omega (arith, order, some) in
+      let number : lexeme_of run ≡ Num (without_plus run) = number_lexeme run (ap starts_number (first end later) ∙ starts) in
+      subst (λ l. TakesOne feed text at l end) number (takes-run feed text at end e later)
+
+  -- a run that is no number
+  pub sees_word : (end : ℕ) (k : Seen) → IsRunEnd text at end → end ≢ at → starts_number (get_or text at 0) ≡ false → k ≡ seen_word (kind_word (slice_range text at end)) (slice_range text at end) → Sees feed text at k end
+  sees_word end k e some starts is = sees_one (Word (slice_range text at end)) end k (takes_word end e some starts) is
 
   nul_there : (c : Class) → class_in feed (get_or text at 0) ≡ c → IsDark feed text at → IsUnmarked feed text at → class_of (get_or text at 0) ≢ Run → left_placed feed text at ≡ []
   nul_there Nul e dark none stops = placed-nul feed text at e
@@ -130,22 +140,20 @@ module _ (feed : Bool) (text : List ℕ) (at : ℕ) where
   nul_there (Mark l) e dark none stops = absurd (none l e)
   nul_there Run e dark none stops = absurd (stops (class-in-run feed (get_or text at 0) e))
 
+  pub none_left : (end : ℕ) → IsRunEnd text at end → end ≡ at → IsDark feed text at → IsUnmarked feed text at → left_placed feed text at ≡ []
+  none_left end e here dark none =
+      nul_there (class_in feed (get_or text at 0)) refl dark none (λ r. e.stops (ap (λ n. class_of (get_or text n 0)) here ∙ r))
+
   -- neither a mark nor a run
   pub sees_none : (end other : ℕ) → IsRunEnd text at end → end ≡ at → IsDark feed text at → IsUnmarked feed text at → Sees feed text at seen.Other other
   sees_none end other e here dark none =
-      let left : left_placed feed text at ≡ [] = nul_there (class_in feed (get_or text at 0)) refl dark none (λ r. e.stops (ap (λ n. class_of (get_or text n 0)) here ∙ r)) in
-      record { sees = sym (ap sight left); takes = λ some word. absurd (some refl) }
+      record { sees = sym (ap sight (none_left end e here dark none)); takes = λ some word. absurd (some refl) }
 
   -- No number is there that is read.
   module _ {N : Type 0} (read : List ℕ → Option N) where
-    from_err : (o : Option N) (rest : List Lexeme) → IsErr (number_in read o rest) → o ≡ None
-    from_err None rest bad = refl
-    from_err (Some x) rest bad = cc
-
     pub none_unread : Legible feed text at → IsDark feed text at → NoNumber read text at → IsUnread read (left_placed feed text at)
-    unfolding left number_at
-    none_unread legible dark h run end more is =
-        from_err (read run) (lexemes_of more) (subst (λ ls. IsErr (number_at read message.X ls)) (ap lexemes_of is) (refuses read (λ _. []) feed text at legible dark h))
+    unfolding left
+    none_unread legible dark h run end more is = no-number read feed text at legible dark h run (lexemes_of more) (ap lexemes_of is)
 
 module _ (feed : Bool) where
   -- past the end nothing is seen
@@ -165,17 +173,28 @@ module _ (feed : Bool) where
     dark = λ e. dark;
   }
 
+-- between a place and a second, and between that and a third
+pub between_more : (feed : Bool) (text : List ℕ) (from at to : ℕ) → IsBetween feed text from at → IsBetween feed text at to → IsBetween feed text from to
+between_more feed text from at to a b =
+    let first = a.order in
+    let second = b.order in
+    record {
+      order = omega (arith, first, second);
+      same = a.same ∙ b.same;
+      white = λ k low high. elim (cases_lt k at) [
+        | inl before ↦ a.white k low before
+        | inr after ↦ b.white k after high
+      ];
+    }
+
 -- What bytes do as a source.
 module _ {n : ℕ} (feed : Bool) where
   -- no lexeme stands before
-  pub stays_on : (s t : Bytes n) → s.text ≡ t.text → s.at ≤ t.at → left_placed feed s.text.now s.at ≡ left_placed feed t.text.now t.at → (Legible feed s.text.now s.at → Legible feed t.text.now t.at) → Stays (bytes_view feed) s t
-  stays_on s t text order same legible = record {
-    left = sym same;
-    behind = λ end k. record {
-      order = let before = k.order in omega (arith, before, order);
-      same = subst (λ x. left_placed feed x.now end ≡ left_placed feed t.text.now t.at) text (k.same ∙ same);
-    };
-    keeps = λ j. legible;
+  pub stays_on : (s t : Bytes n) → s.text ≡ t.text → IsBetween feed s.text.now s.at t.at → (Legible feed s.text.now s.at → Legible feed t.text.now t.at) → Stays (bytes_view feed) s t
+  stays_on s t text between legible = record {
+    left = ap (λ x. left_placed feed x.now t.at) (sym text) ∙ sym between.same;
+    behind = λ end k. subst (λ x. IsBetween feed x.now end t.at) text (between_more feed s.text.now end s.at t.at k between);
+    keeps = λ j k. (ap (λ x. x.now) (sym text) ∙ k.0, legible k.1);
   }
 
   -- a lexeme that stands there is taken
@@ -184,7 +203,7 @@ module _ {n : ℕ} (feed : Bool) where
     lexeme = record { lexeme = l; end = t.at };
     left = takes.next ∙ ap (λ x. record { lexeme = l; end = t.at } ∷ left_placed feed x.now t.at) (sym text);
     place = refl;
-    keeps = λ j k. subst (λ x. Legible feed x.now t.at) (sym text) (legible-one feed s.text.now s.at l t.at takes k);
+    keeps = λ j k. (ap (λ x. x.now) text ∙ k.0, subst (λ x. Legible feed x.now t.at) (sym text) (legible-one feed s.text.now s.at l t.at takes k.1));
   }
 
   -- the lexeme that was looked at is taken
@@ -202,14 +221,14 @@ module _ {n : ℕ} (feed : Bool) where
   pub numbers_after : {N B : Type 0} (read : List ℕ → Option N) (maker : Maker N B) (s t : Bytes n) (b c : B) (axis : Axis) (at : ℕ) → left_placed feed s.text.now s.at ≡ left_placed feed s.text.now at → (Legible feed s.text.now s.at → Legible feed s.text.now at)
       → MakesNumber read maker b s.text.now at axis c t.at → t.text ≡ s.text → Numbers read (bytes_view feed) maker s b axis t c
   numbers_after read maker s t b c axis at same further h text =
-      let takes = takes-number read (λ _. []) feed s.text.now at t.at h.number h.there in
+      let takes = takes-number read feed s.text.now at t.at h.number h.there in
       record {
         run = without_plus (slice_range s.text.now at t.at);
         number = h.number;
         end = t.at;
         left = same ∙ takes.next ∙ ap (λ x. record { lexeme = Num (without_plus (slice_range s.text.now at t.at)); end = t.at } ∷ left_placed feed x.now t.at) (sym text);
         place = refl;
-        keeps = λ j k. subst (λ x. Legible feed x.now t.at) (sym text) (legible-one feed s.text.now at _ t.at takes (further k));
+        keeps = λ j k. (ap (λ x. x.now) text ∙ k.0, subst (λ x. Legible feed x.now t.at) (sym text) (legible-one feed s.text.now at _ t.at takes (further k.1)));
         reads = h.there.reads;
         makes = h.makes;
       }

@@ -8,7 +8,7 @@ use Rattle.wkt_access.specs.Values.{Value, Values}
 use Rattle.wkt_types.specs.declared.geometry_type.GeometryType.{GeometryType}
 use Rattle.wkt_types.specs.declared.geometry_type.GeometryType.TheVariants as kind
 use Rattle.wkt_read.specs.Grammar.{dim_word, dim_in, DimPart, Header, StandFor, Geometries, Further}
-use Rattle.wkt_read.proofs.ParserLemmas.Reported.{is_empty}
+use Rattle.wkt_read.proofs.LawLemmas.Words.{is_empty}
 use Rattle.wkt_machine.specs.Events.{Event, events, geometries, members}
 use Rattle.wkt_machine.specs.Machine.{part_of, at, outside, moved, made, joined_step, kind_step, dimension_step}
 use Rattle.wkt_machine.specs.Action as act

@@ -25,7 +25,7 @@ use Rattle.wkt_machine.proofs.Fronting.{end_last, no_front_there}
 
 -- nothing is made
 made_none : {N : Type 0} → Maker N (Unit {0})
-made_none = record { makes = λ s es t. Unit {0}; none = λ s. tt; more = λ s t u es fs h k. tt }
+made_none = record { makes = λ s es t. Unit {0}; fits = λ s n. Unit {0}; takes = λ x. 0; none = λ s. tt; more = λ s t u es fs h k. tt; less = λ s m n order h. tt }
 
 abbrev begin : Machine
 begin = record { state = state.Kind; part = part.Point; dim = XY; depth = 0 }
@@ -44,7 +44,7 @@ module _ {N S : Type 0} (read : List ℕ → Option N) (view : View S) (text : L
   front_taken v t at ends h = subst (Front read text v) (sym (ends h.last.end h.place)) (front_whole v t h)
 
   -- no front where the machine stops
-  pub no_front_refused : (j : ℕ) → view.keeps s j → (m : Machine) (t : S) → IsRefused read view s m t → HasNoFront read text
+  pub no_front_refused : (j : view.Known) → view.keeps s j → (m : Machine) (t : S) → IsRefused read view s m t → HasNoFront read text
   no_front_refused j keeps m t h =
       let to : At S (Unit {0}) = record { source = t; machine = m; builder = tt } in
       no_front_there read view made_none text s tt to begins j keeps (
@@ -74,6 +74,6 @@ module _ {N S : Type 0} (read : List ℕ → Option N) (view : View S) (text : L
       let same = front_one read text v w end _ front (front_whole w t takes) in
       absurd (wants (subst NeedsNoMemory same.0 free))
 
-  pub refused_in : (t : S) (m : Machine) (u : Unread) (a : Result (Wkt N) Unread) → a ≡ Err u → u ≡ Refused m → OnRefused a (λ m. IsRefused read view s m t) → (j : ℕ) → view.keeps s j → HasNoFront read text
+  pub refused_in : (t : S) (m : Machine) (u : Unread) (a : Result (Wkt N) Unread) → a ≡ Err u → u ≡ Refused m → OnRefused a (λ m. IsRefused read view s m t) → (j : view.Known) → view.keeps s j → HasNoFront read text
   refused_in t m u a e is h j keeps =
       no_front_refused j keeps m t (subst (λ u. OnRefused {X = Wkt N} (Err u) (λ m. IsRefused read view s m t)) is (subst (λ a. OnRefused a (λ m. IsRefused read view s m t)) e h))

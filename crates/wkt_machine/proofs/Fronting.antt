@@ -62,7 +62,7 @@ module _ {N : Type 0} (read : List ℕ → Option N) where
         let (more, is) = taken_begin text front.rest front.lexemes front.taken in
         none front.lexemes more v (split_one text _ _ (placed-split text) is) front.reads
 
-    pub no_front_there : (j : ℕ) → view.keeps s j → RefusesFrom read view maker s b to → HasNoFront read text
+    pub no_front_there : (j : view.Known) → view.keeps s j → RefusesFrom read view maker s b to → HasNoFront read text
     no_front_there j keeps (m, from, h) = go (view.left to.source) refl
       where
         ran : run read start (lexemes_of h.taken) ≡ Some (state_of to.machine, h.events)

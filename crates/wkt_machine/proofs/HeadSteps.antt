@@ -5,8 +5,7 @@ use Rattle.wkt_access.specs.declared.dimensions.Dimension.TheVariants.{XY}
 use Rattle.wkt_read.specs.Grammar.{kind_word, kind_words}
 use Rattle.wkt_read.specs.Lexemes.{lexeme_of, starts_number, without_plus}
 use Rattle.wkt_read.specs.Placed.{Placed}
-use Rattle.wkt_events.specs.Left.{class_in, left_placed, IsRunEnd, TakesOne}
-use Rattle.wkt_events.specs.Walking.{Legible}
+use Rattle.wkt_events.specs.Left.{Legible, class_in, left_placed, IsRunEnd, TakesOne}
 use Rattle.wkt_events.proofs.Classes as classes
 use Rattle.wkt_events.proofs.Classes.{space}
 use Rattle.wkt_events.proofs.Lefts.{placed-white, takes-mark, takes-run, takes-after}
@@ -129,6 +128,6 @@ module _ {N B : Type 0} (read : List ℕ → Option N) (maker : Maker N B) {n : 
       let here : left_placed feed s.text.now s.at ≡ word ∷ left_placed feed s.text.now head.mid = between.same ∙ head.takes.next in
       let behind : left_placed feed s.text.now head.mid ≡ opens ∷ left_placed feed t.text.now t.at = head.opens.next ∙ ap (λ x. opens ∷ left_placed feed x.now t.at) (sym text) in
       goes_on_to read (bytes_view feed) maker m s b (record { source = mid; machine = alone; builder = b }) (record { source = t; machine = k; builder = c })
-      (goes_one read (bytes_view feed) maker m alone s mid b b word [] here refl (λ j l. legible-one feed s.text.now start (Word head.word) head.mid head.takes (further l)) first (maker.none b) tt)
+      (goes_one read (bytes_view feed) maker m alone s mid b b word [] here refl (λ j l. (l.0, legible-one feed s.text.now start (Word head.word) head.mid head.takes (further l.1))) first (maker.none b) tt)
       (goes_one read (bytes_view feed) maker alone k mid t b c opens (Event.Header p XY ∷ Event.Open p ∷ []) behind refl
-      (λ j l. subst (λ x. Legible feed x.now t.at) (sym text) (legible-one feed s.text.now head.mid Open t.at head.opens l)) second makes sound)
+      (λ j l. (ap (λ x. x.now) text ∙ l.0, subst (λ x. Legible feed x.now t.at) (sym text) (legible-one feed s.text.now head.mid Open t.at head.opens l.1))) second makes sound)

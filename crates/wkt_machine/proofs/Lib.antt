@@ -1,30 +1,42 @@
 mod Runs
 mod Parts
-mod Complete
+pub mod Complete
 mod Beginnings
 mod Places
 mod Begins
-mod Whole
-mod Named
+pub mod Whole
+pub mod Named
+pub mod Costs
+pub mod Rooms
 mod Stepping
 mod Numbering
-mod Composing
+pub mod Composing
 mod Depths
 mod TokenViews
-mod Fronting
+pub mod Fronting
 pub mod ByteViews
 mod Leading
 mod ByteSteps
 mod TakeNext
 mod Reaching
-mod Shown
+pub mod Shown
 mod HeadSteps
 mod Items
 mod TokenSteps
+pub mod SourceRooms
 pub mod Grown
 mod Holding
 pub mod Valued
 pub mod FrontValues
-mod Walking
+pub mod Contexts
+pub mod Parens
+pub mod Dead
+mod Messages
+pub mod TableMessages
+mod OneMessage
 mod Refusing
+pub mod Stopping
+mod Givens
 mod Reading
+mod NearPoints
+mod Driven

@@ -4,12 +4,11 @@ use Rattle.std.specs.Prelude.{◌⊎◌, ◌↔◌}
 use Rattle.wkt_num.specs.Bytes.{Lexeme, Open, Close, Comma, Word, Num}
 use Rattle.wkt_access.specs.declared.dimensions.Dimension.{Dimension}
 use Rattle.wkt_access.specs.declared.dimensions.Dimension.TheVariants.{XY, XYZ, XYM, XYZM}
-use Rattle.wkt_read.specs.Grammar.{KindWord, kind_word, dim_word}
+use Rattle.wkt_read.specs.Grammar.{KindWord, kind_word, dim_word, is_empty_word}
 use Rattle.wkt_read.specs.Begun.{IsDead}
-use Rattle.wkt_read.specs.Parser.Outcome.{is_empty_word}
-use Rattle.wkt_read.proofs.ParserLemmas.Reported.{empty_is, is_empty}
-use Rattle.wkt_explain.specs.declared.expected.Expected.TheVariants as expected
-use Rattle.wkt_explain.specs.Explained.{IsKind, IsDimension, IsOpening, IsNumber, IsNamed, IsExpectedAfter}
+use Rattle.wkt_read.proofs.LawLemmas.Words.{empty_is, is_empty}
+use Rattle.wkt_read.specs.declared.expected.Expected.TheVariants as expected
+use Rattle.wkt_read.specs.Explained.{IsKind, IsDimension, IsOpening, IsNumber, IsNamed, IsExpectedAfter}
 use Rattle.wkt_machine.specs.Drives.{start, is_over, over_at}
 use Rattle.wkt_machine.specs.Events.{Event}
 use Rattle.wkt_machine.specs.Expecting.{last_number, item_expected, opening_expected, expected_at}

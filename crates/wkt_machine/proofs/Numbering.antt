@@ -4,8 +4,7 @@ use Rattle.std.specs.Prelude.{Result, Ok, Err, IfOk, IfErr}
 use Rattle.wkt_num.specs.Bytes.{Lexeme, Open, Close, Comma, Word, Num}
 use Rattle.wkt_access.specs.declared.dimensions.Dimension.{Dimension}
 use Rattle.wkt_access.specs.declared.dimensions.Dimension.TheVariants.{XY, XYZ, XYM, XYZM}
-use Rattle.wkt_read.specs.Grammar.{KindWord, kind_word, dim_word}
-use Rattle.wkt_read.specs.Parser.Outcome.{is_empty_word}
+use Rattle.wkt_read.specs.Grammar.{KindWord, kind_word, dim_word, is_empty_word}
 use Rattle.wkt_read.specs.Placed.{Placed}
 use Rattle.wkt_machine.specs.Action.{Action}
 use Rattle.wkt_machine.specs.Drives.{is_over, over_at}
@@ -105,7 +104,7 @@ module _ {N S B : Type 0} (read : List ℕ → Option N) (view : View S) (maker 
 
   -- A number that isn't read stays.
   pub unread : (m : Machine) (s t : S) (b c : B) (r : Result (At S B) (At S B)) → r ≡ Err (record { source = t; machine = m; builder = c }) → seen.Number ≡ sight (view.left s) → is_over (state_of m) ≡ false
-      → Stays view s t → ((n : ℕ) → view.keeps s n → IsUnread read (view.left s)) → IfErr r (Refuses read view maker m s b)
+      → Stays view s t → ((k : view.Known) → view.keeps s k → IsUnread read (view.left s)) → IfErr r (Refuses read view maker m s b)
   unread m s t b c r is sees o stays never = subst (λ r. IfErr r (Refuses read view maker m s b)) (sym is) (record {
     taken = [];
     events = [];

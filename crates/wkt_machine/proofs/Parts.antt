@@ -7,7 +7,7 @@ use Rattle.wkt_access.specs.declared.dimensions.Dimension.{Dimension}
 use Rattle.wkt_access.specs.declared.dimensions.Dimension.TheVariants.{XY, XYZ, XYM, XYZM}
 use Rattle.wkt_access.specs.Values.{size}
 use Rattle.wkt_read.specs.Grammar.{IsEmptyWord, Within, More, Listed, Perhaps, Numbers, Coord, Ring, Poly, Member}
-use Rattle.wkt_read.proofs.ParserLemmas.Reported.{is_empty}
+use Rattle.wkt_read.proofs.LawLemmas.Words.{is_empty}
 use Rattle.wkt_machine.specs.Events.{Event, axis_of, numbers, further, listed, perhaps}
 use Rattle.wkt_machine.specs.Machine.{numbers_after, at, inside, outside, move, moved, said, comma_step, last_place, last_step, step, made}
 use Rattle.wkt_machine.specs.Action as act

@@ -1,5 +1,5 @@
 -- What is read off tokens, by what the machine took of them.
-use Rattle.std.proofs.Common.{◌≡◌, ℕ, ◌≤◌, ◌<◌, List, [], ◌∷◌, ◌++◌, length, refl, sym, ap, ◌∙◌, subst, append_assoc, arith, Option, Some, None, Result, Ok, Err, false}
+use Rattle.std.proofs.Common.{◌≡◌, ℕ, ◌<◌, List, [], ◌∷◌, ◌++◌, length, refl, sym, ap, ◌∙◌, subst, append_assoc, arith, Option, Result, Ok, Err}
 use Rattle.std.specs.Prelude.{IfOk}
 use Rattle.std.specs.declared.alloc.AllocError.{AllocError}
 use Rattle.wkt_num.specs.Bytes.{Lexeme}
@@ -14,21 +14,17 @@ use Rattle.wkt_read.specs.Early.{StopsEarly}
 use Rattle.wkt_read.specs.Front.{NeedsNoMemory}
 use Rattle.wkt_read.specs.Items.{bad_number}
 use Rattle.wkt_read.specs.Messages.{message_text}
-use Rattle.wkt_read.specs.Parser.Outcome.{value_at}
-use Rattle.wkt_read.specs.Placed.{Placed, lexemes_of, end_after, AreEnds}
-use Rattle.wkt_read.specs.Refusal.{IsRefused as SaysOf, IfText}
+use Rattle.wkt_read.specs.Placed.{Placed, lexemes_of, AreEnds}
+use Rattle.wkt_read.specs.Refusal.{HasMessage, IsRefused as SaysOf, IfText}
 use Rattle.wkt_read.specs.Standing.{Standing}
 use Rattle.wkt_read.specs.declared.error.ReadError.{ReadError}
 use Rattle.wkt_read.specs.declared.error.ReadError.TheVariants.{Text, Memory}
 use Rattle.wkt_read.specs.declared.messages.Message.{Message}
 use Rattle.wkt_read.specs.declared.messages.Message.TheVariants as message
 use Rattle.wkt_read.proofs.MessageTexts.{one-text}
+use Rattle.wkt_read.proofs.Refusals.{message_none, message_bad}
 use Rattle.wkt_read.proofs.LawLemmas.OneForm.{geometry_one}
 use Rattle.wkt_read.proofs.ParserLemmas.Answering.{rest-is, some-taken, to-front}
-use Rattle.wkt_read.proofs.ParserLemmas.Blamed.{bad_here}
-use Rattle.wkt_read.proofs.ParserLemmas.Early.{error_early}
-use Rattle.wkt_read.proofs.ParserLemmas.Free.{none_begins}
-use Rattle.wkt_machine.specs.Drives.{start, is_over}
 use Rattle.wkt_machine.specs.Goes.{IsStuck}
 use Rattle.wkt_machine.specs.Machines.{state_of}
 use Rattle.wkt_machine.specs.Refusing.{refused}
@@ -41,11 +37,8 @@ use Rattle.wkt_machine.specs.declared.value.Unread.TheVariants.{Refused}
 use Rattle.wkt_machine.specs.declared.value.Unread.TheVariants.{Memory as Unmade}
 use Rattle.wkt_machine.proofs.Composing.{lexemes_append, end_last}
 use Rattle.wkt_machine.proofs.Refusing.{advances_then}
-use Rattle.wkt_machine.proofs.Walking.{IsStuckAt, refused_as}
-
--- no other message is that of a bad number
-is-bad : (m : Message) → message_text m ≡ bad_number → m ≡ message.BadNumber
-is-bad m = one-text m message.BadNumber
+use Rattle.wkt_machine.proofs.Messages.{message_early}
+use Rattle.wkt_machine.proofs.TableMessages.{IsStuckAt, has_message}
 
 rest-append : (s : Standing) (given more : List Placed) → left s ≡ given ++ more → rest s ≡ lexemes_of given ++ lexemes_of more
 rest-append s given more e = rest-is s (given ++ more) e ∙ lexemes_append given more
@@ -90,26 +83,21 @@ module _ {T : Type 0} (read : List ℕ → Option T) (a b : OneByOne T) where
     stuck_at [] k = tt
     stuck_at (p ∷ ps) k = k
 
-    pub refused_reads : value_at read (length (rest a.tokens.now)) false (rest a.tokens.now) ≡ Err (refused read (state_of m) (rest b.tokens.now))
-    refused_reads =
-        let there : rest b.tokens.now ≡ lexemes_of (left b.tokens.now) = rest-is b.tokens.now (left b.tokens.now) refl in
-        let split = rest-append a.tokens.now h.taken (left b.tokens.now) h.split in
-        subst (λ r. value_at read (length (rest a.tokens.now)) false (rest a.tokens.now) ≡ Err (refused read (state_of m) r)) (sym there)
-        (refused_as read (lexemes_of h.taken) (lexemes_of (left b.tokens.now)) (rest a.tokens.now) (state_of m) h.events split h.ran h.is_open (stuck_at (left b.tokens.now) (h.stuck 0 (omega arith))))
-
     -- the message, and what is left behind it
     module _ (k : Message) (after : Standing) (is : (k, rest after) ≡ refused read (state_of m) (rest b.tokens.now)) where
-      pub said : value_at read (length (rest a.tokens.now)) false (rest a.tokens.now) ≡ Err (k, rest after)
-      said = refused_reads ∙ ap (λ r. Err r) (sym is)
+      pub said : HasMessage read (rest a.tokens.now) k (rest after)
+      said =
+          has_message read (lexemes_of h.taken) (state_of m) h.events h.ran h.is_open (lexemes_of (left b.tokens.now)) (rest a.tokens.now) (rest after) k
+          (rest-append a.tokens.now h.taken (left b.tokens.now) h.split) (stuck_at (left b.tokens.now) (h.stuck 0 (omega arith))) (is ∙ ap (refused read (state_of m)) (rest-is b.tokens.now (left b.tokens.now) refl))
 
       pub none_there : NoneBegins read (rest a.tokens.now)
-      none_there = none_begins read (length (rest a.tokens.now)) false (rest a.tokens.now) (k, rest after) (omega arith) said
+      none_there = message_none read (rest a.tokens.now) k (rest after) said
 
       pub early_there : StopsEarly read (rest a.tokens.now) (rest after)
-      early_there = error_early read (length (rest a.tokens.now)) false (rest a.tokens.now) (k, rest after) (omega arith) said
+      early_there = message_early read (rest a.tokens.now) k (rest after) said
 
       pub bad_there : (text : List ℕ) → text ≡ message_text k → text ≡ bad_number → HasBad read (rest a.tokens.now)
-      bad_there text says bad = bad_here read (length (rest a.tokens.now)) false (rest a.tokens.now) (rest after) k said (is-bad k (sym says ∙ bad))
+      bad_there text says bad = message_bad read (rest a.tokens.now) k (rest after) said (one-text k message.BadNumber (sym says ∙ bad))
 
       pub refusal_there : (text : List ℕ) → text ≡ message_text k → SaysOf read (rest a.tokens.now) text (rest after)
       refusal_there text says = (k, says, said)

@@ -7,10 +7,9 @@ use Rattle.wkt_num.specs.Bytes.{Lexeme, Open, Close, Comma, Word, Num}
 use Rattle.wkt_access.specs.declared.dimensions.Dimension.{Dimension}
 use Rattle.wkt_access.specs.declared.dimensions.Dimension.TheVariants.{XY, XYZ, XYM, XYZM}
 use Rattle.wkt_types.specs.declared.geometry_type.GeometryType.{GeometryType}
-use Rattle.wkt_read.specs.Grammar.{KindWord, kind_words, entry_in, kind_word, dim_word, dim_in}
-use Rattle.wkt_read.specs.Parser.Outcome.{is_empty_word}
+use Rattle.wkt_read.specs.Grammar.{KindWord, kind_words, entry_in, kind_word, dim_word, dim_in, is_empty_word}
 use Rattle.wkt_read.specs.Placed.{Placed}
-use Rattle.wkt_read.proofs.ParserLemmas.Reported.{empty_is}
+use Rattle.wkt_read.proofs.LawLemmas.Words.{empty_is}
 use Rattle.wkt_machine.specs.Action.{Action}
 use Rattle.wkt_machine.specs.Action as act
 use Rattle.wkt_machine.specs.Drives.{is_over, over_at}
@@ -300,7 +299,7 @@ module _ {N S B : Type 0} (read : List ℕ → Option N) (view : View S) (maker 
   }
 
   -- One lexeme is taken.
-  pub goes_one : (m n : Machine) (s t : S) (b c : B) (l : Placed) (es : List (Event N)) → view.left s ≡ l ∷ view.left t → view.place t l.end → ((n : ℕ) → view.keeps s n → view.keeps t n)
+  pub goes_one : (m n : Machine) (s t : S) (b c : B) (l : Placed) (es : List (Event N)) → view.left s ≡ l ∷ view.left t → view.place t l.end → ((k : view.Known) → view.keeps s k → view.keeps t k)
       → move read (state_of m) l.lexeme ≡ Some (state_of n, es) → maker.makes b es c → IsSound n → Goes read view maker m s b (record { source = t; machine = n; builder = c })
   goes_one m n s t b c l es split place keeps moves makes sound = record {
     given = [];
@@ -325,7 +324,7 @@ module _ {N S B : Type 0} (read : List ℕ → Option N) (view : View S) (maker 
       (ap (λ o. moved read o (number_of read skips.lexeme.lexeme)) step ∙ ap (λ x. moved read (Some (state_of n, a)) x) none) makes sound
 
   -- No lexeme is taken.
-  pub stands : (m : Machine) (s : S) (b : B) (c : B) → is_over (state_of m) ≡ false → ((n : ℕ) → view.keeps s n → IsStuck read m (view.left s)) → Refuses read view maker m s b (record { source = s; machine = m; builder = c })
+  pub stands : (m : Machine) (s : S) (b : B) (c : B) → is_over (state_of m) ≡ false → ((k : view.Known) → view.keeps s k → IsStuck read m (view.left s)) → Refuses read view maker m s b (record { source = s; machine = m; builder = c })
   stands m s b c o stuck = record {
     taken = [];
     events = [];

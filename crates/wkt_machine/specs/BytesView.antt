@@ -1,10 +1,9 @@
 -- What is known of bytes as a source.
-use Rattle.std.specs.Prelude.{◌≡◌, ◌≢◌, ℕ, ◌≤◌, length, get_or, List, Bool, true, false, refl}
-use Rattle.std.proofs.Common.{subst}
+use Rattle.std.specs.Prelude.{◌≡◌, ◌≢◌, ℕ, ◌≤◌, ◌<◌, length, get_or, List, Bool, true, false, refl}
+use Rattle.std.proofs.Common.{subst, arith}
 use Rattle.std.proofs.Math.Nat.{le_refl}
 use Rattle.wkt_num.specs.Bytes.{Lexeme, Mark, White}
-use Rattle.wkt_events.specs.Left.{class_in, left_placed, TakesOne}
-use Rattle.wkt_events.specs.Walking.{Legible}
+use Rattle.wkt_events.specs.Left.{Legible, class_in, left_placed, TakesOne}
 use Rattle.wkt_machine.specs.Sight.{sight}
 use Rattle.wkt_machine.specs.View.{View}
 use Rattle.wkt_machine.specs.declared.bytes.Bytes.{Bytes}
@@ -32,19 +31,26 @@ pub record IsLooked (feed : Bool) (text : List ℕ) (at end : ℕ) : Type 0 wher
   pub inside : sight (left_placed feed text at) ≡ seen.Number → at ≤ length text
   pub dark : sight (left_placed feed text at) ≡ seen.Number → IsDark feed text at
 
--- No lexeme stands between two places.
+-- White space alone stands between two places.
 pub record IsBetween (feed : Bool) (text : List ℕ) (from to : ℕ) : Type 0 where
   pub order : from ≤ to
   pub same : left_placed feed text from ≡ left_placed feed text to
+  pub white : (k : ℕ) → from ≤ k → k < to → class_in feed (get_or text k 0) ≡ White
 
--- A number that is left is a text where the text's line is.
+-- Nothing stands between a place and itself.
+pub between_none : (feed : Bool) (text : List ℕ) (at : ℕ) → IsBetween feed text at at
+between_none feed text at = record { order = le_refl at; same = refl; white = λ k low high. absurd (omega (arith, low, high)) }
+
+-- It stays the same text. A number that is left is a text where the text's line is.
 abbrev pub bytes_view : {n : ℕ} → Bool → View (Bytes n)
 bytes_view feed = record {
   left = λ s. left_placed feed s.text.now s.at;
   place = λ s end. s.at ≡ end;
   behind = λ s end. IsBetween feed s.text.now end s.at;
-  here = λ s end e. subst (λ end. IsBetween feed s.text.now end s.at) e (record { order = le_refl s.at; same = refl });
-  keeps = λ s n. Legible feed s.text.now s.at;
+  here = λ s end e. subst (λ end. IsBetween feed s.text.now end s.at) e (between_none feed s.text.now s.at);
+  Known = List ℕ;
+  keeps = λ s text. (s.text.now ≡ text) × Legible feed s.text.now s.at;
+  by_value = ⊥;
   looked = λ s. IsLooked feed s.text.now s.at s.end;
 }
 

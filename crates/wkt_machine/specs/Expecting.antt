@@ -2,8 +2,8 @@
 use Rattle.std.specs.Prelude.{ℕ, zero, suc, ◌==◌, if◌then◌else◌}
 use Rattle.wkt_access.specs.declared.dimensions.Dimension.{Dimension}
 use Rattle.wkt_access.specs.declared.dimensions.Dimension.TheVariants.{XY, XYZ, XYM, XYZM}
-use Rattle.wkt_explain.specs.declared.expected.Expected.{Expected}
-use Rattle.wkt_explain.specs.declared.expected.Expected.TheVariants as expected
+use Rattle.wkt_read.specs.declared.expected.Expected.{Expected}
+use Rattle.wkt_read.specs.declared.expected.Expected.TheVariants as expected
 use Rattle.wkt_machine.specs.Machine.{numbers_after}
 use Rattle.wkt_machine.specs.declared.part.Part.{Part}
 use Rattle.wkt_machine.specs.declared.part.Part.TheVariants as part

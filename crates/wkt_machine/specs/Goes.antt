@@ -18,14 +18,14 @@ use Rattle.wkt_machine.specs.declared.source.At.{At}
 pub record Stays {S : Type 0} (view : View S) (s t : S) : Type 0 where
   pub left : view.left t ≡ view.left s
   pub behind : (end : ℕ) → view.behind s end → view.behind t end
-  pub keeps : (n : ℕ) → view.keeps s n → view.keeps t n
+  pub keeps : (k : view.Known) → view.keeps s k → view.keeps t k
 
 -- A lexeme is taken.
 pub record Skips {S : Type 0} (view : View S) (s t : S) : Type 0 where
   pub lexeme : Placed
   pub left : view.left s ≡ lexeme ∷ view.left t
   pub place : view.place t lexeme.end
-  pub keeps : (n : ℕ) → view.keeps s n → view.keeps t n
+  pub keeps : (k : view.Known) → view.keeps s k → view.keeps t k
 
 -- A machine doesn't move with the lexeme that comes next, or none does.
 abbrev pub IsStuck : {N : Type 0} → (List ℕ → Option N) → Machine → List Placed → Type 0
@@ -44,7 +44,7 @@ module _ {N S B : Type 0} (read : List ℕ → Option N) (view : View S) (maker 
     pub end : ℕ
     pub left : view.left s ≡ record { lexeme = lex.Num run; end = end } ∷ view.left t
     pub place : view.place t end
-    pub keeps : (n : ℕ) → view.keeps s n → view.keeps t n
+    pub keeps : (k : view.Known) → view.keeps s k → view.keeps t k
     pub reads : read run ≡ Some number
     pub makes : maker.makes b (Event.Number axis number ∷ []) c
 
@@ -58,7 +58,7 @@ module _ {N S B : Type 0} (read : List ℕ → Option N) (view : View S) (maker 
     pub ran : run read (state_of m) (lexemes_of (given ++ (last ∷ []))) ≡ Some (state_of to.machine, events)
     pub makes : maker.makes b events to.builder
     pub sound : IsSound to.machine
-    pub keeps : (n : ℕ) → view.keeps s n → view.keeps to.source n
+    pub keeps : (k : view.Known) → view.keeps s k → view.keeps to.source k
 
   -- The machine goes over some lexemes, or none, up to one with which it doesn't move, or that lacks.
   pub record Refuses (m : Machine) (s : S) (b : B) (to : At S B) : Type 0 where
@@ -68,8 +68,8 @@ module _ {N S B : Type 0} (read : List ℕ → Option N) (view : View S) (maker 
     pub behind : (end : ℕ) → view.behind s end → view.behind to.source (end_after end taken)
     pub ran : run read (state_of m) (lexemes_of taken) ≡ Some (state_of to.machine, events)
     pub is_open : is_over (state_of to.machine) ≡ false
-    pub keeps : (n : ℕ) → view.keeps s n → view.keeps to.source n
-    pub stuck : (n : ℕ) → view.keeps s n → IsStuck read to.machine (view.left to.source)
+    pub keeps : (k : view.Known) → view.keeps s k → view.keeps to.source k
+    pub stuck : (k : view.Known) → view.keeps s k → IsStuck read to.machine (view.left to.source)
 
   -- The same from where a text begins.
   abbrev pub GoesFrom : S → B → At S B → Type 0

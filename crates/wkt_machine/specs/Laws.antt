@@ -6,12 +6,12 @@ use Rattle.wkt_access.specs.WellFormed.{IsWellFormed}
 use Rattle.wkt_read.specs.Grammar.{StandFor}
 use Rattle.wkt_read.specs.Begun.{BegunGeometry, NoneBegins}
 use Rattle.wkt_read.specs.Early.{IsJustDead}
+use Rattle.wkt_read.specs.Explained.{IsExpectedAfter}
 use Rattle.wkt_machine.specs.Place as place
 use Rattle.wkt_machine.specs.Place.{State}
 use Rattle.wkt_machine.specs.Drives.{start, is_over}
 use Rattle.wkt_machine.specs.Events.{Event, events}
 use Rattle.wkt_machine.specs.Growing.{rest, grow_all, MayAll}
-use Rattle.wkt_explain.specs.Explained.{IsExpectedAfter}
 use Rattle.wkt_machine.specs.Expecting.{expected_at}
 use Rattle.wkt_machine.specs.Machine.{at, after, move, run}
 

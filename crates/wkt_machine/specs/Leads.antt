@@ -25,4 +25,4 @@ pub record Leads {N S B : Type 0} (read : List ℕ → Option N) (view : View S)
   pub behind : (end : ℕ) → view.behind s end → view.behind t (end_after end taken)
   pub ran : run read (state_of m) (lexemes_of taken) ≡ Some (state_of n, events)
   pub makes : maker.makes b events c
-  pub keeps : (n : ℕ) → view.keeps s n → view.keeps t n
+  pub keeps : (k : view.Known) → view.keeps s k → view.keeps t k

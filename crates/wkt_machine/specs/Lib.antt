@@ -9,6 +9,7 @@ pub mod Sight
 pub mod Machines
 pub mod Makers
 pub mod View
+pub mod Room
 pub mod Goes
 pub mod NothingMaker
 pub mod TokensView
@@ -21,3 +22,6 @@ pub mod Trees
 pub mod Growers
 pub mod Values
 pub mod Refusing
+pub mod Stops
+pub mod Given
+pub mod Points

@@ -1,5 +1,5 @@
 -- What is known of what is made.
-use Rattle.std.specs.Prelude.{ℕ, List, [], ◌∷◌, ◌++◌, Option}
+use Rattle.std.specs.Prelude.{ℕ, ◌≤◌, List, [], ◌∷◌, ◌++◌, Option}
 use Rattle.wkt_events.specs.Numbers.{IsNumberAt}
 use Rattle.wkt_machine.specs.Events.{Event}
 use Rattle.wkt_machine.specs.declared.part.Axis.{Axis}
@@ -8,10 +8,16 @@ use Rattle.wkt_machine.specs.declared.part.Axis.{Axis}
 pub record Maker (N S : Type 0) : Type 1 where
   -- The second was made from the first by these events.
   pub makes : S → List (Event N) → S → Type 0
+  -- There is room for so much.
+  pub fits : S → ℕ → Type 0
+  -- How much a number takes that is given by value.
+  pub takes : N → ℕ
   -- No event makes nothing.
   pub none : (s : S) → makes s [] s
   -- Some events, and then others.
   pub more : (s t u : S) (es fs : List (Event N)) → makes s es t → makes t fs u → makes s (es ++ fs) u
+  -- Where there is room for more there is for less.
+  pub less : (s : S) (m n : ℕ) → m ≤ n → fits s n → fits s m
 
 -- The number that stands in the bytes from `at` to `end` is made.
 pub record MakesNumber {N S : Type 0} (read : List ℕ → Option N) (maker : Maker N S) (before : S) (text : List ℕ) (at : ℕ) (axis : Axis) (after : S) (end : ℕ) : Type 0 where

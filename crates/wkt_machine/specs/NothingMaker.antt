@@ -6,6 +6,9 @@ use Rattle.wkt_machine.specs.declared.nothing.Nothing.{Nothing}
 abbrev pub nothing_maker : {N : Type 0} → Maker N Nothing
 nothing_maker = record {
   makes = λ s es t. Unit {0};
+  fits = λ s n. Unit {0};
+  takes = λ x. 0;
   none = λ s. tt;
   more = λ s t u es fs h k. tt;
+  less = λ s m n order h. tt;
 }

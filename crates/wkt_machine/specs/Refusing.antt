@@ -1,9 +1,9 @@
 -- With which message lexemes are refused at a place, and which of them are left.
-use Rattle.std.specs.Prelude.{◌≡◌, ℕ, ◌+◌, List, [], ◌∷◌, Option, Bool, true}
+use Rattle.std.specs.Prelude.{ℕ, ◌+◌, List, [], ◌∷◌, Option, Bool, true, false}
 use Rattle.wkt_num.specs.Bytes.{Lexeme}
 use Rattle.wkt_read.specs.declared.messages.Message.{Message}
-use Rattle.wkt_explain.specs.Table.{at_place, left_at, stays, closings}
-use Rattle.wkt_explain.specs.declared.expected.Expected.{Expected}
+use Rattle.wkt_read.specs.Table.{at_place, left_at, stays, closings}
+use Rattle.wkt_read.specs.declared.expected.Expected.{Expected}
 use Rattle.wkt_machine.specs.Expecting.{expected_at}
 use Rattle.wkt_machine.specs.Place.{Place, State}
 use Rattle.wkt_machine.specs.Place as place
@@ -25,6 +25,12 @@ own (place.Opening p d) = around p
 own (place.Number p d more) = around p + 1
 own (place.Item p d) = around p + 1
 own p = 0
+
+-- whether a number may stand at a place
+abbrev pub takes_number : Place → Bool
+takes_number (place.Number p d more) = true
+takes_number (place.Opening part.Member d) = true
+takes_number p = false
 
 module _ {N : Type 0} (read : List ℕ → Option N) where
   -- whether the first of the lexemes isn't taken where it is refused, if there is one

@@ -26,6 +26,8 @@ tokens_view = record {
   place = λ s end. (ahead.end_of s.tokens.now ≡ end) × ahead.IsNear s.tokens.now;
   behind = λ s end. ahead.end_of s.tokens.now ≡ end;
   here = λ s end h. h.0;
+  Known = ℕ;
   keeps = λ s n. n ≤ ahead.taken_of s.tokens.now;
+  by_value = Unit {0};
   looked = λ s. Unit {0};
 }

@@ -89,6 +89,15 @@ Holds t w = HoldsBy t w w.grown
 abbrev pub IsLost : {T : Type 0} → Tree T → Type 0
 IsLost t = t.is_lost ≡ true
 
+-- A point of these two numbers ended, and nothing was lost.
+pub record IsPair {T : Type 0} (t : Tree T) (a b : T) : Type 0 where
+  pub kept : t.is_lost ≡ false
+  pub last : t.last ≡ ended.Point
+  pub x : t.x ≡ Some a
+  pub y : t.y ≡ Some b
+  pub z : t.z ≡ None
+  pub m : t.m ≡ None
+
 -- What was held was changed so; or it is lost, if it may be. What was lost stays lost.
 pub record Becomes {T : Type 0} (may_lose : Bool) (May : Growing T → Type 0) (change : Growing T → Growing T) (t u : Tree T) : Type 0 where
   pub stays : IsLost t → IsLost u

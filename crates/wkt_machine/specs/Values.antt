@@ -16,6 +16,8 @@ use Rattle.wkt_machine.specs.Trees.{HoldsWhole, IsLost}
 use Rattle.wkt_machine.specs.View.{View}
 use Rattle.wkt_machine.specs.declared.machine.Machine.{Machine}
 use Rattle.wkt_machine.specs.declared.tree.Tree.{Tree}
+use Rattle.wkt_read.specs.declared.error.ReadError.{ReadError}
+use Rattle.wkt_read.specs.declared.error.ReadError.TheVariants as reader
 use Rattle.wkt_machine.specs.declared.value.Unread.{Unread}
 use Rattle.wkt_machine.specs.declared.value.Unread.TheVariants.{Refused, Memory}
 
@@ -37,6 +39,12 @@ Answers {T} t (Ok w) = (t.is_lost ≡ false) × ((v : Value T) → HoldsWhole t 
 Answers t (Err (Refused m)) = ⊥
 Answers t (Err (Memory e)) = IsLost t
 
+-- The same where it is answered as a reader does.
+abbrev pub AnswersReader : {T : Type 0} → Tree T → Result (Wkt T) ReadError → Type 0
+AnswersReader {T} t (Ok w) = (t.is_lost ≡ false) × ((v : Value T) → HoldsWhole t [] v → IsWktOf v (tree w))
+AnswersReader t (Err (reader.Text m)) = ⊥
+AnswersReader t (Err (reader.Memory e)) = IsLost t
+
 module _ {N S : Type 0} (read : List ℕ → Option N) (view : View S) where
   -- Lexemes are taken that stand for a value.
   pub record Takes (s : S) (v : Value N) (t : S) : Type 0 where
@@ -45,7 +53,7 @@ module _ {N S : Type 0} (read : List ℕ → Option N) (view : View S) where
     pub split : view.left s ≡ given ++ (last ∷ view.left t)
     pub place : view.place t last.end
     pub stands : StandFor read (lexemes_of (given ++ (last ∷ []))) v
-    pub keeps : (n : ℕ) → view.keeps s n → view.keeps t n
+    pub keeps : (k : view.Known) → view.keeps s k → view.keeps t k
 
   -- The tree is what the value is read as that the lexemes which are taken stand for.
   abbrev pub IsRead : S → Kept N → S → Type 0
@@ -63,5 +71,5 @@ module _ {N S : Type 0} (read : List ℕ → Option N) (view : View S) where
     pub behind : (end : ℕ) → view.behind s end → view.behind t (end_after end taken)
     pub ran : run read start (lexemes_of taken) ≡ Some (state_of m, events)
     pub is_open : is_over (state_of m) ≡ false
-    pub keeps : (n : ℕ) → view.keeps s n → view.keeps t n
-    pub stuck : (n : ℕ) → view.keeps s n → IsStuck read m (view.left t)
+    pub keeps : (k : view.Known) → view.keeps s k → view.keeps t k
+    pub stuck : (k : view.Known) → view.keeps s k → IsStuck read m (view.left t)

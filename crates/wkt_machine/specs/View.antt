@@ -11,7 +11,10 @@ pub record View (S : Type 0) : Type 1 where
   pub behind : S → ℕ → Type 0
   -- Then that lexeme is the one before.
   pub here : (s : S) (end : ℕ) → place s end → behind s end
-  -- What stays so as lexemes are taken, for any number: that so many bytes were passed, or that a number that is left is a text.
-  pub keeps : S → ℕ → Type 0
+  -- What stays so as lexemes are taken, for anything of this type: that so many bytes were passed, or that this is the text, and a number that is left is one too.
+  pub Known : Type 0
+  pub keeps : S → Known → Type 0
+  -- Numbers are given by value, and not as bytes.
+  pub by_value : Type 0
   -- The lexeme that comes next was looked at.
   pub looked : S → Type 0

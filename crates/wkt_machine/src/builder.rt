@@ -2,51 +2,58 @@
 ghost use Rattle.std.specs.Prelude.{[], ◌∷◌, ◌≤◌, length, IfSome, IfNone};
 ghost use Rattle.wkt_machine.specs.Events.{Event};
 ghost use Rattle.wkt_machine.specs.Makers.{Maker, MakesNumber};
+ghost use Rattle.wkt_machine.specs.Room.{header_cost, Leaves, FitsNumber, LeavesBehind};
 ghost use Rattle.wkt_events.specs.Numbers.{NoNumber};
 
-use crate::numbers::read_at;
 use crate::part::{Axis, Part};
 use wkt_access::Dimension;
 use wkt_num::WktNum;
 
 /// What is made. It is held by value: each call takes it and gives it back. A call that goes wrong is remembered by what
-/// is made.
+/// is made. There is room for what each call makes.
 pub trait Builder<T: WktNum>: Sized + Drop {
-    /// What is made of which events.
+    /// What is made of which events, and how much room there is.
     ghost maker: { Maker T Self };
 
     /// The header of a whole geometry.
     fn begin(self, whole: Part, dim: Dimension) -> Self
-        ensures { maker.makes self (Event.Header whole dim ∷ []) result };
+        requires room { maker.fits self (header_cost whole) }
+        ensures makes { maker.makes self (Event.Header whole dim ∷ []) result }
+        ensures leaves { Leaves maker self (header_cost whole) result };
 
     fn open(self, part: Part) -> Self
-        ensures { maker.makes self (Event.Open part ∷ []) result };
+        requires room { maker.fits self 1 }
+        ensures makes { maker.makes self (Event.Open part ∷ []) result }
+        ensures leaves { Leaves maker self 1 result };
 
     fn comma(self, part: Part) -> Self
-        ensures { maker.makes self (Event.Comma part ∷ []) result };
+        requires room { maker.fits self 1 }
+        ensures makes { maker.makes self (Event.Comma part ∷ []) result }
+        ensures leaves { Leaves maker self 1 result };
 
     fn close(self, part: Part) -> Self
-        ensures { maker.makes self (Event.Close part ∷ []) result };
+        requires room { maker.fits self 1 }
+        ensures makes { maker.makes self (Event.Close part ∷ []) result }
+        ensures leaves { Leaves maker self 1 result };
 
     fn empty(self, part: Part) -> Self
-        ensures { maker.makes self (Event.Empty part ∷ []) result };
+        requires room { maker.fits self 6 }
+        ensures makes { maker.makes self (Event.Empty part ∷ []) result }
+        ensures leaves { Leaves maker self 6 result };
 
     /// A number of a coordinate.
     fn number(self, number: T, axis: Axis) -> Self
-        ensures { maker.makes self (Event.Number axis number ∷ []) result };
+        requires room { maker.fits self (maker.takes number) }
+        ensures makes { maker.makes self (Event.Number axis number ∷ []) result }
+        ensures leaves { Leaves maker self (maker.takes number) result };
 
     /// The number of a coordinate that stands there in the bytes, and where its run ends; `None` where none is read.
     ///
-    /// By default it is read and made by `number`. What keeps the number's text, or nothing, need not read it.
-    #[inline(always)]
+    /// [`read_at`](crate::read_at) reads it. What keeps the number's text, or nothing, need not read it.
     fn number_in(self, text: &[u8], at: usize, axis: Axis) -> (Self, Option<usize>)
-        requires { at ≤ length text.now }
+        requires inside { at ≤ length text.now }
+        requires room { FitsNumber maker self text.now at }
         ensures some { IfSome result.1 (λ end. MakesNumber T.read maker self text.now at axis result.0 end) }
         ensures none { IfNone result.1 (NoNumber T.read text.now at) }
-    {
-        match read_at::<T>(text, at) {
-            Some((number, end)) => (self.number(number, axis), Some(end)),
-            None => (self, None),
-        }
-    }
+        ensures leaves { IfSome result.1 (LeavesBehind maker self text.now at result.0) };
 }

@@ -5,6 +5,7 @@ ghost use Rattle.wkt_machine.specs.BytesView.{bytes_view, has_coordinates};
 ghost use Rattle.wkt_machine.specs.Goes.{Goes, Refuses};
 ghost use Rattle.wkt_machine.specs.Leads.{reached, standing};
 ghost use Rattle.wkt_machine.specs.Machines.{state_for, next_after, HasNext};
+ghost use Rattle.wkt_machine.specs.Room.{HasRoom, RoomAt};
 ghost use Rattle.wkt_machine.specs.declared.machine.State.TheVariants as next;
 
 use crate::builder::Builder;
@@ -38,7 +39,9 @@ pub(crate) fn coordinates<'a, T: WktNum, B: Builder<T>, const FEED_ENDS: bool>(
     requires state { machine.state ≡ next.X }
     requires part { has_coordinates machine.part ≡ true }
     requires inside { source.at ≤ length source.text.now }
+    requires room { HasRoom (bytes_view FEED_ENDS) B.maker 0 source builder }
     ensures on { IfOk result (Goes T.read (bytes_view FEED_ENDS) B.maker machine source.entry builder) }
+    ensures room { IfOk result (RoomAt (bytes_view FEED_ENDS) B.maker) }
     ensures refused { IfErr result (Refuses T.read (bytes_view FEED_ENDS) B.maker machine source.entry builder) }
 {
     let single = is_single(machine.part);
@@ -79,8 +82,10 @@ fn coordinate<'a, T: WktNum, B: Builder<T>, const FEED_ENDS: bool>(
     requires state { machine.state ≡ next.X }
     requires part { has_coordinates machine.part ≡ true }
     requires inside { source.at ≤ length source.text.now }
+    requires room { HasRoom (bytes_view FEED_ENDS) B.maker 0 source builder }
     ensures on { OnTrue result.0 (Goes T.read (bytes_view FEED_ENDS) B.maker machine source.entry builder (reached machine next.Item result.2 result.3)) }
     ensures inside { OnTrue result.0 (result.2.at ≤ length result.2.text.now) }
+    ensures room { OnTrue result.0 (HasRoom (bytes_view FEED_ENDS) B.maker 0 result.2 result.3) }
     ensures refused { OnFalse result.0 (Refuses T.read (bytes_view FEED_ENDS) B.maker machine source.entry builder (reached machine result.1 result.2 result.3)) }
 {
     let (has_x, source, made) = number::<T, B, FEED_ENDS>(Axis::X, machine, source, builder);
@@ -123,8 +128,10 @@ fn number<'a, T: WktNum, B: Builder<T>, const FEED_ENDS: bool>(
     requires sound { HasNext (state_for axis) machine.dim }
     requires part { has_coordinates machine.part ≡ true }
     requires inside { source.at ≤ length source.text.now }
+    requires room { HasRoom (bytes_view FEED_ENDS) B.maker 0 source builder }
     ensures on { OnTrue result.0 (Goes T.read (bytes_view FEED_ENDS) B.maker (standing machine (state_for axis)) source.entry builder (reached machine (next_after axis machine.dim) result.1 result.2)) }
     ensures inside { OnTrue result.0 (result.1.at ≤ length result.1.text.now) }
+    ensures room { OnTrue result.0 (HasRoom (bytes_view FEED_ENDS) B.maker 0 result.1 result.2) }
     ensures refused { OnFalse result.0 (Refuses T.read (bytes_view FEED_ENDS) B.maker (standing machine (state_for axis)) source.entry builder (reached machine (state_for axis) result.1 result.2)) }
 {
     // No effect at run time. What is ensured names the machine.

@@ -3,6 +3,7 @@ ghost use Rattle.std.specs.Prelude.{◌≡◌, ◌+◌, ◌≤◌, length, IfOk,
 ghost use Rattle.wkt_machine.specs.Drives.{is_over};
 ghost use Rattle.wkt_machine.specs.Goes.{Goes, GoesFrom, Refuses, RefusesFrom};
 ghost use Rattle.wkt_machine.specs.Machines.{state_of, IsSound};
+ghost use Rattle.wkt_machine.specs.Room.{owed, HasRoom, RoomAt};
 
 use crate::builder::Builder;
 use crate::machine::{Machine, State};
@@ -18,8 +19,10 @@ fn further<T: WktNum, S: Walk<T>, B: Builder<T>>(
 ) -> Walked<S, B>
     requires sound { IsSound machine }
     requires open { is_over (state_of machine) ≡ false }
-    requires room { machine.depth + length (S.view.left source) ≤ usize.MAX }
+    requires depth { machine.depth + length (S.view.left source) ≤ usize.MAX }
+    requires room { HasRoom S.view B.maker (owed (state_of machine)) source builder }
     ensures on { IfOk result (Goes T.read S.view B.maker machine source builder) }
+    ensures room { IfOk result (RoomAt S.view B.maker) }
     ensures refused { IfErr result (Refuses T.read S.view B.maker machine source builder) }
 {
     match machine.state {
@@ -34,9 +37,11 @@ fn further<T: WktNum, S: Walk<T>, B: Builder<T>>(
 /// Each part of a place is a variable of its own, so that what fills a place up isn't carried along.
 #[inline(always)]
 pub fn drive<T: WktNum, S: Walk<T>, B: Builder<T>>(source: S, builder: B) -> Walked<S, B>
-    requires room { length (S.view.left source) ≤ usize.MAX }
+    requires depth { length (S.view.left source) ≤ usize.MAX }
+    requires room { HasRoom S.view B.maker 0 source builder }
     ensures on { IfOk result (GoesFrom T.read S.view B.maker source builder) }
     ensures over { IfOk result (λ to. is_over (state_of to.machine) ≡ true) }
+    ensures room { IfOk result (RoomAt S.view B.maker) }
     ensures refused { IfErr result (RefusesFrom T.read S.view B.maker source builder) }
 {
     let At {

@@ -5,6 +5,7 @@ ghost use Rattle.std.specs.Str.{IsCharBoundary};
 ghost use Rattle.wkt_access.specs.Values.{Value};
 ghost use Rattle.wkt_types.specs.Tree.{Tree, tree};
 ghost use Rattle.wkt_read.specs.Items.{bad_number};
+ghost use Rattle.wkt_machine.specs.Values.{AnswersReader};
 ghost use Rattle.wkt_read.specs.Front.{Front, HasNoFront, NeedsNoMemory};
 ghost use Rattle.wkt_read.specs.Begun.{NoneBegins};
 ghost use Rattle.wkt_read.specs.Early.{StopsEarly};
@@ -13,14 +14,27 @@ ghost use Rattle.wkt_read.specs.Ahead.{rest, Advances, IsNear};
 ghost use Rattle.wkt_read.specs.Refusal.{IsRefused, IsTextRefused, IfText};
 ghost use Rattle.wkt_read.specs.Answered.{IsFront, IsFrontTo, Begins, IsReadOff, HasBadNumber, OnText, OnMessage};
 
+use crate::drive::drive;
 use crate::refused::refused;
 use crate::tokens::OneByOne;
+use crate::tree::{Grower, Tree};
 use crate::value::{Unread, read};
-use std::alloc::Global;
+use std::alloc::{AllocError, Global};
 use std::mem;
 use wkt_num::WktNum;
 use wkt_read::{Message, PeekableTokens, ReadError, Tokens};
-use wkt_types::Wkt;
+use wkt_types::{Coord, Point, Wkt};
+
+/// What has grown.
+#[inline(never)]
+fn answer<T: WktNum>(grown: &mut Tree<T>) -> Result<Wkt<T>, ReadError>
+    ensures { AnswersReader grown.old result }
+{
+    if grown.is_lost() {
+        return Err(ReadError::Memory(AllocError));
+    }
+    Ok(grown.geometry())
+}
 
 /// The geometry at the front of the tokens, which come back.
 #[inline(always)]
@@ -152,7 +166,30 @@ impl<T: WktNum> FromWktStr for Wkt<T> {
             return Err(ReadError::Text(Message::Format.text()));
         }
         let mut tokens = PeekableTokens::new(Tokens::from_str(text));
-        read_off(alloc, &mut tokens).0
+        // The machine counts open collections, of which there are no more than tokens.
+        let _ = tokens.most_left();
+        let mut tree = Tree::new(alloc);
+        let source = OneByOne::new(&mut tokens);
+        match drive::<T, OneByOne<'_, '_, T>, Grower<'_, T>>(source, Grower::new(&mut tree)) {
+            Ok(over) => {
+                let grown = over.builder.into_tree();
+                // Most geometries are points of two numbers: their parts are written where they stay.
+                if let Some((x, y)) = grown.pair() {
+                    let coord = Coord {
+                        x,
+                        y,
+                        z: None,
+                        m: None,
+                    };
+                    return Ok(Wkt::Point(Point::new(Some(coord), grown.dim())));
+                }
+                answer(grown)
+            }
+            Err(at) => {
+                let said = refused(at.machine, at.source.into_tokens()).text();
+                Err(ReadError::Text(said))
+            }
+        }
     }
 
     fn read_front(alloc: Global, text: &str) -> Result<(Self, usize), ReadError> {

@@ -2,7 +2,7 @@
 ghost use Rattle.std.specs.Prelude.{◌≤◌, ◌<◌, MatchOption, IfSome, length};
 ghost use Rattle.std.specs.Str.{IsCharBoundary};
 ghost use Rattle.wkt_read.specs.Front.{HasNoFront};
-ghost use Rattle.wkt_events.specs.Canonical.{EndsFront};
+ghost use Rattle.wkt_read.specs.Explained.{EndsFront};
 
 use crate::bytes::Bytes;
 use crate::drive::drive;

@@ -2,14 +2,14 @@
 ghost use Rattle.std.specs.Bool.{OnTrue};
 ghost use Rattle.std.specs.Int.{w32, to_le_bytes};
 ghost use Rattle.std.specs.Prelude.{◌≡◌, ◌≤◌, ◌<◌, ◌+◌, length, take, codes, IfOk, IfErr, IfSome};
-ghost use Rattle.wkt_events.specs.Left.{left_placed};
+ghost use Rattle.wkt_events.specs.Left.{Legible, left_placed};
 ghost use Rattle.wkt_machine.specs.BytesView.{bytes_view, IsBetween};
 ghost use Rattle.wkt_machine.specs.Goes.{Goes, Refuses};
 ghost use Rattle.wkt_machine.specs.HeadBytes.{IsKindName, EndsWord, StandsHead};
 ghost use Rattle.wkt_access.specs.declared.dimensions.Dimension.TheVariants as dim_of;
-ghost use Rattle.wkt_events.specs.Walking.{Legible};
 ghost use Rattle.wkt_machine.specs.Machine.{inside};
 ghost use Rattle.wkt_machine.specs.Machines.{state_of, IsSound};
+ghost use Rattle.wkt_machine.specs.Room.{HasRoom, RoomAt};
 ghost use Rattle.wkt_machine.specs.declared.machine.State.TheVariants as next;
 ghost use Rattle.wkt_machine.specs.declared.part.Part.TheVariants as part_of;
 
@@ -28,16 +28,18 @@ const LONGEST_HEAD: usize = 20;
 
 /// Behind the header that comes next, and its parenthesis; of a point behind its coordinate.
 #[inline(always)]
-#[tactic(auto, using(crate::proofs::TokenViews::kind_open, crate::proofs::TokenViews::kind_sound))]
+#[tactic(auto, using(crate::proofs::TokenViews::kind_open, crate::proofs::TokenViews::kind_sound, crate::proofs::Rooms::kind_room))]
 pub(crate) fn header<'a, T: WktNum, B: Builder<T>, const FEED_ENDS: bool>(
     machine: Machine,
     source: Bytes<'a, FEED_ENDS>,
     builder: B,
 ) -> Walked<Bytes<'a, FEED_ENDS>, B>
     requires state { machine.state ≡ next.Kind }
-    requires room { machine.depth + length (left_placed FEED_ENDS source.text.now source.at) ≤ usize.MAX }
+    requires depth { machine.depth + length (left_placed FEED_ENDS source.text.now source.at) ≤ usize.MAX }
     requires inside { source.at ≤ length source.text.now }
+    requires room { HasRoom (bytes_view FEED_ENDS) B.maker 0 source builder }
     ensures on { IfOk result (Goes T.read (bytes_view FEED_ENDS) B.maker machine source.entry builder) }
+    ensures room { IfOk result (RoomAt (bytes_view FEED_ENDS) B.maker) }
     ensures refused { IfErr result (Refuses T.read (bytes_view FEED_ENDS) B.maker machine source.entry builder) }
 {
     let text = source.text;
@@ -78,7 +80,10 @@ fn opened<'a, T: WktNum, B: Builder<T>, const FEED_ENDS: bool>(
     requires between { IsBetween FEED_ENDS source.text.now source.at at }
     requires line { Legible FEED_ENDS source.text.now source.at → Legible FEED_ENDS source.text.now at }
     requires head { StandsHead FEED_ENDS source.text.now at part end }
+    requires room { HasRoom (bytes_view FEED_ENDS) B.maker 0 source builder }
     ensures on { Goes T.read (bytes_view FEED_ENDS) B.maker machine source.entry builder result }
+    ensures room { HasRoom (bytes_view FEED_ENDS) B.maker 0 result.source result.builder }
+    ensures stands { RoomAt (bytes_view FEED_ENDS) B.maker result }
     ensures text { result.source.text ≡ source.entry.text }
     ensures at { result.source.at ≡ end }
     ensures machine { result.machine ≡ within }
@@ -153,7 +158,7 @@ fn named<const N: usize, const FEED_ENDS: bool>(
 
 /// Behind `POINT(` or `POINT (`. `None` doesn't imply that none stands there.
 #[inline(always)]
-fn point_head<const FEED_ENDS: bool>(text: &[u8], at: usize) -> Option<usize>
+pub(crate) fn point_head<const FEED_ENDS: bool>(text: &[u8], at: usize) -> Option<usize>
     requires { at ≤ length text.now }
     ensures { IfSome result (StandsHead FEED_ENDS text.now at part_of.Point) }
 {

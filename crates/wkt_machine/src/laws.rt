@@ -1,4 +1,5 @@
 //! Laws of the definitions: each function does nothing, and its contract is the law.
+ghost use Rattle.wkt_read.specs.Laws.{OneMessage};
 ghost use Rattle.wkt_machine.specs.Laws.{Completes, IsExact, GoesOn, Refuses, Expects, Grows};
 
 use wkt_num::WktNum;
@@ -32,4 +33,9 @@ pub fn expects<T: WktNum>()
 /// A value whose coordinates fit their headers grows from its events, so these determine it.
 pub fn grows<T: WktNum>()
     ensures { Grows T.is_value }
+{}
+
+/// A text has a front, or it is refused with one message.
+pub fn one_message<T: WktNum>()
+    ensures { OneMessage T.read }
 {}

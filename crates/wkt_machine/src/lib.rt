@@ -13,10 +13,12 @@ pub mod front;
 mod heads;
 pub mod laws;
 pub mod machine;
+mod message;
 pub mod nothing;
 mod numbers;
 mod pairs;
 mod part;
+mod points;
 mod refused;
 pub mod source;
 pub mod step;
@@ -30,13 +32,18 @@ pub use bytes::Bytes;
 pub use from_str::FromWktStr;
 pub use front::{front_end, front_end_by_tokens};
 pub use machine::{Machine, Seen, State};
+pub use message::message_at;
 pub use nothing::Nothing;
+pub use numbers::{padded, read_at};
 pub use part::{Axis, Part};
+pub use points::{NearPoint, near_point};
 pub use source::{At, Source, Walk, Walked};
 pub use text::read_text;
 pub use tokens::OneByOne;
 pub use value::{Unread, read};
 
+#[cfg(test)]
+mod from_str_tests;
 #[cfg(test)]
 mod tests;
 #[cfg(test)]

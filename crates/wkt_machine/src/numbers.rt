@@ -10,7 +10,7 @@ const WINDOW: usize = 32;
 
 /// The number that stands there, and where it ends.
 #[inline(always)]
-pub(crate) fn read_at<T: WktNum>(text: &[u8], at: usize) -> Option<(T, usize)>
+pub fn read_at<T: WktNum>(text: &[u8], at: usize) -> Option<(T, usize)>
     requires { at ≤ length text.now }
     ensures some { IfSome result (λ p. IsNumberAt T.read text.now at p.1 p.0) }
     ensures none { IfNone result (NoNumber T.read text.now at) }
@@ -51,7 +51,7 @@ fn read_anywhere<T: WktNum>(text: &[u8], at: usize) -> Option<(T, usize)>
 
 /// Fewer bytes than a window has, as one, with NULs behind them, which end a run as the text's end does.
 #[inline(always)]
-fn padded(bytes: &[u8]) -> [u8; WINDOW]
+pub fn padded(bytes: &[u8]) -> [u8; WINDOW]
     requires { length bytes.now < 32 }
     ensures front { take (length bytes.now) result ≡ bytes.now }
     ensures nul { slice_index_or result (length bytes.now) 0 ≡ 0 }

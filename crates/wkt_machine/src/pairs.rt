@@ -3,6 +3,7 @@ ghost use Rattle.std.specs.Prelude.{◌≡◌, IfOk, IfErr, true};
 ghost use Rattle.wkt_access.specs.declared.dimensions.Dimension.TheVariants.{XY};
 ghost use Rattle.wkt_machine.specs.BytesView.{has_coordinates};
 ghost use Rattle.wkt_machine.specs.Goes.{Goes, Refuses};
+ghost use Rattle.wkt_machine.specs.Room.{HasRoom, RoomAt};
 ghost use Rattle.wkt_machine.specs.TokensView.{tokens_view};
 ghost use Rattle.wkt_machine.specs.Marks.{TakesMark};
 ghost use Rattle.wkt_machine.specs.declared.machine.State.TheVariants as next;
@@ -36,7 +37,9 @@ pub(crate) fn pairs<'t, 'a, T: WktNum, B: Builder<T>>(
     requires state { machine.state ≡ next.X }
     requires part { has_coordinates machine.part ≡ true }
     requires dim { machine.dim ≡ XY }
+    requires room { HasRoom tokens_view B.maker 0 source builder }
     ensures on { IfOk result (Goes T.read tokens_view B.maker machine source.entry builder) }
+    ensures room { IfOk result (RoomAt tokens_view B.maker) }
     ensures refused { IfErr result (Refuses T.read tokens_view B.maker machine source.entry builder) }
 {
     let single = is_single(machine.part);

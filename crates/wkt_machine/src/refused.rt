@@ -1,24 +1,22 @@
 //! Why tokens are refused.
 ghost use Rattle.std.specs.Prelude.{◌≡◌, List};
+ghost use Rattle.wkt_num.specs.Bytes as lex;
 ghost use Rattle.wkt_access.specs.declared.dimensions.Dimension.{Dimension};
-ghost use Rattle.wkt_explain.specs.Table.{at_place, closing, closings};
+ghost use Rattle.wkt_read.specs.Table.{at_number, at_place, closing, closings, is_unread, unclosed};
 ghost use Rattle.wkt_machine.specs.Expecting.{expected_at, item_expected, last_number, opening_expected};
 ghost use Rattle.wkt_machine.specs.Machines.{state_of};
 ghost use Rattle.wkt_machine.specs.Refusing.{around, own, blamed, refused, stays_first};
-ghost use Rattle.wkt_read.specs.Ahead.{Advances, first_of, rest};
-ghost use Rattle.wkt_read.specs.Items.{IsItem};
-ghost use Rattle.wkt_read.specs.Placed.{Placed, lexemes_of};
+ghost use Rattle.wkt_read.specs.Ahead.{Advances, Moves, rest};
+ghost use Rattle.wkt_read.specs.Parser.Walks.{IsFirst, TakesNext};
+ghost use Rattle.wkt_read.specs.Tokenizer.Unread.{found};
 
 use crate::machine::{Machine, State};
 use crate::part::Part;
 use wkt_access::Dimension;
-use wkt_explain::Expected;
-use wkt_explain::table::{at_bad, at_end, at_other, at_word};
 use wkt_num::WktNum;
-use wkt_read::{Message, PeekableTokens, Token};
-
-/// What a stream of tokens gives.
-type Item<'a, T> = Option<Result<Token<'a, T>, &'static str>>;
+use wkt_read::table::{at_bad, at_end, at_other, at_word};
+use wkt_read::words::Lexeme;
+use wkt_read::{Expected, Message, PeekableTokens};
 
 fn last_number(dim: Dimension) -> Expected
     ensures { result ≡ last_number dim }
@@ -61,7 +59,7 @@ fn around(part: Part) -> usize
 
 impl Machine {
     /// What could stand at the place.
-    fn expected(self) -> Expected
+    pub fn expected(self) -> Expected
         ensures { result ≡ expected_at (state_of self).place self.depth }
     {
         match self.state {
@@ -82,7 +80,7 @@ impl Machine {
     }
 
     /// How many parentheses are open at the place, but those of collections.
-    fn own(self) -> usize
+    pub(crate) fn own(self) -> usize
         ensures { result ≡ own (state_of self).place }
     {
         match self.state {
@@ -93,54 +91,90 @@ impl Machine {
     }
 }
 
-/// The message of the place alone, by the token that stands there.
-fn at_place<T: WktNum>(expected: Expected, item: &Item<'_, T>) -> Message
-    ensures { (ps : List Placed) → IsItem T.read (first_of ps) item.now → result ≡ at_place T.read expected (lexemes_of ps) }
+/// The message where a number stands.
+#[inline(never)]
+fn at_number<T: WktNum>(expected: Expected, digits: &str) -> Message
+    ensures { result ≡ at_number T.read (T.read digits.now) expected }
 {
-    match item {
-        None => at_end(expected),
-        Some(Ok(Token::Word(word))) => at_word(expected, word),
-        Some(Ok(_)) => at_other(expected),
-        Some(Err(_)) => at_bad(expected),
+    match T::read_number(digits) {
+        Some(_) => at_other(expected),
+        None => at_bad(expected),
+    }
+}
+
+/// The message of the place alone, by the token that stands there.
+fn at_place<T: WktNum>(expected: Expected, lexeme: Lexeme<'_>) -> Message
+    ensures { (ls : List lex.Lexeme) → IsFirst (found lexeme.entry) ls → result ≡ at_place T.read expected ls }
+{
+    match lexeme {
+        Lexeme::End => at_end(expected),
+        Lexeme::Word(word) => at_word(expected, word.as_bytes()),
+        Lexeme::Number(digits) => at_number::<T>(expected, digits),
+        Lexeme::Comma | Lexeme::Open | Lexeme::Close => at_other(expected),
+    }
+}
+
+/// Whether the type doesn't read the number.
+#[inline(never)]
+fn is_unread<T: WktNum>(digits: &str) -> bool
+    ensures { result ≡ is_unread T.read (T.read digits.now) }
+{
+    match T::read_number(digits) {
+        Some(_) => false,
+        None => true,
     }
 }
 
 /// Whether the token isn't taken where it is refused.
-fn stays<T: WktNum>(expected: Expected, item: &Item<'_, T>) -> bool
-    ensures { (ps : List Placed) → IsItem T.read (first_of ps) item.now → result ≡ stays_first T.read expected (lexemes_of ps) }
+fn stays<T: WktNum>(expected: Expected, lexeme: Lexeme<'_>) -> bool
+    ensures { (ls : List lex.Lexeme) → IsFirst (found lexeme.entry) ls → result ≡ stays_first T.read expected ls }
 {
-    match (expected, item) {
-        (_, None) => true,
+    match (expected, lexeme) {
+        (_, Lexeme::End) => true,
         (Expected::More | Expected::Closing, _) => true,
-        (Expected::Dimension, Some(Ok(Token::Word(_)) | Err(_))) => true,
+        (Expected::Dimension, Lexeme::Word(_)) => true,
+        (Expected::Dimension, Lexeme::Number(digits)) => is_unread::<T>(digits),
         _ => false,
     }
 }
 
-/// The message behind the token that stands where a parenthesis has to close.
-fn closing<T: WktNum>(message: Message, item: Item<'_, T>) -> Message
-    ensures { (ps : List Placed) → IsItem T.read (first_of ps) item.entry → result ≡ (closing T.read message (lexemes_of ps)).0 }
+/// The message behind a number that stands where a parenthesis has to close.
+#[inline(never)]
+fn unclosed<T: WktNum>(digits: &str) -> Message
+    ensures { result ≡ unclosed T.read (T.read digits.now) }
 {
-    match item {
-        Some(Ok(Token::ParenClose)) => message,
-        Some(Err(_)) => Message::BadNumber,
-        _ => Message::Close,
+    match T::read_number(digits) {
+        Some(_) => Message::Close,
+        None => Message::BadNumber,
+    }
+}
+
+/// The message behind the token that stands where a parenthesis has to close.
+fn closing<T: WktNum>(message: Message, lexeme: Lexeme<'_>) -> Message
+    ensures { (ls : List lex.Lexeme) → IsFirst (found lexeme.entry) ls → result ≡ (closing T.read message ls).0 }
+{
+    match lexeme {
+        Lexeme::Close => message,
+        Lexeme::Number(digits) => unclosed::<T>(digits),
+        Lexeme::End | Lexeme::Comma | Lexeme::Open | Lexeme::Word(_) => Message::Close,
     }
 }
 
 /// The message of the place alone. The token that is refused is taken, unless it stands where a parenthesis has to close.
+#[inline(always)]
 fn blame<T: WktNum>(expected: Expected, tokens: &mut PeekableTokens<'_, T>) -> Message
     ensures message { (result, rest tokens.new) ≡ blamed T.read expected (rest tokens.old) }
     ensures advances { Advances tokens.old tokens.new }
 {
-    let item = tokens.peek();
-    if !stays(expected, &item) {
-        let _ = tokens.next();
+    let lexeme = tokens.look();
+    if !stays::<T>(expected, lexeme) {
+        let _ = tokens.take();
     }
-    at_place(expected, &item)
+    at_place::<T>(expected, lexeme)
 }
 
 /// The message after so many parentheses had to close. Each takes a token.
+#[inline(always)]
 fn close<T: WktNum>(message: Message, parens: usize, tokens: &mut PeekableTokens<'_, T>) -> Message
     ensures message { (result, rest tokens.new) ≡ closings T.read parens message (rest tokens.old) }
     ensures advances { Advances tokens.old tokens.new }
@@ -148,10 +182,19 @@ fn close<T: WktNum>(message: Message, parens: usize, tokens: &mut PeekableTokens
     let mut reported = message;
     let mut left = parens;
     'parens: while left > 0 {
-        reported = closing(reported, tokens.next());
+        reported = closing::<T>(reported, next_of(tokens));
         left -= 1;
     }
     reported
+}
+
+/// The next token, which is taken, where speed isn't wanted.
+#[inline(never)]
+fn next_of<'a, T: WktNum>(tokens: &mut PeekableTokens<'a, T>) -> Lexeme<'a>
+    ensures moves { Moves tokens.old (found result) tokens.new }
+    ensures takes { TakesNext (found result) (rest tokens.old) (rest tokens.new) }
+{
+    tokens.take()
 }
 
 /// The message of tokens that are refused at the place, by the table of `docs/GRAMMAR.md`. As many of them are taken as

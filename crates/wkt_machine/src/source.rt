@@ -2,6 +2,7 @@
 ghost use Rattle.std.specs.Prelude.{◌≡◌, ◌≢◌, ◌+◌, ◌≤◌, ℕ, [], length, IfOk, IfErr, false};
 ghost use Rattle.wkt_machine.specs.Goes.{Stays, Skips, Numbers, IsUnread, Goes, Refuses};
 ghost use Rattle.wkt_machine.specs.Machines.{state_of, IsSound};
+ghost use Rattle.wkt_machine.specs.Room.{HasRoom, RoomAt, HasNumberRoom, LeavesNumber};
 ghost use Rattle.wkt_machine.specs.Sight.{sight};
 ghost use Rattle.wkt_machine.specs.View.{View};
 ghost use Rattle.wkt_machine.specs.declared.machine.Seen.TheVariants as seen;
@@ -45,9 +46,11 @@ pub trait Source<T: WktNum>: Sized + Drop {
     fn number<B: Builder<T>>(self, builder: B, axis: Axis) -> Result<(Self, B), (Self, B)>
         requires looked { view.looked self }
         requires seen { sight (view.left self) ≡ seen.Number }
+        requires room { HasNumberRoom view B.maker self builder }
         ensures takes { IfOk result (λ r. Numbers T.read view B.maker self builder axis r.0 r.1) }
+        ensures leaves { IfOk result (λ r. LeavesNumber view B.maker self builder r.0 r.1) }
         ensures stays { IfErr result (λ r. Stays view self r.0) }
-        ensures unread { IfErr result (λ r. (n : ℕ) → view.keeps self n → IsUnread T.read (view.left self)) };
+        ensures unread { IfErr result (λ r. (k : view.Known) → view.keeps self k → IsUnread T.read (view.left self)) };
 }
 
 /// A source that takes in one go what begins in it.
@@ -55,14 +58,18 @@ pub trait Walk<T: WktNum>: Source<T> {
     /// After one lexeme or more: a geometry begins here.
     fn header<B: Builder<T>>(self, machine: Machine, builder: B) -> Walked<Self, B>
         requires state { machine.state ≡ next.Kind }
-        requires room { machine.depth + length (Self.view.left self) ≤ usize.MAX }
+        requires depth { machine.depth + length (Self.view.left self) ≤ usize.MAX }
+        requires room { HasRoom Self.view B.maker 0 self builder }
         ensures on { IfOk result (Goes T.read Self.view B.maker machine self builder) }
+        ensures room { IfOk result (RoomAt Self.view B.maker) }
         ensures refused { IfErr result (Refuses T.read Self.view B.maker machine self builder) };
 
     /// After one lexeme or more: a coordinate begins here.
     fn coordinates<B: Builder<T>>(self, machine: Machine, builder: B) -> Walked<Self, B>
         requires state { machine.state ≡ next.X }
-        requires room { machine.depth + length (Self.view.left self) ≤ usize.MAX }
+        requires depth { machine.depth + length (Self.view.left self) ≤ usize.MAX }
+        requires room { HasRoom Self.view B.maker 0 self builder }
         ensures on { IfOk result (Goes T.read Self.view B.maker machine self builder) }
+        ensures room { IfOk result (RoomAt Self.view B.maker) }
         ensures refused { IfErr result (Refuses T.read Self.view B.maker machine self builder) };
 }

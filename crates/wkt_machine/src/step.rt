@@ -3,6 +3,7 @@ ghost use Rattle.std.specs.Prelude.{◌≡◌, ◌+◌, ◌<◌, ◌≤◌, leng
 ghost use Rattle.wkt_machine.specs.Drives.{is_over};
 ghost use Rattle.wkt_machine.specs.Goes.{Goes, Refuses, EndsPoint};
 ghost use Rattle.wkt_machine.specs.Machines.{state_of, state_for, IsSound};
+ghost use Rattle.wkt_machine.specs.Room.{header_cost, owed, HasRoom, RoomAt};
 ghost use Rattle.wkt_machine.specs.Sight.{sight};
 ghost use Rattle.wkt_machine.specs.declared.machine.Seen.TheVariants as sees;
 ghost use Rattle.wkt_machine.specs.declared.machine.State.TheVariants as next;
@@ -22,8 +23,10 @@ impl Machine {
     pub fn step<T: WktNum, S: Source<T>, B: Builder<T>>(self, source: S, builder: B) -> Walked<S, B>
         requires sound { IsSound self }
         requires open { is_over (state_of self) ≡ false }
-        requires room { self.depth + length (S.view.left source) ≤ usize.MAX }
+        requires depth { self.depth + length (S.view.left source) ≤ usize.MAX }
+        requires room { HasRoom S.view B.maker (owed (state_of self)) source builder }
         ensures on { IfOk result (Goes T.read S.view B.maker self source builder) }
+        ensures room { IfOk result (RoomAt S.view B.maker) }
         ensures refused { IfErr result (Refuses T.read S.view B.maker self source builder) }
     {
         let (seen, source) = source.look();
@@ -51,7 +54,9 @@ impl Machine {
         requires state { self.state ≡ next.Kind }
         requires looked { S.view.looked source }
         requires seen { seen ≡ sight (S.view.left source) }
+        requires room { HasRoom S.view B.maker 0 source builder }
         ensures on { IfOk result (Goes T.read S.view B.maker self source builder) }
+        ensures room { IfOk result (RoomAt S.view B.maker) }
         ensures refused { IfErr result (Refuses T.read S.view B.maker self source builder) }
     {
         match seen {
@@ -72,7 +77,9 @@ impl Machine {
         requires state { self.state ≡ next.Kind }
         requires looked { S.view.looked source }
         requires seen { sees.Kind kind joined ≡ sight (S.view.left source) }
+        requires room { HasRoom S.view B.maker 0 source builder }
         ensures on { IfOk result (Goes T.read S.view B.maker self source builder) }
+        ensures room { IfOk result (RoomAt S.view B.maker) }
         ensures refused { IfErr result (Refuses T.read S.view B.maker self source builder) }
     {
         let part = part_of(kind);
@@ -101,8 +108,10 @@ impl Machine {
         requires state { self.state ≡ next.Dimension }
         requires looked { S.view.looked source }
         requires seen { seen ≡ sight (S.view.left source) }
-        requires room { self.depth + length (S.view.left source) ≤ usize.MAX }
+        requires depth { self.depth + length (S.view.left source) ≤ usize.MAX }
+        requires room { HasRoom S.view B.maker (header_cost self.part) source builder }
         ensures on { IfOk result (Goes T.read S.view B.maker self source builder) }
+        ensures room { IfOk result (RoomAt S.view B.maker) }
         ensures refused { IfErr result (Refuses T.read S.view B.maker self source builder) }
     {
         let part = self.part;
@@ -137,8 +146,10 @@ impl Machine {
         requires state { self.state ≡ next.Opening }
         requires looked { S.view.looked source }
         requires seen { seen ≡ sight (S.view.left source) }
-        requires room { self.depth + length (S.view.left source) ≤ usize.MAX }
+        requires depth { self.depth + length (S.view.left source) ≤ usize.MAX }
+        requires room { HasRoom S.view B.maker 0 source builder }
         ensures on { IfOk result (Goes T.read S.view B.maker self source builder) }
+        ensures room { IfOk result (RoomAt S.view B.maker) }
         ensures refused { IfErr result (Refuses T.read S.view B.maker self source builder) }
     {
         match seen {
@@ -159,7 +170,9 @@ impl Machine {
         requires state { self.state ≡ next.Opening }
         requires looked { S.view.looked source }
         requires seen { sees.Number ≡ sight (S.view.left source) }
+        requires room { HasRoom S.view B.maker 0 source builder }
         ensures on { IfOk result (Goes T.read S.view B.maker self source builder) }
+        ensures room { IfOk result (RoomAt S.view B.maker) }
         ensures refused { IfErr result (Refuses T.read S.view B.maker self source builder) }
     {
         match self.part {
@@ -175,7 +188,9 @@ impl Machine {
         requires part { self.part ≡ member.Member }
         requires looked { S.view.looked source }
         requires seen { sees.Number ≡ sight (S.view.left source) }
+        requires room { HasRoom S.view B.maker 0 source builder }
         ensures on { IfOk result (Goes T.read S.view B.maker self source builder) }
+        ensures room { IfOk result (RoomAt S.view B.maker) }
         ensures refused { IfErr result (Refuses T.read S.view B.maker self source builder) }
     {
         match source.number(builder.open(Part::Member), Axis::X) {
@@ -197,7 +212,9 @@ impl Machine {
         requires axis { self.state ≡ state_for axis }
         requires looked { S.view.looked source }
         requires seen { seen ≡ sight (S.view.left source) }
+        requires room { HasRoom S.view B.maker 0 source builder }
         ensures on { IfOk result (Goes T.read S.view B.maker self source builder) }
+        ensures room { IfOk result (RoomAt S.view B.maker) }
         ensures refused { IfErr result (Refuses T.read S.view B.maker self source builder) }
     {
         match seen {
@@ -218,7 +235,9 @@ impl Machine {
         requires axis { self.state ≡ state_for axis }
         requires looked { S.view.looked source }
         requires seen { sees.Number ≡ sight (S.view.left source) }
+        requires room { HasRoom S.view B.maker 0 source builder }
         ensures on { IfOk result (Goes T.read S.view B.maker self source builder) }
+        ensures room { IfOk result (RoomAt S.view B.maker) }
         ensures refused { IfErr result (Refuses T.read S.view B.maker self source builder) }
     {
         let state = after(axis, self.dim);
@@ -238,7 +257,9 @@ impl Machine {
         source: S,
         builder: B,
     ) -> Walked<S, B>
-        ensures { EndsPoint B.maker self source builder result }
+        requires room { HasRoom S.view B.maker 1 source builder }
+        ensures ends { EndsPoint B.maker self source builder result }
+        ensures room { IfOk result (RoomAt S.view B.maker) }
     {
         match self.part {
             Part::Bare => on(source, self.outside(), builder.close(Part::Member)),
@@ -257,8 +278,10 @@ impl Machine {
         requires state { self.state ≡ next.Item }
         requires looked { S.view.looked source }
         requires seen { seen ≡ sight (S.view.left source) }
-        requires room { self.depth + length (S.view.left source) ≤ usize.MAX }
+        requires depth { self.depth + length (S.view.left source) ≤ usize.MAX }
+        requires room { HasRoom S.view B.maker 0 source builder }
         ensures on { IfOk result (Goes T.read S.view B.maker self source builder) }
+        ensures room { IfOk result (RoomAt S.view B.maker) }
         ensures refused { IfErr result (Refuses T.read S.view B.maker self source builder) }
     {
         match seen {
@@ -274,8 +297,10 @@ impl Machine {
         requires state { self.state ≡ next.Item }
         requires looked { S.view.looked source }
         requires seen { sees.Comma ≡ sight (S.view.left source) }
-        requires room { self.depth + length (S.view.left source) ≤ usize.MAX }
+        requires depth { self.depth + length (S.view.left source) ≤ usize.MAX }
+        requires room { HasRoom S.view B.maker 0 source builder }
         ensures on { IfOk result (Goes T.read S.view B.maker self source builder) }
+        ensures room { IfOk result (RoomAt S.view B.maker) }
         ensures refused { IfErr result (Refuses T.read S.view B.maker self source builder) }
     {
         if is_single(self.part) {
@@ -297,7 +322,9 @@ impl Machine {
         requires looked { S.view.looked source }
         requires seen { seen ≡ sight (S.view.left source) }
         requires inner { 0 < self.depth }
+        requires room { HasRoom S.view B.maker 0 source builder }
         ensures on { IfOk result (Goes T.read S.view B.maker self source builder) }
+        ensures room { IfOk result (RoomAt S.view B.maker) }
         ensures refused { IfErr result (Refuses T.read S.view B.maker self source builder) }
     {
         match seen {

@@ -9,9 +9,9 @@ ghost use Rattle.wkt_read.specs.Items.{bad_number};
 ghost use Rattle.wkt_read.specs.Refusal.{IsTextRefused, IfText};
 
 use crate::bytes::Bytes;
+use crate::message::message_at;
 use crate::value::{Unread, read};
 use std::alloc::Global;
-use wkt_explain::message;
 use wkt_num::WktNum;
 use wkt_read::{Message, ReadError};
 use wkt_types::Wkt;
@@ -56,7 +56,10 @@ fn front_of<T: WktNum>(alloc: Global, text: &str) -> Result<(Wkt<T>, usize), Rea
         Ok(wkt) => Ok((wkt, behind.at)),
         Err(unread) => match unread {
             Unread::Memory(error) => Err(ReadError::Memory(error)),
-            Unread::Refused(_) => Err(ReadError::Text(message::<T>(text).text())),
+            Unread::Refused(machine) => {
+                let said = message_at::<T>(machine, text, behind.at);
+                Err(ReadError::Text(said.text()))
+            }
         },
     }
 }

@@ -138,7 +138,7 @@ impl<'t, 'a, T: WktNum> Walk<T> for OneByOne<'t, 'a, T> {
     }
 
     #[inline(always)]
-    #[tactic(auto, using(crate::proofs::TokenViews::x_open, crate::proofs::TokenViews::x_sound))]
+    #[tactic(auto, using(crate::proofs::TokenViews::x_open, crate::proofs::TokenViews::x_sound, crate::proofs::Rooms::x_room))]
     fn coordinates<B: Builder<T>>(self, machine: Machine, builder: B) -> Walked<Self, B> {
         match machine.dim {
             Dimension::XY if has_coordinates(machine.part) => pairs(machine, self, builder),

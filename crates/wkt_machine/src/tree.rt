@@ -1,8 +1,8 @@
 //! Values, made as the parts of a geometry come.
-ghost use Rattle.std.specs.Prelude.{◌≡◌, ◌++◌, ◌∷◌, [], if◌then◌else◌, true, false, None};
+ghost use Rattle.std.specs.Prelude.{◌≡◌, ◌++◌, ◌∷◌, [], if◌then◌else◌, true, false, None, IfSome};
 ghost use Rattle.wkt_access.specs.declared.dimensions.Dimension.TheVariants.{XY};
 ghost use Rattle.wkt_machine.specs.Growing.{HasMember, HasNumbers, HasPoint, MayEnd, MayJoin, MayOpen, MayBeEmpty, ended, headed, joined, lists_end, lists_items, opened, rest, with_coord, with_item, with_line, with_number, with_point, without_items};
-ghost use Rattle.wkt_machine.specs.Trees.{Becomes, Gives, GivesLast, Holds, Joins, coord_of};
+ghost use Rattle.wkt_machine.specs.Trees.{Becomes, Gives, GivesLast, Holds, IsPair, Joins, coord_of};
 ghost use Rattle.wkt_machine.specs.declared.part.Part.TheVariants as kind;
 
 use crate::adding::{add, add_flat, add_one, taken};
@@ -241,6 +241,32 @@ impl<T: WktNum> Tree<T> {
             }
             Ended::Collection => self.collection(),
             Ended::NoMembers => Wkt::from(GeometryCollection::new(Vec::new(alloc), dim)),
+        }
+    }
+
+    /// The dimension of the header that came last.
+    #[inline(always)]
+    pub(crate) fn dim(&self) -> Dimension
+        ensures { result ≡ self.now.dim }
+    {
+        self.dim
+    }
+
+    /// The numbers of the point that ended last, if it has two and nothing was lost.
+    #[inline(always)]
+    pub(crate) fn pair(&self) -> Option<(T, T)>
+        ensures { IfSome result (λ p. IsPair self.now p.0 p.1) }
+    {
+        let is_pair = matches!(self.last, Ended::Point)
+            && !self.is_lost
+            && self.z.is_none()
+            && self.m.is_none();
+        if !is_pair {
+            return None;
+        }
+        match (self.x, self.y) {
+            (Some(x), Some(y)) => Some((x, y)),
+            _ => None,
         }
     }
 

@@ -4,7 +4,7 @@ use std::alloc::Global;
 use wkt::geo_types::Geometry;
 use wkt::geo_types_from_wkt::try_into_geometry;
 use wkt::to_wkt::{Counted, push_geometry};
-use wkt::tokenizer::Tokens;
+use wkt::tokenizer::{Token, Tokens};
 use wkt::types::Dimension;
 use wkt::{
     AnyError, FromWktStr, ToWkt, TryFromWkt, Wkt, WktNum, canonical_text, infer_type, read_whole,
@@ -101,12 +101,20 @@ fn size_of_flat<T: WktNum>(geometry: &Geometry<T>) -> usize {
     }
 }
 
-/// How many lexemes there are before the first that isn't read.
+/// How many lexemes there are before the first that isn't read, and how many numbers are like the one before them: so each
+/// number is looked at, and none is left out.
 fn count_tokens<T: WktNum>(line: &str) -> usize {
     let mut count = 0usize;
+    let mut before = None;
     for token in Tokens::<T>::from_str(line) {
-        if token.is_err() {
+        let Ok(token) = token else {
             break;
+        };
+        if let Token::Number(number) = token {
+            if before == Some(number) {
+                count = count.saturating_add(1);
+            }
+            before = Some(number);
         }
         count = count.saturating_add(1);
     }

@@ -1,5 +1,6 @@
 -- What the laws rest on: splits, fronts, headers and words.
 pub mod OneForm
+pub mod Words
 pub mod Splits
 pub mod Fronts
 pub mod Stable
@@ -10,6 +11,8 @@ pub mod KindWords
 pub mod Fits
 pub mod GoesOn
 pub mod Begun
+pub mod Dead
+pub mod OneExpected
 pub mod Headers
 pub mod HeaderPlaces
 pub mod OneWkt

@@ -1,8 +1,7 @@
 //! Words that have a meaning, whatever the case of their ASCII letters.
 ghost use Rattle.std.specs.Prelude.{◌≡◌, ◌++◌, codes};
 ghost use Rattle.std.specs.Str.{str_to_ascii_uppercase};
-ghost use Rattle.wkt_read.specs.Grammar.{kind_word, dim_word};
-ghost use Rattle.wkt_read.specs.Parser.Outcome.{is_empty_word};
+ghost use Rattle.wkt_read.specs.Grammar.{kind_word, dim_word, is_empty_word};
 ghost use Rattle.std.specs.List.{AllByRecursion};
 ghost use Rattle.wkt_read.specs.Header.{begins};
 ghost use Rattle.wkt_read.specs.HeaderSteps.{Strips, BeginsKind};

@@ -52,7 +52,7 @@ fn of_text(alloc: Global, call: &str, text: &str) -> Result<String, AnyError> {
         "literals" => built(alloc, text),
         "lines" => lines(alloc, text),
         "explain" => place(alloc, text),
-        "explained" => shown_if_any(alloc, explain::<Number>(alloc, text)?),
+        "explained" => shown_if_any(alloc, explain::<Number>(text)),
         "explain_message" => message(alloc, text),
         _ => Ok(String::from_str(alloc, "no such call")?),
     }

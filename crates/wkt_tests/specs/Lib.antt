@@ -1,15 +1,1 @@
 pub mod Answer
-pub mod Numbers
-pub mod NumberLaws
-pub mod WrongNumbers
-pub mod Fronts
-pub mod Tidy
-pub mod Compared
-pub mod Mine
-pub mod Lined
-pub mod Fields
-pub mod Copied
-pub mod FlatKey
-pub mod Keys
-pub mod Boxed
-pub mod Scene

@@ -1,12 +1,12 @@
 //! A custom type that has `to_wkt` alone: its text comes by the default bodies of `ToWkt`.
 use crate::support::asserts::equal;
-use crate::support::slow::Slow;
 use std::alloc::{AllocError, Global};
 use std::io::ErrorKind;
 use std::process::Abort;
 use wkt_access::Error;
 use wkt_convert::{ToWkt, ToWktError};
 use wkt_machine::FromWktStr;
+use wkt_type_tests::support::slow::Slow;
 use wkt_types::{Coord, Dimension, GeometryCollection, Point, Wkt};
 
 /// A drawing, which has a geometry for others.

@@ -1,6 +1,3 @@
-//! The two-dimensional types: their texts, their values, and sinks and sources of them.
+//! The two-dimensional types: sources of them. `wkt_type_tests` has what needs no reading.
 
-mod sinks;
 mod sources;
-mod texts;
-mod values;

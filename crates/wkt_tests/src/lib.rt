@@ -1,13 +1,11 @@
-//! Tests that take several crates, in modules named after what they test; callers of `wkt` that are proved for them; and
-//! what tests share. A text and its answer is no test here, but a row of `wkt_tables`.
+//! Tests that take several crates, in modules named after what they test, and what tests share. A text and its answer is
+//! no test here, but a row of `wkt_tables`.
 //!
-//! Below stand `wkt`, the crates that it is made of, `wkt_lines` and `wkt_examples`; above, `wkt_tables` and the fuzz,
-//! which use `support`. Nothing that users build depends on this crate.
+//! Below stand `wkt`, the crates that it is made of, and `wkt_lines`; above, `wkt_tables`, which uses `support`. Nothing
+//! that users build depends on this crate. Tests that need no reading are those of `wkt_type_tests`, and tests of proved
+//! callers those of `wkt_callers`.
 #![tactic(auto)]
 
-#[cfg(test)]
-mod bytes;
-pub mod callers;
 #[cfg(test)]
 mod convert;
 #[cfg(test)]
@@ -15,19 +13,11 @@ mod deep;
 #[cfg(test)]
 mod doc_examples;
 #[cfg(test)]
-mod errors;
-#[cfg(test)]
 mod flat;
 #[cfg(test)]
 mod headers;
 #[cfg(test)]
-mod io_errors;
-#[cfg(test)]
 mod lines;
-#[cfg(test)]
-mod num;
-#[cfg(test)]
-mod num_windows;
 #[cfg(test)]
 mod read;
 #[cfg(test)]
@@ -35,9 +25,3 @@ mod same_geometry;
 #[cfg(test)]
 mod short_texts;
 pub mod support;
-#[cfg(test)]
-mod types;
-#[cfg(test)]
-mod visit;
-#[cfg(test)]
-mod write;

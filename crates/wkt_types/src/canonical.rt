@@ -41,7 +41,7 @@ fn under<X: UnderHeader>(dim: Dimension, part: X) -> X
 }
 
 /// The number after x and y, by which z and m are held.
-pub(crate) fn third_number<T: Copy>(coord: &Coord<T>) -> Option<T>
+pub fn third_number<T: Copy>(coord: &Coord<T>) -> Option<T>
     ensures { result ≡ third_number coord.now }
 {
     match coord.z {
@@ -51,7 +51,7 @@ pub(crate) fn third_number<T: Copy>(coord: &Coord<T>) -> Option<T>
 }
 
 /// The number after that.
-pub(crate) fn fourth_number<T: Copy>(coord: &Coord<T>) -> Option<T>
+pub fn fourth_number<T: Copy>(coord: &Coord<T>) -> Option<T>
     ensures { result ≡ fourth_number coord.now }
 {
     match coord.z {

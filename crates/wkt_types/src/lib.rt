@@ -23,6 +23,7 @@ mod point;
 mod polygon;
 mod show;
 
+pub use canonical::{fourth_number, third_number};
 pub use convert::ConvertError;
 pub use coord::Coord;
 pub use geometry::{GeometryCollection, Wkt};

@@ -2,15 +2,19 @@
 use Rattle.std.proofs.Common.{◌≡◌, ℕ, ◌≤◌, ◌<◌, List, [], ◌∷◌, ◌++◌, length, refl, sym, ap, ◌∙◌, subst, arith, length-append, IsUtf8, IsCharBoundary, Option}
 use Rattle.std.proofs.lemmas.Str.{IsCharBoundary-at_seam}
 use Rattle.wkt_num.specs.Bytes.{Lexeme}
+use Rattle.wkt_access.specs.declared.dimensions.Dimension.{Dimension}
 use Rattle.wkt_access.specs.Values.{Value}
+use Rattle.wkt_types.specs.declared.geometry_type.GeometryType.{GeometryType}
 use Rattle.wkt_read.specs.Lexemes.{Takes, AreCharacters}
 use Rattle.wkt_read.specs.Placed.{Placed, lexemes_of, end_after, AreEnds}
-use Rattle.wkt_read.specs.Grammar.{StandFor}
+use Rattle.wkt_read.specs.Grammar.{Header, StandFor}
 use Rattle.wkt_read.specs.Front.{Front}
 use Rattle.wkt_read.proofs.LawLemmas.Characters.{characters}
 use Rattle.wkt_read.proofs.LawLemmas.Stable.{prefix}
 use Rattle.wkt_read.proofs.LawLemmas.OneForm.{geometry_body}
-use Rattle.wkt_read.proofs.ParserLemmas.Readings.{header_long}
+
+pub header_long : (k : GeometryType) (d : Dimension) (h : List Lexeme) → Header k d h → 0 < length h
+header_long k d h (run, e, more, eh, is, ek, dp) = omega (arith, ap length eh)
 
 long : (bs : List ℕ) → (bs ≡ [] → ⊥) → 0 < length bs
 long [] some = absurd (some refl)

@@ -6,7 +6,7 @@ use Rattle.std.proofs.lemmas.List.{length-map}
 use Rattle.std.proofs.lemmas.Slice.Eq.{bytes_eq-Decides}
 use Rattle.std.proofs.lemmas.Bool.Decides.{nat_tests}
 use Rattle.wkt_read.specs.Header.{begins}
-use Rattle.wkt_read.specs.Parser.Outcome.{is_empty_word}
+use Rattle.wkt_read.specs.Grammar.{is_empty_word}
 use Rattle.wkt_read.proofs.LawLemmas.HeaderPlaces.{not_test}
 
 swap : (a b : ℕ) → nat_eq a b ≡ nat_eq b a

@@ -2,7 +2,7 @@
 use Rattle.std.proofs.Common.{◌≡◌, ◌<◌, ◌≤◌, ℕ, zero, suc, List, [], ◌∷◌, Bool, true, false, refl, arith}
 use Rattle.std.specs.Prelude.{slice_index, ◌&&◌}
 use Rattle.std.specs.Char.{is_ascii}
-use Rattle.wkt_read.specs.Parser.Outcome.{is_ascii_word}
+use Rattle.wkt_read.specs.Grammar.{is_ascii_word}
 
 pub all_ascii : (w : List ℕ) → ((i : ℕ) → slice_index w i < 128) → is_ascii_word w ≡ true
 all_ascii [] h = refl

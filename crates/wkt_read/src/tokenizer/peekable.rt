@@ -5,7 +5,7 @@ ghost use Rattle.wkt_num.specs.Bytes.{Lexeme, Close, Comma, Open};
 ghost use Rattle.wkt_read.specs.Tokenizer.Unread.{found};
 
 use crate::keywords::kind_of;
-use crate::tokenizer::tokens::{Lexeme, Token, Tokens, item_of};
+use crate::tokenizer::tokens::{Lexeme, Token, Tokens, item_apart};
 use std::marker::Model;
 use wkt_access::Dimension;
 use wkt_num::WktNum;
@@ -251,7 +251,7 @@ impl<'a, T: WktNum> PeekableTokens<'a, T> {
         ensures end { end_of self.new ≡ end_of self.old }
         ensures grows { taken_of self.old ≤ taken_of self.new }
     {
-        item_of(self.look())
+        item_apart(self.look())
     }
 }
 
@@ -265,6 +265,6 @@ impl<'a, T: WktNum> Iterator for PeekableTokens<'a, T> {
     ghost remaining = { count_ahead };
 
     fn next(&mut self) -> Option<Result<Token<'a, T>, &'static str>> {
-        item_of(self.step())
+        item_apart(self.step())
     }
 }

@@ -60,7 +60,8 @@ fn number_in<'a>(run: &'a str) -> Option<&'a str>
     }
 }
 
-/// The item that stands for a lexeme.
+/// The item that stands for a lexeme. Inlined, so that what a caller doesn't look at isn't made.
+#[inline(always)]
 pub(crate) fn item_of<'a, T: WktNum>(
     lexeme: Lexeme<'a>,
 ) -> Option<Result<Token<'a, T>, &'static str>>
@@ -77,6 +78,16 @@ pub(crate) fn item_of<'a, T: WktNum>(
             None => return Some(Err(Message::BadNumber.text())),
         },
     }))
+}
+
+/// The same, where speed isn't wanted.
+#[inline(never)]
+pub(crate) fn item_apart<'a, T: WktNum>(
+    lexeme: Lexeme<'a>,
+) -> Option<Result<Token<'a, T>, &'static str>>
+    ensures { IsItem T.read (found lexeme.entry) result }
+{
+    item_of(lexeme)
 }
 
 /// The lexemes of a text, one after the other.
@@ -231,6 +242,7 @@ impl<'a, T: WktNum> Iterator for Tokens<'a, T> {
 
     ghost remaining = { count };
 
+    #[inline(always)]
     fn next(&mut self) -> Option<Result<Token<'a, T>, &'static str>> {
         item_of(self.next_lexeme())
     }

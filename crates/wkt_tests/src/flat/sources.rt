@@ -1,12 +1,12 @@
 //! Flat values from readers that are slow or fail.
 use crate::support::asserts::equal;
-use crate::support::slow::{Pieces, source};
 use std::alloc::Global;
 use std::io::ErrorKind;
 use std::process::Abort;
 use wkt::geo_types::{Geometry, GeometryCollection, Line, LineString, Point};
 use wkt::geo_types_from_wkt::Error;
 use wkt::{Decimal, TryFromWkt};
+use wkt_type_tests::support::slow::{Pieces, source};
 
 type Number = Decimal<6>;
 

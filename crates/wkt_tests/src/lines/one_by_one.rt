@@ -2,7 +2,6 @@
 ghost use Rattle.std.specs.Prelude.{◌≡◌};
 
 use crate::support::asserts::{BROKEN_PIPE, End, INTERRUPTED, WELL, ended, equal};
-use crate::support::slow::{Pieces, Slow, source};
 use std::alloc::{AllocError, Global};
 use std::io;
 use std::io::ErrorKind;
@@ -10,6 +9,7 @@ use std::process::Abort;
 use wkt_bytes::{ByteSource, Counted, ReadAllError};
 use wkt_lines::{AnswerError, Canonical, Lines, Reply, line_end, stream_with};
 use wkt_num::TextSink;
+use wkt_type_tests::support::slow::{Pieces, Slow, source};
 
 /// A source whose every second call fails, the first among them.
 #[derive(Drop)]

@@ -1,11 +1,11 @@
 //! What the programs do over sinks and sources that are slow or fail.
 use crate::support::asserts::{BROKEN_PIPE, End, INTERRUPTED, WELL, ended, equal};
-use crate::support::slow::{Pieces, Slow, source};
 use std::alloc::Global;
 use std::io::ErrorKind;
 use std::process::Abort;
 use wkt_bytes::Counted;
 use wkt_lines::{run, run_over, stream_over};
+use wkt_type_tests::support::slow::{Pieces, Slow, source};
 
 const INPUT: &[u8] = b"point ( 10 -20.50 )\nPOINT ZM EMPTY\nPOINTZ(-117 33 10)\nPOINT (10)\n\n";
 

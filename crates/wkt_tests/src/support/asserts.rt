@@ -1,6 +1,5 @@
 //! What the tests assert, as functions: each is proved once, where a macro is at each place that it stands at.
-use std::alloc::Global;
-use std::fmt::{Debug, Display};
+use std::fmt::Debug;
 use std::io::ErrorKind;
 use std::process::Abort;
 use wkt_lines::RunError;
@@ -13,20 +12,6 @@ pub(crate) fn equal<T: PartialEq + Debug + Drop>(rt: &impl Abort, given: T, want
 /// The two are equal, at that row.
 pub(crate) fn equal_at<T: PartialEq + Debug + Drop>(rt: &impl Abort, row: &str, given: T, want: T) {
     assert_eq!(rt; given, want, "at {row}");
-}
-
-/// It is true.
-pub(crate) fn holds(rt: &impl Abort, fact: bool) {
-    assert!(rt; fact);
-}
-
-/// The error has that text.
-pub(crate) fn says<E: Display + Drop>(rt: &impl Abort, alloc: Global, error: E, want: &str) {
-    equal(
-        rt,
-        error.to_string(alloc).expect(rt, "memory").as_str(),
-        want,
-    );
 }
 
 /// How a run ends: well, by its source, by its sink or without memory, and the kind of the error that it was given.

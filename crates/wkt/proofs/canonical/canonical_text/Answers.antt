@@ -1,22 +1,20 @@
 -- An empty text has no front. The message on a bad number comes only where the number type refuses one.
 use Rattle.std.proofs.Common.{sym, ◌∙◌}
-use Rattle.wkt_read.proofs.ParserLemmas.Empty as empty
+use Rattle.wkt_machine.proofs.TableMessages as empty
 use Rattle.wkt.proofs.Blamed.{bad_of}
 use Rattle.wkt.proofs.canonical.canonical_text.Goals as goal
 
 pub returns-in-Ok-None-clause-bad : goal.returns-in-Ok-None-clause-bad
 returns-in-Ok-None-clause-bad g c = λ is. bad_of g.T.WktNum.read c.args.text.now c.message_of.result c.message_of.ensures (sym c.text-in-Ok-None.ensures ∙ is)
 
-pub returns-in-Ok-None-canonical_into-clause-bad : goal.returns-in-Ok-None-canonical_into-clause-bad
-returns-in-Ok-None-canonical_into-clause-bad g c =
-    λ is. bad_of g.T.WktNum.read c.args.text.now c.message_of-in-Ok-None-canonical_into.result c.message_of-in-Ok-None-canonical_into.ensures
-    (sym c.text-in-Ok-None-canonical_into.ensures ∙ is)
+pub returns-in-None-clause-bad : goal.returns-in-None-clause-bad
+returns-in-None-clause-bad g c = λ is. bad_of g.T.WktNum.read c.args.text.now c.message_of-in-None.result c.message_of-in-None.ensures (sym c.text-in-None.ensures ∙ is)
 
 pub returns-then-is_empty-clause-no_front : goal.returns-then-is_empty-clause-no_front
-returns-then-is_empty-clause-no_front g c = empty.no-front g.T.WktNum.read c.args.text.now (empty.no-bytes _ (sym c.is_empty.ensures ∙ c.if-is_empty.true))
+returns-then-is_empty-clause-no_front g c = empty.empty_no_front g.T.WktNum.read c.args.text.now (empty.no_bytes _ (sym c.is_empty.ensures ∙ c.if-is_empty.true))
 
 pub returns-then-is_empty-clause-bad : goal.returns-then-is_empty-clause-bad
-returns-then-is_empty-clause-bad g c = empty.no-bad g.T.WktNum.read c.args.text.now c.text.result.now c.text.ensures
+returns-then-is_empty-clause-bad g c = empty.empty_no_bad g.T.WktNum.read c.args.text.now c.text.result.now c.text.ensures
 
 pub returns-then-is_empty-clause-refusal : goal.returns-then-is_empty-clause-refusal
-returns-then-is_empty-clause-refusal g c = empty.refused g.T.WktNum.read c.args.text.now c.text.result.now (empty.no-bytes _ (sym c.is_empty.ensures ∙ c.if-is_empty.true)) c.text.ensures
+returns-then-is_empty-clause-refusal g c = empty.empty_refused g.T.WktNum.read c.args.text.now c.text.result.now (empty.no_bytes _ (sym c.is_empty.ensures ∙ c.if-is_empty.true)) c.text.ensures

@@ -1,7 +1,7 @@
 -- The arrays of the point stand in the buffers, or one of these has no room.
 use Rattle.std.proofs.Common.{rules, ◌≡◌, ◌∙◌, ap₂, ℕ, List, [], ◌∷◌, refl, arith, inl, inr, to_z, of_z, w64}
 use Rattle.wkt_calls.specs.Answer.{with_front}
-use Rattle.wkt_events.specs.declared.points.NearPoint.{NearPoint}
+use Rattle.wkt_machine.specs.declared.points.NearPoint.{NearPoint}
 use Rattle.wkt_calls.specs.Flat.{IsFlatPoint}
 use Rattle.wkt_calls.specs.Sizes.{AreReported}
 use Rattle.wkt_calls.proofs.arrays_call.hand_out_point.Goals as goal

@@ -8,7 +8,7 @@ if_map (Err e) f h = tt
 
 pub returns : goal.returns
 returns g c =
-    let why = c.in_ok-why.why in
+    let why = c.explained-why.result in
     if_map c.refused_at.result
-    (λ s h. record { start = why.start; end = why.end; expected = why.expected; place = c.in_ok-why.ensures; is = h })
+    (λ s h. record { start = why.start; end = why.end; expected = why.expected; place = c.explained-why.ensures; is = h })
     c.refused_at.ensures

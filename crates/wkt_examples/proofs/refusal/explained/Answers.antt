@@ -3,4 +3,4 @@ use Rattle.wkt.proofs.Blamed.{some_of}
 use Rattle.wkt_examples.proofs.refusal.explained.Goals as goal
 
 pub unwrap-requires : goal.unwrap-requires
-unwrap-requires g c = some_of c.in_ok-why.why c.in_ok-why.ensures.front (λ f. c.requires f.0 f.1 f.2)
+unwrap-requires g c = some_of c.explain.result c.explain.ensures.front (λ f. c.requires f.0 f.1 f.2)

@@ -1,9 +1,31 @@
 -- The arrays that were filled are those of the front, or the text has no front or no arrays.
-use Rattle.wkt_fill.proofs.Finished.{filled, unfilled}
+use Rattle.std.proofs.Common.{ap, sym, subst, arith, length, false, refl, IsUtf8}
+use Rattle.wkt_num.specs.Decimal.{read_decimal}
+use Rattle.wkt_read.proofs.LawLemmas.Few.{placed-few}
+use Rattle.wkt_machine.specs.BytesView.{bytes_view}
+use Rattle.wkt_machine.proofs.ByteViews.{whole_left}
+use Rattle.wkt_machine.proofs.Fronting.{front_made, no_front_there}
+use Rattle.wkt_machine.proofs.Rooms.{free_room}
+use Rattle.wkt_fill.specs.Filled.{filler_maker}
+use Rattle.wkt_fill.proofs.Finished.{filled}
 use Rattle.wkt_fill.proofs.fill.fill_arrays.Goals as goal
 
-pub returns-in-Some : goal.returns-in-Some
-returns-in-Some g c = filled g.row.D c.args.text.now c.new.result c.in-Some.after.made c.refuse_collection.new.self c.in-Some.after.at c.new.ensures c.in-Some.ensures.gives c.refuse_collection.ensures
+pub drive-requires : goal.drive-requires
+drive-requires g c =
+    let few = placed-few c.args.text.now in
+    let same = ap length (whole_left c.args.text.now c.new-source.result (ap (λ x. x.now) c.new-source.ensures.text) c.new-source.ensures.at) in
+    record { depth = omega (arith, few, same); room = free_room (bytes_view false) filler_maker c.new-source.result c.new.result (λ n. tt) (λ x. refl) }
 
-pub returns-in-None : goal.returns-in-None
-returns-in-None g c = unfilled g.row.D c.args.text.now c.in-None.ensures.gives
+pub returns-in-Ok : goal.returns-in-Ok
+returns-in-Ok g c =
+    let (v, front, made) =
+    front_made (read_decimal 127 36 g.row.D) (bytes_view false) filler_maker c.args.text.now c.new-source.result c.new.result c.in-Ok.over
+    (whole_left c.args.text.now c.new-source.result (ap (λ x. x.now) c.new-source.ensures.text) c.new-source.ensures.at) c.in-Ok.over.source.at (λ end e. e) c.in-Ok.ensures.on c.in-Ok.ensures.over in
+    filled g.row.D c.args.text.now c.new.result c.in-Ok.over.builder c.refuse_collection.new.self v c.in-Ok.over.source.at c.new.ensures front made c.refuse_collection.ensures
+
+pub returns-in-Err : goal.returns-in-Err
+returns-in-Err g c = λ utf8.
+    let text = ap (λ x. x.now) c.new-source.ensures.text in
+    let at = c.new-source.ensures.at in
+    no_front_there (read_decimal 127 36 g.row.D) (bytes_view false) filler_maker c.args.text.now c.new-source.result c.new.result c.in-Err.field-0
+    (whole_left c.args.text.now c.new-source.result text at) c.args.text.now (text, (subst IsUtf8 (sym text) utf8, omega (arith, at))) c.in-Err.ensures.refused

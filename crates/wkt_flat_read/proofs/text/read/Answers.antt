@@ -1,10 +1,11 @@
 -- What has grown where the machine is over, or where it is refused.
-use Rattle.std.proofs.Common.{[], None}
+use Rattle.std.proofs.Common.{[], None, refl}
 use Rattle.wkt_flat.specs.Equal.{coord_eq}
 use Rattle.wkt_machine.specs.Growing.{rest}
 use Rattle.wkt_machine.proofs.Valued.{taken}
 use Rattle.wkt_flat_read.specs.Growers.{tree_maker, tree_of}
 use Rattle.wkt_flat_read.proofs.Flats.{lent, flat_off, never_refused}
+use Rattle.wkt_machine.proofs.Rooms.{free_room}
 use Rattle.wkt_flat_read.proofs.text.read.Goals as goal
 
 pub returns-in-Ok : goal.returns-in-Ok
@@ -17,3 +18,6 @@ returns-in-Ok g c =
       found = flat_off num.is_value num.read g.met.T.WktNum.reads_values E view _ _ c.args.source c.in-Ok.over.source begins (v, takes, grew) c.answer.result c.answer.ensures;
       refused = never_refused E _ _ c.answer.result c.answer.ensures;
     }
+
+pub drive-requires-clause-room : goal.drive-requires-clause-room
+drive-requires-clause-room g c = free_room g.S.Source.view (tree_maker (coord_eq g.T.PartialEq.eq)) c.args.source c.new.result (λ n. tt) (λ x. refl)

@@ -1,5 +1,5 @@
 -- A coordinate goes on from the one before.
-use Rattle.std.proofs.Common.{◌≤◌, length, IfOk, IfErr, sym, refl, ◌∙◌, subst, arith}
+use Rattle.std.proofs.Common.{◌≤◌, length, IfOk, IfErr, sym, refl, ◌∙◌, subst, arith, ap}
 use Rattle.std.proofs.lemmas.Bool.{OnTrue_at, OnFalse_at}
 use Rattle.std.specs.Prelude.{not, ◌==◌}
 use Rattle.wkt_machine.specs.BytesView.{bytes_view}
@@ -8,12 +8,19 @@ use Rattle.wkt_machine.specs.Leads.{reached}
 use Rattle.wkt_machine.specs.declared.machine.State.TheVariants as next
 use Rattle.wkt_machine.proofs.ByteSteps.{turn_goes, last_goes, goes_less}
 use Rattle.wkt_machine.proofs.Leading.{leads_none, goes_leads, leads_goes, leads_refuses}
+use Rattle.wkt_num.specs.Bytes.{Close, Comma, class_of}
+use Rattle.wkt_machine.specs.Room.{owed}
+use Rattle.wkt_machine.specs.Machines.{state_of}
+use Rattle.wkt_machine.proofs.ByteViews.{close_mark, comma_mark}
+use Rattle.wkt_machine.proofs.Rooms.{outside_owes, room_at, no_room}
+use Rattle.wkt_machine.proofs.SourceRooms.{byte_fits, byte_after}
 use Rattle.wkt_machine.proofs.coordinates.coordinates.Goals as goal
 
 pub coordinates-init : goal.coordinates-init
 coordinates-init g c = record {
   leads = leads_none g.T.WktNum.read (bytes_view _) g.B.Builder.maker c.args.machine c.args.source c.args.builder;
   inside = c.requires.inside;
+  room = c.requires.room;
 }
 
 pub returns-then-not-is_whole-clause-refused : goal.returns-then-not-is_whole-clause-refused
@@ -30,7 +37,7 @@ returns-then-byte-eq41-clause-on g c =
     let way = leads_goes g.T.WktNum.read (bytes_view _) g.B.Builder.maker c.args.machine c.args.source c.args.builder c.args.machine c.coordinates.source c.coordinates.builder (reached c.args.machine next.Item c.coordinate-is_whole.result.2 c.coordinate-is_whole.result.3) c.coordinates.invariant.leads (OnTrue_at c.if-not-is_whole.false c.coordinate-is_whole.ensures.on) in
     subst (λ r. IfOk r (Goes g.T.WktNum.read (bytes_view _) g.B.Builder.maker c.args.machine c.args.source c.args.builder)) (sym c.on.ensures)
     (last_goes g.T.WktNum.read g.B.Builder.maker _ c.args.machine c.outside.result c.args.source c.new.result c.args.builder c.close.result (reached c.args.machine next.Item c.coordinate-is_whole.result.2 c.coordinate-is_whole.result.3) way refl
-    (sym c.byte_at-byte.ensures.value ∙ c.if-byte-eq41.true) c.new.ensures.text c.new.ensures.at c.outside.ensures.state c.outside.ensures.sound c.close.ensures)
+    (sym c.byte_at-byte.ensures.value ∙ c.if-byte-eq41.true) c.new.ensures.text c.new.ensures.at c.outside.ensures.state c.outside.ensures.sound c.close.ensures.makes)
 
 pub returns-then-byte-ne44-clause-on : goal.returns-then-byte-ne44-clause-on
 returns-then-byte-ne44-clause-on g c =
@@ -43,13 +50,13 @@ pub coordinates-smaller : goal.coordinates-smaller
 coordinates-smaller g c =
     goes_less g.T.WktNum.read g.B.Builder.maker _ c.args.machine c.coordinates.source c.coordinates.builder _
     (turn_goes g.T.WktNum.read g.B.Builder.maker _ c.args.machine c.coordinates.source c.new-source.result c.coordinates.builder c.comma-builder.result (reached c.args.machine next.Item c.coordinate-is_whole.result.2 c.coordinate-is_whole.result.3) (OnTrue_at c.if-not-is_whole.false c.coordinate-is_whole.ensures.on) refl
-    c.requires.state c.requires.part (sym c.is_single-single.ensures ∙ c.if-single.false) (sym c.byte_at-byte.ensures.value ∙ c.if-byte-ne44.false) c.new-source.ensures.text c.new-source.ensures.at c.comma-builder.ensures)
+    c.requires.state c.requires.part (sym c.is_single-single.ensures ∙ c.if-single.false) (sym c.byte_at-byte.ensures.value ∙ c.if-byte-ne44.false) c.new-source.ensures.text c.new-source.ensures.at c.comma-builder.ensures.makes)
 
 pub coordinates-preserved : goal.coordinates-preserved
 coordinates-preserved g c =
     let turn =
     turn_goes g.T.WktNum.read g.B.Builder.maker (not (g.row.FEED_ENDS == 0)) c.args.machine c.coordinates.source c.new-source.result c.coordinates.builder c.comma-builder.result (reached c.args.machine next.Item c.coordinate-is_whole.result.2 c.coordinate-is_whole.result.3) (OnTrue_at c.if-not-is_whole.false c.coordinate-is_whole.ensures.on) refl
-    c.requires.state c.requires.part (sym c.is_single-single.ensures ∙ c.if-single.false) (sym c.byte_at-byte.ensures.value ∙ c.if-byte-ne44.false) c.new-source.ensures.text c.new-source.ensures.at c.comma-builder.ensures in
+    c.requires.state c.requires.part (sym c.is_single-single.ensures ∙ c.if-single.false) (sym c.byte_at-byte.ensures.value ∙ c.if-byte-ne44.false) c.new-source.ensures.text c.new-source.ensures.at c.comma-builder.ensures.makes in
     let some = c.byte_at-byte.ensures.some in
     let comma = c.if-byte-ne44.false in
     let at = c.new-source.ensures.at in
@@ -58,4 +65,20 @@ coordinates-preserved g c =
       leads = goes_leads g.T.WktNum.read (bytes_view _) g.B.Builder.maker c.args.machine c.args.source c.args.builder _
           (leads_goes g.T.WktNum.read (bytes_view _) g.B.Builder.maker c.args.machine c.args.source c.args.builder c.args.machine c.coordinates.source c.coordinates.builder _ c.coordinates.invariant.leads turn);
       inside = subst (λ x. c.new-source.result.at ≤ length x.now) (sym c.new-source.ensures.text) (omega (arith, before, at));
+      room = byte_after g.B.Builder.maker _ Comma c.coordinate-is_whole.result.2 c.new-source.result c.coordinate-is_whole.result.3 c.comma-builder.result (ap class_of (sym c.byte_at-byte.ensures.value ∙ c.if-byte-ne44.false) ∙ comma_mark) c.new-source.ensures.text c.new-source.ensures.at c.comma-builder.ensures.leaves (OnTrue_at c.if-not-is_whole.false c.coordinate-is_whole.ensures.room);
     }
+
+pub close-requires : goal.close-requires
+close-requires g c = record { room = byte_fits g.B.Builder.maker _ Close c.coordinate-is_whole.result.2 c.coordinate-is_whole.result.3 (ap class_of (sym c.byte_at-byte.ensures.value ∙ c.if-byte-eq41.true) ∙ close_mark) (OnTrue_at c.if-not-is_whole.false c.coordinate-is_whole.ensures.room) }
+
+pub comma-builder-requires : goal.comma-builder-requires
+comma-builder-requires g c = record { room = byte_fits g.B.Builder.maker _ Comma c.coordinate-is_whole.result.2 c.coordinate-is_whole.result.3 (ap class_of (sym c.byte_at-byte.ensures.value ∙ c.if-byte-ne44.false) ∙ comma_mark) (OnTrue_at c.if-not-is_whole.false c.coordinate-is_whole.ensures.room) }
+
+pub returns-then-byte-eq41-clause-room : goal.returns-then-byte-eq41-clause-room
+returns-then-byte-eq41-clause-room g c =
+    room_at (bytes_view _) g.B.Builder.maker c.new.result c.close.result c.outside.result c.on.result c.on.ensures (ap owed c.outside.ensures.state ∙ outside_owes _ _ _)
+    (byte_after g.B.Builder.maker _ Close c.coordinate-is_whole.result.2 c.new.result c.coordinate-is_whole.result.3 c.close.result (ap class_of (sym c.byte_at-byte.ensures.value ∙ c.if-byte-eq41.true) ∙ close_mark) c.new.ensures.text c.new.ensures.at c.close.ensures.leaves (OnTrue_at c.if-not-is_whole.false c.coordinate-is_whole.ensures.room))
+
+pub returns-then-byte-ne44-clause-room : goal.returns-then-byte-ne44-clause-room
+returns-then-byte-ne44-clause-room g c =
+    room_at (bytes_view _) g.B.Builder.maker c.coordinate-is_whole.result.2 c.coordinate-is_whole.result.3 c.to-then-byte-ne44.result c.on-then-byte-ne44.result c.on-then-byte-ne44.ensures (ap (λ m. owed (state_of m)) c.to-then-byte-ne44.ensures) (OnTrue_at c.if-not-is_whole.false c.coordinate-is_whole.ensures.room)

@@ -4,6 +4,7 @@ use Rattle.std.specs.Prelude.{not, ◌==◌}
 use Rattle.wkt_events.specs.Left.{left_placed}
 use Rattle.wkt_machine.specs.BytesView.{bytes_view}
 use Rattle.wkt_machine.specs.Leads.{Leads}
+use Rattle.wkt_machine.specs.Room.{HasRoom}
 use Rattle.wkt_machine.proofs.coordinates.coordinates.Given as goal
 
 abbrev pub invariant-coordinates : goal.invariant-coordinates
@@ -11,6 +12,7 @@ invariant-coordinates g l =
     record {
       leads : Leads g.T.WktNum.read (bytes_view (not (g.row.FEED_ENDS == 0))) g.B.Builder.maker l.machine l.fn.source l.fn.builder l.machine l.source l.builder;
       inside : l.source.at ≤ length l.source.text.now;
+      room : HasRoom (bytes_view (not (g.row.FEED_ENDS == 0))) g.B.Builder.maker 0 l.source l.builder;
     }
 
 abbrev pub decreases-coordinates : goal.decreases-coordinates

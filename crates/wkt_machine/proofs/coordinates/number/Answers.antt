@@ -7,6 +7,10 @@ use Rattle.wkt_machine.specs.Machines.{state_for, next_after}
 use Rattle.wkt_machine.specs.Makers.{MakesNumber}
 use Rattle.wkt_machine.proofs.ByteViews.{numbers_after}
 use Rattle.wkt_machine.proofs.ByteSteps.{number_goes, number_stays_at}
+use Rattle.wkt_machine.specs.BytesView.{bytes_view}
+use Rattle.wkt_machine.specs.Room.{LeavesBehind}
+use Rattle.wkt_machine.proofs.Rooms.{number_room, bare_after}
+use Rattle.wkt_machine.proofs.SourceRooms.{fits_number, leaves_number}
 use Rattle.wkt_machine.proofs.coordinates.number.Goals as goal
 
 pub returns-in-Some-clause-on : goal.returns-in-Some-clause-on
@@ -19,6 +23,18 @@ returns-in-Some-clause-on g c =
 pub returns-in-None-clause-refused : goal.returns-in-None-clause-refused
 returns-in-None-clause-refused g c =
     number_stays_at g.T.WktNum.read g.B.Builder.maker _ (standing c.args.machine (state_for c.args.axis)) c.args.source c.new-in-None.result c.args.builder c.number_in-made.result.0 c.args.axis c.skip_white-at.result refl
-    c.skip_white-at.ensures.order c.skip_white-at.ensures.same (λ k. (k.0, c.skip_white-at.ensures.line k.1)) c.skip_white-at.ensures.stops
+    (record { order = c.skip_white-at.ensures.order; same = c.skip_white-at.ensures.same; white = c.skip_white-at.ensures.white }) (λ k. (k.0, c.skip_white-at.ensures.line k.1)) c.skip_white-at.ensures.stops
     (subst (λ o. IfNone o (NoNumber g.T.WktNum.read c.args.source.text.now c.skip_white-at.result)) c.in-None.is c.number_in-made.ensures.none)
     c.new-in-None.ensures.text c.new-in-None.ensures.at
+
+pub number_in-made-requires-clause-room : goal.number_in-made-requires-clause-room
+number_in-made-requires-clause-room g c = fits_number g.B.Builder.maker _ c.args.source c.args.builder c.skip_white-at.result c.skip_white-at.ensures.same (number_room (bytes_view _) g.B.Builder.maker c.args.source c.args.builder c.requires.room)
+
+pub returns-in-Some-clause-room : goal.returns-in-Some-clause-room
+returns-in-Some-clause-room g c =
+    let made = MakesNumber g.T.WktNum.read g.B.Builder.maker c.args.builder c.args.source.text.now c.skip_white-at.result c.args.axis c.number_in-made.result.0 in
+    let leaves = LeavesBehind g.B.Builder.maker c.args.builder c.args.source.text.now c.skip_white-at.result c.number_in-made.result.0 in
+    bare_after (bytes_view _) g.B.Builder.maker c.args.source c.new.result c.args.builder c.number_in-made.result.0 (number_room (bytes_view _) g.B.Builder.maker c.args.source c.args.builder c.requires.room)
+    (leaves_number g.B.Builder.maker _ g.T.WktNum.read c.args.axis c.args.source c.new.result c.args.builder c.number_in-made.result.0 c.skip_white-at.result c.skip_white-at.ensures.same
+    (subst made (sym c.new.ensures.at) (subst (λ o. IfSome o made) c.in-Some.is c.number_in-made.ensures.some)) c.new.ensures.text
+    (subst leaves (sym c.new.ensures.at) (subst (λ o. IfSome o leaves) c.in-Some.is c.number_in-made.ensures.leaves)))

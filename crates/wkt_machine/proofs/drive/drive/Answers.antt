@@ -11,7 +11,8 @@ pub lexemes-init : goal.lexemes-init
 lexemes-init g c = record {
   goes = (c.start.result, c.start.ensures.state, c.in_ok-begun.ensures.on);
   sound = c.in_ok-begun.ensures.on.sound;
-  room =
+  room = c.in_ok-begun.ensures.room;
+  depth =
       let more = goes_room g.T.WktNum.read g.S.Source.view g.B.Builder.maker _ _ _ _ c.in_ok-begun.ensures.on in
       omega (arith, more, ap (λ (s : State). s.depth) c.start.ensures.state);
 }
@@ -24,7 +25,8 @@ lexemes-preserved g c =
     record {
       goes = from_start g.T.WktNum.read g.S.Source.view g.B.Builder.maker _ _ _ _ i.goes way;
       sound = way.sound;
-      room = omega (arith, more, i.room);
+      depth = omega (arith, more, i.depth);
+      room = c.in_ok-behind.ensures.room;
     }
 
 pub returns-in_err-behind-clause-refused : goal.returns-in_err-behind-clause-refused

@@ -1,11 +1,12 @@
 -- A drive over the bytes that keeps nothing ends where the front does.
-use Rattle.std.proofs.Common.{ap, sym, ◌∙◌, subst, arith, length, false, IsUtf8}
+use Rattle.std.proofs.Common.{ap, sym, ◌∙◌, subst, arith, length, false, IsUtf8, refl}
 use Rattle.wkt_read.proofs.LawLemmas.Few.{placed-few}
 use Rattle.wkt_read.proofs.LawLemmas.FrontEnds.{front-some, front-within, front-boundary}
 use Rattle.wkt_machine.specs.BytesView.{bytes_view}
 use Rattle.wkt_machine.specs.NothingMaker.{nothing_maker}
 use Rattle.wkt_machine.proofs.ByteViews.{whole_left}
 use Rattle.wkt_machine.proofs.Fronting.{front_made, no_front_there}
+use Rattle.wkt_machine.proofs.Rooms.{free_room}
 use Rattle.wkt_machine.proofs.front.front_end.Goals as goal
 
 pub drive-requires : goal.drive-requires
@@ -13,7 +14,7 @@ drive-requires g c =
     let text = ap (λ x. x.now) c.new.ensures.text ∙ c.as_bytes.ensures.value in
     let few = placed-few c.args.text.now in
     let same = ap length (whole_left c.args.text.now c.new.result text c.new.ensures.at) in
-    omega (arith, few, same)
+    record { depth = omega (arith, few, same); room = free_room (bytes_view false) nothing_maker c.new.result _ (λ n. tt) (λ x. refl) }
 
 pub returns-in-Ok-clause-front : goal.returns-in-Ok-clause-front
 returns-in-Ok-clause-front g c =
@@ -37,4 +38,4 @@ returns-in-Err-clause-front g c =
     let text = ap (λ x. x.now) c.new.ensures.text ∙ c.as_bytes.ensures.value in
     let at = c.new.ensures.at in
     no_front_there g.T.WktNum.read (bytes_view false) nothing_maker c.args.text.now c.new.result _ c.in-Err.field-0
-    (whole_left c.args.text.now c.new.result text at) 0 (subst IsUtf8 (sym text) c.utf8.text, omega (arith, at)) c.in-Err.ensures.refused
+    (whole_left c.args.text.now c.new.result text at) c.args.text.now (text, (subst IsUtf8 (sym text) c.utf8.text, omega (arith, at))) c.in-Err.ensures.refused

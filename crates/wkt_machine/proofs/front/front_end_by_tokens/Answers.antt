@@ -1,5 +1,5 @@
 -- A drive that keeps nothing ends where the front does.
-use Rattle.std.proofs.Common.{ap, sym, ◌∙◌, subst, arith}
+use Rattle.std.proofs.Common.{ap, sym, ◌∙◌, subst, arith, refl}
 use Rattle.wkt_read.specs.Ahead as ahead
 use Rattle.wkt_read.specs.Front.{Front}
 use Rattle.wkt_read.proofs.LawLemmas.FrontEnds.{front-some, front-within, front-boundary}
@@ -7,6 +7,7 @@ use Rattle.wkt_read.proofs.LawLemmas.OnePlacing.{placed-only}
 use Rattle.wkt_machine.specs.NothingMaker.{nothing_maker}
 use Rattle.wkt_machine.specs.TokensView.{tokens_view}
 use Rattle.wkt_machine.proofs.Fronting.{front_made, no_front_there}
+use Rattle.wkt_machine.proofs.Rooms.{free_room}
 use Rattle.wkt_machine.proofs.front.front_end_by_tokens.Goals as goal
 
 pub returns-in-Ok-clause-front : goal.returns-in-Ok-clause-front
@@ -29,3 +30,6 @@ pub returns-in-Err-clause-front : goal.returns-in-Err-clause-front
 returns-in-Err-clause-front g c =
     no_front_there g.T.WktNum.read tokens_view nothing_maker c.args.text.now c.new.result _ c.in-Err.field-0
     (ap (λ t. ahead.left t.now) c.new.ensures ∙ c.new-tokens.ensures.left ∙ placed-only _ _ c.from_str.ensures.split c.from_str.ensures.ends) 0 (omega arith) c.in-Err.ensures.refused
+
+pub drive-requires-clause-room : goal.drive-requires-clause-room
+drive-requires-clause-room g c = free_room tokens_view nothing_maker c.new.result _ (λ n. tt) (λ x. refl)

@@ -1,5 +1,5 @@
 use Rattle.std.proofs.Common.{◌≡◌}
-use Rattle.wkt_explain.specs.Table.{closings}
+use Rattle.wkt_read.specs.Table.{closings}
 use Rattle.wkt_read.specs.Ahead.{Advances, rest}
 use Rattle.wkt_machine.proofs.refused.close.Given as goal
 

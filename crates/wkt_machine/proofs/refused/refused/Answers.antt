@@ -4,7 +4,7 @@ use Rattle.wkt_num.specs.Bytes.{Lexeme}
 use Rattle.std.specs.Prelude.{List}
 use Rattle.wkt_read.specs.Ahead.{rest}
 use Rattle.wkt_read.specs.declared.messages.Message.{Message}
-use Rattle.wkt_explain.specs.Table.{closings}
+use Rattle.wkt_read.specs.Table.{closings}
 use Rattle.wkt_machine.specs.Expecting.{expected_at}
 use Rattle.wkt_machine.specs.Machines.{state_of}
 use Rattle.wkt_machine.specs.Refusing.{blamed, own}

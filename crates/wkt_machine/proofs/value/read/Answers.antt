@@ -1,8 +1,9 @@
 -- What has grown where the machine is over, or where it is refused.
-use Rattle.std.proofs.Common.{[], None}
+use Rattle.std.proofs.Common.{[], None, refl}
 use Rattle.wkt_machine.specs.Growers.{tree_maker, tree_of}
 use Rattle.wkt_machine.specs.Growing.{rest}
 use Rattle.wkt_machine.proofs.Valued.{lent, taken, read_off, wants_memory, never_refused}
+use Rattle.wkt_machine.proofs.Rooms.{free_room}
 use Rattle.wkt_machine.proofs.value.read.Goals as goal
 
 pub returns-in-Ok : goal.returns-in-Ok
@@ -15,3 +16,6 @@ returns-in-Ok g c =
       refused = never_refused _ _ c.answer.result c.answer.ensures;
       memory = wants_memory num.is_value num.read g.met.T.WktNum.reads_values view _ _ c.args.source c.in-Ok.over.source begins (v, takes, grew) c.answer.result c.answer.ensures;
     }
+
+pub drive-requires-clause-room : goal.drive-requires-clause-room
+drive-requires-clause-room g c = free_room g.S.Source.view tree_maker c.args.source c.new.result (λ n. tt) (λ x. refl)

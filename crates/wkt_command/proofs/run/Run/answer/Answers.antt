@@ -1,7 +1,6 @@
 -- The verdict says which line was written.
 use Rattle.std.proofs.Common.{OnOk}
 use Rattle.wkt_command.specs.Canon.{out_bytes}
-use Rattle.wkt_command.specs.Verdicts.{room_bytes}
 use Rattle.wkt_command.proofs.Canonizing.{ok-map, canonizes-read, canonizes-refused, none-refused, none-rest}
 use Rattle.wkt_command.proofs.run.Run.answer.Goals as goal
 
@@ -16,7 +15,7 @@ pub returns-in-Refused : goal.returns-in-Refused
 returns-in-Refused g c = record {
   canon = λ is.
       let verdict = rw (c.in-Refused.is, c.in-Ok.ensures.cases.0) at c.in_ok-len.ensures in
-      ok-map c.refuse_text.result _ _ (canonizes-refused c.args.self.now.options.now c.args.text.now _ _ (none-refused c.args.self.now.options.now c.args.text.now (out_bytes g.W.Write.contents c.args.self.now.out) (out_bytes g.W.Write.contents c.args.self.now.out) (room_bytes c.verdict_at.new.room) c.in-Refused.why verdict)) (c.refuse_text.ensures.canon is);
+      ok-map c.refuse_text.result _ _ (canonizes-refused c.args.self.now.options.now c.args.text.now _ _ (none-refused c.args.self.now.options.now c.args.text.now (out_bytes g.W.Write.contents c.args.self.now.out) (out_bytes g.W.Write.contents c.args.self.now.out) c.verdict_at.new.room.items c.in-Refused.why verdict)) (c.refuse_text.ensures.canon is);
 }
 
 pub returns-in-Rest : goal.returns-in-Rest

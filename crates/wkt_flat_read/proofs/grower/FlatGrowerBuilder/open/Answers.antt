@@ -7,10 +7,10 @@ use Rattle.wkt_flat_read.specs.Trees.{Grew}
 use Rattle.wkt_flat_read.proofs.Holding.{one_event, no_opening}
 use Rattle.wkt_flat_read.proofs.grower.FlatGrowerBuilder.open.Goals as goal
 
-pub returns-in-Collection : goal.returns-in-Collection
-returns-in-Collection g c =
+pub returns-in-Collection-clause-makes : goal.returns-in-Collection-clause-makes
+returns-in-Collection-clause-makes g c =
     subst (λ p. Grew (coord_eq g.T.PartialEq.eq) c.args.self.tree.now (Event.Open p ∷ []) c.open_collection.new.self) (sym c.in-Collection.is)
     (one_event (coord_eq g.T.PartialEq.eq) _ _ c.args.self.tree.now c.open_collection.new.self (Event.Open part.Collection) c.open_collection.ensures (λ w m. m) (λ w. refl))
 
-pub returns-in_default : goal.returns-in_default
-returns-in_default g c = no_opening (coord_eq g.T.PartialEq.eq) c.args.self.tree.now c.args.part c.in_default.not-Collection
+pub returns-in_default-clause-makes : goal.returns-in_default-clause-makes
+returns-in_default-clause-makes g c = no_opening (coord_eq g.T.PartialEq.eq) c.args.self.tree.now c.args.part c.in_default.not-Collection

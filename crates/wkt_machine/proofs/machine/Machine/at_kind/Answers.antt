@@ -2,10 +2,13 @@
 use Rattle.std.proofs.Common.{refl}
 use Rattle.wkt_machine.specs.declared.machine.State.TheVariants as next
 use Rattle.wkt_machine.proofs.Stepping.{put_back, is_err, kind_none}
+use Rattle.wkt_machine.specs.Room.{RoomAt}
+use Rattle.wkt_machine.proofs.Rooms.{no_room}
 use Rattle.wkt_machine.proofs.machine.Machine.at_kind.Goals as goal
 
 pub returns-in_default : goal.returns-in_default
 returns-in_default g c = record {
   on = is_err g.T.WktNum.read g.S.Source.view g.B.Builder.maker c.args.self c.args.source c.args.builder c.refused.result _ c.refused.ensures;
   refused = put_back g.T.WktNum.read g.S.Source.view g.B.Builder.maker c.args.self c.args.source c.args.builder c.refused.result c.args.seen next.Kind c.refused.ensures c.requires.seen c.requires.state refl (kind_none c.args.self.depth c.args.seen c.in_default.not-Kind);
+  room = no_room (RoomAt g.S.Source.view g.B.Builder.maker) c.refused.result _ c.refused.ensures;
 }

@@ -3,10 +3,13 @@ use Rattle.std.proofs.Common.{refl}
 use Rattle.wkt_machine.specs.declared.machine.Seen.TheVariants as sees
 use Rattle.wkt_machine.specs.declared.machine.State.TheVariants as next
 use Rattle.wkt_machine.proofs.Stepping.{put_back, is_err, bare_none}
+use Rattle.wkt_machine.specs.Room.{RoomAt}
+use Rattle.wkt_machine.proofs.Rooms.{no_room}
 use Rattle.wkt_machine.proofs.machine.Machine.at_member.Goals as goal
 
 pub returns-in_default : goal.returns-in_default
 returns-in_default g c = record {
   on = is_err g.T.WktNum.read g.S.Source.view g.B.Builder.maker c.args.self c.args.source c.args.builder c.refused.result _ c.refused.ensures;
   refused = put_back g.T.WktNum.read g.S.Source.view g.B.Builder.maker c.args.self c.args.source c.args.builder c.refused.result sees.Number next.Opening c.refused.ensures c.requires.seen c.requires.state refl (bare_none c.args.self.part c.args.self.dim c.args.self.depth c.in_default.not-Member);
+  room = no_room (RoomAt g.S.Source.view g.B.Builder.maker) c.refused.result _ c.refused.ensures;
 }

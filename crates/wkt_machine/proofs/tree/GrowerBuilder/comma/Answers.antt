@@ -5,5 +5,5 @@ use Rattle.wkt_machine.specs.Growing.{lists_items}
 use Rattle.wkt_machine.proofs.Holding.{one_event}
 use Rattle.wkt_machine.proofs.tree.GrowerBuilder.comma.Goals as goal
 
-pub returns : goal.returns
-returns g c = one_event (lists_items c.args.part) _ _ c.args.self.tree.now c.end_item.new.self (Event.Comma c.args.part) c.end_item.ensures (λ w m. m) (λ w. refl) (λ e. e)
+pub returns-clause-makes : goal.returns-clause-makes
+returns-clause-makes g c = one_event (lists_items c.args.part) _ _ c.args.self.tree.now c.end_item.new.self (Event.Comma c.args.part) c.end_item.ensures (λ w m. m) (λ w. refl) (λ e. e)

@@ -5,5 +5,5 @@ use Rattle.wkt_machine.specs.Growing.{lists_end}
 use Rattle.wkt_machine.proofs.Holding.{one_event}
 use Rattle.wkt_machine.proofs.tree.GrowerBuilder.empty.Goals as goal
 
-pub returns : goal.returns
-returns g c = one_event (lists_end c.args.part) _ _ c.args.self.tree.now c.put_empty.new.self (Event.Empty c.args.part) c.put_empty.ensures (λ w m. m) (λ w. refl) (λ e. e)
+pub returns-clause-makes : goal.returns-clause-makes
+returns-clause-makes g c = one_event (lists_end c.args.part) _ _ c.args.self.tree.now c.put_empty.new.self (Event.Empty c.args.part) c.put_empty.ensures (λ w m. m) (λ w. refl) (λ e. e)

@@ -4,5 +4,5 @@ use Rattle.wkt_machine.specs.Events.{Event}
 use Rattle.wkt_machine.proofs.Holding.{one_event}
 use Rattle.wkt_machine.proofs.tree.GrowerBuilder.number.Goals as goal
 
-pub returns : goal.returns
-returns g c = one_event false _ _ c.args.self.tree.now c.put_number.new.self (Event.Number c.args.axis c.args.number) c.put_number.ensures (λ w m. m) (λ w. refl) (λ e. e)
+pub returns-clause-makes : goal.returns-clause-makes
+returns-clause-makes g c = one_event false _ _ c.args.self.tree.now c.put_number.new.self (Event.Number c.args.axis c.args.number) c.put_number.ensures (λ w m. m) (λ w. refl) (λ e. e)

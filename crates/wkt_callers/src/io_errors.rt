@@ -1,0 +1,220 @@
+//! The error that a sink or a source gave is the one that comes: its kind, its code and its words.
+use crate::asserts::equal;
+use crate::flat_from_reader::{CopyError, copy_polygon};
+use crate::flat_key_to_sink::write_flat_key;
+use crate::my_sinks::{Page, Piecewise};
+use std::alloc::Global;
+use std::io;
+use std::io::ErrorKind;
+use std::process::Abort;
+use wkt::geo_types::{Geometry, LineString, Point, Polygon};
+use wkt::geo_types_from_wkt::Error as FlatError;
+use wkt::to_wkt::{ByteSink, ByteSource, ReadAllError, TextSink, WriterWrapper, put_all, read_all};
+use wkt::{ToWkt, ToWktError, TryFromWkt};
+use wkt_lines::{RunError, run, stream};
+
+/// Which error a sink or a source gives.
+#[derive(Clone, Copy, Drop)]
+enum Given {
+    Kind(ErrorKind),
+    Code(i32),
+}
+
+const GIVEN: &[Given] = &[
+    Given::Kind(ErrorKind::Other),
+    Given::Kind(ErrorKind::BrokenPipe),
+    Given::Kind(ErrorKind::PermissionDenied),
+    Given::Code(5),
+    Given::Code(13),
+    Given::Code(32),
+];
+
+fn error(given: Given) -> io::Error {
+    match given {
+        Given::Kind(kind) => io::Error::from(kind),
+        Given::Code(code) => io::Error::from_raw_os_error(code),
+    }
+}
+
+/// A sink and a source of which each call fails, with one error.
+#[derive(Drop)]
+struct Failing {
+    given: Given,
+    failures: u64,
+}
+
+impl ByteSink for Failing {
+    ghost use Rattle.std.specs.Prelude.{None};
+    ghost use Rattle.wkt_bytes.specs.Sinks.{owned};
+
+    ghost sink = { owned (λ _. None) (λ s. s.failures) };
+
+    fn put(&mut self, _buf: &[u8]) -> io::Result<usize> {
+        self.failures = self.failures.wrapping_add(1);
+        Err(error(self.given))
+    }
+}
+
+impl ByteSource for Failing {
+    ghost use Rattle.std.specs.Prelude.{None};
+
+    ghost left = { λ _. None };
+
+    ghost failures = { λ s. s.failures };
+
+    fn take(&mut self, _buf: &mut [u8]) -> io::Result<usize> {
+        self.failures = self.failures.wrapping_add(1);
+        Err(error(self.given))
+    }
+}
+
+/// The error of a writer of a `Wkt` or of a flat value, if it is that of the sink.
+fn of_writing(answer: Result<(), ToWktError>) -> Option<io::Error> {
+    match answer {
+        Err(ToWktError::Io(e)) => Some(e),
+        _ => None,
+    }
+}
+
+fn of_run(answer: Result<(), RunError>) -> Option<io::Error> {
+    match answer {
+        Err(RunError::Read(e) | RunError::Write(e)) => Some(e),
+        _ => None,
+    }
+}
+
+fn of_copy(answer: Result<(), CopyError>) -> Option<io::Error> {
+    match answer {
+        Err(CopyError::Read(FlatError::Reader(e))) => Some(e),
+        Err(CopyError::Write(e)) => of_writing(Err(e)),
+        _ => None,
+    }
+}
+
+fn of_reading<G: Drop>(answer: Result<G, FlatError>) -> Option<io::Error> {
+    match answer {
+        Err(FlatError::Reader(e)) => Some(e),
+        _ => None,
+    }
+}
+
+/// A source of these bytes.
+fn piecewise(rest: &[u8]) -> Piecewise<'_> {
+    Piecewise { rest, step: 7 }
+}
+
+/// The error that a wrapper returns which had text for the sink.
+fn of_wrapper(failing: &mut Failing) -> Option<io::Error> {
+    let mut wrapper = WriterWrapper::new(failing);
+    let _ = wrapper.write_str("POINT");
+    let _ = wrapper.finish();
+    wrapper.take_fault()
+}
+
+/// What comes of the calls of the library that write.
+fn of_writer(alloc: Global, call: usize, failing: &mut Failing) -> Option<io::Error> {
+    let point = Point::new(1i32, 2);
+    match call {
+        0 => of_writing(point.write_wkt(alloc, failing)),
+        1 => of_writing(Geometry::from(point).write_wkt(alloc, failing)),
+        _ => of_writing(write_flat_key(alloc, &Geometry::from(point), failing)),
+    }
+}
+
+/// The error of a copy whose sink fails.
+fn of_copy_out(alloc: Global, failing: &mut Failing) -> Option<io::Error> {
+    let mut polygon = piecewise(b"POLYGON((0 0,4 0,2 4))");
+    of_copy(copy_polygon::<i32, Piecewise<'_>, Failing>(alloc, &mut polygon, failing))
+}
+
+/// What comes of each of eight calls that take a sink, or text that is gathered for one.
+fn of_sink(alloc: Global, call: usize, failing: &mut Failing) -> Option<io::Error> {
+    let mut line = piecewise(b"POINT(1 2)\n");
+    match call {
+        0..=2 => of_writer(alloc, call, failing),
+        3 => put_all(failing, b"POINT").err(),
+        4 => of_run(run(alloc, &mut line, failing)),
+        5 => of_run(stream(alloc, &mut line, failing)),
+        6 => of_copy_out(alloc, failing),
+        _ => of_wrapper(failing),
+    }
+}
+
+fn of_read_all(answer: Result<Vec<u8>, ReadAllError>) -> Option<io::Error> {
+    match answer {
+        Err(ReadAllError::Read(e)) => Some(e),
+        _ => None,
+    }
+}
+
+/// What comes of the readers of flat values.
+fn of_reader(alloc: Global, call: usize, failing: &mut Failing) -> Option<io::Error> {
+    match call {
+        1 => of_reading(Point::<i32>::try_from_wkt_reader(alloc, failing)),
+        2 => of_reading(LineString::<i32>::try_from_wkt_reader(alloc, failing)),
+        3 => of_reading(Polygon::<i32>::try_from_wkt_reader(alloc, failing)),
+        _ => of_reading(Geometry::<i32>::try_from_wkt_reader(alloc, failing)),
+    }
+}
+
+/// What comes of each of eight calls that take a source.
+fn of_source(alloc: Global, call: usize, failing: &mut Failing) -> Option<io::Error> {
+    let mut page = Page {
+        text: Vec::new(alloc),
+        room: 100,
+        failures: 0,
+    };
+    match call {
+        0 => of_read_all(read_all(alloc, failing)),
+        1..=4 => of_reader(alloc, call, failing),
+        5 => of_run(run(alloc, failing, &mut page)),
+        6 => of_run(stream(alloc, failing, &mut page)),
+        _ => of_copy(copy_polygon::<i32, Failing, Page>(alloc, failing, &mut page)),
+    }
+}
+
+/// The words of an error.
+fn words(rt: &impl Abort, alloc: Global, error: &io::Error) -> String {
+    error.to_string(alloc).expect(rt, "memory")
+}
+
+/// The error that came has the kind, the code and the words of the one that was given.
+fn is_unchanged(rt: &impl Abort, alloc: Global, came: &io::Error, want: &io::Error) {
+    equal(rt, came.kind(), want.kind());
+    equal(rt, came.raw_os_error(), want.raw_os_error());
+    equal(rt, words(rt, alloc, came), words(rt, alloc, want));
+}
+
+/// The sink's error comes of the call, which makes one call on it.
+fn comes_of_sink(rt: &impl Abort, alloc: Global, call: usize, given: Given) {
+    let mut sink = Failing { given, failures: 0 };
+    let came = of_sink(alloc, call, &mut sink).expect(rt, "no error of the sink");
+    is_unchanged(rt, alloc, &came, &error(given));
+    equal(rt, sink.failures, 1);
+}
+
+#[test]
+fn comes_unchanged_from_sinks(rt: HostRuntime) {
+    for &given in GIVEN {
+        for call in 0..8 {
+            comes_of_sink(&rt, rt.alloc(), call, given);
+        }
+    }
+}
+
+/// The source's error comes of the call, which makes one call on it.
+fn comes_of_source(rt: &impl Abort, alloc: Global, call: usize, given: Given) {
+    let mut source = Failing { given, failures: 0 };
+    let came = of_source(alloc, call, &mut source).expect(rt, "no error of the source");
+    is_unchanged(rt, alloc, &came, &error(given));
+    equal(rt, source.failures, 1);
+}
+
+#[test]
+fn comes_unchanged_from_sources(rt: HostRuntime) {
+    for &given in GIVEN {
+        for call in 0..8 {
+            comes_of_source(&rt, rt.alloc(), call, given);
+        }
+    }
+}

@@ -1,0 +1,26 @@
+-- The machine goes over the text's bytes with the pen.
+use Rattle.std.proofs.Common.{ap, arith, length, refl}
+use Rattle.wkt_machine.proofs.SourceRooms.{start_room}
+use Rattle.wkt_canonical.specs.PenMaker.{pen_maker}
+use Rattle.wkt_canonical.proofs.Backs.{depth_fits, writes_events, writes_nothing}
+use Rattle.wkt_canonical.proofs.canonical.write_next.Goals as goal
+
+pub drive-requires-clause-depth : goal.drive-requires-clause-depth
+drive-requires-clause-depth g c = depth_fits _ c.args.text.now c.new.result _ (ap (λ x. x.now) c.new.ensures.text) c.new.ensures.at (omega arith)
+
+pub drive-requires-clause-room : goal.drive-requires-clause-room
+drive-requires-clause-room g c =
+    let text = ap (λ x. length x.now) c.new.ensures.text in
+    let at = c.new.ensures.at in
+    let room = c.requires.room in
+    let same = ap (λ x. length x.now) c.take-out.ensures.value in
+    start_room (pen_maker g.T.WktNum.read g.T.WktNum.num) _ c.new.result _ (omega (arith, text, at, room, same))
+
+pub returns-else-out-whole-clause-writes : goal.returns-else-out-whole-clause-writes
+returns-else-out-whole-clause-writes g c =
+    let long = c.if-out-whole.false in
+    let same = c.take-out.ensures.value in
+    writes_events g.T.WktNum.read g.T.WktNum.num _ c.args.text.now c.new.result _ c.in-Ok.over (ap (λ x. x.now) c.new.ensures.text) c.new.ensures.at _ _ (ap (λ out. record { out = out; len = c.args.pen.now.len; polygon = c.args.pen.now.polygon; of = c.args.pen.now.of }) same) c.in-Ok.ensures.on c.in-Ok.ensures.over refl (omega (arith, long, ap (λ x. length x.now) same))
+
+pub returns-in-Err-clause-writes : goal.returns-in-Err-clause-writes
+returns-in-Err-clause-writes g c = writes_nothing g.T.WktNum.read g.T.WktNum.num _ c.args.text.now c.new.result _ c.in-Err.field-0 (ap (λ x. x.now) c.new.ensures.text) c.new.ensures.at c.in-Err.ensures.refused

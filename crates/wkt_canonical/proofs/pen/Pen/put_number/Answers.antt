@@ -1,0 +1,13 @@
+-- A number that keeps its text: of a type that reads only texts it is one.
+use Rattle.std.proofs.Common.{rules}
+use Rattle.wkt_num.specs.Number.{ReadsTexts}
+use Rattle.wkt_canonical.proofs.Utf8Texts.{num_utf8}
+use Rattle.wkt_canonical.proofs.PenNumbers.{kept-numbered}
+use Rattle.wkt_canonical.proofs.pen.Pen.put_number.Goals as goal
+
+pub returns-in-Some-clause-some : goal.returns-in-Some-clause-some
+returns-in-Some-clause-some g c =
+    let read = g.T.WktNum.read in
+    let num = g.T.WktNum.num in
+    let law : ReadsTexts read = search rules in
+    kept-numbered read num (num_utf8 read num g.T.WktNum.is_value g.met.T.WktNum.reads_values g.met.T.WktNum.reads_back law) c.args.text.now c.args.at c.in-Some.end c.in-Some.kept c.args.self c.put_front.result c.requires.at c.in-Some.ensures.keeps c.put_front.ensures

@@ -1,0 +1,10 @@
+pub mod Written
+pub mod Laws
+pub mod LongTexts
+pub mod Pens
+pub mod PenMaker
+pub mod Spaces
+pub mod Canonical
+pub mod Through
+pub mod Rooms
+pub mod Answers

@@ -1,0 +1,97 @@
+-- What a pen makes of events.
+use Rattle.std.specs.Prelude.{◌≡◌, ℕ, ◌+◌, ◌-◌, ◌*◌, ◌<◌, ◌≤◌, List, [], ◌∷◌, ◌++◌, length, get_or, slice_range, Option, IsTrue, IsUtf8}
+use Rattle.std.specs.List.{AllByRecursion}
+use Rattle.std.proofs.Common.{refl, sym, ap, ◌∙◌, arith, inl, inr}
+use Rattle.std.proofs.lemmas.Bool.{cases_lt}
+use Rattle.wkt_read.specs.Lexemes.{starts_number, without_plus}
+use Rattle.wkt_events.specs.Left.{IsRunEnd}
+use Rattle.wkt_events.specs.Numbers.{IsNumberAt}
+use Rattle.wkt_machine.specs.Events.{Event}
+use Rattle.wkt_machine.specs.Makers.{Maker}
+use Rattle.wkt_machine.specs.Room.{number_cost}
+use Rattle.wkt_canonical.specs.LongTexts.{HasLongText}
+use Rattle.wkt_canonical.specs.Pens.{Becomes, Wrote, written_of}
+use Rattle.wkt_canonical.specs.Written.{Written, write, write_all}
+use Rattle.wkt_canonical.specs.declared.pen.Pen.{Pen}
+
+-- The fact holds of the number of an event, if it has one.
+abbrev pub OnNumber : {N : Type 0} → (N → Type 0) → Event N → Type 0
+OnNumber P (Event.Number a x) = P x
+OnNumber P e = Unit {0}
+
+-- The fact holds of each number of the events.
+abbrev pub EachNumber : {N : Type 0} → (N → Type 0) → List (Event N) → Type 0
+EachNumber P es = AllByRecursion (OnNumber P) es
+
+each_append : {N : Type 0} (P : N → Type 0) (es fs : List (Event N)) → EachNumber P es → EachNumber P fs → EachNumber P (es ++ fs)
+each_append P [] fs h k = k
+each_append P (e ∷ es) fs (h, hs) k = (h, each_append P es fs hs k)
+
+pub write_append : {N : Type 0} (num : N → List ℕ) (es fs : List (Event N)) (w : Written) → write_all num (es ++ fs) w ≡ write_all num fs (write_all num es w)
+write_append num [] fs w = refl
+write_append num (e ∷ es) fs w = write_append num es fs (write num e w)
+
+module _ {N : Type 0} (read : List ℕ → Option N) (num : N → List ℕ) where
+  -- Unless the pen is stuck, it has written the events, and the text of each number is UTF-8. Where it is stuck a number's text is long.
+  pub record Made (s : Pen N) (es : List (Event N)) (t : Pen N) : Type 0 where
+    pub shorter : length t.out.now ≤ length s.out.now
+    pub wrote : length t.out.now ≡ length s.out.now → Becomes s (write_all num es (written_of s)) t
+    pub texts : length t.out.now ≡ length s.out.now → EachNumber (λ x. IsUtf8 (num x)) es
+    pub stuck : length t.out.now < length s.out.now → HasLongText read num
+
+  pub makes_none : (s : Pen N) → Made s [] s
+  makes_none s = record {
+    shorter = omega arith;
+    wrote = λ _. record { origin = refl; whole = refl; written = refl };
+    texts = λ _. tt;
+    stuck = λ less. absurd (omega (arith, less));
+  }
+
+  becomes_more : (s t u : Pen N) (es fs : List (Event N)) → Becomes s (write_all num es (written_of s)) t → Becomes t (write_all num fs (written_of t)) u → Becomes s (write_all num (es ++ fs) (written_of s)) u
+  becomes_more s t u es fs h k = record {
+    origin = k.origin ∙ h.origin;
+    whole = k.whole ∙ h.whole;
+    written = k.written ∙ ap (write_all num fs) h.written ∙ sym (write_append num es fs (written_of s));
+  }
+
+  pub makes_more : (s t u : Pen N) (es fs : List (Event N)) → Made s es t → Made t fs u → Made s (es ++ fs) u
+  makes_more s t u es fs h k =
+      let first = h.shorter in let then = k.shorter in
+      record {
+        shorter = omega (arith, first, then);
+        wrote = λ e. becomes_more s t u es fs (h.wrote (omega (arith, first, then, e))) (k.wrote (omega (arith, first, then, e)));
+        texts = λ e. each_append (λ x. IsUtf8 (num x)) es fs (h.texts (omega (arith, first, then, e))) (k.texts (omega (arith, first, then, e)));
+        stuck = λ less. elim (cases_lt (length t.out.now) (length s.out.now)) [ inl one ↦ h.stuck one | inr none ↦ k.stuck (omega (arith, first, then, less, none)) ];
+      }
+
+  -- There is room for so much and two windows of 32 bytes behind it.
+  abbrev pub Fits : Pen N → ℕ → Type 0
+  Fits p n = p.len + n + 64 ≤ length p.out.now
+
+  pub fits_less : (s : Pen N) (m n : ℕ) → m ≤ n → Fits s n → Fits s m
+  fits_less s m n order h = omega (arith, order, h)
+
+  -- What is made is text. A number takes its text and a space before it.
+  abbrev pub pen_maker : Maker N (Pen N)
+  pen_maker = record {
+    makes = Made;
+    fits = Fits;
+    takes = λ x. length (num x) + 1;
+    none = makes_none;
+    more = makes_more;
+    less = fits_less;
+  }
+
+-- A space may have been written, and there is room for the number that stands in the bytes.
+pub record HasSpace {N : Type 0} (p : Pen N) (text : List ℕ) (at : ℕ) : Type 0 where
+  pub some : p.len + 63 ≤ length p.out.now
+  pub run : (end : ℕ) → IsRunEnd text at end → at < end → IsTrue (starts_number (get_or text at 0)) → p.len + number_cost (without_plus (slice_range text at end)) + 63 ≤ length p.out.now
+
+-- A number stands there up to `end`, and its text was written and is UTF-8, unless the pen is stuck: then the text is long. Room for what follows is left.
+pub record Numbered {N : Type 0} (read : List ℕ → Option N) (num : N → List ℕ) (text : List ℕ) (at : ℕ) (before after : Pen N) (end : ℕ) : Type 0 where
+  pub number : N
+  pub there : IsNumberAt read text at end number
+  pub wrote : Wrote before (num number) after
+  pub utf8 : length after.out.now ≡ length before.out.now → IsUtf8 (num number)
+  pub stuck : length after.out.now < length before.out.now → number_cost (without_plus (slice_range text at end)) ≤ length (num number)
+  pub room : (m : ℕ) → m ≤ 2 * (length text - end) + 1 → before.len + m + number_cost (without_plus (slice_range text at end)) + 63 ≤ length before.out.now → after.len + m + 64 ≤ length after.out.now

@@ -1,0 +1,171 @@
+//! The canonical text of what a text begins with.
+ghost use Rattle.std.specs.Prelude.{◌≡◌, ◌+◌, ◌*◌, ◌≤◌, length, take};
+ghost use Rattle.wkt_canonical.specs.Canonical.{WritesCanonical, WritesFront, WritesInto, LeavesRoom};
+ghost use Rattle.wkt_canonical.specs.Through.{IfEnds, WritesNext};
+
+use crate::pen::Pen;
+use std::marker::PhantomData;
+use wkt_machine::drive::drive;
+use wkt_machine::{At, Bytes};
+use wkt_num::WktNum;
+
+/// A number's text is at least twice as long as what it was read from, and there was no room for it: more may do. Decimals
+/// and whole numbers have no such texts.
+#[derive(Debug, Clone, Copy)]
+pub struct NoRoom;
+
+/// Where a geometry ends in its text, and how long its canonical text is, in bytes.
+#[derive(Debug, Clone, Copy)]
+pub struct TextWritten {
+    pub end: usize,
+    pub len: usize,
+}
+
+/// Writes the canonical text of the geometry at the front of the text to the front of the buffer; `None` where the text
+/// has none there. It takes no memory, and no stack for nesting. What the buffer holds behind the canonical text, or where
+/// nothing was written, means nothing.
+///
+/// ```text
+/// canonical_into::<Decimal<6>>("point (1.50 2) and more", &mut buffer) // `POINT(1.5 2)`: ends at 14, and has 12 bytes
+/// ```
+///
+/// # Errors
+/// [`NoRoom`]: the buffer is shorter than twice the text and 65 bytes more; or a number's text is at least twice as long
+/// as what it was read from.
+pub fn canonical_into<T: WktNum>(
+    text: &str,
+    buffer: &mut [u8],
+) -> Result<Option<TextWritten>, NoRoom>
+    ensures writes { WritesInto T.read T.num text.now buffer.old buffer.new result }
+    ensures whole { length buffer.new ≡ length buffer.old }
+{
+    let room = buffer.len();
+    if room < 65 || (room - 65) / 2 < text.len() {
+        return Err(NoRoom);
+    }
+    match write_alone::<T, false>(text.as_bytes(), buffer) {
+        Ok(Some((end, len))) => Ok(Some(TextWritten { end, len })),
+        Ok(None) => Ok(None),
+        Err(NoRoom) => Err(NoRoom),
+    }
+}
+
+/// Writes the canonical text of the geometry that the text begins with behind the first `len` bytes, and answers where it
+/// ends in the text and how much is written then; `None` where the text begins with none. There is room for twice the
+/// text, and 65 bytes more.
+///
+/// # Errors
+/// [`NoRoom`]; what stands behind the first `len` bytes means nothing then.
+pub fn write_canonical<T: WktNum>(
+    text: &str,
+    out: &mut [u8],
+    len: usize,
+) -> Result<Option<(usize, usize)>, NoRoom>
+    requires { len + 2 * length text.now + 65 ≤ length out.old }
+    ensures writes { WritesCanonical T.read T.num text.now len out.old out.new result }
+    ensures kept { take len out.new ≡ take len out.old }
+    ensures room { LeavesRoom out.old result }
+    ensures whole { length out.new ≡ length out.old }
+{
+    write_front::<T, false>(text.as_bytes(), out, len)
+}
+
+/// The same of bytes, which where `FEED_ENDS` end at the first LF. Where they are no UTF-8 the answer may be `None`.
+#[inline(always)]
+pub(crate) fn write_front<T: WktNum, const FEED_ENDS: bool>(
+    text: &[u8],
+    out: &mut [u8],
+    len: usize,
+) -> Result<Option<(usize, usize)>, NoRoom>
+    requires { len + 2 * length text.now + 65 ≤ length out.old }
+    ensures writes { WritesFront T.read T.num FEED_ENDS text.now len out.old out.new result }
+    ensures kept { take len out.new ≡ take len out.old }
+    ensures room { LeavesRoom out.old result }
+    ensures whole { length out.new ≡ length out.old }
+{
+    match write_alone::<T, FEED_ENDS>(text, &mut out[len..]) {
+        Ok(Some((end, n))) => Ok(Some((end, len + n))),
+        Ok(None) => Ok(None),
+        Err(NoRoom) => Err(NoRoom),
+    }
+}
+
+/// The same from the first byte on.
+#[inline(always)]
+fn write_alone<T: WktNum, const FEED_ENDS: bool>(
+    text: &[u8],
+    out: &mut [u8],
+) -> Result<Option<(usize, usize)>, NoRoom>
+    requires { 2 * length text.now + 65 ≤ length out.old }
+    ensures writes { WritesFront T.read T.num FEED_ENDS text.now 0 out.old out.new result }
+    ensures room { LeavesRoom out.old result }
+    ensures whole { length out.new ≡ length out.old }
+{
+    let mut pen: Pen<'_, T> = Pen {
+        out: &mut *out,
+        len: 0,
+        polygon: 0,
+        of: PhantomData,
+    };
+    match write_next::<T, FEED_ENDS>(text, &mut pen) {
+        Next::Ends(end) => Ok(Some((end, pen.len))),
+        Next::Nothing => Ok(None),
+        Next::NoRoom => Err(NoRoom),
+    }
+}
+
+/// What came of the geometry that the text begins with.
+pub(crate) enum Next {
+    /// It was written, and ends there.
+    Ends(usize),
+    /// There is none.
+    Nothing,
+    /// A number had no room for its text.
+    NoRoom,
+}
+
+/// Writes the geometry that the text begins with. Where it isn't written, what the pen holds is lost.
+///
+/// The machine holds the pen by value, and it is put back here, so that whoever lends it knows its bytes afterwards.
+#[inline(always)]
+pub(crate) fn write_next<T: WktNum, const FEED_ENDS: bool>(
+    text: &[u8],
+    pen: &mut Pen<'_, T>,
+) -> Next
+    requires room { pen.old.len + 2 * length text.now + 65 ≤ length pen.old.out.now }
+    ensures same_reference { IfEnds result (λ r. pen.new.out.ghost_name ≡ pen.old.out.ghost_name) }
+    ensures room { IfEnds result (λ r. pen.new.len + 64 ≤ length pen.new.out.now) }
+    ensures writes { WritesNext T.read T.num FEED_ENDS text.now pen.old pen.new result }
+{
+    let whole = pen.out.len();
+    let out = std::mem::take(&mut pen.out);
+    let made = Pen {
+        out,
+        len: pen.len,
+        polygon: pen.polygon,
+        of: PhantomData,
+    };
+    match drive::<T, Bytes<'_, FEED_ENDS>, Pen<'_, T>>(Bytes::new(text, 0), made) {
+        Ok(over) => {
+            let At {
+                source,
+                machine: _,
+                builder,
+            } = over;
+            let Pen {
+                out,
+                len,
+                polygon,
+                of: _,
+            } = builder;
+            if out.len() < whole {
+                return Next::NoRoom;
+            }
+            pen.out = out;
+            pen.len = len;
+            pen.polygon = polygon;
+            Next::Ends(source.at)
+        }
+        Err(_) => Next::Nothing,
+    }
+}

@@ -1,0 +1,20 @@
+//! Canonical text, with no value between: what the machine tells is written as it comes.
+//!
+//! Below stands `wkt_machine`; above, `wkt_lines` and `wkt`.
+#![tactic(auto)]
+
+mod canonical;
+pub mod laws;
+mod lines;
+mod numbers;
+mod pen;
+mod room;
+mod space;
+
+pub use canonical::{NoRoom, TextWritten, canonical_into, write_canonical};
+pub use lines::{Answer, answer_line};
+pub use pen::Pen;
+pub use room::{make_room, widen, write_growing};
+
+#[cfg(test)]
+mod tests;

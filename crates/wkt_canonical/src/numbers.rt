@@ -1,0 +1,163 @@
+//! Numbers, as their texts.
+ghost use Rattle.std.specs.Bool.{OnTrue};
+ghost use Rattle.std.specs.Prelude.{◌≡◌, ◌+◌, ◌-◌, ◌*◌, ◌<◌, ◌≤◌, length, slice_range, IfSome, IfNone};
+ghost use Rattle.wkt_read.specs.Lexemes.{without_plus};
+ghost use Rattle.wkt_events.specs.Numbers.{NoNumber};
+ghost use Rattle.wkt_machine.specs.Room.{shortest};
+ghost use Rattle.wkt_canonical.specs.Pens.{HasBytes, WritesNumber};
+ghost use Rattle.wkt_canonical.specs.PenMaker.{Numbered, HasSpace};
+
+use crate::pen::Pen;
+use crate::space::Space;
+use wkt_events::number_there;
+use wkt_machine::padded;
+use wkt_num::WktNum;
+
+/// How many bytes a window has.
+const WINDOW: usize = 32;
+
+/// From where on the shortest run stands that is the same number's: past a plus, unless nothing or another stands behind it.
+#[inline(always)]
+fn past_plus(text: &[u8], at: usize, end: usize) -> usize
+    requires some { at < end }
+    requires inside { end ≤ length text.now }
+    ensures order { at ≤ result }
+    ensures some { result < end }
+    ensures shortest { slice_range text.now result end ≡ shortest (without_plus (slice_range text.now at end)) }
+{
+    if text[at] == b'+' && at + 1 < end && text[at + 1] != b'+' {
+        return at + 1;
+    }
+    at
+}
+
+impl<'a, T: WktNum> Pen<'a, T> {
+    /// The number's text.
+    pub(crate) fn put_value(self, number: T) -> Self
+        requires { HasBytes self (length (T.num number)) }
+        ensures { WritesNumber T.num self.entry number result }
+    {
+        let Pen {
+            out,
+            len,
+            polygon,
+            of,
+        } = self;
+        let mut space = Space {
+            out,
+            len,
+            failures: 0,
+        };
+        // There is room for it.
+        let _ = number.write_number(&mut space);
+        Pen {
+            out: space.out,
+            len: space.len,
+            polygon,
+            of,
+        }
+    }
+
+    /// The number that stands there, in any form.
+    #[inline(never)]
+    fn other_number(self, text: &[u8], at: usize) -> (Self, Option<usize>)
+        requires at { at ≤ length text.now }
+        requires room { HasSpace self text.now at }
+        ensures some { IfSome result.1 (Numbered T.read T.num text.now at self.entry result.0) }
+        ensures none { IfNone result.1 (NoNumber T.read text.now at) }
+    {
+        let Some((number, end)) = number_there::<T>(text, at) else {
+            return (self, None);
+        };
+        let run = past_plus(text, at, end);
+        let Pen {
+            out,
+            len,
+            polygon,
+            of,
+        } = self;
+        let before = len;
+        let mut space = Space {
+            out,
+            len,
+            failures: 0,
+        };
+        match number.write_number(&mut space) {
+            Ok(()) => {
+                let (out, len) = (space.out, space.len);
+                // Each byte of the run was given room for two. A longer text has to leave room for what follows.
+                if len - before < 2 * (end - run) || leaves_room(out, len, text, end) {
+                    let pen = Pen {
+                        out,
+                        len,
+                        polygon,
+                        of,
+                    };
+                    return (pen, Some(end));
+                }
+                (Pen::stuck(out), Some(end))
+            }
+            Err(_) => (Pen::stuck(space.out), Some(end)),
+        }
+    }
+
+    /// The number that stands there, as its text.
+    #[inline(always)]
+    pub(crate) fn put_number(self, text: &[u8], at: usize) -> (Self, Option<usize>)
+        requires at { at ≤ length text.now }
+        requires room { HasSpace self text.now at }
+        ensures some { IfSome result.1 (Numbered T.read T.num text.now at self.entry result.0) }
+        ensures none { IfNone result.1 (NoNumber T.read text.now at) }
+    {
+        // Of these types it isn't known that a text that is kept is UTF-8.
+        if !T::reads_texts() {
+            return self.other_number(text, at);
+        }
+        let rest = &text[at..];
+        if rest.len() >= WINDOW {
+            if let Some((end, kept)) = T::kept_in_window(rest) {
+                return (self.put_front(rest, kept), Some(at + end));
+            }
+        }
+        self.number_far(text, at)
+    }
+
+    /// What it answers comes through memory, whose place is cleared here, away from the way before it.
+    #[inline(always)]
+    fn number_far(self, text: &[u8], at: usize) -> (Self, Option<usize>)
+        requires at { at ≤ length text.now }
+        requires room { HasSpace self text.now at }
+        ensures some { IfSome result.1 (Numbered T.read T.num text.now at self.entry result.0) }
+        ensures none { IfNone result.1 (NoNumber T.read text.now at) }
+    {
+        self.number_apart(text, at)
+    }
+
+    /// The same for a number that no window shows whole, or that isn't written as it stands.
+    #[cold]
+    #[inline(never)]
+    fn number_apart(self, text: &[u8], at: usize) -> (Self, Option<usize>)
+        requires at { at ≤ length text.now }
+        requires room { HasSpace self text.now at }
+        ensures some { IfSome result.1 (Numbered T.read T.num text.now at self.entry result.0) }
+        ensures none { IfNone result.1 (NoNumber T.read text.now at) }
+    {
+        let rest = &text[at..];
+        if T::reads_texts() && rest.len() < WINDOW {
+            let window = padded(rest);
+            if let Some((end, kept)) = T::kept_in_window(&window) {
+                return (self.put_front(&window, kept), Some(at + end));
+            }
+        }
+        self.other_number(text, at)
+    }
+}
+
+/// Whether there is room behind the first `len` bytes for what the text from `end` on gives.
+#[inline(always)]
+fn leaves_room(out: &[u8], len: usize, text: &[u8], end: usize) -> bool
+    requires { end ≤ length text.now }
+    ensures { OnTrue result (len + (2 * (length text.now - end) + 66) ≤ length out.now) }
+{
+    len <= out.len() && (out.len() - len) / 2 >= text.len() - end + 33
+}

@@ -1,0 +1,276 @@
+//! The pen: what the machine tells is written as it comes.
+ghost use Rattle.std.specs.Prelude.{◌≡◌, ◌+◌, ◌≤◌, ◌∷◌, [], length, take, true};
+ghost use Rattle.wkt_access.specs.Texts.{suffix};
+ghost use Rattle.wkt_canonical.specs.Pens.{HasBytes, Extends, Becomes, IsStuck, written_of};
+ghost use Rattle.wkt_canonical.specs.Written.{kind_text, empty_text, separator, is_polygon, is_hollow, opened, closed};
+
+use std::marker::PhantomData;
+use std::simd::prelude::*;
+use wkt_access::Dimension;
+use wkt_machine::{Axis, Builder, Part};
+use wkt_num::WktNum;
+
+/// Bytes with room, of which the first `len` are written. A polygon may be taken back.
+///
+/// A pen that had no room for the text of a number is stuck: it has a byte less, writes on from the first, and its bytes
+/// count for nothing.
+#[derive(Drop)]
+pub struct Pen<'a, T> {
+    pub(crate) out: &'a mut [u8],
+    pub(crate) len: usize,
+    // Where the parenthesis of the last polygon stands.
+    pub(crate) polygon: usize,
+    pub(crate) of: PhantomData<T>,
+}
+
+impl<'a, T> Pen<'a, T> {
+    /// A pen that is stuck.
+    pub(crate) fn stuck(out: &'a mut [u8]) -> Pen<'a, T>
+        requires { 1 ≤ length out.old }
+        ensures { IsStuck (length out.old) result }
+    {
+        let n = out.len() - 1;
+        Pen {
+            out: &mut out[..n],
+            len: 0,
+            polygon: 0,
+            of: PhantomData,
+        }
+    }
+
+    #[inline(always)]
+    pub(crate) fn put(self, byte: u8) -> Self
+        requires { HasBytes self 1 }
+        ensures { Extends self.entry (byte ∷ []) result }
+    {
+        let Pen {
+            out,
+            len,
+            polygon,
+            of,
+        } = self;
+        out[len] = byte;
+        Pen {
+            out,
+            len: len + 1,
+            polygon,
+            of,
+        }
+    }
+
+    /// Writes the first `n` bytes of a window.
+    #[inline(always)]
+    pub(crate) fn put_front(self, window: &[u8], n: usize) -> Self
+        requires window { 32 ≤ length window.now }
+        requires n { n ≤ 32 }
+        requires room { HasBytes self 32 }
+        ensures { Extends self.entry (take n window.now) result }
+    {
+        let Pen {
+            out,
+            len,
+            polygon,
+            of,
+        } = self;
+        u8x32::from_slice(window).copy_to_slice(&mut out[len..]);
+        Pen {
+            out,
+            len: len + n,
+            polygon,
+            of,
+        }
+    }
+
+    #[inline(always)]
+    fn put_all(self, text: &[u8]) -> Self
+        requires { HasBytes self (length text.now) }
+        ensures { Extends self.entry text.now result }
+    {
+        let Pen {
+            out,
+            len,
+            polygon,
+            of,
+        } = self;
+        let end = len + text.len();
+        out[len..end].copy_from_slice(text);
+        Pen {
+            out,
+            len: end,
+            polygon,
+            of,
+        }
+    }
+
+    /// The word of a whole geometry.
+    #[inline(always)]
+    fn put_kind(self, whole: Part) -> Self
+        requires { HasBytes self 32 }
+        ensures { Extends self.entry (kind_text whole) result }
+    {
+        match whole {
+            Part::Point => self.put_front(b"POINT                           ", 5),
+            Part::LineString => self.put_front(b"LINESTRING                      ", 10),
+            Part::Polygon => self.put_front(b"POLYGON                         ", 7),
+            Part::MultiPoint => self.put_front(b"MULTIPOINT                      ", 10),
+            Part::MultiLineString => self.put_front(b"MULTILINESTRING                 ", 15),
+            Part::MultiPolygon => self.put_front(b"MULTIPOLYGON                    ", 12),
+            Part::Collection => self.put_front(b"GEOMETRYCOLLECTION              ", 18),
+            _ => self,
+        }
+    }
+
+    /// What follows the word for a dimension.
+    #[inline(always)]
+    fn put_suffix(self, dimension: Dimension) -> Self
+        requires { HasBytes self 3 }
+        ensures { Extends self.entry (suffix dimension) result }
+    {
+        match dimension {
+            Dimension::XY => self,
+            Dimension::XYZ => self.put_all(b" Z"),
+            Dimension::XYM => self.put_all(b" M"),
+            Dimension::XYZM => self.put_all(b" ZM"),
+        }
+    }
+
+    /// A part that is EMPTY.
+    #[inline(always)]
+    fn put_empty(self, part: Part) -> Self
+        requires { HasBytes self 6 }
+        ensures { Extends self.entry (empty_text part) result }
+    {
+        match part {
+            Part::Member | Part::Bare | Part::Ring | Part::Line | Part::Area | Part::AreaRing => {
+                self.put_all(b"EMPTY")
+            }
+            _ => self.put_all(b" EMPTY"),
+        }
+    }
+
+    /// What stands before a number of a coordinate.
+    #[inline(always)]
+    pub(crate) fn put_separator(self, axis: Axis) -> Self
+        requires { HasBytes self 1 }
+        ensures { Extends self.entry (separator axis) result }
+    {
+        match axis {
+            Axis::X => self,
+            _ => self.put(b' '),
+        }
+    }
+
+    /// The parenthesis that a polygon opens.
+    #[inline(always)]
+    fn open_polygon(self) -> Self
+        requires { HasBytes self 1 }
+        ensures becomes { Becomes self.entry (opened true (written_of self.entry)) result }
+        ensures len { result.len ≡ self.entry.len + 1 }
+    {
+        let Pen {
+            out,
+            len,
+            polygon: _,
+            of,
+        } = self;
+        let pen = Pen {
+            out,
+            len,
+            polygon: len,
+            of,
+        };
+        pen.put(b'(')
+    }
+
+    /// Whether the first ring of the last polygon is EMPTY.
+    #[inline(always)]
+    fn is_hollow(&self) -> bool
+        requires { self.now.len ≤ length self.now.out.now }
+        ensures { result ≡ is_hollow (written_of self.now) }
+    {
+        if self.len < 6 || self.len - 6 < self.polygon {
+            return false;
+        }
+        self.out[self.polygon + 1] == b'E'
+    }
+
+    /// The parenthesis that closes a polygon; or EMPTY, where its first ring is, in place of all that was written of it.
+    #[inline(always)]
+    fn close_polygon(self, part: Part) -> Self
+        requires { HasBytes self 64 }
+        ensures becomes { Becomes self.entry (closed true part (written_of self.entry)) result }
+        ensures len { result.len ≤ self.entry.len + 1 }
+    {
+        if !self.is_hollow() {
+            return self.put(b')');
+        }
+        let Pen {
+            out,
+            len: _,
+            polygon,
+            of,
+        } = self;
+        let pen = Pen {
+            out,
+            len: polygon,
+            polygon,
+            of,
+        };
+        pen.put_empty(part)
+    }
+}
+
+/// Whether a part is a polygon.
+#[inline(always)]
+fn is_polygon(part: Part) -> bool
+    ensures { result ≡ is_polygon part }
+{
+    matches!(part, Part::Polygon | Part::Area)
+}
+
+impl<T: WktNum> Builder<T> for Pen<'_, T> {
+    ghost use Rattle.wkt_canonical.specs.PenMaker.{pen_maker};
+
+    ghost maker = { pen_maker T.read T.num };
+
+    #[inline(always)]
+    fn begin(self, whole: Part, dim: Dimension) -> Self {
+        self.put_kind(whole).put_suffix(dim)
+    }
+
+    #[inline(always)]
+    fn open(self, part: Part) -> Self {
+        if is_polygon(part) {
+            return self.open_polygon();
+        }
+        self.put(b'(')
+    }
+
+    #[inline(always)]
+    fn comma(self, _part: Part) -> Self {
+        self.put(b',')
+    }
+
+    #[inline(always)]
+    fn close(self, part: Part) -> Self {
+        if is_polygon(part) {
+            return self.close_polygon(part);
+        }
+        self.put(b')')
+    }
+
+    #[inline(always)]
+    fn empty(self, part: Part) -> Self {
+        self.put_empty(part)
+    }
+
+    #[inline(always)]
+    fn number(self, number: T, axis: Axis) -> Self {
+        self.put_separator(axis).put_value(number)
+    }
+
+    #[inline(always)]
+    fn number_in(self, text: &[u8], at: usize, axis: Axis) -> (Self, Option<usize>) {
+        self.put_separator(axis).put_number(text, at)
+    }
+}

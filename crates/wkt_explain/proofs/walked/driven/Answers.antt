@@ -1,0 +1,36 @@
+-- The machine goes as far as the front does, or stops.
+use Rattle.std.proofs.Common.{ap, ◌∙◌, arith, length, false, refl}
+use Rattle.wkt_read.proofs.LawLemmas.Few.{placed-few}
+use Rattle.wkt_read.proofs.LawLemmas.FrontEnds.{front-within}
+use Rattle.wkt_machine.specs.BytesView.{bytes_view}
+use Rattle.wkt_machine.specs.NothingMaker.{nothing_maker}
+use Rattle.wkt_machine.proofs.ByteViews.{whole_left}
+use Rattle.wkt_machine.proofs.Fronting.{front_made}
+use Rattle.wkt_machine.proofs.Rooms.{free_room}
+use Rattle.wkt_machine.proofs.Stopping.{stops_there}
+use Rattle.wkt_machine.proofs.Valued.{refused}
+use Rattle.wkt_explain.proofs.walked.driven.Goals as goal
+
+pub drive-requires : goal.drive-requires
+drive-requires g c =
+    let text = ap (λ x. x.now) c.new.ensures.text ∙ c.as_bytes.ensures.value in
+    let few = placed-few c.args.text.now in
+    let same = ap length (whole_left c.args.text.now c.new.result text c.new.ensures.at) in
+    record { depth = omega (arith, few, same); room = free_room (bytes_view false) nothing_maker c.new.result _ (λ n. tt) (λ x. refl) }
+
+pub returns-in-Ok-clause-front : goal.returns-in-Ok-clause-front
+returns-in-Ok-clause-front g c =
+    let text = ap (λ x. x.now) c.new.ensures.text ∙ c.as_bytes.ensures.value in
+    let (v, front, made) =
+    front_made g.T.WktNum.read (bytes_view false) nothing_maker c.args.text.now c.new.result _ c.in-Ok.over
+    (whole_left c.args.text.now c.new.result text c.new.ensures.at) c.in-Ok.over.source.at (λ end e. e) c.in-Ok.ensures.on c.in-Ok.ensures.over in
+    (v, front)
+
+pub returns-in-Ok-clause-within : goal.returns-in-Ok-clause-within
+returns-in-Ok-clause-within g c = let f = returns-in-Ok-clause-front g c in front-within g.T.WktNum.read c.args.text.now f.0 _ f.1
+
+pub returns-in-Err-clause-stopped : goal.returns-in-Err-clause-stopped
+returns-in-Err-clause-stopped g c =
+    let text = ap (λ x. x.now) c.new.ensures.text ∙ c.as_bytes.ensures.value in
+    stops_there g.T.WktNum.read c.args.text.now c.new.result text c.new.ensures.at c.utf8.text c.in-Err.stop.source c.in-Err.stop.machine
+    (refused g.T.WktNum.read (bytes_view false) nothing_maker c.new.result _ c.in-Err.stop c.in-Err.ensures.refused)

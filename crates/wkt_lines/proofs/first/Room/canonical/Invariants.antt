@@ -1,9 +1,0 @@
-use Rattle.std.proofs.Common.{◌≤◌, ◌+◌, ◌*◌, ◌-◌, ◌^◌, length}
-use Rattle.std.specs.Prelude.{vec_len}
-use Rattle.wkt_lines.proofs.first.Room.canonical.Given as goal
-
-abbrev pub invariant-room : goal.invariant-room
-invariant-room g l = 2 * length l.text + 65 ≤ vec_len l.self.bytes
-
-abbrev pub decreases-room : goal.decreases-room
-decreases-room g l = 2 ^ 64 - vec_len l.self.bytes

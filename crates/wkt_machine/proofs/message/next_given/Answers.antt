@@ -1,0 +1,22 @@
+-- A mark is itself; white space may stand before the lexeme.
+use Rattle.std.proofs.Common.{sym, refl, ◌∙◌}
+use Rattle.wkt_num.specs.Bytes.{Open, Close, Comma}
+use Rattle.wkt_machine.specs.declared.message.Given.TheVariants as given
+use Rattle.wkt_machine.proofs.ByteViews.{open_mark, close_mark, comma_mark, unmarked}
+use Rattle.wkt_machine.proofs.Givens.{gives_mark, gives_after}
+use Rattle.wkt_machine.proofs.message.next_given.Goals as goal
+
+pub returns-then-byte-eq41 : goal.returns-then-byte-eq41
+returns-then-byte-eq41 g c = gives_mark g.T.WktNum.read c.args.text.now c.args.from c.skip_white-at.result 41 Close given.Close c.skip_white-at.ensures.order c.skip_white-at.ensures.same (sym c.if-byte-eq41.true ∙ c.byte_at-byte.ensures.value) close_mark refl
+
+pub returns-then-byte-eq40 : goal.returns-then-byte-eq40
+returns-then-byte-eq40 g c = gives_mark g.T.WktNum.read c.args.text.now c.args.from c.skip_white-at.result 40 Open given.Open c.skip_white-at.ensures.order c.skip_white-at.ensures.same (sym c.if-byte-eq40.true ∙ c.byte_at-byte.ensures.value) open_mark refl
+
+pub returns-then-byte-eq44 : goal.returns-then-byte-eq44
+returns-then-byte-eq44 g c = gives_mark g.T.WktNum.read c.args.text.now c.args.from c.skip_white-at.result 44 Comma given.Comma c.skip_white-at.ensures.order c.skip_white-at.ensures.same (sym c.if-byte-eq44.true ∙ c.byte_at-byte.ensures.value) comma_mark refl
+
+pub run_given-requires-clause-unmarked : goal.run_given-requires-clause-unmarked
+run_given-requires-clause-unmarked g c = unmarked _ c.args.text.now c.skip_white-at.result c.byte_at-byte.result c.byte_at-byte.ensures.value c.if-byte-eq40.false c.if-byte-eq41.false c.if-byte-eq44.false
+
+pub returns : goal.returns
+returns g c = gives_after g.T.WktNum.read c.args.text.now c.args.from c.skip_white-at.result c.skip_white-at.ensures.order c.skip_white-at.ensures.same c.run_given.result c.run_given.ensures

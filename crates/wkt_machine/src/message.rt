@@ -1,0 +1,199 @@
+//! Why the bytes of a text are refused.
+ghost use Rattle.std.specs.Prelude.{◌≡◌, ◌≢◌, ◌≤◌, ℕ, List, ◌∷◌, length, slice_range, false, IsUtf8};
+ghost use Rattle.wkt_num.specs.Bytes.{Lexeme};
+ghost use Rattle.wkt_events.specs.Left.{left, left_placed};
+ghost use Rattle.wkt_machine.specs.Expecting.{expected_at};
+ghost use Rattle.wkt_machine.specs.Goes.{IsStuck};
+ghost use Rattle.wkt_machine.specs.BytesView.{IsDark, IsUnmarked};
+ghost use Rattle.wkt_machine.specs.Given.{Shows, GivesNext};
+ghost use Rattle.wkt_machine.specs.Machines.{state_of};
+ghost use Rattle.wkt_machine.specs.Refusing.{blamed, refused, takes_number};
+ghost use Rattle.wkt_read.specs.Table.{at_place, closing, closings, stays};
+
+use crate::machine::{Machine, State};
+use crate::numbers::read_at;
+use crate::part::Part;
+use wkt_events::{begins_number, byte_at, run_end, skip_white};
+use wkt_num::WktNum;
+use wkt_read::table::{at_bad, at_end, at_other, at_word};
+use wkt_read::{Expected, Message};
+
+/// A lexeme, as far as its message asks for it.
+#[derive(Clone, Copy)]
+pub enum Given<'a> {
+    Open,
+    Close,
+    Comma,
+    Word(&'a [u8]),
+    /// A number that its type reads.
+    Number,
+    /// A number that its type doesn't read.
+    Unread,
+}
+
+/// The bytes from one place to another.
+#[inline(always)]
+fn between<'a>(text: &'a [u8], from: usize, to: usize) -> &'a [u8]
+    requires order { from ≤ to }
+    requires inside { to ≤ length text.now }
+    ensures { result.now ≡ slice_range text.now from to }
+{
+    &text[from..to]
+}
+
+/// The lexeme that stands there, and where it ends, if it is no mark.
+#[inline(always)]
+fn run_given<'a, T: WktNum>(text: &'a [u8], at: usize) -> Option<(Given<'a>, usize)>
+    requires inside { at ≤ length text.now }
+    requires utf8 { IsUtf8 text.now }
+    requires dark { IsDark false text.now at }
+    requires unmarked { IsUnmarked false text.now at }
+    ensures { GivesNext T.read text.now at result }
+{
+    if begins_number(byte_at(text, at)) {
+        return match read_at::<T>(text, at) {
+            Some((_, end)) => Some((Given::Number, end)),
+            None => Some((Given::Unread, run_end(text, at))),
+        };
+    }
+    let end = run_end(text, at);
+    if end == at {
+        return None;
+    }
+    Some((Given::Word(between(text, at, end)), end))
+}
+
+/// The lexeme that comes next, and where it ends; `None` at the text's end.
+#[inline(always)]
+fn next_given<'a, T: WktNum>(text: &'a [u8], from: usize) -> Option<(Given<'a>, usize)>
+    requires inside { from ≤ length text.now }
+    requires utf8 { IsUtf8 text.now }
+    ensures { GivesNext T.read text.now from result }
+{
+    let at = skip_white::<false>(text, from);
+    let byte = byte_at(text, at);
+    if byte == b')' {
+        return Some((Given::Close, at + 1));
+    }
+    if byte == b'(' {
+        return Some((Given::Open, at + 1));
+    }
+    if byte == b',' {
+        return Some((Given::Comma, at + 1));
+    }
+    run_given::<T>(text, at)
+}
+
+/// The message of the place alone.
+fn at_place<T: WktNum>(expected: Expected, given: Given<'_>) -> Message
+    ensures { (l : Lexeme) (r : List Lexeme) → Shows T.read given.entry l → result ≡ at_place T.read expected (l ∷ r) }
+{
+    match given {
+        Given::Word(word) => at_word(expected, word),
+        Given::Unread => at_bad(expected),
+        _ => at_other(expected),
+    }
+}
+
+/// Whether the lexeme isn't taken where it is refused.
+#[inline(always)]
+fn stays<T: WktNum>(expected: Expected, given: Given<'_>) -> bool
+    ensures { (l : Lexeme) → Shows T.read given.entry l → result ≡ stays T.read expected l }
+{
+    match expected {
+        Expected::More | Expected::Closing => true,
+        Expected::Dimension => matches!(given, Given::Word(_) | Given::Unread),
+        _ => false,
+    }
+}
+
+/// The message behind the lexeme that stands where a parenthesis has to close.
+#[inline(always)]
+fn closing<T: WktNum>(message: Message, given: Given<'_>) -> Message
+    ensures { (l : Lexeme) (r : List Lexeme) → Shows T.read given.entry l → closing T.read message (l ∷ r) ≡ (result, r) }
+{
+    match given {
+        Given::Close => message,
+        Given::Unread => Message::BadNumber,
+        _ => Message::Close,
+    }
+}
+
+/// Whether a number may stand at the machine's place.
+#[inline(always)]
+fn takes_number(machine: Machine) -> bool
+    ensures { result ≡ takes_number (state_of machine).place }
+{
+    match machine.state {
+        State::X | State::Y | State::Z | State::M => true,
+        State::Opening => matches!(machine.part, Part::Member),
+        _ => false,
+    }
+}
+
+/// The message of the place alone, and where the lexemes are left behind it.
+#[inline(always)]
+fn blame<T: WktNum>(machine: Machine, text: &[u8], at: usize) -> (Message, usize)
+    requires inside { at ≤ length text.now }
+    requires utf8 { IsUtf8 text.now }
+    requires stuck { IsStuck T.read machine (left_placed false text.now at) }
+    ensures message { (result.0, left false text.now result.1) ≡ blamed T.read (expected_at (state_of machine).place machine.depth) (left false text.now at) }
+    ensures inside { result.1 ≤ length text.now }
+{
+    if takes_number(machine) {
+        let start = skip_white::<false>(text, at);
+        // One that its type reads the machine would have taken.
+        if begins_number(byte_at(text, start)) {
+            return (Message::BadNumber, run_end(text, start));
+        }
+    }
+    let expected = machine.expected();
+    match next_given::<T>(text, at) {
+        None => (at_end(expected), at),
+        Some((given, end)) => {
+            let message = at_place::<T>(expected, given);
+            if stays::<T>(expected, given) {
+                return (message, at);
+            }
+            (message, end)
+        }
+    }
+}
+
+/// The message after so many parentheses had to close, and where the lexemes are left behind them.
+#[inline(always)]
+fn close<T: WktNum>(message: Message, parens: usize, text: &[u8], at: usize) -> (Message, usize)
+    requires inside { at ≤ length text.now }
+    requires utf8 { IsUtf8 text.now }
+    ensures message { (result.0, left false text.now result.1) ≡ closings T.read parens message (left false text.now at) }
+    ensures inside { result.1 ≤ length text.now }
+{
+    let mut reported = message;
+    let mut open = parens;
+    let mut from = at;
+    'parens: while open > 0 {
+        match next_given::<T>(text, from) {
+            None => return (Message::Close, from),
+            Some((given, end)) => {
+                reported = closing::<T>(reported, given);
+                from = end;
+            }
+        }
+        open -= 1;
+    }
+    (reported, from)
+}
+
+/// The message of a text that is refused, by the table of `docs/GRAMMAR.md`: the machine stops at this place, with the
+/// lexeme that comes next.
+#[inline(never)]
+pub fn message_at<T: WktNum>(machine: Machine, text: &str, at: usize) -> Message
+    requires inside { at ≤ length text.now }
+    requires stuck { IsStuck T.read machine (left_placed false text.now at) }
+    ensures { result ≡ (refused T.read (state_of machine) (left false text.now at)).0 }
+{
+    let bytes = text.as_bytes();
+    let (blamed, behind) = blame::<T>(machine, bytes, at);
+    let (message, from) = close::<T>(blamed, machine.own(), bytes, behind);
+    close::<T>(message, machine.depth, bytes, from).0
+}

@@ -1,8 +1,0 @@
-pub mod Longs
-pub mod Groups
-pub mod Lining
-pub mod Shows
-pub mod FlatKeys
-pub mod Counted
-pub mod KeyLists
-pub mod Layers

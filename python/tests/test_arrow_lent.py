@@ -1,0 +1,202 @@
+"""Columns that are lent by Arrow's C interfaces: what a consumer takes, when that ends, and memory that runs out."""
+import subprocess
+import sys
+import unittest
+
+import wkt
+from arrow_columns import ANSWERS, FORMATS, HELD, NAMED, TEXTS, Arrow, Lent, Streamed, arrow_peer, made, refuse, rows_in
+
+if arrow_peer is not None:
+    import numpy
+    from wkt import _fast
+
+
+class Given(Arrow):
+    def test_arrays(self):
+        for texts in ([], ["POINT(1 2)"], TEXTS, TEXTS * 9, [None] * 8):
+            column = made(texts)
+            self.assertEqual(rows_in(arrow_peer.take(*column.__arrow_c_array__())), texts)
+            (taken,) = arrow_peer.take_stream(column.__arrow_c_stream__())
+            self.assertEqual(rows_in(taken), texts)
+            column.__arrow_c_array__(), column.__arrow_c_stream__(), column.__arrow_c_schema__()  # nobody takes them
+        self.assertEqual(taken[3], 2)  # nulls are allowed
+
+    def test_it_lives_as_long(self):
+        """What is lent stays after the column is gone, and is gone after it is released."""
+        import gc
+        import weakref
+
+        class Texts(numpy.ndarray):  # an array that can be watched
+            pass
+
+        column = made(TEXTS * 1000)
+        watched = column.data.view(Texts)
+        column._texts = column._texts._replace(data=watched)
+        gone = weakref.ref(watched)
+        del watched
+        lent = column.__arrow_c_array__()
+        del column
+        gc.collect()
+        self.assertIsNotNone(gone())
+        self.assertEqual(rows_in(arrow_peer.take(*lent)), TEXTS * 1000)
+        gc.collect()
+        self.assertIsNone(gone())
+
+    def test_kept_to_the_end(self):
+        """A consumer keeps an array after Python has ended, and releases it then."""
+        words = (
+            "import sys, arrow_peer, numpy, wkt\n"
+            "point = numpy.frombuffer(b'POINT(1 2)', numpy.uint8)\n"
+            "texts = wkt.ArrowTexts(point, numpy.array([0, 10]), numpy.zeros(1, numpy.uint32))\n"
+            "arrow_peer.keep(*wkt.canonical(texts).__arrow_c_array__(), int(sys.argv[1]))"
+        )
+        for when in "01":
+            done = subprocess.run([sys.executable, "-c", words, when], stderr=subprocess.PIPE)
+            self.assertEqual((done.returncode, done.stderr), (0, b""))
+
+    def test_sequence(self):
+        column = made(TEXTS)
+        self.assertEqual(
+            (len(column), list(column), column[0], column[1], column[-1]), (7, TEXTS, TEXTS[0], None, TEXTS[-1])
+        )
+        ends = (1, 3), (None, None), (5, 2), (-2, None), (0, 100), (None, None, 2), (None, None, -1)
+        for part in (slice(*it) for it in ends):
+            self.assertEqual(list(column[part]), TEXTS[part])
+        self.assertEqual(rows_in(arrow_peer.take(*column[2:5].__arrow_c_array__())), TEXTS[2:5])
+        self.assertIn("POINT(3 4)", column)
+        self.assertEqual((column.index("POINT(3 4)"), column.count(None)), (2, 1))
+        for wrong in (7, -8):
+            with self.assertRaises(IndexError):
+                column[wrong]
+        self.assertEqual(repr(made(["POINT(1 2)", None])), "<wkt.ArrowTexts: 2 rows, 1 null: ['POINT(1 2)', None]>")
+
+    def test_batches(self):
+        chunks = [HELD, HELD[2:], []]
+        found = [batch.to_pylist() for batch in wkt.batches(Streamed(chunks), invalid="null")]
+        self.assertEqual(found, [ANSWERS, ANSWERS[2:], []])
+        lent = arrow_peer.take_stream(wkt.batches(Streamed(chunks), invalid="null").__arrow_c_stream__())
+        self.assertEqual([rows_in(each) for each in lent], found)
+        lent = arrow_peer.take_stream(wkt.batches(Lent(), invalid="null").__arrow_c_stream__())
+        self.assertEqual([rows_in(each) for each in lent], [ANSWERS])
+        with self.assertRaises(OSError) as raised:  # what the consumer is told
+            arrow_peer.take_stream(wkt.batches(Streamed([HELD[:3], HELD])).__arrow_c_stream__())
+        self.assertIn("22: row 6: at 1: ", str(raised.exception))
+        for wrong in ([], "POINT(1 2)", numpy.array([b"POINT(1 2)"])):
+            with self.assertRaises(TypeError):
+                wkt.batches(wrong)
+
+    def test_batches_hold_one(self):
+        """Ten million rows, of which one chunk is held at a time."""
+        import resource
+
+        chunk, chunks = [b"point ( 1 2.50 )"] * 100_000, 100 if refuse is None else 3
+        count, before = 0, resource.getrusage(resource.RUSAGE_SELF).ru_maxrss
+        for batch in wkt.batches(Streamed([chunk] * chunks)):
+            count += len(batch)
+        self.assertEqual(count, chunks * 100_000)
+        if refuse is None:  # a sanitizer keeps what is freed
+            self.assertLess(resource.getrusage(resource.RUSAGE_SELF).ru_maxrss - before, 60_000)
+
+    def test_geoarrow(self):
+        """The lists of GeoArrow's specification, of each kind."""
+        cases = [
+            ("POINT(1 2)", "+w:2", [], [1, 2]),
+            ("LINESTRING(1 2,3 4)", "+l", [("vertices", [0, 2, 2])], [1, 2, 3, 4]),
+            ("MULTIPOINT(1 2,3 4)", "+l", [("points", [0, 2, 2])], [1, 2, 3, 4]),
+            ("POLYGON((1 2,3 4,5 6,1 2))", "+l", [("rings", [0, 1, 1]), ("vertices", [0, 4])],
+             [1, 2, 3, 4, 5, 6, 1, 2]),
+            ("MULTILINESTRING((1 2,3 4),(5 6,7 8))", "+l", [("linestrings", [0, 2, 2]), ("vertices", [0, 2, 4])],
+             [1, 2, 3, 4, 5, 6, 7, 8]),
+            ("MULTIPOLYGON(((1 2,3 4,5 6,1 2)))", "+l",
+             [("polygons", [0, 1, 1]), ("rings", [0, 1]), ("vertices", [0, 4])], [1, 2, 3, 4, 5, 6, 1, 2]),
+        ]  # fmt: skip
+        for text, format, lists, numbers in cases:
+            taken = arrow_peer.take(*wkt.to_arrays_column([text, None]).geoarrow().__arrow_c_array__())
+            self.assertEqual((taken[0], taken[2], taken[3], taken[4], taken[5]), (format, 1, 2, 2, 1))
+            self.assertEqual(taken[6][0], b"\1")
+            for name, offsets in lists:
+                self.assertEqual((taken[0], numpy.frombuffer(taken[6][1], numpy.int32).tolist()), ("+l", offsets))
+                (taken,) = taken[7]
+                self.assertEqual(taken[1], name)
+            self.assertEqual(taken[0], "+w:2")
+            ((format, name, _, _, length, _, buffers, _),) = taken[7]
+            got = numpy.frombuffer(buffers[1]).tolist()
+            self.assertEqual(
+                (format, name, got[: len(numbers)], length), ("g", "xy", numbers, len(numbers) + (0 if lists else 2))
+            )
+        taken = arrow_peer.take(*wkt.to_arrays_column(["POINT ZM(1 2 3 4)"]).geoarrow().__arrow_c_array__())
+        self.assertEqual((taken[0], taken[7][0][1]), ("+w:4", "xyzm"))
+
+
+@unittest.skipIf(refuse is None, "only under sanitizers")
+class Memory(Arrow):
+    def each(self, call):
+        """The answer of a call, once each of its allocations was refused in turn."""
+        for n in range(1, 10_000):
+            refuse.after(n)
+            try:
+                answer, error = call(), None
+            except MemoryError as raised:
+                error = raised
+            finally:
+                was = refuse.stop()
+            if not was:
+                return answer
+            self.assertIsNotNone(error, n)
+        self.fail("no end")
+
+    def test_each_allocation(self):
+        rows = TEXTS + ["POINT(%d 2)" % i for i in range(20)]
+        data, offsets, bits = self.each(lambda: _fast.pack(rows))
+        self.assertEqual(bytes(data), "".join(text or "" for text in rows).encode())
+        ends, statuses = numpy.array([0, 3, 5]), numpy.array([0, 0], numpy.uint32)
+        self.assertEqual(self.each(lambda: _fast.unpack(b"abcde", ends, statuses)), ["abc", "de"])
+        for format in FORMATS:
+            held = HELD + [b"POINT(%d 2)" % i for i in range(20)]
+
+            def taken():
+                refuse.stop()
+                lent = Lent(held, format).__arrow_c_array__()
+                refuse.after(taken.n)
+                return _fast.arrow_array(*lent)
+
+            for taken.n in range(1, 1000):
+                try:
+                    (_, _), (data, offsets, bits, count) = taken()
+                    error = None
+                except MemoryError as raised:
+                    error = raised
+                if not refuse.stop():
+                    break
+                self.assertIsNotNone(error)
+            self.assertEqual((bytes(data), count), (b"".join(row or b"" for row in held), len(held)))
+
+    def test_streams(self):
+        wanted = None
+        for n in range(1, 1000):
+            capsule = Streamed([HELD, HELD]).__arrow_c_stream__()
+            refuse.after(n)
+            try:
+                stream, _ = _fast.arrow_stream(capsule)
+                wanted = [_fast.arrow_next(stream)[3], _fast.arrow_next(stream)[3], _fast.arrow_next(stream)]
+                error = None
+            except MemoryError as raised:
+                error = raised
+            if not refuse.stop():
+                break
+            self.assertIsNotNone(error)
+            stream = capsule = None
+        self.assertEqual(wanted, [7, 7, None])
+
+    def test_lent(self):
+        column = made(TEXTS, NAMED)
+        tree, points = column._tree(), wkt.to_arrays_column(["POLYGON((1 2,3 4,5 6,1 2))"]).geoarrow()._tree()
+        self.assertEqual(rows_in(arrow_peer.take(*self.each(lambda: _fast.export(tree)))), TEXTS)
+        self.assertEqual(arrow_peer.take(*self.each(lambda: _fast.export(points)))[0], "+l")
+        self.assertEqual(
+            self.each(lambda: arrow_peer.drain(_fast.export_stream(tree, iter([tree, points])))), len(TEXTS) + 1
+        )
+
+
+if __name__ == "__main__":
+    unittest.main()

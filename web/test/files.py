@@ -1,0 +1,131 @@
+"""Files that are dropped on the page."""
+import os
+import random
+import sys
+import time
+
+from chromium import Page
+from selenium.webdriver.common.by import By
+from selenium.webdriver.support.ui import Select
+
+
+class Files(Page):
+    """The size of the large file is in MB."""
+
+    size = 8
+
+    def test_small_file(self):
+        self.open()
+        self.drop(self.file("\ufeffPOINT(9 9)"))
+        self.wait(lambda: self.said("say") == "Refused at line 1, column 1")
+        self.assertIn("byte order mark", self.said("hint"))
+        self.drop(self.file("POINT(9 9)"))
+        self.wait(lambda: self.said("say") == "Accepted: Point")
+        self.assertEqual("POINT(9 9)", self.by_id("text").get_attribute("value"))
+
+    def test_no_text(self):
+        self.open()
+        for content, words in (
+            (b"\xff\xfeP\0O\0", "It is UTF-16."),
+            (b"\x1f\x8b\x08\0\xff", "It is compressed by gzip."),
+            (b"POINT(1 2)\nPOINT(\xff 2)\n", "1 of 2 lines refused"),
+        ):
+            with self.subTest(words):
+                self.drop(self.file(content))
+                self.wait(lambda: words in self.said("verdict"))
+        self.assertIn("byte 7 of the line is not UTF-8", self.said("file-out"))
+
+    def test_file(self):
+        """A file of many lines: refusals, repeats, counts, bounds, and the lines that are saved."""
+        self.open()
+        lines, wanted = [], []
+        while sum(map(len, lines)) < 400000:
+            n = len(lines)
+            lines.append(f"point ({n}.50 -{n})")
+            wanted.append(f"POINT({n}.5 -{n})" if n else "POINT(0.5 0)")
+        for at, line, answer in (
+            (1000, "POINT (1 2", "refused"),
+            (2000, "POINT Z(0.10 7 9)", "POINT Z(0.1 7 9)"),
+            (3000, " POINT Z ( 0.1 7 9.0)", "POINT Z(0.1 7 9)"),
+            (4000, "", "refused"),
+            (5000, "POINT(1 2) 3", "refused"),
+            (6000, "point empty x", "refused"),
+            (7000, "POINT(1e5 2)", "refused"),
+            (8000, "LineString Empty ", "LINESTRING EMPTY"),
+        ):
+            lines.insert(at, line)
+            wanted.insert(at, answer)
+        self.drop(self.file("\r\n".join(lines)))
+        self.wait(lambda: "lines refused" in self.said("say"))
+        self.assertEqual(f"4 of {len(lines) - 1:,} lines refused", self.said("say"))
+        self.assertEqual("1 line repeats the geometry of an earlier line.", self.said("why"))
+        said = self.said("file-out")
+        for words in (
+            f"{len(lines) - 5:,}\naccepted",
+            "line 3,001 = line 2,001",
+            "line 1,001, column 11: ) was expected\nPOINT (1 2",
+            "line 5,001, column 12: the end of the text was expected, and not 3",
+            "line 6,001, column 13: the end of the text was expected, and not x",
+            "line 7,001, column 7: a first number",
+            "z 9 to 9",
+            f"Point {len(lines) - 6:,}",
+            "LineString 1",
+            "1\nblank",
+        ):
+            self.assertIn(words, said)
+        self.by_id("save").click()
+        saved = os.path.join(self.folder.name, "texts.canonical.wkt")
+        self.wait(lambda: os.path.exists(saved) and os.path.getsize(saved) > 0)
+        with open(saved, encoding="utf-8") as file:
+            self.assertEqual(wanted, file.read().splitlines())
+        self.type("POINT(1 2)")
+        self.assertEqual("Accepted: Point", self.said("say"))
+        self.assertFalse(self.by_id("file-card").is_displayed())
+
+    def test_file_read_again(self):
+        self.open()
+        self.drop(self.file(f"LINESTRING({'1.25 2,' * 60}3 4)\n" * 1000))
+        self.wait(lambda: self.said("say") == "All 1,000 lines accepted")
+        Select(self.by_id("places")).select_by_value("1")
+        self.wait(lambda: self.said("say") == "1,000 of 1,000 lines refused")
+        self.driver.find_element(By.CSS_SELECTOR, "input[name=split][value=one] + span").click()
+        self.wait(lambda: self.said("say") == "The text is refused")
+
+    def test_one_text_in_a_file(self):
+        self.open()
+        self.drop(self.file("LINESTRING (\n" + ",\n".join(f"{n} {n}" for n in range(40000)) + ")\n"))
+        self.wait(lambda: "accepted" in self.said("say"))
+        self.assertIn("LineString 1", self.said("file-out"))
+        self.assertIn("40,000\npoints", self.said("file-out"))
+        line = "GEOMETRYCOLLECTION(LINESTRING(" + ",".join(f"{n} {n}" for n in range(20000)) + "))\n"
+        self.drop(self.file(line + "POINT(1 2)\n" + line))
+        self.wait(lambda: self.said("say") == "All 3 lines accepted")
+
+    def test_large_file(self):
+        """The page stays free while a large file is read, and stops when asked."""
+        self.open()
+        path = os.path.join(self.folder.name, "large.wkt")
+        place = random.Random(1)
+        made = "".join(f"POINT ({place.gauss(0, 40):.6f} {place.gauss(0, 20):.6f})\n" for _ in range(30000))
+        with open(path, "w", encoding="utf-8") as file:
+            while file.tell() < self.size * 1e6:
+                file.write(made)
+        # The longest time in which the page doesn't come to a timer.
+        self.script(
+            "window.longest = 0; let last = performance.now(); setInterval(() => { const now = performance.now();"
+            " window.longest = Math.max(window.longest, now - last); last = now }, 10)"
+        )
+        begun = time.time()
+        self.drop(path)
+        self.wait(lambda: "accepted" in self.said("say"), 120 + 10 * self.size)
+        seconds, longest = time.time() - begun, self.script("return window.longest")
+        print(
+            f"{self.size} MB: {seconds:.1f} s; the page was busy for {longest:.0f} ms at most; {self.said('told')}",
+            file=sys.stderr,
+        )
+        # Far above what it is (0.1 to 0.8 s): other work on the machine counts, too.
+        self.assertLess(longest, 15000)
+        self.drop(path)
+        self.by_id("stop").click()
+        self.wait(lambda: self.said("say").startswith(("Stopped", "All")))
+        os.remove(path)

@@ -1,0 +1,179 @@
+"""Texts in the field: what is said of them, and what is drawn."""
+import re
+
+from chromium import Page
+from selenium.webdriver.common.by import By
+from selenium.webdriver.common.keys import Keys
+
+# A text; the head of the answer; its words; the marked part of the text; words of the hint.
+REFUSED = [
+    ("POINT (1 2", "Refused at line 1, column 11", "The text ends there, and ) was expected.", "", ""),
+    ("POINT(1)", "Refused at line 1, column 8", "It says ), and a second number was expected.", ")", ""),
+    ("point z ( 1.50 -0 two )", "Refused at line 1, column 19", "It says two, and a number z was expected.", "two", ""),
+    ("POINT (7.1 50.73 64)", "Refused at line 1, column 18", "It says 64, and ) was expected.", "64",
+     "a third number needs Z or M"),
+    ("SRID=4326;POINT(1 2)", "Refused at line 1, column 1",
+     "It says SRID=4326;POINT, and a kind of geometry, such as POINT, was expected.", "SRID=4326;POINT",
+     "ST_AsText leaves it out"),
+    ("POINT (1e-7 50)", "Refused at line 1, column 8", "It says 1e-7, and a first number", "1e-7",
+     "exponents are not read"),
+    ("POINT(1 2) POINT(3 4)", "Refused at line 1, column 12", "It says POINT(3, and the end of the text was expected.",
+     "POINT(3 4)", ""),
+    ("POLYGON ((0 0, 4 0,\n 2 4, 0 0)", "Refused at line 2, column 11", "The text ends there, and , or ) was expected.",
+     "", ""),
+]  # fmt: skip
+# A text; the head of the answer; its canonical text; facts, as words that stand there.
+ACCEPTED = [
+    ("point z ( 1.50 -0 2.0 ) ", "Accepted: Point with Z", "POINT Z(1.5 0 2)",
+     ["Dimension XYZ", "Points 1", "x 1.5 to 1.5 · y 0 to 0 · z 2 to 2"]),
+    ("POLYGON((0 0,10 0,10 10,0 10,0 0),(2 2,2 4,4 4,4 2,2 2))", "Accepted: Polygon",
+     "POLYGON((0 0,10 0,10 10,0 10,0 0),(2 2,2 4,4 4,4 2,2 2))",
+     ["Points 10", "Polygons 1", "Rings 2", "x 0 to 10 · y 0 to 10"]),
+    ("GEOMETRYCOLLECTION (\nPOINT(1 2),\nPOINT(3 4)\n)", "Accepted: GeometryCollection",
+     "GEOMETRYCOLLECTION(POINT(1 2),POINT(3 4))", ["Members 2", "Points 2"]),
+    ("linestring m empty", "Accepted: LineString with M", "LINESTRING M EMPTY", ["Points 0", "Empty parts 1"]),
+    ("POINT(0.1 0.100000000000000001)", "Accepted: Point", "POINT(0.1 0.100000000000000001)",
+     ["y 0.100000000000000001 to 0.100000000000000001"]),
+]  # fmt: skip
+
+
+class Texts(Page):
+    def test_refusals(self):
+        self.open()
+        for text, head, why, marked, hint in REFUSED:
+            with self.subTest(text):
+                self.type(text)
+                self.assertEqual(head, self.said("say"))
+                self.assertIn(why, self.said("why"))
+                self.assertEqual(marked, self.script("return document.querySelector('#mirror mark').textContent"))
+                line = self.said("caret").split("\n")
+                column = int(re.search(r"column (\d+)", head)[1])
+                self.assertEqual(column - 1, len(line[1]) - len(line[1].lstrip()), line)
+                self.assertEqual(text.split("\n")[-1], line[0])
+                self.assertIn(hint, self.said("hint") if hint else "")
+                self.assertEqual(bool(hint), self.by_id("hint").is_displayed())
+                self.assertEqual("true", self.by_id("text").get_attribute("aria-invalid"))
+
+    def test_accepted(self):
+        self.open()
+        for text, head, canonical, facts in ACCEPTED:
+            with self.subTest(text):
+                self.type(text)
+                self.assertEqual(head, self.said("say"))
+                self.assertEqual(canonical, self.said("out"))
+                for fact in facts:
+                    self.assertIn(fact, self.facts())
+                self.assertEqual("false", self.by_id("text").get_attribute("aria-invalid"))
+
+    def test_geojson(self):
+        self.open()
+        self.type("POINT(0.1 12345678901234567890)")
+        self.by_id("out").parent.find_element(By.CSS_SELECTOR, "input[value=geojson] + span").click()
+        self.assertEqual('{"type":"Point","coordinates":[0.1,12345678901234567890]}', self.said("out"))
+        self.type("POINT M(1 2 3)")
+        self.assertEqual('{"type":"Point","coordinates":[1,2]}', self.said("out"))
+        self.assertIn("GeoJSON has no m", self.said("notes"))
+        self.type("MULTIPOINT(1 2, EMPTY)")
+        self.assertIn("GeoJSON has no", self.said("out"))
+        self.assertFalse(self.by_id("copy").is_enabled())
+
+    def test_copies(self):
+        self.open()
+        for button, copied in (
+            ("copy", "POINT(1 2)"),
+            ("copy-link", self.script("return location.href.split('#')[0]") + "#wkt=point+%281.0+2%29"),
+        ):
+            with self.subTest(button):
+                self.type("point (1.0 2)")
+                self.by_id(button).click()
+                self.wait(lambda button=button: self.said(button) == "Copied")
+                self.by_id("text").send_keys(Keys.CONTROL, "av")
+                self.assertEqual(copied, self.by_id("text").get_attribute("value"))
+
+    def test_notes(self):
+        self.open()
+        self.type("POLYGON((0 0,1 0,1 1))")
+        self.assertIn("1 ring doesn’t end where it begins", self.said("notes"))
+        self.type("POLYGON((0 0,1 0,1 1,0 0))")
+        self.assertFalse(self.by_id("notes").is_displayed())
+
+    def test_lines(self):
+        self.open()
+        self.type("POINT(1 2)\npoint (1.0 2)\nPOINT(1)\n\nLINESTRING(0 0,4 4)")
+        self.assertIn("Line 5 is accepted.", self.said("why"))  # the line in which one types
+        self.paste(self.by_id("text").get_attribute("value"))
+        self.assertEqual("1 of 4 lines refused", self.said("say"))
+        self.assertIn("Line 3, column 8.", self.said("why"))
+        rows = [" ".join(row.text.split()) for row in self.driver.find_elements(By.CSS_SELECTOR, "#rows tr")]
+        self.assertEqual(
+            [
+                "1 Point 1 POINT(1 2)",
+                "2 Point = line 1 1 point (1.0 2)",
+                "3 refused at 8 POINT(1)",
+                "5 LineString 2 LINESTRING(0 0,4 4)",
+            ],
+            rows,
+        )
+        self.assertEqual(3, len(self.driver.find_elements(By.CSS_SELECTOR, "#svg .g")))
+        self.driver.find_elements(By.CSS_SELECTOR, "#rows tr")[3].click()
+        self.assertEqual("LINESTRING(0 0,4 4)", self.said("out"))
+        self.driver.find_element(By.CSS_SELECTOR, "[data-filter=repeats]").click()
+        self.assertEqual(1, len(self.driver.find_elements(By.CSS_SELECTOR, "#rows tr")))
+
+    def test_splitting(self):
+        self.open()
+        for text, split, said in (
+            ("POINT(1 2)\nPOINT(3 4)", "auto", "All 2 lines accepted"),
+            ("POINT(1\n2)", "auto", "Accepted: Point"),
+            ("POINT\n(1 2)", "auto", "Accepted: Point"),
+            ("POLYGON((0 0,1 1\nPOINT(1 2)", "auto", "1 of 2 lines refused"),
+            ("POINT(1\n2)", "lines", "2 of 2 lines refused"),
+            ("POINT(1 2)\nPOINT(3 4)", "one", "Refused at line 2, column 1"),
+        ):
+            with self.subTest(text + " " + split):
+                self.driver.find_element(By.CSS_SELECTOR, f"input[value={split}] + span").click()
+                self.paste(text)
+                self.assertEqual(said, self.said("say"))
+
+    def test_places(self):
+        self.open("#wkt=POINT+%281.25+2%29&places=1")
+        self.assertEqual("Refused at line 1, column 8", self.said("say"))
+        self.assertIn("1", self.said("hint"))
+        self.by_id("places").send_keys("2")
+        self.assertEqual("Accepted: Point", self.said("say"))
+
+    def test_links(self):
+        self.open("#wkt=POINT%281%0A2%29&as=lines")
+        self.assertEqual("2 of 2 lines refused", self.said("say"))
+        self.type("POINT(3 4)")
+        self.wait(lambda: "wkt=POINT%283+4%29&as=lines" in self.driver.current_url)
+        self.driver.refresh()
+        self.wait(lambda: self.script("return document.documentElement.dataset.ready"))
+        self.assertEqual("POINT(3 4)", self.by_id("text").get_attribute("value"))
+
+    def test_picture(self):
+        self.open()
+        shape = (
+            "return [...document.querySelectorAll('#svg .area, #svg .edge')].map((p) => { const b = p.getBBox();"
+            " return [b.width, b.height, p.getAttribute('d'), p.getAttribute('fill-rule')] })"
+        )
+        self.paste("POLYGON((0 0,10 0,10 10,0 10,0 0),(2 2,2 4,4 4,4 2,2 2))")
+        area = self.wait(lambda: [p for p in self.script(shape) if p[3]])[0]
+        self.assertAlmostEqual(area[0], area[1], 1)  # to scale
+        self.assertEqual("evenodd", area[3])  # the hole is none of it
+        self.paste("LINESTRING(0 0,0 10,1 10)")
+        (edge,) = self.wait(lambda: [p for p in self.script(shape) if p[2].count("L") == 2])
+        heights = [float(pair.split()[1]) for pair in re.findall(r"[\d.]+ [\d.]+", edge[2])]
+        self.assertGreater(heights[0], heights[1])  # y up
+        width = edge[0]
+        self.paste("LINESTRING(0 0,0 10,1 10,1 x)")  # the part before the refusal
+        self.wait(lambda: self.script("return document.querySelectorAll('#svg .refused .stop').length") == 1)
+        self.assertEqual([width, 2], [self.script(shape)[0][0], self.script(shape)[0][2].count("L")])
+        self.by_id("in").click()
+        self.wait(lambda: self.script(shape)[0][0] > 1.4 * width)
+
+    def test_deep(self):
+        self.open()
+        self.paste("GEOMETRYCOLLECTION(" * 100000 + "POINT(1 2)" + ")" * 100000)
+        self.wait(lambda: self.said("say") == "Accepted: GeometryCollection", 40)
+        self.assertIn("Nested 100,000 deep", self.facts())
