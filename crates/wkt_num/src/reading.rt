@@ -1,5 +1,6 @@
 //! Decimal fractions from text.
 ghost use Rattle.std.specs.Prelude.{◌≡◌, ◌≢◌, ℕ, true, false, ◌+◌, ◌-◌, ◌*◌, ◌^◌, ◌≤◌, ◌<◌, Some, IfSome, length, nat_le};
+ghost use Rattle.std.specs.Char.{is_ascii_digit};
 ghost use Rattle.std.specs.Str.Parse.{starts_with_minus, without_leading_sign};
 ghost use Rattle.wkt_num.specs.Whole.{keep_if};
 ghost use Rattle.wkt_num.specs.Decimal.{read_magnitude, with_sign, and_then};
@@ -54,11 +55,23 @@ fn read_other(places: u32, negative: bool, body: &[u8]) -> Option<i128>
     requires { places ≤ 36 }
     ensures { result ≡ and_then (read_magnitude (2 ^ 127) places body.now) (with_sign 127 negative) }
 {
+    // Words and marks come here too, where a text is refused. Few of them end as a number does.
+    if body.is_empty() || !may_end(body[body.len() - 1]) {
+        return None;
+    }
     if let Some(units) = read_short(places, body) {
         return with_sign(negative, units);
     }
     let units = read_magnitude(places, body)?;
     with_sign(negative, units)
+}
+
+/// Whether the digits of a number may end with the byte.
+#[inline(always)]
+fn may_end(byte: u8) -> bool
+    ensures { result ≡ false → (byte ≢ 46) × (is_ascii_digit byte ≡ false) }
+{
+    byte == b'.' || byte.is_ascii_digit()
 }
 
 /// The most bytes whose digits, with a point among them or not, fit 64 bits.
