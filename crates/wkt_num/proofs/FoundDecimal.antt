@@ -230,41 +230,6 @@ module _ (D : ℕ) (bs : List ℕ) (end first : ℕ) (t : IsDecimalText D bs end
       end-found (omega (arith, m.same, inside)) (subst (λ (n : ℕ). get_or bs n 0 ≡ 46) m.same is) to (omega (arith, m.same, low)) high
       (subst (λ (n : ℕ). AllDigits 10 (slice_range bs (n + 1) to)) m.same digits) stops
 
--- ---- no text ends inside
-
-stops-back : (bs : List ℕ) (at : ℕ) → StopsRun (drop at bs) → at < length bs → class_of (get_or bs at 0) ≡ Run → ⊥
-stops-back [] at h k r = absurd (omega (arith, k))
-stops-back (b ∷ bs) zero h k r = h r
-stops-back (b ∷ bs) (suc at) h k r = stops-back bs at h (omega (arith, k)) r
-
--- each byte of the text is a part of a run
-run-at : (D : ℕ) (bs : List ℕ) (end : ℕ) (t : IsDecimalText D bs end) (at : ℕ) → at < end → class_of (get_or bs at 0) ≡ Run
-run-at D bs end t at h = elim (cases_lt at t.first) [
-  | inl l ↦ by-sign t.first t.minus t.sign at l
-  | inr low ↦ elim (cases_lt at t.point) [
-    | inl l ↦ a-digit (get_or bs at 0) (digit-in bs t.first t.point at t.whole.digits t.whole.within low l)
-    | inr past ↦ elim t.fraction [
-      | inl w ↦ absurd (omega (arith, w.0, past, h))
-      | inr f ↦ elim (cases_eq at t.point) [
-        | inl e ↦ ap (λ (k : ℕ). class_of (get_or bs k 0)) e ∙ ap class_of f.is ∙ point_run
-        | inr ne ↦ a-digit (get_or bs at 0) (digit-in bs (t.point + 1) end at f.digits t.within (omega (arith, past, ne)) h)
-      ]
-    ]
-  ]
-]
-  where
-    a-digit : (b : ℕ) → is_ascii_digit b ≡ true → class_of b ≡ Run
-    a-digit b e = digit_run b (test-range b e)
-
-    by-sign : (f : ℕ) → f ≤ 1 → take f bs ≡ sign_text (f == 1) → (k : ℕ) → k < f → class_of (get_or bs k 0) ≡ Run
-    by-sign zero m s k l = absurd (omega (arith, l))
-    by-sign (suc zero) m s zero l = ap class_of (first-of bs s) ∙ minus_run
-    by-sign (suc zero) m s (suc k) l = absurd (omega (arith, l))
-    by-sign (suc (suc f)) m s k l = absurd (omega (arith, m))
-
-pub not-before : (D : ℕ) (bs : List ℕ) (end : ℕ) (t : IsDecimalText D bs end) (at kept : ℕ) → KeepsText (read_decimal 127 36 D) (decimal_text D) bs at kept → at < 32 → 32 ≤ end → ⊥
-not-before D bs end t at kept k less more = stops-back bs at k.stops (omega (arith, less, more, t.within)) (run-at D bs end t at (omega (arith, less, more)))
-
 -- ---- no zeros stand last
 
 zeros-at : (m k : ℕ) → k < m → get_or (zeros m) k 0 ≡ 48

@@ -38,10 +38,6 @@ range-first bs i j h k =
     ap (take (j - i)) (drop_more bs i 0 (omega arith))
     ∙ ap (λ (n : ℕ). take n (get_or bs i 0 ∷ drop (i + 1) bs)) {x = j - i} {y = suc (j - (i + 1))} (omega arith)
 
--- one digit more
-pub digit-more : (bs : List ℕ) (from at : ℕ) → from ≤ at → at < length bs → is_ascii_digit (get_or bs at 0) ≡ true → AllDigits 10 (slice_range bs from at) → AllDigits 10 (slice_range bs from (at + 1))
-digit-more bs from at h k digit before = (digits-more 0 (digits_value 10 (slice_range bs from at)) bs from at (get_or bs at 0 - 48) h k digit refl before refl).0
-
 -- one zero more
 pub zero-more : (bs : List ℕ) (kept end : ℕ) → 0 < kept → kept ≤ end → end ≤ length bs → get_or bs (kept - 1) 0 ≡ 48 → slice_range bs kept end ≡ zeros (end - kept) → slice_range bs (kept - 1) end ≡ zeros (end - (kept - 1))
 zero-more bs kept end some h k is before =

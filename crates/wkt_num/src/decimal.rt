@@ -3,13 +3,13 @@ ghost use Rattle.std.specs.Prelude.{◌≡◌, ℤ, pos, ◌^◌, ◌+ℤ◌, �
 ghost use Rattle.std.specs.Ordering.{int_cmp, int_eq, as_partial_cmp};
 ghost use Rattle.std.specs.Cmp.{int_eq_equiv, int_cmp_total, signed_po, partial_equiv_from_equiv};
 ghost use Rattle.wkt_num.specs.Decimal.{read_decimal, decimal_text, IsUnits, IsShortDecimal};
-ghost use Rattle.wkt_num.specs.Kept.{KeepsText, FindsTexts, FindsShort};
+ghost use Rattle.wkt_num.specs.Kept.{KeepsText, FindsShort};
 ghost use Rattle.wkt_num.specs.Halves.{upper_half, lower_half, upper_back, lower_back};
 ghost use Rattle.wkt_num.specs.DecimalLaws.{decimal_reads_back, decimal_reads_values, decimal_number_text, decimal_same};
 
 use crate::formatted::FormatterText;
 use crate::in_window::units_in_window;
-use crate::kept::{kept_decimal, kept_in_window};
+use crate::kept::kept_in_window;
 use crate::number::WktNum;
 use crate::printing::write_units;
 use crate::reading::{read_signed, split_sign};
@@ -154,14 +154,6 @@ impl<const D: u32> WktNum for Decimal<D> {
         let _ = &self.high;
         let units = self.units();
         write_units(D, units < 0, units.unsigned_abs(), f)
-    }
-
-    #[inline(always)]
-    fn kept_text(bytes: &[u8]) -> Option<(usize, usize)>
-        ensures keeps { IfSome result (λ r. KeepsText (read_decimal 127 36 D) (decimal_text D) bytes.now r.0 r.1) }
-        ensures finds { FindsTexts (decimal_text D) (IsShortDecimal D) bytes.now result }
-    {
-        kept_decimal(D, bytes)
     }
 
     #[inline(always)]

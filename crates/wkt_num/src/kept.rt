@@ -15,28 +15,8 @@ use std::simd::prelude::*;
 /// The most digits before the point with which the units surely fit.
 const MOST_WHOLE: usize = 20;
 
-/// The bytes of a window, in which most numbers end.
-const WINDOW: usize = 32;
-
-/// Where the number run that the bytes begin with ends, and where its number's text does. Each text that
-/// is printed is found, if it has at most 18 places and at most 20 digits before the point.
-#[inline(always)]
-pub fn kept_decimal(places: u32, bytes: &[u8]) -> Option<(usize, usize)>
-    ensures keeps { IfSome result (λ r. KeepsText (read_decimal 127 36 places) (decimal_text places) bytes.now r.0 r.1) }
-    ensures finds { (end : ℕ) → IsDecimalText places bytes.now end → result ≡ Some (end, end) }
-{
-    if places > SHORT_PLACES {
-        return None;
-    }
-    if bytes.len() >= WINDOW {
-        if let Some((end, kept)) = kept_in_window(places, bytes) {
-            return Some((end, kept));
-        }
-    }
-    kept_apart(places, bytes)
-}
-
-/// The same of a run that ends in a window.
+/// Where the number run that the bytes begin with ends, and where its number's text does, if the run ends in a window. Each
+/// text that is printed and ends there is found, if it has at most 18 places and at most 20 digits before the point.
 #[inline(always)]
 pub fn kept_in_window(places: u32, bytes: &[u8]) -> Option<(usize, usize)>
     requires { 32 ≤ length bytes.now }
@@ -113,42 +93,7 @@ pub(crate) fn first_other(bytes: &[u8], from: usize, others: u64) -> Option<usiz
     Some(others.trailing_zeros() as usize)
 }
 
-/// The same for a number that may end anywhere. What it answers comes through memory, whose place is
-/// cleared here, away from the way before it, which answers in registers.
-#[inline(always)]
-fn kept_apart(places: u32, bytes: &[u8]) -> Option<(usize, usize)>
-    requires { places ≤ 18 }
-    ensures keeps { IfSome result (λ r. KeepsText (read_decimal 127 36 places) (decimal_text places) bytes.now r.0 r.1) }
-    ensures finds { (end : ℕ) → IsDecimalText places bytes.now end → result ≡ Some (end, end) }
-{
-    kept_anywhere(places, bytes)
-}
-
-#[inline(never)]
-fn kept_anywhere(places: u32, bytes: &[u8]) -> Option<(usize, usize)>
-    requires { places ≤ 18 }
-    ensures keeps { IfSome result (λ r. KeepsText (read_decimal 127 36 places) (decimal_text places) bytes.now r.0 r.1) }
-    ensures finds { (end : ℕ) → IsDecimalText places bytes.now end → result ≡ Some (end, end) }
-{
-    let first = after_minus(bytes);
-    let point = digits_end(bytes, first);
-    if point == bytes.len() || bytes[point] != b'.' {
-        if !is_whole_part(bytes, first, point)
-            || is_minus_zero(bytes, first)
-            || !stops(bytes, point)
-        {
-            return None;
-        }
-        return Some((point, point));
-    }
-    let end = digits_end(bytes, point + 1);
-    if !is_whole_part(bytes, first, point) || !stops(bytes, end) {
-        return None;
-    }
-    kept_fraction(places, bytes, first, point, end)
-}
-
-/// The same of digits around a point, where the run ends with them.
+/// What it answers of digits around a point, where the run ends with them.
 #[inline(always)]
 fn kept_fraction(
     places: u32,
@@ -197,22 +142,6 @@ pub(crate) fn after_minus(bytes: &[u8]) -> usize
     }
 }
 
-/// Where the digits from `from` on end.
-#[inline(always)]
-pub(crate) fn digits_end(bytes: &[u8], from: usize) -> usize
-    requires { from ≤ length bytes.now }
-    ensures from { from ≤ result }
-    ensures within { result ≤ length bytes.now }
-    ensures digits { AllDigits 10 (slice_range bytes.now from result) }
-    ensures stops { result < length bytes.now → is_ascii_digit (slice_index bytes.now result) ≡ false }
-{
-    let mut at = from;
-    while at < bytes.len() && bytes[at].is_ascii_digit() {
-        at += 1;
-    }
-    at
-}
-
 /// Whether these digits are a whole part as it is printed, with which the units fit.
 #[inline(always)]
 fn is_whole_part(bytes: &[u8], first: usize, point: usize) -> bool
@@ -245,15 +174,6 @@ fn is_minus_zero(bytes: &[u8], first: usize) -> bool
     ensures { MatchBool result ((first ≡ 1) × (slice_index bytes.now first ≡ 48)) (first ≡ 1 → slice_index bytes.now first ≢ 48) }
 {
     bytes[first] == b'0' && first == 1
-}
-
-/// Whether no run goes on at `end`.
-#[inline(always)]
-pub(crate) fn stops(bytes: &[u8], end: usize) -> bool
-    requires { end ≤ length bytes.now }
-    ensures { MatchBool result (end < length bytes.now → class_of (slice_index bytes.now end) ≢ Run) ((end < length bytes.now) × (class_of (slice_index bytes.now end) ≡ Run)) }
-{
-    end == bytes.len() || !is_of_run(bytes[end])
 }
 
 /// For each byte whether it is no part of a run: NUL, white space and marks.

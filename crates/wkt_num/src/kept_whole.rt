@@ -2,28 +2,14 @@
 ghost use Rattle.std.specs.Prelude.{◌≡◌, ◌≤◌, ◌<◌, ◌^◌, ◌+◌, ◌==◌, ℕ, Some, IfSome, MatchBool, length, take, slice_range, unsigned_abs};
 ghost use Rattle.std.specs.Fmt.{decimal, signed_decimal};
 ghost use Rattle.std.specs.Str.Parse.{AllDigits};
-ghost use Rattle.wkt_num.specs.Kept.{KeepsText, FindsTexts, FindsShort};
+ghost use Rattle.wkt_num.specs.Kept.{KeepsText, FindsShort};
 ghost use Rattle.wkt_num.specs.Parts.{IsWholeText, IsPrinted};
 ghost use Rattle.wkt_num.specs.Whole.{read_signed, read_unsigned};
 
-use crate::kept::{after_minus, digits_end, first_other, is_of_run, others_from, stops};
+use crate::kept::{after_minus, first_other, is_of_run, others_from};
 
-/// Where the run of a number of so many bits beside the sign ends, and where its text does, which is all of it.
-/// Each number of at most `most` digits is found.
-#[inline(always)]
-pub(crate) fn kept_signed(bits: u32, most: usize, bytes: &[u8]) -> Option<(usize, usize)>
-    requires fits { 10 ^ most ≤ 2 ^ bits }
-    requires narrow { bits ≤ 128 }
-    ensures keeps { IfSome result (λ r. KeepsText (read_signed bits) signed_decimal bytes.now r.0 r.1) }
-    ensures finds { 0 < most → FindsTexts signed_decimal (λ x. unsigned_abs x < 10 ^ most) bytes.now result }
-{
-    match whole_end(most, bytes) {
-        Some(end) => Some((end, end)),
-        None => None,
-    }
-}
-
-/// The same of a run that ends in a window.
+/// Where the run of a number of so many bits beside the sign ends, and where its text does, which is all of it, if the run
+/// ends in a window. Each number of at most `most` digits that does is found.
 #[inline(always)]
 pub(crate) fn signed_in_window(bits: u32, most: usize, bytes: &[u8]) -> Option<(usize, usize)>
     requires window { 32 ≤ length bytes.now }
@@ -35,25 +21,6 @@ pub(crate) fn signed_in_window(bits: u32, most: usize, bytes: &[u8]) -> Option<(
 {
     match end_in_window(most, bytes) {
         Some(end) => Some((end, end)),
-        None => None,
-    }
-}
-
-/// As [`kept_signed`], of a number without a sign.
-#[inline(always)]
-pub(crate) fn kept_unsigned(bits: u32, most: usize, bytes: &[u8]) -> Option<(usize, usize)>
-    requires fits { 10 ^ most ≤ 2 ^ bits }
-    requires narrow { bits ≤ 128 }
-    ensures keeps { IfSome result (λ r. KeepsText (read_unsigned bits) decimal bytes.now r.0 r.1) }
-    ensures finds { 0 < most → FindsTexts decimal (λ x. x < 10 ^ most) bytes.now result }
-{
-    match whole_end(most, bytes) {
-        Some(end) => {
-            if bytes[0] == b'-' {
-                return None;
-            }
-            Some((end, end))
-        }
         None => None,
     }
 }
@@ -79,21 +46,7 @@ pub(crate) fn unsigned_in_window(bits: u32, most: usize, bytes: &[u8]) -> Option
     }
 }
 
-/// Where a whole number of at most so many digits ends that the bytes begin with, as it is printed.
-#[inline(always)]
-fn whole_end(most: usize, bytes: &[u8]) -> Option<usize>
-    ensures whole { IfSome result (λ end. IsWholeText most bytes.now end) }
-    ensures finds { (end : ℕ) → IsWholeText most bytes.now end → result ≡ Some end }
-{
-    let first = after_minus(bytes);
-    let end = digits_end(bytes, first);
-    if !is_printed(most, bytes, first, end) || !stops(bytes, end) {
-        return None;
-    }
-    Some(end)
-}
-
-/// The same, if it ends in a window.
+/// Where a whole number of at most so many digits ends that the bytes begin with, as it is printed, if it ends in a window.
 #[inline(always)]
 fn end_in_window(most: usize, bytes: &[u8]) -> Option<usize>
     requires { 32 ≤ length bytes.now }

@@ -30,17 +30,9 @@ pub trait WktNum: Copy + PartialEq + PartialOrd + Debug {
     fn write_number<W: TextSink>(&self, f: &mut W) -> fmt::Result
         ensures { Puts W.sink f.old (num self.now) f.new result };
 
-    /// Where the number run that the bytes begin with ends, and where its number's text does, which is a
-    /// beginning of it. `None` implies nothing about the bytes, unless the type says which texts it finds. Whole
-    /// numbers and decimals do, in their own clauses.
-    fn kept_text(bytes: &[u8]) -> Option<(usize, usize)>
-        ensures { IfSome result (λ r. KeepsText read num bytes.now r.0 r.1) }
-    {
-        None
-    }
-
-    /// As [`kept_text`](WktNum::kept_text), of 32 bytes or more, where the run ends within the first 32.
-    /// `None` implies nothing about the bytes.
+    /// Where the number run that 32 bytes or more begin with ends, and where its number's text does, which is a beginning of
+    /// it, if the run ends within the first 32. `None` implies nothing about the bytes, unless the type says which texts it
+    /// finds. Whole numbers and decimals do, in their own clauses.
     fn kept_in_window(bytes: &[u8]) -> Option<(usize, usize)>
         requires { 32 ≤ length bytes.now }
         ensures keeps { IfSome result (λ r. KeepsText read num bytes.now r.0 r.1) }

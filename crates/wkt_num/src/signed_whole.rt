@@ -2,13 +2,13 @@
 ghost use Rattle.std.specs.Prelude.{◌≡◌, ◌≤◌, ◌<◌, ◌^◌, IfSome, length, unsigned_abs};
 ghost use Rattle.std.specs.Fmt.{signed_decimal};
 ghost use Rattle.std.proofs.Common.{lit≤};
-ghost use Rattle.wkt_num.specs.Kept.{KeepsText, FindsTexts, FindsShort};
+ghost use Rattle.wkt_num.specs.Kept.{KeepsText, FindsShort};
 ghost use Rattle.wkt_num.specs.Whole.{read_signed, IsSigned};
 ghost use Rattle.wkt_num.specs.WholeLaws.{signed_reads_back, signed_reads_values, signed_text, signed_same};
 
 use crate::digits::write_whole;
 use crate::in_window;
-use crate::kept_whole::{kept_signed, signed_in_window};
+use crate::kept_whole::signed_in_window;
 use crate::number::WktNum;
 use crate::sink::TextSink;
 use std::fmt;
@@ -34,14 +34,6 @@ impl WktNum for i8 {
 
     fn write_number<W: TextSink>(&self, f: &mut W) -> fmt::Result {
         write_whole(*self < 0, u128::from(self.unsigned_abs()), f)
-    }
-
-    #[inline(always)]
-    fn kept_text(bytes: &[u8]) -> Option<(usize, usize)>
-        ensures keeps { IfSome result (λ r. KeepsText (read_signed 7) signed_decimal bytes.now r.0 r.1) }
-        ensures finds { FindsTexts signed_decimal (λ x. unsigned_abs x < 10 ^ 2) bytes.now result }
-    {
-        kept_signed(7, 2, bytes)
     }
 
     #[inline(always)]
@@ -96,14 +88,6 @@ impl WktNum for i16 {
     }
 
     #[inline(always)]
-    fn kept_text(bytes: &[u8]) -> Option<(usize, usize)>
-        ensures keeps { IfSome result (λ r. KeepsText (read_signed 15) signed_decimal bytes.now r.0 r.1) }
-        ensures finds { FindsTexts signed_decimal (λ x. unsigned_abs x < 10 ^ 4) bytes.now result }
-    {
-        kept_signed(15, 4, bytes)
-    }
-
-    #[inline(always)]
     fn kept_in_window(bytes: &[u8]) -> Option<(usize, usize)>
         requires { 32 ≤ length bytes.now }
         ensures keeps { IfSome result (λ r. KeepsText (read_signed 15) signed_decimal bytes.now r.0 r.1) }
@@ -152,14 +136,6 @@ impl WktNum for i32 {
 
     fn write_number<W: TextSink>(&self, f: &mut W) -> fmt::Result {
         write_whole(*self < 0, u128::from(self.unsigned_abs()), f)
-    }
-
-    #[inline(always)]
-    fn kept_text(bytes: &[u8]) -> Option<(usize, usize)>
-        ensures keeps { IfSome result (λ r. KeepsText (read_signed 31) signed_decimal bytes.now r.0 r.1) }
-        ensures finds { FindsTexts signed_decimal (λ x. unsigned_abs x < 10 ^ 9) bytes.now result }
-    {
-        kept_signed(31, 9, bytes)
     }
 
     #[inline(always)]
@@ -214,14 +190,6 @@ impl WktNum for i64 {
     }
 
     #[inline(always)]
-    fn kept_text(bytes: &[u8]) -> Option<(usize, usize)>
-        ensures keeps { IfSome result (λ r. KeepsText (read_signed 63) signed_decimal bytes.now r.0 r.1) }
-        ensures finds { FindsTexts signed_decimal (λ x. unsigned_abs x < 10 ^ 18) bytes.now result }
-    {
-        kept_signed(63, 18, bytes)
-    }
-
-    #[inline(always)]
     fn kept_in_window(bytes: &[u8]) -> Option<(usize, usize)>
         requires { 32 ≤ length bytes.now }
         ensures keeps { IfSome result (λ r. KeepsText (read_signed 63) signed_decimal bytes.now r.0 r.1) }
@@ -270,14 +238,6 @@ impl WktNum for i128 {
 
     fn write_number<W: TextSink>(&self, f: &mut W) -> fmt::Result {
         write_whole(*self < 0, self.unsigned_abs(), f)
-    }
-
-    #[inline(always)]
-    fn kept_text(bytes: &[u8]) -> Option<(usize, usize)>
-        ensures keeps { IfSome result (λ r. KeepsText (read_signed 127) signed_decimal bytes.now r.0 r.1) }
-        ensures finds { FindsTexts signed_decimal (λ x. unsigned_abs x < 10 ^ 38) bytes.now result }
-    {
-        kept_signed(127, 38, bytes)
     }
 
     #[inline(always)]

@@ -2,13 +2,13 @@
 ghost use Rattle.std.specs.Prelude.{◌≡◌, ◌≤◌, ◌<◌, ◌^◌, IfSome, length};
 ghost use Rattle.std.specs.Fmt.{decimal};
 ghost use Rattle.std.proofs.Common.{lit≤};
-ghost use Rattle.wkt_num.specs.Kept.{KeepsText, FindsTexts, FindsShort};
+ghost use Rattle.wkt_num.specs.Kept.{KeepsText, FindsShort};
 ghost use Rattle.wkt_num.specs.Whole.{read_unsigned};
 ghost use Rattle.wkt_num.specs.WholeLaws.{unsigned_reads_back, unsigned_reads_values, unsigned_text, unsigned_same};
 
 use crate::digits::write_whole;
 use crate::in_window;
-use crate::kept_whole::{kept_unsigned, unsigned_in_window};
+use crate::kept_whole::unsigned_in_window;
 use crate::number::WktNum;
 use crate::sink::TextSink;
 use std::fmt;
@@ -34,14 +34,6 @@ impl WktNum for u8 {
 
     fn write_number<W: TextSink>(&self, f: &mut W) -> fmt::Result {
         write_whole(false, u128::from(*self), f)
-    }
-
-    #[inline(always)]
-    fn kept_text(bytes: &[u8]) -> Option<(usize, usize)>
-        ensures keeps { IfSome result (λ r. KeepsText (read_unsigned 8) decimal bytes.now r.0 r.1) }
-        ensures finds { FindsTexts decimal (λ x. x < 10 ^ 2) bytes.now result }
-    {
-        kept_unsigned(8, 2, bytes)
     }
 
     #[inline(always)]
@@ -96,14 +88,6 @@ impl WktNum for u16 {
     }
 
     #[inline(always)]
-    fn kept_text(bytes: &[u8]) -> Option<(usize, usize)>
-        ensures keeps { IfSome result (λ r. KeepsText (read_unsigned 16) decimal bytes.now r.0 r.1) }
-        ensures finds { FindsTexts decimal (λ x. x < 10 ^ 4) bytes.now result }
-    {
-        kept_unsigned(16, 4, bytes)
-    }
-
-    #[inline(always)]
     fn kept_in_window(bytes: &[u8]) -> Option<(usize, usize)>
         requires { 32 ≤ length bytes.now }
         ensures keeps { IfSome result (λ r. KeepsText (read_unsigned 16) decimal bytes.now r.0 r.1) }
@@ -152,14 +136,6 @@ impl WktNum for u32 {
 
     fn write_number<W: TextSink>(&self, f: &mut W) -> fmt::Result {
         write_whole(false, u128::from(*self), f)
-    }
-
-    #[inline(always)]
-    fn kept_text(bytes: &[u8]) -> Option<(usize, usize)>
-        ensures keeps { IfSome result (λ r. KeepsText (read_unsigned 32) decimal bytes.now r.0 r.1) }
-        ensures finds { FindsTexts decimal (λ x. x < 10 ^ 9) bytes.now result }
-    {
-        kept_unsigned(32, 9, bytes)
     }
 
     #[inline(always)]
@@ -214,14 +190,6 @@ impl WktNum for u64 {
     }
 
     #[inline(always)]
-    fn kept_text(bytes: &[u8]) -> Option<(usize, usize)>
-        ensures keeps { IfSome result (λ r. KeepsText (read_unsigned 64) decimal bytes.now r.0 r.1) }
-        ensures finds { FindsTexts decimal (λ x. x < 10 ^ 19) bytes.now result }
-    {
-        kept_unsigned(64, 19, bytes)
-    }
-
-    #[inline(always)]
     fn kept_in_window(bytes: &[u8]) -> Option<(usize, usize)>
         requires { 32 ≤ length bytes.now }
         ensures keeps { IfSome result (λ r. KeepsText (read_unsigned 64) decimal bytes.now r.0 r.1) }
@@ -270,14 +238,6 @@ impl WktNum for u128 {
 
     fn write_number<W: TextSink>(&self, f: &mut W) -> fmt::Result {
         write_whole(false, *self, f)
-    }
-
-    #[inline(always)]
-    fn kept_text(bytes: &[u8]) -> Option<(usize, usize)>
-        ensures keeps { IfSome result (λ r. KeepsText (read_unsigned 128) decimal bytes.now r.0 r.1) }
-        ensures finds { FindsTexts decimal (λ x. x < 10 ^ 38) bytes.now result }
-    {
-        kept_unsigned(128, 38, bytes)
     }
 
     #[inline(always)]
