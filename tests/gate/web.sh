@@ -1,9 +1,10 @@
 #!/usr/bin/env bash
-# Tests what is made for JavaScript: the module wkt.wasm, the package over it, and the page.
+# Tests what is made for JavaScript: the module wkt.wasm, the package over it, the examples of its README, and the page.
 #
 # It builds the module by web/build.sh, over the libraries that rt ci left, and compares it with dist/wasm/wkt.wasm. WKT_WASM
 # names a module that is built already: WKT_WASM=dist/wasm/wkt.wasm needs nothing of the prover. The package has to give the
-# answers of the native library to 40,000 texts: LIB names it (capi/out/libwkt.so).
+# answers of the native library to 40,000 texts: LIB names it (capi/out/libwkt.so). The examples of javascript/README.md
+# run in the package as it is packed, and each value that the page writes behind a call is compared.
 #
 # It needs Node 18 or later, tsc, Python and, for the page, Chromium and Selenium (tests/needs.sh installs them). SKIP=types
 # passes tsc over, SKIP=page the page.
@@ -66,12 +67,17 @@ wait $writing || fail "native.py"
 node --test --test-reporter=tap javascript/test/*.test.js > "$dir/said" 2>&1 || { grep -E -A 24 '^ *not ok' "$dir/said"; fail "the tests of the package"; }
 grep -q '^# skipped 0$' "$dir/said" || { grep SKIP "$dir/said"; fail "a test was skipped"; }
 echo "web: node $(node --version): $(sed -n 's/^# pass //p' "$dir/said") tests of the package passed"
-# The examples of javascript/README.md: each line `CALL; // VALUE` returns that value.
-example=$(sed -n '/^```js$/,/^```$/{//!p}' javascript/README.md |
-    sed -E 's,^( *)((wkt|error)\.[^;]*); // (.*)$,\1assert.deepEqual(\2\, \4); compared++;,')
-compared=$(cd "$app" && { echo "import assert from 'node:assert/strict'; let compared = 0;"; echo "$example"; echo "console.log(compared);"; } |
-    node --input-type=module -) || fail "the examples of javascript/README.md"
-[ "$compared" -ge 7 ] || fail "javascript/README.md: $compared examples"
+# The examples of javascript/README.md, as a user of the package has them: each line `CALL; // VALUE` returns that value.
+examples=$(sed -n '/^```js$/,/^```$/{//!p}' javascript/README.md)
+wanted=$(grep -c '; // ' <<< "$examples")
+[ "$wanted" -gt 2 ] || fail "javascript/README.md: $wanted examples"
+{
+    printf '%s\n' 'import assert from "node:assert/strict";' 'let compared = 0;'
+    sed -E 's,^( *)(.*); // (.*)$,\1assert.deepEqual(\2\, \3); compared++;,' <<< "$examples"
+    echo 'console.log(compared);'
+} > "$app/examples.js"
+compared=$(cd "$app" && node examples.js) || fail "the examples of javascript/README.md"
+[ "$compared" = "$wanted" ] || fail "javascript/README.md: $compared of its $wanted examples were reached"
 echo "web: javascript/README.md: $compared examples, each as it says"
 
 if ! skips page; then
