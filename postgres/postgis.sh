@@ -4,10 +4,7 @@
 # FOLDER as test.sh has it. It is run by hand, where PostGIS is (on Debian postgresql-15-postgis-3).
 set -eu
 . "$(dirname "$0")/server.sh"
-library "${1:-}"
-here=$(cd "$(dirname "$0")" && pwd)
-start_server
-. "$here/tests/asked.sh"
+test_server "$@"
 ask postgres "create database places"
 PGOPTIONS="-c client_min_messages=warning" ask places "create extension wkt_postgis cascade"
 # A text by its geometry: what isn't a number in it stays.

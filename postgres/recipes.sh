@@ -4,10 +4,8 @@
 # FOLDER as test.sh has it. It is run by hand, where python3-psycopg, python3-asyncpg and python3-sqlalchemy are.
 set -eu
 . "$(dirname "$0")/server.sh"
-library "${1:-}"
 here=$(cd "$(dirname "$0")" && pwd)
-start_server
-. "$here/tests/asked.sh"
+test_server "$@"
 ask postgres "create extension wkt" "create table places (id int, at wkt(6) primary key)"
 csplit -s -z -f recipe. "$here/README.md" '/^```python$/' '{*}'
 for file in recipe.*; do

@@ -69,3 +69,31 @@ start_server() {
     as "$bin/pg_ctl" -D data -w -o "-k $PGHOST -h '' -F ${server_flags[*]}" -l log start > /dev/null || { cat log; exit 1; }
     started=yes
 }
+
+# test_server [FOLDER]: a server over the library in that folder, and its answers compared: `status` is 1 once one is wrong.
+test_server() {
+    library "${1:-}"
+    status=0
+    start_server
+}
+# ask DATABASE SQL..: what the statements answer
+ask() {
+    local base=$1 sql said=()
+    shift
+    for sql in "$@"; do said+=(-c "$sql"); done
+    "$bin/psql" -X -q -At -v ON_ERROR_STOP=1 -d "$base" "${said[@]}"
+}
+wrong() {
+    echo "wrong: $*"
+    # shellcheck disable=SC2034 # the script ends with it
+    status=1
+}
+# is NAME EXPECTED ANSWER
+is() {
+    [ "$2" = "$3" ] || wrong "$1: $3, not $2"
+}
+# fails DATABASE SQL ERROR: the statement's error has these words
+fails() {
+    local said
+    if said=$(ask "$1" "$2" 2>&1); then wrong "$2: no error"; else [[ $said == *"$3"* ]] || wrong "$2: $said"; fi
+}

@@ -6,16 +6,21 @@
 # says more.
 set -eu
 . "$(dirname "$0")/server.sh"
-library "${1:-}"
 here=$(cd "$(dirname "$0")" && pwd)
-start_server
-. "$here/tests/asked.sh"
+test_server "$@"
 # What an extension consists of.
 objects="select string_agg(pg_describe_object(classid, objid, objsubid), ',' order by pg_describe_object(classid, objid, objsubid))
     from pg_depend d join pg_extension e on refobjid = e.oid and refclassid = 'pg_extension'::regclass where extname = 'wkt'"
 
 is "version: that of the header" "$(sed -n 's/^#define WKT_VERSION "\(.*\)"/\1/p' "$wkt/wkt.h")" "$(ask postgres "create extension wkt" "select wkt_version()" "drop extension wkt")"
-. "$here/tests/private.sh"
+# No other user can reach the server, in which whoever connects is superuser.
+owner=$(ps -o user= -p "$(head -n 1 "$dir/base/data/postmaster.pid")" | tr -d ' ')
+is "private: mode and owner of the folder" "700 $owner" "$(stat -c '%a %U' "$dir")"
+if [ "$(id -u)" = 0 ]; then
+    said=$(setpriv --reuid nobody --regid nogroup --clear-groups "$from/psql" -X -At -c "select 1" 2>&1) && wrong "private: nobody is let in: $said"
+    [[ ${said:-} == *"Permission denied"* ]] || wrong "private: $said"
+fi
+echo "private: $owner alone reaches the server"
 . "$here/tests/build.sh"
 # The statements of sql/, whose answers are in expected/, as `make installcheck` runs them on any server.
 cd "$dir/work"
@@ -27,7 +32,16 @@ as make -s installcheck PG_CONFIG="$config" WKT_LIB_DIR="$wkt" > regress.log 2>&
 . "$here/tests/keys.sh"
 . "$here/tests/cancel.sh"
 . "$here/tests/same.sh"
-. "$here/tests/page.sh"
+# The SQL of README.md, as it stands there.
+ask postgres "create database page"
+ask page "create extension wkt"
+sed -n '/^```sql$/,/^```$/p' "$here/README.md" | grep -v '^```' > "$dir/page.sql"
+"$bin/psql" -X -q -At -v ON_ERROR_STOP=1 -d page < "$dir/page.sql" > "$dir/said" 2>&1 || wrong "page: $(cat "$dir/said")"
+is "page: its first key" "POINT(1 2)" "$(ask page "select at from places")"
+sed -n 's/^=> //p' "$here/README.md" > "$dir/page.sql"
+"$bin/psql" -X -q -At -d page < "$dir/page.sql" > "$dir/said" 2>&1 || true
+is "page: its error" "$(sed -n '/^=> /,/^```$/p' "$here/README.md" | grep -v '^=> \|^```')" "$(cat "$dir/said")"
+echo "page: the statements of README.md run"
 . "$here/tests/updates.sh"
 . "$here/tests/dump.sh"
 . "$here/tests/roles.sh"

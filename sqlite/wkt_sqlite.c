@@ -123,31 +123,27 @@ static void refuse(sqlite3_context *context, const Question *asked, wkt_status s
     sqlite3_free(why);
 }
 
-static void canonical(sqlite3_context *context, int count, sqlite3_value **values) {
-    Question asked;
+/* Returns the canonical text, if the text has one, and why it has none. */
+static wkt_status answered(sqlite3_context *context, int count, sqlite3_value **values, Question *asked) {
     char *out;
     size_t length;
     wkt_status status;
-    if (some_null(count, values)) return;
-    status = canonical_of(values[0], places_of(count, values, 1), &asked, &out, &length);
-    if (status == WKT_OK)
-        sqlite3_result_text64(context, out, length, sqlite3_free, SQLITE_UTF8);
-    else
-        refuse(context, &asked, status);
+    if (some_null(count, values)) return WKT_OK;
+    status = canonical_of(values[0], places_of(count, values, 1), asked, &out, &length);
+    if (status == WKT_OK) sqlite3_result_text64(context, out, length, sqlite3_free, SQLITE_UTF8);
+    return status;
+}
+
+static void canonical(sqlite3_context *context, int count, sqlite3_value **values) {
+    Question asked;
+    wkt_status status = answered(context, count, values, &asked);
+    if (status != WKT_OK) refuse(context, &asked, status);
 }
 
 /* The canonical text; null where the text is refused. */
 static void or_null(sqlite3_context *context, int count, sqlite3_value **values) {
     Question asked;
-    char *out;
-    size_t length;
-    wkt_status status;
-    if (some_null(count, values)) return;
-    status = canonical_of(values[0], places_of(count, values, 1), &asked, &out, &length);
-    if (status == WKT_OK)
-        sqlite3_result_text64(context, out, length, sqlite3_free, SQLITE_UTF8);
-    else
-        is_limit(context, status);
+    is_limit(context, answered(context, count, values, &asked));
 }
 
 static void reads(sqlite3_context *context, int count, sqlite3_value **values) {

@@ -18,5 +18,5 @@ addEventListener('error', (event) => {
   if (event.message.startsWith('ResizeObserver')) return; // a word of the browser about a frame, and no error
   const started = document.documentElement.dataset.ready;
   document.getElementById('say').textContent = started ? 'Something went wrong in the page' : 'This browser can’t run the page';
-  document.getElementById('why').textContent = `${started ? '' : 'It needs Chrome 84, Firefox 113, Safari 16.4 or later. '}${event.message}`;
+  document.getElementById('why').textContent = `${started ? '' : 'It needs Chrome 92, Firefox 113, Safari 16.4 or later. '}${event.message}`;
 });

@@ -242,7 +242,7 @@ async function start() {
     state.wkt = await load(state.module);
     $('engine').textContent = `The module was ready in ${Math.round(performance.now() - begun)} ms.`;
   } catch (error) {
-    say('bad', 'This browser can’t run the page', `It needs WebAssembly and DecompressionStream: Chrome 84, Firefox 113, Safari 16.4 or later. ${error}`);
+    say('bad', 'This browser can’t run the page', `It needs WebAssembly and DecompressionStream: Chrome 92, Firefox 113, Safari 16.4 or later. ${error}`);
     return;
   }
   for (const listener of [showVerdict, showCanonical, showRows, showMarks, showLinkButton, draw]) onShow(listener);

@@ -85,7 +85,7 @@ if ! skips page; then
     echo "web: $said"
 fi
 if [ -e web/make.py ] && ! skips page; then
-    node --test --test-reporter=tap web/ > "$dir/said" 2>&1 || { cat "$dir/said"; fail "the parts of the page"; }
+    node --test --test-reporter=tap web/test/*.test.js > "$dir/said" 2>&1 || { cat "$dir/said"; fail "the parts of the page"; }
     web/make.py --module "$module" "$dir/index.html" && web/test.py "$dir/index.html" || fail "the page"
     if [ -e dist/web/index.html ] && cmp -s "$module" dist/wasm/wkt.wasm; then web/make.py --check || fail "the page in dist/web"; fi
 fi

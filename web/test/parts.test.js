@@ -1,5 +1,6 @@
-// The parts of the page that need no browser: node --test web/
+// The parts of the page that need no browser: node --test web/test/parts.test.js
 import assert from 'node:assert/strict';
+import { readFileSync, readdirSync } from 'node:fs';
 import { test } from 'node:test';
 import { Range, compare } from '../range.js';
 import { Repeats } from '../repeats.js';
@@ -154,4 +155,17 @@ test('the first repeats are listed, by their lines', () => {
   const { repeats, wanted } = check(random(3000, 100), good, { memory: 0, shown: 10 });
   assert.deepEqual(repeats.first, wanted.slice(0, 10));
   assert.equal(repeats.count, wanted.length);
+});
+
+// What the scripts of the page use, and since which Chrome that is there, by the tables of MDN.
+const SINCE = [
+  [/DecompressionStream/, 80], [/this\.#\w+\(/, 84], [/\?\?=|\|\|=|&&=/, 85], [/\.replaceAll\(/, 85], [/\.at\(/, 92], [/Object\.hasOwn/, 93], [/static \{/, 94],
+  [/\.findLast/, 97], [/structuredClone/, 98], [/deflate-raw/, 103], [/\.to(Sorted|Reversed|Spliced)\(/, 110], [/isWellFormed|Object\.groupBy/, 117],
+];
+test('the page names the oldest browser that has what it uses', () => {
+  const folders = ['../', '../../javascript/src/'].map((name) => new URL(name, import.meta.url));
+  const files = folders.flatMap((folder) => readdirSync(folder).filter((name) => name.endsWith('.js')).map((name) => readFileSync(new URL(name, folder), 'utf8')));
+  const oldest = Math.max(...SINCE.filter(([form]) => files.some((text) => form.test(text))).map(([, version]) => version));
+  const named = files.flatMap((text) => [...text.matchAll(/Chrome (\d+)/g)].map(([, version]) => Number(version)));
+  assert.deepEqual(named, [oldest, oldest]);
 });

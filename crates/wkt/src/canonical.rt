@@ -7,8 +7,8 @@ ghost use Rattle.wkt_read.specs.Refusal.{IsRefusedWith, IsTextRefused, IfText};
 ghost use Rattle.wkt_canonical.specs.Canonical.{IsCanonical};
 
 use std::alloc::{AllocError, Global};
-use wkt_canonical::{NoRoom, TextWritten, canonical_into, write_growing};
-use wkt_explain::refusal;
+use wkt_canonical::{NoRoom, TextWritten, canonical_or_message, write_growing};
+use wkt_explain::message;
 use wkt_num::WktNum;
 use wkt_read::{Message, ReadError};
 
@@ -34,7 +34,7 @@ fn message_of<T: WktNum>(text: &str) -> Message
     requires { HasNoFront T.read text.now }
     ensures { IsRefusedWith T.read text.now result }
 {
-    refusal::<T>(text).unwrap().message
+    message::<T>(text)
 }
 
 /// The canonical text of the geometry at the front of the text. Texts of one geometry have the same, and texts of two
@@ -61,9 +61,9 @@ pub fn canonical_text<T: WktNum>(alloc: Global, text: &str) -> Result<String, Re
     }
     if text.len() <= SHORT {
         let mut near = [0u8; SHORT_ROOM];
-        match canonical_into::<T>(text, &mut near) {
-            Ok(Some(TextWritten { end: _, len })) => return Ok(string_of(alloc, &near[..len])?),
-            Ok(None) => return Err(ReadError::Text(message_of::<T>(text).text())),
+        match canonical_or_message::<T>(text, &mut near) {
+            Ok(Ok(TextWritten { end: _, len })) => return Ok(string_of(alloc, &near[..len])?),
+            Ok(Err(message)) => return Err(ReadError::Text(message.text())),
             Err(NoRoom) => {}
         }
     }

@@ -10,7 +10,7 @@ use Rattle.wkt_lines.specs.Lines.{input_lines}
 use Rattle.wkt_lines.specs.Replies.{AreReplies}
 use Rattle.wkt_lines.specs.Splitting.{before_feed, after_feed}
 use Rattle.wkt_lines.proofs.Splits.{lines_step}
-use Rattle.wkt_canonical.specs.Answers.{IsAnswer}
+use Rattle.wkt_lines.specs.Output.{IsAnswer}
 use Rattle.wkt_calls.specs.Chunks.{AreWholeLines}
 
 -- the output for a piece more

@@ -1,7 +1,7 @@
 //! Many lines answered at once.
 ghost use Rattle.std.specs.Prelude.{◌≡◌, ◌⊎◌, ◌≤◌, ◌+◌, ◌*◌, ◌-◌, length, take, drop};
-ghost use Rattle.wkt_canonical.specs.Answers.{AnswersLine};
-ghost use Rattle.wkt_events.specs.Left.{before_feed};
+ghost use Rattle.wkt_lines.specs.InRoom.{AnswersBehind};
+ghost use Rattle.wkt_lines.specs.Splitting.{before_feed};
 ghost use Rattle.wkt_lines.specs.Output.{IsOutput};
 ghost use Rattle.wkt_calls.specs.Answer.{read_at, print_at};
 ghost use Rattle.wkt_calls.specs.Chunks.{AnswersSure, AreWholeLines, IsStuck, ends_here};
@@ -9,9 +9,10 @@ ghost use Rattle.wkt_calls.specs.Chunks.{AnswersSure, AreWholeLines, IsStuck, en
 use crate::at_places;
 use crate::room::has_room;
 use crate::whole::whole_within;
+use wkt_canonical::NoRoom;
 use wkt_canonical::laws::texts_are_short;
-use wkt_canonical::{Answer, NoRoom, answer_line};
 use wkt_lines::laws::output_of_parts;
+use wkt_lines::{Answer, answer_line};
 use wkt_num::Decimal;
 
 /// How many bytes of an input are looked at together for whole lines, mostly.
@@ -37,7 +38,7 @@ pub fn is_last(last: u32) -> bool
 #[inline(always)]
 fn answer_first<const D: u32>(rest: &[u8], out: &mut [u8], len: usize) -> Answer
     requires { len + 2 * length rest.now + 65 ≤ length out.old }
-    ensures answers { AnswersLine (read_at D) (print_at D) rest.now len out.old out.new result.taken result.len }
+    ensures answers { AnswersBehind (read_at D) (print_at D) rest.now len out.old out.new result.taken result.len }
     ensures whole { length out.new ≡ length out.old }
     ensures room { result.len ≤ length out.old }
     ensures line { result.taken ≡ length (before_feed rest.now) + 1 }

@@ -21,10 +21,12 @@ use Rattle.wkt_machine.specs.Machines.{state_of}
 use Rattle.wkt_machine.specs.declared.bytes.Bytes.{Bytes}
 use Rattle.wkt_machine.specs.declared.source.At.{At}
 use Rattle.wkt_machine.proofs.Fronting.{front_made, no_front_there}
+use Rattle.wkt_machine.proofs.Stopping.{stops_there}
+use Rattle.wkt_machine.proofs.Valued.{refused}
 use Rattle.wkt_canonical.specs.Canonical.{IsCanonicalTo, HasWritten, WritesFront, WritesCanonical}
 use Rattle.wkt_canonical.specs.PenMaker.{pen_maker, Made}
 use Rattle.wkt_canonical.specs.Pens.{written_of}
-use Rattle.wkt_canonical.specs.Through.{WritesEvents}
+use Rattle.wkt_canonical.specs.Through.{StopsIn, WritesEvents}
 use Rattle.wkt_canonical.specs.Written.{Written, write_all}
 use Rattle.wkt_canonical.specs.declared.pen.Pen.{Pen}
 use Rattle.wkt_canonical.specs.declared.canonical.NoRoom.{NoRoom}
@@ -78,6 +80,11 @@ module _ {N : Type 0} (read : List ℕ → Option N) (num : N → List ℕ) wher
         no_front_there read (bytes_view feed) (pen_maker read num) (line_of feed text) s pen to (line_left feed text s is at) text
         (is, (subst (λ t. IsUtf8 (line_of feed t)) (sym is) utf8, omega (arith, at))) h
 
+    -- where it is refused the machine stops
+    pub stops_at : RefusesFrom read (bytes_view feed) (pen_maker read num) s pen to → StopsIn read feed text to.machine to.source.at
+    stops_at h off utf8 =
+        stops_there read text s is at utf8 to.source to.machine (refused read (bytes_view false) (pen_maker read num) s pen to (subst (λ b. RefusesFrom read (bytes_view b) (pen_maker read num) s pen to) off h))
+
   -- a pen that had written nothing holds the text alone
   pub wrote-alone : (line : List ℕ) (end : ℕ) (old new : List ℕ) (before after : Pen N) → before.len ≡ 0 → before.polygon ≡ 0 → WritesEvents read num line before after end → new ≡ after.out.now → HasWritten read num line 0 old new end after.len
   wrote-alone line end old new before after none first h tie =
@@ -110,3 +117,9 @@ module _ {N : Type 0} (read : List ℕ → Option N) (num : N → List ℕ) wher
   whole-text text bytes at old new (Ok (Some p)) same utf8 w = subst (λ (t : List ℕ). HasWritten read num t at old new p.0 p.1) same w
   whole-text text bytes at old new (Ok None) same utf8 w = subst (λ (t : List ℕ). WritesFront read num false t at old new (Ok None)) same w utf8
   whole-text text bytes at old new (Err e) same utf8 w = w
+
+  -- what was written at the front of a buffer is the text's canonical text
+  pub wrote-here : (text bytes old new : List ℕ) (before after : Pen N) (end : ℕ) → bytes ≡ text → IsUtf8 text → before.len ≡ 0 → before.polygon ≡ 0 → WritesEvents read num (line_of false bytes) before after end → after.len + 64 ≤ length after.out.now → new ≡ after.out.now
+      → IsCanonicalTo read num text (take after.len new) end × (after.len ≤ length new) × IsUtf8 (take after.len new)
+  wrote-here text bytes old new before after end same utf8 none first h room tie =
+      wrote-into text old new end after.len (omega (arith, room, ap length tie)) (whole-text text bytes 0 old new (Ok (Some (end, after.len))) same utf8 (wrote-alone (line_of false bytes) end old new before after none first h tie))

@@ -6,5 +6,4 @@ pub mod Shortest
 pub mod PenNumbers
 pub mod Utf8Texts
 pub mod Backs
-pub mod Answering
 pub mod ShortTexts

@@ -40,7 +40,7 @@ module _ {N : Type 0} (read : List ℕ → Option N) (num : N → List ℕ) wher
   WritesInto text old new (Ok None) = HasNoFront read text
   WritesInto text old new (Err e) = (length old < 2 * length text + 65) ⊎ HasLongText read num
 
-  -- The same of the first line of bytes, if they end at a line feed: it has no front where it is UTF-8.
+  -- As `WritesCanonical`, of the first line of bytes, if they end at a line feed: it has no front where it is UTF-8.
   abbrev pub WritesFront : Bool → List ℕ → ℕ → List ℕ → List ℕ → Result (Option (ℕ × ℕ)) NoRoom → Type 0
   WritesFront feed text len old new (Ok (Some p)) = HasWritten (line_of feed text) len old new p.0 p.1
   WritesFront feed text len old new (Ok None) = IsUtf8 (line_of feed text) → HasNoFront read (line_of feed text)

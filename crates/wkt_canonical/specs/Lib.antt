@@ -7,4 +7,3 @@ pub mod Spaces
 pub mod Canonical
 pub mod Through
 pub mod Rooms
-pub mod Answers

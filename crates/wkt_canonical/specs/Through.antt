@@ -1,20 +1,37 @@
 -- What a pen that is lent has written.
-use Rattle.std.specs.Prelude.{◌≡◌, ℕ, List, length, Option, Bool, IsUtf8}
+use Rattle.std.specs.Prelude.{◌≡◌, ℕ, ◌+◌, ◌*◌, ◌<◌, ◌≤◌, ◌⊎◌, List, length, take, Option, Result, Ok, Err, Bool, false, IsUtf8}
 use Rattle.wkt_access.specs.Values.{Value}
 use Rattle.wkt_read.specs.Front.{Front, HasNoFront}
+use Rattle.wkt_read.specs.Refusal.{IsRefusedWith}
+use Rattle.wkt_read.specs.declared.messages.Message.{Message}
 use Rattle.wkt_events.specs.Left.{line_of}
 use Rattle.wkt_machine.specs.Events.{events}
+use Rattle.wkt_machine.specs.Stops.{StopsAt}
+use Rattle.wkt_machine.specs.declared.machine.Machine.{Machine}
+use Rattle.wkt_canonical.specs.Canonical.{IsCanonicalTo}
 use Rattle.wkt_canonical.specs.LongTexts.{HasLongText}
 use Rattle.wkt_canonical.specs.PenMaker.{Made}
 use Rattle.wkt_canonical.specs.declared.pen.Pen.{Pen}
 use Rattle.wkt_canonical.specs.declared.canonical.Next.{Next}
+use Rattle.wkt_canonical.specs.declared.canonical.NoRoom.{NoRoom}
+use Rattle.wkt_canonical.specs.declared.canonical.TextWritten.{TextWritten}
 use Rattle.wkt_canonical.specs.declared.canonical.Next.TheVariants as next
 
 -- What holds where it was written.
 abbrev pub IfEnds : Next → (ℕ → Type 0) → Type 0
 IfEnds (next.Ends to) P = P to
-IfEnds next.Nothing P = Unit {0}
+IfEnds (next.Nothing m at) P = Unit {0}
 IfEnds next.NoRoom P = Unit {0}
+
+-- What holds where there is none.
+abbrev pub IfNothing : Next → (Machine → ℕ → Type 0) → Type 0
+IfNothing (next.Ends to) P = Unit {0}
+IfNothing (next.Nothing m at) P = P m at
+IfNothing next.NoRoom P = Unit {0}
+
+-- The machine stops there in the text, where a line feed is no end of it.
+abbrev pub StopsIn : {N : Type 0} → (List ℕ → Option N) → Bool → List ℕ → Machine → ℕ → Type 0
+StopsIn read feed text m at = feed ≡ false → IsUtf8 text → StopsAt read text m at
 
 -- The events of the value that the text begins with were written, and it ends there.
 pub record WritesEvents {N : Type 0} (read : List ℕ → Option N) (num : N → List ℕ) (text : List ℕ) (before after : Pen N) (to : ℕ) : Type 0 where
@@ -26,5 +43,11 @@ pub record WritesEvents {N : Type 0} (read : List ℕ → Option N) (num : N →
 -- That; or the text begins with none; or a number's text was too long.
 abbrev pub WritesNext : {N : Type 0} → (List ℕ → Option N) → (N → List ℕ) → Bool → List ℕ → Pen N → Pen N → Next → Type 0
 WritesNext read num feed text before after (next.Ends to) = WritesEvents read num (line_of feed text) before after to
-WritesNext read num feed text before after next.Nothing = IsUtf8 (line_of feed text) → HasNoFront read (line_of feed text)
+WritesNext read num feed text before after (next.Nothing m at) = IsUtf8 (line_of feed text) → HasNoFront read (line_of feed text)
 WritesNext read num feed text before after next.NoRoom = HasLongText read num
+
+-- The canonical text stands at the front of a buffer; or the text is refused with the message; or the buffer was too short, or a number's text too long.
+abbrev pub WritesOrSays : {N : Type 0} → (List ℕ → Option N) → (N → List ℕ) → List ℕ → List ℕ → List ℕ → Result (Result TextWritten Message) NoRoom → Type 0
+WritesOrSays read num text old new (Ok (Ok w)) = IsCanonicalTo read num text (take w.len new) w.end × (w.len ≤ length new) × IsUtf8 (take w.len new)
+WritesOrSays read num text old new (Ok (Err m)) = HasNoFront read text × IsRefusedWith read text m
+WritesOrSays read num text old new (Err e) = (length old < 2 * length text + 65) ⊎ HasLongText read num

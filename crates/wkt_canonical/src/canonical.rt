@@ -1,13 +1,14 @@
 //! The canonical text of what a text begins with.
 ghost use Rattle.std.specs.Prelude.{◌≡◌, ◌+◌, ◌*◌, ◌≤◌, length, take};
 ghost use Rattle.wkt_canonical.specs.Canonical.{WritesCanonical, WritesFront, WritesInto, LeavesRoom};
-ghost use Rattle.wkt_canonical.specs.Through.{IfEnds, WritesNext};
+ghost use Rattle.wkt_canonical.specs.Through.{IfEnds, IfNothing, StopsIn, WritesNext, WritesOrSays};
 
 use crate::pen::Pen;
 use std::marker::PhantomData;
 use wkt_machine::drive::drive;
-use wkt_machine::{At, Bytes};
+use wkt_machine::{At, Bytes, Machine, message_at};
 use wkt_num::WktNum;
+use wkt_read::Message;
 
 /// A number's text is at least twice as long as what it was read from, and there was no room for it: more may do. Decimals
 /// and whole numbers have no such texts.
@@ -50,6 +51,34 @@ pub fn canonical_into<T: WktNum>(
     }
 }
 
+/// As [`canonical_into`], and with its message where the text has no geometry at its front: no byte is read twice for it.
+///
+/// # Errors
+/// [`NoRoom`], as there.
+pub fn canonical_or_message<T: WktNum>(
+    text: &str,
+    buffer: &mut [u8],
+) -> Result<Result<TextWritten, Message>, NoRoom>
+    ensures writes { WritesOrSays T.read T.num text.now buffer.old buffer.new result }
+    ensures whole { length buffer.new ≡ length buffer.old }
+{
+    let room = buffer.len();
+    if room < 65 || text.len() > (room - 65) / 2 {
+        return Err(NoRoom);
+    }
+    let mut pen: Pen<'_, T> = Pen {
+        out: &mut *buffer,
+        len: 0,
+        polygon: 0,
+        of: PhantomData,
+    };
+    match write_next::<T, false>(text.as_bytes(), &mut pen) {
+        Next::Ends(end) => Ok(Ok(TextWritten { end, len: pen.len })),
+        Next::Nothing(machine, at) => Ok(Err(message_at::<T>(machine, text, at))),
+        Next::NoRoom => Err(NoRoom),
+    }
+}
+
 /// Writes the canonical text of the geometry that the text begins with behind the first `len` bytes, and answers where it
 /// ends in the text and how much is written then; `None` where the text begins with none. There is room for twice the
 /// text, and 65 bytes more.
@@ -71,8 +100,11 @@ pub fn write_canonical<T: WktNum>(
 }
 
 /// The same of bytes, which where `FEED_ENDS` end at the first LF. Where they are no UTF-8 the answer may be `None`.
+///
+/// # Errors
+/// Those of [`write_canonical`].
 #[inline(always)]
-pub(crate) fn write_front<T: WktNum, const FEED_ENDS: bool>(
+pub fn write_front<T: WktNum, const FEED_ENDS: bool>(
     text: &[u8],
     out: &mut [u8],
     len: usize,
@@ -109,7 +141,7 @@ fn write_alone<T: WktNum, const FEED_ENDS: bool>(
     };
     match write_next::<T, FEED_ENDS>(text, &mut pen) {
         Next::Ends(end) => Ok(Some((end, pen.len))),
-        Next::Nothing => Ok(None),
+        Next::Nothing(_, _) => Ok(None),
         Next::NoRoom => Err(NoRoom),
     }
 }
@@ -118,8 +150,8 @@ fn write_alone<T: WktNum, const FEED_ENDS: bool>(
 pub(crate) enum Next {
     /// It was written, and ends there.
     Ends(usize),
-    /// There is none.
-    Nothing,
+    /// There is none: the machine stops at this place.
+    Nothing(Machine, usize),
     /// A number had no room for its text.
     NoRoom,
 }
@@ -136,6 +168,7 @@ pub(crate) fn write_next<T: WktNum, const FEED_ENDS: bool>(
     ensures same_reference { IfEnds result (λ r. pen.new.out.ghost_name ≡ pen.old.out.ghost_name) }
     ensures room { IfEnds result (λ r. pen.new.len + 64 ≤ length pen.new.out.now) }
     ensures writes { WritesNext T.read T.num FEED_ENDS text.now pen.old pen.new result }
+    ensures stops { IfNothing result (StopsIn T.read FEED_ENDS text.now) }
 {
     let whole = pen.out.len();
     let out = std::mem::take(&mut pen.out);
@@ -166,6 +199,6 @@ pub(crate) fn write_next<T: WktNum, const FEED_ENDS: bool>(
             pen.polygon = polygon;
             Next::Ends(source.at)
         }
-        Err(_) => Next::Nothing,
+        Err(stop) => Next::Nothing(stop.machine, stop.source.at),
     }
 }

@@ -5,14 +5,14 @@
 
 mod canonical;
 pub mod laws;
-mod lines;
 mod numbers;
 mod pen;
 mod room;
 mod space;
 
-pub use canonical::{NoRoom, TextWritten, canonical_into, write_canonical};
-pub use lines::{Answer, answer_line};
+pub use canonical::{
+    NoRoom, TextWritten, canonical_into, canonical_or_message, write_canonical, write_front,
+};
 pub use pen::Pen;
 pub use room::{make_room, widen, write_growing};
 

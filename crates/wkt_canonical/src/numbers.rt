@@ -122,7 +122,8 @@ impl<'a, T: WktNum> Pen<'a, T> {
         self.number_far(text, at)
     }
 
-    /// What it answers comes through memory, whose place is cleared here, away from the way before it.
+    /// What it answers comes through memory, whose place is cleared here, away from the way before it; but not where the
+    /// last polygon stands, which is as it was.
     #[inline(always)]
     fn number_far(self, text: &[u8], at: usize) -> (Self, Option<usize>)
         requires at { at ≤ length text.now }
@@ -130,7 +131,21 @@ impl<'a, T: WktNum> Pen<'a, T> {
         ensures some { IfSome result.1 (Numbered T.read T.num text.now at self.entry result.0) }
         ensures none { IfNone result.1 (NoNumber T.read text.now at) }
     {
-        self.number_apart(text, at)
+        let polygon = self.polygon;
+        let (pen, end) = self.number_apart(text, at);
+        let Pen {
+            out,
+            len,
+            polygon: _,
+            of,
+        } = pen;
+        let pen = Pen {
+            out,
+            len,
+            polygon,
+            of,
+        };
+        (pen, end)
     }
 
     /// The same for a number that no window shows whole, or that isn't written as it stands.

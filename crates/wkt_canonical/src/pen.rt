@@ -108,16 +108,8 @@ impl<'a, T> Pen<'a, T> {
         requires { HasBytes self 32 }
         ensures { Extends self.entry (kind_text whole) result }
     {
-        match whole {
-            Part::Point => self.put_front(b"POINT                           ", 5),
-            Part::LineString => self.put_front(b"LINESTRING                      ", 10),
-            Part::Polygon => self.put_front(b"POLYGON                         ", 7),
-            Part::MultiPoint => self.put_front(b"MULTIPOINT                      ", 10),
-            Part::MultiLineString => self.put_front(b"MULTILINESTRING                 ", 15),
-            Part::MultiPolygon => self.put_front(b"MULTIPOLYGON                    ", 12),
-            Part::Collection => self.put_front(b"GEOMETRYCOLLECTION              ", 18),
-            _ => self,
-        }
+        let (window, n) = kind_window(whole);
+        self.put_front(window, n)
     }
 
     /// What follows the word for a dimension.
@@ -128,9 +120,7 @@ impl<'a, T> Pen<'a, T> {
     {
         match dimension {
             Dimension::XY => self,
-            Dimension::XYZ => self.put_all(b" Z"),
-            Dimension::XYM => self.put_all(b" M"),
-            Dimension::XYZM => self.put_all(b" ZM"),
+            _ => self.put_all(suffix_bytes(dimension)),
         }
     }
 
@@ -217,6 +207,38 @@ impl<'a, T> Pen<'a, T> {
             of,
         };
         pen.put_empty(part)
+    }
+}
+
+/// The word of a whole geometry, in a window, and how long it is.
+#[inline(always)]
+fn kind_window(whole: Part) -> (&'static [u8; 32], usize)
+    ensures text { take result.1 result.0.now ≡ kind_text whole }
+    ensures n { result.1 ≤ 32 }
+{
+    match whole {
+        Part::Point => (b"POINT                           ", 5),
+        Part::LineString => (b"LINESTRING                      ", 10),
+        Part::Polygon => (b"POLYGON                         ", 7),
+        Part::MultiPoint => (b"MULTIPOINT                      ", 10),
+        Part::MultiLineString => (b"MULTILINESTRING                 ", 15),
+        Part::MultiPolygon => (b"MULTIPOLYGON                    ", 12),
+        Part::Collection => (b"GEOMETRYCOLLECTION              ", 18),
+        _ => (b"                                ", 0),
+    }
+}
+
+/// What follows the word for a dimension.
+#[inline(always)]
+fn suffix_bytes(dimension: Dimension) -> &'static [u8]
+    ensures text { result.now ≡ suffix dimension }
+    ensures len { length result.now ≤ 3 }
+{
+    match dimension {
+        Dimension::XY => b"",
+        Dimension::XYZ => b" Z",
+        Dimension::XYM => b" M",
+        Dimension::XYZM => b" ZM",
     }
 }
 

@@ -1,6 +1,5 @@
 //! Canonical texts, written by hand.
-use crate::{TextWritten, answer_line, canonical_into};
-use std::process::Abort;
+use crate::{TextWritten, canonical_into};
 use wkt_num::Decimal;
 
 // What each text is written as; nothing where no beginning of it is a geometry.
@@ -110,37 +109,4 @@ fn texts(rt: HostRuntime) {
             Err(_) => panic!(&rt; "no room for {text}"),
         }
     }
-}
-
-/// The line is answered so.
-fn is_answered(rt: &impl Abort, line: &[u8], taken: usize, want: Option<&str>) {
-    assert!(rt; line.len() <= 301);
-    let mut out = [7u8; 800];
-    match answer_line::<Decimal<6>>(line, &mut out, 3) {
-        Ok(answer) => {
-            assert!(rt; answer.taken == taken);
-            assert!(rt; out[..3] == [7; 3]);
-            assert!(rt; 4 <= answer.len && answer.len <= 800);
-            let given = str::from_utf8(&out[3..answer.len - 1]).ok();
-            assert!(rt; given == Some(want.unwrap_or("refused")), "{given:?}");
-            assert!(rt; out[answer.len - 1] == b'\n');
-        }
-        Err(_) => panic!(rt; "no room"),
-    }
-}
-
-#[test]
-fn lines(rt: HostRuntime) {
-    for (text, written) in TEXTS {
-        let n = text.len();
-        assert!(&rt; n < 300);
-        // A line feed in a text ends the line.
-        if !text.contains('\n') {
-            is_answered(&rt, text.as_bytes(), n + 1, written);
-        }
-    }
-    is_answered(&rt, b"point(1 2.0)  ", 15, Some("POINT(1 2)"));
-    is_answered(&rt, b"point(1 2.0)\nx", 13, Some("POINT(1 2)"));
-    is_answered(&rt, b"point(1 2.0) \n", 14, Some("POINT(1 2)"));
-    is_answered(&rt, b"point(1 2.0) \xff", 15, None);
 }

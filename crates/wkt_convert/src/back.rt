@@ -137,8 +137,16 @@ pub(crate) fn geometry<T: WktNum>(alloc: Global, g: &Geometry<T>) -> Result<Wkt<
 {
     match g {
         Geometry::Point(p) => Ok(Wkt::Point(point(*p))),
-        _ => by_kind(alloc, g),
+        _ => other(alloc, g),
     }
+}
+
+/// The same of another kind. What it answers comes through memory, whose place is cleared here, away from the point's.
+#[inline(always)]
+fn other<T: WktNum>(alloc: Global, g: &Geometry<T>) -> Result<Wkt<T>, AllocError>
+    ensures { IfOk result (λ w. trees.tree w ≡ back (flat_tree g.now)) }
+{
+    by_kind(alloc, g)
 }
 
 /// The `Wkt` of a geometry of any kind.

@@ -15,7 +15,7 @@ first-within at bytes first later (gap, body, after, e, w, s, n, st) =
 
 line-length : (feed : Bool) (text : List ℕ) (at : ℕ) → at ≤ length (line_of feed text) → at + length (line_of feed (drop at text)) ≡ length (line_of feed text)
 line-length false text at h = let count = length-drop at text in omega (arith, h, count)
-line-length true text at h = let d = drop-line text at h in let count = d.2 in omega (arith, count)
+line-length true text at h = let d = drop-line text at h in let count = d.1 in omega (arith, count)
 
 -- behind a lexeme
 pub legible-one : (feed : Bool) (text : List ℕ) (at : ℕ) (l : Lexeme) (to : ℕ) → TakesOne feed text at l to → Legible feed text at → Legible feed text to

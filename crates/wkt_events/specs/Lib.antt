@@ -2,4 +2,3 @@ pub mod Left
 pub mod Windows
 pub mod Numbers
 pub mod Plus
-pub mod Feeds

@@ -1,10 +1,9 @@
-//! Lexemes in bytes: where they and the lines of a text end, and what is read of numbers there.
+//! Lexemes in bytes: where they end, and what is read of numbers there.
 //!
 //! Below stands `wkt_read`, with the grammar; above, `wkt_machine`, which goes over these bytes.
 #![tactic(auto)]
 
 mod bytes;
-pub mod ends;
 mod reading;
 
 pub use bytes::{byte_at, run_end, skip_white};

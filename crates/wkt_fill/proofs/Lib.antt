@@ -4,3 +4,10 @@ pub mod Holding
 pub mod Outcome
 pub mod Finished
 pub mod Nearby
+pub mod Owing
+pub mod Between
+pub mod Inverse
+pub mod Whole
+pub mod Coordinates
+pub mod Bounds
+pub mod Headed

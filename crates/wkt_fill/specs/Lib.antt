@@ -3,3 +3,5 @@ pub mod Filling
 pub mod Growing
 pub mod Filled
 pub mod Fronts
+pub mod Parts
+pub mod Given

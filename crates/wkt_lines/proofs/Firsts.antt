@@ -10,8 +10,8 @@ use Rattle.wkt_num.specs.Sink.{next_count}
 use Rattle.wkt_bytes.specs.Sinks.{SinkOfBytes, PutsAll}
 use lib.Utf8.{encode}
 use Rattle.wkt_events.specs.Left.{before_feed}
-use Rattle.wkt_events.specs.Feeds.{after_feed}
-use Rattle.wkt_canonical.specs.Answers.{IsAnswer}
+use Rattle.wkt_lines.specs.Splitting.{after_feed}
+use Rattle.wkt_lines.specs.Output.{IsAnswer}
 use Rattle.wkt_lines.specs.First.{AnswersFirst, EndsLine}
 
 drop-one : (b : ℕ) (rest : List ℕ) (n : ℕ) (after : List ℕ) → drop (n + 1) rest ≡ after → drop (suc n + 1) (b ∷ rest) ≡ after

@@ -1,3 +1,5 @@
+pub mod LineEnds
+pub mod InRoom
 pub mod Splits
 pub mod Answering
 pub mod Adding

@@ -1,6 +1,6 @@
 -- Lines that come one by one.
 use Rattle.std.proofs.Common.{◌≡◌, ◌≢◌, ℕ, zero, suc, ◌+◌, ◌-◌, ◌<◌, ◌≤◌, inl, inr, false, ◌==◌, if◌then◌else◌, List, [], ◌∷◌, ◌++◌, length, take, drop, get_or, refl, sym, ap, ◌∙◌, subst, append_assoc, Option, None, Some, arith}
-use Rattle.std.proofs.lemmas.List.{append-nil, take_all, length-drop, length-take-le}
+use Rattle.std.proofs.lemmas.List.{append-nil, take_all, length-drop, length-take-le, get_or-drop, get_or-take}
 use Rattle.std.proofs.lemmas.Bool.{cases_lt}
 use Rattle.std.proofs.lemmas.Bool.Decides.{eqb_tells}
 use Rattle.std.specs.Io.KnownBytes.{Consumes, Keeps, IsAtEnd, prepend_known}
@@ -82,6 +82,19 @@ first_whole xs n h some e =
 -- a line that ends where the bytes end has none
 pub none_to_end : (n : ℕ) (xs : List ℕ) → length xs ≤ n → take n xs ≡ before_feed xs → HasNoFeed xs
 none_to_end n xs h e = subst (λ (ys : List ℕ). HasNoFeed ys) (sym e ∙ take_all n xs h) (none_before xs)
+
+-- none in a piece, and none behind it
+pub none_window : (xs : List ℕ) (from at n : ℕ) → from ≤ at → at ≤ length xs → at - from ≤ n → take n (take (at - from) (drop from xs)) ≡ before_feed (take (at - from) (drop from xs))
+    → ((k : ℕ) → at ≤ k → k < length xs → get_or xs k 0 ≢ 10) → (k : ℕ) → from ≤ k → k < length xs → get_or xs k 0 ≢ 10
+none_window xs from at n o w long e high k low below = elim (cases_lt k at) [
+  | inl l ↦
+      let len : length (take (at - from) (drop from xs)) ≡ at - from = length-take-le (at - from) (drop from xs) (omega (arith, w, o, length-drop from xs)) in
+      let none : HasNoFeed (take (at - from) (drop from xs)) = none_to_end n (take (at - from) (drop from xs)) (omega (arith, len, long)) e in
+      let place : from + (k - from) ≡ k = omega (arith, low) in
+      let is : get_or (take (at - from) (drop from xs)) (k - from) 0 ≡ get_or xs k 0 = get_or-take (at - from) (drop from xs) (k - from) 0 (omega (arith, low, l)) ∙ (get_or-drop from xs (k - from) 0 ∙ ap (λ (j : ℕ). get_or xs j 0) place) in
+      λ q. none (k - from) (omega (arith, len, low, l)) (is ∙ q)
+  | inr m ↦ high k m below
+]
 
 -- the first line ends within the first of two pieces
 ends_within : (xs ys : List ℕ) → length (before_feed xs) < length xs → (before_feed (xs ++ ys) ≡ before_feed xs) × (after_feed (xs ++ ys) ≡ after_feed xs ++ ys)

@@ -6,7 +6,7 @@ use Rattle.std.specs.Io.KnownBytes.{Appends}
 use Rattle.wkt_num.specs.Sink.{next_count}
 use Rattle.wkt_bytes.specs.Sinks.{SinkOfBytes}
 use Rattle.wkt_events.specs.Left.{before_feed}
-use Rattle.wkt_events.specs.Feeds.{after_feed}
+use Rattle.wkt_lines.specs.Splitting.{after_feed}
 use Rattle.wkt_lines.specs.Lines.{input_lines}
 use Rattle.wkt_lines.specs.Replies.{AreReplies, AllReplied, BeforeReplied, PartReplied}
 use Rattle.wkt_lines.specs.Pages.{Drained, Stopped, PutsOut, AnswersAll}

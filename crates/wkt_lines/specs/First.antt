@@ -1,8 +1,8 @@
 -- The answer to the first line of what is left of an input.
 use Rattle.std.specs.Prelude.{◌≡◌, ℕ, ◌+◌, ◌≤◌, List, [], ◌∷◌, ◌++◌, length, take, drop, Option, IsUtf8}
 use Rattle.wkt_events.specs.Left.{before_feed}
-use Rattle.wkt_events.specs.Feeds.{after_feed}
-use Rattle.wkt_canonical.specs.Answers.{IsAnswer}
+use Rattle.wkt_lines.specs.Splitting.{after_feed}
+use Rattle.wkt_lines.specs.Output.{IsAnswer}
 
 -- What was written is the answer to the first line, in UTF-8, and a line feed.
 pub record AnswersFirst {N : Type 0} (read : List ℕ → Option N) (num : N → List ℕ) (rest written : List ℕ) : Type 0 where

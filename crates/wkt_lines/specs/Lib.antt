@@ -3,6 +3,7 @@ pub mod Splitting
 pub mod Numbers
 pub mod Replies
 pub mod Output
+pub mod InRoom
 pub mod Laws
 pub mod Answer
 pub mod First

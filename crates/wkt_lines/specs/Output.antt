@@ -1,16 +1,36 @@
 -- The output of a program that answers line by line. Numbers are read by `read` and printed by `num`.
-use Rattle.std.specs.Prelude.{ℕ, List, Option, Result, Ok, Err}
+use Rattle.std.specs.Prelude.{◌≡◌, ℕ, List, ◌⊎◌, Option, codes, IsUtf8, Result, Ok, Err}
 use Rattle.wkt_num.specs.Sink.{Sink}
+use Rattle.wkt_access.specs.Values.{Value}
+use Rattle.wkt_access.specs.Shapes.{shape_of}
+use Rattle.wkt_access.specs.Texts.{shape_text}
+use Rattle.wkt_read.specs.Front.{Front, HasNoFront}
 use Rattle.wkt_lines.specs.Lines.{input_lines}
 use Rattle.wkt_lines.specs.Replies.{AreReplies, AddsReply, BreaksReply}
 use Rattle.wkt_lines.specs.declared.lines.RunError.{RunError}
 use Rattle.wkt_lines.specs.declared.lines.RunError.TheVariants as run
-pub use Rattle.wkt_canonical.specs.Answers.{IsText, IsRefusedLine, IsAnswer}
 
 module _ {N : Type 0} (read : List ℕ → Option N) (num : N → List ℕ) where
+  -- The line is UTF-8 and has a front, and the answer is the text of the front's value.
+  pub record IsText (line answer : List ℕ) : Type 0 where
+    pub utf8 : IsUtf8 line
+    pub value : Value N
+    pub end : ℕ
+    pub front : Front read line value end
+    pub text : answer ≡ shape_text num (shape_of value)
+
+  -- The line isn't UTF-8 or has no front, and the answer is `refused`.
+  pub record IsRefusedLine (line answer : List ℕ) : Type 0 where
+    pub cause : (IsUtf8 line → ⊥) ⊎ HasNoFront read line
+    pub refused : answer ≡ codes "refused"
+
+  -- What a line is answered with.
+  abbrev pub IsAnswer : List ℕ → List ℕ → Type 0
+  IsAnswer line answer = IsText line answer ⊎ IsRefusedLine line answer
+
   -- Each line's answer, followed by a line feed.
   abbrev pub AreAnswers : List (List ℕ) → List ℕ → Type 0
-  AreAnswers = AreReplies (IsAnswer read num)
+  AreAnswers = AreReplies IsAnswer
 
   -- The answers to all lines of the input.
   abbrev pub IsOutput : List ℕ → List ℕ → Type 0
@@ -19,11 +39,11 @@ module _ {N : Type 0} (read : List ℕ → Option N) (num : N → List ℕ) wher
   module _ {S : Type 0} (sink : Sink S) where
     -- The answer to a line was added to a sink of text.
     abbrev pub AddsAnswer : S → S → List ℕ → Type 0
-    AddsAnswer = AddsReply (IsAnswer read num) sink
+    AddsAnswer = AddsReply IsAnswer sink
 
     -- A beginning of the answer to a line was added to a sink of text.
     abbrev pub BreaksAnswer : S → S → List ℕ → Type 0
-    BreaksAnswer = BreaksReply (IsAnswer read num) sink
+    BreaksAnswer = BreaksReply IsAnswer sink
 
 -- The fact is claimed where the reader failed.
 abbrev pub OnRunRead : {A : Type 0} → Result A RunError → Type 0 → Type 0

@@ -4,8 +4,8 @@ use Rattle.std.specs.Io.KnownBytes.{Appends}
 use Rattle.wkt_num.specs.Sink.{next_count}
 use Rattle.wkt_bytes.specs.Sinks.{SinkOfBytes}
 use Rattle.wkt_events.specs.Left.{before_feed}
-use Rattle.wkt_canonical.specs.Answers.{IsAnswer}
-use Rattle.wkt_events.specs.Feeds.{after_feed}
+use Rattle.wkt_lines.specs.Output.{IsAnswer}
+use Rattle.wkt_lines.specs.Splitting.{after_feed}
 use Rattle.wkt_lines.specs.Output.{OnRunRead, OnRunWrite, OnRunMemory, UnlessRunWrite}
 use Rattle.wkt_lines.specs.Replies.{IsAllReplied, IsBeforeReplied, IsPartReplied}
 use Rattle.wkt_lines.specs.declared.page.Page.{Page}

@@ -1,14 +1,14 @@
 //! Bytes that were read and not answered yet.
-ghost use Rattle.std.specs.Prelude.{◌≡◌, ℕ, List, ◌≤◌, ◌<◌, [], ◌++◌, OnOk, OnErr, IfOk, length, take, drop, vec_len};
+ghost use Rattle.std.specs.Prelude.{◌≡◌, ◌≢◌, ℕ, List, ◌≤◌, ◌<◌, [], ◌++◌, OnOk, OnErr, IfOk, length, take, drop, get_or, vec_len};
 ghost use Rattle.std.specs.Io.KnownBytes.{Consumes, Keeps, IsAtEnd};
 ghost use Rattle.wkt_num.specs.Sink.{next_count};
 ghost use Rattle.wkt_lines.specs.Laws.{IsWhole};
 ghost use Rattle.wkt_lines.specs.Feeds.{HasNoFeed};
 
+use crate::ends::line_end;
 use std::alloc::{AllocError, Global};
 use std::io;
 use wkt_bytes::ByteSource;
-use wkt_events::ends::line_end;
 
 // How many bytes of room are made at once.
 const BLOCK: usize = 131072;
@@ -34,6 +34,25 @@ pub(crate) fn whole_lines(rest: &[u8]) -> usize
         at -= 1;
     }
     first + 1
+}
+
+/// Before bytes at the end in which no line feed stands, of 32 each.
+fn before_no_feeds(bytes: &[u8], seen: usize) -> usize
+    requires { seen ≤ length bytes.now }
+    ensures seen { seen ≤ result }
+    ensures within { result ≤ length bytes.now }
+    ensures none { (k : ℕ) → result ≤ k → k < length bytes.now → get_or bytes.now k 0 ≢ 10 }
+{
+    let mut at = bytes.len();
+    while at - seen >= 32 {
+        let from = at - 32;
+        let end = line_end(&bytes[from..at]);
+        if end < 32 {
+            return at;
+        }
+        at = from;
+    }
+    at
 }
 
 /// A buffer at whose front stands what was read and not answered yet.
@@ -120,7 +139,7 @@ impl Block {
         ensures rest { HasNoFeed (drop result (unanswered self.now)) }
     {
         let front = self.front();
-        let mut at = front.len();
+        let mut at = before_no_feeds(front, seen);
         while at > seen {
             if front[at - 1] == b'\n' {
                 return at;

@@ -7,9 +7,10 @@ ghost use Rattle.wkt_lines.specs.Answer.{AnswersLine};
 ghost use Rattle.wkt_lines.specs.First.{AnswersFirst, EndsLine};
 
 use crate::answer::AnswerError;
+use crate::ends::line_end;
+use crate::in_room::{Answer, answer_line};
 use std::alloc::AllocError;
-use wkt_canonical::{Answer, NoRoom, answer_line, make_room, widen};
-use wkt_events::ends::line_end;
+use wkt_canonical::{NoRoom, make_room, widen};
 use wkt_num::{TextSink, WktNum};
 
 // Where a line ends is found as it is answered, if it ends within so many bytes.

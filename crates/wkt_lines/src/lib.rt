@@ -1,7 +1,7 @@
 //! Inputs that are answered line by line: each line with the text of the geometry that it begins with, or with
 //! `refused`, or with answers of any kind.
 //!
-//! Below stand `wkt_canonical`, which answers a line, and `wkt_bytes`; above, the programs and `wkt_calls`.
+//! Below stand `wkt_canonical`, which writes what a line begins with, and `wkt_bytes`; above, the programs and `wkt_calls`.
 //!
 //! The program `wktline` is the call [`run`] over standard input and output, and `wktstream` is [`stream`], which takes
 //! an input of any size in the memory of the longest line:
@@ -16,7 +16,9 @@
 mod answer;
 mod answers;
 mod block;
+mod ends;
 mod first;
+mod in_room;
 pub mod laws;
 mod lines;
 mod on_page;
@@ -28,8 +30,12 @@ mod streaming;
 
 pub use answer::AnswerError;
 pub use answers::write_answers;
+pub use ends::line_end;
+pub use in_room::{Answer, answer_line};
 pub use lines::{RunError, run, run_over};
 pub use reading::Lines;
 pub use reply::{Canonical, Reply, write_replies};
 pub use streaming::{stream, stream_over, stream_with};
-pub use wkt_events::ends::line_end;
+
+#[cfg(test)]
+mod tests;

@@ -3,12 +3,12 @@ ghost use Rattle.std.specs.Prelude.{◌≡◌, ℕ, List, length};
 ghost use Rattle.wkt_lines.specs.Pages.{page_text, HasRoomFor, RepliesNext};
 
 use crate::answer::AnswerError;
+use crate::ends::line_end;
 use crate::page::Page;
 use crate::reply::{Reply, reply_to_line};
 use std::alloc::{AllocError, Global};
 use std::marker::PhantomData;
 use wkt_canonical::NoRoom;
-use wkt_events::ends::line_end;
 use wkt_num::WktNum;
 
 /// What lines are answered with.
@@ -38,7 +38,7 @@ impl<T> ByWalk<T> {
 }
 
 impl<T: WktNum> Answers for ByWalk<T> {
-    ghost use Rattle.wkt_canonical.specs.Answers.{IsAnswer};
+    ghost use Rattle.wkt_lines.specs.Output.{IsAnswer};
 
     ghost answers = { λ _. IsAnswer T.read T.num };
 

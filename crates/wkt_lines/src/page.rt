@@ -2,10 +2,11 @@
 ghost use Rattle.std.specs.Prelude.{◌≡◌, ◌+◌, ◌*◌, ◌<◌, ◌≤◌, ◌++◌, [], OnOk, OnErr, length, take, vec_len, true, if◌then◌else◌};
 ghost use Rattle.std.specs.Bool.{OnTrue};
 
+use crate::in_room::answer_line;
 use std::alloc::{AllocError, Global};
 use std::fmt;
 use wkt_bytes::copy_piece;
-use wkt_canonical::{NoRoom, answer_line};
+use wkt_canonical::NoRoom;
 use wkt_num::{TextSink, WktNum};
 
 // How much is gathered, before it is put out, where answers are gathered.

@@ -26,9 +26,12 @@ pub(crate) fn answer_block<A: Answers, W: ByteSink>(
     let mut at = 0;
     'lines: while at < input.len() {
         let rest = &input[at..];
-        match make_ready(rest.len(), page, writer) {
-            Ok(()) => {}
-            Err(e) => return Err(e),
+        // No result is made of a page that is ready, since it would be carried along.
+        if !page.is_ready(rest.len()) {
+            match make_ready(rest.len(), page, writer) {
+                Ok(()) => {}
+                Err(e) => return Err(e),
+            }
         }
         match answers.add_first(rest, page) {
             Ok(taken) => at += taken,
@@ -59,17 +62,17 @@ fn make_ready<W: ByteSink>(n: usize, page: &mut Page, writer: &mut W) -> Result<
     ensures room { OnOk result (HasRoomFor page.new n) }
     ensures keeps { W.sink.keeps writer.old writer.new }
 {
-    if page.is_ready(n) {
-        return Ok(());
+    match put_pieces(writer, page.written(), page.piece()) {
+        Ok(()) => {}
+        Err(e) => {
+            page.cut(0);
+            return Err(RunError::Write(e));
+        }
     }
-    let put = put_pieces(writer, page.written(), page.piece());
     page.cut(0);
-    match put {
-        Ok(()) => match page.make_room(n) {
-            Ok(()) => Ok(()),
-            Err(e) => Err(RunError::Memory(e)),
-        },
-        Err(e) => Err(RunError::Write(e)),
+    match page.make_room(n) {
+        Ok(()) => Ok(()),
+        Err(e) => Err(RunError::Memory(e)),
     }
 }
 

@@ -7,9 +7,9 @@ ghost use Rattle.wkt_lines.specs.First.{EndsLine};
 ghost use Rattle.wkt_lines.specs.Blocks.{unanswered};
 
 use crate::block::Block;
+use crate::ends::line_end;
 use std::alloc::{AllocError, Global};
 use wkt_bytes::{ByteSource, ReadAllError};
-use wkt_events::ends::line_end;
 
 /// The lines of a source, in their order, each as its bytes, in the memory of a block and the longest line.
 ///

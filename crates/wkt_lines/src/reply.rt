@@ -5,10 +5,10 @@ ghost use Rattle.wkt_lines.specs.Output.{IsAnswer};
 ghost use Rattle.wkt_lines.specs.Replies.{AddsReply, BreaksReply, RepliesLine, RepliesAll};
 
 use crate::answer::{AnswerError, write_answer};
+use crate::ends::line_end;
 use crate::lines::after_line;
 use std::alloc::Global;
 use std::marker::PhantomData;
-use wkt_events::ends::line_end;
 use wkt_num::{TextSink, WktNum};
 
 /// What the lines of an input are answered with.

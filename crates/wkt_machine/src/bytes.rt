@@ -125,7 +125,16 @@ impl<'a, T: WktNum, const FEED_ENDS: bool> Walk<T> for Bytes<'a, FEED_ENDS> {
         if self.at > self.text.len() {
             return machine.step(self, builder);
         }
-        header::<T, B, FEED_ENDS>(machine, self, builder)
+        header::<T, B, FEED_ENDS, true>(machine, self, builder)
+    }
+
+    #[inline(always)]
+    #[tactic(auto, using(crate::proofs::TokenViews::kind_open, crate::proofs::TokenViews::kind_sound, crate::proofs::Rooms::kind_room))]
+    fn first<B: Builder<T>>(self, machine: Machine, builder: B) -> Walked<Self, B> {
+        if self.at > self.text.len() {
+            return machine.step(self, builder);
+        }
+        header::<T, B, FEED_ENDS, false>(machine, self, builder)
     }
 
     #[inline(always)]

@@ -1,5 +1,5 @@
 //! Coordinates in bytes, as far as the parenthesis behind them.
-ghost use Rattle.std.specs.Prelude.{◌≡◌, ◌≤◌, length, IfOk, IfErr, true};
+ghost use Rattle.std.specs.Prelude.{◌≡◌, ◌≢◌, ◌≤◌, length, IfOk, IfErr, true};
 ghost use Rattle.std.specs.Bool.{OnTrue, OnFalse};
 ghost use Rattle.wkt_machine.specs.BytesView.{bytes_view, has_coordinates};
 ghost use Rattle.wkt_machine.specs.Goes.{Goes, Refuses};
@@ -7,6 +7,8 @@ ghost use Rattle.wkt_machine.specs.Leads.{reached, standing};
 ghost use Rattle.wkt_machine.specs.Machines.{state_for, next_after, HasNext};
 ghost use Rattle.wkt_machine.specs.Room.{HasRoom, RoomAt};
 ghost use Rattle.wkt_machine.specs.declared.machine.State.TheVariants as next;
+ghost use Rattle.wkt_machine.specs.declared.part.Axis.TheVariants as axis;
+ghost use Rattle.wkt_access.specs.declared.dimensions.Dimension.TheVariants as dim_of;
 
 use crate::builder::Builder;
 use crate::bytes::Bytes;
@@ -98,16 +100,74 @@ fn coordinate<'a, T: WktNum, B: Builder<T>, const FEED_ENDS: bool>(
     }
     match machine.dim {
         Dimension::XY => (true, State::Item, source, made),
+        _ => z_and_m::<T, B, FEED_ENDS>(machine, source, made),
+    }
+}
+
+/// The numbers behind X and Y, of which there are some.
+///
+/// What is answered comes through memory, whose place is cleared here, away from the ways beside it.
+#[inline(always)]
+fn z_and_m<'a, T: WktNum, B: Builder<T>, const FEED_ENDS: bool>(
+    machine: Machine,
+    source: Bytes<'a, FEED_ENDS>,
+    builder: B,
+) -> (bool, State, Bytes<'a, FEED_ENDS>, B)
+    requires part { has_coordinates machine.part ≡ true }
+    requires more { machine.dim ≢ dim_of.XY }
+    requires inside { source.at ≤ length source.text.now }
+    requires room { HasRoom (bytes_view FEED_ENDS) B.maker 0 source builder }
+    ensures on { OnTrue result.0 (Goes T.read (bytes_view FEED_ENDS) B.maker (standing machine (next_after axis.Y machine.dim)) source.entry builder (reached machine next.Item result.2 result.3)) }
+    ensures inside { OnTrue result.0 (result.2.at ≤ length result.2.text.now) }
+    ensures room { OnTrue result.0 (HasRoom (bytes_view FEED_ENDS) B.maker 0 result.2 result.3) }
+    ensures refused { OnFalse result.0 (Refuses T.read (bytes_view FEED_ENDS) B.maker (standing machine (next_after axis.Y machine.dim)) source.entry builder (reached machine result.1 result.2 result.3)) }
+{
+    z_and_m_apart::<T, B, FEED_ENDS>(machine, source, builder)
+}
+
+#[inline(never)]
+fn z_and_m_apart<'a, T: WktNum, B: Builder<T>, const FEED_ENDS: bool>(
+    machine: Machine,
+    source: Bytes<'a, FEED_ENDS>,
+    builder: B,
+) -> (bool, State, Bytes<'a, FEED_ENDS>, B)
+    requires part { has_coordinates machine.part ≡ true }
+    requires more { machine.dim ≢ dim_of.XY }
+    requires inside { source.at ≤ length source.text.now }
+    requires room { HasRoom (bytes_view FEED_ENDS) B.maker 0 source builder }
+    ensures on { OnTrue result.0 (Goes T.read (bytes_view FEED_ENDS) B.maker (standing machine (next_after axis.Y machine.dim)) source.entry builder (reached machine next.Item result.2 result.3)) }
+    ensures inside { OnTrue result.0 (result.2.at ≤ length result.2.text.now) }
+    ensures room { OnTrue result.0 (HasRoom (bytes_view FEED_ENDS) B.maker 0 result.2 result.3) }
+    ensures refused { OnFalse result.0 (Refuses T.read (bytes_view FEED_ENDS) B.maker (standing machine (next_after axis.Y machine.dim)) source.entry builder (reached machine result.1 result.2 result.3)) }
+{
+    match machine.dim {
+        // Not asked for.
+        Dimension::XY => (true, State::Item, source, builder),
         Dimension::XYZ => {
-            let (has_z, source, made) = number::<T, B, FEED_ENDS>(Axis::Z, machine, source, made);
+            let (has_z, source, made) = number::<T, B, FEED_ENDS>(
+                Axis::Z,
+                machine,
+                source,
+                builder,
+            );
             (has_z, State::Z, source, made)
         }
         Dimension::XYM => {
-            let (has_m, source, made) = number::<T, B, FEED_ENDS>(Axis::M, machine, source, made);
+            let (has_m, source, made) = number::<T, B, FEED_ENDS>(
+                Axis::M,
+                machine,
+                source,
+                builder,
+            );
             (has_m, State::M, source, made)
         }
         Dimension::XYZM => {
-            let (has_z, source, made) = number::<T, B, FEED_ENDS>(Axis::Z, machine, source, made);
+            let (has_z, source, made) = number::<T, B, FEED_ENDS>(
+                Axis::Z,
+                machine,
+                source,
+                builder,
+            );
             if !has_z {
                 return (false, State::Z, source, made);
             }

@@ -7,6 +7,7 @@ ghost use Rattle.wkt_machine.specs.Room.{owed, HasRoom, RoomAt};
 
 use crate::builder::Builder;
 use crate::machine::{Machine, State};
+use crate::marks::marks;
 use crate::source::{At, Walk, Walked};
 use wkt_num::WktNum;
 
@@ -28,6 +29,7 @@ fn further<T: WktNum, S: Walk<T>, B: Builder<T>>(
     match machine.state {
         State::Kind => source.header(machine, builder),
         State::X => source.coordinates(machine, builder),
+        State::Opening | State::Item | State::Geometry => marks(machine, source, builder),
         _ => machine.step(source, builder),
     }
 }
@@ -48,7 +50,7 @@ pub fn drive<T: WktNum, S: Walk<T>, B: Builder<T>>(source: S, builder: B) -> Wal
         source: begun,
         machine: first,
         builder: made,
-    } = source.header(Machine::start(), builder)?;
+    } = source.first(Machine::start(), builder)?;
     let (mut source, mut builder) = (begun, made);
     let (mut state, mut part, mut dim, mut depth) = (
         first.state,

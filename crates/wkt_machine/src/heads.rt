@@ -26,10 +26,11 @@ use wkt_num::WktNum;
 /// The bytes of `GEOMETRYCOLLECTION (`.
 const LONGEST_HEAD: usize = 20;
 
-/// Behind the header that comes next, and its parenthesis; of a point behind its coordinate.
+/// Behind the header that comes next, and its parenthesis; of a point behind its coordinate. `INNER` tells the places
+/// apart that call it.
 #[inline(always)]
 #[tactic(auto, using(crate::proofs::TokenViews::kind_open, crate::proofs::TokenViews::kind_sound, crate::proofs::Rooms::kind_room))]
-pub(crate) fn header<'a, T: WktNum, B: Builder<T>, const FEED_ENDS: bool>(
+pub(crate) fn header<'a, T: WktNum, B: Builder<T>, const FEED_ENDS: bool, const INNER: bool>(
     machine: Machine,
     source: Bytes<'a, FEED_ENDS>,
     builder: B,

@@ -13,6 +13,7 @@ pub mod front;
 mod heads;
 pub mod laws;
 pub mod machine;
+mod marks;
 mod message;
 pub mod nothing;
 mod numbers;

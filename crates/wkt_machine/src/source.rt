@@ -64,6 +64,15 @@ pub trait Walk<T: WktNum>: Source<T> {
         ensures room { IfOk result (RoomAt Self.view B.maker) }
         ensures refused { IfErr result (Refuses T.read Self.view B.maker machine self builder) };
 
+    /// The same of the first geometry: so each has one place that calls it, into which it is built, however large it is.
+    fn first<B: Builder<T>>(self, machine: Machine, builder: B) -> Walked<Self, B>
+        requires state { machine.state ≡ next.Kind }
+        requires depth { machine.depth + length (Self.view.left self) ≤ usize.MAX }
+        requires room { HasRoom Self.view B.maker 0 self builder }
+        ensures on { IfOk result (Goes T.read Self.view B.maker machine self builder) }
+        ensures room { IfOk result (RoomAt Self.view B.maker) }
+        ensures refused { IfErr result (Refuses T.read Self.view B.maker machine self builder) };
+
     /// After one lexeme or more: a coordinate begins here.
     fn coordinates<B: Builder<T>>(self, machine: Machine, builder: B) -> Walked<Self, B>
         requires state { machine.state ≡ next.X }

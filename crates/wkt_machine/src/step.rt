@@ -19,8 +19,27 @@ use wkt_types::GeometryType;
 
 impl Machine {
     /// After one lexeme.
+    ///
+    /// What it answers comes through memory, whose place is cleared here, away from the ways beside it.
     #[inline(always)]
     pub fn step<T: WktNum, S: Source<T>, B: Builder<T>>(self, source: S, builder: B) -> Walked<S, B>
+        requires sound { IsSound self }
+        requires open { is_over (state_of self) ≡ false }
+        requires depth { self.depth + length (S.view.left source) ≤ usize.MAX }
+        requires room { HasRoom S.view B.maker (owed (state_of self)) source builder }
+        ensures on { IfOk result (Goes T.read S.view B.maker self source builder) }
+        ensures room { IfOk result (RoomAt S.view B.maker) }
+        ensures refused { IfErr result (Refuses T.read S.view B.maker self source builder) }
+    {
+        self.step_apart(source, builder)
+    }
+
+    #[inline(never)]
+    fn step_apart<T: WktNum, S: Source<T>, B: Builder<T>>(
+        self,
+        source: S,
+        builder: B,
+    ) -> Walked<S, B>
         requires sound { IsSound self }
         requires open { is_over (state_of self) ≡ false }
         requires depth { self.depth + length (S.view.left source) ≤ usize.MAX }
@@ -153,11 +172,48 @@ impl Machine {
         ensures refused { IfErr result (Refuses T.read S.view B.maker self source builder) }
     {
         match seen {
-            Seen::Open => on(source.skip(), self.inside(), builder.open(self.part)),
-            Seen::Empty => on(source.skip(), self.outside(), builder.empty(self.part)),
+            Seen::Open => self.at_open(source, builder),
+            Seen::Empty => self.at_empty(source, builder),
             Seen::Number => self.at_member(source, builder),
             _ => refused(source, self, builder),
         }
+    }
+
+    /// A parenthesis stands where a part begins.
+    #[inline(always)]
+    pub(crate) fn at_open<T: WktNum, S: Source<T>, B: Builder<T>>(
+        self,
+        source: S,
+        builder: B,
+    ) -> Walked<S, B>
+        requires state { self.state ≡ next.Opening }
+        requires looked { S.view.looked source }
+        requires seen { sees.Open ≡ sight (S.view.left source) }
+        requires depth { self.depth + length (S.view.left source) ≤ usize.MAX }
+        requires room { HasRoom S.view B.maker 0 source builder }
+        ensures on { IfOk result (Goes T.read S.view B.maker self source builder) }
+        ensures room { IfOk result (RoomAt S.view B.maker) }
+        ensures refused { IfErr result (Refuses T.read S.view B.maker self source builder) }
+    {
+        on(source.skip(), self.inside(), builder.open(self.part))
+    }
+
+    /// EMPTY stands where a part begins.
+    #[inline(always)]
+    pub(crate) fn at_empty<T: WktNum, S: Source<T>, B: Builder<T>>(
+        self,
+        source: S,
+        builder: B,
+    ) -> Walked<S, B>
+        requires state { self.state ≡ next.Opening }
+        requires looked { S.view.looked source }
+        requires seen { sees.Empty ≡ sight (S.view.left source) }
+        requires room { HasRoom S.view B.maker 0 source builder }
+        ensures on { IfOk result (Goes T.read S.view B.maker self source builder) }
+        ensures room { IfOk result (RoomAt S.view B.maker) }
+        ensures refused { IfErr result (Refuses T.read S.view B.maker self source builder) }
+    {
+        on(source.skip(), self.outside(), builder.empty(self.part))
     }
 
     /// A number stands where a part begins.
@@ -269,7 +325,7 @@ impl Machine {
 
     /// An item of a part stands before.
     #[inline(always)]
-    fn at_item<T: WktNum, S: Source<T>, B: Builder<T>>(
+    pub(crate) fn at_item<T: WktNum, S: Source<T>, B: Builder<T>>(
         self,
         seen: Seen,
         source: S,
@@ -312,7 +368,7 @@ impl Machine {
 
     /// A geometry stands before, in a collection.
     #[inline(always)]
-    fn at_geometry<T: WktNum, S: Source<T>, B: Builder<T>>(
+    pub(crate) fn at_geometry<T: WktNum, S: Source<T>, B: Builder<T>>(
         self,
         seen: Seen,
         source: S,

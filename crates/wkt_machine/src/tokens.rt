@@ -1,11 +1,14 @@
 //! Tokens as a source.
-ghost use Rattle.std.specs.Prelude.{◌≡◌};
+ghost use Rattle.std.specs.Prelude.{◌≡◌, ◌+◌, ◌≤◌, length, IfOk, IfErr};
 ghost use Rattle.wkt_num.specs.Bytes.{Lexeme};
 ghost use Rattle.wkt_read.specs.Grammar.{kind_word};
 ghost use Rattle.wkt_read.specs.Taking.{StaysUnread, TakesNumber};
 ghost use Rattle.wkt_read.specs.Tokenizer.Unread.{found};
+ghost use Rattle.wkt_machine.specs.Goes.{Goes, Refuses};
+ghost use Rattle.wkt_machine.specs.Room.{HasRoom, RoomAt};
 ghost use Rattle.wkt_machine.specs.Sight.{seen_word};
-ghost use Rattle.wkt_machine.specs.TokensView.{seen_found, tokens_of};
+ghost use Rattle.wkt_machine.specs.TokensView.{seen_found, tokens_of, tokens_view};
+ghost use Rattle.wkt_machine.specs.declared.machine.State.TheVariants as next;
 ghost use Rattle.std.specs.Prelude.{MatchOption};
 
 use crate::builder::Builder;
@@ -107,34 +110,58 @@ impl<'t, 'a, T: WktNum> Source<T> for OneByOne<'t, 'a, T> {
     }
 }
 
+/// Behind the header that comes next, and its parenthesis; of a point behind its coordinate.
+///
+/// There is one for the first geometry and one for those inside, so that each has one place that calls it.
+#[inline(always)]
+#[tactic(auto, using(crate::proofs::TokenViews::kind_open, crate::proofs::TokenViews::kind_sound))]
+fn header<'t, 'a, T: WktNum, B: Builder<T>, const INNER: bool>(
+    machine: Machine,
+    source: OneByOne<'t, 'a, T>,
+    builder: B,
+) -> Walked<OneByOne<'t, 'a, T>, B>
+    requires state { machine.state ≡ next.Kind }
+    requires depth { machine.depth + length (tokens_view.left source) ≤ usize.MAX }
+    requires room { HasRoom tokens_view B.maker 0 source builder }
+    ensures on { IfOk result (Goes T.read tokens_view B.maker machine source.entry builder) }
+    ensures room { IfOk result (RoomAt tokens_view B.maker) }
+    ensures refused { IfErr result (Refuses T.read tokens_view B.maker machine source.entry builder) }
+{
+    let (kind, joined) = match source.tokens.take_kind() {
+        Some(found) => found,
+        None => return machine.step(source, builder),
+    };
+    let part = part_of(kind);
+    if let Some(dim) = joined {
+        return on(
+            source,
+            machine.begun(State::Opening, part, dim),
+            builder.begin(part, dim),
+        );
+    }
+    if !source.tokens.take_open() {
+        // It was looked at.
+        let alone = machine.begun(State::Dimension, part, Dimension::XY);
+        return alone.step(source, builder);
+    }
+    let made = builder.begin(part, Dimension::XY).open(part);
+    if let Part::Point = part {
+        let within = machine.begun(State::X, Part::Point, Dimension::XY);
+        return pairs(within, source, made);
+    }
+    let within = machine.begun(State::Opening, part, Dimension::XY).inside();
+    on(source, within, made)
+}
+
 impl<'t, 'a, T: WktNum> Walk<T> for OneByOne<'t, 'a, T> {
     #[inline(always)]
-    #[tactic(auto, using(crate::proofs::TokenViews::kind_open, crate::proofs::TokenViews::kind_sound))]
     fn header<B: Builder<T>>(self, machine: Machine, builder: B) -> Walked<Self, B> {
-        let (kind, joined) = match self.tokens.take_kind() {
-            Some(found) => found,
-            None => return machine.step(self, builder),
-        };
-        let part = part_of(kind);
-        if let Some(dim) = joined {
-            return on(
-                self,
-                machine.begun(State::Opening, part, dim),
-                builder.begin(part, dim),
-            );
-        }
-        if !self.tokens.take_open() {
-            // It was looked at.
-            let alone = machine.begun(State::Dimension, part, Dimension::XY);
-            return alone.step(self, builder);
-        }
-        let made = builder.begin(part, Dimension::XY).open(part);
-        if let Part::Point = part {
-            let within = machine.begun(State::X, Part::Point, Dimension::XY);
-            return pairs(within, self, made);
-        }
-        let within = machine.begun(State::Opening, part, Dimension::XY).inside();
-        on(self, within, made)
+        header::<T, B, true>(machine, self, builder)
+    }
+
+    #[inline(always)]
+    fn first<B: Builder<T>>(self, machine: Machine, builder: B) -> Walked<Self, B> {
+        header::<T, B, false>(machine, self, builder)
     }
 
     #[inline(always)]

@@ -4,11 +4,13 @@ use Rattle.wkt_machine.proofs.TableMessages as empty
 use Rattle.wkt.proofs.Blamed.{bad_of}
 use Rattle.wkt.proofs.canonical.canonical_text.Goals as goal
 
-pub returns-in-Ok-None-clause-bad : goal.returns-in-Ok-None-clause-bad
-returns-in-Ok-None-clause-bad g c = λ is. bad_of g.T.WktNum.read c.args.text.now c.message_of.result c.message_of.ensures (sym c.text-in-Ok-None.ensures ∙ is)
+pub returns-in-Ok-Err-clause-bad : goal.returns-in-Ok-Err-clause-bad
+returns-in-Ok-Err-clause-bad g c =
+    let writes = rw c.in-Ok-Err.field-0-is at c.in-Ok-Err.ensures.writes in
+    λ is. bad_of g.T.WktNum.read c.args.text.now c.in-Ok-Err.message writes.1 (sym c.text-in-Ok-Err.ensures ∙ is)
 
 pub returns-in-None-clause-bad : goal.returns-in-None-clause-bad
-returns-in-None-clause-bad g c = λ is. bad_of g.T.WktNum.read c.args.text.now c.message_of-in-None.result c.message_of-in-None.ensures (sym c.text-in-None.ensures ∙ is)
+returns-in-None-clause-bad g c = λ is. bad_of g.T.WktNum.read c.args.text.now c.message_of.result c.message_of.ensures (sym c.text-in-None.ensures ∙ is)
 
 pub returns-then-is_empty-clause-no_front : goal.returns-then-is_empty-clause-no_front
 returns-then-is_empty-clause-no_front g c = empty.empty_no_front g.T.WktNum.read c.args.text.now (empty.no_bytes _ (sym c.is_empty.ensures ∙ c.if-is_empty.true))

@@ -2,7 +2,7 @@
 use Rattle.std.proofs.Common.{ap, arith, length, refl}
 use Rattle.wkt_machine.proofs.SourceRooms.{start_room}
 use Rattle.wkt_canonical.specs.PenMaker.{pen_maker}
-use Rattle.wkt_canonical.proofs.Backs.{depth_fits, writes_events, writes_nothing}
+use Rattle.wkt_canonical.proofs.Backs.{depth_fits, stops_at, writes_events, writes_nothing}
 use Rattle.wkt_canonical.proofs.canonical.write_next.Goals as goal
 
 pub drive-requires-clause-depth : goal.drive-requires-clause-depth
@@ -23,4 +23,7 @@ returns-else-out-whole-clause-writes g c =
     writes_events g.T.WktNum.read g.T.WktNum.num _ c.args.text.now c.new.result _ c.in-Ok.over (ap (λ x. x.now) c.new.ensures.text) c.new.ensures.at _ _ (ap (λ out. record { out = out; len = c.args.pen.now.len; polygon = c.args.pen.now.polygon; of = c.args.pen.now.of }) same) c.in-Ok.ensures.on c.in-Ok.ensures.over refl (omega (arith, long, ap (λ x. length x.now) same))
 
 pub returns-in-Err-clause-writes : goal.returns-in-Err-clause-writes
-returns-in-Err-clause-writes g c = writes_nothing g.T.WktNum.read g.T.WktNum.num _ c.args.text.now c.new.result _ c.in-Err.field-0 (ap (λ x. x.now) c.new.ensures.text) c.new.ensures.at c.in-Err.ensures.refused
+returns-in-Err-clause-writes g c = writes_nothing g.T.WktNum.read g.T.WktNum.num _ c.args.text.now c.new.result _ c.in-Err.stop (ap (λ x. x.now) c.new.ensures.text) c.new.ensures.at c.in-Err.ensures.refused
+
+pub returns-in-Err-clause-stops : goal.returns-in-Err-clause-stops
+returns-in-Err-clause-stops g c = stops_at g.T.WktNum.read g.T.WktNum.num _ c.args.text.now c.new.result _ c.in-Err.stop (ap (λ x. x.now) c.new.ensures.text) c.new.ensures.at c.in-Err.ensures.refused

@@ -1,0 +1,68 @@
+//! Lines answered in a room, by hand.
+use crate::answer_line;
+use std::process::Abort;
+use wkt_num::Decimal;
+
+// What lines are answered with; `refused` where it says nothing.
+const LINES: [(&[u8], Option<&str>); 17] = [
+    (b"POINT(1 2)", Some("POINT(1 2)")),
+    (b"point ( 1.50\t-0 ) and more", Some("POINT(1.5 0)")),
+    (b"POINT EMPTY", Some("POINT EMPTY")),
+    (b"POINT(+1 ++2)", Some("POINT(1 2)")),
+    (
+        b"linestring zm(1 2 3 4,5 6 7 8)",
+        Some("LINESTRING ZM(1 2 3 4,5 6 7 8)"),
+    ),
+    (
+        b"LINESTRING(0000000000000000000000000000000000000000001 2,3 4.0000000000000000000000000000000)",
+        Some("LINESTRING(1 2,3 4)"),
+    ),
+    (b"POLYGON(EMPTY,(0 0,1 0))", Some("POLYGON EMPTY")),
+    (
+        b"MULTIPOINT(1 2,(3 4),EMPTY)",
+        Some("MULTIPOINT((1 2),(3 4),EMPTY)"),
+    ),
+    (
+        b"GEOMETRYCOLLECTION(POLYGON(EMPTY),POINT(1 2))",
+        Some("GEOMETRYCOLLECTION(POLYGON EMPTY,POINT(1 2))"),
+    ),
+    (b"", None),
+    (b" ", None),
+    (b"POINT", None),
+    (b"POINT(1 2", None),
+    (b"POINT(1.1234567 2)", None),
+    (b"POINT(\xc3\xa9 2)", None),
+    (b"point(1 2.0)  ", Some("POINT(1 2)")),
+    (b"point(1 2.0) \xff", None),
+];
+
+/// The first line is answered so, behind three bytes.
+fn is_answered(rt: &impl Abort, rest: &[u8], taken: usize, want: Option<&str>) {
+    assert!(rt; rest.len() <= 301);
+    let mut out = [7u8; 800];
+    match answer_line::<Decimal<6>>(rest, &mut out, 3) {
+        Ok(answer) => {
+            assert!(rt; answer.taken == taken);
+            assert!(rt; out[..3] == [7; 3]);
+            assert!(rt; 4 <= answer.len && answer.len <= 800);
+            let given = str::from_utf8(&out[3..answer.len - 1]).ok();
+            assert!(rt; given == Some(want.unwrap_or("refused")), "{given:?}");
+            assert!(rt; out[answer.len - 1] == b'\n');
+        }
+        Err(_) => panic!(rt; "no room"),
+    }
+}
+
+#[test]
+fn lines(rt: HostRuntime) {
+    for (line, want) in LINES {
+        let n = line.len();
+        assert!(&rt; n < 200);
+        is_answered(&rt, line, n + 1, want);
+        // With another line behind it, which isn't looked at.
+        let mut two = [b'x'; 300];
+        two[..n].copy_from_slice(line);
+        two[n] = b'\n';
+        is_answered(&rt, &two, n + 1, want);
+    }
+}

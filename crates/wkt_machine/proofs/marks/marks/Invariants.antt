@@ -1,0 +1,21 @@
+-- What was taken was gone over, and what it says was made.
+use Rattle.std.proofs.Common.{◌≡◌, ◌≤◌, ◌+◌, length, false}
+use Rattle.wkt_machine.specs.Drives.{is_over}
+use Rattle.wkt_machine.specs.Leads.{Leads}
+use Rattle.wkt_machine.specs.Machines.{state_of, IsSound}
+use Rattle.wkt_machine.specs.Room.{owed, HasRoom}
+use Rattle.wkt_machine.proofs.marks.marks.Given as goal
+
+abbrev pub invariant-marks : goal.invariant-marks
+invariant-marks g l =
+    record {
+      leads : Leads g.T.WktNum.read g.S.Source.view g.B.Builder.maker l.fn.machine l.fn.source l.fn.builder
+          (record { state = l.state; part = l.part; dim = l.dim; depth = l.depth }) l.source l.builder;
+      sound : IsSound (record { state = l.state; part = l.part; dim = l.dim; depth = l.depth });
+      unover : is_over (state_of (record { state = l.state; part = l.part; dim = l.dim; depth = l.depth })) ≡ false;
+      depth : l.depth + length (g.S.Source.view.left l.source) ≤ l.fn.machine.depth + length (g.S.Source.view.left l.fn.source);
+      room : HasRoom g.S.Source.view g.B.Builder.maker (owed (state_of (record { state = l.state; part = l.part; dim = l.dim; depth = l.depth }))) l.source l.builder;
+    }
+
+abbrev pub decreases-marks : goal.decreases-marks
+decreases-marks g l = length (g.S.Source.view.left l.source)
