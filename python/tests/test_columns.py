@@ -225,7 +225,7 @@ class Kinds(unittest.TestCase):
             with self.assertRaises(ValueError):
                 call("POINT(1 2)", invalid="keep")
 
-    @unittest.skipIf(compiled is None, "no fast module")
+    @unittest.skipIf(compiled is None or numpy is None, "no fast module, or no NumPy")
     def test_arrow(self):
         texts = TEXTS * 50 + ["pÖint(1 2)"]
         answers, statuses = wkt.canonical_column(texts)
@@ -269,7 +269,7 @@ class Kinds(unittest.TestCase):
             with self.assertRaises(wkt.WktError) as raised:
                 call(texts)
             self.assertEqual(raised.exception.row, 140_000)
-        if compiled is not None:
+        if compiled is not None and numpy is not None:
             made = wkt.canonical(arrow(texts), invalid="null")
             self.assertEqual(made.to_pylist(), wkt.canonical(texts, invalid="null"))
         if numpy is not None:

@@ -1,6 +1,6 @@
 #!/usr/bin/env bash
 # wheel.sh WKT: builds the wheel of the library in the folder WKT (wkt.h, libwkt.so), with the fast module, and the one
-# without it, and runs the same tests over both; without a wheel too, over ctypes alone. Then the fast module under
+# without it, and runs the same tests over both; without a wheel too, over ctypes alone, and where NumPy isn't. Then the fast module under
 # sanitizers, libraries that don't suit, the stored cases of the command by `python -m wkt`, the example, the pages, mypy over
 # the stubs, and how it is built (build.sh). WKT is capi/out where none is named. It needs Python 3.11 or
 # later with its headers, pip, NumPy, pandas, Shapely, tqdm, matplotlib and mypy (tests/needs.sh): what is lacking fails.
@@ -21,6 +21,7 @@ each() {
     shift 2
     skipped='no fast module|only under sanitizers|the fast module isn.t tried'
     [ ! -e "$folder/wkt/_fast.abi3.so" ] || skipped='only under sanitizers'
+    [ ! -e "$folder/numpy.py" ] || skipped="$skipped|no (NumPy|pandas|Shapely)"
     (cd "$work" && env "$@" PYTHONPATH="$folder:$here:$work/peer" "$python" -W error -m unittest -v test_wkt test_arguments \
         test_columns test_words test_streams test_geoarrow test_pack test_arrow test_arrow_lent) > "$work/said" 2>&1 || { cat "$work/said"; echo "$name: the tests fail"; exit 1; }
     ! grep "skipped '" "$work/said" | grep -vE "$skipped" || { echo "$name: a test was skipped"; exit 1; }
@@ -42,6 +43,9 @@ for fast in 1 0; do
     [ $fast = 1 ] || rm "$work/peer/arrow_peer.so"
     each "$(basename "$wheel")" "$work/installed$fast"
 done
+# The fast module where NumPy, and so pandas, isn't.
+mkdir "$work/lean" && cp -r "$work/installed1/wkt" "$work/lean" && echo 'raise ImportError("no NumPy")' > "$work/lean/numpy.py"
+each "the fast module without NumPy" "$work/lean"
 PYTHON=$python "$here/sanitized.sh" "$WKT/libwkt.so"
 
 # Without a library of its own it finds the system's, and where there is none it says so.
