@@ -1,7 +1,8 @@
 #!/usr/bin/env bash
 # Tests the Rust crate over the library in capi/out: by the cargo that is found, and with the feature geo-types by Debian's
-# cargo and rustc, the oldest that the crate promises; its documentation without a library; and clippy and rustfmt, where
-# the cargo that is found has them. The crates come from Debian's registry (librust-geo-types-dev), so no network is needed.
+# cargo and rustc, the oldest that the crate promises; its documentation without a library; the example of README.md; and
+# clippy and rustfmt, where the cargo that is found has them. The crates come from Debian's registry
+# (librust-geo-types-dev), so no network is needed.
 set -u
 cd "$(dirname "$0")" || exit 1
 fail() { echo "rust: $*"; exit 1; }
@@ -25,6 +26,18 @@ run "$(/usr/bin/cargo --version), geo-types" env PATH="/usr/bin:$PATH" cargo tes
 cp -r Cargo.toml README.md build.rs src examples "$dir"
 (cd "$dir" && env -u WKT_LIB_DIR DOCS_RS=1 RUSTDOCFLAGS='-D warnings' cargo doc --offline --no-deps -q) || fail "its documentation"
 echo "rust: its documentation is built without a library"
+# The example of README.md: what stands behind `let NAME = CALL;` is what NAME prints.
+example=$(sed -n '/^```rust$/,/^```$/{//!p}' README.md)
+wanted=$(sed -nE 's,^let .*; +// (.*)$,\1,p' <<< "$example" | tr -d '"')
+[ "$(wc -l <<< "$wanted")" -gt 2 ] || fail "README.md has no example"
+{
+    echo 'fn main() -> Result<(), Box<dyn std::error::Error>> {'
+    sed -E 's,^let ([a-z]+) = .*;,&\nprintln!("{}"\, \1);,' <<< "$example"
+    echo 'Ok(()) }'
+} > "$dir/examples/readme.rs"
+said=$(cd "$dir" && cargo run --offline -q --example readme --target-dir "$dir/found") || fail "the example of README.md"
+[ "$said" = "$wanted" ] || { echo "$said"; fail "the example of README.md: other answers"; }
+echo "rust: README.md: $(wc -l <<< "$wanted") answers, each as it says"
 if cargo clippy --version > /dev/null 2>&1; then
     cargo clippy --offline -q --all-targets --target-dir "$dir/found" -- -D warnings || fail "clippy"
     cargo fmt --check || fail "rustfmt"
