@@ -1,11 +1,7 @@
-pub mod Large
-pub mod Offsets
-pub mod Refused
-pub mod PartsOf
-pub mod Rebuilt
-pub mod Steps
 pub mod Handing
 pub mod Columns
 pub mod ArrayColumns
 pub mod TextColumns
-pub mod Fitting
+pub mod NumberLengths
+pub mod Telling
+pub mod HandingText

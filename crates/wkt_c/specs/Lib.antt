@@ -1,12 +1,9 @@
-pub mod Gathered
-pub mod Growing
 pub mod Column
 pub mod Joining
 pub mod ColumnArrays
 pub mod ArrayRows
 pub mod TextRows
 pub mod Rows
-pub mod Rebuilding
 pub mod Chunks
-pub mod Written
 pub mod Texts
+pub mod Told

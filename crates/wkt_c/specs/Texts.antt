@@ -1,5 +1,5 @@
 -- The texts of flat arrays.
-use Rattle.std.specs.Prelude.{◌≡◌, ◌⊎◌, ℕ, ℤ, List, length, option_to_list}
+use Rattle.std.specs.Prelude.{◌≡◌, ◌⊎◌, ℕ, ℤ, List, length}
 use Rattle.std.specs.List.{All}
 use Rattle.wkt_num.specs.Whole.{IsSigned}
 use Rattle.wkt_num.specs.Decimal.{IsUnits}
@@ -7,9 +7,6 @@ use Rattle.wkt_access.specs.Values.{Value}
 use Rattle.wkt_access.specs.WellFormed.{IsWellFormed}
 use Rattle.wkt_access.specs.Shapes.{shape_of, canon}
 use Rattle.wkt_access.specs.Texts.{shape_text}
-use Rattle.wkt_types.specs.Held.{HeldPoint}
-use Rattle.wkt_types.specs.Values.{point_numbers}
-use Rattle.wkt_types.specs.declared.coord.Coord.{Coord}
 use Rattle.wkt_read.specs.Front.{Front}
 use Rattle.wkt_calls.specs.Answer.{read_at, print_at, HasNoPlaces}
 use Rattle.wkt_calls.specs.Arrays.{AreArrays}
@@ -21,10 +18,6 @@ pub record IsTextOf (places kind dimension : ℕ) (numbers : List ℤ) (rings po
   pub arrays : AreArrays value kind dimension numbers rings polygons
   pub is : text ≡ shape_text (print_at places) (shape_of value)
   pub reads : Front (read_at places) text (canon (shape_of value)) (length text)
-
--- A point of a multipoint as a ring. Only private contracts cite this.
-abbrev pub member_numbers : {T : Type 0} → HeldPoint (Coord T) → List (List T)
-member_numbers p = option_to_list (point_numbers p)
 
 -- These are the arrays of some geometry, each of whose coordinates has as many numbers as its dimension says, and the numbers are of 64 bits, as those of a call are.
 abbrev pub AreOfSome : ℕ → ℕ → ℕ → List ℤ → List ℕ → List ℕ → Type 0

@@ -8,7 +8,7 @@ ghost use Rattle.wkt_c.specs.ArrayRows.{HoldsNoArrays, AddsArrays, AddsRowArrays
 use crate::arrays_room::ArraysRoom;
 use crate::column::{GivenColumn, is_null};
 use crate::joined::{Joined, push};
-use crate::rebuild::GivenArrays;
+use crate::told::GivenArrays;
 use std::alloc::Global;
 use wkt_calls::asked::{ends_as_asked, places_of};
 use wkt_calls::at_places;

@@ -7,7 +7,7 @@ ghost use Rattle.wkt_c.specs.ArrayRows.{row_of};
 ghost use Rattle.wkt_c.specs.TextRows.{given_arrays, AddsArraysText, HoldsTexts};
 
 use crate::column::{Rows, are_offsets, has_bits, is_null};
-use crate::rebuild::{GivenArrays, text_of};
+use crate::told::{GivenArrays, told};
 use std::alloc::Global;
 use wkt_calls::at_places;
 use wkt_calls::status::{DONE, MEMORY, NO_PLACES, NULL_ROW};
@@ -54,10 +54,10 @@ pub(crate) fn is_array_column(given: GivenRows<'_>, ends: &[usize], statuses: &[
     are_arrays(given) && !ends.is_empty() && ends.len() - 1 == rows && statuses.len() == rows
 }
 
-/// Adds the text of a row's arrays.
+/// Adds the text of a row's arrays, which is written in the room first.
 fn add_text<const D: u32>(
     rows: &mut Rows,
-    alloc: Global,
+    room: &mut Vec<u8>,
     row: GivenArrays<'_>,
     null: bool,
 ) -> Result<(), u32>
@@ -69,8 +69,8 @@ fn add_text<const D: u32>(
     if null {
         return rows.add(&[], NULL_ROW);
     }
-    match text_of::<D>(alloc, row) {
-        Ok(answer) => rows.add(&answer, DONE),
+    match told::<D>(row, room) {
+        Ok(pen) => rows.add(pen.written(), DONE),
         Err(status) => {
             if status == MEMORY {
                 return Err(MEMORY);
@@ -90,6 +90,7 @@ fn all_texts<const D: u32>(alloc: Global, given: GivenRows<'_>) -> Result<Rows, 
 {
     let count = given.kinds.len();
     let mut rows = Rows::new(alloc, given.numbers.len())?;
+    let mut room = Vec::new(alloc);
     for i in 0..count {
         let row = GivenArrays {
             kind: given.kinds[i],
@@ -99,7 +100,7 @@ fn all_texts<const D: u32>(alloc: Global, given: GivenRows<'_>) -> Result<Rows, 
             polygons: &given.polygons[given.polygon_offsets[i]..given.polygon_offsets[i + 1]],
         };
         let null = is_null(given.valid, i);
-        add_text::<D>(&mut rows, alloc, row, null)?;
+        add_text::<D>(&mut rows, &mut room, row, null)?;
     }
     Ok(rows)
 }

@@ -14,7 +14,7 @@ use crate::canonical::canonical;
 use crate::chunks::some_at;
 use crate::column::{GivenColumn, Rows, answers, is_column};
 use crate::lines::answers_at;
-use crate::rebuild::{GivenArrays, text_at};
+use crate::told::{GivenArrays, hand_out_at};
 use std::alloc::Global;
 use wkt_calls::arrays_call::{arrays_short, is_short};
 use wkt_calls::asked::{ends_as_asked, has_places};
@@ -332,8 +332,5 @@ pub extern "C" fn wkt_from_arrays(
         rings,
         polygons,
     };
-    match text_at(alloc, given, places) {
-        Ok(answer) => hand_out(&answer, out, needed),
-        Err(status) => status,
-    }
+    hand_out_at(alloc, given, places, out, needed)
 }

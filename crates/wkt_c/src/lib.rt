@@ -6,7 +6,6 @@
 //! more for the rest. Where it isn't 0, the caller's buffers are as they were.
 #![tactic(auto)]
 
-mod arrays;
 mod arrays_call;
 mod arrays_room;
 mod canonical;
@@ -17,8 +16,7 @@ mod column_texts;
 mod exports;
 mod exports_arrays;
 mod exports_explain;
-mod gathered;
 mod joined;
 mod lines;
-mod rebuild;
 mod sizes;
+mod told;

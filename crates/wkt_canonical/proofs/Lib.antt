@@ -7,3 +7,4 @@ pub mod PenNumbers
 pub mod Utf8Texts
 pub mod Backs
 pub mod ShortTexts
+pub mod Told

@@ -30,6 +30,16 @@ pub record Wrote {T : Type 0} (before : Pen T) (text : List ℕ) (after : Pen T)
   pub shorter : length after.out.now ≤ length before.out.now
   pub unless : length after.out.now ≡ length before.out.now → Extends before text after
 
+-- What is written lies within the bytes of the pen.
+abbrev pub IsWithin : {T : Type 0} → Pen T → Type 0
+IsWithin p = p.len ≤ length p.out.now
+
+-- The pen has written nothing, and has as many bytes as these.
+pub record IsFresh {T : Type 0} (room : List ℕ) (pen : Pen T) : Type 0 where
+  pub whole : length pen.out.now ≡ length room
+  pub none : pen.len ≡ 0
+  pub first : pen.polygon ≡ 0
+
 -- The pen has a byte less than so many, and has written nothing.
 pub record IsStuck {T : Type 0} (n : ℕ) (pen : Pen T) : Type 0 where
   pub less : length pen.out.now + 1 ≡ n

@@ -1,7 +1,7 @@
 //! The pen: what the machine tells is written as it comes.
 ghost use Rattle.std.specs.Prelude.{◌≡◌, ◌+◌, ◌≤◌, ◌∷◌, [], length, take, true};
 ghost use Rattle.wkt_access.specs.Texts.{suffix};
-ghost use Rattle.wkt_canonical.specs.Pens.{HasBytes, Extends, Becomes, IsStuck, written_of};
+ghost use Rattle.wkt_canonical.specs.Pens.{HasBytes, Extends, Becomes, IsFresh, IsStuck, IsWithin, written_of};
 ghost use Rattle.wkt_canonical.specs.Written.{kind_text, empty_text, separator, is_polygon, is_hollow, opened, closed};
 
 use std::marker::PhantomData;
@@ -24,6 +24,28 @@ pub struct Pen<'a, T> {
 }
 
 impl<'a, T> Pen<'a, T> {
+    /// A pen that has written nothing yet, and has those bytes.
+    #[inline(always)]
+    pub fn new(out: &'a mut [u8]) -> Pen<'a, T>
+        ensures { IsFresh out.old result }
+    {
+        Pen {
+            out,
+            len: 0,
+            polygon: 0,
+            of: PhantomData,
+        }
+    }
+
+    /// What is written.
+    #[inline(always)]
+    pub fn written(&self) -> &[u8]
+        requires { IsWithin self.now }
+        ensures { result.now ≡ (written_of self.now).bytes }
+    {
+        &self.out[..self.len]
+    }
+
     /// A pen that is stuck.
     pub(crate) fn stuck(out: &'a mut [u8]) -> Pen<'a, T>
         requires { 1 ≤ length out.old }

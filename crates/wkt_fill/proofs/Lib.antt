@@ -11,3 +11,4 @@ pub mod Whole
 pub mod Coordinates
 pub mod Bounds
 pub mod Headed
+pub mod Costs

@@ -92,6 +92,7 @@ fn of_64_bits(numbers: &[i64])
 pub fn are_arrays(given: Given<'_>) -> bool
     ensures some { OnTrue result ((places : ℕ) → places ≤ 36 → (v : Value ℤ) × IsGiven places given.entry v) }
     ensures none { OnFalse result ((places : ℕ) (v : Value ℤ) → IsGiven places given.entry v → ⊥) }
+    ensures narrow { OnTrue result (All (IsSigned 63) given.entry.numbers.now) }
 {
     let numbers = given.numbers;
     let size = size_of(given.dimension);

@@ -5,10 +5,7 @@ use Rattle.wkt_num.specs.Bytes.{Lexeme, Word, Num, Mark, class_of}
 use Rattle.wkt_read.specs.Lexemes.{starts_number, without_plus}
 use Rattle.wkt_read.specs.Table.{at_end, at_bad, at_number, at_place, stays, closing, closings}
 use Rattle.wkt_read.specs.Placed.{lexemes_of}
-use Rattle.wkt_access.specs.declared.dimensions.Dimension.{Dimension}
-use Rattle.wkt_access.specs.declared.dimensions.Dimension.TheVariants.{XY, XYZ, XYM, XYZM}
 use Rattle.wkt_read.specs.declared.expected.Expected.{Expected}
-use Rattle.wkt_read.specs.declared.expected.Expected.TheVariants as expected
 use Rattle.wkt_read.specs.declared.messages.Message.{Message}
 use Rattle.wkt_read.specs.declared.messages.Message.TheVariants as message
 use Rattle.wkt_events.specs.Left.{class_in, left, left_placed, IsRunEnd, TakesOne}
@@ -18,19 +15,15 @@ use Rattle.wkt_events.proofs.Lefts.{takes-after, takes-left, takes-mark}
 use Rattle.wkt_events.proofs.Numbers.{takes-number}
 use Rattle.wkt_machine.specs.BytesView.{IsDark, IsUnmarked}
 use Rattle.wkt_machine.specs.Given.{Shows, GivesNext}
-use Rattle.wkt_machine.specs.Action.{Action}
-use Rattle.wkt_machine.specs.Action as act
-use Rattle.wkt_machine.specs.Expecting.{expected_at, last_number, number_expected}
+use Rattle.wkt_machine.specs.Expecting.{expected_at}
 use Rattle.wkt_machine.specs.Goes.{IsStuck}
-use Rattle.wkt_machine.specs.Machine.{at, move, moved, number_step, numbers_after, said}
+use Rattle.wkt_machine.specs.Machine.{move}
 use Rattle.wkt_machine.specs.Machines.{state_of}
-use Rattle.wkt_machine.specs.Place.{Place, State}
-use Rattle.wkt_machine.specs.Place as place
 use Rattle.wkt_machine.specs.Refusing.{blamed, takes_number}
 use Rattle.wkt_machine.specs.declared.machine.Machine.{Machine}
-use Rattle.wkt_machine.specs.declared.part.Part.TheVariants as part
 use Rattle.wkt_machine.specs.declared.message.Given.{Given}
 use Rattle.wkt_machine.specs.declared.message.Given.TheVariants as given
+use Rattle.wkt_machine.proofs.BadNumbers.{stuck_unread, place_bad, place_taken}
 use Rattle.wkt_machine.proofs.ByteViews.{none_left, none_unread, number_run, takes_word, takes_digits}
 
 module _ {N : Type 0} (read : List ℕ → Option N) (text : List ℕ) where
@@ -67,51 +60,7 @@ module _ {N : Type 0} (read : List ℕ → Option N) (text : List ℕ) where
       let takes = digits at end ends starts in
       (Num number, takes, (number, refl, none_unread false text at read (utf8, inside) dark none number end (left_placed false text end) takes.next))
 
-  -- a number with which the machine doesn't move isn't read
-  stuck_number : (o : Option N) (y : State × Action) → moved read (Some y) (said read o) ≡ None → o ≡ None
-  stuck_number (Some x) y e = cc
-  stuck_number None y e = refl
-
-  stuck_unread : (p : Place) (n : ℕ) (run : List ℕ) → takes_number p ≡ true → move read (record { place = p; depth = n }) (Num run) ≡ None → read run ≡ None
-  stuck_unread (place.Number p d more) n run takes e = stuck_number (read run) (number_step p d more n) e
-  stuck_unread (place.Opening part.Member d) n run takes e = stuck_number (read run) (at n (place.Number part.Bare d (numbers_after d - 1)), act.FirstBare) e
-  stuck_unread p n run takes e = let no : ⊥ = cc in absurd no
-
   -- where a number may stand, one that isn't read is blamed, and taken
-  number_bad : (d : Dimension) (more : ℕ) → at_bad (number_expected d more) ≡ message.BadNumber
-  number_bad d more = go (more == 0) (more == numbers_after d) (suc more == numbers_after d) d
-    where
-      go : (a b c : Bool) (d : Dimension) → at_bad (if a then last_number d else (if b then expected.X else (if c then expected.Y else expected.Z))) ≡ message.BadNumber
-      go true b c XY = refl
-      go true b c XYZ = refl
-      go true b c XYM = refl
-      go true b c XYZM = refl
-      go false true c d = refl
-      go false false true d = refl
-      go false false false d = refl
-
-  number_taken : (d : Dimension) (more : ℕ) (l : Lexeme) → stays read (number_expected d more) l ≡ false
-  number_taken d more l = go (more == 0) (more == numbers_after d) (suc more == numbers_after d) d
-    where
-      go : (a b c : Bool) (d : Dimension) → stays read (if a then last_number d else (if b then expected.X else (if c then expected.Y else expected.Z))) l ≡ false
-      go true b c XY = refl
-      go true b c XYZ = refl
-      go true b c XYM = refl
-      go true b c XYZM = refl
-      go false true c d = refl
-      go false false true d = refl
-      go false false false d = refl
-
-  place_bad : (p : Place) (n : ℕ) → takes_number p ≡ true → at_bad (expected_at p n) ≡ message.BadNumber
-  place_bad (place.Number p d more) n takes = number_bad d more
-  place_bad (place.Opening part.Member d) n takes = refl
-  place_bad p n takes = let no : ⊥ = cc in absurd no
-
-  place_taken : (p : Place) (n : ℕ) (l : Lexeme) → takes_number p ≡ true → stays read (expected_at p n) l ≡ false
-  place_taken (place.Number p d more) n l takes = number_taken d more l
-  place_taken (place.Opening part.Member d) n l takes = refl
-  place_taken p n l takes = let no : ⊥ = cc in absurd no
-
   pub blames_number : (m : Machine) (from at end : ℕ) → from ≤ at → left_placed false text from ≡ left_placed false text at → IsRunEnd text at end → starts_number (get_or text at 0) ≡ true → takes_number (state_of m).place ≡ true → IsStuck read m (left_placed false text from)
       → (message.BadNumber, left false text end) ≡ blamed read (expected_at (state_of m).place m.depth) (left false text from)
   blames_number m from at end order same ends starts takes stuck =
@@ -119,10 +68,10 @@ module _ {N : Type 0} (read : List ℕ → Option N) (text : List ℕ) where
       let run : List ℕ = without_plus (slice_range text at end) in
       let first = takes-after false text from at (Num run) end order same (digits at end ends starts) in
       let stops : move read (state_of m) (Num run) ≡ None = subst (IsStuck read m) first.next stuck in
-      let unread : read run ≡ None = stuck_unread (state_of m).place m.depth run takes stops in
+      let unread : read run ≡ None = stuck_unread read (state_of m).place m.depth run takes stops in
       let r = left false text end in
       subst (λ ls. (message.BadNumber, r) ≡ blamed read e ls) (sym (takes-left false text from (Num run) end first))
-      (ap (λ m. (m, r)) (sym (ap (λ o. at_number read o e) unread ∙ place_bad (state_of m).place m.depth takes)) ∙ ap (λ b. (at_number read (read run) e, if b then Num run ∷ r else r)) (sym (place_taken (state_of m).place m.depth (Num run) takes)))
+      (ap (λ m. (m, r)) (sym (ap (λ o. at_number read o e) unread ∙ place_bad (state_of m).place m.depth takes)) ∙ ap (λ b. (at_number read (read run) e, if b then Num run ∷ r else r)) (sym (place_taken read (state_of m).place m.depth (Num run) takes)))
 
   -- the lexeme that is refused stays, or is taken
   pub blames_none : (e : Expected) (m : Message) (at : ℕ) → left_placed false text at ≡ [] → m ≡ at_end e → (m, left false text at) ≡ blamed read e (left false text at)

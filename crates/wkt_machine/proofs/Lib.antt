@@ -1,6 +1,7 @@
 mod Runs
 mod Parts
 pub mod Complete
+mod BadNumbers
 mod Beginnings
 mod Places
 mod Begins

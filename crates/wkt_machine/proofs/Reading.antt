@@ -1,5 +1,5 @@
 -- What is read off tokens, by what the machine took of them.
-use Rattle.std.proofs.Common.{◌≡◌, ℕ, ◌<◌, List, [], ◌∷◌, ◌++◌, length, refl, sym, ap, ◌∙◌, subst, append_assoc, arith, Option, Result, Ok, Err}
+use Rattle.std.proofs.Common.{◌≡◌, ℕ, ◌<◌, ◌≤◌, List, [], ◌∷◌, ◌++◌, length, refl, sym, ap, ◌∙◌, subst, append_assoc, arith, Option, Result, Ok, Err}
 use Rattle.std.specs.Prelude.{IfOk}
 use Rattle.std.specs.declared.alloc.AllocError.{AllocError}
 use Rattle.wkt_num.specs.Bytes.{Lexeme}
@@ -147,6 +147,9 @@ module _ {T : Type 0} (read : List ℕ → Option T) (a b : OneByOne T) (s t : S
     module _ (m : Machine) (stuck : u ≡ Refused m) (h : OnRefused r (λ m. IsRefused read tokens_view a m b)) where
       at_stuck : IsRefused read tokens_view a m b
       at_stuck = off_refused (λ m. IsRefused read tokens_view a m b) m u r is stuck h
+
+      pub stuck_next : IsStuck read m (left t)
+      stuck_next = let low : 0 ≤ taken_of a.tokens.now = omega arith in subst (λ (t : Standing). IsStuck read m (left t)) (sym behind) (at_stuck.stuck 0 low)
 
       pub stuck_advances : (after : Standing) → Advances t after → Advances s after
       stuck_advances after more = advances_then s t after (there Advances (refused_advances read a b m at_stuck)) more

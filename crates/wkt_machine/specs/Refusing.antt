@@ -1,6 +1,6 @@
 -- With which message lexemes are refused at a place, and which of them are left.
-use Rattle.std.specs.Prelude.{ℕ, ◌+◌, List, [], ◌∷◌, Option, Bool, true, false}
-use Rattle.wkt_num.specs.Bytes.{Lexeme}
+use Rattle.std.specs.Prelude.{ℕ, ◌+◌, List, [], ◌∷◌, Option, Some, Bool, true, false}
+use Rattle.wkt_num.specs.Bytes.{Lexeme, Num}
 use Rattle.wkt_read.specs.declared.messages.Message.{Message}
 use Rattle.wkt_read.specs.Table.{at_place, left_at, stays, closings}
 use Rattle.wkt_read.specs.declared.expected.Expected.{Expected}
@@ -31,6 +31,11 @@ abbrev pub takes_number : Place → Bool
 takes_number (place.Number p d more) = true
 takes_number (place.Opening part.Member d) = true
 takes_number p = false
+
+-- whether a number comes next
+abbrev pub is_number : Option Lexeme → Bool
+is_number (Some (Num run)) = true
+is_number o = false
 
 module _ {N : Type 0} (read : List ℕ → Option N) where
   -- whether the first of the lexemes isn't taken where it is refused, if there is one

@@ -2,6 +2,8 @@
 use Rattle.std.specs.Prelude.{◌≡◌, ◌≤◌, ℕ, Option, Some, None}
 use Rattle.std.specs.Borrow.{MutBor}
 use Rattle.wkt_num.specs.Bytes.{Lexeme}
+use Rattle.wkt_access.specs.declared.dimensions.Dimension.{Dimension}
+use Rattle.wkt_types.specs.declared.geometry_type.GeometryType.{GeometryType}
 use Rattle.wkt_read.specs.Ahead as ahead
 use Rattle.wkt_read.specs.Standing.{Standing}
 use Rattle.wkt_machine.specs.Sight.{seen_of}
@@ -14,6 +16,10 @@ use Rattle.wkt_machine.specs.declared.tokens.OneByOne.{OneByOne}
 abbrev pub seen_found : Option Lexeme → Seen
 seen_found None = seen.Other
 seen_found (Some l) = seen_of l
+
+-- no kind word comes first
+abbrev pub NoKind : Option Lexeme → Type 0
+NoKind o = (k : GeometryType) (d : Option Dimension) → seen_found o ≡ seen.Kind k d → ⊥
 
 -- the tokens that are lent
 abbrev pub tokens_of : {T : Type 0} → OneByOne T → MutBor Standing

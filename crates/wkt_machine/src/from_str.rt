@@ -26,8 +26,17 @@ use wkt_read::{Message, PeekableTokens, ReadError, Tokens};
 use wkt_types::{Coord, Point, Wkt};
 
 /// What has grown.
-#[inline(never)]
+///
+/// It comes through memory, whose place is cleared here, away from the ways that don't need it.
+#[inline(always)]
 fn answer<T: WktNum>(grown: &mut Tree<T>) -> Result<Wkt<T>, ReadError>
+    ensures { AnswersReader grown.old result }
+{
+    answer_apart(grown)
+}
+
+#[inline(never)]
+fn answer_apart<T: WktNum>(grown: &mut Tree<T>) -> Result<Wkt<T>, ReadError>
     ensures { AnswersReader grown.old result }
 {
     if grown.is_lost() {
@@ -66,6 +75,42 @@ fn read_off<'t, 'a, T: WktNum>(
                 (Err(ReadError::Text(said)), left)
             }
         },
+    }
+}
+
+/// The geometry at the front of a text. What it is made of is cleared here, behind the look for an empty text.
+#[inline(always)]
+fn of_text<T: WktNum>(alloc: Global, text: &str) -> Result<Wkt<T>, ReadError>
+    ensures found { IfOk result (λ w. IsFront T.read text.now (tree w)) }
+    ensures no_front { OnText result (HasNoFront T.read text.now) }
+    ensures bad { OnMessage result bad_number (HasBadNumber T.read text.now) }
+    ensures refusal { IfText result (λ said. IsTextRefused T.read text.now said) }
+    ensures free { (v end : _) → Front T.read text.now v end → NeedsNoMemory v → IsOk result }
+{
+    let mut tokens = PeekableTokens::new(Tokens::from_str(text));
+    // The machine counts open collections, of which there are no more than tokens.
+    let _ = tokens.most_left();
+    let mut tree = Tree::new(alloc);
+    let source = OneByOne::new(&mut tokens);
+    match drive::<T, OneByOne<'_, '_, T>, Grower<'_, T>>(source, Grower::new(&mut tree)) {
+        Ok(over) => {
+            let grown = over.builder.into_tree();
+            // Most geometries are points of two numbers: their parts are written where they stay.
+            if let Some((x, y)) = grown.pair() {
+                let coord = Coord {
+                    x,
+                    y,
+                    z: None,
+                    m: None,
+                };
+                return Ok(Wkt::Point(Point::new(Some(coord), grown.dim())));
+            }
+            answer(grown)
+        }
+        Err(at) => {
+            let said = refused(at.machine, at.source.into_tokens()).text();
+            Err(ReadError::Text(said))
+        }
     }
 }
 
@@ -165,30 +210,10 @@ impl<T: WktNum> FromWktStr for Wkt<T> {
         if text.is_empty() {
             return Err(ReadError::Text(Message::Format.text()));
         }
-        let mut tokens = PeekableTokens::new(Tokens::from_str(text));
-        // The machine counts open collections, of which there are no more than tokens.
-        let _ = tokens.most_left();
-        let mut tree = Tree::new(alloc);
-        let source = OneByOne::new(&mut tokens);
-        match drive::<T, OneByOne<'_, '_, T>, Grower<'_, T>>(source, Grower::new(&mut tree)) {
-            Ok(over) => {
-                let grown = over.builder.into_tree();
-                // Most geometries are points of two numbers: their parts are written where they stay.
-                if let Some((x, y)) = grown.pair() {
-                    let coord = Coord {
-                        x,
-                        y,
-                        z: None,
-                        m: None,
-                    };
-                    return Ok(Wkt::Point(Point::new(Some(coord), grown.dim())));
-                }
-                answer(grown)
-            }
-            Err(at) => {
-                let said = refused(at.machine, at.source.into_tokens()).text();
-                Err(ReadError::Text(said))
-            }
+        // Each way hands out its answer by itself, so that a refused text doesn't carry the parts of a geometry.
+        match of_text(alloc, text) {
+            Ok(geometry) => return Ok(geometry),
+            Err(error) => return Err(error),
         }
     }
 

@@ -121,7 +121,7 @@ fn closing<T: WktNum>(message: Message, given: Given<'_>) -> Message
 
 /// Whether a number may stand at the machine's place.
 #[inline(always)]
-fn takes_number(machine: Machine) -> bool
+pub(crate) fn takes_number(machine: Machine) -> bool
     ensures { result ≡ takes_number (state_of machine).place }
 {
     match machine.state {

@@ -5,12 +5,14 @@ ghost use Rattle.wkt_access.specs.declared.dimensions.Dimension.{Dimension};
 ghost use Rattle.wkt_read.specs.Table.{at_number, at_place, closing, closings, is_unread, unclosed};
 ghost use Rattle.wkt_machine.specs.Expecting.{expected_at, item_expected, last_number, opening_expected};
 ghost use Rattle.wkt_machine.specs.Machines.{state_of};
-ghost use Rattle.wkt_machine.specs.Refusing.{around, own, blamed, refused, stays_first};
-ghost use Rattle.wkt_read.specs.Ahead.{Advances, Moves, rest};
-ghost use Rattle.wkt_read.specs.Parser.Walks.{IsFirst, TakesNext};
+ghost use Rattle.wkt_machine.specs.Refusing.{around, own, blamed, is_number, refused, stays_first};
+ghost use Rattle.wkt_machine.specs.Goes.{IsStuck};
+ghost use Rattle.wkt_read.specs.Ahead.{Advances, left, rest};
+ghost use Rattle.wkt_read.specs.Parser.Walks.{IsFirst};
 ghost use Rattle.wkt_read.specs.Tokenizer.Unread.{found};
 
 use crate::machine::{Machine, State};
+use crate::message::takes_number;
 use crate::part::Part;
 use wkt_access::Dimension;
 use wkt_num::WktNum;
@@ -160,13 +162,33 @@ fn closing<T: WktNum>(message: Message, lexeme: Lexeme<'_>) -> Message
     }
 }
 
+/// Whether a number stands there.
+#[inline(always)]
+fn is_number(lexeme: Lexeme<'_>) -> bool
+    ensures { result ≡ is_number (found lexeme.entry) }
+{
+    match lexeme {
+        Lexeme::Number(_) => true,
+        _ => false,
+    }
+}
+
 /// The message of the place alone. The token that is refused is taken, unless it stands where a parenthesis has to close.
 #[inline(always)]
-fn blame<T: WktNum>(expected: Expected, tokens: &mut PeekableTokens<'_, T>) -> Message
-    ensures message { (result, rest tokens.new) ≡ blamed T.read expected (rest tokens.old) }
+fn blame<T: WktNum>(machine: Machine, tokens: &mut PeekableTokens<'_, T>) -> Message
+    requires stuck { IsStuck T.read machine (left tokens.now) }
+    ensures message { (result, rest tokens.new) ≡ blamed T.read (expected_at (state_of machine).place machine.depth) (rest tokens.old) }
     ensures advances { Advances tokens.old tokens.new }
 {
     let lexeme = tokens.look();
+    if takes_number(machine) {
+        // One that its type reads the machine would have taken.
+        if is_number(lexeme) {
+            let _ = tokens.take();
+            return Message::BadNumber;
+        }
+    }
+    let expected = machine.expected();
     if !stays::<T>(expected, lexeme) {
         let _ = tokens.take();
     }
@@ -179,32 +201,67 @@ fn close<T: WktNum>(message: Message, parens: usize, tokens: &mut PeekableTokens
     ensures message { (result, rest tokens.new) ≡ closings T.read parens message (rest tokens.old) }
     ensures advances { Advances tokens.old tokens.new }
 {
+    if parens == 0 {
+        return message;
+    }
+    close_apart(message, parens, tokens)
+}
+
+#[inline(never)]
+fn close_apart<T: WktNum>(
+    message: Message,
+    parens: usize,
+    tokens: &mut PeekableTokens<'_, T>,
+) -> Message
+    ensures message { (result, rest tokens.new) ≡ closings T.read parens message (rest tokens.old) }
+    ensures advances { Advances tokens.old tokens.new }
+{
     let mut reported = message;
     let mut left = parens;
     'parens: while left > 0 {
-        reported = closing::<T>(reported, next_of(tokens));
+        reported = closing::<T>(reported, tokens.take());
         left -= 1;
     }
     reported
 }
 
-/// The next token, which is taken, where speed isn't wanted.
-#[inline(never)]
-fn next_of<'a, T: WktNum>(tokens: &mut PeekableTokens<'a, T>) -> Lexeme<'a>
-    ensures moves { Moves tokens.old (found result) tokens.new }
-    ensures takes { TakesNext (found result) (rest tokens.old) (rest tokens.new) }
-{
-    tokens.take()
-}
-
 /// The message of tokens that are refused at the place, by the table of `docs/GRAMMAR.md`. As many of them are taken as
 /// it takes to say so.
-#[inline(never)]
+#[inline(always)]
 pub(crate) fn refused<T: WktNum>(machine: Machine, tokens: &mut PeekableTokens<'_, T>) -> Message
+    requires stuck { IsStuck T.read machine (left tokens.now) }
     ensures message { (result, rest tokens.new) ≡ refused T.read (state_of machine) (rest tokens.old) }
     ensures advances { Advances tokens.old tokens.new }
 {
-    let message = blame(machine.expected(), tokens);
+    refused_apart(
+        machine.state,
+        machine.part,
+        machine.dim,
+        machine.depth,
+        tokens,
+    )
+}
+
+/// The same. The parts of the place come one by one, so that what fills it up isn't carried along.
+#[inline(never)]
+fn refused_apart<T: WktNum>(
+    state: State,
+    part: Part,
+    dim: Dimension,
+    depth: usize,
+    tokens: &mut PeekableTokens<'_, T>,
+) -> Message
+    requires stuck { IsStuck T.read (record { state = state; part = part; dim = dim; depth = depth }) (left tokens.now) }
+    ensures message { (result, rest tokens.new) ≡ refused T.read (state_of (record { state = state; part = part; dim = dim; depth = depth })) (rest tokens.old) }
+    ensures advances { Advances tokens.old tokens.new }
+{
+    let machine = Machine {
+        state,
+        part,
+        dim,
+        depth,
+    };
+    let message = blame(machine, tokens);
     let message = close(message, machine.own(), tokens);
-    close(message, machine.depth, tokens)
+    close(message, depth, tokens)
 }

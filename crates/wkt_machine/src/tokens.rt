@@ -10,6 +10,10 @@ ghost use Rattle.wkt_machine.specs.Sight.{seen_word};
 ghost use Rattle.wkt_machine.specs.TokensView.{seen_found, tokens_of, tokens_view};
 ghost use Rattle.wkt_machine.specs.declared.machine.State.TheVariants as next;
 ghost use Rattle.std.specs.Prelude.{MatchOption};
+ghost use Rattle.std.specs.Bool.{OnFalse};
+ghost use Rattle.wkt_read.specs.Ahead.{first_of, left};
+ghost use Rattle.wkt_read.specs.Taking.{Looks};
+ghost use Rattle.wkt_machine.specs.TokensView.{NoKind};
 
 use crate::builder::Builder;
 use crate::coordinates::has_coordinates;
@@ -17,7 +21,7 @@ use crate::machine::{Machine, Seen, State, part_of};
 use crate::pairs::pairs;
 use crate::part::{Axis, Part};
 use crate::source::{Source, Walk, Walked};
-use crate::step::on;
+use crate::step::{on, refused};
 use wkt_access::Dimension;
 use wkt_num::WktNum;
 use wkt_read::PeekableTokens;
@@ -110,10 +114,46 @@ impl<'t, 'a, T: WktNum> Source<T> for OneByOne<'t, 'a, T> {
     }
 }
 
+/// Whether a kind word comes next, where mostly none does.
+#[inline(never)]
+fn has_kind<T: WktNum>(tokens: &mut PeekableTokens<'_, T>) -> bool
+    ensures looks { Looks tokens.old tokens.new }
+    ensures none { OnFalse result (NoKind (first_of (left tokens.old))) }
+{
+    match tokens.look() {
+        Lexeme::Word(word) => match kind_of(word) {
+            Some(_) => true,
+            None => false,
+        },
+        _ => false,
+    }
+}
+
+/// Where a geometry begins, with what is mostly no kind word.
+#[inline(always)]
+fn kindless<'t, 'a, T: WktNum, B: Builder<T>>(
+    machine: Machine,
+    source: OneByOne<'t, 'a, T>,
+    builder: B,
+) -> Walked<OneByOne<'t, 'a, T>, B>
+    requires state { machine.state ≡ next.Kind }
+    requires depth { machine.depth + length (tokens_view.left source) ≤ usize.MAX }
+    requires room { HasRoom tokens_view B.maker 0 source builder }
+    ensures on { IfOk result (Goes T.read tokens_view B.maker machine source.entry builder) }
+    ensures room { IfOk result (RoomAt tokens_view B.maker) }
+    ensures refused { IfErr result (Refuses T.read tokens_view B.maker machine source.entry builder) }
+{
+    if has_kind(source.tokens) {
+        return machine.step(source, builder);
+    }
+    refused(source, machine, builder)
+}
+
 /// Behind the header that comes next, and its parenthesis; of a point behind its coordinate.
 ///
-/// There is one for the first geometry and one for those inside, so that each has one place that calls it.
-#[inline(always)]
+/// There is one for the first geometry and one for those inside, so that each has one place that calls it, into which it
+/// is inlined when it is small already: what must be inlined before that carries along what fills its places up.
+#[inline]
 #[tactic(auto, using(crate::proofs::TokenViews::kind_open, crate::proofs::TokenViews::kind_sound))]
 fn header<'t, 'a, T: WktNum, B: Builder<T>, const INNER: bool>(
     machine: Machine,
@@ -129,7 +169,7 @@ fn header<'t, 'a, T: WktNum, B: Builder<T>, const INNER: bool>(
 {
     let (kind, joined) = match source.tokens.take_kind() {
         Some(found) => found,
-        None => return machine.step(source, builder),
+        None => return kindless(machine, source, builder),
     };
     let part = part_of(kind);
     if let Some(dim) = joined {

@@ -8,8 +8,8 @@ pub returns-then-null : goal.returns-then-null
 returns-then-null g c = match-map c.add.result (λ x adds. null-text g.row.D _ _ _ _ c.if-null.true adds) (λ e h. h) c.add.ensures
 
 pub returns-in-Ok : goal.returns-in-Ok
-returns-in-Ok g c = match-map c.add-in-Ok.result (λ x adds. arrays-text g.row.D _ _ _ _ _ _ c.if-null.false c.in-Ok.ensures c.deref.ensures.value adds) (λ e h. h) c.add-in-Ok.ensures
+returns-in-Ok g c = match-map c.add-in-Ok.result (λ x adds. arrays-text g.row.D _ _ _ _ _ _ c.if-null.false c.in-Ok.ensures.ok c.written.ensures adds) (λ e h. h) c.add-in-Ok.ensures
 
 pub returns-else-status-eq-MEMORY : goal.returns-else-status-eq-MEMORY
 returns-else-status-eq-MEMORY g c =
-    match-map c.add-in-Err.result (λ x adds. no-text g.row.D _ _ _ _ _ c.if-null.false c.if-status-eq-MEMORY.false (inr c.in-Err.ensures) adds) (λ e h. h) c.add-in-Err.ensures
+    match-map c.add-in-Err.result (λ x adds. no-text g.row.D _ _ _ _ _ c.if-null.false c.if-status-eq-MEMORY.false (inr c.in-Err.ensures.err) adds) (λ e h. h) c.add-in-Err.ensures

@@ -1,7 +1,7 @@
 -- The machine's answer, and the tokens behind what it took.
 use Rattle.std.proofs.Common.{ap, ◌∙◌, arith, length}
 use Rattle.wkt_read.specs.Ahead.{left}
-use Rattle.wkt_machine.proofs.Reading.{ok_found, ok_taken, ok_advances, ok_near, memory_free, memory_advances, stuck_advances, stuck_none, stuck_early, stuck_bad, stuck_refusal}
+use Rattle.wkt_machine.proofs.Reading.{ok_found, ok_taken, ok_advances, ok_near, memory_free, memory_advances, stuck_next, stuck_advances, stuck_none, stuck_early, stuck_bad, stuck_refusal}
 use Rattle.wkt_machine.proofs.from_str.read_off.Goals as goal
 
 pub read-answer-requires : goal.read-answer-requires
@@ -9,6 +9,9 @@ read-answer-requires g c =
     let most = c.most_left.ensures in
     let same = ap (λ t. length (left t.now)) c.new-source.ensures in
     record { room = omega (arith, most, same) }
+
+pub refused-requires : goal.refused-requires
+refused-requires g c = record { stuck = stuck_next g.T.WktNum.read c.new-source.result _ _ _ (ap (λ t. t.now) c.new-source.ensures) (ap (λ t. t.now) c.into_tokens-left.ensures) c.read-answer.result.0 c.in-Err.unread c.in-Err.is c.in-Refused.machine c.in-Refused.is c.read-answer.ensures.refused }
 
 pub returns-in-Ok-clause-found : goal.returns-in-Ok-clause-found
 returns-in-Ok-clause-found g c = ok_found g.T.WktNum.read c.new-source.result _ _ _ (ap (λ t. t.now) c.new-source.ensures) (ap (λ t. t.now) c.into_tokens-left.ensures) c.read-answer.result.0 c.in-Ok.geometry c.in-Ok.is c.read-answer.ensures.found

@@ -9,12 +9,12 @@ use Rattle.wkt_machine.proofs.Leading.{goes_if, refuses_if}
 use Rattle.wkt_machine.proofs.TokenSteps.{there_in, stays_ok, joined_goes, open_goes, opened_goes, behind_ok, behind_err, ok_err}
 use Rattle.wkt_num.specs.Bytes.{Open}
 use Rattle.wkt_machine.specs.Room.{header_cost, owed, HasRoom}
-use Rattle.wkt_machine.proofs.Rooms.{inside_owes, fits_so_much, made_room, room_at, kind_room}
+use Rattle.wkt_machine.proofs.Rooms.{inside_owes, fits_so_much, made_room, room_at}
 use Rattle.wkt_machine.proofs.SourceRooms.{leaves_two, kind_owes, looks_room, mark_fits, mark_after}
 use Rattle.wkt_machine.proofs.tokens.header.Goals as goal
 
 pub returns-in-None-clause-on : goal.returns-in-None-clause-on
-returns-in-None-clause-on g c = stays_ok g.T.WktNum.read g.B.Builder.maker c.args.machine c.args.source (there_in c.args.source c.take_kind.new.self) c.args.builder c.step.result c.in-None.ensures c.step.ensures.on
+returns-in-None-clause-on g c = stays_ok g.T.WktNum.read g.B.Builder.maker c.args.machine c.args.source (there_in c.args.source c.take_kind.new.self) c.args.builder c.kindless.result c.in-None.ensures c.kindless.ensures.on
 
 pub returns-in-Some-joined-clause-on : goal.returns-in-Some-joined-clause-on
 returns-in-Some-joined-clause-on g c =
@@ -24,12 +24,12 @@ returns-in-Some-joined-clause-on g c =
 pub returns-then-not-take_open-clause-on : goal.returns-then-not-take_open-clause-on
 returns-then-not-take_open-clause-on g c =
     behind_ok g.T.WktNum.read g.B.Builder.maker c.args.machine c.args.source (there_in c.args.source c.take_kind.new.self) c.args.builder c.in-Some.found c.part_of-part.result c.requires.state c.part_of-part.ensures c.in-Some.ensures c.in_default.is
-    (there_in c.args.source c.take_open.new.self) c.begun-alone.result c.step-then-not-take_open.result c.begun-alone.ensures c.if-not-take_open.ensures c.step-then-not-take_open.ensures.on
+    (there_in c.args.source c.take_open.new.self) c.begun-alone.result c.step.result c.begun-alone.ensures c.if-not-take_open.ensures c.step.ensures.on
 
 pub returns-then-not-take_open-clause-refused : goal.returns-then-not-take_open-clause-refused
 returns-then-not-take_open-clause-refused g c =
     behind_err g.T.WktNum.read g.B.Builder.maker c.args.machine c.args.source (there_in c.args.source c.take_kind.new.self) c.args.builder c.in-Some.found c.part_of-part.result c.requires.state c.part_of-part.ensures c.in-Some.ensures c.in_default.is
-    (there_in c.args.source c.take_open.new.self) c.begun-alone.result c.step-then-not-take_open.result c.begun-alone.ensures c.if-not-take_open.ensures c.step-then-not-take_open.ensures.refused
+    (there_in c.args.source c.take_open.new.self) c.begun-alone.result c.step.result c.begun-alone.ensures c.if-not-take_open.ensures c.step.ensures.refused
 
 pub returns-in-Point-clause-on : goal.returns-in-Point-clause-on
 returns-in-Point-clause-on g c =
@@ -57,8 +57,8 @@ returns g c = record {
   refused = ok_err (Refuses g.T.WktNum.read tokens_view g.B.Builder.maker c.args.machine c.args.source c.args.builder) c.on-2.result _ c.on-2.ensures;
 }
 
-pub step-requires-clause-room : goal.step-requires-clause-room
-step-requires-clause-room g c = kind_room tokens_view g.B.Builder.maker c.args.machine (there_in c.args.source c.take_kind.new.self) c.args.builder c.requires.state (looks_room g.B.Builder.maker 0 c.args.source (there_in c.args.source c.take_kind.new.self) c.args.builder c.in-None.ensures c.requires.room)
+pub kindless-requires-clause-room : goal.kindless-requires-clause-room
+kindless-requires-clause-room g c = looks_room g.B.Builder.maker 0 c.args.source (there_in c.args.source c.take_kind.new.self) c.args.builder c.in-None.ensures c.requires.room
 
 pub begin-requires : goal.begin-requires
 begin-requires g c = record { room = fits_so_much tokens_view g.B.Builder.maker (header_cost c.part_of-part.result) (there_in c.args.source c.take_kind.new.self) c.args.builder (kind_owes g.B.Builder.maker c.args.source (there_in c.args.source c.take_kind.new.self) c.args.builder c.in-Some.found c.part_of-part.result c.part_of-part.ensures c.in-Some.ensures c.requires.room) }
@@ -67,8 +67,8 @@ pub returns-in-Some-joined-clause-room : goal.returns-in-Some-joined-clause-room
 returns-in-Some-joined-clause-room g c =
     room_at tokens_view g.B.Builder.maker (there_in c.args.source c.take_kind.new.self) c.begin.result c.begun.result c.on.result c.on.ensures (ap (λ m. owed (state_of m)) c.begun.ensures) (made_room tokens_view g.B.Builder.maker (header_cost c.part_of-part.result) 0 (header_cost c.part_of-part.result) (there_in c.args.source c.take_kind.new.self) c.args.builder c.begin.result (omega arith) c.begin.ensures.leaves (kind_owes g.B.Builder.maker c.args.source (there_in c.args.source c.take_kind.new.self) c.args.builder c.in-Some.found c.part_of-part.result c.part_of-part.ensures c.in-Some.ensures c.requires.room))
 
-pub step-requires-then-not-take_open-clause-room : goal.step-requires-then-not-take_open-clause-room
-step-requires-then-not-take_open-clause-room g c =
+pub step-requires-clause-room : goal.step-requires-clause-room
+step-requires-clause-room g c =
     subst (λ m. HasRoom tokens_view g.B.Builder.maker (owed (state_of m)) (there_in c.args.source c.take_open.new.self) c.args.builder) (sym c.begun-alone.ensures) (looks_room g.B.Builder.maker (header_cost c.part_of-part.result) (there_in c.args.source c.take_kind.new.self) (there_in c.args.source c.take_open.new.self) c.args.builder c.if-not-take_open.ensures (kind_owes g.B.Builder.maker c.args.source (there_in c.args.source c.take_kind.new.self) c.args.builder c.in-Some.found c.part_of-part.result c.part_of-part.ensures c.in-Some.ensures c.requires.room))
 
 pub begin-requires-2 : goal.begin-requires-2

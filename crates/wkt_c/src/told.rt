@@ -1,0 +1,151 @@
+//! The text of flat arrays: they are checked, and told to a pen.
+ghost use Rattle.std.specs.Prelude.{◌≡◌, ◌≤◌, ◌+◌, ◌*◌, length, vec_len, OnOk, IfOk, IfErr, IfSome};
+ghost use Rattle.wkt_access.specs.declared.dimensions.Dimension.{Dimension};
+ghost use Rattle.wkt_types.specs.declared.geometry_type.GeometryType.{GeometryType};
+ghost use Rattle.wkt_canonical.specs.Pens.{IsWithin, written_of};
+ghost use Rattle.wkt_calls.specs.Answer.{kind_number, dimension_number};
+ghost use Rattle.wkt_c.specs.Texts.{IsTextOf, AreOfSome};
+ghost use Rattle.wkt_c.specs.Told.{IsRefused, HandsOutText};
+
+use std::alloc::Global;
+use wkt_calls::at_places;
+use wkt_calls::fill::hand_out;
+use wkt_calls::status::{MEMORY, NO_PLACES, NOT_ARRAYS};
+use wkt_canonical::Pen;
+use wkt_canonical::laws::{texts_are_short, writes_texts};
+use wkt_fill::{Given, are_arrays, tell};
+use wkt_num::Decimal;
+use wkt_read::laws::reads_back;
+use wkt_types::{Dimension, GeometryType};
+
+/// Flat arrays of the caller's.
+#[derive(Clone, Copy)]
+pub(crate) struct GivenArrays<'a> {
+    pub(crate) kind: u32,
+    pub(crate) dimension: u32,
+    pub(crate) numbers: &'a [i64],
+    pub(crate) rings: &'a [usize],
+    pub(crate) polygons: &'a [usize],
+}
+
+fn kind_of(number: u32) -> Result<GeometryType, u32>
+    ensures ok { IfOk result (λ k. number ≡ kind_number k) }
+    ensures err { IfErr result (λ s. (s ≡ 26) × ((k : GeometryType) → number ≡ kind_number k → ⊥)) }
+{
+    match number {
+        0 => Ok(GeometryType::Point),
+        1 => Ok(GeometryType::LineString),
+        2 => Ok(GeometryType::Polygon),
+        3 => Ok(GeometryType::MultiPoint),
+        4 => Ok(GeometryType::MultiLineString),
+        5 => Ok(GeometryType::MultiPolygon),
+        6 => Ok(GeometryType::GeometryCollection),
+        _ => Err(NOT_ARRAYS),
+    }
+}
+
+fn dimension_of(number: u32) -> Result<Dimension, u32>
+    ensures ok { IfOk result (λ d. number ≡ dimension_number d) }
+    ensures err { IfErr result (λ s. (s ≡ 26) × ((d : Dimension) → number ≡ dimension_number d → ⊥)) }
+{
+    match number {
+        0 => Ok(Dimension::XY),
+        1 => Ok(Dimension::XYZ),
+        2 => Ok(Dimension::XYM),
+        3 => Ok(Dimension::XYZM),
+        _ => Err(NOT_ARRAYS),
+    }
+}
+
+/// How much room a pen needs for the text of the arrays, or `None` where that is no size: the text of a number has no more
+/// than its places and 21 bytes; a number takes two more, a ring and a polygon seven each, and the pen 74.
+fn room_of(given: Given<'_>, places: u32) -> Option<usize>
+    requires { places ≤ 36 }
+    ensures { IfSome result (λ n. length given.entry.numbers.now * (places + 23) + 7 * length given.entry.rings.now
+        + 7 * length given.entry.polygons.now + 74 ≤ n) }
+{
+    let numbers = given.numbers.len().checked_mul(places as usize + 23)?;
+    let rings = given.rings.len().checked_mul(7)?;
+    let polygons = given.polygons.len().checked_mul(7)?;
+    let parts = rings.checked_add(polygons)?;
+    numbers.checked_add(parts)?.checked_add(74)
+}
+
+/// Makes a room of so many bytes at least.
+fn make_room(room: &mut Vec<u8>, needed: usize) -> Result<(), u32>
+    ensures ok { OnOk result (needed ≤ vec_len room.new) }
+    ensures err { IfErr result (λ s. s ≡ 22) }
+{
+    if room.len() >= needed {
+        return Ok(());
+    }
+    match room.resize(needed, 0) {
+        Ok(()) => Ok(()),
+        Err(_) => Err(MEMORY),
+    }
+}
+
+/// A pen that has written the text of the geometry of those arrays, in a room that grows as it has to.
+pub(crate) fn told<'a, const D: u32>(
+    given: GivenArrays<'_>,
+    room: &'a mut Vec<u8>,
+) -> Result<Pen<'a, Decimal<D>>, u32>
+    requires { D ≤ 36 }
+    ensures ok { IfOk result (λ pen. IsTextOf D given.entry.kind given.entry.dimension given.entry.numbers.now given.entry.rings.now given.entry.polygons.now (written_of pen).bytes) }
+    ensures within { IfOk result IsWithin }
+    ensures err { IfErr result (IsRefused (AreOfSome D given.entry.kind given.entry.dimension given.entry.numbers.now given.entry.rings.now given.entry.polygons.now)) }
+{
+    let arrays = Given {
+        kind: kind_of(given.kind)?,
+        dimension: dimension_of(given.dimension)?,
+        numbers: given.numbers,
+        rings: given.rings,
+        polygons: given.polygons,
+    };
+    if !are_arrays(arrays) {
+        return Err(NOT_ARRAYS);
+    }
+    let Some(needed) = room_of(arrays, D) else {
+        return Err(MEMORY);
+    };
+    make_room(room, needed)?;
+    // No effect at run time. The proof reads that no number's text is too long, what the events write, and that it is read
+    // as that geometry.
+    texts_are_short();
+    writes_texts::<Decimal<D>>();
+    reads_back::<Decimal<D>>();
+    let pen = Pen::new(room.as_mut_slice());
+    Ok(tell::<D, Pen<'a, Decimal<D>>>(arrays, pen))
+}
+
+/// Hands out the text of the geometry of those arrays.
+fn hand_out_text<const D: u32>(
+    alloc: Global,
+    given: GivenArrays<'_>,
+    out: &mut [u8],
+    needed: &mut usize,
+) -> u32
+    requires { D ≤ 36 }
+    ensures { HandsOutText D given.entry.kind given.entry.dimension given.entry.numbers.now given.entry.rings.now given.entry.polygons.now
+        out.old out.new needed.old needed.new result }
+{
+    let mut room = Vec::new(alloc);
+    match told::<D>(given, &mut room) {
+        Ok(pen) => hand_out(pen.written(), out, needed),
+        Err(status) => status,
+    }
+}
+
+/// The same, with decimals of so many places.
+pub(crate) fn hand_out_at(
+    alloc: Global,
+    given: GivenArrays<'_>,
+    places: u32,
+    out: &mut [u8],
+    needed: &mut usize,
+) -> u32
+    ensures { HandsOutText places given.entry.kind given.entry.dimension given.entry.numbers.now given.entry.rings.now given.entry.polygons.now
+        out.old out.new needed.old needed.new result }
+{
+    at_places!(places, hand_out_text(alloc, given, out, needed), NO_PLACES)
+}
