@@ -6,9 +6,9 @@
 
 void *__real_malloc(size_t size);
 void *__real_realloc(void *block, size_t size);
-static unsigned long growths;
-void *__wrap_malloc(size_t size) { return growths++, __real_malloc(size); }
-void *__wrap_realloc(void *block, size_t size) { return growths++, __real_realloc(block, size); }
+static unsigned long allocations;
+void *__wrap_malloc(size_t size) { return allocations++, __real_malloc(size); }
+void *__wrap_realloc(void *block, size_t size) { return allocations++, __real_realloc(block, size); }
 
 #ifdef GEOS
 #include <geos_c.h>
@@ -59,9 +59,9 @@ int main(int count, char **words) {
     size_t size = strlen(text);
     start();
     call(words[1], text, size);
-    growths = 0;
+    allocations = 0;
     call(words[1], text, size);
-    printf("%lu", growths);
+    printf("%lu", allocations);
     for (i = 0; i < times; i++) call(words[1], text, size);
     return 0;
 }

@@ -1,4 +1,4 @@
-/* Every function and every status, with values worked by hand. It also refuses each growth of memory in turn: link it, with
+/* Every function and every status, with values worked by hand. It also refuses each allocation in turn: link it, with
  * texts.c, explain.c, columns.c and pointers.c, with -Wl,--wrap=malloc -Wl,--wrap=realloc. */
 #include "calls.h"
 
@@ -13,11 +13,13 @@ void *__wrap_realloc(void *block, size_t size);
 }
 #endif
 
-long growths;
+long allocations;
 static long refuse_at; /* 0 refuses none */
 
-void *__wrap_malloc(size_t size) { return ++growths == refuse_at ? NULL : __real_malloc(size); }
-void *__wrap_realloc(void *block, size_t size) { return ++growths == refuse_at ? NULL : __real_realloc(block, size); }
+void *__wrap_malloc(size_t size) { return ++allocations == refuse_at ? NULL : __real_malloc(size); }
+void *__wrap_realloc(void *block, size_t size) {
+    return ++allocations == refuse_at ? NULL : __real_realloc(block, size);
+}
 
 uint8_t out[ROOM];
 size_t needed, end_at;
@@ -95,14 +97,14 @@ static void refusals(void) {
     int which;
     for (which = 0; which < 9; which++) {
         long all, n;
-        growths = 0;
+        allocations = 0;
         CHECK(call(which) == WKT_OK);
-        all = growths;
+        all = allocations;
         CHECK(all > 0);
         for (n = 1; n <= all; n++) {
             wkt_status status;
             memset(out, '#', ROOM);
-            growths = 0;
+            allocations = 0;
             refuse_at = n;
             status = call(which);
             refuse_at = 0;

@@ -16,7 +16,7 @@ extern int64_t ends[ROWS + 1];
 extern wkt_status statuses[ROWS];
 
 /* How often memory was taken. */
-extern long growths;
+extern long allocations;
 
 void check(int holds, const char *what, const char *file, int line);
 int holds(const char *text);

@@ -294,9 +294,9 @@ static void to_and_fro(void) {
     size_t *rings = (size_t *)calloc(MANY, sizeof *rings), polygons[2] = {0, MANY - 1}, i;
     CHECK(numbers && rings);
     for (i = 1; i < MANY; i += 2) rings[i] = MANY;
-    growths = 0;
+    allocations = 0;
     CHECK(wkt_from_arrays(4, 0, numbers, 2 * MANY, rings, MANY, polygons, 2, 6, out, ROOM, &needed) == WKT_NOT_ARRAYS);
-    CHECK(growths == 0);
+    CHECK(allocations == 0);
     free(numbers);
     free(rings);
 }

@@ -74,10 +74,10 @@ static void test_hints(void) {
     size_t i;
     for (i = 0; i < sizeof hints / sizeof *hints; i++) {
         uint32_t hint = 99, of_whole = 99;
-        growths = 0;
+        allocations = 0;
         CHECK(wkt_hint(BYTES(hints[i].text), hints[i].places, &hint) == WKT_OK && hint == hints[i].hint);
         CHECK(wkt_hint(BYTES(hints[i].text), hints[i].places | WKT_WHOLE, &of_whole) == WKT_OK && of_whole == hint);
-        CHECK(growths == 0);
+        CHECK(allocations == 0);
     }
 }
 
@@ -121,12 +121,12 @@ static void test_wholes(void) {
         size_t size = wholes[i].size, rest = wholes[i].rest, start = 99, stop = 99;
         uint32_t message = 99, expected = 99, hint = 99;
         wkt_status wanted = rest ? WKT_NOT_WHOLE : WKT_ACCEPTED;
-        growths = 0;
+        allocations = 0;
         CHECK(wkt_explain(text, size, 6, &message, &start, &stop, &expected) == WKT_ACCEPTED && start == 99 &&
               stop == 99);
         CHECK(wkt_explain(text, size, 6 | WKT_WHOLE, &message, &start, &stop, &expected) == wanted);
         CHECK(rest ? start == rest && stop == size : start == 99 && stop == 99);
-        CHECK(message == 99 && expected == 99 && growths == 0);
+        CHECK(message == 99 && expected == 99 && allocations == 0);
         CHECK(wkt_hint(text, size, 6 | WKT_WHOLE, &hint) == wanted && hint == 99);
     }
 }

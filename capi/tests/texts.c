@@ -63,9 +63,9 @@ static void bounds(void) {
 static void short_texts(void) {
     size_t size;
     for (size = 10; size < 220; size++) {
-        growths = 0;
+        allocations = 0;
         CHECK(canonical(padded(size), 6, ROOM) == WKT_OK && holds("POINT(1 2)") && end_at == 10);
-        CHECK((growths == 0) == (size <= 200));
+        CHECK((allocations == 0) == (size <= 200));
         CHECK(canonical(padded(size), 6 | WKT_WHOLE, ROOM) == WKT_OK && holds("POINT(1 2)") && end_at == 10);
     }
 }
@@ -148,8 +148,8 @@ static void comparisons(void) {
     CHECK(wkt_same_ends(BYTES("POINT(1 2)"), BYTES("POINT(1 20) x"), 6 | WKT_WHOLE, &same, &end, &other) ==
           WKT_NOT_WHOLE);
     CHECK(same == 9 && end == 10 && other == 11);
-    growths = 0;
-    CHECK(wkt_same(BYTES(padded(200)), BYTES(padded(200)), 6, &same) == WKT_OK && same == 1 && growths == 0);
+    allocations = 0;
+    CHECK(wkt_same(BYTES(padded(200)), BYTES(padded(200)), 6, &same) == WKT_OK && same == 1 && allocations == 0);
     CHECK(wkt_same(BYTES(padded(201)), BYTES("POINT(1 3)"), 6, &same) == WKT_OK && same == 0);
 }
 

@@ -1,28 +1,28 @@
 #!/usr/bin/env bash
-# Plants wrong bodies under the functions of each library (rt plant --all), or of those that are named, and prints how many
+# Tries mutants of the functions of each library (rt plant --all), or of those that are named, and prints how many
 # of them the contracts refuse and how many they let through. Each that they let through has to be one of those listed
 # here, which are right, with the reason; any other fails.
 #
-# It isn't part of the gate: over all libraries it takes hours. What a plant is, `rt plant --help` says. It needs
+# It isn't part of the gate: over all libraries it takes hours. What is tried, `rt plant --help` says. It needs
 # the toolchain.
 set -u
 cd "$(dirname "$0")/../.." || exit 1
 dir=$(mktemp -d)
 trap 'rm -rf "$dir"' EXIT
 
-# The plants that are right: a crate, and a pattern of what rt plant prints of the plant behind its line number.
+# The mutants that are right: a crate, and a pattern of what rt plant prints of one behind its line number.
 cat > "$dir/right" <<'RIGHT'
 # A fast way of reading digits: its None says nothing of them, and they are then read in the plain way.
 wkt_num last_digits: \{ None \}
 # The same of a short number.
-wkt_num units_near: \{ (None|self::units_near\(places, &\[\]\)) \}
+wkt_num fast_units: \{ (None|self::fast_units\(places, &\[\]\)) \}
 # A fast way of finding text: its false says nothing, and the run is then looked at byte by byte.
-wkt_events is_near_ascii: \{ false \}
-# Fast ways of finding `POINT (` and `GEOMETRYCOLLECTION (`: None and false say nothing, and the header is then read in the general way.
-wkt_events (point_head|collection_head|opens_behind): \{ None \}
-# A fast way of reading a point: its None says nothing, and the text then goes by the walk.
-wkt_events near_point: \{ (None|self::near_point::<D>\(&\[\]\)) \}
-wkt_events is_(point|collection): \{ false \}
+wkt_events is_ascii_fast: \{ false \}
+# Fast ways of finding `POINT (`: None and false say nothing, and the header is then read in the general way.
+wkt_machine (point_head|opens_behind): \{ None \}
+wkt_machine is_point: \{ false \}
+# A fast way of reading a point: its None says nothing, and the text then goes by the machine.
+wkt_machine fast_point: \{ (None|self::fast_point::<D>\(&\[\]\)) \}
 # Which of two texts stands first makes no difference.
 wkt_callers same_place: \{ .*\(alloc, other, one\) \}
 # The sink that it makes may have no room, and memory may run out: both are answers that its contract allows at any time.
@@ -35,9 +35,9 @@ wkt_bytes put_all: \{ .*Err\(_\) => Err\(io::Error::from\(.*\)\) .*\}
 # What an explanation is displayed as is tested, as the texts of errors are.
 wkt_explain <Explanation<'a> as fmt::Display>::fmt: \{ Ok\(\(\)\) \}
 # Which error a source gives is no part of a contract.
-wkt_lines Block::fill: \{ .*Err\(.*\).* \}
+wkt_lines InputBuffer::fill: \{ .*Err\(.*\).* \}
 # The lines that ended within what was seen before are none, so to look from the start finds the same.
-wkt_lines Block::whole: \{ .*whole\(self, 0\) \}
+wkt_lines InputBuffer::whole: \{ .*whole\(self, 0\) \}
 RIGHT
 
 crates=("$@")
@@ -58,7 +58,7 @@ for crate in "${crates[@]}"; do
         *) echo "$crate: no verdict"; cat "$dir/err" "$dir/said"; status=1; continue ;;
     esac
     count() { sed "s/.* $1=\([0-9]*\).*/\1/" <<< "$last"; }
-    echo "$crate: $(count refused) wrong bodies refused, $(count proves) proved, $(count not-run) not tried"
+    echo "$crate: $(count refused) mutants refused, $(count proves) proved, $(count not-run) not tried"
     [ "$(count not-run)" = 0 ] || status=1
     sed -n "s/^$crate //p" "$dir/right" > "$dir/patterns"
     sed -n 's/^proves  *[^ ]* *//p' "$dir/said" | while IFS= read -r plant; do

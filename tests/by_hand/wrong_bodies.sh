@@ -1,5 +1,5 @@
 #!/usr/bin/env bash
-# Tries the wrong bodies of tests/data/wrong_bodies, those of each crate or of the crates that are named, and those that
+# Tries the mutants of tests/data/wrong_bodies, those of each crate or of the crates that are named, and those that
 # the gate tries besides: wrong_bodies.sh [CRATE..]. Each changes the meaning of a function, and the checker has to refuse
 # it. DRY=1 only looks whether each fits its file.
 #

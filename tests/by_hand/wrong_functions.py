@@ -1,9 +1,9 @@
 #!/usr/bin/env python3
-"""Tries the wrong bodies by the functions that they change, over the libraries that `rt ci` left:
+"""Tries the mutants by the functions that they change, over the libraries that `rt ci` left:
 wrong_functions.py [CRATE[/NAME]..]
 
 tests/by_hand/wrong_bodies.sh checks the whole crate with each of them. This checks the functions alone, in seconds,
-several at a time, and proves no library again: so all can be tried after a gate. A wrong body that its functions let
+several at a time, and proves no library again: so all can be tried after a gate. A mutant that its functions let
 through is tried by its file and then by its crate, since a function without clauses is held by those that call it.
 
 It needs the toolchain, and what `rt ci` left in crates/CRATE/out.
@@ -64,7 +64,7 @@ def words_for(crate, uses, is_static):
 
 
 def tried(edit, words):
-    """Whether the wrong body is refused, and what says so."""
+    """Whether the mutant is refused, and what says so."""
     with tempfile.TemporaryDirectory() as room:
         for part in ("src", "specs", "proofs"):
             if os.path.isdir(f"{TOP}/crates/{edit.crate}/{part}"):

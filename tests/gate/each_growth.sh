@@ -1,12 +1,12 @@
 #!/usr/bin/env bash
-# Refuses each growth of memory of the five built programs in turn, and of the built tests of the macros, of the callers
+# Refuses each allocation of the five built programs in turn, and of the built tests of the macros, of the callers
 # over rows, and of values made of events, until a run meets none.
 #
 # wktline, wktstream and the command wkt answer lines of every kind: each refusal has to end them with their words and status, after the
 # whole answers to some first lines. wkt_tables reads each text by three calls, copies the geometry, puts the copy together again from
 # its parts and displays it, converts it to a two-dimensional one and back, reads that from the text, from bytes and
 # from JSON, and writes it in three ways: each refusal has to end it as out of memory, with no row reported as wrong, or to
-# change nothing. Then the same of ten thousand nested collections, at growths all over the run. A test has to end as
+# change nothing. Then the same of ten thousand nested collections, at allocations all over the run. A test has to end as
 # out of memory, which no wrong value does, or to pass.
 #
 # The gate runs it on what it has built; alone, build all of them first (rt run in crates/wktline, crates/wktstream,
@@ -37,9 +37,9 @@ void *realloc(void *block, unsigned long size) { return refused() ? 0 : __libc_r
 C
 "$(dirname "$(rt doc)")/toolchain/bin/clang" -shared -fPIC -fno-builtin -nostdlib -o "$dir/refuse.so" "$dir/refuse.c" || exit 2
 
-fail() { echo "$1, growth $2: $3"; exit 1; }
+fail() { echo "$1, allocation $2: $3"; exit 1; }
 
-# run N PROGRAM ARGUMENT.. < INPUT: leaves out, err, the status, and the file refused if a growth was refused
+# run N PROGRAM ARGUMENT.. < INPUT: leaves out, err, the status, and the file refused if an allocation was refused
 run() {
     local n=$1
     shift
@@ -47,7 +47,7 @@ run() {
     REFUSE=$n REFUSED="$dir/refused" LD_PRELOAD="$dir/refuse.so" "$@" > "$dir/out" 2> "$dir/err"
 }
 
-# each PROGRAM INPUT STATUS STEP ARGUMENT..: every growth in turn, or one of so many
+# each PROGRAM INPUT STATUS STEP ARGUMENT..: every allocation in turn, or one of so many
 each() {
     local program=$1 input=$2 want=$3 step=$4 n=1 tried=0 ended=0 status usual
     shift 4
@@ -69,10 +69,10 @@ each() {
         n=$((n + step)) tried=$((tried + 1))
     done
     [ "$tried" -gt 0 ] || fail "$program" 1 "nothing was refused"
-    echo "$program: $tried growths refused, each in a run of its own; $ended ended it, the others changed nothing"
+    echo "$program: $tried allocations refused, each in a run of its own; $ended ended it, the others changed nothing"
 }
 
-# each_test CRATE [MODULE]: every growth in turn of each of its tests, or of those of a module
+# each_test CRATE [MODULE]: every allocation in turn of each of its tests, or of those of a module
 each_test() {
     local tests=crates/$1/out/$1_tests name n tried=0 ended=0 status
     for name in $("$tests" --list | sed -n 's/: test$//p' | grep "${2:-}"); do
@@ -90,7 +90,7 @@ each_test() {
         [ "$status" = 0 ] || fail "$1" "$n" "$name fails with ample memory"
     done
     [ "$tried" -gt 0 ] || fail "$1" 1 "nothing was refused"
-    echo "$1: $tried growths refused in its tests, each in a run of its own; $ended ended it, the others changed nothing"
+    echo "$1: $tried allocations refused in its tests, each in a run of its own; $ended ended it, the others changed nothing"
 }
 
 cut -f 1 tests/data/growth.tsv > "$dir/lines"

@@ -1,5 +1,5 @@
 #!/usr/bin/env python3
-"""The wrong bodies: edits that change what a function does, and that the checker has to refuse.
+"""The mutants: edits that change what a function does, and that the checker has to refuse.
 
 tests/data/wrong_bodies/CRATE.txt has those of a crate, each under a heading `# NAME`; crates/CRATE/must-fail those that
 the gate tries, each in a file. An edit has a line `file: PATH`, and then pairs of lines `old: TEXT` and `new: TEXT`;
@@ -16,7 +16,7 @@ FOLDER = TOP / "tests/data/wrong_bodies"
 
 
 class Edit:
-    """A wrong body: for each change its file, and the old and the new text."""
+    """A mutant: for each change its file, and the old and the new text."""
 
     def __init__(self, crate, name, text):
         self.crate, self.name, self.text, self.changes = crate, name, text, []
@@ -56,7 +56,7 @@ class Edit:
 
 
 def crates():
-    """The crates that have wrong bodies."""
+    """The crates that have mutants."""
     gate = {path.parent.name for path in TOP.glob("crates/*/must-fail")}
     return sorted(gate | {path.stem for path in FOLDER.glob("*.txt")})
 
@@ -80,7 +80,7 @@ def check(names):
         edits = edits_of(crate)
         count += len(edits)
         if not edits:
-            faults.append(f"{crate}: no wrong bodies")
+            faults.append(f"{crate}: no mutants")
         called = [edit.name for edit in edits]
         faults += [f"{crate}/{name}: stands twice" for name in sorted({it for it in called if called.count(it) > 1})]
         for edit in edits:
@@ -88,7 +88,7 @@ def check(names):
     for fault in faults:
         print(fault)
     if not faults:
-        print(f"each of {count} wrong bodies applies")
+        print(f"each of {count} mutants applies")
     return 1 if faults else 0
 
 

@@ -16,7 +16,7 @@ use Rattle.wkt_types.specs.Exact.{option_eq, dim_eq, dim_exact}
 use Rattle.wkt_types.specs.Tree.{Tree, Trees, point, line_string, polygon, multi_point, multi_line_string, multi_polygon, collection, no_trees, more_trees}
 use Rattle.wkt_types.specs.Values.{point_numbers, line_string_numbers, polygon_numbers, tree_shape, values_of}
 use Rattle.wkt_types.specs.declared.coord.Coord.{Coord}
-use Rattle.wkt.specs.Alike.{written_rings, coord_alike, point_alike, line_alike, polygon_alike, tree_alike, trees_alike}
+use Rattle.wkt.specs.WrittenAlike.{written_rings, coord_alike, point_alike, line_alike, polygon_alike, tree_alike, trees_alike}
 
 -- a test that is true exactly where two values look the same
 pub record IsTestOf {X V : Type 0} (f : X → V) (E : X → X → Bool) : Type 0 where

@@ -29,16 +29,16 @@ cause_of Utf8 = not_utf8
 cause_of _ = in_text
 
 -- What an error of this cause says of the bytes of a source, where `text` is what it says of them as a text.
-abbrev pub SaysOf : Cause → List ℕ → Type 0 → Type 0
-SaysOf source bytes text = Unit {0}
-SaysOf memory bytes text = Unit {0}
-SaysOf not_utf8 bytes text = IsUtf8 bytes → ⊥
-SaysOf in_text bytes text = IsUtf8 bytes × text
+abbrev pub SaysCause : Cause → List ℕ → Type 0 → Type 0
+SaysCause source bytes text = Unit {0}
+SaysCause memory bytes text = Unit {0}
+SaysCause not_utf8 bytes text = IsUtf8 bytes → ⊥
+SaysCause in_text bytes text = IsUtf8 bytes × text
 
 -- All bytes of a source are answered: those that aren't UTF-8 are refused so, and any others are answered as a text. Nothing is said of them if the source fails, or out of memory.
 abbrev pub BytesAnswer : {R E : Type 0} → (E → Cause) → (List ℕ → Result R E → Type 0) → List ℕ → Result R E → Type 0
 BytesAnswer cause answers bytes (Ok r) = IsUtf8 bytes × answers bytes (Ok r)
-BytesAnswer cause answers bytes (Err e) = SaysOf (cause e) bytes (answers bytes (Err e))
+BytesAnswer cause answers bytes (Err e) = SaysCause (cause e) bytes (answers bytes (Err e))
 
 -- The fact is claimed of an error of this cause that comes after all bytes were read.
 abbrev pub WhenAllRead : Cause → Type 0 → Type 0
@@ -103,10 +103,10 @@ module _ {T : Type 0} (read : List ℕ → Option T) where
   BytesAnswerKind eq kind bytes r = BytesAnswer cause_of (AnswersKind eq kind) bytes r
 
   -- Why a text isn't read.
-  abbrev pub IsUnread : List ℕ → ConvertError → Type 0
-  IsUnread text (InvalidWKT m) = IsNoText text m.now
-  IsUnread text (Memory e) = Unit {0}
-  IsUnread text _ = ⊥
+  abbrev pub IsTextUnread : List ℕ → ConvertError → Type 0
+  IsTextUnread text (InvalidWKT m) = IsNoText text m.now
+  IsTextUnread text (Memory e) = Unit {0}
+  IsTextUnread text _ = ⊥
 
 -- Why the bytes of a source are no text.
 abbrev pub AreNoText : List ℕ → ConvertError → Type 0

@@ -28,6 +28,6 @@ point_if_any (Flat.point p) = Some (Some p)
 point_if_any (Flat.multi_point []) = Some None
 point_if_any _ = None
 
--- The same as a kind, which is asked for as a point.
+-- The point of a geometry, or none, as a kind that is asked for.
 abbrev pub point_or_none_kind : {T : Type 0} → FlatKind T (Option (Point T))
 point_or_none_kind = record { name = codes "Point"; content = point_if_any }

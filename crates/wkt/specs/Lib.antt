@@ -2,7 +2,7 @@ pub mod FromText
 pub mod Laws
 pub mod Json
 pub mod WholeText
-pub mod Alike
+pub mod WrittenAlike
 pub mod Same
 pub mod Literals
 -- What public clauses cite of the crates below, so that a caller names this crate alone.
@@ -38,7 +38,7 @@ pub use Rattle.wkt_bytes.specs.Growing
 pub use Rattle.wkt_bytes.specs.ReadAll
 -- what is read
 pub use Rattle.wkt_read.specs.Lexemes
-pub use Rattle.wkt_read.specs.Placed
+pub use Rattle.wkt_read.specs.Spanned
 pub use Rattle.wkt_read.specs.Grammar
 pub use Rattle.wkt_read.specs.Front
 pub use Rattle.wkt_read.specs.Begun

@@ -8,7 +8,7 @@ use wkt_convert::ToWktError;
 use wkt_read::{InferError, ReadError};
 use wkt_types::ConvertError;
 
-/// What a function answers that reads, converts and writes: `?` passes on the error of each of these.
+/// What a function returns that reads, converts and writes: `?` passes on the error of each of these.
 ///
 /// ```text
 /// pub fn flat_text(alloc: Global, text: &str) -> Result<String, AnyError> {

@@ -13,9 +13,9 @@ use wkt_num::WktNum;
 use wkt_read::{Message, ReadError};
 
 // Shorter texts are written to an array first: room for twice the text would be allocated, cut and freed.
-const SHORT: usize = 64;
+const SHORT_TEXT: usize = 64;
 
-const SHORT_ROOM: usize = 2 * SHORT + 65;
+const SHORT_ROOM: usize = 2 * SHORT_TEXT + 65;
 
 /// These bytes as a string, in one allocation of their length.
 fn string_of(alloc: Global, bytes: &[u8]) -> Result<String, AllocError>
@@ -59,7 +59,7 @@ pub fn canonical_text<T: WktNum>(alloc: Global, text: &str) -> Result<String, Re
     if text.is_empty() {
         return Err(ReadError::Text(Message::Format.text()));
     }
-    if text.len() <= SHORT {
+    if text.len() <= SHORT_TEXT {
         let mut near = [0u8; SHORT_ROOM];
         match canonical_or_message::<T>(text, &mut near) {
             Ok(Ok(TextWritten { end: _, len })) => return Ok(string_of(alloc, &near[..len])?),

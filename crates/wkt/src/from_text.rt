@@ -5,7 +5,7 @@ ghost use Rattle.std.specs.String.{string_bytes};
 ghost use Rattle.wkt_num.specs.Sink.{next_count};
 ghost use Rattle.wkt_flat.specs.Equal.{coord_eq};
 ghost use Rattle.wkt_flat_read.specs.Read.{IsFlatFront};
-ghost use Rattle.wkt.specs.FromText.{AreNoText, BytesAnswer, Cause, IsUnread, OnAllRead, OnSource, TextAnswers, UnlessFailed, cause_of};
+ghost use Rattle.wkt.specs.FromText.{AreNoText, BytesAnswer, Cause, IsTextUnread, OnAllRead, OnSource, TextAnswers, UnlessFailed, cause_of};
 
 use std::alloc::Global;
 use wkt_bytes::{ByteSource, ReadAllError, read_all};
@@ -57,7 +57,7 @@ pub trait TryFromWkt<T>: Sized {
 
 /// The geometry at the front of the text, as a flat value.
 fn read_flat<T: WktNum>(alloc: Global, text: &str) -> Result<Flattened<T>, ConvertError>
-    ensures { MatchResult result (IsFlatFront T.read (coord_eq T.eq) text.now) (IsUnread T.read text.now) }
+    ensures { MatchResult result (IsFlatFront T.read (coord_eq T.eq) text.now) (IsTextUnread T.read text.now) }
 {
     match read_text::<T>(alloc, text) {
         Ok(flattened) => Ok(flattened),

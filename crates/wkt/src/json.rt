@@ -47,7 +47,7 @@ pub enum ValueError<E> {
 ///
 /// # Errors
 /// `NotAString` where the value is no string (a number, a float among them, is none). `Fault` with
-/// what `from_str` answers where it refuses the text: `Text` where no beginning of it is a geometry,
+/// what `from_str` returns where it refuses the text: `Text` where no beginning of it is a geometry,
 /// `Memory` when out of memory.
 pub fn wkt_from_value<T: WktNum>(
     alloc: Global,
@@ -73,7 +73,7 @@ pub fn wkt_from_value<T: WktNum>(
 /// The value of the geometry at the front of a JSON string, as `try_from_wkt_str` gives it.
 ///
 /// # Errors
-/// `NotAString` where the value is no string. `Fault` with what `try_from_wkt_str` answers where it
+/// `NotAString` where the value is no string. `Fault` with what `try_from_wkt_str` returns where it
 /// refuses the text.
 pub fn deserialize_wkt<T, G: TryFromWkt<T>>(
     alloc: Global,

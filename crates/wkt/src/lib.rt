@@ -179,7 +179,7 @@ pub mod walks {
     pub use wkt_visit::{Mapper, Visitor, bounding_rect, map_coords, num_coords, visit_coords};
 }
 
-/// Why a geometry isn't written, and one error for whatever a function here answers.
+/// Why a geometry isn't written, and one error for whatever a function here returns.
 pub mod error {
     pub use crate::any_error::AnyError;
     pub use wkt_access::Error;

@@ -7,10 +7,10 @@ use Rattle.wkt_bytes.specs.Sinks.{SinkOfBytes, BeginningOut}
 use Rattle.wkt_bytes.specs.Wrapped.{Wrapped}
 use Rattle.wkt_bytes.specs.Views.{state_well}
 use Rattle.wkt_bytes.specs.Wrapper.{held_bytes, is_well, Keeps, Gathers, BreaksOff, gives_more, leaves_after}
-use Rattle.wkt_bytes.specs.declared.wrapper.State.{State}
-use Rattle.wkt_bytes.specs.declared.wrapper.State.TheVariants.{Well, Faulty, Taken}
+use Rattle.wkt_bytes.specs.declared.wrapper.WrapperState.{WrapperState}
+use Rattle.wkt_bytes.specs.declared.wrapper.WrapperState.TheVariants.{Well, Faulty, Taken}
 
-pub not_well : (s : State) → (s ≡ Well → ⊥) → state_well s ≡ false
+pub not_well : (s : WrapperState) → (s ≡ Well → ⊥) → state_well s ≡ false
 not_well Well h = absurd (h refl)
 not_well (Faulty e) h = refl
 not_well Taken h = refl

@@ -78,7 +78,7 @@ impl<S: TextSink> GatheredText<S> {
 
     // Makes room first. A piece that is longer than the array goes to the sink at once: nothing is held then.
     #[inline(never)]
-    fn write_far(&mut self, piece: &str) -> fmt::Result
+    fn slow_write(&mut self, piece: &str) -> fmt::Result
         ensures { Puts (holding S.sink) self.old piece.now self.new result }
     {
         match self.finish() {
@@ -101,7 +101,7 @@ impl<S: TextSink> TextSink for GatheredText<S> {
     #[inline(always)]
     fn write_str(&mut self, piece: &str) -> fmt::Result {
         if piece.len() > 256 - self.len {
-            return self.write_far(piece);
+            return self.slow_write(piece);
         }
         self.keep(piece);
         Ok(())

@@ -12,7 +12,8 @@ pub fn string_grows()
     ensures { StringGrows }
 {}
 
-/// The same of each sink that reveals its text.
+/// After Ok each sink that reveals its text holds what it held and the whole text; after an error, what it held and a
+/// beginning of the text.
 pub fn revealing_grows<S: TextSink>()
     ensures { RevealingGrows S }
 {}

@@ -12,7 +12,7 @@ use wkt_num::TextSink;
 
 /// Whether an error came.
 #[derive(Drop)]
-enum State {
+enum WrapperState {
     Well,
     Faulty(io::Error),
     Taken,
@@ -29,7 +29,7 @@ pub struct WriterWrapper<W> {
     writer: W,
     held: [u8; 256],
     len: usize,
-    state: State,
+    state: WrapperState,
     failures: u64,
 }
 
@@ -114,7 +114,7 @@ impl<W: ByteSink> WriterWrapper<W> {
             writer,
             held: [0; 256],
             len: 0,
-            state: State::Well,
+            state: WrapperState::Well,
             failures: 0,
         }
     }
@@ -179,7 +179,7 @@ impl<W: ByteSink> WriterWrapper<W> {
                 Ok(())
             }
             Err(e) => {
-                self.state = State::Faulty(e);
+                self.state = WrapperState::Faulty(e);
                 Err(fmt::Error)
             }
         }
@@ -193,7 +193,7 @@ impl<W: ByteSink> WriterWrapper<W> {
         ensures gathered { length (held_bytes self.old) + length bytes.now < 256 → wrapped_writer self.new ≡ wrapped_writer self.old }
         ensures failures { failed_calls self.new ≡ failed_calls self.old }
     {
-        let State::Well = self.state else {
+        let WrapperState::Well = self.state else {
             return Err(fmt::Error);
         };
         // Most pieces just fit. Half of them are one byte.
@@ -208,7 +208,7 @@ impl<W: ByteSink> WriterWrapper<W> {
         self.accept_long(bytes)
     }
 
-    // The same for a piece that fills the array.
+    // Takes a piece that fills the array, and puts the array out each time that it is full.
     #[inline(never)]
     fn accept_long(&mut self, bytes: &[u8]) -> fmt::Result
         requires { is_well self.old ≡ true }
@@ -240,7 +240,7 @@ impl<W: ByteSink> WriterWrapper<W> {
         ensures kept { OnErr result (held_bytes self.new ≡ held_bytes self.old) }
         ensures count { failed_calls self.new ≡ failed_calls self.old }
     {
-        let State::Well = self.state else {
+        let WrapperState::Well = self.state else {
             return Err(fmt::Error);
         };
         self.empty()
@@ -251,9 +251,12 @@ impl<W: ByteSink> WriterWrapper<W> {
         ensures { TakesFault self.old result self.new }
     {
         match self.state {
-            State::Well | State::Taken => None,
-            State::Faulty(_) => match std::mem::replace(&mut self.state, State::Taken) {
-                State::Faulty(e) => Some(e),
+            WrapperState::Well | WrapperState::Taken => None,
+            WrapperState::Faulty(_) => match std::mem::replace(
+                &mut self.state,
+                WrapperState::Taken,
+            ) {
+                WrapperState::Faulty(e) => Some(e),
                 _ => None,
             },
         }

@@ -4,7 +4,7 @@ use Rattle.std.specs.List.{slice_index}
 use Rattle.std.proofs.lemmas.List.{take-append-le, drop-append-le, get_or_append_left}
 use Rattle.std.proofs.Math.Seq.{drop-append_seam, get_or-append_seam}
 use Rattle.wkt_num.specs.Bytes.{AllWhite}
-use Rattle.wkt_calls.specs.Answer.{IsCanonical, EndsAsAsked}
+use Rattle.wkt_calls.specs.Answer.{IsCanonicalOf, EndsAsAsked}
 use Rattle.wkt_c.specs.Column.{row_count, row, AreOffsets, AreJoined, HasNoAnswer}
 use Rattle.wkt_c.specs.Joining.{HoldsNoList, AddsList}
 use Rattle.wkt_c.specs.Rows.{HoldsNoRow, AddsRow, HoldsRows, AddsTextAnswer}
@@ -153,12 +153,12 @@ module _ {N : Type 0} (whole : Bool) (read : List ℕ → Option N) (num : N →
   pub null-row : null ≡ true → AddsRow [] 28 a b → AddsTextAnswer whole read num null text a b
   null-row n adds = record { text = []; status = 28; is = inl (n, (refl, refl)); added = adds }
 
-  pub text-row : (answer given : List ℕ) (end : ℕ) → null ≡ false → IsCanonical read num text answer end → EndsAsAsked whole text end → given ≡ answer → AddsRow given 0 a b →
+  pub text-row : (answer given : List ℕ) (end : ℕ) → null ≡ false → IsCanonicalOf read num text answer end → EndsAsAsked whole text end → given ≡ answer → AddsRow given 0 a b →
       AddsTextAnswer whole read num null text a b
   text-row answer given end n is ends e adds = record {
     text = given;
     status = 0;
-    is = inr (n, inl (refl, record { end = end; canonical = subst (λ xs. IsCanonical read num text xs end) (sym e) is; as_asked = ends }));
+    is = inr (n, inl (refl, record { end = end; canonical = subst (λ xs. IsCanonicalOf read num text xs end) (sym e) is; as_asked = ends }));
     added = adds;
   }
 
@@ -166,7 +166,7 @@ module _ {N : Type 0} (whole : Bool) (read : List ℕ → Option N) (num : N →
   refused-row status n why adds = record { text = []; status = status; is = inr (n, inr (refl, why)); added = adds }
 
   -- there is more in it than is asked for
-  pub longer-row : (answer : List ℕ) (end : ℕ) → null ≡ false → IsCanonical read num text answer end → whole ≡ true → (AllWhite (drop end text) → ⊥) → AddsRow [] 30 a b →
+  pub longer-row : (answer : List ℕ) (end : ℕ) → null ≡ false → IsCanonicalOf read num text answer end → whole ≡ true → (AllWhite (drop end text) → ⊥) → AddsRow [] 30 a b →
       AddsTextAnswer whole read num null text a b
   longer-row answer end n is asked more adds =
       refused-row 30 n (inr (refl, (end, record { asked = asked; utf8 = is.0; value = is.1.value; front = is.1.front; more = more }))) adds

@@ -1,7 +1,7 @@
-pub mod Handing
+pub mod CopiedOut
 pub mod Columns
 pub mod ArrayColumns
 pub mod TextColumns
 pub mod NumberLengths
 pub mod Telling
-pub mod HandingText
+pub mod CopiedOutText

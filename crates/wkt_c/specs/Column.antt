@@ -1,7 +1,7 @@
 -- A column of texts at once: all their bytes in a row, and where each text begins in them, with the end of the last.
 use Rattle.std.specs.Prelude.{◌≡◌, ◌<◌, ◌≤◌, ◌≢◌, ◌+◌, ◌-◌, ◌*◌, ◌/◌, ◌%◌, ◌^◌, ◌⊎◌, ℕ, List, [], Option, Bool, true, false, length, nat_eq, if◌then◌else◌}
 use Rattle.std.specs.List.{slice_index, slice_range}
-use Rattle.wkt_calls.specs.Answer.{read_at, print_at, places_in, asks_whole, EndsAsAsked, IsCanonical, Refuses, HasMore, HasNoPlaces}
+use Rattle.wkt_calls.specs.Answer.{read_at, print_at, places_in, asks_whole, EndsAsAsked, IsCanonicalOf, RefusesText, HasMore, HasNoPlaces}
 
 -- How many texts these offsets are of.
 abbrev pub row_count : List ℕ → ℕ
@@ -53,12 +53,12 @@ module _ {N : Type 0} (whole : Bool) (read : List ℕ → Option N) (num : N →
   -- A text is answered with 0 and its canonical text.
   pub record HasAnswer (text answer : List ℕ) : Type 0 where
     pub end : ℕ
-    pub canonical : IsCanonical read num text answer end
+    pub canonical : IsCanonicalOf read num text answer end
     pub as_asked : EndsAsAsked whole text end
 
   -- Why a text has none: it is refused, or there is more in it than is asked for.
   abbrev pub HasNoAnswer : List ℕ → ℕ → Type 0
-  HasNoAnswer text status = ((status ≢ 22) × Refuses read text status) ⊎ ((status ≡ 30) × ((end : ℕ) × HasMore read whole text end))
+  HasNoAnswer text status = ((status ≢ 22) × RefusesText read text status) ⊎ ((status ≡ 30) × ((end : ℕ) × HasMore read whole text end))
 
   -- A text is answered with 0 and its canonical text, or with no byte and why it has none.
   abbrev pub IsTextAnswer : List ℕ → List ℕ → ℕ → Type 0
@@ -70,14 +70,14 @@ module _ {N : Type 0} (whole : Bool) (read : List ℕ → Option N) (num : N →
       ((null ≡ true) × ((status ≡ 28) × (answer ≡ []))) ⊎ ((null ≡ false) × IsTextAnswer text answer status)
 
   -- The answers to so many first rows of a column: row i of the one is the answer to row i of the other.
-  abbrev pub AreAnswers : List ℕ → List ℕ → List ℕ → ℕ → List ℕ → List ℕ → List ℕ → Type 0
-  AreAnswers texts offsets valid rows bytes ends statuses =
+  abbrev pub AreRowAnswers : List ℕ → List ℕ → List ℕ → ℕ → List ℕ → List ℕ → List ℕ → Type 0
+  AreRowAnswers texts offsets valid rows bytes ends statuses =
       AreRows (λ i answer status. IsRowAnswer (is_null valid i) (row texts offsets i) answer status) rows bytes ends statuses
 
--- The same for all rows, as asked for: with decimals of so many places, and whole texts or not.
+-- The answers to all rows of a column, as asked for: with decimals of so many places, and whole texts or not.
 abbrev pub AreColumnAnswers : ℕ → List ℕ → List ℕ → List ℕ → List ℕ → List ℕ → List ℕ → Type 0
 AreColumnAnswers asked texts offsets valid bytes ends statuses =
-    AreAnswers (asks_whole asked) (read_at (places_in asked)) (print_at (places_in asked)) texts offsets valid (row_count offsets) bytes ends statuses
+    AreRowAnswers (asks_whole asked) (read_at (places_in asked)) (print_at (places_in asked)) texts offsets valid (row_count offsets) bytes ends statuses
 
 -- Why a column has no answers: there are no numbers of so many places, memory ran out, or the sizes or offsets are of no column.
 abbrev pub IsNoColumn : ℕ → List ℕ → List ℕ → List ℕ → List ℕ → List ℕ → ℕ → Type 0

@@ -39,7 +39,7 @@ as_column ks ds ns ns' rs rs' ps ps' = record {
   polygon_ends = ps';
 }
 
--- Those of the row of that index.
+-- The arrays of the row of that index.
 abbrev pub row_arrays : ColumnArrays → ℕ → RowArrays
 row_arrays a i = record {
   kind = slice_index a.kinds i;
@@ -86,7 +86,7 @@ pub record AreRowArrays (places : ℕ) (whole : Bool) (texts offsets valid : Lis
   pub statuses_size : length statuses ≡ rows
   pub answers : (i : ℕ) → i < rows → IsRowArrays places whole (is_null valid i) (row texts offsets i) (row_arrays a i) (slice_index statuses i)
 
--- The same of all rows, as asked for: with decimals of so many places, and whole texts or not.
+-- The arrays of all rows, as asked for: with decimals of so many places, and whole texts or not.
 abbrev pub AreColumnArrays : ℕ → List ℕ → List ℕ → List ℕ → ColumnArrays → List ℕ → Type 0
 AreColumnArrays asked texts offsets valid a statuses =
     AreRowArrays (places_in asked) (asks_whole asked) texts offsets valid (row_count offsets) a statuses
@@ -144,7 +144,7 @@ abbrev pub AreRowTexts : ℕ → ColumnArrays → List ℕ → ℕ → List ℕ 
 AreRowTexts places a valid rows bytes ends statuses =
     AreRows (λ i answer status. IsRowText places (is_null valid i) (row_arrays a i) answer status) rows bytes ends statuses
 
--- The same of all rows.
+-- The texts of all rows: row i of the one is the text of row i of the other.
 abbrev pub AreColumnTexts : ℕ → ColumnArrays → List ℕ → List ℕ → List ℕ → List ℕ → Type 0
 AreColumnTexts places a valid bytes ends statuses = AreRowTexts places a valid (length a.kinds) bytes ends statuses
 

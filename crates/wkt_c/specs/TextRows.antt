@@ -1,7 +1,7 @@
 -- The texts of a column of arrays as they grow. Only private contracts cite these words.
 use Rattle.std.specs.Prelude.{ℕ, List, Bool}
 use Rattle.wkt_c.specs.ColumnArrays.{RowArrays, ColumnArrays, as_column, IsRowText, AreRowTexts}
-use Rattle.wkt_c.specs.Rows.{AddsAnswer}
+use Rattle.wkt_c.specs.Rows.{AddsAnswerRow}
 use Rattle.wkt_c.specs.declared.column.Rows.{Rows}
 use Rattle.wkt_c.specs.declared.column_texts.GivenRows.{GivenRows}
 
@@ -12,7 +12,7 @@ given_arrays g =
 
 -- The text of a row was added.
 abbrev pub AddsArraysText : ℕ → Bool → RowArrays → Rows → Rows → Type 0
-AddsArraysText places null row a b = AddsAnswer (λ answer status. IsRowText places null row answer status) a b
+AddsArraysText places null row a b = AddsAnswerRow (λ answer status. IsRowText places null row answer status) a b
 
 -- These are the texts of so many first rows.
 abbrev pub HoldsTexts : ℕ → ColumnArrays → List ℕ → ℕ → Rows → Type 0

@@ -8,7 +8,7 @@ use std::alloc::Global;
 use wkt_calls::arrays_call::arrays_in;
 use wkt_calls::sizes::WktSizes;
 
-/// Hands out the arrays of a text of any length.
+/// Copies out the arrays of a text of any length.
 #[inline(never)]
 pub(crate) fn arrays_long(
     alloc: Global,

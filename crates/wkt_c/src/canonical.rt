@@ -1,11 +1,11 @@
 //! The one text of what a text begins with, and texts compared by it, in rooms that are made for long ones.
 ghost use Rattle.std.specs.Prelude.{◌+◌, ◌*◌, ◌≤◌, MatchResult, IfOk, IsUtf8, length, vec_len};
-ghost use Rattle.wkt_calls.specs.Calls.{AnswersCanonical, AreCompared, WritesCanonical};
+ghost use Rattle.wkt_calls.specs.Calls.{AnswersCanonical, AreCompared, WritesAsked};
 ghost use Rattle.wkt_calls.specs.Answer.{read_at, places_in, RefusesOne};
 
 use std::alloc::Global;
 use wkt_calls::canonical::{
-    Compared, SHORT, SHORTEST, canonical_short, canonical_shortest, hand_out_front, judge,
+    Compared, SHORT, SHORTEST, canonical_short, canonical_shortest, copy_out_front, judge,
     same_short, write_within,
 };
 use wkt_calls::status::{MEMORY, NOT_TEXT};
@@ -15,7 +15,7 @@ use wkt_canonical::make_room;
 pub(crate) fn write_long(text: &str, asked: u32, room: &mut Vec<u8>) -> Result<(usize, usize), u32>
     requires places { places_in asked ≤ 18 }
     requires utf8 { IsUtf8 text.now }
-    ensures canonical { WritesCanonical asked text.now room.new.items result }
+    ensures canonical { WritesAsked asked text.now room.new.items result }
     ensures within { IfOk result (λ r. r.1 ≤ vec_len room.new) }
     ensures bound { IfOk result (λ r. r.1 ≤ 2 * length text.now + 1) }
 {
@@ -49,7 +49,7 @@ pub(crate) fn canonical(
     }
 }
 
-/// The same of a text that isn't short.
+/// Answers a text that isn't short with the canonical text of what it begins with.
 #[inline(never)]
 fn canonical_long(
     alloc: Global,
@@ -67,7 +67,7 @@ fn canonical_long(
     match write_long(text, asked, &mut room) {
         Ok((at, n)) => {
             *end = at;
-            hand_out_front(text.as_bytes(), at, asked, &room[..n], out, needed)
+            copy_out_front(text.as_bytes(), at, asked, &room[..n], out, needed)
         }
         Err(status) => status,
     }

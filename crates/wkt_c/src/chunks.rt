@@ -65,7 +65,7 @@ fn answer_some<const D: u32>(
     }
 }
 
-/// The same, with decimals of so many places.
+/// Answers whole lines at the front of the input as [`answer_some`] does, with decimals of so many places.
 pub(crate) fn some_at(
     alloc: Global,
     input: &[u8],

@@ -14,7 +14,7 @@ use wkt_calls::asked::{ends_as_asked, places_of};
 use wkt_calls::at_places;
 use wkt_calls::flat::{flat_asked, make_point};
 use wkt_calls::status::{DONE, MEMORY, NOT_WHOLE, NULL_ROW};
-use wkt_machine::NearPoint;
+use wkt_machine::FastPoint;
 
 /// The arrays of some first rows, one row's after the other's.
 #[derive(Drop)]
@@ -86,7 +86,7 @@ impl ArrayRows {
 
     /// Adds the arrays of a row that is a point.
     #[inline(always)]
-    fn add_point(&mut self, text: &[u8], asked: u32, point: NearPoint) -> Result<(), u32>
+    fn add_point(&mut self, text: &[u8], asked: u32, point: FastPoint) -> Result<(), u32>
         requires { IsFlatPoint (places_in asked) text.now point }
         ensures { MatchResult result
             (λ _. AddsRowArrays (places_in asked) (asks_whole asked) false text.now self.old self.new) (λ s. s ≡ MEMORY) }
@@ -127,7 +127,7 @@ impl ArrayRows {
         self.add_flat(text, asked, room)
     }
 
-    /// The same of a row that isn't null and may be no point.
+    /// Adds the arrays of a row that isn't null and may be no point.
     #[inline(never)]
     fn add_flat(&mut self, text: &[u8], asked: u32, room: &mut ArraysRoom) -> Result<(), u32>
         requires { places_in asked ≤ 18 }

@@ -105,7 +105,7 @@ fn all_texts<const D: u32>(alloc: Global, given: GivenRows<'_>) -> Result<Rows, 
     Ok(rows)
 }
 
-/// The same, with decimals of so many places.
+/// The texts of all rows, with decimals of so many places.
 pub(crate) fn texts_at(alloc: Global, given: GivenRows<'_>, places: u32) -> Result<Rows, u32>
     requires arrays { AreArrayColumn (given_arrays given) given.valid.now }
     ensures { MatchResult result

@@ -1,7 +1,7 @@
 //! The functions that C calls.
 ghost use Rattle.std.specs.Prelude.{◌≡◌, ◌≤◌, ◌≢◌, ◌+◌, ◌*◌, ◌⊎◌, ℕ, List, Bool, length};
 ghost use Rattle.wkt_lines.specs.Output.{IsOutput};
-ghost use Rattle.wkt_calls.specs.Answer.{read_at, print_at, places_in, asks_whole, EndsAsAsked, IsCanonical, HasMore, Compares, RefusesAt, RefusesOneAt, IsNamed, NamesNone, HasNoPlaces, IsHandedOut, HasNoRoom, same_number};
+ghost use Rattle.wkt_calls.specs.Answer.{read_at, print_at, places_in, asks_whole, EndsAsAsked, IsCanonicalOf, HasMore, Compares, RefusesAt, RefusesOneAt, IsHeaderOf, NamesNone, HasNoPlaces, IsHandedOut, HasNoRoom, same_number};
 ghost use Rattle.wkt_c.specs.Chunks.{AnswersSome, AnswersNone};
 ghost use Rattle.wkt_calls.specs.Chunks.{ends_here};
 ghost use Rattle.wkt_c.specs.Column.{AreColumnAnswers, IsColumn, IsNoColumn, row_count};
@@ -14,11 +14,11 @@ use crate::canonical::canonical;
 use crate::chunks::some_at;
 use crate::column::{GivenColumn, Rows, answers, is_column};
 use crate::lines::answers_at;
-use crate::told::{GivenArrays, hand_out_at};
+use crate::told::{GivenArrays, copy_out_text_at};
 use std::alloc::Global;
 use wkt_calls::arrays_call::{arrays_short, is_short};
 use wkt_calls::asked::{ends_as_asked, has_places};
-use wkt_calls::fill::{copy_whole, hand_out};
+use wkt_calls::fill::{copy_out, copy_whole};
 use wkt_calls::infer::infer;
 use wkt_calls::lines::is_last;
 use wkt_calls::sizes::WktSizes;
@@ -36,9 +36,9 @@ pub extern "C" fn wkt_canonical(
     needed: &mut usize,
     end: &mut usize,
 ) -> u32
-    ensures written { result ≡ DONE → (answer : List ℕ) × IsCanonical (read_at (places_in places)) (print_at (places_in places)) text.now answer
+    ensures written { result ≡ DONE → (answer : List ℕ) × IsCanonicalOf (read_at (places_in places)) (print_at (places_in places)) text.now answer
         end.new × EndsAsAsked (asks_whole places) text.now end.new × IsHandedOut answer needed.new out.old out.new }
-    ensures small { result ≡ SMALL → (answer : List ℕ) × IsCanonical (read_at (places_in places)) (print_at (places_in places)) text.now answer
+    ensures small { result ≡ SMALL → (answer : List ℕ) × IsCanonicalOf (read_at (places_in places)) (print_at (places_in places)) text.now answer
         end.new × EndsAsAsked (asks_whole places) text.now end.new × HasNoRoom answer needed.new out.old }
     ensures bound { (result ≡ DONE) ⊎ (result ≡ SMALL) → needed.new ≤ 2 * length text.now + 65 }
     ensures more { result ≡ NOT_WHOLE → HasMore (read_at (places_in places)) (asks_whole places) text.now end.new }
@@ -96,7 +96,7 @@ pub extern "C" fn wkt_same_ends(
     }
 }
 
-/// The same without the ends.
+/// Whether two texts begin with one geometry, as [`wkt_same_ends`] reports, without where these end.
 #[unsafe(no_mangle)]
 pub extern "C" fn wkt_same(
     alloc: Global,
@@ -123,7 +123,7 @@ pub extern "C" fn wkt_same(
 /// header of `text` names.
 #[unsafe(no_mangle)]
 pub extern "C" fn wkt_infer(text: &[u8], kind: &mut u32, dimension: &mut u32) -> u32
-    ensures named { result ≡ DONE → IsNamed text.now kind.new dimension.new }
+    ensures named { result ≡ DONE → IsHeaderOf text.now kind.new dimension.new }
     ensures others { 1 ≤ result → NamesNone text.now result }
     ensures kept { 1 ≤ result → (kind.new ≡ kind.old) × (dimension.new ≡ dimension.old) }
 {
@@ -157,7 +157,7 @@ pub extern "C" fn wkt_lines(
     ensures needed_kept { 1 ≤ result → result ≢ SMALL → needed.new ≡ needed.old }
 {
     match answers_at(alloc, input, places) {
-        Ok(text) => hand_out(&text, out, needed),
+        Ok(text) => copy_out(&text, out, needed),
         Err(status) => status,
     }
 }
@@ -195,8 +195,8 @@ pub extern "C" fn wkt_lines_some(
     }
 }
 
-/// Hands out the answers to a column, if there is room for their texts.
-pub(crate) fn hand_out_rows(
+/// Copies out the answers to a column, if there is room for their texts.
+pub(crate) fn copy_out_rows(
     rows: &Rows,
     out: &mut [u8],
     ends: &mut [usize],
@@ -213,7 +213,7 @@ pub(crate) fn hand_out_rows(
         (out.new ≡ out.old) × (ends.new ≡ ends.old) × (statuses.new ≡ statuses.old) }
     ensures two { (result ≡ DONE) ⊎ (result ≡ SMALL) }
 {
-    let status = hand_out(&rows.texts.items, out, needed);
+    let status = copy_out(&rows.texts.items, out, needed);
     if status != DONE {
         return status;
     }
@@ -265,7 +265,7 @@ pub extern "C" fn wkt_column_canonical(
         return NO_PLACES;
     }
     match answers(alloc, given, places) {
-        Ok(rows) => hand_out_rows(&rows, out, out_offsets, statuses, needed),
+        Ok(rows) => copy_out_rows(&rows, out, out_offsets, statuses, needed),
         Err(status) => status,
     }
 }
@@ -332,5 +332,5 @@ pub extern "C" fn wkt_from_arrays(
         rings,
         polygons,
     };
-    hand_out_at(alloc, given, places, out, needed)
+    copy_out_text_at(alloc, given, places, out, needed)
 }

@@ -7,15 +7,15 @@ ghost use Rattle.wkt_c.specs.ArrayRows.{held_arrays, statuses_of};
 use crate::column::{GivenColumn, is_column};
 use crate::column_arrays::{ArrayRows, all_arrays, copy_heads};
 use crate::column_texts::{GivenRows, is_array_column, texts_at};
-use crate::exports::hand_out_rows;
+use crate::exports::copy_out_rows;
 use crate::sizes::WktColumnSizes;
 use std::alloc::Global;
 use wkt_calls::asked::has_places;
 use wkt_calls::fill::{copy_to_front, copy_whole};
 use wkt_calls::status::{DONE, NO_PLACES, NOT_COLUMN, SMALL};
 
-/// Hands out the arrays of a column, if there is room for them.
-fn hand_out_arrays(
+/// Copies out the arrays of a column, if there is room for them.
+fn copy_out_arrays(
     rows: &ArrayRows,
     sizes: &mut WktColumnSizes,
     kinds: &mut [u32],
@@ -130,7 +130,7 @@ pub extern "C" fn wkt_column_arrays(
         return NO_PLACES;
     }
     match all_arrays(alloc, given, places) {
-        Ok(rows) => hand_out_arrays(
+        Ok(rows) => copy_out_arrays(
             &rows,
             sizes,
             kinds,
@@ -202,7 +202,7 @@ pub extern "C" fn wkt_column_from_arrays(
         return NOT_COLUMN;
     }
     match texts_at(alloc, given, places) {
-        Ok(rows) => hand_out_rows(&rows, out, out_offsets, statuses, needed),
+        Ok(rows) => copy_out_rows(&rows, out, out_offsets, statuses, needed),
         Err(status) => status,
     }
 }

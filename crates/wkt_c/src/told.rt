@@ -5,11 +5,11 @@ ghost use Rattle.wkt_types.specs.declared.geometry_type.GeometryType.{GeometryTy
 ghost use Rattle.wkt_canonical.specs.Pens.{IsWithin, written_of};
 ghost use Rattle.wkt_calls.specs.Answer.{kind_number, dimension_number};
 ghost use Rattle.wkt_c.specs.Texts.{IsTextOf, AreOfSome};
-ghost use Rattle.wkt_c.specs.Told.{IsRefused, HandsOutText};
+ghost use Rattle.wkt_c.specs.Told.{IsRefused, CopiesOutText};
 
 use std::alloc::Global;
 use wkt_calls::at_places;
-use wkt_calls::fill::hand_out;
+use wkt_calls::fill::copy_out;
 use wkt_calls::status::{MEMORY, NO_PLACES, NOT_ARRAYS};
 use wkt_canonical::Pen;
 use wkt_canonical::laws::{texts_are_short, writes_texts};
@@ -118,34 +118,34 @@ pub(crate) fn told<'a, const D: u32>(
     Ok(tell::<D, Pen<'a, Decimal<D>>>(arrays, pen))
 }
 
-/// Hands out the text of the geometry of those arrays.
-fn hand_out_text<const D: u32>(
+/// Copies out the text of the geometry of those arrays.
+fn copy_out_text<const D: u32>(
     alloc: Global,
     given: GivenArrays<'_>,
     out: &mut [u8],
     needed: &mut usize,
 ) -> u32
     requires { D ≤ 36 }
-    ensures { HandsOutText D given.entry.kind given.entry.dimension given.entry.numbers.now given.entry.rings.now given.entry.polygons.now
+    ensures { CopiesOutText D given.entry.kind given.entry.dimension given.entry.numbers.now given.entry.rings.now given.entry.polygons.now
         out.old out.new needed.old needed.new result }
 {
     let mut room = Vec::new(alloc);
     match told::<D>(given, &mut room) {
-        Ok(pen) => hand_out(pen.written(), out, needed),
+        Ok(pen) => copy_out(pen.written(), out, needed),
         Err(status) => status,
     }
 }
 
-/// The same, with decimals of so many places.
-pub(crate) fn hand_out_at(
+/// Copies out the text of the geometry of those arrays, with decimals of so many places.
+pub(crate) fn copy_out_text_at(
     alloc: Global,
     given: GivenArrays<'_>,
     places: u32,
     out: &mut [u8],
     needed: &mut usize,
 ) -> u32
-    ensures { HandsOutText places given.entry.kind given.entry.dimension given.entry.numbers.now given.entry.rings.now given.entry.polygons.now
+    ensures { CopiesOutText places given.entry.kind given.entry.dimension given.entry.numbers.now given.entry.rings.now given.entry.polygons.now
         out.old out.new needed.old needed.new result }
 {
-    at_places!(places, hand_out_text(alloc, given, out, needed), NO_PLACES)
+    at_places!(places, copy_out_text(alloc, given, out, needed), NO_PLACES)
 }

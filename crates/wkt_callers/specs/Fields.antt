@@ -12,7 +12,7 @@ use Rattle.wkt.specs.declared.json.ValueError.{ValueError}
 
 module _ {T : Type 0} (read : List ℕ → Option T) where
   -- A text is answered with the geometry at its front, or it has none; memory aside.
-  pub record IsRead (text : List ℕ) (r : Result (Wkt T) ReadError) : Type 0 where
+  pub record IsFieldRead (text : List ℕ) (r : Result (Wkt T) ReadError) : Type 0 where
     pub found : IfOk r (λ w. IsFront read text (tree w))
     pub no_front : OnText r (HasNoFront read text)
 
@@ -21,4 +21,4 @@ module _ {T : Type 0} (read : List ℕ → Option T) where
   IsField None None = Unit {0}
   IsField None (Some r) = ⊥
   IsField (Some d) None = ⊥
-  IsField (Some d) (Some r) = AsText (as_str d) r IsRead
+  IsField (Some d) (Some r) = AsText (as_str d) r IsFieldRead

@@ -15,31 +15,31 @@ use wkt_lines::{RunError, run, stream};
 
 /// Which error a sink or a source gives.
 #[derive(Clone, Copy, Drop)]
-enum Given {
+enum CallGiven {
     Kind(ErrorKind),
     Code(i32),
 }
 
-const GIVEN: &[Given] = &[
-    Given::Kind(ErrorKind::Other),
-    Given::Kind(ErrorKind::BrokenPipe),
-    Given::Kind(ErrorKind::PermissionDenied),
-    Given::Code(5),
-    Given::Code(13),
-    Given::Code(32),
+const GIVEN: &[CallGiven] = &[
+    CallGiven::Kind(ErrorKind::Other),
+    CallGiven::Kind(ErrorKind::BrokenPipe),
+    CallGiven::Kind(ErrorKind::PermissionDenied),
+    CallGiven::Code(5),
+    CallGiven::Code(13),
+    CallGiven::Code(32),
 ];
 
-fn error(given: Given) -> io::Error {
+fn error(given: CallGiven) -> io::Error {
     match given {
-        Given::Kind(kind) => io::Error::from(kind),
-        Given::Code(code) => io::Error::from_raw_os_error(code),
+        CallGiven::Kind(kind) => io::Error::from(kind),
+        CallGiven::Code(code) => io::Error::from_raw_os_error(code),
     }
 }
 
 /// A sink and a source of which each call fails, with one error.
 #[derive(Drop)]
 struct Failing {
-    given: Given,
+    given: CallGiven,
     failures: u64,
 }
 
@@ -186,7 +186,7 @@ fn is_unchanged(rt: &impl Abort, alloc: Global, came: &io::Error, want: &io::Err
 }
 
 /// The sink's error comes of the call, which makes one call on it.
-fn comes_of_sink(rt: &impl Abort, alloc: Global, call: usize, given: Given) {
+fn comes_of_sink(rt: &impl Abort, alloc: Global, call: usize, given: CallGiven) {
     let mut sink = Failing { given, failures: 0 };
     let came = of_sink(alloc, call, &mut sink).expect(rt, "no error of the sink");
     is_unchanged(rt, alloc, &came, &error(given));
@@ -203,7 +203,7 @@ fn comes_unchanged_from_sinks(rt: HostRuntime) {
 }
 
 /// The source's error comes of the call, which makes one call on it.
-fn comes_of_source(rt: &impl Abort, alloc: Global, call: usize, given: Given) {
+fn comes_of_source(rt: &impl Abort, alloc: Global, call: usize, given: CallGiven) {
     let mut source = Failing { given, failures: 0 };
     let came = of_source(alloc, call, &mut source).expect(rt, "no error of the source");
     is_unchanged(rt, alloc, &came, &error(given));

@@ -51,7 +51,7 @@ pub fn tidy_pair<T: WktNum>(alloc: Global, one: &str, other: &str) -> Result<Str
     Ok(pair.to_string(alloc)?)
 }
 
-/// The same as `tidy`, where a text without a geometry is no error: its answer is `None`.
+/// What `tidy` returns, where a text without a geometry is no error: its answer is `None`.
 ///
 /// # Errors
 /// Out of memory.

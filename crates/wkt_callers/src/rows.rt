@@ -1,5 +1,5 @@
 //! The callers and examples that answer a text, over rows of texts and what they give. Memory that runs out is an error,
-//! which `tests/gate/each_growth.sh` tries at each growth.
+//! which `tests/gate/each_growth.sh` tries at each allocation.
 use crate::asserts::equal;
 use crate::flat_key::flat_key;
 use crate::read_and_write::{tidy, tidy_if_any, tidy_pair};

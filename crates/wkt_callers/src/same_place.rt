@@ -2,7 +2,7 @@
 ghost use Rattle.std.specs.Prelude.{◌⊎◌, IfOk};
 ghost use Rattle.wkt.specs.Answered.{OnText};
 ghost use Rattle.wkt.specs.Front.{HasNoFront};
-ghost use Rattle.wkt_callers.specs.Compared.{Compares};
+ghost use Rattle.wkt_callers.specs.Compared.{ComparesTexts};
 
 use crate::read_and_write::tidy;
 use std::alloc::Global;
@@ -17,7 +17,7 @@ use wkt::{ReadError, WktNum};
 /// # Errors
 /// `Text` where a text has no geometry at its front; `Memory`.
 pub fn same_place<T: WktNum>(alloc: Global, one: &str, other: &str) -> Result<bool, ReadError>
-    ensures same { IfOk result (Compares T.read one.now other.now) }
+    ensures same { IfOk result (ComparesTexts T.read one.now other.now) }
     ensures no_front { OnText result (HasNoFront T.read one.now ⊎ HasNoFront T.read other.now) }
 {
     let first = tidy::<T>(alloc, one)?;

@@ -4,8 +4,8 @@ use Rattle.std.specs.Prelude.{IsUtf8}
 use Rattle.wkt_fill.specs.Filled.{view}
 use Rattle.wkt_fill.specs.Fronts.{FillsFront, HoldsAll}
 use Rattle.wkt_fill.specs.declared.filler.Filler.{Filler}
-use Rattle.wkt_calls.specs.Answer.{Refuses, kind_number, dimension_number, read_at}
-use Rattle.wkt_calls.proofs.Handing.{out_of_memory}
+use Rattle.wkt_calls.specs.Answer.{RefusesText, kind_number, dimension_number, read_at}
+use Rattle.wkt_calls.proofs.CopiedOut.{out_of_memory}
 use Rattle.wkt_calls.specs.Arrays.{AreOf, IsNotFlat}
 
 module _ (places : ℕ) (text : List ℕ) (f : Filler) (end : ℕ) (h : FillsFront places text f end) where
@@ -37,7 +37,7 @@ module _ (places : ℕ) (text : List ℕ) (f : Filler) (end : ℕ) (h : FillsFro
   ]
 
 -- The text isn't UTF-8.
-pub not-text : {N : Type 0} (read : List ℕ → Option N) (text : List ℕ) → (IsUtf8 text → ⊥) → Refuses read text 20
+pub not-text : {N : Type 0} (read : List ℕ → Option N) (text : List ℕ) → (IsUtf8 text → ⊥) → RefusesText read text 20
 not-text read text n = record {
   no_front = λ _ h. absurd (omega (arith, h));
   message = λ _ h. absurd (omega (arith, h));

@@ -1,9 +1,9 @@
-pub mod Handing
-pub mod Tails
+pub mod CopiedOut
+pub mod LastByte
 pub mod Filled
 pub mod FlatPoints
 pub mod Pieces
-pub mod Blames
+pub mod StatusOfMessage
 pub mod Padded
 pub mod AsciiWindows
 pub mod Copied

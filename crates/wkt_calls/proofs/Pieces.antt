@@ -4,26 +4,26 @@ use Rattle.std.specs.Prelude.{◌==◌, if◌then◌else◌, true, false}
 use Rattle.std.proofs.lemmas.List.{append-nil, take_all}
 use Rattle.std.proofs.lemmas.Bool.Decides.{eqb_tells}
 use Rattle.std.proofs.Math.Seq.{take-add}
-use Rattle.wkt_lines.specs.Laws.{IsWhole, OutputOfParts}
+use Rattle.wkt_lines.specs.Laws.{IsWholeLines, OutputOfParts}
 use Rattle.wkt_lines.specs.Output.{IsOutput}
 use Rattle.wkt_lines.specs.Lines.{input_lines}
 use Rattle.wkt_lines.specs.Replies.{AreReplies}
 use Rattle.wkt_lines.specs.Splitting.{before_feed, after_feed}
-use Rattle.wkt_lines.proofs.Splits.{lines_step}
+use Rattle.wkt_lines.proofs.FirstLineAndRest.{lines_step}
 use Rattle.wkt_lines.specs.Output.{IsAnswer}
 use Rattle.wkt_calls.specs.Chunks.{AreWholeLines}
 
 -- the output for a piece more
 pub more_output : {N : Type 0} (read : List ℕ → Option N) (num : N → List ℕ) → OutputOfParts read num → (input : List ℕ) (taken piece : ℕ) (x v : List ℕ) →
-    IsWhole (take taken input) → IsOutput read num (take taken input) x → IsOutput read num (take piece (drop taken input)) v → IsOutput read num (take (taken + piece) input) (x ++ v)
+    IsWholeLines (take taken input) → IsOutput read num (take taken input) x → IsOutput read num (take piece (drop taken input)) v → IsOutput read num (take (taken + piece) input) (x ++ v)
 more_output read num law input taken piece x v w h k =
     subst (λ bs. IsOutput read num bs (x ++ v)) (sym (take-add taken piece input))
     (law (take taken input ∷ []) (x ∷ []) (take piece (drop taken input)) v (w, tt) (x, [], refl, h, refl) k)
 
 -- whole lines after whole lines
-pub whole_more : (input : List ℕ) (taken piece : ℕ) → IsWhole (take taken input) → IsWhole (take piece (drop taken input)) → IsWhole (take (taken + piece) input)
-whole_more input taken piece w h = subst IsWhole (sym (take-add taken piece input)) (elim h [
-  | inl e ↦ subst IsWhole (sym (ap (λ z. take taken input ++ z) e ∙ append-nil (take taken input))) w
+pub whole_more : (input : List ℕ) (taken piece : ℕ) → IsWholeLines (take taken input) → IsWholeLines (take piece (drop taken input)) → IsWholeLines (take (taken + piece) input)
+whole_more input taken piece w h = subst IsWholeLines (sym (take-add taken piece input)) (elim h [
+  | inl e ↦ subst IsWholeLines (sym (ap (λ z. take taken input ++ z) e ∙ append-nil (take taken input))) w
   | inr k ↦ inr (take taken input ++ k.0, ap (λ z. take taken input ++ z) k.1 ∙ sym (append_assoc (take taken input) k.0 (10 ∷ [])))
 ])
 
@@ -33,7 +33,7 @@ take-one (x ∷ xs) zero h = refl
 take-one (x ∷ xs) (suc n) h = ap (λ zs. x ∷ zs) (take-one xs n (omega (arith, h)))
 
 -- the bytes up to a line feed
-pub whole_at : (xs : List ℕ) (at : ℕ) → 0 < at → at ≤ length xs → get_or xs (at - 1) 0 ≡ 10 → IsWhole (take at xs)
+pub whole_at : (xs : List ℕ) (at : ℕ) → 0 < at → at ≤ length xs → get_or xs (at - 1) 0 ≡ 10 → IsWholeLines (take at xs)
 whole_at xs at p h e =
     let same : suc (at - 1) ≡ at = omega (arith, p) in
     inr (take (at - 1) xs, ap (λ n. take n xs) (sym same) ∙ take-one xs (at - 1) (omega (arith, p, h)) ∙ ap (λ b. take (at - 1) xs ++ (b ∷ [])) e)
@@ -54,7 +54,7 @@ feed-there [] lt = absurd (omega (arith, lt))
 feed-there (b ∷ bs) lt = feed-step b bs (feed-there bs) lt
 
 -- a first line that ends before the text does
-pub whole_line : (bs : List ℕ) (end : ℕ) → end < length bs → take end bs ≡ before_feed bs → IsWhole (take (end + 1) bs)
+pub whole_line : (bs : List ℕ) (end : ℕ) → end < length bs → take end bs ≡ before_feed bs → IsWholeLines (take (end + 1) bs)
 whole_line bs end lt e =
     let long : end ≡ length (before_feed bs) = omega (arith, lt, length-take end bs, ap length e) in
     inr (before_feed bs, ap (λ n. take n bs) {x = end + 1} {y = suc (length (before_feed bs))} (omega (arith, long)) ∙ feed-there bs (omega (arith, lt, long)))
@@ -177,7 +177,7 @@ module _ (last : Bool) (input : List ℕ) (at : ℕ) where
         IsOutput read num (take at input) x → IsAnswer read num (before_feed part) answer → taken ≡ length (before_feed part) + 1 → (at + taken ≤ n ⊎ n ≡ length input) → n ≤ at + taken → n ≤ length input →
         IsOutput read num (take n input) (x ++ (answer ++ (10 ∷ [])))
     line-output read num law taken n x answer before ends out is takes reaches most inside =
-        let whole : IsWhole (take at input) = elim before [ inl h ↦ h | inr e ↦ absurd (omega (arith, e.1, less, within)) ] in
+        let whole : IsWholeLines (take at input) = elim before [ inl h ↦ h | inr e ↦ absurd (omega (arith, e.1, less, within)) ] in
         let same = same-line ends in
         let k : at + taken ≡ at + suc (length (before_feed rest)) = omega (arith, takes, ap length same) in
         let v = one-output read num rest answer some-left (subst (λ l. IsAnswer read num l answer) same is) in

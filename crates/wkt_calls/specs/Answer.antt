@@ -53,7 +53,7 @@ pub record HasNoRoom (answer : List ℕ) (needed : ℕ) (old : List ℕ) : Type 
 
 module _ {N : Type 0} (read : List ℕ → Option N) where
   -- What a status says of a text that has no answer.
-  pub record Refuses (text : List ℕ) (status : ℕ) : Type 0 where
+  pub record RefusesText (text : List ℕ) (status : ℕ) : Type 0 where
     -- 1 to 14: no beginning of the text is a geometry.
     pub no_front : 1 ≤ status → status ≤ 14 → HasNoFront read text
     -- It is then the number of the message with which the text is refused, 1 to 13.
@@ -66,9 +66,9 @@ module _ {N : Type 0} (read : List ℕ → Option N) where
     pub others : (status ≤ 14) ⊎ ((status ≡ 20) ⊎ (status ≡ 22))
     pub some : 1 ≤ status
 
-  -- The same of one of two texts.
+  -- One of two texts is refused with this status.
   abbrev pub RefusesOne : List ℕ → List ℕ → ℕ → Type 0
-  RefusesOne one other status = Refuses one status ⊎ Refuses other status
+  RefusesOne one other status = RefusesText one status ⊎ RefusesText other status
 
   -- Whole texts are asked for, and the geometry that the text begins with ends here, and is followed by more than white space.
   pub record HasMore (whole : Bool) (text : List ℕ) (end : ℕ) : Type 0 where
@@ -80,8 +80,8 @@ module _ {N : Type 0} (read : List ℕ → Option N) where
 
 module _ {N : Type 0} (read : List ℕ → Option N) (num : N → List ℕ) where
   -- The text is UTF-8 and has a front that ends here, and the answer is the text of the front's value.
-  abbrev pub IsCanonical : List ℕ → List ℕ → ℕ → Type 0
-  IsCanonical text answer end = IsUtf8 text × IsCanonicalTo read num text answer end
+  abbrev pub IsCanonicalOf : List ℕ → List ℕ → ℕ → Type 0
+  IsCanonicalOf text answer end = IsUtf8 text × IsCanonicalTo read num text answer end
 
   -- Two texts are UTF-8 and have each a front, which ends there, and `same` is true exactly if the texts of their values are equal, which is exactly if their canonical values are.
   pub record Compares (one other : List ℕ) (end other_end : ℕ) (same : Bool) : Type 0 where
@@ -100,7 +100,7 @@ HasNoPlaces places status = (status ≡ 23) × (18 < places)
 
 -- A status is 23 where there are no numbers of so many places, and otherwise says something of the text.
 abbrev pub RefusesAt : ℕ → List ℕ → ℕ → Type 0
-RefusesAt places text status = HasNoPlaces places status ⊎ Refuses (read_at places) text status
+RefusesAt places text status = HasNoPlaces places status ⊎ RefusesText (read_at places) text status
 
 abbrev pub RefusesOneAt : ℕ → List ℕ → List ℕ → ℕ → Type 0
 RefusesOneAt places one other status = HasNoPlaces places status ⊎ RefusesOne (read_at places) one other status
@@ -128,7 +128,7 @@ dimension_number XYM = 2
 dimension_number XYZM = 3
 
 -- The text is UTF-8, and its header names the kind and the dimension of these numbers.
-pub record IsNamed (text : List ℕ) (k d : ℕ) : Type 0 where
+pub record IsHeaderOf (text : List ℕ) (k d : ℕ) : Type 0 where
   pub utf8 : IsUtf8 text
   pub kind : GeometryType
   pub dimension : Dimension

@@ -6,7 +6,7 @@ use Rattle.wkt_access.specs.WellFormed.{IsWellFormed}
 use Rattle.wkt_read.specs.Front.{Front}
 use Rattle.wkt_read.specs.Kinds.{kind_of, dim_of}
 pub use Rattle.wkt_fill.specs.Arrays.{parts_of, joined, offsets, numbers_in, HasLarge, HasLargeNumber}
-use Rattle.wkt_calls.specs.Answer.{read_at, kind_number, dimension_number, HasNoPlaces, Refuses, HasMore}
+use Rattle.wkt_calls.specs.Answer.{read_at, kind_number, dimension_number, HasNoPlaces, RefusesText, HasMore}
 
 -- The arrays of a value: its kind, its dimension, all its numbers in order, where each ring begins among the coordinates, and where each polygon begins among the rings, with the end of the last.
 pub record AreArrays {N : Type 0} (value : Value N) (kind dimension : ℕ) (numbers : List N) (rings polygons : List ℕ) : Type 0 where
@@ -39,4 +39,4 @@ HasMoreAt places whole text end = HasMore (read_at places) whole text end
 
 -- Why a text has no arrays: there are no numbers of so many places, its front is a collection, a number has more units than 64 bits hold, or the text is refused.
 abbrev pub IsNotFlat : ℕ → List ℕ → ℕ → Type 0
-IsNotFlat places text status = HasNoPlaces places status ⊎ (IsNoArrays places text status ⊎ Refuses (read_at places) text status)
+IsNotFlat places text status = HasNoPlaces places status ⊎ (IsNoArrays places text status ⊎ RefusesText (read_at places) text status)

@@ -2,7 +2,7 @@
 use Rattle.std.specs.Prelude.{◌≡◌, ◌≢◌, ◌≤◌, ◌+◌, ◌*◌, ◌++◌, ◌⊎◌, ℕ, List, ◌∷◌, length, take, Option, Some, None, Result, MatchResult}
 use Rattle.wkt_read.specs.Front.{HasNoFront}
 use Rattle.wkt_canonical.specs.Canonical.{HasWritten}
-use Rattle.wkt_calls.specs.Answer.{read_at, print_at, places_in, asks_whole, EndsAsAsked, IsCanonical, HasMore, Compares, Refuses, IsHandedOut, HasNoRoom}
+use Rattle.wkt_calls.specs.Answer.{read_at, print_at, places_in, asks_whole, EndsAsAsked, IsCanonicalOf, HasMore, Compares, RefusesText, IsHandedOut, HasNoRoom}
 use Rattle.wkt_calls.specs.declared.canonical.Compared.{Compared}
 
 -- The bytes are the text, or the text, a NUL and more. Only private contracts cite this.
@@ -17,20 +17,20 @@ module _ {N : Type 0} (read : List ℕ → Option N) (num : N → List ℕ) wher
 
   -- The canonical text stands at the front of a room, as long as is returned, and where the front ends is returned too; or the text is refused.
   abbrev pub WritesOrRefuses : List ℕ → List ℕ → Result (ℕ × ℕ) ℕ → Type 0
-  WritesOrRefuses text room result = MatchResult result (λ r. IsCanonical read num text (take r.1 room) r.0) (Refuses read text)
+  WritesOrRefuses text room result = MatchResult result (λ r. IsCanonicalOf read num text (take r.1 room) r.0) (RefusesText read text)
 
--- The same, with decimals of as many places as are asked for.
-abbrev pub WritesCanonical : ℕ → List ℕ → List ℕ → Result (ℕ × ℕ) ℕ → Type 0
-WritesCanonical asked text room result = WritesOrRefuses (read_at (places_in asked)) (print_at (places_in asked)) text room result
+-- The canonical text is written or the text is refused, with decimals of as many places as are asked for.
+abbrev pub WritesAsked : ℕ → List ℕ → List ℕ → Result (ℕ × ℕ) ℕ → Type 0
+WritesAsked asked text room result = WritesOrRefuses (read_at (places_in asked)) (print_at (places_in asked)) text room result
 
 -- By its status, what a call says of a text, and what it has written then.
 pub record AnswersCanonical (asked : ℕ) (text : List ℕ) (status : ℕ) (out out' : List ℕ) (needed needed' end end' : ℕ) : Type 0 where
-  pub written : status ≡ 0 → (answer : List ℕ) × IsCanonical (read_at (places_in asked)) (print_at (places_in asked)) text answer end'
+  pub written : status ≡ 0 → (answer : List ℕ) × IsCanonicalOf (read_at (places_in asked)) (print_at (places_in asked)) text answer end'
       × EndsAsAsked (asks_whole asked) text end' × IsHandedOut answer needed' out out'
-  pub small : status ≡ 21 → (answer : List ℕ) × IsCanonical (read_at (places_in asked)) (print_at (places_in asked)) text answer end'
+  pub small : status ≡ 21 → (answer : List ℕ) × IsCanonicalOf (read_at (places_in asked)) (print_at (places_in asked)) text answer end'
       × EndsAsAsked (asks_whole asked) text end' × HasNoRoom answer needed' out
   pub more : status ≡ 30 → HasMore (read_at (places_in asked)) (asks_whole asked) text end'
-  pub others : 1 ≤ status → status ≢ 21 → status ≢ 30 → Refuses (read_at (places_in asked)) text status
+  pub others : 1 ≤ status → status ≢ 21 → status ≢ 30 → RefusesText (read_at (places_in asked)) text status
   pub kept : 1 ≤ status → out' ≡ out
   pub bound : (status ≡ 0) ⊎ (status ≡ 21) → needed' ≤ 2 * length text + 65
   pub needed_kept : 1 ≤ status → status ≢ 21 → needed' ≡ needed

@@ -1,12 +1,12 @@
 -- The answers to some lines at the front of an input.
 use Rattle.std.specs.Prelude.{◌≡◌, ◌+◌, ◌-◌, ◌*◌, ◌<◌, ◌≤◌, ◌⊎◌, ℕ, zero, suc, List, Option, Bool, true, false, length, take, drop}
-use Rattle.wkt_lines.specs.Laws.{IsWhole}
+use Rattle.wkt_lines.specs.Laws.{IsWholeLines}
 use Rattle.wkt_lines.specs.Output.{IsOutput}
 use Rattle.wkt_lines.specs.Splitting.{before_feed}
 
 -- So many bytes at the front are whole lines, or all of the input, where it ends here.
 abbrev pub AreWholeLines : Bool → List ℕ → ℕ → Type 0
-AreWholeLines last input n = IsWhole (take n input) ⊎ ((last ≡ true) × (n ≡ length input))
+AreWholeLines last input n = IsWholeLines (take n input) ⊎ ((last ≡ true) × (n ≡ length input))
 
 -- So many bytes are the first line with its feed, or all of the input, where that ends here and has no feed.
 abbrev pub IsFirstLine : Bool → List ℕ → ℕ → Type 0
@@ -14,8 +14,8 @@ IsFirstLine last input n =
     ((n ≡ length (before_feed input) + 1) × (n ≤ length input)) ⊎ ((last ≡ true) × (n ≡ length input) × (before_feed input ≡ input))
 
 -- There is no whole line, or a buffer of that size may have no room for the answer to the first.
-abbrev pub IsStuck : Bool → List ℕ → ℕ → Type 0
-IsStuck last input room =
+abbrev pub IsChunkStuck : Bool → List ℕ → ℕ → Type 0
+IsChunkStuck last input room =
     (length input ≡ 0) ⊎ (((last ≡ false) × (before_feed input ≡ input)) ⊎ ((n : ℕ) × IsFirstLine last input n × (room < 2 * n + 65)))
 
 module _ {N : Type 0} (read : List ℕ → Option N) (num : N → List ℕ) where
@@ -26,7 +26,7 @@ module _ {N : Type 0} (read : List ℕ → Option N) (num : N → List ℕ) wher
     pub fits : written ≤ length out
     pub answers : IsOutput read num (take taken input) (take written out)
     -- What is left has no whole line at its front, or the first may have no room.
-    pub stuck : IsStuck last (drop taken input) (length out - written)
+    pub stuck : IsChunkStuck last (drop taken input) (length out - written)
 
 -- Whether the input ends here.
 abbrev pub ends_here : ℕ → Bool

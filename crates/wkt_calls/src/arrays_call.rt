@@ -12,20 +12,20 @@ use crate::flat::{find_point, flat_asked};
 use crate::sizes::WktSizes;
 use crate::status::{DONE, NOT_WHOLE, SMALL};
 use wkt_fill::Room;
-use wkt_machine::NearPoint;
+use wkt_machine::FastPoint;
 
 /// How long a text may be whose arrays are made in a room on the stack.
-const SHORT: usize = 64;
-/// The same with the least room, which is cleared for each call.
-const SHORTEST: usize = 32;
+const FEW_ARRAYS: usize = 64;
+/// How long a text may be whose arrays are made in the least room, which is cleared for each call.
+const FEWEST_ARRAYS: usize = 32;
 
 /// Whether the arrays of a text are made on the stack.
 #[inline(always)]
 pub fn is_short(text: &[u8]) -> bool {
-    text.len() <= SHORT
+    text.len() <= FEW_ARRAYS
 }
 
-/// Hands out the arrays of a text, which are made in the room first.
+/// Copies out the arrays of a text, which are made in the room first.
 #[inline(always)]
 pub fn arrays_in(
     text: &[u8],
@@ -76,12 +76,12 @@ pub fn arrays_in(
     }
 }
 
-/// Hands out the arrays of a point, which the text begins with.
+/// Copies out the arrays of a point, which the text begins with.
 #[inline(always)]
-fn hand_out_point(
+fn copy_out_point(
     text: &[u8],
     places: u32,
-    point: NearPoint,
+    point: FastPoint,
     sizes: &mut WktSizes,
     numbers: &mut [i64],
     rings: &mut [usize],
@@ -116,7 +116,7 @@ fn hand_out_point(
     DONE
 }
 
-/// Hands out the arrays of a short text. A longer one may have no room.
+/// Copies out the arrays of a short text. A longer one may have no room.
 pub fn arrays_short(
     text: &[u8],
     places: u32,
@@ -129,14 +129,14 @@ pub fn arrays_short(
     ensures { AnswersArrays places text.now result sizes.old sizes.new numbers.old numbers.new rings.old rings.new
         polygons.old polygons.new }
 {
-    let mut point = NearPoint { x: 0, y: 0, end: 0 };
+    let mut point = FastPoint { x: 0, y: 0, end: 0 };
     if find_point(text, places, &mut point) {
-        return hand_out_point(text, places, point, sizes, numbers, rings, polygons);
+        return copy_out_point(text, places, point, sizes, numbers, rings, polygons);
     }
     arrays_few(text, places, sizes, numbers, rings, polygons)
 }
 
-/// The same of a text that may be no point. It is apart since its rooms are cleared for each call.
+/// The arrays of a short text that may be no point. It is apart since its rooms are cleared for each call.
 #[inline(never)]
 fn arrays_few(
     text: &[u8],
@@ -150,14 +150,14 @@ fn arrays_few(
     ensures { AnswersArrays places text.now result sizes.old sizes.new numbers.old numbers.new rings.old rings.new
         polygons.old polygons.new }
 {
-    if text.len() <= SHORTEST {
+    if text.len() <= FEWEST_ARRAYS {
         return arrays_shortest(text, places, sizes, numbers, rings, polygons);
     }
     // As many as a text of that length may have: a number takes two bytes at least, with what follows it; a ring takes
     // four, and a polygon six.
-    let mut few_numbers = [0i64; SHORT / 2 + 2];
-    let mut few_rings = [0usize; SHORT / 4 + 2];
-    let mut few_polygons = [0usize; SHORT / 6 + 2];
+    let mut few_numbers = [0i64; FEW_ARRAYS / 2 + 2];
+    let mut few_rings = [0usize; FEW_ARRAYS / 4 + 2];
+    let mut few_polygons = [0usize; FEW_ARRAYS / 6 + 2];
     let room = Room {
         numbers: &mut few_numbers,
         rings: &mut few_rings,
@@ -166,7 +166,7 @@ fn arrays_few(
     arrays_in(text, places, room, sizes, numbers, rings, polygons)
 }
 
-/// The same of a text of the fewest bytes.
+/// The arrays of a text of the fewest bytes.
 #[inline(never)]
 fn arrays_shortest(
     text: &[u8],
@@ -180,9 +180,9 @@ fn arrays_shortest(
     ensures { AnswersArrays places text.now result sizes.old sizes.new numbers.old numbers.new rings.old rings.new
         polygons.old polygons.new }
 {
-    let mut few_numbers = [0i64; SHORTEST / 2 + 2];
-    let mut few_rings = [0usize; SHORTEST / 4 + 2];
-    let mut few_polygons = [0usize; SHORTEST / 6 + 2];
+    let mut few_numbers = [0i64; FEWEST_ARRAYS / 2 + 2];
+    let mut few_rings = [0usize; FEWEST_ARRAYS / 4 + 2];
+    let mut few_polygons = [0usize; FEWEST_ARRAYS / 6 + 2];
     let room = Room {
         numbers: &mut few_numbers,
         rings: &mut few_rings,

@@ -8,7 +8,7 @@ use wkt_read::words::is_blank;
 /// What is added to the number of places where whole texts are asked for.
 const WHOLE: u32 = 256;
 /// There are number types of up to so many places.
-const MOST: u32 = 18;
+const MOST_ASKED: u32 = 18;
 
 /// How many places are asked for.
 pub fn places_of(asked: u32) -> u32
@@ -22,7 +22,7 @@ pub fn has_places(asked: u32) -> bool
     ensures yes { result ≡ true → places_in asked ≤ 18 }
     ensures no { result ≡ false → 18 < places_in asked }
 {
-    places_of(asked) <= MOST
+    places_of(asked) <= MOST_ASKED
 }
 
 /// Whether whole texts are asked for.

@@ -3,13 +3,13 @@ ghost use Rattle.std.specs.Prelude.{◌≡◌, ◌≢◌, ◌+◌, ◌*◌, ◌�
 ghost use Rattle.std.specs.Str.{IsAscii};
 ghost use Rattle.wkt_num.specs.Bytes.{AllWhite};
 ghost use Rattle.wkt_num.specs.Decimal.{IsUnits};
-ghost use Rattle.wkt_calls.specs.Calls.{AnswersCanonical, AreCompared, IsWalkedFor, WritesCanonical, WritesIfAny, WritesOrRefuses};
+ghost use Rattle.wkt_calls.specs.Calls.{AnswersCanonical, AreCompared, IsWalkedFor, WritesAsked, WritesIfAny, WritesOrRefuses};
 ghost use Rattle.wkt_read.specs.Laws.{FrontIsWritable, OneText};
-ghost use Rattle.wkt_calls.specs.Answer.{read_at, print_at, places_in, asks_whole, EndsAsAsked, IsCanonical, Compares, RefusesOne, IsHandedOut, HasNoRoom};
+ghost use Rattle.wkt_calls.specs.Answer.{read_at, print_at, places_in, asks_whole, EndsAsAsked, IsCanonicalOf, Compares, RefusesOne, IsHandedOut, HasNoRoom};
 
 use crate::asked::{ends_as_asked, places_of};
 use crate::at_places;
-use crate::fill::hand_out;
+use crate::fill::copy_out;
 use crate::refusal::refusal;
 use crate::status::{DONE, NOT_TEXT, NOT_WHOLE, SMALL};
 use std::simd::prelude::*;
@@ -20,9 +20,9 @@ use wkt_read::laws::{front_is_writable, one_text};
 
 /// How long a text may be that is answered with no memory.
 pub const SHORT: usize = 200;
-/// The same with the least room, which is cleared for each call.
+/// How long a text may be that is answered with the least room, which is cleared for each call.
 pub const SHORTEST: usize = 32;
-/// How many zeros stand behind a short text: what the walk looks at together.
+/// How many zeros stand behind a short text: what the machine looks at together.
 const BEHIND: usize = 32;
 
 /// Writes the canonical text of what a text begins with to the front of the room; `None` where it begins with none.
@@ -56,7 +56,7 @@ fn write_or_refuse<const D: u32>(
     }
 }
 
-/// The same, with decimals of so many places.
+/// Writes the canonical text or returns the status of its refusal, with decimals of so many places.
 #[inline(always)]
 fn write_or_refuse_at(
     text: &str,
@@ -75,13 +75,13 @@ fn write_or_refuse_at(
     at_places!(places, write_or_refuse(text, walked, room), unreachable!())
 }
 
-/// The same, with decimals of as many places as are asked for.
+/// Writes the canonical text or returns the status of its refusal, with decimals of as many places as are asked for.
 fn write_in(text: &str, walked: &str, asked: u32, room: &mut [u8]) -> Result<(usize, usize), u32>
     requires places { places_in asked ≤ 18 }
     requires room { 2 * length walked.now + 65 ≤ length room.old }
     requires utf8 { IsUtf8 text.now }
     requires walked { IsWalkedFor text.now walked.now }
-    ensures canonical { WritesCanonical asked text.now room.new result }
+    ensures canonical { WritesAsked asked text.now room.new result }
     ensures within { IfOk result (λ r. r.1 + 64 ≤ length room.new) }
     ensures whole { length room.new ≡ length room.old }
 {
@@ -95,7 +95,7 @@ pub fn write_within(text: &str, asked: u32, room: &mut [u8]) -> Result<(usize, u
     requires places { places_in asked ≤ 18 }
     requires room { 2 * length text.now + 65 ≤ length room.old }
     requires utf8 { IsUtf8 text.now }
-    ensures canonical { WritesCanonical asked text.now room.new result }
+    ensures canonical { WritesAsked asked text.now room.new result }
     ensures within { IfOk result (λ r. r.1 ≤ length room.new) }
     ensures bound { IfOk result (λ r. r.1 ≤ 2 * length text.now + 1) }
     ensures whole { length room.new ≡ length room.old }
@@ -120,8 +120,8 @@ fn is_ascii(bytes: &[u8], n: usize) -> bool
     true
 }
 
-/// Writes the canonical text of what a short text begins with. The text is copied before zeros first, so that the walk
-/// sees 32 bytes at once up to its end.
+/// Writes the canonical text of what a short text begins with. The text is copied before zeros first, so that the
+/// machine sees 32 bytes at once up to its end.
 fn write_short(
     text: &[u8],
     asked: u32,
@@ -132,7 +132,7 @@ fn write_short(
     requires near { length text.now + 32 ≤ length near.old }
     requires zeros { (i : ℕ) → slice_index near.old i ≡ 0 }
     requires room { 2 * length text.now + 129 ≤ length room.old }
-    ensures canonical { WritesCanonical asked text.now room.new result }
+    ensures canonical { WritesAsked asked text.now room.new result }
     ensures within { IfOk result (λ r. r.1 ≤ length room.new) }
     ensures bound { IfOk result (λ r. r.1 ≤ 2 * length text.now + 65) }
     ensures whole { length room.new ≡ length room.old }
@@ -151,8 +151,8 @@ fn write_short(
     write_in(text, walked, asked, &mut room[..2 * n + 129])
 }
 
-/// Hands out an answer to a text whose geometry ends there, if that is as asked for and there is room for it.
-pub fn hand_out_front(
+/// Copies out an answer to a text whose geometry ends there, if that is as asked for and there is room for it.
+pub fn copy_out_front(
     text: &[u8],
     end: usize,
     asked: u32,
@@ -172,7 +172,7 @@ pub fn hand_out_front(
     if !ends_as_asked(text, end, asked) {
         return NOT_WHOLE;
     }
-    hand_out(answer, out, needed)
+    copy_out(answer, out, needed)
 }
 
 /// Answers a text of up to [`SHORTEST`] bytes with the canonical text of what it begins with.
@@ -190,10 +190,10 @@ pub fn canonical_shortest(
 {
     let mut near = [0u8; 64];
     let mut room = [0u8; 208];
-    canonical_near(text, asked, &mut near, &mut room, out, needed, end)
+    canonical_padded(text, asked, &mut near, &mut room, out, needed, end)
 }
 
-/// The same of a text of up to [`SHORT`] bytes.
+/// Answers a text of up to [`SHORT`] bytes with the canonical text of what it begins with.
 #[inline(always)]
 pub fn canonical_short(
     text: &[u8],
@@ -208,11 +208,11 @@ pub fn canonical_short(
 {
     let mut near = [0u8; 256];
     let mut room = [0u8; 544];
-    canonical_near(text, asked, &mut near, &mut room, out, needed, end)
+    canonical_padded(text, asked, &mut near, &mut room, out, needed, end)
 }
 
-/// The same, with cleared bytes for the text and room for the answer.
-fn canonical_near(
+/// Answers a short text with its canonical text, with cleared bytes for the text and room for the answer.
+fn canonical_padded(
     text: &[u8],
     asked: u32,
     near: &mut [u8],
@@ -230,7 +230,7 @@ fn canonical_near(
     match write_short(text, asked, near, room) {
         Ok((at, n)) => {
             *end = at;
-            hand_out_front(text, at, asked, &room[..n], out, needed)
+            copy_out_front(text, at, asked, &room[..n], out, needed)
         }
         Err(status) => status,
     }
@@ -246,7 +246,7 @@ fn laws<const D: u32>()
     one_text::<Decimal<D>>();
 }
 
-/// The same, of so many places.
+/// What holds of decimals of so many places: one text is one value.
 fn laws_at(places: u32)
     requires { places ≤ 18 }
     ensures writable { FrontIsWritable (IsUnits places) (read_at places) }
@@ -273,8 +273,8 @@ pub fn judge(
     asked: u32,
 ) -> bool
     requires places { places_in asked ≤ 18 }
-    requires first { IsCanonical (read_at (places_in asked)) (print_at (places_in asked)) one.now first.now end }
-    requires second { IsCanonical (read_at (places_in asked)) (print_at (places_in asked)) other.now second.now other_end }
+    requires first { IsCanonicalOf (read_at (places_in asked)) (print_at (places_in asked)) one.now first.now end }
+    requires second { IsCanonicalOf (read_at (places_in asked)) (print_at (places_in asked)) other.now second.now other_end }
     ensures { Compares (read_at (places_in asked)) (print_at (places_in asked)) one.now other.now end other_end result }
 {
     // No effect at run time. The proof reads that one text is one value.
@@ -303,9 +303,9 @@ pub fn same_short(one: &[u8], other: &[u8], asked: u32) -> Result<Compared, u32>
         Ok(written) => written,
         Err(status) => return Err(status),
     };
-    let mut other_near = [0u8; 256];
+    let mut other_padded = [0u8; 256];
     let mut second = [0u8; 544];
-    let (other_end, m) = match write_short(other, asked, &mut other_near, &mut second) {
+    let (other_end, m) = match write_short(other, asked, &mut other_padded, &mut second) {
         Ok(written) => written,
         Err(status) => return Err(status),
     };

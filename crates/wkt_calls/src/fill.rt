@@ -5,7 +5,7 @@ ghost use Rattle.wkt_calls.specs.Answer.{with_front, IsHandedOut, HasNoRoom};
 use crate::status::{DONE, SMALL};
 
 /// How many items are copied at once.
-const PIECE: usize = 256;
+const COPIED_AT_ONCE: usize = 256;
 
 /// Puts the list to the front of the buffer, which has room for it.
 #[inline(always)]
@@ -16,8 +16,8 @@ pub fn copy_to_front<T: Copy>(list: &[T], out: &mut [T])
     let size = list.len();
     let mut at = 0;
     // In pieces, which the C library copies by vectors and not byte by byte.
-    'pieces: while size - at > PIECE {
-        let end = at + PIECE;
+    'pieces: while size - at > COPIED_AT_ONCE {
+        let end = at + COPIED_AT_ONCE;
         out[at..end].copy_from_slice(&list[at..end]);
         at = end;
     }
@@ -42,8 +42,8 @@ pub fn copy_whole<T: Copy>(list: &[T], out: &mut [T])
     copy_to_front(list, out);
 }
 
-/// Hands out an answer, if there is room for it.
-pub fn hand_out(answer: &[u8], out: &mut [u8], needed: &mut usize) -> u32
+/// Copies out an answer, if there is room for it.
+pub fn copy_out(answer: &[u8], out: &mut [u8], needed: &mut usize) -> u32
     ensures stands { result ≡ DONE → IsHandedOut answer.now needed.new out.old out.new }
     ensures lacks { result ≡ SMALL → HasNoRoom answer.now needed.new out.old }
     ensures kept { 1 ≤ result → out.new ≡ out.old }

@@ -1,7 +1,7 @@
 //! The flat arrays of the geometry that a text begins with.
 ghost use Rattle.std.specs.Prelude.{◌≡◌, ◌≤◌, ◌↔◌, IsTrue, IsUtf8, IfSome, MatchResult, length, drop, true};
 ghost use Rattle.wkt_read.specs.Front.{HasNoFront};
-ghost use Rattle.wkt_calls.specs.Answer.{places_in, read_at, Refuses};
+ghost use Rattle.wkt_calls.specs.Answer.{places_in, read_at, RefusesText};
 ghost use Rattle.wkt_calls.specs.Flat.{IsFlat, IsFlatPoint};
 ghost use Rattle.wkt_calls.specs.Arrays.{IsNotFlat};
 
@@ -11,7 +11,7 @@ use crate::infer::{number_of_dimension, number_of_kind};
 use crate::refusal::refusal;
 use crate::status::NOT_TEXT;
 use wkt_fill::{Filler, Room, fill_arrays};
-use wkt_machine::{NearPoint, near_point};
+use wkt_machine::{FastPoint, fast_point};
 use wkt_num::Decimal;
 
 /// Flat arrays with the kind, the dimension and the end of their geometry.
@@ -71,7 +71,7 @@ fn is_text_from(text: &[u8], end: usize) -> bool
 #[inline(never)]
 fn refused<const D: u32>(text: &[u8]) -> u32
     requires { IsUtf8 text.now → HasNoFront (read_at D) text.now }
-    ensures { Refuses (read_at D) text.now result }
+    ensures { RefusesText (read_at D) text.now result }
 {
     match str::from_utf8(text) {
         Ok(text) => refusal::<D>(text),
@@ -79,7 +79,7 @@ fn refused<const D: u32>(text: &[u8]) -> u32
     }
 }
 
-/// The same, with decimals of so many places.
+/// The flat arrays of a text's front, or why it has none, with decimals of so many places.
 fn flat_at<'a>(text: &[u8], places: u32, room: Room<'a>) -> Result<Flat<'a>, u32>
     requires { places ≤ 18 }
     ensures { MatchResult result (IsFlat places text.now) (IsNotFlat places text.now) }
@@ -87,7 +87,7 @@ fn flat_at<'a>(text: &[u8], places: u32, room: Room<'a>) -> Result<Flat<'a>, u32
     at_places!(places, make_flat(text, room), unreachable!())
 }
 
-/// The same, with decimals of as many places as are asked for.
+/// The flat arrays of a text's front, or why it has none, with decimals of as many places as are asked for.
 pub fn flat_asked<'a>(text: &[u8], asked: u32, room: Room<'a>) -> Result<Flat<'a>, u32>
     requires { places_in asked ≤ 18 }
     ensures { MatchResult result (IsFlat (places_in asked) text.now) (IsNotFlat (places_in asked) text.now) }
@@ -97,10 +97,10 @@ pub fn flat_asked<'a>(text: &[u8], asked: u32, room: Room<'a>) -> Result<Flat<'a
 
 /// The point of two numbers at the front of a text. `None` doesn't imply that none stands there.
 #[inline(always)]
-pub fn make_point<const D: u32>(text: &[u8]) -> Option<NearPoint>
+pub fn make_point<const D: u32>(text: &[u8]) -> Option<FastPoint>
     ensures { IfSome result (λ p. IsFlatPoint D text.now p) }
 {
-    let Some(point) = near_point::<D>(text) else {
+    let Some(point) = fast_point::<D>(text) else {
         return None;
     };
     if !is_text_from(text, point.end) {
@@ -112,7 +112,7 @@ pub fn make_point<const D: u32>(text: &[u8]) -> Option<NearPoint>
 /// Puts it there, and returns whether there is one. A point that is returned would come through memory that is cleared for
 /// each text.
 #[inline(always)]
-fn put_point<const D: u32>(text: &[u8], point: &mut NearPoint) -> bool
+fn put_point<const D: u32>(text: &[u8], point: &mut FastPoint) -> bool
     ensures { result ≡ true → IsFlatPoint D text.now point.new }
 {
     match make_point::<D>(text) {
@@ -124,9 +124,10 @@ fn put_point<const D: u32>(text: &[u8], point: &mut NearPoint) -> bool
     }
 }
 
-/// The same, with decimals of as many places as are asked for.
+/// Puts the point at the front of a text there, with decimals of as many places as are asked for, and returns whether
+/// there is one.
 #[inline(never)]
-pub(crate) fn find_point(text: &[u8], asked: u32, point: &mut NearPoint) -> bool
+pub(crate) fn find_point(text: &[u8], asked: u32, point: &mut FastPoint) -> bool
     requires { places_in asked ≤ 18 }
     ensures { result ≡ true → IsFlatPoint (places_in asked) text.now point.new }
 {

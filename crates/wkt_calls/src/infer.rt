@@ -1,6 +1,6 @@
 //! The kind and the dimension of a header, as numbers.
 ghost use Rattle.std.specs.Prelude.{◌≡◌, MatchResult};
-ghost use Rattle.wkt_calls.specs.Answer.{kind_number, dimension_number, IsNamed, NamesNone};
+ghost use Rattle.wkt_calls.specs.Answer.{kind_number, dimension_number, IsHeaderOf, NamesNone};
 
 use crate::status::NOT_TEXT;
 use wkt_read::{HeaderError, infer_header};
@@ -15,7 +15,7 @@ pub const NO_PAREN: u32 = 3;
 
 /// The numbers of the kind and of the dimension that the header of a text names, or why it names none.
 pub fn infer(text: &[u8]) -> Result<(u32, u32), u32>
-    ensures { MatchResult result (λ r. IsNamed text.now r.0 r.1) (NamesNone text.now) }
+    ensures { MatchResult result (λ r. IsHeaderOf text.now r.0 r.1) (NamesNone text.now) }
 {
     let Ok(text) = str::from_utf8(text) else {
         return Err(NOT_TEXT);

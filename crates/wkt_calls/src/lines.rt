@@ -4,7 +4,7 @@ ghost use Rattle.wkt_lines.specs.InRoom.{AnswersBehind};
 ghost use Rattle.wkt_lines.specs.Splitting.{before_feed};
 ghost use Rattle.wkt_lines.specs.Output.{IsOutput};
 ghost use Rattle.wkt_calls.specs.Answer.{read_at, print_at};
-ghost use Rattle.wkt_calls.specs.Chunks.{AnswersSure, AreWholeLines, IsStuck, ends_here};
+ghost use Rattle.wkt_calls.specs.Chunks.{AnswersSure, AreWholeLines, IsChunkStuck, ends_here};
 
 use crate::at_places;
 use crate::room::has_room;
@@ -16,7 +16,7 @@ use wkt_lines::{Answer, answer_line};
 use wkt_num::Decimal;
 
 /// How many bytes of an input are looked at together for whole lines, mostly.
-const NEAR: usize = 65536;
+const SUM_AT_ONCE: usize = 65536;
 
 /// How many bytes of an input are answered, and how many bytes the answers take.
 #[derive(Clone, Copy)]
@@ -61,7 +61,7 @@ fn most_for(room: usize) -> usize
     if room < 65 {
         return 0;
     }
-    ((room - 65) / 2).min(NEAR)
+    ((room - 65) / 2).min(SUM_AT_ONCE)
 }
 
 /// The lesser of two places.
@@ -91,7 +91,7 @@ pub fn answer_lines<const D: u32>(
     ensures answers { IsOutput (read_at D) (print_at D) (take result.taken input.now) (take result.written out.new) }
     ensures whole { length out.new ≡ length out.old }
     ensures goes { done.taken ≤ result.taken }
-    ensures stuck { IsStuck last (drop result.taken input.now) (length out.new - result.written) }
+    ensures stuck { IsChunkStuck last (drop result.taken input.now) (length out.new - result.written) }
 {
     // No effect at run time. The proof reads that the output for parts is the outputs for them.
     output_of_parts::<Decimal<D>>();
@@ -133,7 +133,7 @@ fn sure_lines<const D: u32>(input: &[u8], last: bool, out: &mut [u8]) -> Answere
     answer_lines::<D>(input, last, none, out)
 }
 
-/// The same, with decimals of so many places.
+/// Answers whole lines at the front of the input as [`sure_lines`] does, with decimals of so many places.
 pub fn sure_lines_at(input: &[u8], places: u32, last: bool, out: &mut [u8]) -> Answered
     requires { places ≤ 18 }
     ensures { AnswersSure (read_at places) (print_at places) last input.now result.taken result.written out.new }

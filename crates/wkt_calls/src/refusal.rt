@@ -1,6 +1,6 @@
 //! Why a text is refused.
 ghost use Rattle.wkt_read.specs.Front.{HasNoFront};
-ghost use Rattle.wkt_calls.specs.Answer.{read_at, Refuses};
+ghost use Rattle.wkt_calls.specs.Answer.{read_at, RefusesText};
 
 use wkt_num::Decimal;
 
@@ -9,7 +9,7 @@ use wkt_num::Decimal;
 #[inline(never)]
 pub(crate) fn refusal<const D: u32>(text: &str) -> u32
     requires { HasNoFront (read_at D) text.now }
-    ensures { Refuses (read_at D) text.now result }
+    ensures { RefusesText (read_at D) text.now result }
 {
     wkt_explain::message::<Decimal<D>>(text).number()
 }

@@ -1,4 +1,4 @@
-//! What a call answers, as a number.
+//! What a call returns, as a number.
 /// Done.
 pub const DONE: u32 = 0;
 /// A text isn't UTF-8.

@@ -9,12 +9,12 @@ use Rattle.wkt_access.specs.Values.{size}
 use Rattle.wkt_machine.specs.Events.{Event, axis_of, numbers, further, listed}
 use Rattle.wkt_machine.specs.declared.part.Part.{Part}
 use Rattle.wkt_canonical.specs.PenMaker.{write_append}
-use Rattle.wkt_canonical.specs.Written.{Written, separator, empty_text, added, write, write_all}
+use Rattle.wkt_canonical.specs.Written.{EventsWritten, separator, empty_text, added, write, write_all}
 
-pub added_twice : (bs cs : List ℕ) (w : Written) → added cs (added bs w) ≡ added (bs ++ cs) w
+pub added_twice : (bs cs : List ℕ) (w : EventsWritten) → added cs (added bs w) ≡ added (bs ++ cs) w
 added_twice bs cs w = ap (λ l. record { bytes = l; polygon = w.polygon }) (append_assoc w.bytes bs cs)
 
-added_none : (w : Written) → w ≡ added [] w
+added_none : (w : EventsWritten) → w ≡ added [] w
 added_none w = ap (λ l. record { bytes = l; polygon = w.polygon }) (sym (append-nil w.bytes))
 
 -- the axes after the first have a space before them
@@ -49,11 +49,11 @@ first XYZM (suc (suc (suc n))) h = refl
 module _ {N : Type 0} (num : N → List ℕ) where
   -- events that add bytes, and leave the polygon's place
   abbrev pub Adds : List (Event N) → List ℕ → Type 0
-  Adds es bs = (w : Written) → write_all num es w ≡ added bs w
+  Adds es bs = (w : EventsWritten) → write_all num es w ≡ added bs w
 
   -- events that add bytes
   abbrev pub Writes : List (Event N) → List ℕ → Type 0
-  Writes es bs = (w : Written) → (write_all num es w).bytes ≡ w.bytes ++ bs
+  Writes es bs = (w : EventsWritten) → (write_all num es w).bytes ≡ w.bytes ++ bs
 
   pub adds_both : (es fs : List (Event N)) (bs cs : List ℕ) → Adds es bs → Adds fs cs → Adds (es ++ fs) (bs ++ cs)
   adds_both es fs bs cs h k w = write_append num es fs w ∙ ap (write_all num fs) (h w) ∙ k (added bs w) ∙ added_twice bs cs w
@@ -65,7 +65,7 @@ module _ {N : Type 0} (num : N → List ℕ) where
   pub writes_added : (es : List (Event N)) (bs : List ℕ) → Adds es bs → Writes es bs
   writes_added es bs h w = ap (λ x. x.bytes) (h w)
 
-  pub adds_one : (e : Event N) (bs : List ℕ) → ((w : Written) → write num e w ≡ added bs w) → Adds (e ∷ []) bs
+  pub adds_one : (e : Event N) (bs : List ℕ) → ((w : EventsWritten) → write num e w ≡ added bs w) → Adds (e ∷ []) bs
   adds_one e bs h w = h w
 
   number_adds : (d : Dimension) (n : ℕ) (x : N) (bs : List ℕ) → separator (axis_of d n) ≡ bs → Adds (Event.Number (axis_of d n) x ∷ []) (bs ++ num x)
@@ -109,7 +109,7 @@ module _ {N : Type 0} (num : N → List ℕ) where
     so es bs cs e h = subst (R es) e h
 
     module _ {A : Type 0} (Good : A → Type 0) (item : A → List (Event N)) (t : A → List ℕ) (each : (x : A) → Good x → R (item x) (t x)) (p : Part)
-        (closes : (w : Written) → write num (Event.Close p) w ≡ added (codes ")") w) (opens : (w : Written) → write num (Event.Open p) w ≡ added (codes "(") w) where
+        (closes : (w : EventsWritten) → write num (Event.Close p) w ≡ added (codes ")") w) (opens : (w : EventsWritten) → write num (Event.Open p) w ≡ added (codes "(") w) where
       further_is : (xs : List A) → AllByRecursion Good xs → R (further p item xs) (flat_map (λ u. codes "," ++ u) (map t xs) ++ codes ")")
       further_is [] g = plain (Event.Close p ∷ []) (codes ")") closes
       further_is (x ∷ xs) (g, gs) =
@@ -130,13 +130,13 @@ module _ {N : Type 0} (num : N → List ℕ) where
 
   -- a line, a ring, or a point of a multipoint
   pub line_adds : {A : Type 0} (Good : A → Type 0) (item : A → List (Event N)) (t : A → List ℕ) → ((x : A) → Good x → Adds (item x) (t x)) → (p : Part)
-      → ((w : Written) → write num (Event.Close p) w ≡ added (codes ")") w) → ((w : Written) → write num (Event.Open p) w ≡ added (codes "(") w) → empty_text p ≡ codes "EMPTY"
+      → ((w : EventsWritten) → write num (Event.Close p) w ≡ added (codes ")") w) → ((w : EventsWritten) → write num (Event.Open p) w ≡ added (codes "(") w) → empty_text p ≡ codes "EMPTY"
       → (xs : List A) → AllByRecursion Good xs → Adds (listed p item xs) (listed_text (map t xs))
   line_adds {A} Good item t each p closes opens empty xs g =
       so Adds adds_both (λ es bs h. h) (listed p item xs) (items_text p (map t xs)) (listed_text (map t xs)) (items_inner p (map t xs) empty) (listed_is Adds adds_both (λ es bs h. h) Good item t each p closes opens xs g)
 
   -- items behind a parenthesis, each after a comma, and what closes
-  pub tail_is : {A : Type 0} (Good : A → Type 0) (item : A → List (Event N)) (t : A → List ℕ) → ((x : A) → Good x → Adds (item x) (t x)) → (p : Part) (xs : List A) (w : Written) → AllByRecursion Good xs
+  pub tail_is : {A : Type 0} (Good : A → Type 0) (item : A → List (Event N)) (t : A → List ℕ) → ((x : A) → Good x → Adds (item x) (t x)) → (p : Part) (xs : List A) (w : EventsWritten) → AllByRecursion Good xs
       → write_all num (further p item xs) w ≡ write num (Event.Close p) (added (flat_map (λ u. codes "," ++ u) (map t xs)) w)
   tail_is Good item t each p [] w g = ap (write num (Event.Close p)) (added_none w)
   tail_is Good item t each p (x ∷ xs) w (g, gs) =

@@ -1,10 +1,10 @@
 pub mod Adding
 pub mod Polygons
 pub mod Texts
-pub mod Stores
+pub mod AfterStore
 pub mod Shortest
 pub mod PenNumbers
 pub mod Utf8Texts
-pub mod Backs
+pub mod PenOutput
 pub mod ShortTexts
 pub mod Told

@@ -11,7 +11,7 @@ use Rattle.wkt_machine.specs.declared.part.Axis.{Axis}
 use Rattle.wkt_machine.specs.declared.part.Axis.TheVariants as axis
 use Rattle.wkt_machine.proofs.Shown.{padded-shows}
 use Rattle.wkt_canonical.specs.PenMaker.{pen_maker, Numbered}
-use Rattle.wkt_canonical.specs.Pens.{Becomes, Extends, Wrote, IsStuck, written_of}
+use Rattle.wkt_canonical.specs.Pens.{PenBecomes, Extends, Wrote, IsPenStuck, written_of}
 use Rattle.wkt_canonical.specs.Written.{separator, added}
 use Rattle.wkt_canonical.specs.declared.pen.Pen.{Pen}
 use Rattle.wkt_canonical.proofs.Shortest.{shortest-longer, plain, without-shortest, shortest-some}
@@ -25,7 +25,7 @@ extends_more s t u bs cs h k = record {
   written = k.written ∙ ap (λ l. l ++ cs) h.written ∙ append_assoc (take s.len s.out.now) bs cs;
 }
 
-pub becomes_of : {N : Type 0} (s t : Pen N) (bs : List ℕ) → Extends s bs t → Becomes s (added bs (written_of s)) t
+pub becomes_of : {N : Type 0} (s t : Pen N) (bs : List ℕ) → Extends s bs t → PenBecomes s (added bs (written_of s)) t
 becomes_of s t bs h = record {
   origin = h.origin;
   whole = h.whole;
@@ -90,7 +90,7 @@ module _ {N : Type 0} (read : List ℕ → Option N) (num : N → List ℕ) (tex
   }
 
   -- one that didn't
-  pub stuck-number : IsStuck (length self.out.now) pen → number_cost (without_plus (slice_range text at end)) ≤ length (num x) → Numbered read num text at self pen end
+  pub stuck-number : IsPenStuck (length self.out.now) pen → number_cost (without_plus (slice_range text at end)) ≤ length (num x) → Numbered read num text at self pen end
   stuck-number stuck long =
       let less = stuck.less in let none = stuck.none in let some = some-cost in
       record {

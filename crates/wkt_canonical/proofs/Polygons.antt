@@ -9,11 +9,11 @@ use Rattle.wkt_access.specs.Texts.{separated, listed as listed_text}
 use Rattle.wkt_machine.specs.Events.{Event, further, listed}
 use Rattle.wkt_machine.specs.declared.part.Part.{Part}
 use Rattle.wkt_canonical.specs.PenMaker.{write_append}
-use Rattle.wkt_canonical.specs.Written.{Written, empty_text, is_polygon, is_hollow, opened, closed, polygon_closed, write, write_all}
+use Rattle.wkt_canonical.specs.Written.{EventsWritten, empty_text, is_polygon, is_hollow, opened, closed, polygon_closed, write, write_all}
 use Rattle.wkt_canonical.proofs.Adding.{Adds, Writes, added_twice, tail_is, items_text}
 
 -- a polygon's parenthesis, and more behind it
-abbrev begun : List ℕ → List ℕ → Written
+abbrev begun : List ℕ → List ℕ → EventsWritten
 begun bs more = record { bytes = (bs ++ codes "(") ++ more; polygon = length bs }
 
 behind : (bs more : List ℕ) → get_or ((bs ++ codes "(") ++ more) (length bs + 1) 0 ≡ get_or more 0 0
@@ -49,18 +49,18 @@ module _ {N : Type 0} (num : N → List ℕ) {A : Type 0} (Good : List A → Typ
   ring x = listed_text (map t x)
 
   -- up to the parenthesis that closes
-  whole_is : (r : List A) (rs : List (List A)) (w : Written) → Good r → AllByRecursion Good rs
+  whole_is : (r : List A) (rs : List (List A)) (w : EventsWritten) → Good r → AllByRecursion Good rs
       → write_all num (listed p item (r ∷ rs)) w ≡ write num (Event.Close p) (begun w.bytes (ring r ++ flat_map (λ u. codes "," ++ u) (map ring rs)))
   whole_is r rs w g gs =
       let ts : List ℕ = flat_map (λ u. codes "," ++ u) (map ring rs) in
-      let open_one : Written = record { bytes = w.bytes ++ codes "("; polygon = length w.bytes } in
+      let open_one : EventsWritten = record { bytes = w.bytes ++ codes "("; polygon = length w.bytes } in
       ap (λ b. write_all num (item r ++ further p item rs) (opened b w)) is
       ∙ write_append num (item r) (further p item rs) open_one
       ∙ ap (write_all num (further p item rs)) (each r g open_one)
       ∙ tail_is num Good item ring each p rs (begun w.bytes (ring r)) gs
       ∙ ap (write num (Event.Close p)) (added_twice (ring r) ts open_one)
 
-  close_is : (b : Bool) (w : Written) → is_hollow w ≡ b → write num (Event.Close p) w ≡ polygon_closed b p w
+  close_is : (b : Bool) (w : EventsWritten) → is_hollow w ≡ b → write num (Event.Close p) w ≡ polygon_closed b p w
   close_is b w e = ap (λ b. closed b p w) is ∙ ap (λ b. polygon_closed b p w) e
 
   pub polygon_is : (rs : List (List A)) → AllByRecursion Good rs → Writes num (listed p item rs) (items_text num p (map ring (full rs)))

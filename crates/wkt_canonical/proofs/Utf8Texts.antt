@@ -14,10 +14,10 @@ use Rattle.wkt_machine.specs.declared.part.Axis.TheVariants as axis
 use Rattle.wkt_machine.specs.declared.part.Part.{Part}
 use Rattle.wkt_machine.specs.declared.part.Part.TheVariants as part
 use Rattle.wkt_canonical.specs.PenMaker.{EachNumber}
-use Rattle.wkt_canonical.specs.Written.{Written, kind_text, empty_text, separator, is_polygon, is_hollow, added, opened, closed, polygon_closed, write_all}
+use Rattle.wkt_canonical.specs.Written.{EventsWritten, kind_text, empty_text, separator, is_polygon, is_hollow, added, opened, closed, polygon_closed, write_all}
 
 -- All is text, and so is what stands before the last polygon's parenthesis.
-pub record AreTexts (w : Written) : Type 0 where
+pub record AreTexts (w : EventsWritten) : Type 0 where
   pub within : w.polygon ≤ length w.bytes
   pub all : IsUtf8 w.bytes
   pub front : IsUtf8 (take w.polygon w.bytes)
@@ -67,14 +67,14 @@ comma_utf8 : IsUtf8 (codes ",")
 unfolding encode
 comma_utf8 = (codes ",", (refl, refl))
 
-added_texts : (bs : List ℕ) (w : Written) → IsUtf8 bs → AreTexts w → AreTexts (added bs w)
+added_texts : (bs : List ℕ) (w : EventsWritten) → IsUtf8 bs → AreTexts w → AreTexts (added bs w)
 added_texts bs w u h = record {
   within = omega (arith, h.within, length-append w.bytes bs);
   all = IsUtf8-append w.bytes bs h.all u;
   front = subst IsUtf8 (sym (take-append-le w.polygon w.bytes bs h.within)) h.front;
 }
 
-opened_texts : (b : Bool) (w : Written) → AreTexts w → AreTexts (opened b w)
+opened_texts : (b : Bool) (w : EventsWritten) → AreTexts w → AreTexts (opened b w)
 opened_texts false w h = added_texts (codes "(") w open_utf8 h
 opened_texts true w h = record {
   within = omega (arith, length-append w.bytes (codes "("));
@@ -82,7 +82,7 @@ opened_texts true w h = record {
   front = subst IsUtf8 (sym (take-append_seam w.bytes (codes "("))) h.all;
 }
 
-taken_texts : (b : Bool) (p : Part) (w : Written) → AreTexts w → AreTexts (polygon_closed b p w)
+taken_texts : (b : Bool) (p : Part) (w : EventsWritten) → AreTexts w → AreTexts (polygon_closed b p w)
 taken_texts false p w h = added_texts (codes ")") w close_utf8 h
 taken_texts true p w h =
     let long : length (take w.polygon w.bytes) ≡ w.polygon = length-take-le w.polygon w.bytes h.within in
@@ -94,12 +94,12 @@ taken_texts true p w h =
       front = subst IsUtf8 (sym same) h.front;
     }
 
-closed_texts : (b : Bool) (p : Part) (w : Written) → AreTexts w → AreTexts (closed b p w)
+closed_texts : (b : Bool) (p : Part) (w : EventsWritten) → AreTexts w → AreTexts (closed b p w)
 closed_texts false p w h = added_texts (codes ")") w close_utf8 h
 closed_texts true p w h = taken_texts (is_hollow w) p w h
 
 module _ {N : Type 0} (num : N → List ℕ) where
-  pub events_texts : (es : List (Event N)) (w : Written) → EachNumber (λ x. IsUtf8 (num x)) es → AreTexts w → AreTexts (write_all num es w)
+  pub events_texts : (es : List (Event N)) (w : EventsWritten) → EachNumber (λ x. IsUtf8 (num x)) es → AreTexts w → AreTexts (write_all num es w)
   events_texts [] w u h = h
   events_texts (Event.Header p d ∷ es) w (u, us) h = events_texts es _ us (added_texts (kind_text p ++ suffix d) w (IsUtf8-append (kind_text p) (suffix d) (kind_utf8 p) (suffix_utf8 d)) h)
   events_texts (Event.Open p ∷ es) w (u, us) h = events_texts es _ us (opened_texts (is_polygon p) w h)

@@ -4,7 +4,7 @@ use Rattle.wkt_access.specs.Values.{Value}
 use Rattle.wkt_access.specs.Shapes.{shape_of}
 use Rattle.wkt_access.specs.Texts.{shape_text}
 use Rattle.wkt_read.specs.Front.{Front, HasNoFront}
-use Rattle.wkt_events.specs.Left.{line_of}
+use Rattle.wkt_events.specs.Remaining.{line_of}
 pub use Rattle.wkt_read.specs.Explained.{EndsFront}
 use Rattle.wkt_canonical.specs.LongTexts.{HasLongText}
 use Rattle.wkt_canonical.specs.declared.canonical.NoRoom.{NoRoom}

@@ -5,9 +5,9 @@ use Rattle.wkt_access.specs.Texts.{shape_text}
 use Rattle.wkt_access.specs.Values.{Value}
 use Rattle.wkt_access.specs.WellFormed.{IsWellFormed}
 use Rattle.wkt_machine.specs.Events.{events}
-use Rattle.wkt_canonical.specs.Written.{Written, write_all}
+use Rattle.wkt_canonical.specs.Written.{EventsWritten, write_all}
 
 -- The events of a value whose coordinates fit their headers add its canonical text.
 abbrev pub WritesTexts : {N : Type 0} → (is_value : N → Type 0) → (num : N → List ℕ) → Type 0
 WritesTexts {N} is_value num =
-    (v : Value N) (w : Written) → IsWellFormed is_value v → (write_all num (events v) w).bytes ≡ w.bytes ++ shape_text num (shape_of v)
+    (v : Value N) (w : EventsWritten) → IsWellFormed is_value v → (write_all num (events v) w).bytes ≡ w.bytes ++ shape_text num (shape_of v)

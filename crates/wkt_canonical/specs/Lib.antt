@@ -6,4 +6,4 @@ pub mod PenMaker
 pub mod Spaces
 pub mod Canonical
 pub mod Through
-pub mod Rooms
+pub mod GrowingRooms

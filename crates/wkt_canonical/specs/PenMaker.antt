@@ -4,14 +4,14 @@ use Rattle.std.specs.List.{AllByRecursion}
 use Rattle.std.proofs.Common.{refl, sym, ap, ◌∙◌, arith, inl, inr}
 use Rattle.std.proofs.lemmas.Bool.{cases_lt}
 use Rattle.wkt_read.specs.Lexemes.{starts_number, without_plus}
-use Rattle.wkt_events.specs.Left.{IsRunEnd}
+use Rattle.wkt_events.specs.Remaining.{IsRunEnd}
 use Rattle.wkt_events.specs.Numbers.{IsNumberAt}
 use Rattle.wkt_machine.specs.Events.{Event}
 use Rattle.wkt_machine.specs.Makers.{Maker}
 use Rattle.wkt_machine.specs.Room.{number_cost}
 use Rattle.wkt_canonical.specs.LongTexts.{HasLongText}
-use Rattle.wkt_canonical.specs.Pens.{Becomes, Wrote, written_of}
-use Rattle.wkt_canonical.specs.Written.{Written, write, write_all}
+use Rattle.wkt_canonical.specs.Pens.{PenBecomes, Wrote, written_of}
+use Rattle.wkt_canonical.specs.Written.{EventsWritten, write, write_all}
 use Rattle.wkt_canonical.specs.declared.pen.Pen.{Pen}
 
 -- The fact holds of the number of an event, if it has one.
@@ -27,7 +27,7 @@ each_append : {N : Type 0} (P : N → Type 0) (es fs : List (Event N)) → EachN
 each_append P [] fs h k = k
 each_append P (e ∷ es) fs (h, hs) k = (h, each_append P es fs hs k)
 
-pub write_append : {N : Type 0} (num : N → List ℕ) (es fs : List (Event N)) (w : Written) → write_all num (es ++ fs) w ≡ write_all num fs (write_all num es w)
+pub write_append : {N : Type 0} (num : N → List ℕ) (es fs : List (Event N)) (w : EventsWritten) → write_all num (es ++ fs) w ≡ write_all num fs (write_all num es w)
 write_append num [] fs w = refl
 write_append num (e ∷ es) fs w = write_append num es fs (write num e w)
 
@@ -35,7 +35,7 @@ module _ {N : Type 0} (read : List ℕ → Option N) (num : N → List ℕ) wher
   -- Unless the pen is stuck, it has written the events, and the text of each number is UTF-8. Where it is stuck a number's text is long.
   pub record Made (s : Pen N) (es : List (Event N)) (t : Pen N) : Type 0 where
     pub shorter : length t.out.now ≤ length s.out.now
-    pub wrote : length t.out.now ≡ length s.out.now → Becomes s (write_all num es (written_of s)) t
+    pub wrote : length t.out.now ≡ length s.out.now → PenBecomes s (write_all num es (written_of s)) t
     pub texts : length t.out.now ≡ length s.out.now → EachNumber (λ x. IsUtf8 (num x)) es
     pub stuck : length t.out.now < length s.out.now → HasLongText read num
 
@@ -47,7 +47,7 @@ module _ {N : Type 0} (read : List ℕ → Option N) (num : N → List ℕ) wher
     stuck = λ less. absurd (omega (arith, less));
   }
 
-  becomes_more : (s t u : Pen N) (es fs : List (Event N)) → Becomes s (write_all num es (written_of s)) t → Becomes t (write_all num fs (written_of t)) u → Becomes s (write_all num (es ++ fs) (written_of s)) u
+  becomes_more : (s t u : Pen N) (es fs : List (Event N)) → PenBecomes s (write_all num es (written_of s)) t → PenBecomes t (write_all num fs (written_of t)) u → PenBecomes s (write_all num (es ++ fs) (written_of s)) u
   becomes_more s t u es fs h k = record {
     origin = k.origin ∙ h.origin;
     whole = k.whole ∙ h.whole;

@@ -1,10 +1,10 @@
 -- What a pen has written.
 use Rattle.std.specs.Prelude.{◌≡◌, ℕ, ◌+◌, ◌≤◌, List, ◌++◌, length, take, IsUtf8}
-use Rattle.wkt_canonical.specs.Written.{Written}
+use Rattle.wkt_canonical.specs.Written.{EventsWritten}
 use Rattle.wkt_canonical.specs.declared.pen.Pen.{Pen}
 
 -- what a pen has written, and where in it the parenthesis of the last polygon stands
-abbrev pub written_of : {T : Type 0} → Pen T → Written
+abbrev pub written_of : {T : Type 0} → Pen T → EventsWritten
 written_of p = record { bytes = take p.len p.out.now; polygon = p.polygon }
 
 -- There are so many bytes behind what is written.
@@ -12,7 +12,7 @@ abbrev pub HasBytes : {T : Type 0} → Pen T → ℕ → Type 0
 HasBytes p n = p.len + n ≤ length p.out.now
 
 -- This is written now, in the same bytes. What stands behind it does not count.
-pub record Becomes {T : Type 0} (before : Pen T) (w : Written) (after : Pen T) : Type 0 where
+pub record PenBecomes {T : Type 0} (before : Pen T) (w : EventsWritten) (after : Pen T) : Type 0 where
   pub origin : after.out.ghost_name ≡ before.out.ghost_name
   pub whole : length after.out.now ≡ length before.out.now
   pub written : written_of after ≡ w
@@ -25,7 +25,7 @@ pub record Extends {T : Type 0} (before : Pen T) (text : List ℕ) (after : Pen 
   pub polygon : after.polygon ≡ before.polygon
   pub written : take after.len after.out.now ≡ take before.len before.out.now ++ text
 
--- The same, unless the pen is stuck and has a byte less.
+-- A text was put behind what is written, unless the pen is stuck and has a byte less.
 pub record Wrote {T : Type 0} (before : Pen T) (text : List ℕ) (after : Pen T) : Type 0 where
   pub shorter : length after.out.now ≤ length before.out.now
   pub unless : length after.out.now ≡ length before.out.now → Extends before text after
@@ -41,7 +41,7 @@ pub record IsFresh {T : Type 0} (room : List ℕ) (pen : Pen T) : Type 0 where
   pub first : pen.polygon ≡ 0
 
 -- The pen has a byte less than so many, and has written nothing.
-pub record IsStuck {T : Type 0} (n : ℕ) (pen : Pen T) : Type 0 where
+pub record IsPenStuck {T : Type 0} (n : ℕ) (pen : Pen T) : Type 0 where
   pub less : length pen.out.now + 1 ≡ n
   pub none : pen.len ≡ 0
 

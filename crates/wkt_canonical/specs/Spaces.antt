@@ -7,7 +7,7 @@ use Rattle.wkt_num.specs.Sink.{Sink}
 use Rattle.wkt_canonical.specs.declared.space.Space.{Space}
 
 -- The text, which is UTF-8, stands behind what was written, in the same bytes.
-pub record Gives (s : Space) (bs : List ℕ) (t : Space) : Type 0 where
+pub record SpaceGives (s : Space) (bs : List ℕ) (t : Space) : Type 0 where
   pub origin : t.out.ghost_name ≡ s.out.ghost_name
   pub whole : length t.out.now ≡ length s.out.now
   pub len : t.len ≡ s.len + length bs
@@ -20,7 +20,7 @@ pub record Lacks (s : Space) (bs : List ℕ) (t : Space) : Type 0 where
   pub whole : length t.out.now ≡ length s.out.now
   pub room : length s.out.now < s.len + length bs
 
-pub gives_more : (s t u : Space) (bs cs : List ℕ) → Gives s bs t → Gives t cs u → Gives s (bs ++ cs) u
+pub gives_more : (s t u : Space) (bs cs : List ℕ) → SpaceGives s bs t → SpaceGives t cs u → SpaceGives s (bs ++ cs) u
 gives_more s t u bs cs h k = record {
   origin = k.origin ∙ h.origin;
   whole = k.whole ∙ h.whole;
@@ -29,10 +29,10 @@ gives_more s t u bs cs h k = record {
   utf8 = IsUtf8-append bs cs h.utf8 k.utf8;
 }
 
-pub gives_none : (s : Space) → Gives s [] s
+pub gives_none : (s : Space) → SpaceGives s [] s
 gives_none s = record { origin = refl; whole = refl; len = omega arith; text = sym (append-nil (take s.len s.out.now)); utf8 = IsUtf8-nil }
 
-pub lacks_after : (s t u : Space) (bs cs : List ℕ) → Gives s bs t → Lacks t cs u → Lacks s (bs ++ cs) u
+pub lacks_after : (s t u : Space) (bs cs : List ℕ) → SpaceGives s bs t → Lacks t cs u → Lacks s (bs ++ cs) u
 lacks_after s t u bs cs h k = record { origin = k.origin ∙ h.origin; whole = k.whole ∙ h.whole; room = omega (arith, h.whole, h.len, k.room, length-append bs cs) }
 
 pub lacks_longer : (s t : Space) (bs cs : List ℕ) → Lacks s bs t → Lacks s (bs ++ cs) t
@@ -41,7 +41,7 @@ lacks_longer s t bs cs h = record { origin = h.origin; whole = h.whole; room = o
 -- A call fails only where there is no room.
 abbrev pub space_sink : Sink Space
 space_sink = record {
-  gives = Gives;
+  gives = SpaceGives;
   leaves = Lacks;
   failures = λ s. s.failures;
   none = gives_none;

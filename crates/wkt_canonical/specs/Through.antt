@@ -4,7 +4,7 @@ use Rattle.wkt_access.specs.Values.{Value}
 use Rattle.wkt_read.specs.Front.{Front, HasNoFront}
 use Rattle.wkt_read.specs.Refusal.{IsRefusedWith}
 use Rattle.wkt_read.specs.declared.messages.Message.{Message}
-use Rattle.wkt_events.specs.Left.{line_of}
+use Rattle.wkt_events.specs.Remaining.{line_of}
 use Rattle.wkt_machine.specs.Events.{events}
 use Rattle.wkt_machine.specs.Stops.{StopsAt}
 use Rattle.wkt_machine.specs.declared.machine.Machine.{Machine}

@@ -8,7 +8,7 @@ use Rattle.wkt_machine.specs.declared.part.Part.{Part}
 use Rattle.wkt_machine.specs.declared.part.Part.TheVariants as part
 
 -- What is written, and where in it the parenthesis of the last polygon stands.
-pub record Written : Type 0 where
+pub record EventsWritten : Type 0 where
   pub bytes : List ℕ
   pub polygon : ℕ
 
@@ -45,31 +45,31 @@ is_polygon part.Area = true
 is_polygon p = false
 
 -- more bytes
-abbrev pub added : List ℕ → Written → Written
+abbrev pub added : List ℕ → EventsWritten → EventsWritten
 added bs w = record { bytes = w.bytes ++ bs; polygon = w.polygon }
 
 -- whether the first ring of the last polygon is EMPTY: any other begins with a parenthesis
-abbrev pub is_hollow : Written → Bool
+abbrev pub is_hollow : EventsWritten → Bool
 is_hollow w = nat_le (w.polygon + 6) (length w.bytes) && get_or w.bytes (w.polygon + 1) 0 == 69
 
 -- the parenthesis of a part, whose place is kept if it is a polygon
-abbrev pub opened : Bool → Written → Written
+abbrev pub opened : Bool → EventsWritten → EventsWritten
 opened true w = record { bytes = w.bytes ++ codes "("; polygon = length w.bytes }
 opened false w = added (codes "(") w
 
 -- A polygon whose first ring is EMPTY is EMPTY itself: what was written of it is taken back.
-abbrev pub polygon_closed : Bool → Part → Written → Written
+abbrev pub polygon_closed : Bool → Part → EventsWritten → EventsWritten
 polygon_closed true p w = record { bytes = take w.polygon w.bytes ++ empty_text p; polygon = w.polygon }
 polygon_closed false p w = added (codes ")") w
 
 -- the parenthesis that closes a part
-abbrev pub closed : Bool → Part → Written → Written
+abbrev pub closed : Bool → Part → EventsWritten → EventsWritten
 closed true p w = polygon_closed (is_hollow w) p w
 closed false p w = added (codes ")") w
 
 module _ {N : Type 0} (num : N → List ℕ) where
   -- what is written after an event
-  abbrev pub write : Event N → Written → Written
+  abbrev pub write : Event N → EventsWritten → EventsWritten
   write (Event.Header p d) w = added (kind_text p ++ suffix d) w
   write (Event.Open p) w = opened (is_polygon p) w
   write (Event.Comma p) w = added (codes ",") w
@@ -78,6 +78,6 @@ module _ {N : Type 0} (num : N → List ℕ) where
   write (Event.Number a x) w = added (separator a ++ num x) w
 
   -- and after events, one after another
-  abbrev pub write_all : List (Event N) → Written → Written
+  abbrev pub write_all : List (Event N) → EventsWritten → EventsWritten
   write_all [] w = w
   write_all (e ∷ es) w = write_all es (write e w)

@@ -79,9 +79,9 @@ pub fn canonical_or_message<T: WktNum>(
     }
 }
 
-/// Writes the canonical text of the geometry that the text begins with behind the first `len` bytes, and answers where it
-/// ends in the text and how much is written then; `None` where the text begins with none. There is room for twice the
-/// text, and 65 bytes more.
+/// Writes the canonical text of the geometry that the text begins with behind the first `len` bytes, and returns where
+/// it ends in the text and how much is written then; `None` where the text begins with none. There is room for twice
+/// the text, and 65 bytes more.
 ///
 /// # Errors
 /// [`NoRoom`]; what stands behind the first `len` bytes means nothing then.
@@ -99,7 +99,8 @@ pub fn write_canonical<T: WktNum>(
     write_front::<T, false>(text.as_bytes(), out, len)
 }
 
-/// The same of bytes, which where `FEED_ENDS` end at the first LF. Where they are no UTF-8 the answer may be `None`.
+/// Writes the canonical text of what bytes begin with, which where `FEED_ENDS` end at the first LF. Where they are no
+/// UTF-8 the result may be `None`.
 ///
 /// # Errors
 /// Those of [`write_canonical`].
@@ -122,7 +123,7 @@ pub fn write_front<T: WktNum, const FEED_ENDS: bool>(
     }
 }
 
-/// The same from the first byte on.
+/// Writes the canonical text of what bytes begin with from the first byte of `out` on.
 #[inline(always)]
 fn write_alone<T: WktNum, const FEED_ENDS: bool>(
     text: &[u8],

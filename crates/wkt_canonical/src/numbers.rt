@@ -14,7 +14,7 @@ use wkt_machine::padded;
 use wkt_num::WktNum;
 
 /// How many bytes a window has.
-const WINDOW: usize = 32;
+const PEN_WINDOW: usize = 32;
 
 /// From where on the shortest run stands that is the same number's: past a plus, unless nothing or another stands behind it.
 #[inline(always)]
@@ -114,25 +114,25 @@ impl<'a, T: WktNum> Pen<'a, T> {
             return self.other_number(text, at);
         }
         let rest = &text[at..];
-        if rest.len() >= WINDOW {
-            if let Some((end, kept)) = T::kept_in_window(rest) {
+        if rest.len() >= PEN_WINDOW {
+            if let Some((end, kept)) = T::canonical_prefix_simd(rest) {
                 return (self.put_front(rest, kept), Some(at + end));
             }
         }
-        self.number_far(text, at)
+        self.slow_number(text, at)
     }
 
-    /// What it answers comes through memory, whose place is cleared here, away from the way before it; but not where the
-    /// last polygon stands, which is as it was.
+    /// What it returns comes through memory, whose place is cleared here, away from the way before it; but not where
+    /// the last polygon stands, which is as it was.
     #[inline(always)]
-    fn number_far(self, text: &[u8], at: usize) -> (Self, Option<usize>)
+    fn slow_number(self, text: &[u8], at: usize) -> (Self, Option<usize>)
         requires at { at ≤ length text.now }
         requires room { HasSpace self text.now at }
         ensures some { IfSome result.1 (Numbered T.read T.num text.now at self.entry result.0) }
         ensures none { IfNone result.1 (NoNumber T.read text.now at) }
     {
         let polygon = self.polygon;
-        let (pen, end) = self.number_apart(text, at);
+        let (pen, end) = self.slow_number_outlined(text, at);
         let Pen {
             out,
             len,
@@ -148,19 +148,19 @@ impl<'a, T: WktNum> Pen<'a, T> {
         (pen, end)
     }
 
-    /// The same for a number that no window shows whole, or that isn't written as it stands.
+    /// Puts a number that no window shows whole, or that isn't written as it stands.
     #[cold]
     #[inline(never)]
-    fn number_apart(self, text: &[u8], at: usize) -> (Self, Option<usize>)
+    fn slow_number_outlined(self, text: &[u8], at: usize) -> (Self, Option<usize>)
         requires at { at ≤ length text.now }
         requires room { HasSpace self text.now at }
         ensures some { IfSome result.1 (Numbered T.read T.num text.now at self.entry result.0) }
         ensures none { IfNone result.1 (NoNumber T.read text.now at) }
     {
         let rest = &text[at..];
-        if T::reads_texts() && rest.len() < WINDOW {
+        if T::reads_texts() && rest.len() < PEN_WINDOW {
             let window = padded(rest);
-            if let Some((end, kept)) = T::kept_in_window(&window) {
+            if let Some((end, kept)) = T::canonical_prefix_simd(&window) {
                 return (self.put_front(&window, kept), Some(at + end));
             }
         }

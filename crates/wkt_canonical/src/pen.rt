@@ -1,7 +1,7 @@
 //! The pen: what the machine tells is written as it comes.
 ghost use Rattle.std.specs.Prelude.{◌≡◌, ◌+◌, ◌≤◌, ◌∷◌, [], length, take, true};
 ghost use Rattle.wkt_access.specs.Texts.{suffix};
-ghost use Rattle.wkt_canonical.specs.Pens.{HasBytes, Extends, Becomes, IsFresh, IsStuck, IsWithin, written_of};
+ghost use Rattle.wkt_canonical.specs.Pens.{HasBytes, Extends, PenBecomes, IsFresh, IsPenStuck, IsWithin, written_of};
 ghost use Rattle.wkt_canonical.specs.Written.{kind_text, empty_text, separator, is_polygon, is_hollow, opened, closed};
 
 use std::marker::PhantomData;
@@ -49,7 +49,7 @@ impl<'a, T> Pen<'a, T> {
     /// A pen that is stuck.
     pub(crate) fn stuck(out: &'a mut [u8]) -> Pen<'a, T>
         requires { 1 ≤ length out.old }
-        ensures { IsStuck (length out.old) result }
+        ensures { IsPenStuck (length out.old) result }
     {
         let n = out.len() - 1;
         Pen {
@@ -176,7 +176,7 @@ impl<'a, T> Pen<'a, T> {
     #[inline(always)]
     fn open_polygon(self) -> Self
         requires { HasBytes self 1 }
-        ensures becomes { Becomes self.entry (opened true (written_of self.entry)) result }
+        ensures becomes { PenBecomes self.entry (opened true (written_of self.entry)) result }
         ensures len { result.len ≡ self.entry.len + 1 }
     {
         let Pen {
@@ -210,7 +210,7 @@ impl<'a, T> Pen<'a, T> {
     #[inline(always)]
     fn close_polygon(self, part: Part) -> Self
         requires { HasBytes self 64 }
-        ensures becomes { Becomes self.entry (closed true part (written_of self.entry)) result }
+        ensures becomes { PenBecomes self.entry (closed true part (written_of self.entry)) result }
         ensures len { result.len ≤ self.entry.len + 1 }
     {
         if !self.is_hollow() {

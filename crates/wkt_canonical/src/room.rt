@@ -1,6 +1,6 @@
 //! Rooms for canonical texts, which grow as longer ones come.
 ghost use Rattle.std.specs.Prelude.{◌+◌, ◌*◌, ◌≤◌, OnOk, vec_len};
-ghost use Rattle.wkt_canonical.specs.Rooms.{HoldsCanonical};
+ghost use Rattle.wkt_canonical.specs.GrowingRooms.{HoldsCanonical};
 
 use crate::canonical::{NoRoom, TextWritten, canonical_into};
 use std::alloc::AllocError;

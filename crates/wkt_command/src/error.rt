@@ -6,7 +6,7 @@ use wkt_bytes::ReadAllError;
 
 /// Why a run can't go on.
 #[derive(Debug, Drop, Error)]
-pub enum RunError {
+pub enum CommandError {
     /// A file can't be read; the run goes on with the next.
     #[error("{0}")]
     Input(io::Error),
@@ -19,29 +19,29 @@ pub enum RunError {
     Memory(#[from] AllocError),
 }
 
-impl RunError {
+impl CommandError {
     /// Reading failed; out of memory has its own variant.
-    pub fn input(error: io::Error) -> RunError {
+    pub fn input(error: io::Error) -> CommandError {
         match error.kind() {
-            ErrorKind::OutOfMemory => RunError::Memory(AllocError),
-            _ => RunError::Input(error),
+            ErrorKind::OutOfMemory => CommandError::Memory(AllocError),
+            _ => CommandError::Input(error),
         }
     }
 
     /// Writing failed; out of memory has its own variant.
-    pub fn output(error: io::Error) -> RunError {
+    pub fn output(error: io::Error) -> CommandError {
         match error.kind() {
-            ErrorKind::OutOfMemory => RunError::Memory(AllocError),
-            _ => RunError::Output(error),
+            ErrorKind::OutOfMemory => CommandError::Memory(AllocError),
+            _ => CommandError::Output(error),
         }
     }
 }
 
-impl From<ReadAllError> for RunError {
-    fn from(error: ReadAllError) -> RunError {
+impl From<ReadAllError> for CommandError {
+    fn from(error: ReadAllError) -> CommandError {
         match error {
-            ReadAllError::Read(error) => RunError::input(error),
-            ReadAllError::Memory(error) => RunError::Memory(error),
+            ReadAllError::Read(error) => CommandError::input(error),
+            ReadAllError::Memory(error) => CommandError::Memory(error),
         }
     }
 }

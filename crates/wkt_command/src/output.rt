@@ -6,7 +6,7 @@ use std::alloc::Global;
 use std::io::{self, BufWriter, IsTerminal, Stdout, Write};
 
 // How much is gathered before it is written, where standard output is no terminal.
-const HELD: usize = 65536;
+const BUFFERED: usize = 65536;
 
 /// Standard output, which gathers what is written; on a terminal, up to a text's end alone.
 #[derive(Drop)]
@@ -22,7 +22,7 @@ impl Output<Stdout> {
         let stdout = rt.stdout();
         let is_terminal = stdout.is_terminal();
         Ok(Output {
-            writer: BufWriter::with_capacity(alloc, HELD, stdout)?,
+            writer: BufWriter::with_capacity(alloc, BUFFERED, stdout)?,
             is_terminal,
         })
     }

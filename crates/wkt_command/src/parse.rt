@@ -120,7 +120,7 @@ pub fn parse(alloc: Global, words: &[String]) -> Result<Request, UsageError> {
     Ok(Request::Run(options))
 }
 
-/// Reads the words after the command into the options; answers what is asked for besides a run.
+/// Reads the words after the command into the options; returns what is asked for besides a run.
 fn read_words(
     alloc: Global,
     words: Words<'_>,
@@ -217,7 +217,7 @@ fn read_letters(
     Ok(None)
 }
 
-/// Keeps what an option says; answers what it asks for besides a run.
+/// Keeps what an option says; returns what it asks for besides a run.
 fn set(
     alloc: Global,
     word: &str,

@@ -35,7 +35,7 @@ impl<'a> Origin<'a> {
 
 /// Why a text is refused.
 #[derive(Clone, Copy)]
-pub enum Refusal<'a> {
+pub enum TextRefusal<'a> {
     /// It has no geometry at its front.
     Text(Explanation<'a>),
     /// More than white space follows its geometry, which ends at this byte.
@@ -70,12 +70,12 @@ fn push_place(out: &mut String, origin: Origin<'_>, before: &[u8]) -> Result<(),
 pub fn push_refusal(
     out: &mut String,
     origin: Origin<'_>,
-    refusal: Refusal<'_>,
+    refusal: TextRefusal<'_>,
     places: u32,
 ) -> Result<(), AllocError> {
     let (text, start, end) = match refusal {
-        Refusal::Text(why) => (why.text, why.start, why.end),
-        Refusal::Rest(text, end) => {
+        TextRefusal::Text(why) => (why.text, why.start, why.end),
+        TextRefusal::Rest(text, end) => {
             let rest = past_white(text, end);
             (text, rest, rest)
         }
@@ -83,14 +83,14 @@ pub fn push_refusal(
     let bytes = text.as_bytes();
     push_place(out, origin, bytes.get(..start).unwrap_or(bytes))?;
     match refusal {
-        Refusal::Text(why) => {
+        TextRefusal::Text(why) => {
             let expected = why.expected;
             write!(out, "{expected} was expected")?;
             if let Some(hint) = why.hint(places) {
                 write!(out, " ({hint})")?;
             }
         }
-        Refusal::Rest(_, _) => out.push_str("more follows the geometry")?,
+        TextRefusal::Rest(_, _) => out.push_str("more follows the geometry")?,
     }
     let excerpt = Excerpt::around(text, start, end);
     write!(out, "\n{excerpt}")

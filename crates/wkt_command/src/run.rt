@@ -5,14 +5,14 @@ ghost use Rattle.wkt_command.specs.Canon.{out_bytes, refused_line, Canonizes};
 ghost use Rattle.wkt_command.specs.declared.options.Command.TheVariants.{Canon};
 
 use crate::dups::{self, Seen, Spot};
-use crate::error::RunError;
+use crate::error::CommandError;
 use crate::input::{Input, NulLines, swap_ends};
 use crate::numbers::verdict_at;
 use crate::options::{Command, Ends, Options};
 use crate::output::Output;
 use crate::place::place_after;
 use crate::progress::{Progress, Tally};
-use crate::report::{Origin, Refusal, Thousands, push_not_utf8, push_refusal};
+use crate::report::{Origin, TextRefusal, Thousands, push_not_utf8, push_refusal};
 use crate::verdict::{Verdict, written};
 use crate::{canon, kind};
 use std::alloc::Global;
@@ -47,15 +47,15 @@ fn shown_name(name: &str) -> &str {
 impl<'a> Run<'a, Stdout> {
     /// # Errors
     /// Out of memory, or the system gives no random numbers.
-    pub fn new(rt: &HostRuntime, options: &'a Options) -> Result<Run<'a, Stdout>, RunError> {
+    pub fn new(rt: &HostRuntime, options: &'a Options) -> Result<Run<'a, Stdout>, CommandError> {
         let alloc = rt.alloc();
         Ok(Run {
             alloc,
             options,
-            out: Output::new(rt, alloc).map_err(RunError::output)?,
+            out: Output::new(rt, alloc).map_err(CommandError::output)?,
             room: Vec::new(alloc),
             report: String::new(alloc),
-            seen: Seen::new(rt).map_err(RunError::input)?,
+            seen: Seen::new(rt).map_err(CommandError::input)?,
             tally: Tally {
                 texts: 0,
                 refused: 0,
@@ -81,12 +81,17 @@ impl<'a, W: Write + Drop> Run<'a, W> {
                 || self.options.max > 0 && refused >= self.options.max)
     }
 
-    /// Reads a file, whose number in the run is given, and answers its texts.
+    /// Reads a file, whose number in the run is given, and returns its texts.
     ///
     /// # Errors
     /// The file can't be read, standard output fails, or out of memory.
-    pub fn read_file(&mut self, rt: &HostRuntime, file: usize, name: &str) -> Result<(), RunError> {
-        let input = Input::open(rt, name).map_err(RunError::input)?;
+    pub fn read_file(
+        &mut self,
+        rt: &HostRuntime,
+        file: usize,
+        name: &str,
+    ) -> Result<(), CommandError> {
+        let input = Input::open(rt, name).map_err(CommandError::input)?;
         self.progress = Progress::new(rt, self.options.progress, input.size());
         self.file = file;
         self.line = 1;
@@ -107,7 +112,7 @@ impl<'a, W: Write + Drop> Run<'a, W> {
         rt: &HostRuntime,
         name: &str,
         lines: Lines<R>,
-    ) -> Result<(), RunError> {
+    ) -> Result<(), CommandError> {
         let mut lines = lines;
         let mut text = Vec::new(self.alloc);
         for _ in 0..u64::MAX {
@@ -131,14 +136,14 @@ impl<'a, W: Write + Drop> Run<'a, W> {
         rt: &HostRuntime,
         name: &str,
         source: R,
-    ) -> Result<(), RunError> {
+    ) -> Result<(), CommandError> {
         let mut source = source;
         let text = read_all(self.alloc, &mut source)?;
         self.take(rt, name, text.as_slice())
     }
 
     /// Answers a text, and goes on to the next.
-    fn take(&mut self, rt: &HostRuntime, name: &str, text: &[u8]) -> Result<(), RunError>
+    fn take(&mut self, rt: &HostRuntime, name: &str, text: &[u8]) -> Result<(), CommandError>
         ensures canon { self.old.options.now.command ≡ Canon → OnOk result (Canonizes self.old.options.now text.now
             (out_bytes W.contents self.old.out) (out_bytes W.contents self.new.out)) }
     {
@@ -149,7 +154,7 @@ impl<'a, W: Write + Drop> Run<'a, W> {
         }
         match self.out.end_text() {
             Ok(()) => {}
-            Err(error) => return Err(RunError::output(error)),
+            Err(error) => return Err(CommandError::output(error)),
         }
         let lines = match self.options.ends {
             Ends::Line => 1,
@@ -161,7 +166,7 @@ impl<'a, W: Write + Drop> Run<'a, W> {
         Ok(())
     }
 
-    fn answer(&mut self, rt: &HostRuntime, name: &str, text: &[u8]) -> Result<(), RunError>
+    fn answer(&mut self, rt: &HostRuntime, name: &str, text: &[u8]) -> Result<(), CommandError>
         ensures canon { self.old.options.now.command ≡ Canon → OnOk result (Canonizes self.old.options.now text.now
             (out_bytes W.contents self.old.out) (out_bytes W.contents self.new.out)) }
     {
@@ -182,8 +187,8 @@ impl<'a, W: Write + Drop> Run<'a, W> {
         let front = self.options.front;
         match verdict_at(self.alloc, text, places, front, &mut self.room)? {
             Verdict::Read(len) => self.put_answer(origin, text, len),
-            Verdict::Refused(why) => self.refuse_text(rt, origin, Refusal::Text(why)),
-            Verdict::Rest(end) => self.refuse_text(rt, origin, Refusal::Rest(text, end)),
+            Verdict::Refused(why) => self.refuse_text(rt, origin, TextRefusal::Text(why)),
+            Verdict::Rest(end) => self.refuse_text(rt, origin, TextRefusal::Rest(text, end)),
         }
     }
 
@@ -192,8 +197,8 @@ impl<'a, W: Write + Drop> Run<'a, W> {
         &mut self,
         rt: &HostRuntime,
         origin: Origin<'_>,
-        refusal: Refusal<'_>,
-    ) -> Result<(), RunError>
+        refusal: TextRefusal<'_>,
+    ) -> Result<(), CommandError>
         ensures canon { self.old.options.now.command ≡ Canon → OnOk result
             (Appends (out_bytes W.contents self.old.out) (out_bytes W.contents self.new.out)
             (refused_line self.old.options.now.refused)) }
@@ -205,7 +210,7 @@ impl<'a, W: Write + Drop> Run<'a, W> {
     }
 
     /// Answers a text that is read, whose canonical text has so many bytes in the room.
-    fn put_answer(&mut self, origin: Origin<'_>, text: &str, len: usize) -> Result<(), RunError>
+    fn put_answer(&mut self, origin: Origin<'_>, text: &str, len: usize) -> Result<(), CommandError>
         ensures canon { self.old.options.now.command ≡ Canon → OnOk result
             (Appends (out_bytes W.contents self.old.out) (out_bytes W.contents self.new.out)
             (take len self.old.room.items ++ 10 ∷ [])) }
@@ -242,12 +247,12 @@ impl<'a, W: Write + Drop> Run<'a, W> {
         };
         match put {
             Ok(()) => Ok(()),
-            Err(error) => Err(RunError::output(error)),
+            Err(error) => Err(CommandError::output(error)),
         }
     }
 
     /// Counts a refused text, and prints its report.
-    fn refuse(&mut self, rt: &HostRuntime) -> Result<(), RunError>
+    fn refuse(&mut self, rt: &HostRuntime) -> Result<(), CommandError>
         ensures canon { self.old.options.now.command ≡ Canon → OnOk result
             (Appends (out_bytes W.contents self.old.out) (out_bytes W.contents self.new.out)
             (refused_line self.old.options.now.refused)) }
@@ -256,7 +261,7 @@ impl<'a, W: Write + Drop> Run<'a, W> {
         if let Some(word) = &self.options.refused {
             match canon::put(&mut self.out, word.as_bytes()) {
                 Ok(()) => {}
-                Err(error) => return Err(RunError::output(error)),
+                Err(error) => return Err(CommandError::output(error)),
             }
         }
         if self.options.quiet {
@@ -267,7 +272,7 @@ impl<'a, W: Write + Drop> Run<'a, W> {
             return self
                 .out
                 .put(self.report.as_bytes())
-                .map_err(RunError::output);
+                .map_err(CommandError::output);
         }
         // Where standard error fails, the status still says it.
         let _ = rt.eprint(self.report.as_str());
@@ -278,11 +283,13 @@ impl<'a, W: Write + Drop> Run<'a, W> {
     ///
     /// # Errors
     /// Standard output fails, or out of memory.
-    pub fn finish(&mut self, rt: &HostRuntime) -> Result<(), RunError> {
+    pub fn finish(&mut self, rt: &HostRuntime) -> Result<(), CommandError> {
         if !self.options.quiet {
             let count = self.count()?;
             if self.options.command == Command::Check {
-                self.out.put(count.as_bytes()).map_err(RunError::output)?;
+                self.out
+                    .put(count.as_bytes())
+                    .map_err(CommandError::output)?;
             } else if self.tally.refused > 0 {
                 let _ = rt.eprint(count.as_str());
             }
@@ -294,11 +301,11 @@ impl<'a, W: Write + Drop> Run<'a, W> {
     ///
     /// # Errors
     /// Standard output fails.
-    pub fn put_out(&mut self) -> Result<(), RunError> {
-        self.out.finish().map_err(RunError::output)
+    pub fn put_out(&mut self) -> Result<(), CommandError> {
+        self.out.finish().map_err(CommandError::output)
     }
 
-    fn count(&self) -> Result<String, RunError> {
+    fn count(&self) -> Result<String, CommandError> {
         let refused = Thousands(self.tally.refused);
         let texts = Thousands(self.tally.texts);
         let what = match self.options.ends {

@@ -1,8 +1,8 @@
 //! `wkt same`: whether two texts name one geometry.
-use crate::error::RunError;
+use crate::error::CommandError;
 use crate::numbers::verdict_at;
 use crate::options::Options;
-use crate::report::{Origin, Refusal, push_refusal};
+use crate::report::{Origin, TextRefusal, push_refusal};
 use crate::verdict::{Verdict, written};
 use std::alloc::Global;
 
@@ -10,7 +10,7 @@ use std::alloc::Global;
 ///
 /// # Errors
 /// Standard output fails, or out of memory.
-pub fn status(rt: &HostRuntime, options: &Options) -> Result<u8, RunError> {
+pub fn status(rt: &HostRuntime, options: &Options) -> Result<u8, CommandError> {
     let alloc = rt.alloc();
     let mut one = Vec::new(alloc);
     let mut other = Vec::new(alloc);
@@ -26,7 +26,7 @@ pub fn status(rt: &HostRuntime, options: &Options) -> Result<u8, RunError> {
         } else {
             "two geometries"
         };
-        println!(rt; "{said}").map_err(RunError::output)?;
+        println!(rt; "{said}").map_err(CommandError::output)?;
     }
     Ok(if is_one { 0 } else { 1 })
 }
@@ -38,7 +38,7 @@ fn canonical(
     options: &Options,
     index: usize,
     room: &mut Vec<u8>,
-) -> Result<Option<usize>, RunError> {
+) -> Result<Option<usize>, CommandError> {
     let alloc: Global = rt.alloc();
     let text = match options.operands.get(index) {
         Some(text) => text.as_str(),
@@ -46,8 +46,8 @@ fn canonical(
     };
     let refusal = match verdict_at(alloc, text, options.places, false, room)? {
         Verdict::Read(len) => return Ok(Some(len)),
-        Verdict::Refused(why) => Refusal::Text(why),
-        Verdict::Rest(end) => Refusal::Rest(text, end),
+        Verdict::Refused(why) => TextRefusal::Text(why),
+        Verdict::Rest(end) => TextRefusal::Rest(text, end),
     };
     let name = if index == 0 {
         "first text"

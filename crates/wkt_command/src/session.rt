@@ -1,5 +1,5 @@
 //! A run from its arguments to its status.
-use crate::error::RunError;
+use crate::error::CommandError;
 use crate::help::{HELP, USAGE, VERSION};
 use crate::options::{Command, Options};
 use crate::parse::{Request, parse};
@@ -14,7 +14,7 @@ const REFUSED: u8 = 1;
 
 const FAILED: u8 = 2;
 
-/// Does what the program's arguments ask for, and answers its status.
+/// Does what the program's arguments ask for, and returns its status.
 pub fn status(rt: &HostRuntime) -> u8 {
     match words(rt) {
         Ok(words) => match parse(rt.alloc(), words.as_slice()) {
@@ -24,7 +24,7 @@ pub fn status(rt: &HostRuntime) -> u8 {
                 Ok(status) => status,
                 Err(error) => failed(rt, &error),
             },
-            Err(UsageError::Memory(error)) => failed(rt, &RunError::Memory(error)),
+            Err(UsageError::Memory(error)) => failed(rt, &CommandError::Memory(error)),
             Err(error) => misused(rt, &error),
         },
         Err(error) => failed(rt, &error),
@@ -32,12 +32,12 @@ pub fn status(rt: &HostRuntime) -> u8 {
 }
 
 /// The program's arguments after its name.
-fn words(rt: &HostRuntime) -> Result<Vec<String>, RunError> {
+fn words(rt: &HostRuntime) -> Result<Vec<String>, CommandError> {
     match env::args(rt) {
         Ok(words) => Ok(words.skip(1).collect(rt.alloc())?),
         Err(error) => match error.kind() {
-            ErrorKind::InvalidData => Err(RunError::Argument),
-            _ => Err(RunError::input(error)),
+            ErrorKind::InvalidData => Err(CommandError::Argument),
+            _ => Err(CommandError::input(error)),
         },
     }
 }
@@ -45,7 +45,7 @@ fn words(rt: &HostRuntime) -> Result<Vec<String>, RunError> {
 fn print(rt: &HostRuntime, text: &str) -> u8 {
     match print!(rt; "{text}") {
         Ok(()) => 0,
-        Err(error) => failed(rt, &RunError::output(error)),
+        Err(error) => failed(rt, &CommandError::output(error)),
     }
 }
 
@@ -55,9 +55,9 @@ fn misused(rt: &HostRuntime, error: &UsageError) -> u8 {
 }
 
 /// Reports why the run ended, unless its output is a closed pipe: nobody reads on then.
-fn failed(rt: &HostRuntime, error: &RunError) -> u8 {
+fn failed(rt: &HostRuntime, error: &CommandError) -> u8 {
     let is_closed = match error {
-        RunError::Output(error) => error.kind() == ErrorKind::BrokenPipe,
+        CommandError::Output(error) => error.kind() == ErrorKind::BrokenPipe,
         _ => false,
     };
     if !is_closed {
@@ -66,7 +66,7 @@ fn failed(rt: &HostRuntime, error: &RunError) -> u8 {
     FAILED
 }
 
-fn do_run(rt: &HostRuntime, options: &Options) -> Result<u8, RunError> {
+fn do_run(rt: &HostRuntime, options: &Options) -> Result<u8, CommandError> {
     if options.command == Command::Same {
         return same::status(rt, options);
     }
@@ -80,7 +80,7 @@ fn do_run(rt: &HostRuntime, options: &Options) -> Result<u8, RunError> {
                 status
             })
         }
-        Err(RunError::Output(error)) => Err(RunError::Output(error)),
+        Err(CommandError::Output(error)) => Err(CommandError::Output(error)),
         Err(error) => {
             // The answers to the texts before are whole.
             let _ = run.put_out();
@@ -94,7 +94,7 @@ fn read_all(
     rt: &HostRuntime,
     run: &mut Run<'_, Stdout>,
     options: &Options,
-) -> Result<u8, RunError> {
+) -> Result<u8, CommandError> {
     if options.operands.is_empty() {
         return read_one(rt, run, 0, "-");
     }
@@ -113,10 +113,10 @@ fn read_one(
     run: &mut Run<'_, Stdout>,
     file: usize,
     name: &str,
-) -> Result<u8, RunError> {
+) -> Result<u8, CommandError> {
     match run.read_file(rt, file, name) {
         Ok(()) => Ok(0),
-        Err(RunError::Input(error)) => {
+        Err(CommandError::Input(error)) => {
             let kind = error.kind();
             let _ = match kind {
                 ErrorKind::NotFound => eprintln!(rt; "wkt: {name}: no such file or directory"),

@@ -4,7 +4,7 @@ pub mod Opened
 pub mod OpenedFlat
 pub mod FlatKinds
 pub mod OpenedBack
-pub mod Backs
-pub mod Plain
-pub mod Sends
+pub mod FlatAndBackShapes
+pub mod PlainComesBack
+pub mod ShapeSends
 pub mod KindTrees

@@ -36,7 +36,7 @@ fn push_text<G: Written>(out: &mut String, g: &G) -> Result<(), Error>
     result
 }
 
-/// The text of a geometry. A refused growth of the string is `Memory`.
+/// The text of a geometry. A refused allocation of the string is `Memory`.
 pub(crate) fn string_of<G: Written>(alloc: Global, g: &G) -> Result<String, Error>
     ensures text { IfOk result (λ s. string_bytes s ≡ shape_text G.T.num (G.shape g.now)) }
     ensures sound { OnOk result (fault (G.shape g.now) ≡ None) }

@@ -3,8 +3,8 @@ use Rattle.std.proofs.Common.{◌≡◌, ◌≢◌, ◌↔◌, ℕ, ◌<◌, ref
 use Rattle.std.specs.Prelude.{not}
 use Rattle.std.proofs.lemmas.Bool.{cases_eq, ne_eqb, eq-eqb}
 use Rattle.wkt_num.specs.Bytes.{Lexeme, Open, Close, Comma, Word, Num, Class, Nul, White, Mark, Run, class_of}
-use Rattle.wkt_events.specs.Left.{class_in, left_placed}
-use Rattle.wkt_events.proofs.Lefts.{placed-white, within}
+use Rattle.wkt_events.specs.Remaining.{class_in, remaining_spanned}
+use Rattle.wkt_events.proofs.RemainingLexemes.{spanned-white, within}
 
 -- another byte than LF is the same in each text
 pub class-same : (feed : Bool) (b : ℕ) → b ≢ 10 → class_in feed b ≡ class_of b
@@ -66,8 +66,8 @@ module _ (feed : Bool) (text : List ℕ) where
   white-some at b e w h = let q : White ≡ Nul = sym w ∙ ap (class_in feed) e ∙ h in cc
 
   -- a step over white space
-  pub past-white : (at b : ℕ) → b ≡ get_or text at 0 → class_in feed b ≡ White → (at + 1 ≤ length text) × (left_placed feed text at ≡ left_placed feed text (at + 1))
+  pub past-white : (at b : ℕ) → b ≡ get_or text at 0 → class_in feed b ≡ White → (at + 1 ≤ length text) × (remaining_spanned feed text at ≡ remaining_spanned feed text (at + 1))
   past-white at b e w =
       let is : class_in feed (get_or text at 0) ≡ White = ap (class_in feed) (sym e) ∙ w in
       let inside = within feed text at White is (λ q. cc) in
-      (omega (arith, inside), placed-white feed text at is)
+      (omega (arith, inside), spanned-white feed text at is)

@@ -1,6 +1,6 @@
 -- What stands before the first line feed.
 use Rattle.std.proofs.Common.{◌≡◌, ℕ, zero, suc, ◌+◌, ◌≤◌, Bool, true, false, ◌==◌, if◌then◌else◌, List, [], ◌∷◌, length, drop, refl, sym, ap, ◌∙◌, arith}
-use Rattle.wkt_events.specs.Left.{before_feed}
+use Rattle.wkt_events.specs.Remaining.{before_feed}
 
 -- from a place of it on
 pub drop-line : (bs : List ℕ) (from : ℕ) → from ≤ length (before_feed bs) → (drop from (before_feed bs) ≡ before_feed (drop from bs)) × (length (before_feed bs) ≡ from + length (before_feed (drop from bs)))

@@ -3,13 +3,13 @@ use Rattle.std.proofs.Common.{◌≡◌, ◌≢◌, ℕ, ◌+◌, ◌≤◌, Lis
 use Rattle.std.proofs.lemmas.Bool.{cases_lt, eqb-true}
 use Rattle.std.proofs.lemmas.List.{length-drop, get_or_past}
 use Rattle.wkt_num.specs.Bytes.{Lexeme, Nul, class_of}
-use Rattle.wkt_read.specs.Placed.{Placed}
+use Rattle.wkt_read.specs.Spanned.{Spanned}
 use Rattle.wkt_read.proofs.TokenizerLemmas.Placings.{Stands, stands}
-use Rattle.wkt_events.specs.Left.{before_feed, line_of, Legible, class_in, left_placed, TakesOne}
+use Rattle.wkt_events.specs.Remaining.{before_feed, line_of, Legible, class_in, remaining_spanned, TakesOne}
 use Rattle.wkt_events.proofs.Feeds.{drop-line}
 
 -- the first lexeme ends within the bytes
-first-within : (at : ℕ) (bytes : List ℕ) (first : Placed) (later : List Placed) → Stands at bytes (first ∷ later) → first.end ≤ at + length bytes
+first-within : (at : ℕ) (bytes : List ℕ) (first : Spanned) (later : List Spanned) → Stands at bytes (first ∷ later) → first.end ≤ at + length bytes
 first-within at bytes first later (gap, body, after, e, w, s, n, st) =
     let count = ap length e ∙ length-append gap (body ++ after) in let more = length-append body after in omega (arith, n, count, more)
 
@@ -19,9 +19,9 @@ line-length true text at h = let d = drop-line text at h in let count = d.1 in o
 
 -- behind a lexeme
 pub legible-one : (feed : Bool) (text : List ℕ) (at : ℕ) (l : Lexeme) (to : ℕ) → TakesOne feed text at l to → Legible feed text at → Legible feed text to
-unfolding left_placed
+unfolding remaining_spanned
 legible-one feed text at l to t h =
-    let within = first-within at (line_of feed (drop at text)) (record { lexeme = l; end = to }) (left_placed feed text to) (subst (Stands at (line_of feed (drop at text))) t.next (stands at (line_of feed (drop at text)))) in
+    let within = first-within at (line_of feed (drop at text)) (record { lexeme = l; end = to }) (remaining_spanned feed text to) (subst (Stands at (line_of feed (drop at text))) t.next (stands at (line_of feed (drop at text)))) in
     let count = line-length feed text at h.1 in
     (h.0, omega (arith, within, count))
 

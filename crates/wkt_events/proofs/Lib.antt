@@ -1,4 +1,4 @@
-pub mod Lefts
+pub mod RemainingLexemes
 pub mod Classes
 pub mod Feeds
 pub mod Legibles

@@ -4,10 +4,10 @@ use Rattle.std.proofs.lemmas.Bool.{cases_lt}
 use Rattle.std.proofs.lemmas.List.Edits.{length-between, get_or-between}
 use Rattle.wkt_num.specs.Bytes.{Lexeme, Open, Close, Comma, Word, Num, Class, Nul, White, Mark, Run, class_of}
 use Rattle.wkt_read.specs.Lexemes.{lexeme_of, starts_number, without_plus}
-use Rattle.wkt_events.specs.Left.{Legible, class_in, left, IsMark, TakesOne}
+use Rattle.wkt_events.specs.Remaining.{Legible, class_in, remaining, IsMark, TakesOne}
 use Rattle.wkt_events.specs.Numbers.{IsNumberAt, NoNumber}
 use Rattle.wkt_events.proofs.Classes.{class-in-run}
-use Rattle.wkt_events.proofs.Lefts.{takes-mark, takes-run, takes-left, left-nul}
+use Rattle.wkt_events.proofs.RemainingLexemes.{takes-mark, takes-run, takes-remaining, remaining-nul}
 use Rattle.wkt_events.proofs.RunTexts.{number-text}
 
 -- a run that begins as a number is one
@@ -59,26 +59,26 @@ module _ {N : Type 0} (read : List ℕ → Option N) (feed : Bool) (text : List 
       subst (λ l. TakesOne feed text at l end) is (takes-run feed text at end h.ends h.order)
 
   -- where none is read, none that is read is the lexeme that comes next
-  pub no-number : Legible feed text at → class_in feed (get_or text at 0) ≢ White → NoNumber read text at → (run : List ℕ) (rest : List Lexeme) → left feed text at ≡ Num run ∷ rest → read run ≡ None
+  pub no-number : Legible feed text at → class_in feed (get_or text at 0) ≢ White → NoNumber read text at → (run : List ℕ) (rest : List Lexeme) → remaining feed text at ≡ Num run ∷ rest → read run ≡ None
   no-number legible other h run rest is = go (class_in feed (get_or text at 0)) refl (mark-in feed (get_or text at 0))
     where
       at-run : at < h.end → (t : Bool) → starts_number (get_or text at 0) ≡ t → read run ≡ None
       at-run order true e =
           let long : length (slice_range text at h.end) ≡ h.end - at = length-between text at h.end h.ends.inside in
           let number : lexeme_of (slice_range text at h.end) ≡ Num (without_plus (slice_range text at h.end)) = number-lexeme (slice_range text at h.end) (omega (arith, long, order)) (ap starts_number (first h.end order) ∙ e) in
-          let same : Num (without_plus (slice_range text at h.end)) ∷ left feed text h.end ≡ Num run ∷ rest = ap (λ l. l ∷ left feed text h.end) (sym number) ∙ sym (takes-left feed text at (lexeme_of (slice_range text at h.end)) h.end (takes-run feed text at h.end h.ends order)) ∙ is in
+          let same : Num (without_plus (slice_range text at h.end)) ∷ remaining feed text h.end ≡ Num run ∷ rest = ap (λ l. l ∷ remaining feed text h.end) (sym number) ∙ sym (takes-remaining feed text at (lexeme_of (slice_range text at h.end)) h.end (takes-run feed text at h.end h.ends order)) ∙ is in
           let runs : without_plus (slice_range text at h.end) ≡ run = cc in
           ap read (sym runs) ∙ h.none order e (number-text feed text at h.end legible h.ends order e)
       at-run order false e =
           let word : lexeme_of (slice_range text at h.end) ≡ Word (slice_range text at h.end) = word-lexeme (slice_range text at h.end) (ap starts_number (first h.end order) ∙ e) in
-          let same : Word (slice_range text at h.end) ∷ left feed text h.end ≡ Num run ∷ rest = ap (λ l. l ∷ left feed text h.end) (sym word) ∙ sym (takes-left feed text at (lexeme_of (slice_range text at h.end)) h.end (takes-run feed text at h.end h.ends order)) ∙ is in
+          let same : Word (slice_range text at h.end) ∷ remaining feed text h.end ≡ Num run ∷ rest = ap (λ l. l ∷ remaining feed text h.end) (sym word) ∙ sym (takes-remaining feed text at (lexeme_of (slice_range text at h.end)) h.end (takes-run feed text at h.end h.ends order)) ∙ is in
           cc
 
       go : (c : Class) → class_in feed (get_or text at 0) ≡ c → OnMark c → read run ≡ None
-      go Nul e m = let none : [] ≡ Num run ∷ rest = sym (left-nul feed text at e) ∙ is in cc
+      go Nul e m = let none : [] ≡ Num run ∷ rest = sym (remaining-nul feed text at e) ∙ is in cc
       go White e m = absurd (other e)
       go (Mark l) e m =
-          let same : l ∷ left feed text (at + 1) ≡ Num run ∷ rest = sym (takes-left feed text at l (at + 1) (takes-mark feed text at l e)) ∙ is in
+          let same : l ∷ remaining feed text (at + 1) ≡ Num run ∷ rest = sym (takes-remaining feed text at l (at + 1) (takes-mark feed text at l e)) ∙ is in
           let number : l ≡ Num run = cc in
           absurd (subst IsMark number m)
       go Run e m = elim (cases_lt at h.end) [

@@ -7,9 +7,9 @@ use Rattle.std.proofs.lemmas.List.Folds.{drop_split}
 use Rattle.std.proofs.lemmas.Str.{IsUtf8-drop, IsCharBoundary-before_ascii}
 use Rattle.wkt_read.specs.Lexemes.{IsBoundary, starts_number, without_plus}
 use Rattle.wkt_read.proofs.LawLemmas.Characters.{seam, past_ascii}
-use Rattle.wkt_events.specs.Left.{before_feed, line_of, Legible, IsRunEnd}
+use Rattle.wkt_events.specs.Remaining.{before_feed, line_of, Legible, IsRunEnd}
 use Rattle.wkt_events.proofs.Feeds.{drop-line}
-use Rattle.wkt_events.proofs.Lefts.{boundary-at, run-before_feed, boundary-before_feed}
+use Rattle.wkt_events.proofs.RemainingLexemes.{boundary-at, run-before_feed, boundary-before_feed}
 
 letter-digit : (b : ℕ) → 65 ≤ b → (nat_le 48 b && nat_le b 57) ≡ false
 letter-digit b h = elim (cases_Bool (nat_le 48 b && nat_le b 57)) [

@@ -1,4 +1,4 @@
-pub mod Left
+pub mod Remaining
 pub mod Windows
 pub mod Numbers
 pub mod Plus

@@ -1,7 +1,7 @@
 -- A number at a place of a text.
 use Rattle.std.specs.Prelude.{◌≡◌, ℕ, ◌<◌, List, get_or, slice_range, Option, Some, None, IsTrue, IsUtf8}
 use Rattle.wkt_read.specs.Lexemes.{starts_number, without_plus}
-use Rattle.wkt_events.specs.Left.{IsRunEnd}
+use Rattle.wkt_events.specs.Remaining.{IsRunEnd}
 
 -- The run from `at` to `end` is a number's, which is read as x.
 pub record IsNumberAt {T : Type 0} (read : List ℕ → Option T) (text : List ℕ) (at end : ℕ) (x : T) : Type 0 where

@@ -3,14 +3,14 @@
 ghost use Rattle.std.specs.Bool.{OnTrue};
 ghost use Rattle.std.specs.Prelude.{◌≡◌, ◌≢◌, ◌↔◌, ◌≤◌, ◌<◌, ◌+◌, ℕ, IsTrue, IsAscii, length, get_or, slice_range};
 ghost use Rattle.wkt_num.specs.Bytes.{White, Run, class_of};
-ghost use Rattle.wkt_events.specs.Left.{line_of, class_in, left_placed, IsRunEnd};
+ghost use Rattle.wkt_events.specs.Remaining.{line_of, class_in, remaining_spanned, IsRunEnd};
 ghost use Rattle.wkt_events.specs.Windows.{low_mask, high_mask};
 
 use std::simd::prelude::*;
 use wkt_read::words;
 
 /// The bytes of a window, in which most runs end.
-const WINDOW: usize = 32;
+const RUN_WINDOW: usize = 32;
 
 /// The byte at this place; past the end it is NUL, which ends a text too.
 #[inline(always)]
@@ -39,7 +39,7 @@ pub fn skip_white<const FEED_ENDS: bool>(text: &[u8], at: usize) -> usize
     ensures order { at ≤ result }
     ensures inside { result ≤ length text.now }
     ensures line { at ≤ length (line_of FEED_ENDS text.now) → result ≤ length (line_of FEED_ENDS text.now) }
-    ensures same { left_placed FEED_ENDS text.now at ≡ left_placed FEED_ENDS text.now result }
+    ensures same { remaining_spanned FEED_ENDS text.now at ≡ remaining_spanned FEED_ENDS text.now result }
     ensures white { (k : ℕ) → at ≤ k → k < result → class_in FEED_ENDS (get_or text.now k 0) ≡ White }
     ensures stops { class_in FEED_ENDS (get_or text.now result 0) ≢ White }
 {
@@ -58,7 +58,7 @@ fn skip_more<const FEED_ENDS: bool>(text: &[u8], from: usize) -> usize
     ensures order { from ≤ result }
     ensures inside { result ≤ length text.now }
     ensures line { from ≤ length (line_of FEED_ENDS text.now) → result ≤ length (line_of FEED_ENDS text.now) }
-    ensures same { left_placed FEED_ENDS text.now from ≡ left_placed FEED_ENDS text.now result }
+    ensures same { remaining_spanned FEED_ENDS text.now from ≡ remaining_spanned FEED_ENDS text.now result }
     ensures white { (k : ℕ) → from ≤ k → k < result → class_in FEED_ENDS (get_or text.now k 0) ≡ White }
     ensures stops { class_in FEED_ENDS (get_or text.now result 0) ≢ White }
 {
@@ -84,7 +84,7 @@ pub fn run_end(text: &[u8], from: usize) -> usize
     requires { from ≤ length text.now }
     ensures { IsRunEnd text.now from result }
 {
-    if text.len() - from >= WINDOW {
+    if text.len() - from >= RUN_WINDOW {
         let low = low_bytes(text, from);
         if low != 0 {
             let end = from + low.trailing_zeros() as usize;
@@ -93,7 +93,7 @@ pub fn run_end(text: &[u8], from: usize) -> usize
             }
         }
     }
-    run_end_far(text, from)
+    slow_run_end(text, from)
 }
 
 /// The bytes of the window that are no more than a comma, as bits: what ends a run is among them.
@@ -108,12 +108,12 @@ fn low_bytes(text: &[u8], from: usize) -> u64
 
 /// Whether the bytes of a run are ASCII; of one that is long, or ends near the text's end, it isn't asked.
 #[inline(always)]
-pub(crate) fn is_near_ascii(text: &[u8], from: usize, end: usize) -> bool
+pub(crate) fn is_ascii_fast(text: &[u8], from: usize, end: usize) -> bool
     requires order { from ≤ end }
     requires inside { end ≤ length text.now }
     ensures { OnTrue result (IsAscii (slice_range text.now from end)) }
 {
-    if text.len() - from < WINDOW || end - from > WINDOW {
+    if text.len() - from < RUN_WINDOW || end - from > RUN_WINDOW {
         return false;
     }
     high_bytes(text, from).trailing_zeros() as usize >= end - from
@@ -130,7 +130,7 @@ fn high_bytes(text: &[u8], from: usize) -> u64
 }
 
 #[inline(never)]
-fn run_end_far(text: &[u8], from: usize) -> usize
+fn slow_run_end(text: &[u8], from: usize) -> usize
     requires { from ≤ length text.now }
     ensures { IsRunEnd text.now from result }
 {

@@ -4,7 +4,7 @@ ghost use Rattle.wkt_read.specs.Lexemes.{starts_number};
 ghost use Rattle.wkt_events.specs.Numbers.{IsNumberAt, EndsNumber, NoNumber};
 ghost use Rattle.wkt_events.specs.Plus.{plus_len};
 
-use crate::bytes::{is_near_ascii, run_end};
+use crate::bytes::{is_ascii_fast, run_end};
 use wkt_num::WktNum;
 
 /// Where the number ends that stands there.
@@ -16,7 +16,7 @@ pub fn number_end<T: WktNum>(text: &[u8], at: usize) -> Option<usize>
 {
     let rest = &text[at..];
     if rest.len() >= 32 {
-        if let Some((end, _)) = T::kept_in_window(rest) {
+        if let Some((end, _)) = T::canonical_prefix_simd(rest) {
             return Some(at + end);
         }
     }
@@ -55,7 +55,7 @@ fn text_of(text: &[u8], from: usize, end: usize) -> Option<&str>
     ensures none { IfNone result (¬ (IsUtf8 (slice_range text.now from end))) }
 {
     let bytes = &text[from..end];
-    if is_near_ascii(text, from, end) {
+    if is_ascii_fast(text, from, end) {
         return Some(unsafe { str::from_utf8_unchecked(bytes) });
     }
     match str::from_utf8(bytes) {

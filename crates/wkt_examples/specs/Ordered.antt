@@ -11,7 +11,7 @@ module _ {T : Type 0} (read : List ℕ → Option T) where
   BeginsWith text [] rest = text ≡ rest
   BeginsWith text (t ∷ ts) rest = (end : ℕ) × IsFrontTo read text t end × BeginsWith (drop end text) ts rest
 
-  -- The same of a stream of lexemes.
+  -- A stream of lexemes begins with these geometries, each behind the one before it; then the rest follows.
   abbrev pub StreamBeginsWith : List Lexeme → List (Tree T) → List Lexeme → Type 0
   StreamBeginsWith lexemes [] rest = lexemes ≡ rest
   StreamBeginsWith lexemes (t ∷ ts) rest = (later : List Lexeme) × IsReadOff read lexemes t later × StreamBeginsWith later ts rest

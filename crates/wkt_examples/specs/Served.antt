@@ -11,8 +11,8 @@ use Rattle.wkt.specs.Explained.{IsRefusedAt}
 use Rattle.wkt.specs.Expected.{Expected}
 
 -- The line is a JSON document that is this string.
-abbrev pub Holds : List ℕ → List ℕ → Type 0
-Holds line text = IsUtf8 line × (read_json line ≡ Some (string text))
+abbrev pub IsJsonOf : List ℕ → List ℕ → Type 0
+IsJsonOf line text = IsUtf8 line × (read_json line ≡ Some (string text))
 
 -- The object that says where a text was refused, or null where there was none.
 abbrev pub refusal : Data → Data
@@ -36,11 +36,11 @@ module _ {N : Type 0} (read : List ℕ → Option N) (num : N → List ℕ) wher
 
   -- The line holds a text, which is answered.
   abbrev pub IsOfText : List ℕ → List ℕ → Type 0
-  IsOfText line answer = (text : List ℕ) × Holds line text × (IsTidied text answer ⊎ IsTurnedDown text answer)
+  IsOfText line answer = (text : List ℕ) × IsJsonOf line text × (IsTidied text answer ⊎ IsTurnedDown text answer)
 
   -- The line holds no text, and the answer says so.
   pub record IsOfNoText (line answer : List ℕ) : Type 0 where
-    pub none : (text : List ℕ) → Holds line text → ⊥
+    pub none : (text : List ℕ) → IsJsonOf line text → ⊥
     pub is : answer ≡ compact_text (refusal null)
 
   -- What a line is answered with.

@@ -2,7 +2,7 @@
 ghost use Rattle.std.specs.Prelude.{IfOk};
 ghost use Rattle.wkt.specs.Explained.{IsRefusedAt};
 ghost use Rattle.wkt.specs.Front.{HasNoFront};
-ghost use Rattle.wkt_examples.specs.Refusal.{IsAnswer};
+ghost use Rattle.wkt_examples.specs.Refusal.{IsRefusalAnswer};
 
 use std::alloc::{AllocError, Global};
 use wkt::{Expected, Explanation, ReadError, WktNum, canonical_text, explain};
@@ -21,7 +21,7 @@ pub enum Answer {
 /// # Errors
 /// Out of memory.
 pub fn answer_to<T: WktNum>(alloc: Global, text: &str) -> Result<Answer, AllocError>
-    ensures { IfOk result (IsAnswer T.read T.num text.now) }
+    ensures { IfOk result (IsRefusalAnswer T.read T.num text.now) }
 {
     match canonical_text::<T>(alloc, text) {
         Ok(canonical) => Ok(Answer::Text(canonical)),

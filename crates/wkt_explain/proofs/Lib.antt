@@ -1,4 +1,4 @@
 mod Whites
-mod Borders
+mod CharBoundaries
 mod OnePlace
-mod Places
+mod StopsAreRefusals

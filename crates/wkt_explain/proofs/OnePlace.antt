@@ -9,7 +9,7 @@ use Rattle.wkt_read.proofs.LawLemmas.Splits.{span, spells_first, first_append, f
 use Rattle.wkt_read.specs.declared.expected.Expected.{Expected}
 use Rattle.wkt_read.specs.Explained.{IsTooMuch, IsTooShort, IsRefusedAt}
 use Rattle.wkt_read.proofs.LawLemmas.Dead.{all_but, dead_none, one_dead}
-use Rattle.wkt_machine.proofs.Dead.{begun_front}
+use Rattle.wkt_machine.proofs.OneRefusedPlace.{begun_front}
 
 -- no front
 no_front : {N : Type 0} (read : List ℕ → Option N) (text : List ℕ) (ls : List Lexeme) → IsSplit text ls → NoneBegins read ls → HasNoFront read text

@@ -17,14 +17,14 @@ module _ {N : Type 0} (read : List ℕ → Option N) where
     pub blank : whole ≡ true → AllWhite (drop end text)
 
   -- The text begins with a geometry, behind which more than white space follows, from this byte on.
-  pub record HasRest (text : List ℕ) (at : ℕ) : Type 0 where
+  pub record HasRestFrom (text : List ℕ) (at : ℕ) : Type 0 where
     pub end : ℕ
     pub front : EndsFront read text end
     pub past : IsPastWhite text end at
     pub more : at < length text
 
   -- The text begins with no geometry: where it is refused, what could stand there, and with which message.
-  pub record IsRefusal (text : List ℕ) (r : Refusal) : Type 0 where
+  pub record IsRefusalOf (text : List ℕ) (r : Refusal) : Type 0 where
     pub none : HasNoFront read text
     pub place : IsRefusedAt read text r.start r.end r.expected
     pub part : IsPart text r.start r.end
@@ -33,5 +33,5 @@ module _ {N : Type 0} (read : List ℕ → Option N) where
 
   -- Why a text isn't accepted.
   abbrev pub IsProblem : Bool → List ℕ → Problem → Type 0
-  IsProblem whole text (Refused r) = IsRefusal text r
-  IsProblem whole text (Rest at) = (whole ≡ true) × HasRest text at
+  IsProblem whole text (Refused r) = IsRefusalOf text r
+  IsProblem whole text (Rest at) = (whole ≡ true) × HasRestFrom text at

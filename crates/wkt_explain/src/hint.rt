@@ -60,30 +60,30 @@ impl fmt::Display for Hint {
 fn begins(front: &[u8], text: &[u8]) -> bool
     ensures { result ≡ begins front.now text.now }
 {
-    let mut left = front;
+    let mut remaining = front;
     let mut rest = text;
-    'byte: while let Some((wanted, more)) = left.split_first() {
+    'byte: while let Some((wanted, more)) = remaining.split_first() {
         match rest.split_first() {
             Some((byte, others)) if *byte == *wanted => rest = others,
             _ => return false,
         }
-        left = more;
+        remaining = more;
     }
     true
 }
 
-/// The same where the text's letters count as capitals.
+/// Whether the text begins with these bytes, where its letters count as capitals.
 fn begins_word(front: &[u8], text: &[u8]) -> bool
     ensures { result ≡ begins_word front.now text.now }
 {
-    let mut left = front;
+    let mut remaining = front;
     let mut rest = text;
-    'byte: while let Some((wanted, more)) = left.split_first() {
+    'byte: while let Some((wanted, more)) = remaining.split_first() {
         match rest.split_first() {
             Some((byte, others)) if byte.to_ascii_uppercase() == *wanted => rest = others,
             _ => return false,
         }
-        left = more;
+        remaining = more;
     }
     true
 }

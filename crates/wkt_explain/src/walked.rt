@@ -6,7 +6,7 @@ ghost use Rattle.wkt_read.specs.Explained.{EndsFront, IsRefusedAt, IsPart};
 ghost use Rattle.wkt_read.specs.Table.{IsReportedAt};
 ghost use Rattle.wkt_explain.specs.White.{IsPastWhite};
 ghost use Rattle.wkt_explain.specs.Told.{EndsLexeme, IsTold};
-ghost use Rattle.wkt_events.specs.Left.{left_placed};
+ghost use Rattle.wkt_events.specs.Remaining.{remaining_spanned};
 ghost use Rattle.wkt_machine.specs.BytesView.{IsDark};
 ghost use Rattle.wkt_machine.specs.Goes.{IsStuck};
 ghost use Rattle.wkt_machine.specs.Stops.{StopsAt};
@@ -55,7 +55,7 @@ fn lexeme_end(text: &[u8], start: usize) -> usize
 /// The refusal of a text in which the machine stops.
 fn refusal_at<T: WktNum>(machine: Machine, text: &str, at: usize) -> Refusal
     requires inside { at ≤ length text.now }
-    requires stuck { IsStuck T.read machine (left_placed false text.now at) }
+    requires stuck { IsStuck T.read machine (remaining_spanned false text.now at) }
     ensures { IsTold T.read text.now machine at result }
 {
     let bytes = text.as_bytes();

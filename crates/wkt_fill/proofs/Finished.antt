@@ -13,7 +13,7 @@ use Rattle.wkt_events.proofs.Utf8Front.{text-with-front, text-behind-front}
 use Rattle.wkt_machine.specs.Events.{events}
 use Rattle.wkt_fill.specs.Arrays.{joined, numbers_in, offsets, HasLarge, IsUnheld}
 use Rattle.wkt_fill.specs.Filling.{Headed, is_collection, steps, arrays_of}
-use Rattle.wkt_fill.specs.Filled.{Fills, view, Begins, RefusesCollection}
+use Rattle.wkt_fill.specs.Filled.{Fills, view, FillerBegins, RefusesCollection}
 use Rattle.wkt_fill.specs.Fronts.{HoldsAll, FillsFront}
 use Rattle.wkt_fill.specs.declared.filler.Filler.{Filler}
 use Rattle.wkt_fill.proofs.Outcome.{IsHeld, IsCollected, outcome}
@@ -22,7 +22,7 @@ is-zero : (n : ℕ) → (n ≡ 0) ⊎ (n ≢ 0)
 is-zero zero = inl refl
 is-zero (suc n) = inr (λ e. absurd (omega (arith, e)))
 
-module _ (v : Value ℤ) (s0 s t : Filler) (begins : Begins s0) (fills : Fills s0 (events v) s) (reports : RefusesCollection s t) (out : IsHeld v (arrays_of (events v)) ⊎ IsCollected v (arrays_of (events v))) where
+module _ (v : Value ℤ) (s0 s t : Filler) (begins : FillerBegins s0) (fills : Fills s0 (events v) s) (reports : RefusesCollection s t) (out : IsHeld v (arrays_of (events v)) ⊎ IsCollected v (arrays_of (events v))) where
   made-is : s.status ≡ 0 → view s ≡ arrays_of (events v)
   made-is z = elim (is-zero s0.status) [
     | inl z0 ↦ fills.does z0 z ∙ ap (steps (events v)) (begins.fresh z0)
@@ -90,7 +90,7 @@ module _ (places : ℕ) (text : List ℕ) where
   run-text : (run : List ℕ) (x : ℤ) → read run ≡ Some x → IsUtf8 run
   run-text run x e = subst (λ (o : Option ℤ). IfSome o (λ u. IsUtf8 run)) e (decimal_utf8 places run)
 
-  pub filled : (s0 s t : Filler) (v : Value ℤ) (to : ℕ) → Begins s0 → Front read text v to → Fills s0 (events v) s → RefusesCollection s t → FillsFront places text t to
+  pub filled : (s0 s t : Filler) (v : Value ℤ) (to : ℕ) → FillerBegins s0 → Front read text v to → Fills s0 (events v) s → RefusesCollection s t → FillsFront places text t to
   filled s0 s t v to begins front fills reports =
       let fits = geometry_fits (IsUnits places) read (decimal_reads_values places) v front.lexemes front.reads in
       let out = outcome (IsUnits places) v fits in

@@ -1,9 +1,9 @@
-pub mod Growth
-pub mod Doing
-pub mod Holding
+pub mod ArraysGrow
+pub mod EventsToArrays
+pub mod PolygonArrays
 pub mod Outcome
 pub mod Finished
-pub mod Nearby
+pub mod FastNumbers
 pub mod Owing
 pub mod Between
 pub mod Inverse

@@ -11,25 +11,25 @@ use Rattle.wkt_machine.specs.declared.part.Part.{Part}
 use Rattle.wkt_machine.specs.declared.part.Part.TheVariants as part
 use Rattle.wkt_machine.specs.Events.{Event, numbers, listed, perhaps, geometries, events}
 use Rattle.wkt_fill.specs.Arrays.{parts_of}
-use Rattle.wkt_fill.specs.Filling.{Flat, Headed, nothing, is_collection, kind_of_part, end_part, push, ended, put, step, steps, arrays_of}
-use Rattle.wkt_fill.proofs.Doing.{put_point, put_lines, listed-does, line-does, point-does, lines-do}
-use Rattle.wkt_fill.proofs.Holding.{Holds, ring-more, polygon-more, coordinates-hold, lines-hold, members-hold, polygons-hold, point-fits}
+use Rattle.wkt_fill.specs.Filling.{FlatArrays, Headed, nothing, is_collection, kind_of_part, end_part, push, ended, put, step, steps, arrays_of}
+use Rattle.wkt_fill.proofs.EventsToArrays.{put_point, put_lines, listed-does, line-does, point-does, lines-do}
+use Rattle.wkt_fill.proofs.PolygonArrays.{Holds, ring-more, polygon-more, coordinates-hold, lines-hold, members-hold, polygons-hold, point-fits}
 
 -- Nothing is held of a collection.
 module _ (k : GeometryType) (h : is_collection k ≡ true) where
-  ended-same : (p : Part) (a : Flat) → ended k p a ≡ a
+  ended-same : (p : Part) (a : FlatArrays) → ended k p a ≡ a
   ended-same p a = ap (λ b. if b then a else end_part p a) h
 
-  put-same : (a : Axis) (x : ℤ) (f : Flat) → put k a x f ≡ f
+  put-same : (a : Axis) (x : ℤ) (f : FlatArrays) → put k a x f ≡ f
   put-same a x f = ap (λ b. if b then f else push a x f) h
 
 step-same : (e : Event ℤ) (w : Headed) → is_collection w.kind ≡ true → step e w ≡ w
 step-same (Event.Header p d) w h = ap (λ b. if b then w else record { kind = kind_of_part p; dimension = d; flat = w.flat }) h
 step-same (Event.Open p) w h = refl
 step-same (Event.Comma p) w h = refl
-step-same (Event.Close p) w h = ap (λ (a : Flat). record { kind = w.kind; dimension = w.dimension; flat = a }) (ended-same w.kind h p w.flat)
-step-same (Event.Empty p) w h = ap (λ (a : Flat). record { kind = w.kind; dimension = w.dimension; flat = a }) (ended-same w.kind h p w.flat)
-step-same (Event.Number a x) w h = ap (λ (f : Flat). record { kind = w.kind; dimension = w.dimension; flat = f }) (put-same w.kind h a x w.flat)
+step-same (Event.Close p) w h = ap (λ (a : FlatArrays). record { kind = w.kind; dimension = w.dimension; flat = a }) (ended-same w.kind h p w.flat)
+step-same (Event.Empty p) w h = ap (λ (a : FlatArrays). record { kind = w.kind; dimension = w.dimension; flat = a }) (ended-same w.kind h p w.flat)
+step-same (Event.Number a x) w h = ap (λ (f : FlatArrays). record { kind = w.kind; dimension = w.dimension; flat = f }) (put-same w.kind h a x w.flat)
 
 collected : (es : List (Event ℤ)) (w : Headed) → is_collection w.kind ≡ true → steps es w ≡ w
 collected [] w h = refl

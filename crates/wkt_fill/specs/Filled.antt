@@ -4,7 +4,7 @@ use Rattle.std.proofs.Common.{inl, inr, refl, sym, ◌∙◌, ap, subst, arith, 
 use Rattle.wkt_machine.specs.Events.{Event}
 use Rattle.wkt_machine.specs.Makers.{Maker}
 use Rattle.wkt_fill.specs.Arrays.{HasLarge}
-use Rattle.wkt_fill.specs.Filling.{Flat, Headed, steps, unheaded, is_collection}
+use Rattle.wkt_fill.specs.Filling.{FlatArrays, Headed, steps, unheaded, is_collection}
 use Rattle.wkt_fill.specs.declared.filler.Filler.{Filler}
 use Rattle.wkt_fill.specs.Growing.{large-on, steps-append}
 
@@ -13,13 +13,13 @@ abbrev pub view : Filler → Headed
 view f = record { kind = f.kind; dimension = f.dimension; flat = record { numbers = take f.number_count f.numbers.now; rings = take (f.ring_count + 1) f.rings.now; polygons = take (f.polygon_count + 1) f.polygons.now; coordinates = f.coordinates; ring_count = f.ring_count } }
 
 -- The arrays became these, unless the room was full or a number of theirs was too large; then the filler's status says so, and stays.
-pub record Becomes (s : Filler) (w : Headed) (t : Filler) : Type 0 where
+pub record FillerBecomes (s : Filler) (w : Headed) (t : Filler) : Type 0 where
   pub stays : s.status ≢ 0 → t.status ≡ s.status
   pub does : s.status ≡ 0 → t.status ≡ 0 → view t ≡ w
   pub fails : s.status ≡ 0 → t.status ≢ 0 → (t.status ≡ 22) ⊎ ((t.status ≡ 25) × HasLarge w.flat.numbers)
 
 abbrev pub Fills : Filler → List (Event ℤ) → Filler → Type 0
-Fills s es t = Becomes s (steps es (view s)) t
+Fills s es t = FillerBecomes s (steps es (view s)) t
 
 is-zero : (n : ℕ) → (n ≡ 0) ⊎ (n ≢ 0)
 is-zero zero = inl refl
@@ -58,11 +58,11 @@ filler_maker = record {
   less = λ s m n order h. tt;
 }
 
-abbrev pub with_flat : Filler → (Flat → Flat) → Headed
+abbrev pub with_flat : Filler → (FlatArrays → FlatArrays) → Headed
 with_flat f g = record { kind = f.kind; dimension = f.dimension; flat = g (view f).flat }
 
 -- Nothing yet, unless there is no room.
-pub record Begins (f : Filler) : Type 0 where
+pub record FillerBegins (f : Filler) : Type 0 where
   pub fresh : f.status ≡ 0 → view f ≡ unheaded
   pub or_full : f.status ≢ 0 → f.status ≡ 22
 

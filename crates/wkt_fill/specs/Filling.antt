@@ -11,7 +11,7 @@ use Rattle.wkt_machine.specs.declared.part.Part.TheVariants as part
 use Rattle.wkt_machine.specs.Events.{Event}
 
 -- All numbers in order; where each ring begins among the coordinates and each polygon among the rings, with the end of the last; and how many coordinates and rings there are.
-pub record Flat : Type 0 where
+pub record FlatArrays : Type 0 where
   pub numbers : List ℤ
   pub rings : List ℕ
   pub polygons : List ℕ
@@ -22,21 +22,21 @@ pub record Flat : Type 0 where
 pub record Headed : Type 0 where
   pub kind : GeometryType
   pub dimension : Dimension
-  pub flat : Flat
+  pub flat : FlatArrays
 
 -- Nothing yet: each list of offsets begins with 0.
-abbrev pub nothing : Flat
+abbrev pub nothing : FlatArrays
 nothing = record { numbers = []; rings = 0 ∷ []; polygons = 0 ∷ []; coordinates = 0; ring_count = 0 }
 
 abbrev pub unheaded : Headed
 unheaded = record { kind = kind.Point; dimension = dim.XY; flat = nothing }
 
 -- A ring ends where the last coordinate does.
-abbrev pub end_ring : Flat → Flat
+abbrev pub end_ring : FlatArrays → FlatArrays
 end_ring a = record { numbers = a.numbers; rings = a.rings ++ (a.coordinates ∷ []); polygons = a.polygons; coordinates = a.coordinates; ring_count = a.ring_count + 1 }
 
 -- A polygon ends where the last ring does.
-abbrev pub end_polygon : Flat → Flat
+abbrev pub end_polygon : FlatArrays → FlatArrays
 end_polygon a = record { numbers = a.numbers; rings = a.rings; polygons = a.polygons ++ (a.ring_count ∷ []); coordinates = a.coordinates; ring_count = a.ring_count }
 
 -- The first number begins a coordinate.
@@ -44,7 +44,7 @@ abbrev pub counted : Axis → ℕ → ℕ
 counted axis.X n = n + 1
 counted a n = n
 
-abbrev pub push : Axis → ℤ → Flat → Flat
+abbrev pub push : Axis → ℤ → FlatArrays → FlatArrays
 push a x f = record { numbers = f.numbers ++ (x ∷ []); rings = f.rings; polygons = f.polygons; coordinates = counted a f.coordinates; ring_count = f.ring_count }
 
 -- The kind of a whole geometry.
@@ -58,7 +58,7 @@ kind_of_part part.Collection = kind.GeometryCollection
 kind_of_part p = kind.Point
 
 -- What the end of a part ends: a point and a line string are a ring, and each whole geometry but a multipolygon is one polygon.
-abbrev pub end_part : Part → Flat → Flat
+abbrev pub end_part : Part → FlatArrays → FlatArrays
 end_part part.Point a = end_polygon (end_ring a)
 end_part part.LineString a = end_polygon (end_ring a)
 end_part part.Polygon a = end_polygon a
@@ -79,14 +79,14 @@ is_collection kind.MultiLineString = false
 is_collection kind.MultiPolygon = false
 is_collection kind.GeometryCollection = true
 
-abbrev pub put : GeometryType → Axis → ℤ → Flat → Flat
+abbrev pub put : GeometryType → Axis → ℤ → FlatArrays → FlatArrays
 put k a x f = if is_collection k then f else push a x f
 
-abbrev pub ended : GeometryType → Part → Flat → Flat
+abbrev pub ended : GeometryType → Part → FlatArrays → FlatArrays
 ended k p f = if is_collection k then f else end_part p f
 
 -- Arrays of this kind are changed.
-abbrev pub on : (GeometryType → Flat → Flat) → Headed → Headed
+abbrev pub on : (GeometryType → FlatArrays → FlatArrays) → Headed → Headed
 on f w = record { kind = w.kind; dimension = w.dimension; flat = f w.kind w.flat }
 
 -- The headers of a collection's members don't count.

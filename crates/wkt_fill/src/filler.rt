@@ -4,12 +4,12 @@ ghost use Rattle.wkt_num.specs.Decimal.{read_decimal};
 ghost use Rattle.wkt_events.specs.Numbers.{NoNumber};
 ghost use Rattle.wkt_machine.specs.Makers.{MakesNumber};
 ghost use Rattle.wkt_fill.specs.Filling.{is_collection, kind_of_part, end_ring, end_polygon, end_part, ended, put, headed, on};
-ghost use Rattle.wkt_fill.specs.Filled.{filler_maker, view, Becomes, Begins, RefusesCollection, with_flat};
+ghost use Rattle.wkt_fill.specs.Filled.{filler_maker, view, FillerBecomes, FillerBegins, RefusesCollection, with_flat};
 
-use crate::status::{FULL, NOT_FLAT, TOO_LARGE};
+use crate::status::{FILLER_NOT_FLAT, FILLER_TOO_LARGE, FULL};
 use wkt_events::number_there;
 use wkt_machine::{Axis, Builder, Part};
-use wkt_num::{Decimal, units_near};
+use wkt_num::{Decimal, fast_units};
 use wkt_types::{Dimension, GeometryType};
 
 /// The places that arrays are written in.
@@ -97,7 +97,7 @@ impl<'a> Filler<'a> {
     /// Arrays of nothing.
     #[inline(always)]
     pub fn new(room: Room<'a>) -> Filler<'a>
-        ensures { Begins result }
+        ensures { FillerBegins result }
     {
         let Room {
             numbers,
@@ -147,7 +147,7 @@ impl<'a> Filler<'a> {
     #[inline(always)]
     fn end_ring(&mut self)
         requires { self.old.status ≡ 0 }
-        ensures { Becomes self.old (with_flat self.old end_ring) self.new }
+        ensures { FillerBecomes self.old (with_flat self.old end_ring) self.new }
     {
         let Some(place) = self.ring_count.checked_add(1) else {
             self.status = FULL;
@@ -164,7 +164,7 @@ impl<'a> Filler<'a> {
     #[inline(always)]
     fn end_polygon(&mut self)
         requires { self.old.status ≡ 0 }
-        ensures { Becomes self.old (with_flat self.old end_polygon) self.new }
+        ensures { FillerBecomes self.old (with_flat self.old end_polygon) self.new }
     {
         let Some(place) = self.polygon_count.checked_add(1) else {
             self.status = FULL;
@@ -182,7 +182,7 @@ impl<'a> Filler<'a> {
     #[inline(always)]
     fn end_in(&mut self, part: Part)
         requires { self.old.status ≡ 0 }
-        ensures { Becomes self.old (with_flat self.old (end_part part)) self.new }
+        ensures { FillerBecomes self.old (with_flat self.old (end_part part)) self.new }
     {
         match part {
             Part::Point | Part::LineString => {
@@ -200,7 +200,7 @@ impl<'a> Filler<'a> {
 
     #[inline(always)]
     fn end(&mut self, part: Part)
-        ensures { Becomes self.old (on (λ k. ended k part) (view self.old)) self.new }
+        ensures { FillerBecomes self.old (on (λ k. ended k part) (view self.old)) self.new }
     {
         if self.status != 0 || holds_nothing(self.kind) {
             return;
@@ -211,7 +211,7 @@ impl<'a> Filler<'a> {
     /// Adds a number of a coordinate.
     #[inline(always)]
     fn put(&mut self, number: i64, axis: Axis)
-        ensures { Becomes self.old (on (λ k. put k axis number) (view self.old)) self.new }
+        ensures { FillerBecomes self.old (on (λ k. put k axis number) (view self.old)) self.new }
     {
         if self.status != 0 || holds_nothing(self.kind) {
             return;
@@ -231,33 +231,33 @@ impl<'a> Filler<'a> {
         }
     }
 
-    /// The same of units of any size.
+    /// Adds a number of units of any size.
     fn push(&mut self, units: i128, axis: Axis)
-        ensures { Becomes self.old (on (λ k. put k axis units) (view self.old)) self.new }
+        ensures { FillerBecomes self.old (on (λ k. put k axis units) (view self.old)) self.new }
     {
         if self.status != 0 || holds_nothing(self.kind) {
             return;
         }
         match i64::try_from(units) {
             Ok(number) => self.put(number, axis),
-            Err(_) => self.status = TOO_LARGE,
+            Err(_) => self.status = FILLER_TOO_LARGE,
         }
     }
 
-    /// The number that stands there, in any form. What it answers comes through memory, whose place is cleared here, away
-    /// from the way before it, which answers in registers.
+    /// The slow path: the number that stands there, in any form. What it returns comes through memory, whose place is
+    /// cleared here, away from the fast path, which returns in registers.
     #[inline(always)]
-    fn number_apart<const D: u32>(self, text: &[u8], at: usize, axis: Axis) -> (Self, Option<usize>)
+    fn slow_number<const D: u32>(self, text: &[u8], at: usize, axis: Axis) -> (Self, Option<usize>)
         requires { at ≤ length text.now }
         ensures some { IfSome result.1 (λ end. MakesNumber (read_decimal 127 36 D) filler_maker self.entry text.now at axis result.0 end) }
         ensures none { IfNone result.1 (NoNumber (read_decimal 127 36 D) text.now at) }
     {
-        self.number_anywhere::<D>(text, at, axis)
+        self.slow_number_outlined::<D>(text, at, axis)
     }
 
     #[cold]
     #[inline(never)]
-    fn number_anywhere<const D: u32>(
+    fn slow_number_outlined<const D: u32>(
         self,
         text: &[u8],
         at: usize,
@@ -282,13 +282,13 @@ impl<'a> Filler<'a> {
         ensures { RefusesCollection self.old self.new }
     {
         if self.status == 0 && holds_nothing(self.kind) {
-            self.status = NOT_FLAT;
+            self.status = FILLER_NOT_FLAT;
         }
     }
 
     #[inline(always)]
     fn head(&mut self, kind: GeometryType, dimension: Dimension)
-        ensures { Becomes self.old (headed kind dimension (view self.old)) self.new }
+        ensures { FillerBecomes self.old (headed kind dimension (view self.old)) self.new }
     {
         if self.status != 0 || holds_nothing(self.kind) {
             return;
@@ -343,13 +343,13 @@ impl<const D: u32> Builder<Decimal<D>> for Filler<'_> {
 
     #[inline(always)]
     fn number_in(self, text: &[u8], at: usize, axis: Axis) -> (Self, Option<usize>) {
-        match units_near(D, &text[at..]) {
+        match fast_units(D, &text[at..]) {
             Some((units, end)) => {
                 let mut made = self;
                 made.put(units, axis);
                 (made, Some(at + end))
             }
-            None => self.number_apart::<D>(text, at, axis),
+            None => self.slow_number::<D>(text, at, axis),
         }
     }
 }

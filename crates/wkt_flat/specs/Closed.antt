@@ -17,7 +17,7 @@ abbrev mutual
   HasClosedRings (rect r) = Unit {0}
   HasClosedRings (triangle t) = Unit {0}
 
-  -- The same of each member of a collection.
+  -- Each member of a collection has closed rings alone.
   pub HaveClosedRings : {T : Type 0} → Flats T → Type 0
   HaveClosedRings no_flats = Unit {0}
   HaveClosedRings (more_flats t ts) = HasClosedRings t × HaveClosedRings ts

@@ -46,7 +46,7 @@ geometry_step (Geometry-F.GeometryCollection c) = collection c
 geometry_step (Geometry-F.Rect r) = rect r
 geometry_step (Geometry-F.Triangle t) = triangle t
 
--- The same of a collection.
+-- One level of a collection, each of whose members was seen as its flat tree.
 abbrev pub flats_step : {T : Type 0} → GeometryCollection-F T (Flat T) (Flats T) → Flats T
 flats_step c = flats_of c.0.items
 

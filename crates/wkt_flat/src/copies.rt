@@ -6,7 +6,7 @@ ghost use Rattle.wkt_flat.specs.Grown.{IsOneMore};
 use std::alloc::{AllocError, Global};
 
 /// A part whose copy may take memory.
-pub trait Part: Sized {
+pub trait CopiedPart: Sized {
     /// A copy that is equal.
     ///
     /// # Errors
@@ -19,7 +19,7 @@ pub trait Part: Sized {
 ///
 /// # Errors
 /// Out of memory.
-pub fn copies<X: Part + Drop>(alloc: Global, parts: &[X]) -> Result<Vec<X>, AllocError>
+pub fn copies<X: CopiedPart + Drop>(alloc: Global, parts: &[X]) -> Result<Vec<X>, AllocError>
     ensures { IfOk result (λ v. v.items ≡ parts.now) }
 {
     let mut all = Vec::with_capacity(alloc, parts.len())?;
@@ -34,7 +34,7 @@ pub fn copies<X: Part + Drop>(alloc: Global, parts: &[X]) -> Result<Vec<X>, Allo
 /// # Errors
 /// Out of memory.
 #[inline(never)]
-pub fn push_copy_of<X: Part, G: From<X> + Drop>(
+pub fn push_copy_of<X: CopiedPart, G: From<X> + Drop>(
     part: &X,
     alloc: Global,
     copies: &mut Vec<G>,

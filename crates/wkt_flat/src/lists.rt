@@ -2,7 +2,7 @@
 ghost use Rattle.std.specs.Prelude.{◌≡◌, IfOk};
 
 use crate::coord::Coord;
-use crate::copies::{Part, copies};
+use crate::copies::{CopiedPart, copies};
 use crate::point::Point;
 use crate::polygon::Polygon;
 use std::alloc::{AllocError, Global};
@@ -42,7 +42,7 @@ impl<T: Copy + Drop> LineString<T> {
     }
 }
 
-impl<T: Copy + Drop> Part for LineString<T> {
+impl<T: Copy + Drop> CopiedPart for LineString<T> {
     fn copy(&self, alloc: Global) -> Result<Self, AllocError> {
         self.try_clone(alloc)
     }
@@ -82,7 +82,7 @@ impl<T: Copy + Drop> MultiPoint<T> {
     }
 }
 
-impl<T: Copy + Drop> Part for MultiPoint<T> {
+impl<T: Copy + Drop> CopiedPart for MultiPoint<T> {
     fn copy(&self, alloc: Global) -> Result<Self, AllocError> {
         self.try_clone(alloc)
     }
@@ -122,7 +122,7 @@ impl<T: Copy + Drop> MultiLineString<T> {
     }
 }
 
-impl<T: Copy + Drop> Part for MultiLineString<T> {
+impl<T: Copy + Drop> CopiedPart for MultiLineString<T> {
     fn copy(&self, alloc: Global) -> Result<Self, AllocError> {
         self.try_clone(alloc)
     }
@@ -163,7 +163,7 @@ impl<T: Copy + Drop> MultiPolygon<T> {
     }
 }
 
-impl<T: Copy + Drop> Part for MultiPolygon<T> {
+impl<T: Copy + Drop> CopiedPart for MultiPolygon<T> {
     fn copy(&self, alloc: Global) -> Result<Self, AllocError> {
         self.try_clone(alloc)
     }

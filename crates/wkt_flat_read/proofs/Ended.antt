@@ -17,16 +17,16 @@ use Rattle.wkt_convert.specs.declared.flattened.Found.{Found}
 use Rattle.wkt_convert.specs.declared.flattened.Found.TheVariants as found
 use Rattle.wkt_machine.specs.Growing.{Frame, members_of}
 use Rattle.wkt_flat_read.specs.Plain.{plain, plains, holds_empty, hold_empty}
-use Rattle.wkt_flat_read.specs.Trees.{found_of, members, opened, frames, HoldsEnded, HoldsWhole, GivesCollection, GivesOther, GivesMembers, Gives}
-use Rattle.wkt_flat_read.specs.declared.tree.Ended.{Ended}
-use Rattle.wkt_flat_read.specs.declared.tree.Ended.TheVariants as last
+use Rattle.wkt_flat_read.specs.Trees.{found_of, members, opened, frames, FlatHoldsEnded, FlatHoldsWhole, GivesCollection, GivesOther, GivesMembers, FlatGives}
+use Rattle.wkt_flat_read.specs.declared.tree.FlatEnded.{FlatEnded}
+use Rattle.wkt_flat_read.specs.declared.tree.FlatEnded.TheVariants as last
 use Rattle.wkt_flat_read.specs.declared.tree.FlatTree.{FlatTree}
 use Rattle.wkt_flat_read.proofs.Flattened.{unless, flat_is, kind_of, other_is, collection_is, multi_point_is}
 use Rattle.wkt_flat_read.proofs.Lists.{members-plain}
 
 module _ {T : Type 0} (E : Coord T → Coord T → Bool) where
   -- the value that ended has the kind of what ended
-  kinds : (l : Ended) (t : FlatTree T) (o : List (Frame T)) (v : Value T) → HoldsEnded E l t o v → kind_of E v ≡ found_of l
+  kinds : (l : FlatEnded) (t : FlatTree T) (o : List (Frame T)) (v : Value T) → FlatHoldsEnded E l t o v → kind_of E v ≡ found_of l
   kinds last.Point t o v (d, c, is, at, only, are_open) = ap (kind_of E) (sym is)
   kinds last.LineString t o v (d, c, is, only, are_open) = ap (kind_of E) (sym is)
   kinds last.Polygon t o v (d, c, is, only, are_open) = ap (kind_of E) (sym is)
@@ -63,7 +63,7 @@ module _ {T : Type 0} (E : Coord T → Coord T → Bool) where
         )
 
     -- a geometry that was taken
-    pub gives_other : (kind : Found) (g : Geometry T) (u : FlatTree T) → t.is_refused ≡ false → Gives E t (Some g) u → GivesOther E t kind (Some (Other g kind))
+    pub gives_other : (kind : Found) (g : Geometry T) (u : FlatTree T) → t.is_refused ≡ false → FlatGives E t (Some g) u → GivesOther E t kind (Some (Other g kind))
     gives_other kind g u r gives some v h k e =
         let none : holds_empty (value_of k) ≡ false = ap holds_empty e ∙ sym h.refused ∙ r in
         let same : kind_of E (value_of k) ≡ Some kind = ap (kind_of E) e ∙ kinds t.last t [] v h.whole ∙ some in
@@ -77,7 +77,7 @@ module _ {T : Type 0} (E : Coord T → Coord T → Bool) where
         let is : plain E (value_of k) ≡ Flat.collection (flat_trees g) = ap (plain E) e ∙ go t.last refl none h.whole in
         (flat_is E k ∙ ap (λ b. unless b (plain E (value_of k))) free ∙ ap value is, collection_is E k kind (flat_trees g) is ∙ ap (λ b. unless b (flat_trees g)) free)
       where
-        go : (l : Ended) → t.last ≡ l → found_of l ≡ None → HoldsEnded E l t [] v → plain E v ≡ Flat.collection (flat_trees g)
+        go : (l : FlatEnded) → t.last ≡ l → found_of l ≡ None → FlatHoldsEnded E l t [] v → plain E v ≡ Flat.collection (flat_trees g)
         go last.Collection same none (f, is, only, are_open) =
             ap (plain E) (sym is) ∙ ap (λ ts. Flat.collection ts) (sym (members-plain E f.members)) ∙ ap (λ ms. Flat.collection (flats_of ms)) (sym (gives.last same f [] are_open).0) ∙ ap (λ ts. Flat.collection ts) (sym are)
         go last.NoMembers same none (d, is, only, are_open) = ap (plain E) (sym is) ∙ ap (λ gs. Flat.collection (flat_members gs)) (sym (gives.none same).0) ∙ ap (λ ts. Flat.collection ts) (sym are)

@@ -3,47 +3,47 @@ use Rattle.std.proofs.Common.{◌≡◌, ℕ, List, [], ◌∷◌, ◌++◌, sym
 use Rattle.std.specs.Borrow.{MutBor}
 use Rattle.wkt_access.specs.Values.{Value}
 use Rattle.wkt_access.specs.WellFormed.{IsWellFormed}
-use Rattle.wkt_read.specs.Placed.{lexemes_of}
+use Rattle.wkt_read.specs.Spanned.{lexemes_of}
 use Rattle.wkt_read.proofs.LawLemmas.Fits.{geometry_fits}
 use Rattle.wkt_flat.specs.declared.coord.Coord.{Coord}
 use Rattle.wkt_convert.specs.declared.flattened.Flattened.{Flattened}
 use Rattle.wkt_machine.specs.Events.{events}
 use Rattle.wkt_machine.specs.Growing.{Growing, rest}
-use Rattle.wkt_machine.specs.Values.{OnRefused, Takes}
+use Rattle.wkt_machine.specs.Values.{OnRefused, TakesValue}
 use Rattle.wkt_machine.specs.View.{View}
 use Rattle.wkt_machine.specs.declared.machine.Machine.{Machine}
 use Rattle.wkt_machine.specs.declared.value.Unread.{Unread}
 use Rattle.wkt_machine.specs.declared.value.Unread.TheVariants.{Refused, Memory}
-use Rattle.wkt_machine.proofs.Grown.{value_grows}
-use Rattle.wkt_flat_read.specs.Read.{Answers, IsFlatRead}
-use Rattle.wkt_flat_read.specs.Trees.{Grew, Holds, HoldsWhole, IsLost}
+use Rattle.wkt_machine.proofs.ValueFromEvents.{value_grows}
+use Rattle.wkt_flat_read.specs.Read.{AnswersFlat, IsFlatRead}
+use Rattle.wkt_flat_read.specs.Trees.{FlatGrew, FlatHolds, FlatHoldsWhole, FlatIsLost}
 use Rattle.wkt_flat_read.specs.declared.tree.FlatTree.{FlatTree}
 use Rattle.wkt_flat_read.proofs.Treed.{value_read}
 
 module _ {N S : Type 0} (is_value : N → Type 0) (read : List ℕ → Option N) (values : (bs : List ℕ) → IfSome (read bs) is_value) (E : Coord N → Coord N → Bool) (view : View S) where
-  fits : (s r : S) (v : Value N) → Takes read view s v r → IsWellFormed is_value v
+  fits : (s r : S) (v : Value N) → TakesValue read view s v r → IsWellFormed is_value v
   fits s r v h = geometry_fits is_value read values v (lexemes_of (h.given ++ (h.last ∷ []))) h.stands
 
   -- the value has grown, or it is lost
-  grown : (t u : FlatTree N) (v : Value N) → IsWellFormed is_value v → Holds E t (rest [] None) → Grew E t (events v) u → HoldsWhole E u [] v ⊎ IsLost u
+  grown : (t u : FlatTree N) (v : Value N) → IsWellFormed is_value v → FlatHolds E t (rest [] None) → FlatGrew E t (events v) u → FlatHoldsWhole E u [] v ⊎ FlatIsLost u
   grown t u v fit begins grew =
       let k = value_grows is_value v fit [] in
-      subst (λ w. Holds E u w ⊎ IsLost u) k.is (grew.holds (rest [] None) begins k.may)
+      subst (λ w. FlatHolds E u w ⊎ FlatIsLost u) k.is (grew.holds (rest [] None) begins k.may)
 
-  pub flat_off : (t u : FlatTree N) (s r : S) → Holds E t (rest [] None) → (v : Value N) × Takes read view s v r × Grew E t (events v) u → (a : Result (Flattened N) Unread) → Answers E u a → IfOk a (λ f. IsFlatRead read E view s f r)
+  pub flat_off : (t u : FlatTree N) (s r : S) → FlatHolds E t (rest [] None) → (v : Value N) × TakesValue read view s v r × FlatGrew E t (events v) u → (a : Result (Flattened N) Unread) → AnswersFlat E u a → IfOk a (λ f. IsFlatRead read E view s f r)
   flat_off t u s r begins h (Err e) k = tt
   flat_off t u s r begins (v, takes, grew) (Ok f) (kept, is) = go (grown t u v (fits s r v takes) begins grew)
     where
-      go : HoldsWhole E u [] v ⊎ IsLost u → IsFlatRead read E view s f r
+      go : FlatHoldsWhole E u [] v ⊎ FlatIsLost u → IsFlatRead read E view s f r
       go (inl whole) = let (k, of) = value_read is_value v (fits s r v takes) in (k, (v, takes, of), is v whole k of.value)
       go (inr lost) = let clash : false ≡ true = sym kept ∙ lost in cc
 
 -- a flat tree isn't refused
-pub never_refused : {N : Type 0} (E : Coord N → Coord N → Bool) (P : Machine → Type 0) (t : FlatTree N) (a : Result (Flattened N) Unread) → Answers E t a → OnRefused a P
+pub never_refused : {N : Type 0} (E : Coord N → Coord N → Bool) (P : Machine → Type 0) (t : FlatTree N) (a : Result (Flattened N) Unread) → AnswersFlat E t a → OnRefused a P
 never_refused E P t (Ok w) k = tt
 never_refused E P t (Err (Refused m)) k = absurd k
 never_refused E P t (Err (Memory e)) k = tt
 
 -- what is lent is held
-pub lent : {N : Type 0} (E : Coord N → Coord N → Bool) (b c : MutBor (FlatTree N)) (w : Growing N) → b ≡ c → Holds E c.now w → Holds E b.now w
-lent {N} E b c w e h = subst (λ (b : MutBor (FlatTree N)). Holds E b.now w) (sym e) h
+pub lent : {N : Type 0} (E : Coord N → Coord N → Bool) (b c : MutBor (FlatTree N)) (w : Growing N) → b ≡ c → FlatHolds E c.now w → FlatHolds E b.now w
+lent {N} E b c w e h = subst (λ (b : MutBor (FlatTree N)). FlatHolds E b.now w) (sym e) h

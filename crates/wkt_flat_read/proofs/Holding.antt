@@ -15,8 +15,8 @@ use Rattle.wkt_machine.specs.Growing.{Frame, Growing, coord, headed, rest, membe
 use Rattle.wkt_machine.specs.declared.part.Part.{Part}
 use Rattle.wkt_machine.specs.declared.part.Part.TheVariants as part
 use Rattle.wkt_flat_read.specs.Plain.{flat_line, flat_area, flat_point, flat_points, plain, plains, is_empty, some_empty, holds_empty}
-use Rattle.wkt_flat_read.specs.Trees.{coord_by, coord_of, point_at, members, opened, frames, frames_hold, some_holds, HasOnly, IsLost, HoldsParts, HoldsEnded, HoldsWhole, HoldsBy, Holds, Becomes, Grew, Gives, GivesLast, GivesMembers, Joins}
-use Rattle.wkt_flat_read.specs.declared.tree.Ended.TheVariants as last
+use Rattle.wkt_flat_read.specs.Trees.{coord_by, coord_of, point_at, members, opened, frames, frames_hold, some_holds, FlatHasOnly, FlatIsLost, FlatHoldsParts, FlatHoldsEnded, FlatHoldsWhole, FlatHoldsBy, FlatHolds, FlatBecomes, FlatGrew, FlatGives, FlatGivesLast, GivesMembers, FlatJoins}
+use Rattle.wkt_flat_read.specs.declared.tree.FlatEnded.TheVariants as last
 use Rattle.wkt_flat_read.specs.declared.tree.FlatTree.{FlatTree}
 use Rattle.wkt_flat_read.proofs.Lists.{or_false, or_true, or_assoc, unmap-last, none-last, line-append, points-append, empty-last, holds-last, members-hold, members-plain, hand_line, hand_point, hand_empty}
 
@@ -25,33 +25,33 @@ some_none None e h = cc
 some_none (Some x) e h = cc
 
 module _ {T : Type 0} (E : Coord T → Coord T → Bool) where
-  pub parts_of : (t : FlatTree T) (w : Growing T) → w.grown ≡ None → Holds E t w → HoldsParts E t w
-  parts_of t w e h = subst (HoldsBy E t w) e h
+  pub parts_of : (t : FlatTree T) (w : Growing T) → w.grown ≡ None → FlatHolds E t w → FlatHoldsParts E t w
+  parts_of t w e h = subst (FlatHoldsBy E t w) e h
 
-  pub whole_of : (t : FlatTree T) (w : Growing T) (v : Value T) → w.grown ≡ Some v → Holds E t w → HoldsWhole E t w.outer v
-  whole_of t w v e h = subst (HoldsBy E t w) e h
+  pub whole_of : (t : FlatTree T) (w : Growing T) (v : Value T) → w.grown ≡ Some v → FlatHolds E t w → FlatHoldsWhole E t w.outer v
+  whole_of t w v e h = subst (FlatHoldsBy E t w) e h
 
   -- the coordinate at hand
-  hand_is : (t : FlatTree T) (w : Growing T) → HoldsParts E t w → coord_by w.hand.x w.hand.y ≡ coord_of t
+  hand_is : (t : FlatTree T) (w : Growing T) → FlatHoldsParts E t w → coord_by w.hand.x w.hand.y ≡ coord_of t
   hand_is t w k = ap (λ x. coord_by x w.hand.y) (sym k.x) ∙ ap (λ y. coord_by t.x y) (sym k.y)
 
-  line_at : (t : FlatTree T) (w : Growing T) → HoldsParts E t w → flat_line (option_to_list (coord w.hand)) ≡ option_to_list (coord_of t)
+  line_at : (t : FlatTree T) (w : Growing T) → FlatHoldsParts E t w → flat_line (option_to_list (coord w.hand)) ≡ option_to_list (coord_of t)
   line_at t w k = hand_line w.hand.x w.hand.y w.hand.z w.hand.m ∙ ap (λ c. option_to_list c) (hand_is t w k)
 
-  point_is : (t : FlatTree T) (w : Growing T) → HoldsParts E t w → flat_point (coord w.hand) ≡ point_at (coord_of t)
+  point_is : (t : FlatTree T) (w : Growing T) → FlatHoldsParts E t w → flat_point (coord w.hand) ≡ point_at (coord_of t)
   point_is t w k = hand_point w.hand.x w.hand.y w.hand.z w.hand.m ∙ ap (λ c. point_at c) (hand_is t w k)
 
-  empty_is : (t : FlatTree T) (w : Growing T) → HoldsParts E t w → is_empty (coord w.hand) ≡ is_empty (coord_of t)
+  empty_is : (t : FlatTree T) (w : Growing T) → FlatHoldsParts E t w → is_empty (coord w.hand) ≡ is_empty (coord_of t)
   empty_is t w k = hand_empty w.hand.x w.hand.y w.hand.z w.hand.m ∙ ap (λ c. is_empty c) (hand_is t w k)
 
-  pub coord_ends : (t : FlatTree T) (list : Vec (Coord T) Global) (c : Coord T) → coord_of t ≡ Some c → list.items ≡ t.coords.items ++ (c ∷ []) → Becomes E HasNumbers with_coord t (record t { coords = list })
+  pub coord_ends : (t : FlatTree T) (list : Vec (Coord T) Global) (c : Coord T) → coord_of t ≡ Some c → list.items ≡ t.coords.items ++ (c ∷ []) → FlatBecomes E HasNumbers with_coord t (record t { coords = list })
   coord_ends t list c is items = record {
     stays = λ h. h;
     holds = λ w h m.
         let k = parts_of t w m.0 h in
         let all : list.items ≡ flat_line (w.coords ++ option_to_list (coord w.hand)) =
         items ∙ ap (λ l. l ++ (c ∷ [])) k.parts.0 ∙ ap (λ o. flat_line w.coords ++ option_to_list o) (sym is) ∙ ap (λ l. flat_line w.coords ++ l) (sym (line_at t w k)) ∙ sym (line-append w.coords (option_to_list (coord w.hand))) in
-        inl (subst (HoldsBy E (record t { coords = list }) (with_coord w)) (sym m.0) (record {
+        inl (subst (FlatHoldsBy E (record t { coords = list }) (with_coord w)) (sym m.0) (record {
           kept = k.kept;
           refused = k.refused;
           x = k.x;
@@ -62,8 +62,8 @@ module _ {T : Type 0} (E : Coord T → Coord T → Bool) where
   }
 
   -- a point more, by what it adds
-  point_more : (t u : FlatTree T) (w : Growing T) → HoldsParts E t w → u.is_lost ≡ false → u.is_refused ≡ (t.is_refused || is_empty (coord_of t)) → u.x ≡ t.x → u.y ≡ t.y → u.coords ≡ t.coords → u.points.items ≡ t.points.items ++ point_at (coord_of t)
-      → u.lines ≡ t.lines → u.areas ≡ t.areas → u.outer ≡ t.outer → HoldsParts E u (with_point w)
+  point_more : (t u : FlatTree T) (w : Growing T) → FlatHoldsParts E t w → u.is_lost ≡ false → u.is_refused ≡ (t.is_refused || is_empty (coord_of t)) → u.x ≡ t.x → u.y ≡ t.y → u.coords ≡ t.coords → u.points.items ≡ t.points.items ++ point_at (coord_of t)
+      → u.lines ≡ t.lines → u.areas ≡ t.areas → u.outer ≡ t.outer → FlatHoldsParts E u (with_point w)
   point_more t u w k kept refused x y coords points lines areas outer = record {
     kept = kept;
     refused =
@@ -80,26 +80,26 @@ module _ {T : Type 0} (E : Coord T → Coord T → Bool) where
     open_ones = ap (λ v. map members v.items) outer ∙ k.open_ones;
   }
 
-  pub point_ends : (t : FlatTree T) (list : Vec (Point T) Global) (c : Coord T) → coord_of t ≡ Some c → list.items ≡ t.points.items ++ (record { 0 = c } ∷ []) → Becomes E HasPoint with_point t (record t { points = list })
+  pub point_ends : (t : FlatTree T) (list : Vec (Point T) Global) (c : Coord T) → coord_of t ≡ Some c → list.items ≡ t.points.items ++ (record { 0 = c } ∷ []) → FlatBecomes E HasPoint with_point t (record t { points = list })
   point_ends t list c is items = record {
     stays = λ h. h;
     holds = λ w h m.
         let k = parts_of t w m.0 h in
-        inl (subst (HoldsBy E (record t { points = list }) (with_point w)) (sym m.0)
+        inl (subst (FlatHoldsBy E (record t { points = list }) (with_point w)) (sym m.0)
         (point_more t (record t { points = list }) w k k.kept (sym (or_false t.is_refused) ∙ ap (λ o. t.is_refused || is_empty o) (sym is)) refl refl refl (items ∙ ap (λ o. t.points.items ++ point_at o) (sym is)) refl refl refl));
   }
 
-  pub empty_point_ends : (t : FlatTree T) → coord_of t ≡ None → Becomes E HasPoint with_point t (record t { is_refused = true })
+  pub empty_point_ends : (t : FlatTree T) → coord_of t ≡ None → FlatBecomes E HasPoint with_point t (record t { is_refused = true })
   empty_point_ends t is = record {
     stays = λ h. h;
     holds = λ w h m.
         let k = parts_of t w m.0 h in
-        inl (subst (HoldsBy E (record t { is_refused = true }) (with_point w)) (sym m.0)
+        inl (subst (FlatHoldsBy E (record t { is_refused = true }) (with_point w)) (sym m.0)
         (point_more t (record t { is_refused = true }) w k k.kept (sym (or_true t.is_refused) ∙ ap (λ o. t.is_refused || is_empty o) (sym is)) refl refl refl (sym (append-nil t.points.items) ∙ ap (λ o. t.points.items ++ point_at o) (sym is)) refl refl refl));
   }
 
   -- a collection opens
-  pub opens : (t : FlatTree T) (v : Vec (Vec (Geometry T) Global) Global) (c : Vec (Geometry T) Global) → c.items ≡ [] → v.items ≡ t.outer.items ++ (c ∷ []) → Becomes E (MayOpen part.Collection) (grown_open part.Collection) t (record t { outer = v })
+  pub opens : (t : FlatTree T) (v : Vec (Vec (Geometry T) Global) Global) (c : Vec (Geometry T) Global) → c.items ≡ [] → v.items ≡ t.outer.items ++ (c ∷ []) → FlatBecomes E (MayOpen part.Collection) (grown_open part.Collection) t (record t { outer = v })
   opens t v c none items = record {
     stays = λ h. h;
     holds = λ w h e.
@@ -115,7 +115,7 @@ module _ {T : Type 0} (E : Coord T → Coord T → Bool) where
   }
 
   -- the collection that was opened last is taken
-  pub gives_last : (t : FlatTree T) (v : Vec (Vec (Geometry T) Global) Global) (c : Vec (Geometry T) Global) → t.outer.items ≡ v.items ++ (c ∷ []) → GivesLast E t c (record t { outer = v })
+  pub gives_last : (t : FlatTree T) (v : Vec (Vec (Geometry T) Global) Global) (c : Vec (Geometry T) Global) → t.outer.items ≡ v.items ++ (c ∷ []) → FlatGivesLast E t c (record t { outer = v })
   gives_last t v c items = record {
     same = refl;
     gives = λ f o h.
@@ -132,33 +132,33 @@ module _ {T : Type 0} (E : Coord T → Coord T → Bool) where
           let (a, b) = last-same xs ys x y (cc) in
           (let same : z ∷ xs ≡ w ∷ ys = cc in same, b)
 
-  pub gives_none : (t : FlatTree T) (v : Vec (Vec (Geometry T) Global) Global) (c : Vec (Geometry T) Global) → t.outer.items ≡ [] → GivesLast E t c (record t { outer = v })
+  pub gives_none : (t : FlatTree T) (v : Vec (Vec (Geometry T) Global) Global) (c : Vec (Geometry T) Global) → t.outer.items ≡ [] → FlatGivesLast E t c (record t { outer = v })
   gives_none t v c none = record { same = refl; gives = λ f o h. absurd (none-last members t.outer.items (frames E o) (map (plain E) f.members) none h) }
 
   -- a collection of these members is the geometry
-  pub collection_gives : (t u : FlatTree T) (c : Vec (Geometry T) Global) (g : Geometry T) → (t.last ≡ last.Collection) ⊎ (t.last ≡ last.NoMembers) → GivesMembers E t c u → flat_tree g ≡ Flat.collection (flats_of (members c)) → Gives E t (Some g) u
+  pub collection_gives : (t u : FlatTree T) (c : Vec (Geometry T) Global) (g : Geometry T) → (t.last ≡ last.Collection) ⊎ (t.last ≡ last.NoMembers) → GivesMembers E t c u → flat_tree g ≡ Flat.collection (flats_of (members c)) → FlatGives E t (Some g) u
   collection_gives t u c g which h is = record {
     is_lost = ap (λ t. t.is_lost) h.same;
     is_refused = ap (λ t. t.is_refused) h.same;
     gives = λ o v k. go which o v k;
   }
     where
-      stays : HasOnly t [] [] [] [] → HasOnly u [] [] [] []
-      stays only = subst (λ t. HasOnly t [] [] [] []) (sym h.same) only
+      stays : FlatHasOnly t [] [] [] [] → FlatHasOnly u [] [] [] []
+      stays only = subst (λ t. FlatHasOnly t [] [] [] []) (sym h.same) only
 
-      go : (t.last ≡ last.Collection) ⊎ (t.last ≡ last.NoMembers) → (o : List (Frame T)) (v : Value T) → HoldsWhole E t o v → (flat_tree g ≡ plain E v) × HasOnly u [] [] [] [] × (opened u ≡ frames E o)
+      go : (t.last ≡ last.Collection) ⊎ (t.last ≡ last.NoMembers) → (o : List (Frame T)) (v : Value T) → FlatHoldsWhole E t o v → (flat_tree g ≡ plain E v) × FlatHasOnly u [] [] [] [] × (opened u ≡ frames E o)
       go (inl e) o v k =
-          let (f, value, only, parts_open) : HoldsEnded E last.Collection t o v = subst (λ l. HoldsEnded E l t o v) e k.whole in
+          let (f, value, only, parts_open) : FlatHoldsEnded E last.Collection t o v = subst (λ l. FlatHoldsEnded E l t o v) e k.whole in
           let (all, outer) = h.last e f o parts_open in
           (is ∙ ap (λ ms. Flat.collection (flats_of ms)) all ∙ ap (λ ts. Flat.collection ts) (members-plain E f.members) ∙ ap (plain E) value, stays only, outer)
       go (inr e) o v k =
-          let (d, value, only, parts_open) : HoldsEnded E last.NoMembers t o v = subst (λ l. HoldsEnded E l t o v) e k.whole in
+          let (d, value, only, parts_open) : FlatHoldsEnded E last.NoMembers t o v = subst (λ l. FlatHoldsEnded E l t o v) e k.whole in
           let (none, same) = h.none e in
           (is ∙ ap (λ gs. Flat.collection (flat_members gs)) none ∙ ap (plain E) value, stays only, ap (λ t. opened t) same ∙ parts_open)
 
   -- a member was put into the collection that was opened last
   pub member_put : (t : FlatTree T) (c list : Vec (Geometry T) Global) (g : Geometry T) (n : ℕ) → n + 1 ≡ length t.outer.items → c ≡ get_or t.outer.items n c → list.items ≡ c.items ++ (g ∷ [])
-      → Joins E t g (record t { x = None; y = None; outer = with_item t.outer n list })
+      → FlatJoins E t g (record t { x = None; y = None; outer = with_item t.outer n list })
   member_put t c list g n long at added = record {
     stays = λ h. h;
     joins = λ f o v kept refused only parts_open is.
@@ -185,38 +185,38 @@ module _ {T : Type 0} (E : Coord T → Coord T → Bool) where
   none_open o (c ∷ cs) n e h none = absurd (some_none o none (h (omega (arith, e))))
 
   -- none is parts_open
-  pub none_joins : (t u : FlatTree T) (g : Geometry T) → t.outer.items ≡ [] → u.is_lost ≡ t.is_lost → Joins E t g u
+  pub none_joins : (t u : FlatTree T) (g : Geometry T) → t.outer.items ≡ [] → u.is_lost ≡ t.is_lost → FlatJoins E t g u
   none_joins t u g none lost = record {
     stays = λ h. lost ∙ h;
     joins = λ f o v kept refused only parts_open is. absurd (none-last members t.outer.items (frames E o) (map (plain E) f.members) none parts_open);
   }
 
-  pub lost_joins : (t u : FlatTree T) (g : Geometry T) → IsLost u → Joins E t g u
+  pub lost_joins : (t u : FlatTree T) (g : Geometry T) → FlatIsLost u → FlatJoins E t g u
   lost_joins t u g l = record { stays = λ h. l; joins = λ f o v kept refused only parts_open is. inr l }
 
   -- the geometry that ended was taken, and put there
-  pub member_ends : (t u s : FlatTree T) (r : Option (Geometry T)) (g : Geometry T) → r ≡ Some g → Gives E t r u → Joins E u g s → Becomes E HasMember (λ w. joined w.outer w.grown) t s
+  pub member_ends : (t u s : FlatTree T) (r : Option (Geometry T)) (g : Geometry T) → r ≡ Some g → FlatGives E t r u → FlatJoins E u g s → FlatBecomes E HasMember (λ w. joined w.outer w.grown) t s
   member_ends t u s r g some gives joins = record {
     stays = λ h. joins.stays (gives.is_lost ∙ h);
     holds = λ w h ((f, o, e), v, grown).
         let k = whole_of t w v grown h in
-        let given : Gives E t (Some g) u = subst (λ r. Gives E t r u) some gives in
+        let given : FlatGives E t (Some g) u = subst (λ r. FlatGives E t r u) some gives in
         let (is, only, parts_open) = given.gives w.outer v k in
-        either w (λ h. subst (λ g. Holds E s (joined w.outer g)) (sym grown) (subst (λ o. Holds E s (joined o (Some v))) (sym e) h))
+        either w (λ h. subst (λ g. FlatHolds E s (joined w.outer g)) (sym grown) (subst (λ o. FlatHolds E s (joined o (Some v))) (sym e) h))
         (joins.joins f o v (gives.is_lost ∙ k.kept) (gives.is_refused ∙ k.refused ∙ ap (λ o. frames_hold o || holds_empty v) e) only (parts_open ∙ ap (frames E) e) is);
   }
     where
-      either : (w : Growing T) {A : Type 0} → (A → Holds E s (joined w.outer w.grown)) → A ⊎ IsLost s → Holds E s (joined w.outer w.grown) ⊎ IsLost s
+      either : (w : Growing T) {A : Type 0} → (A → FlatHolds E s (joined w.outer w.grown)) → A ⊎ FlatIsLost s → FlatHolds E s (joined w.outer w.grown) ⊎ FlatIsLost s
       either w f (inl h) = inl (f h)
       either w f (inr l) = inr l
 
   -- a part ends whose items are whole
-  pub whole_collection : (t : FlatTree T) → Becomes E (MayEnd part.Collection) (ended part.Collection) t (record t { last = last.Collection })
+  pub whole_collection : (t : FlatTree T) → FlatBecomes E (MayEnd part.Collection) (ended part.Collection) t (record t { last = last.Collection })
   whole_collection t = record {
     stays = λ h. h;
     holds = λ w h ((f, o, e), has).
         let k = parts_of t w has.grown h in
-        inl (subst (λ o. Holds E (record t { last = last.Collection }) (shut o)) (sym e) (record {
+        inl (subst (λ o. FlatHolds E (record t { last = last.Collection }) (shut o)) (sym e) (record {
           kept = k.kept;
           refused =
               k.refused ∙ ap (λ o. frames_hold o || some_empty w.points) e ∙ ap (λ ps. frames_hold (f ∷ o) || some_empty ps) has.points ∙ or_false (frames_hold (f ∷ o))
@@ -226,41 +226,41 @@ module _ {T : Type 0} (E : Coord T → Coord T → Bool) where
   }
 
   -- an event after one call
-  pub one_event : (May : Growing T → Type 0) (change : Growing T → Growing T) (t u : FlatTree T) (e : Event T) → Becomes E May change t u → ((w : Growing T) → MayCome e w → May w) → ((w : Growing T) → change w ≡ grow e w) → Grew E t (e ∷ []) u
+  pub one_event : (May : Growing T → Type 0) (change : Growing T → Growing T) (t u : FlatTree T) (e : Event T) → FlatBecomes E May change t u → ((w : Growing T) → MayCome e w → May w) → ((w : Growing T) → change w ≡ grow e w) → FlatGrew E t (e ∷ []) u
   one_event May change t u e h may same = record {
     stays = h.stays;
     holds = λ w k (m, rest). go w (h.holds w k (may w m));
   }
     where
-      go : (w : Growing T) → Holds E u (change w) ⊎ IsLost u → Holds E u (grow e w) ⊎ IsLost u
-      go w (inl k) = inl (subst (Holds E u) (same w) k)
+      go : (w : Growing T) → FlatHolds E u (change w) ⊎ FlatIsLost u → FlatHolds E u (grow e w) ⊎ FlatIsLost u
+      go w (inl k) = inl (subst (FlatHolds E u) (same w) k)
       go w (inr l) = inr l
 
   -- an event after two
-  pub two_calls : (MayA MayB : Growing T → Type 0) (first second : Growing T → Growing T) (t u v : FlatTree T) → Becomes E MayA first t u → Becomes E MayB second u v → Becomes E (λ w. MayA w × MayB (first w)) (λ w. second (first w)) t v
+  pub two_calls : (MayA MayB : Growing T → Type 0) (first second : Growing T → Growing T) (t u v : FlatTree T) → FlatBecomes E MayA first t u → FlatBecomes E MayB second u v → FlatBecomes E (λ w. MayA w × MayB (first w)) (λ w. second (first w)) t v
   two_calls MayA MayB first second t u v h k = record {
     stays = λ l. k.stays (h.stays l);
     holds = λ w s (m, n). go w n (h.holds w s m);
   }
     where
-      go : (w : Growing T) → MayB (first w) → Holds E u (first w) ⊎ IsLost u → Holds E v (second (first w)) ⊎ IsLost v
+      go : (w : Growing T) → MayB (first w) → FlatHolds E u (first w) ⊎ FlatIsLost u → FlatHolds E v (second (first w)) ⊎ FlatIsLost v
       go w n (inl s) = k.holds (first w) s n
       go w n (inr l) = inr (k.stays l)
 
   -- nothing is done where a part opens that is no collection
-  pub no_opening : (t : FlatTree T) (p : Part) → (p ≡ part.Collection → ⊥) → Grew E t (Event.Open p ∷ []) t
+  pub no_opening : (t : FlatTree T) (p : Part) → (p ≡ part.Collection → ⊥) → FlatGrew E t (Event.Open p ∷ []) t
   no_opening t part.Collection not = absurd (not refl)
   no_opening t p not = record { stays = λ h. h; holds = λ w h m. inl h }
 
   -- a part that ends is one of several
-  pub line_by : (p : Part) (t u : FlatTree T) → (p ≡ part.Ring) ⊎ ((p ≡ part.Line) ⊎ (p ≡ part.AreaRing)) → Becomes E (λ w. w.grown ≡ None) with_line t u → Becomes E (MayEnd p) (ended p) t u
-  line_by p t u (inl e) h = subst (λ p. Becomes E (MayEnd p) (ended p) t u) (sym e) h
-  line_by p t u (inr (inl e)) h = subst (λ p. Becomes E (MayEnd p) (ended p) t u) (sym e) h
-  line_by p t u (inr (inr e)) h = subst (λ p. Becomes E (MayEnd p) (ended p) t u) (sym e) h
+  pub line_by : (p : Part) (t u : FlatTree T) → (p ≡ part.Ring) ⊎ ((p ≡ part.Line) ⊎ (p ≡ part.AreaRing)) → FlatBecomes E (λ w. w.grown ≡ None) with_line t u → FlatBecomes E (MayEnd p) (ended p) t u
+  line_by p t u (inl e) h = subst (λ p. FlatBecomes E (MayEnd p) (ended p) t u) (sym e) h
+  line_by p t u (inr (inl e)) h = subst (λ p. FlatBecomes E (MayEnd p) (ended p) t u) (sym e) h
+  line_by p t u (inr (inr e)) h = subst (λ p. FlatBecomes E (MayEnd p) (ended p) t u) (sym e) h
 
-  pub point_by : (p : Part) (t u : FlatTree T) → (p ≡ part.Member) ⊎ (p ≡ part.Bare) → Becomes E HasPoint with_point t u → Becomes E (MayEnd p) (ended p) t u
-  point_by p t u (inl e) h = subst (λ p. Becomes E (MayEnd p) (ended p) t u) (sym e) h
-  point_by p t u (inr e) h = subst (λ p. Becomes E (MayEnd p) (ended p) t u) (sym e) h
+  pub point_by : (p : Part) (t u : FlatTree T) → (p ≡ part.Member) ⊎ (p ≡ part.Bare) → FlatBecomes E HasPoint with_point t u → FlatBecomes E (MayEnd p) (ended p) t u
+  point_by p t u (inl e) h = subst (λ p. FlatBecomes E (MayEnd p) (ended p) t u) (sym e) h
+  point_by p t u (inr e) h = subst (λ p. FlatBecomes E (MayEnd p) (ended p) t u) (sym e) h
 
-  pub ends_by : (p q : Part) (t u s : FlatTree T) → p ≡ q → u ≡ s → Becomes E (MayEnd q) (ended q) t s → Becomes E (MayEnd p) (ended p) t u
-  ends_by p q t u s e f h = subst (λ p. Becomes E (MayEnd p) (ended p) t u) (sym e) (subst (λ u. Becomes E (MayEnd q) (ended q) t u) (sym f) h)
+  pub ends_by : (p q : Part) (t u s : FlatTree T) → p ≡ q → u ≡ s → FlatBecomes E (MayEnd q) (ended q) t s → FlatBecomes E (MayEnd p) (ended p) t u
+  ends_by p q t u s e f h = subst (λ p. FlatBecomes E (MayEnd p) (ended p) t u) (sym e) (subst (λ u. FlatBecomes E (MayEnd q) (ended q) t u) (sym f) h)

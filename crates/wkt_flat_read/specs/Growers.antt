@@ -7,7 +7,7 @@ use Rattle.wkt_machine.specs.Events.{Event}
 use Rattle.wkt_machine.specs.Growers.{grow_append}
 use Rattle.wkt_machine.specs.Growing.{Growing, grow, grow_all, MayAll}
 use Rattle.wkt_machine.specs.Makers.{Maker}
-use Rattle.wkt_flat_read.specs.Trees.{Holds, IsLost, Grew}
+use Rattle.wkt_flat_read.specs.Trees.{FlatHolds, FlatIsLost, FlatGrew}
 use Rattle.wkt_flat_read.specs.declared.grower.FlatGrower.{FlatGrower}
 use Rattle.wkt_flat_read.specs.declared.tree.FlatTree.{FlatTree}
 
@@ -20,26 +20,26 @@ may_front [] fs s h = (tt, h)
 may_front (e ∷ es) fs s (h, hs) = let (k, ks) = may_front es fs (grow e s) hs in ((h, k), ks)
 
 module _ {T : Type 0} (E : Coord T → Coord T → Bool) where
-  pub grew_none : (t : FlatTree T) → Grew E t [] t
+  pub grew_none : (t : FlatTree T) → FlatGrew E t [] t
   grew_none t = record { stays = λ h. h; holds = λ w h k. inl h }
 
-  pub grew_more : (t u v : FlatTree T) (es fs : List (Event T)) → Grew E t es u → Grew E u fs v → Grew E t (es ++ fs) v
+  pub grew_more : (t u v : FlatTree T) (es fs : List (Event T)) → FlatGrew E t es u → FlatGrew E u fs v → FlatGrew E t (es ++ fs) v
   grew_more t u v es fs a b = record {
     stays = λ h. b.stays (a.stays h);
     holds = λ w h may. let (one, two) = may_front es fs w may in first w two (a.holds w h one);
   }
     where
-      second : (w : Growing T) → Holds E v (grow_all fs (grow_all es w)) ⊎ IsLost v → Holds E v (grow_all (es ++ fs) w) ⊎ IsLost v
-      second w (inl h) = inl (subst (Holds E v) (sym (grow_append es fs w)) h)
+      second : (w : Growing T) → FlatHolds E v (grow_all fs (grow_all es w)) ⊎ FlatIsLost v → FlatHolds E v (grow_all (es ++ fs) w) ⊎ FlatIsLost v
+      second w (inl h) = inl (subst (FlatHolds E v) (sym (grow_append es fs w)) h)
       second w (inr l) = inr l
 
-      first : (w : Growing T) → MayAll fs (grow_all es w) → Holds E u (grow_all es w) ⊎ IsLost u → Holds E v (grow_all (es ++ fs) w) ⊎ IsLost v
+      first : (w : Growing T) → MayAll fs (grow_all es w) → FlatHolds E u (grow_all es w) ⊎ FlatIsLost u → FlatHolds E v (grow_all (es ++ fs) w) ⊎ FlatIsLost v
       first w two (inl h) = second w (b.holds (grow_all es w) h two)
       first w two (inr l) = inr (b.stays l)
 
   abbrev pub tree_maker : Maker T (FlatGrower T)
   tree_maker = record {
-    makes = λ g es h. Grew E (tree_of g).now es (tree_of h).now;
+    makes = λ g es h. FlatGrew E (tree_of g).now es (tree_of h).now;
     fits = λ s n. Unit {0};
     takes = λ x. 0;
     none = λ g. grew_none (tree_of g).now;

@@ -11,14 +11,14 @@ use Rattle.wkt_machine.specs.Values.{IsRead}
 use Rattle.wkt_machine.specs.View.{View}
 use Rattle.wkt_machine.specs.declared.value.Unread.{Unread}
 use Rattle.wkt_machine.specs.declared.value.Unread.TheVariants.{Refused, Memory}
-use Rattle.wkt_flat_read.specs.Trees.{HoldsWhole}
+use Rattle.wkt_flat_read.specs.Trees.{FlatHoldsWhole}
 use Rattle.wkt_flat_read.specs.declared.tree.FlatTree.{FlatTree}
 
 -- The flat value of the geometry that ended; or memory was lacking.
-abbrev pub Answers : {T : Type 0} → (Coord T → Coord T → Bool) → FlatTree T → Result (Flattened T) Unread → Type 0
-Answers {T} E t (Ok f) = (t.is_lost ≡ false) × ((v : Value T) → HoldsWhole E t [] v → (k : Tree T) → value_of k ≡ v → IsFlattened E k f)
-Answers E t (Err (Refused m)) = ⊥
-Answers E t (Err (Memory e)) = Unit {0}
+abbrev pub AnswersFlat : {T : Type 0} → (Coord T → Coord T → Bool) → FlatTree T → Result (Flattened T) Unread → Type 0
+AnswersFlat {T} E t (Ok f) = (t.is_lost ≡ false) × ((v : Value T) → FlatHoldsWhole E t [] v → (k : Tree T) → value_of k ≡ v → IsFlattened E k f)
+AnswersFlat E t (Err (Refused m)) = ⊥
+AnswersFlat E t (Err (Memory e)) = Unit {0}
 
 module _ {N : Type 0} (read : List ℕ → Option N) (E : Coord N → Coord N → Bool) where
   -- It is flat what the value is read as that the lexemes which are taken stand for.

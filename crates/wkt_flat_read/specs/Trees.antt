@@ -17,8 +17,8 @@ use Rattle.wkt_convert.specs.declared.flattened.Found.TheVariants as found
 use Rattle.wkt_machine.specs.Events.{Event}
 use Rattle.wkt_machine.specs.Growing.{Frame, Growing, grow_all, joined, members_of, MayAll}
 use Rattle.wkt_flat_read.specs.Plain.{flat_line, flat_area, flat_point, flat_points, points_at, plain, holds_empty, some_empty}
-use Rattle.wkt_flat_read.specs.declared.tree.Ended.{Ended}
-use Rattle.wkt_flat_read.specs.declared.tree.Ended.TheVariants as ended
+use Rattle.wkt_flat_read.specs.declared.tree.FlatEnded.{FlatEnded}
+use Rattle.wkt_flat_read.specs.declared.tree.FlatEnded.TheVariants as ended
 use Rattle.wkt_flat_read.specs.declared.tree.FlatTree.{FlatTree}
 
 -- the coordinate of an x and a y, if both came
@@ -40,7 +40,7 @@ point_or_none None = Flat.multi_point []
 point_or_none (Some c) = Flat.point (record { 0 = c })
 
 -- the kind of what ended, if it is no collection
-abbrev pub found_of : Ended → Option Found
+abbrev pub found_of : FlatEnded → Option Found
 found_of ended.Point = Some found.Point
 found_of ended.LineString = Some found.LineString
 found_of ended.Polygon = Some found.Polygon
@@ -73,65 +73,65 @@ frames_hold [] = false
 frames_hold (f ∷ o) = frames_hold o || some_holds f.members
 
 -- These parts are at hand.
-abbrev pub HasOnly : {T : Type 0} → FlatTree T → List (Coord T) → List (Point T) → List (List (Coord T)) → List (Rings (Coord T)) → Type 0
-HasOnly t cs ps ls ys = (t.coords.items ≡ cs) × (t.points.items ≡ ps) × (t.lines.items ≡ ls) × (t.areas.items ≡ ys)
+abbrev pub FlatHasOnly : {T : Type 0} → FlatTree T → List (Coord T) → List (Point T) → List (List (Coord T)) → List (Rings (Coord T)) → Type 0
+FlatHasOnly t cs ps ls ys = (t.coords.items ≡ cs) × (t.points.items ≡ ps) × (t.lines.items ≡ ls) × (t.areas.items ≡ ys)
 
 -- What was to be held is lost, for want of memory.
-abbrev pub IsLost : {T : Type 0} → FlatTree T → Type 0
-IsLost t = t.is_lost ≡ true
+abbrev pub FlatIsLost : {T : Type 0} → FlatTree T → Type 0
+FlatIsLost t = t.is_lost ≡ true
 
 module _ {T : Type 0} (E : Coord T → Coord T → Bool) where
   -- The parts of the geometry at hand, and what is open.
-  pub record HoldsParts (t : FlatTree T) (w : Growing T) : Type 0 where
+  pub record FlatHoldsParts (t : FlatTree T) (w : Growing T) : Type 0 where
     pub kept : t.is_lost ≡ false
     pub refused : t.is_refused ≡ (frames_hold w.outer || some_empty w.points)
     pub x : t.x ≡ w.hand.x
     pub y : t.y ≡ w.hand.y
-    pub parts : HasOnly t (flat_line w.coords) (flat_points w.points) (map flat_line w.lines) (map (flat_area E) w.areas)
+    pub parts : FlatHasOnly t (flat_line w.coords) (flat_points w.points) (map flat_line w.lines) (map (flat_area E) w.areas)
     pub open_ones : opened t ≡ frames E w.outer
 
   -- The geometry that ended has this value, its parts are all that is at hand, and these collections are open but for it.
-  abbrev pub HoldsEnded : Ended → FlatTree T → List (Frame T) → Value T → Type 0
-  HoldsEnded ended.Point t o v = (d : Dimension) × (c : Option (List T)) × (Value.point d c ≡ v) × (point_at (coord_of t) ≡ flat_point c) × HasOnly t [] [] [] [] × (opened t ≡ frames E o)
-  HoldsEnded ended.LineString t o v = (d : Dimension) × (cs : List (List T)) × (Value.line_string d cs ≡ v) × HasOnly t (flat_line cs) [] [] [] × (opened t ≡ frames E o)
-  HoldsEnded ended.Polygon t o v = (d : Dimension) × (ls : List (List (List T))) × (Value.polygon d ls ≡ v) × HasOnly t [] [] (map flat_line ls) [] × (opened t ≡ frames E o)
-  HoldsEnded ended.MultiPoint t o v = (d : Dimension) × (ps : List (Option (List T))) × (Value.multi_point d ps ≡ v) × HasOnly t [] (flat_points ps) [] [] × (opened t ≡ frames E o)
-  HoldsEnded ended.MultiLineString t o v = (d : Dimension) × (ls : List (List (List T))) × (Value.multi_line_string d ls ≡ v) × HasOnly t [] [] (map flat_line ls) [] × (opened t ≡ frames E o)
-  HoldsEnded ended.MultiPolygon t o v = (d : Dimension) × (ys : List (List (List (List T)))) × (Value.multi_polygon d ys ≡ v) × HasOnly t [] [] [] (map (flat_area E) ys) × (opened t ≡ frames E o)
-  HoldsEnded ended.Collection t o v = (f : Frame T) × (Value.collection f.dim (members_of f.members) ≡ v) × HasOnly t [] [] [] [] × (opened t ≡ frames E (f ∷ o))
-  HoldsEnded ended.NoMembers t o v = (d : Dimension) × (Value.collection d Values.no_values ≡ v) × HasOnly t [] [] [] [] × (opened t ≡ frames E o)
+  abbrev pub FlatHoldsEnded : FlatEnded → FlatTree T → List (Frame T) → Value T → Type 0
+  FlatHoldsEnded ended.Point t o v = (d : Dimension) × (c : Option (List T)) × (Value.point d c ≡ v) × (point_at (coord_of t) ≡ flat_point c) × FlatHasOnly t [] [] [] [] × (opened t ≡ frames E o)
+  FlatHoldsEnded ended.LineString t o v = (d : Dimension) × (cs : List (List T)) × (Value.line_string d cs ≡ v) × FlatHasOnly t (flat_line cs) [] [] [] × (opened t ≡ frames E o)
+  FlatHoldsEnded ended.Polygon t o v = (d : Dimension) × (ls : List (List (List T))) × (Value.polygon d ls ≡ v) × FlatHasOnly t [] [] (map flat_line ls) [] × (opened t ≡ frames E o)
+  FlatHoldsEnded ended.MultiPoint t o v = (d : Dimension) × (ps : List (Option (List T))) × (Value.multi_point d ps ≡ v) × FlatHasOnly t [] (flat_points ps) [] [] × (opened t ≡ frames E o)
+  FlatHoldsEnded ended.MultiLineString t o v = (d : Dimension) × (ls : List (List (List T))) × (Value.multi_line_string d ls ≡ v) × FlatHasOnly t [] [] (map flat_line ls) [] × (opened t ≡ frames E o)
+  FlatHoldsEnded ended.MultiPolygon t o v = (d : Dimension) × (ys : List (List (List (List T)))) × (Value.multi_polygon d ys ≡ v) × FlatHasOnly t [] [] [] (map (flat_area E) ys) × (opened t ≡ frames E o)
+  FlatHoldsEnded ended.Collection t o v = (f : Frame T) × (Value.collection f.dim (members_of f.members) ≡ v) × FlatHasOnly t [] [] [] [] × (opened t ≡ frames E (f ∷ o))
+  FlatHoldsEnded ended.NoMembers t o v = (d : Dimension) × (Value.collection d Values.no_values ≡ v) × FlatHasOnly t [] [] [] [] × (opened t ≡ frames E o)
 
-  pub record HoldsWhole (t : FlatTree T) (o : List (Frame T)) (v : Value T) : Type 0 where
+  pub record FlatHoldsWhole (t : FlatTree T) (o : List (Frame T)) (v : Value T) : Type 0 where
     pub kept : t.is_lost ≡ false
     pub refused : t.is_refused ≡ (frames_hold o || holds_empty v)
-    pub whole : HoldsEnded t.last t o v
+    pub whole : FlatHoldsEnded t.last t o v
 
   -- The tree holds what has grown.
-  abbrev pub HoldsBy : FlatTree T → Growing T → Option (Value T) → Type 0
-  HoldsBy t w None = HoldsParts t w
-  HoldsBy t w (Some v) = HoldsWhole t w.outer v
+  abbrev pub FlatHoldsBy : FlatTree T → Growing T → Option (Value T) → Type 0
+  FlatHoldsBy t w None = FlatHoldsParts t w
+  FlatHoldsBy t w (Some v) = FlatHoldsWhole t w.outer v
 
-  abbrev pub Holds : FlatTree T → Growing T → Type 0
-  Holds t w = HoldsBy t w w.grown
+  abbrev pub FlatHolds : FlatTree T → Growing T → Type 0
+  FlatHolds t w = FlatHoldsBy t w w.grown
 
   -- What was held was changed so; or it is lost. What was lost stays lost.
-  pub record Becomes (May : Growing T → Type 0) (change : Growing T → Growing T) (t u : FlatTree T) : Type 0 where
-    pub stays : IsLost t → IsLost u
-    pub holds : (w : Growing T) → Holds t w → May w → Holds u (change w) ⊎ IsLost u
+  pub record FlatBecomes (May : Growing T → Type 0) (change : Growing T → Growing T) (t u : FlatTree T) : Type 0 where
+    pub stays : FlatIsLost t → FlatIsLost u
+    pub holds : (w : Growing T) → FlatHolds t w → May w → FlatHolds u (change w) ⊎ FlatIsLost u
 
   -- If the events may come where they do, what is held has grown by them; or it is lost. What was lost stays lost.
-  pub record Grew (t : FlatTree T) (es : List (Event T)) (u : FlatTree T) : Type 0 where
-    pub stays : IsLost t → IsLost u
-    pub holds : (w : Growing T) → Holds t w → MayAll es w → Holds u (grow_all es w) ⊎ IsLost u
+  pub record FlatGrew (t : FlatTree T) (es : List (Event T)) (u : FlatTree T) : Type 0 where
+    pub stays : FlatIsLost t → FlatIsLost u
+    pub holds : (w : Growing T) → FlatHolds t w → MayAll es w → FlatHolds u (grow_all es w) ⊎ FlatIsLost u
 
   -- The geometry that ended was taken, and no part is at hand; or there was no memory for it.
-  pub record Gives (t : FlatTree T) (r : Option (Geometry T)) (u : FlatTree T) : Type 0 where
+  pub record FlatGives (t : FlatTree T) (r : Option (Geometry T)) (u : FlatTree T) : Type 0 where
     pub is_lost : u.is_lost ≡ t.is_lost
     pub is_refused : u.is_refused ≡ t.is_refused
-    pub gives : (o : List (Frame T)) (v : Value T) → HoldsWhole t o v → IfSome r (λ g. flat_tree g ≡ plain E v) × HasOnly u [] [] [] [] × (opened u ≡ frames E o)
+    pub gives : (o : List (Frame T)) (v : Value T) → FlatHoldsWhole t o v → IfSome r (λ g. flat_tree g ≡ plain E v) × FlatHasOnly u [] [] [] [] × (opened u ≡ frames E o)
 
   -- The members of the collection that was opened last were taken.
-  pub record GivesLast (t : FlatTree T) (c : Vec (Geometry T) Global) (u : FlatTree T) : Type 0 where
+  pub record FlatGivesLast (t : FlatTree T) (c : Vec (Geometry T) Global) (u : FlatTree T) : Type 0 where
     pub same : u ≡ record t { outer = u.outer }
     pub gives : (f : Frame T) (o : List (Frame T)) → opened t ≡ frames E (f ∷ o) → (members c ≡ map (plain E) f.members) × (opened u ≡ frames E o)
 
@@ -143,9 +143,9 @@ module _ {T : Type 0} (E : Coord T → Coord T → Bool) where
 
   -- The geometry that ended, as a flat value; or there was no memory for it.
   abbrev pub GivesFlat : FlatTree T → Option (Flattened T) → Type 0
-  GivesFlat t r = (v : Value T) → HoldsWhole t [] v → (k : Tree T) → value_of k ≡ v → IfSome r (IsFlattened E k)
+  GivesFlat t r = (v : Value T) → FlatHoldsWhole t [] v → (k : Tree T) → value_of k ≡ v → IfSome r (IsFlattened E k)
 
-  -- The same where it is a collection, and where it is of another kind.
+  -- The geometry that ended, where it is a collection, and where it is of another kind.
   abbrev pub GivesCollection : FlatTree T → Flattened T → Type 0
   GivesCollection t r = found_of t.last ≡ None → GivesFlat t (Some r)
 
@@ -153,6 +153,6 @@ module _ {T : Type 0} (E : Coord T → Coord T → Bool) where
   GivesOther t kind r = found_of t.last ≡ Some kind → GivesFlat t r
 
   -- A member of the collection that was opened last was put into it, or it is lost.
-  pub record Joins (t : FlatTree T) (g : Geometry T) (u : FlatTree T) : Type 0 where
-    pub stays : IsLost t → IsLost u
-    pub joins : (f : Frame T) (o : List (Frame T)) (v : Value T) → t.is_lost ≡ false → t.is_refused ≡ (frames_hold (f ∷ o) || holds_empty v) → HasOnly t [] [] [] [] → opened t ≡ frames E (f ∷ o) → flat_tree g ≡ plain E v → Holds u (joined (f ∷ o) (Some v)) ⊎ IsLost u
+  pub record FlatJoins (t : FlatTree T) (g : Geometry T) (u : FlatTree T) : Type 0 where
+    pub stays : FlatIsLost t → FlatIsLost u
+    pub joins : (f : Frame T) (o : List (Frame T)) (v : Value T) → t.is_lost ≡ false → t.is_refused ≡ (frames_hold (f ∷ o) || holds_empty v) → FlatHasOnly t [] [] [] [] → opened t ≡ frames E (f ∷ o) → flat_tree g ≡ plain E v → FlatHolds u (joined (f ∷ o) (Some v)) ⊎ FlatIsLost u

@@ -1,6 +1,6 @@
-//! Two-dimensional values, read straight from the walk over a text.
+//! Two-dimensional values, made straight of the machine's events.
 //!
-//! Below stand `wkt_machine`, with the walk and its events, and `wkt_convert`, with what is flat; above, `wkt`.
+//! Below stand `wkt_machine`, with the machine and its events, and `wkt_convert`, with what is flat; above, `wkt`.
 #![tactic(auto)]
 
 mod grower;

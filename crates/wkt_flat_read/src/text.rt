@@ -5,9 +5,9 @@ ghost use Rattle.wkt_read.specs.Answered.{HasBadNumber, OnText, OnMessage};
 ghost use Rattle.wkt_read.specs.Front.{HasNoFront};
 ghost use Rattle.wkt_read.specs.Items.{bad_number};
 ghost use Rattle.wkt_read.specs.Refusal.{IsTextRefused, IfText};
-ghost use Rattle.wkt_machine.specs.Values.{IsRefused, OnRefused};
+ghost use Rattle.wkt_machine.specs.Values.{MachineRefuses, OnRefused};
 ghost use Rattle.wkt_flat_read.specs.Growers.{tree_of};
-ghost use Rattle.wkt_flat_read.specs.Read.{Answers, IsFlatRead, IsFlatFront};
+ghost use Rattle.wkt_flat_read.specs.Read.{AnswersFlat, IsFlatRead, IsFlatFront};
 
 use crate::grower::FlatGrower;
 use crate::tree::FlatTree;
@@ -21,7 +21,7 @@ use wkt_read::{Message, ReadError};
 /// What has grown.
 #[inline(always)]
 fn answer<T: WktNum>(grower: FlatGrower<'_, T>) -> Result<Flattened<T>, Unread>
-    ensures { Answers (coord_eq T.eq) (tree_of grower.entry).now result }
+    ensures { AnswersFlat (coord_eq T.eq) (tree_of grower.entry).now result }
 {
     let tree = grower.into_tree();
     if tree.is_lost() {
@@ -39,9 +39,9 @@ fn answer<T: WktNum>(grower: FlatGrower<'_, T>) -> Result<Flattened<T>, Unread>
 /// `Refused` where no geometry comes next; `Memory` where memory ran out.
 #[inline(always)]
 fn read<T: WktNum, S: Walk<T>>(alloc: Global, source: S) -> (Result<Flattened<T>, Unread>, S)
-    requires room { length (S.view.left source) ≤ usize.MAX }
+    requires room { length (S.view.remaining source) ≤ usize.MAX }
     ensures found { IfOk result.0 (λ f. IsFlatRead T.read (coord_eq T.eq) S.view source f result.1) }
-    ensures refused { OnRefused result.0 (λ m. IsRefused T.read S.view source m result.1) }
+    ensures refused { OnRefused result.0 (λ m. MachineRefuses T.read S.view source m result.1) }
 {
     let mut tree = FlatTree::new(alloc);
     match drive::<T, S, FlatGrower<'_, T>>(source, FlatGrower::new(&mut tree)) {
@@ -82,7 +82,7 @@ pub fn read_text<T: WktNum>(alloc: Global, text: &str) -> Result<Flattened<T>, R
     front_of(alloc, text)
 }
 
-/// The same, by the machine, of any text.
+/// The geometry at the front of any text, as a flat value, by the machine.
 #[inline(always)]
 fn front_of<T: WktNum>(alloc: Global, text: &str) -> Result<Flattened<T>, ReadError>
     ensures found { IfOk result (IsFlatFront T.read (coord_eq T.eq) text.now) }

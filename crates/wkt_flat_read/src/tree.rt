@@ -5,7 +5,7 @@ ghost use Rattle.wkt_flat.specs.Tree.{Flat, flat_tree};
 ghost use Rattle.wkt_convert.specs.Flatten.{first_outside};
 ghost use Rattle.wkt_machine.specs.Growing.{HasMember, HasNumbers, HasPoint, MayEnd, MayJoin, MayOpen, MayBeEmpty, ended, joined, opened, rest, with_coord, with_item, with_line, with_number, with_point, without_items};
 ghost use Rattle.wkt_machine.specs.declared.part.Part.TheVariants as kind;
-ghost use Rattle.wkt_flat_read.specs.Trees.{Becomes, Gives, GivesCollection, GivesFlat, GivesLast, GivesMembers, GivesOther, Holds, Joins, coord_of, found_of, point_or_none};
+ghost use Rattle.wkt_flat_read.specs.Trees.{FlatBecomes, FlatGives, GivesCollection, GivesFlat, FlatGivesLast, GivesMembers, GivesOther, FlatHolds, FlatJoins, coord_of, found_of, point_or_none};
 
 use std::alloc::{AllocError, Global};
 use std::mem;
@@ -19,7 +19,7 @@ use wkt_num::WktNum;
 
 /// A geometry that ended, by where its parts are kept.
 #[derive(Clone, Copy)]
-enum Ended {
+enum FlatEnded {
     Point,
     LineString,
     Polygon,
@@ -38,7 +38,7 @@ enum Ended {
 pub struct FlatTree<T> {
     alloc: Global,
     // The geometry that ended last.
-    last: Ended,
+    last: FlatEnded,
     // Whether something was lost, for want of memory.
     is_lost: bool,
     // Whether an empty point came as a member of a multipoint. It isn't kept, since it isn't flat.
@@ -74,7 +74,7 @@ fn add<V: Drop>(list: &mut Vec<V>, item: V) -> bool
     }
 }
 
-/// The same with room for this item alone.
+/// Adds an item, with room for it alone; or there was no memory for it.
 #[inline(always)]
 fn add_last<V: Drop>(list: &mut Vec<V>, item: V) -> bool
     ensures { list.new.items ≡ (if result then list.old.items ++ item ∷ [] else list.old.items) }
@@ -113,11 +113,11 @@ impl<T: WktNum> FlatTree<T> {
     /// Nothing has come yet.
     #[inline(always)]
     pub fn new(alloc: Global) -> FlatTree<T>
-        ensures { Holds (coord_eq T.eq) result (rest [] None) }
+        ensures { FlatHolds (coord_eq T.eq) result (rest [] None) }
     {
         FlatTree {
             alloc,
-            last: Ended::Point,
+            last: FlatEnded::Point,
             is_lost: false,
             is_refused: false,
             x: None,
@@ -155,7 +155,7 @@ impl<T: WktNum> FlatTree<T> {
     /// A number of a coordinate. The third and fourth are dropped.
     #[inline(always)]
     pub(crate) fn put_number(&mut self, axis: Axis, number: T)
-        ensures { Becomes (coord_eq T.eq) (λ w. w.grown ≡ None) (λ w. record w { hand = with_number axis number w.hand }) self.old self.new }
+        ensures { FlatBecomes (coord_eq T.eq) (λ w. w.grown ≡ None) (λ w. record w { hand = with_number axis number w.hand }) self.old self.new }
     {
         match axis {
             Axis::X => self.x = Some(number),
@@ -167,7 +167,7 @@ impl<T: WktNum> FlatTree<T> {
     /// A coordinate is whole.
     #[inline(always)]
     fn end_coord(&mut self)
-        ensures { Becomes (coord_eq T.eq) HasNumbers with_coord self.old self.new }
+        ensures { FlatBecomes (coord_eq T.eq) HasNumbers with_coord self.old self.new }
     {
         if let Some(coord) = self.coord() {
             if !add(&mut self.coords, coord) {
@@ -179,7 +179,7 @@ impl<T: WktNum> FlatTree<T> {
     /// A point of a multipoint ends.
     #[inline(always)]
     fn end_point(&mut self)
-        ensures { Becomes (coord_eq T.eq) HasPoint with_point self.old self.new }
+        ensures { FlatBecomes (coord_eq T.eq) HasPoint with_point self.old self.new }
     {
         match self.coord() {
             Some(coord) => {
@@ -194,7 +194,7 @@ impl<T: WktNum> FlatTree<T> {
     /// A line, or a ring, ends.
     #[inline(always)]
     fn end_line(&mut self)
-        ensures { Becomes (coord_eq T.eq) (λ w. w.grown ≡ None) with_line self.old self.new }
+        ensures { FlatBecomes (coord_eq T.eq) (λ w. w.grown ≡ None) with_line self.old self.new }
     {
         let line = LineString::new(taken(&mut self.coords, self.alloc));
         if !add(&mut self.lines, line) {
@@ -205,7 +205,7 @@ impl<T: WktNum> FlatTree<T> {
     /// A polygon of a multipolygon ends.
     #[inline(always)]
     fn end_area(&mut self)
-        ensures { Becomes (coord_eq T.eq) (λ w. w.grown ≡ None) (ended kind.Area) self.old self.new }
+        ensures { FlatBecomes (coord_eq T.eq) (λ w. w.grown ≡ None) (ended kind.Area) self.old self.new }
     {
         match polygon(self.alloc, taken(&mut self.lines, self.alloc)) {
             Ok(area) => {
@@ -220,7 +220,7 @@ impl<T: WktNum> FlatTree<T> {
     /// A collection opens.
     #[inline(always)]
     pub(crate) fn open_collection(&mut self)
-        ensures { Becomes (coord_eq T.eq) (MayOpen kind.Collection) (opened kind.Collection) self.old self.new }
+        ensures { FlatBecomes (coord_eq T.eq) (MayOpen kind.Collection) (opened kind.Collection) self.old self.new }
     {
         if !add(&mut self.outer, Vec::new(self.alloc)) {
             self.is_lost = true;
@@ -230,7 +230,7 @@ impl<T: WktNum> FlatTree<T> {
     /// The members of the collection that was opened last.
     #[inline(always)]
     fn last_members(&mut self) -> Vec<Geometry<T>>
-        ensures { GivesLast (coord_eq T.eq) self.old result self.new }
+        ensures { FlatGivesLast (coord_eq T.eq) self.old result self.new }
     {
         match self.outer.pop() {
             Some(members) => members,
@@ -244,7 +244,7 @@ impl<T: WktNum> FlatTree<T> {
         ensures { GivesMembers (coord_eq T.eq) self.old result self.new }
     {
         match self.last {
-            Ended::Collection => self.last_members(),
+            FlatEnded::Collection => self.last_members(),
             _ => Vec::new(self.alloc),
         }
     }
@@ -276,25 +276,25 @@ impl<T: WktNum> FlatTree<T> {
     /// The geometry that ended last; nothing where memory ran out.
     #[inline(always)]
     fn geometry(&mut self) -> Option<Geometry<T>>
-        ensures { Gives (coord_eq T.eq) self.old result self.new }
+        ensures { FlatGives (coord_eq T.eq) self.old result self.new }
     {
         let alloc = self.alloc;
         match self.last {
-            Ended::Point => Some(self.whole_point()),
-            Ended::LineString => {
+            FlatEnded::Point => Some(self.whole_point()),
+            FlatEnded::LineString => {
                 Some(Geometry::LineString(LineString::new(taken(&mut self.coords, alloc))))
             }
-            Ended::Polygon => self.whole_polygon(),
-            Ended::MultiPoint => {
+            FlatEnded::Polygon => self.whole_polygon(),
+            FlatEnded::MultiPoint => {
                 Some(Geometry::MultiPoint(MultiPoint::new(taken(&mut self.points, alloc))))
             }
-            Ended::MultiLineString => {
+            FlatEnded::MultiLineString => {
                 Some(Geometry::MultiLineString(MultiLineString::new(taken(&mut self.lines, alloc))))
             }
-            Ended::MultiPolygon => {
+            FlatEnded::MultiPolygon => {
                 Some(Geometry::MultiPolygon(MultiPolygon::new(taken(&mut self.areas, alloc))))
             }
-            Ended::Collection | Ended::NoMembers => {
+            FlatEnded::Collection | FlatEnded::NoMembers => {
                 Some(Geometry::GeometryCollection(GeometryCollection::new_from(self.members())))
             }
         }
@@ -306,13 +306,13 @@ impl<T: WktNum> FlatTree<T> {
         ensures { result ≡ found_of self.now.last }
     {
         match self.last {
-            Ended::Point => Some(Found::Point),
-            Ended::LineString => Some(Found::LineString),
-            Ended::Polygon => Some(Found::Polygon),
-            Ended::MultiPoint => Some(Found::MultiPoint),
-            Ended::MultiLineString => Some(Found::MultiLineString),
-            Ended::MultiPolygon => Some(Found::MultiPolygon),
-            Ended::Collection | Ended::NoMembers => None,
+            FlatEnded::Point => Some(Found::Point),
+            FlatEnded::LineString => Some(Found::LineString),
+            FlatEnded::Polygon => Some(Found::Polygon),
+            FlatEnded::MultiPoint => Some(Found::MultiPoint),
+            FlatEnded::MultiLineString => Some(Found::MultiLineString),
+            FlatEnded::MultiPolygon => Some(Found::MultiPolygon),
+            FlatEnded::Collection | FlatEnded::NoMembers => None,
         }
     }
 
@@ -355,7 +355,7 @@ impl<T: WktNum> FlatTree<T> {
     /// Puts a geometry into the collection that was opened last. Then the next one may begin.
     #[inline(always)]
     fn put_member(&mut self, geometry: Geometry<T>, is_last: bool)
-        ensures { Joins (coord_eq T.eq) self.old geometry self.new }
+        ensures { FlatJoins (coord_eq T.eq) self.old geometry self.new }
     {
         self.x = None;
         self.y = None;
@@ -369,7 +369,7 @@ impl<T: WktNum> FlatTree<T> {
     /// A member of a collection is whole.
     #[inline(never)]
     fn end_member(&mut self, is_last: bool)
-        ensures { Becomes (coord_eq T.eq) HasMember (λ w. joined w.outer w.grown) self.old self.new }
+        ensures { FlatBecomes (coord_eq T.eq) HasMember (λ w. joined w.outer w.grown) self.old self.new }
     {
         match self.geometry() {
             Some(geometry) => self.put_member(geometry, is_last),
@@ -380,7 +380,7 @@ impl<T: WktNum> FlatTree<T> {
     /// An item of a part is whole; whether it is the last matters to collections alone.
     #[inline(always)]
     pub(crate) fn end_item(&mut self, part: Part, is_last: bool)
-        ensures { Becomes (coord_eq T.eq) (MayJoin part) (with_item part) self.old self.new }
+        ensures { FlatBecomes (coord_eq T.eq) (MayJoin part) (with_item part) self.old self.new }
     {
         match part {
             Part::LineString | Part::Ring | Part::Line | Part::AreaRing => self.end_coord(),
@@ -391,7 +391,7 @@ impl<T: WktNum> FlatTree<T> {
 
     /// A whole geometry ends.
     #[inline(always)]
-    fn end_whole(&mut self, last: Ended)
+    fn end_whole(&mut self, last: FlatEnded)
         ensures { self.new ≡ record self.old { last = last } }
     {
         self.last = last;
@@ -400,16 +400,16 @@ impl<T: WktNum> FlatTree<T> {
     /// A part ends whose items are whole.
     #[inline(always)]
     pub(crate) fn end(&mut self, part: Part)
-        ensures { Becomes (coord_eq T.eq) (MayEnd part) (ended part) self.old self.new }
+        ensures { FlatBecomes (coord_eq T.eq) (MayEnd part) (ended part) self.old self.new }
     {
         match part {
-            Part::Point => self.end_whole(Ended::Point),
-            Part::LineString => self.end_whole(Ended::LineString),
-            Part::Polygon => self.end_whole(Ended::Polygon),
-            Part::MultiPoint => self.end_whole(Ended::MultiPoint),
-            Part::MultiLineString => self.end_whole(Ended::MultiLineString),
-            Part::MultiPolygon => self.end_whole(Ended::MultiPolygon),
-            Part::Collection => self.end_whole(Ended::Collection),
+            Part::Point => self.end_whole(FlatEnded::Point),
+            Part::LineString => self.end_whole(FlatEnded::LineString),
+            Part::Polygon => self.end_whole(FlatEnded::Polygon),
+            Part::MultiPoint => self.end_whole(FlatEnded::MultiPoint),
+            Part::MultiLineString => self.end_whole(FlatEnded::MultiLineString),
+            Part::MultiPolygon => self.end_whole(FlatEnded::MultiPolygon),
+            Part::Collection => self.end_whole(FlatEnded::Collection),
             Part::Member | Part::Bare => self.end_point(),
             Part::Ring | Part::Line | Part::AreaRing => self.end_line(),
             Part::Area => self.end_area(),
@@ -419,11 +419,11 @@ impl<T: WktNum> FlatTree<T> {
     /// A part without items.
     #[inline(always)]
     pub(crate) fn put_empty(&mut self, part: Part)
-        ensures { Becomes (coord_eq T.eq) (MayBeEmpty part) (λ w. ended part (without_items part w)) self.old self.new }
+        ensures { FlatBecomes (coord_eq T.eq) (MayBeEmpty part) (λ w. ended part (without_items part w)) self.old self.new }
     {
         self.x = None;
         match part {
-            Part::Collection => self.end_whole(Ended::NoMembers),
+            Part::Collection => self.end_whole(FlatEnded::NoMembers),
             _ => self.end(part),
         }
     }

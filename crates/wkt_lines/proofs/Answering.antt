@@ -8,9 +8,9 @@ use Rattle.std.proofs.Math.Seq.{take-append_seam}
 use Rattle.wkt_num.specs.Sink.{Sink, Adds, Breaks, GrewBy}
 use Rattle.wkt_lines.specs.declared.answer.AnswerError.{AnswerError}
 use Rattle.wkt_lines.specs.declared.answer.AnswerError.TheVariants as answered
-use Rattle.wkt_lines.specs.Answer.{AnswersLine, OnSink}
+use Rattle.wkt_lines.specs.Answer.{PutsAnswer, OnSink}
 use Rattle.wkt_lines.specs.Splitting.{before_feed, after_feed}
-use Rattle.wkt_lines.proofs.Splits.{lines_step}
+use Rattle.wkt_lines.proofs.FirstLineAndRest.{lines_step}
 
 -- what holds in any case
 pub any_ok : {A E P : Type 0} (r : Result A E) → P → OnOk r P
@@ -50,11 +50,11 @@ grew_cut old bs new n e h = ap (λ (xs : List ℕ). take n xs) h.grown ∙ (ap (
 
 -- what was written is an answer
 module _ {S A : Type 0} (sink : Sink S) where
-  pub answer_ok : {N : Type 0} (read : List ℕ → Option N) (num : N → List ℕ) (s t : S) (line answer : List ℕ) (r : Result A AnswerError) → IsAnswer read num line answer → AnswersLine sink s answer t r → OnOk r ((a : List ℕ) × IsAnswer read num line a × Adds sink s a t)
+  pub answer_ok : {N : Type 0} (read : List ℕ → Option N) (num : N → List ℕ) (s t : S) (line answer : List ℕ) (r : Result A AnswerError) → IsAnswer read num line answer → PutsAnswer sink s answer t r → OnOk r ((a : List ℕ) × IsAnswer read num line a × Adds sink s a t)
   answer_ok read num s t line answer (Ok x) is h = (answer, is, h)
   answer_ok read num s t line answer (Err e) is h = tt
 
-  pub answer_sink : {N : Type 0} (read : List ℕ → Option N) (num : N → List ℕ) (s t : S) (line answer : List ℕ) (r : Result A AnswerError) → IsAnswer read num line answer → AnswersLine sink s answer t r → OnSink r ((a : List ℕ) × IsAnswer read num line a × Breaks sink s a t)
+  pub answer_sink : {N : Type 0} (read : List ℕ → Option N) (num : N → List ℕ) (s t : S) (line answer : List ℕ) (r : Result A AnswerError) → IsAnswer read num line answer → PutsAnswer sink s answer t r → OnSink r ((a : List ℕ) × IsAnswer read num line a × Breaks sink s a t)
   answer_sink read num s t line answer (Ok x) is h = tt
   answer_sink read num s t line answer (Err (answered.Sink e)) is h = (answer, is, h)
   answer_sink read num s t line answer (Err (answered.Memory e)) is h = tt

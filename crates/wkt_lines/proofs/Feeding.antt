@@ -3,7 +3,7 @@ use Rattle.std.proofs.Common.{◌≡◌, ◌≢◌, ℕ, zero, suc, ◌+◌, ◌
 use Rattle.std.proofs.lemmas.List.{take-append-le, take-append-drop, take_all, get_or-drop, get_or-take, length-take-le}
 use Rattle.std.proofs.Math.Seq.{take-append-add, take-append_seam}
 use Rattle.std.proofs.lemmas.Bool.{cases_lt}
-use Rattle.wkt_lines.specs.Laws.{IsWhole}
+use Rattle.wkt_lines.specs.Laws.{IsWholeLines}
 use Rattle.wkt_lines.specs.Feeds.{HasNoFeed}
 
 -- what came stands after what was there
@@ -19,7 +19,7 @@ take_one (x ∷ xs) zero h = refl
 take_one (x ∷ xs) (suc n) h = ap (λ (zs : List ℕ). x ∷ zs) (take_one xs n (omega (arith, h)))
 
 -- the bytes up to a line feed
-pub whole_at : (xs : List ℕ) (at : ℕ) → 0 < at → at ≤ length xs → get_or xs (at - 1) 0 ≡ 10 → IsWhole (take at xs)
+pub whole_at : (xs : List ℕ) (at : ℕ) → 0 < at → at ≤ length xs → get_or xs (at - 1) 0 ≡ 10 → IsWholeLines (take at xs)
 whole_at xs at p h e =
     let same : suc (at - 1) ≡ at = omega (arith, p) in
     inr (take (at - 1) xs, ap (λ (n : ℕ). take n xs) (sym same) ∙ (take_one xs (at - 1) (omega (arith, p, h)) ∙ ap (λ (b : ℕ). take (at - 1) xs ++ (b ∷ [])) e))

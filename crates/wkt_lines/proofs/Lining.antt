@@ -8,7 +8,7 @@ use Rattle.wkt_lines.specs.Lines.{input_lines}
 use Rattle.wkt_lines.specs.Splitting.{before_feed, after_feed}
 use Rattle.wkt_lines.proofs.Answering.{one_more}
 use Rattle.wkt_lines.proofs.Feeding.{whole_at}
-use Rattle.wkt_lines.specs.Laws.{IsWhole}
+use Rattle.wkt_lines.specs.Laws.{IsWholeLines}
 use Rattle.wkt_lines.specs.Feeds.{HasNoFeed}
 use Rattle.wkt_lines.specs.Reading.{GivesLine}
 
@@ -72,7 +72,7 @@ feed_at (b ∷ bs) h = elim (eqb_tells b 10) [
 ]
 
 -- the first line and its line feed
-pub first_whole : (xs : List ℕ) (n : ℕ) → n ≤ length xs → n ≢ length xs → take n xs ≡ before_feed xs → IsWhole (take (n + 1) xs)
+pub first_whole : (xs : List ℕ) (n : ℕ) → n ≤ length xs → n ≢ length xs → take n xs ≡ before_feed xs → IsWholeLines (take (n + 1) xs)
 first_whole xs n h some e =
     let long : length (before_feed xs) ≡ n = ap length (sym e) ∙ length-take-le n xs h in
     let below : n < length xs = elim (cases_lt n (length xs)) [ inl l ↦ l | inr m ↦ absurd (some (omega (arith, h, m))) ] in

@@ -5,15 +5,15 @@ use Rattle.std.specs.Io.KnownBytes.{Consumes, Keeps, IsAtEnd}
 use Rattle.std.proofs.KnownBytes.{Appends-nil, Appends-trans, Keeps-refl, Consumes-nil, Consumes-trans, Consumes-kept, Consumes-whole}
 use Rattle.wkt_bytes.specs.Sinks.{SinkOfBytes}
 use Rattle.wkt_lines.specs.Lines.{input_lines}
-use Rattle.wkt_lines.specs.Laws.{IsWhole}
+use Rattle.wkt_lines.specs.Laws.{IsWholeLines}
 use Rattle.wkt_lines.specs.Replies.{AreReplies, AllReplied, FirstReplied, RepliesBefore, BeforeReplied, PartReplied}
 use Rattle.std.specs.declared.io.Error.{Error}
 use Rattle.std.specs.declared.alloc.AllocError.{AllocError}
 use Rattle.wkt_num.specs.Sink.{next_count}
-use Rattle.wkt_lines.specs.Pages.{AnswersAll}
+use Rattle.wkt_lines.specs.OutputBuffers.{AnswersAll}
 use Rattle.wkt_lines.specs.declared.lines.RunError.{RunError}
 use Rattle.wkt_lines.specs.declared.lines.RunError.TheVariants as run
-use Rattle.wkt_lines.proofs.Parts.{lines_of_parts, replies_append, all_replies_append}
+use Rattle.wkt_lines.proofs.OutputOfParts.{lines_of_parts, replies_append, all_replies_append}
 use Rattle.wkt_lines.specs.Feeds.{HasNoFeed}
 use Rattle.wkt_lines.specs.Streaming.{TakenReplied, AllTaken, LinesTaken, RunLeaves, Streams}
 
@@ -31,7 +31,7 @@ on_taken (Some x) (Some y) bs P h f = subst P (sym h) (f y)
 abbrev pub Fits : List ℕ → List ℕ → List ℕ → Type 0
 Fits done here input = (others : List (List ℕ)) × (input_lines done ++ (input_lines here ++ others) ≡ input_lines input)
 
-fits_whole : (done here rest tail : List ℕ) → IsWhole done → IsWhole here → Fits done here ((done ++ (here ++ rest)) ++ tail)
+fits_whole : (done here rest tail : List ℕ) → IsWholeLines done → IsWholeLines here → Fits done here ((done ++ (here ++ rest)) ++ tail)
 fits_whole done here rest tail w v = (
   input_lines (rest ++ tail),
   sym (ap input_lines (append_assoc done (here ++ rest) tail ∙ ap (λ (xs : List ℕ). done ++ xs) (append_assoc here rest tail))
@@ -39,14 +39,14 @@ fits_whole done here rest tail w v = (
       ∙ ap (λ (ls : List (List ℕ)). input_lines done ++ ls) (lines_of_parts here (rest ++ tail) v))),
 )
 
-fits_last : (done here : List ℕ) → IsWhole done → Fits done here (done ++ here)
+fits_last : (done here : List ℕ) → IsWholeLines done → Fits done here (done ++ here)
 fits_last done here w = ([], ap (λ (ls : List (List ℕ)). input_lines done ++ ls) (append-nil (input_lines here)) ∙ sym (lines_of_parts done here w))
 
-both_whole : (xs ys : List ℕ) → IsWhole xs → IsWhole ys → IsWhole (xs ++ ys)
-both_whole xs ys w (inl e) = subst (λ (zs : List ℕ). IsWhole zs) (sym (ap (λ (zs : List ℕ). xs ++ zs) e ∙ append-nil xs)) w
+both_whole : (xs ys : List ℕ) → IsWholeLines xs → IsWholeLines ys → IsWholeLines (xs ++ ys)
+both_whole xs ys w (inl e) = subst (λ (zs : List ℕ). IsWholeLines zs) (sym (ap (λ (zs : List ℕ). xs ++ zs) e ∙ append-nil xs)) w
 both_whole xs ys w (inr (zs, e)) = inr (xs ++ zs, ap (λ (us : List ℕ). xs ++ us) e ∙ sym (append_assoc xs zs (10 ∷ [])))
 
-ends_on : (xs ys more : List ℕ) (left : Option (List ℕ)) → IsWhole xs → IsWhole ys ⊎ ((more ≡ []) × IsAtEnd left) → IsWhole (xs ++ ys) ⊎ ((more ≡ []) × IsAtEnd left)
+ends_on : (xs ys more : List ℕ) (left : Option (List ℕ)) → IsWholeLines xs → IsWholeLines ys ⊎ ((more ≡ []) × IsAtEnd left) → IsWholeLines (xs ++ ys) ⊎ ((more ≡ []) × IsAtEnd left)
 ends_on xs ys more left w (inl v) = inl (both_whole xs ys w v)
 ends_on xs ys more left w (inr k) = inr k
 
@@ -95,7 +95,7 @@ module _ (is : List ℕ → List ℕ → Type 0) where
     -- The source gave `done` and then `front`, and the answers to `done` went out.
     pub record Base (left0 left1 : Option (List ℕ)) (start now : W) (front : List ℕ) : Type 0 where
       pub done : List ℕ
-      pub ends : IsWhole done
+      pub ends : IsWholeLines done
       pub taken : Consumes left0 left1 (done ++ front)
       pub out : AllReplied is (sink.bytes start) (sink.bytes now) done
       pub count : sink.failures now ≡ sink.failures start
@@ -129,7 +129,7 @@ module _ (is : List ℕ → List ℕ → Type 0) where
       }
 
       -- the whole lines were answered
-      pub answered : (next : W) (here rest : List ℕ) → front ≡ here ++ rest → IsWhole here → AllReplied is (sink.bytes now) (sink.bytes next) here
+      pub answered : (next : W) (here rest : List ℕ) → front ≡ here ++ rest → IsWholeLines here → AllReplied is (sink.bytes now) (sink.bytes next) here
           → sink.failures next ≡ sink.failures now → sink.keeps now next → Base left0 left1 start next rest
       answered next here rest e w h f k = record {
         done = base.done ++ here;
@@ -140,7 +140,7 @@ module _ (is : List ℕ → List ℕ → Type 0) where
         tied = sink.keeps_more start now next base.tied k;
       }
 
-      pub fits_here : (here rest : List ℕ) → front ≡ here ++ rest → IsWhole here → IfSome left0 (Fits base.done here)
+      pub fits_here : (here rest : List ℕ) → front ≡ here ++ rest → IsWholeLines here → IfSome left0 (Fits base.done here)
       fits_here here rest e w =
           on_taken left0 left1 (base.done ++ front) (Fits base.done here) base.taken
           (λ tail. subst (λ (xs : List ℕ). Fits base.done here ((base.done ++ xs) ++ tail)) (sym e) (fits_whole base.done here rest tail base.ends w))
@@ -180,7 +180,7 @@ module _ (is : List ℕ → List ℕ → Type 0) where
       pub all_taken : (next : W) → IsAtEnd left1 → AllReplied is (sink.bytes now) (sink.bytes next) front → AllTaken left0 left1 (AllReplied is (sink.bytes start) (sink.bytes next))
       all_taken next end h = (base.done ++ front, base.taken, end, all_out next h)
 
-      taken_here : (here more : List ℕ) → front ≡ here ++ more → IsWhole here ⊎ ((more ≡ []) × IsAtEnd left1) → (P : List ℕ → Type 0) → P (base.done ++ here) → LinesTaken left0 left1 P
+      taken_here : (here more : List ℕ) → front ≡ here ++ more → IsWholeLines here ⊎ ((more ≡ []) × IsAtEnd left1) → (P : List ℕ → Type 0) → P (base.done ++ here) → LinesTaken left0 left1 P
       taken_here here more e w P h = record {
         lines = base.done ++ here;
         more = more;
@@ -203,12 +203,12 @@ module _ (is : List ℕ → List ℕ → Type 0) where
       no_more n = broke_off left1 (Keeps-refl left1) n
 
       -- whole lines of what was taken come after those that were answered, and so does all of it at the source's end
-      fits : (here more : List ℕ) → front ≡ here ++ more → IsWhole here ⊎ ((more ≡ []) × IsAtEnd left1) → IfSome left0 (Fits base.done here)
+      fits : (here more : List ℕ) → front ≡ here ++ more → IsWholeLines here ⊎ ((more ≡ []) × IsAtEnd left1) → IfSome left0 (Fits base.done here)
       fits here more e (inl w) = fits_here here more e w
       fits here more e (inr (none, end)) = subst (λ (xs : List ℕ). IfSome left0 (Fits base.done xs)) (e ∙ ap (λ (xs : List ℕ). here ++ xs) none ∙ append-nil here) (fits_end end)
 
     -- a part of an input that is at hand was answered
-    pub part_answered : (input : List ℕ) (start now next : W) (front : List ℕ) → Base (Some input) (Some []) start now front → (here more : List ℕ) → front ≡ here ++ more → IsWhole here ⊎ ((more ≡ []) × IsAtEnd (Some []))
+    pub part_answered : (input : List ℕ) (start now next : W) (front : List ℕ) → Base (Some input) (Some []) start now front → (here more : List ℕ) → front ≡ here ++ more → IsWholeLines here ⊎ ((more ≡ []) × IsAtEnd (Some []))
         → (r : Result (Unit {0}) RunError) → OnOk r (here ≡ front) → AnswersAll sink is now here r next → AnswersAll sink is start input r next
     part_answered input start now next front base here more e w (Ok x) same h = record { ok = all (Some input) (Some []) start now front base next refl (subst (AllReplied is (sink.bytes now) (sink.bytes next)) same h.ok); count = h.count ∙ base.count; write = tt; write_count = tt; memory = tt; read = tt }
     part_answered input start now next front base here more e w (Err (run.Read x)) same h = absurd h.read
@@ -217,7 +217,7 @@ module _ (is : List ℕ → List ℕ → Type 0) where
 
   module _ {R W : Type 0} (left : R → Option (List ℕ)) (failures : R → ℕ) (sink : SinkOfBytes W) (reader source : R) (start now : W) (front : List ℕ) (base : Base sink (left reader) (left source) start now front) where
     -- Lines of what was taken were answered; `take` says that these are what `Taken` holds of.
-    pub lines_answered : (Unread : Type 0) (Taken : (List ℕ → Type 0) → Type 0) (next : W) (here more : List ℕ) → front ≡ here ++ more → IsWhole here ⊎ ((more ≡ []) × IsAtEnd (left source)) → failures source ≡ failures reader
+    pub lines_answered : (Unread : Type 0) (Taken : (List ℕ → Type 0) → Type 0) (next : W) (here more : List ℕ) → front ≡ here ++ more → IsWholeLines here ⊎ ((more ≡ []) × IsAtEnd (left source)) → failures source ≡ failures reader
         → ((P : List ℕ → Type 0) → P (base.done ++ here) → Taken P) → (r : Result (Unit {0}) RunError) → OnOk r ((here ≡ front) × IsAtEnd (left source)) → AnswersAll sink is now here r next
         → RunLeaves is left failures sink Unread Taken reader start r source next
     lines_answered Unread Taken next here more e w same take (Ok x) (last, end) h =
@@ -234,7 +234,7 @@ module _ (is : List ℕ → List ℕ → Type 0) where
         record { ok = tt; ok_taken = tt; end = tt; read = tt; read_count = tt; source_count = same; write = tt; write_taken = tt; write_count = tt; sink_count = h.count ∙ base.count; memory = befores sink (left reader) (left source) start now front base next here f h.memory; memory_taken = inr (take (BeforeReplied is (sink.bytes start) (sink.bytes next)) taken) }
 
     -- the lines of a block were answered
-    pub block_answered : (next : W) (here more : List ℕ) → front ≡ here ++ more → IsWhole here ⊎ ((more ≡ []) × IsAtEnd (left source)) → failures source ≡ failures reader
+    pub block_answered : (next : W) (here more : List ℕ) → front ≡ here ++ more → IsWholeLines here ⊎ ((more ≡ []) × IsAtEnd (left source)) → failures source ≡ failures reader
         → (r : Result (Unit {0}) RunError) → OnOk r ((here ≡ front) × IsAtEnd (left source)) → AnswersAll sink is now here r next → Streams is left failures sink reader start r source next
     block_answered next here more e w same r last h = lines_answered _ (LinesTaken (left reader) (left source)) next here more e w same (taken_here sink (left reader) (left source) start now front base here more e w) r last h
 

@@ -17,7 +17,7 @@ OnAnswerMemory (Err (answered.Sink e)) P = Unit {0}
 OnAnswerMemory (Err (answered.Memory e)) P = P
 
 -- The text was added, or the sink broke off when a beginning of it was, or memory lacked and nothing was added.
-abbrev pub AnswersLine : {S A : Type 0} → Sink S → S → List ℕ → S → Result A AnswerError → Type 0
-AnswersLine sink s bs t (Ok x) = Adds sink s bs t
-AnswersLine sink s bs t (Err (answered.Sink e)) = Breaks sink s bs t
-AnswersLine sink s bs t (Err (answered.Memory e)) = t ≡ s
+abbrev pub PutsAnswer : {S A : Type 0} → Sink S → S → List ℕ → S → Result A AnswerError → Type 0
+PutsAnswer sink s bs t (Ok x) = Adds sink s bs t
+PutsAnswer sink s bs t (Err (answered.Sink e)) = Breaks sink s bs t
+PutsAnswer sink s bs t (Err (answered.Memory e)) = t ≡ s

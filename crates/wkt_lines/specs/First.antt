@@ -1,6 +1,6 @@
 -- The answer to the first line of what is left of an input.
 use Rattle.std.specs.Prelude.{◌≡◌, ℕ, ◌+◌, ◌≤◌, List, [], ◌∷◌, ◌++◌, length, take, drop, Option, IsUtf8}
-use Rattle.wkt_events.specs.Left.{before_feed}
+use Rattle.wkt_events.specs.Remaining.{before_feed}
 use Rattle.wkt_lines.specs.Splitting.{after_feed}
 use Rattle.wkt_lines.specs.Output.{IsAnswer}
 

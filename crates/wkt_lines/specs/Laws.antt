@@ -3,13 +3,13 @@ use Rattle.std.specs.Prelude.{◌≡◌, ℕ, List, [], ◌∷◌, ◌++◌, ◌
 use Rattle.wkt_lines.specs.Output.{IsOutput}
 
 -- The bytes end after a line feed, or there are none.
-abbrev pub IsWhole : List ℕ → Type 0
-IsWhole bs = (bs ≡ []) ⊎ ((as' : List ℕ) × (bs ≡ as' ++ 10 ∷ []))
+abbrev pub IsWholeLines : List ℕ → Type 0
+IsWholeLines bs = (bs ≡ []) ⊎ ((as' : List ℕ) × (bs ≡ as' ++ 10 ∷ []))
 
 -- Each part ends after a line feed, or is empty.
 abbrev pub AreWhole : List (List ℕ) → Type 0
 AreWhole [] = Unit {0}
-AreWhole (p ∷ ps) = IsWhole p × AreWhole ps
+AreWhole (p ∷ ps) = IsWholeLines p × AreWhole ps
 
 -- The parts one after the other, and then the last.
 abbrev pub joined : List (List ℕ) → List ℕ → List ℕ

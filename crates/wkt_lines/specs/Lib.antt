@@ -7,8 +7,8 @@ pub mod InRoom
 pub mod Laws
 pub mod Answer
 pub mod First
-pub mod Blocks
+pub mod InputBuffers
 pub mod Feeds
 pub mod Streaming
 pub mod Reading
-pub mod Pages
+pub mod OutputBuffers

@@ -2,7 +2,7 @@
 use Rattle.std.specs.Prelude.{◌≡◌, ℕ, List, ◌∷◌, ◌++◌, Option, None, Some, take, drop, length, ⊤}
 use Rattle.std.specs.Io.KnownBytes.{Consumes, IsAtEnd, prepend_known}
 use Rattle.wkt_lines.specs.Lines.{input_lines}
-use Rattle.wkt_lines.specs.Blocks.{unanswered}
+use Rattle.wkt_lines.specs.InputBuffers.{unanswered}
 use Rattle.wkt_lines.specs.declared.reading.Lines.{Lines}
 
 module _ {R : Type 0} where
@@ -12,11 +12,11 @@ module _ {R : Type 0} where
 
   -- The line that is lent.
   abbrev pub line_of : Lines R → List ℕ
-  line_of l = drop l.start (take l.end (unanswered l.block))
+  line_of l = drop l.start (take l.end (unanswered l.buffer))
 
   -- What was taken from the source and not given yet.
   abbrev pub unread : Lines R → List ℕ
-  unread l = drop l.next (unanswered l.block)
+  unread l = drop l.next (unanswered l.buffer)
 
   -- What is still to come, where the source reveals it: that, and then what is left in the source.
   abbrev pub to_come : (R → Option (List ℕ)) → Lines R → Option (List ℕ)

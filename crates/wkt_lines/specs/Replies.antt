@@ -59,15 +59,15 @@ module _ (is : List ℕ → List ℕ → Type 0) where
     abbrev pub IsAllReplied : D → D → List ℕ → Type 0
     IsAllReplied old new = AllReplied (sink.bytes old) (sink.bytes new)
 
-    -- The same of the whole answers to some first lines.
+    -- The whole answers to some first lines went out, by the sink that reveals its bytes.
     abbrev pub IsFirstReplied : D → D → List ℕ → Type 0
     IsFirstReplied old new = FirstReplied (sink.bytes old) (sink.bytes new)
 
-    -- The same of the whole answers to the lines before one.
+    -- The whole answers to the lines before one went out, by the sink that reveals its bytes.
     abbrev pub IsBeforeReplied : D → D → List ℕ → Type 0
     IsBeforeReplied old new = BeforeReplied (sink.bytes old) (sink.bytes new)
 
-    -- The same of some first answers, and a beginning of the next.
+    -- Some first answers and a beginning of the next went out, by the sink that reveals its bytes.
     abbrev pub IsPartReplied : D → D → List ℕ → Type 0
     IsPartReplied old new = PartReplied (sink.bytes old) (sink.bytes new)
 

@@ -1,6 +1,6 @@
 -- A line taken from the front of an input.
 use Rattle.std.specs.Prelude.{◌≡◌, ℕ, ◌+◌, ◌≤◌, List, [], ◌∷◌, ◌==◌, if◌then◌else◌, length, drop, IsUtf8, Option, Some, None}
-pub use Rattle.wkt_events.specs.Left.{before_feed}
+pub use Rattle.wkt_events.specs.Remaining.{before_feed}
 
 -- what stands after the first line feed
 abbrev pub after_feed : List ℕ → List ℕ

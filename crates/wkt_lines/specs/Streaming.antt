@@ -2,7 +2,7 @@
 use Rattle.std.specs.Prelude.{◌≡◌, ℕ, List, [], ◌++◌, ◌⊎◌, Option, IfSome, Result, OnOk}
 use Rattle.std.specs.Io.KnownBytes.{Consumes, IsAtEnd}
 use Rattle.wkt_bytes.specs.Sinks.{SinkOfBytes}
-use Rattle.wkt_lines.specs.Laws.{IsWhole}
+use Rattle.wkt_lines.specs.Laws.{IsWholeLines}
 use Rattle.wkt_num.specs.Sink.{next_count}
 use Rattle.wkt_lines.specs.Replies.{AllReplied, IsAllReplied, IsFirstReplied, IsBeforeReplied, IsPartReplied}
 use Rattle.wkt_lines.specs.Output.{OnRunRead, OnRunWrite, OnRunMemory, UnlessRunRead, UnlessRunWrite}
@@ -18,7 +18,7 @@ pub record LinesTaken (left rest : Option (List ℕ)) (P : List ℕ → Type 0) 
   pub lines : List ℕ
   pub more : List ℕ
   pub gave : Consumes left rest (lines ++ more)
-  pub ends : IsWhole lines ⊎ ((more ≡ []) × IsAtEnd rest)
+  pub ends : IsWholeLines lines ⊎ ((more ≡ []) × IsAtEnd rest)
   pub holds : P lines
 
 -- Answers of any kind: `is line answer` says that the line may have this answer.
@@ -28,7 +28,7 @@ module _ (is : List ℕ → List ℕ → Type 0) where
     pub whole : List ℕ
     pub rest : List ℕ
     pub parts : taken ≡ whole ++ rest
-    pub ends : IsWhole whole
+    pub ends : IsWholeLines whole
     pub none : HasNoFeed rest
     pub out : AllReplied is old new whole
 
@@ -36,7 +36,7 @@ module _ (is : List ℕ → List ℕ → Type 0) where
   abbrev pub TakenReplied : Option (List ℕ) → Option (List ℕ) → Option (List ℕ) → Option (List ℕ) → Type 0
   TakenReplied left rest old new = (taken : List ℕ) × Consumes left rest taken × WholeReplied old new taken
 
-  -- The same by the sink that reveals its bytes.
+  -- The source gave some bytes, and the answers to their whole lines went out, by the sink that reveals its bytes.
   abbrev pub IsTakenReplied : {D : Type 0} → SinkOfBytes D → Option (List ℕ) → Option (List ℕ) → D → D → Type 0
   IsTakenReplied sink left rest old new = TakenReplied left rest (sink.bytes old) (sink.bytes new)
 

@@ -1,6 +1,6 @@
 //! The answer to one line.
 ghost use Rattle.std.specs.Prelude.{◌≡◌, OnOk, codes};
-ghost use Rattle.wkt_lines.specs.Answer.{AnswersLine, OnSink, OnAnswerMemory};
+ghost use Rattle.wkt_lines.specs.Answer.{PutsAnswer, OnSink, OnAnswerMemory};
 ghost use Rattle.wkt_lines.specs.Output.{AddsAnswer, BreaksAnswer};
 
 use crate::first::put;
@@ -57,7 +57,7 @@ fn write_front<T: WktNum, W: TextSink>(
 
 /// Writes that a line is refused.
 fn refuse<W: TextSink>(f: &mut W) -> Result<(), AnswerError>
-    ensures { AnswersLine W.sink f.old (codes "refused") f.new result }
+    ensures { PutsAnswer W.sink f.old (codes "refused") f.new result }
 {
     match f.write_str("refused") {
         Ok(()) => Ok(()),

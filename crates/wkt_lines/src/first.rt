@@ -1,9 +1,9 @@
 //! The answer to the first line of what is left of an input.
 ghost use Rattle.std.specs.Prelude.{◌≡◌, ◌+◌, ◌≤◌, IfOk, length, take, vec_len, IsUtf8};
-ghost use Rattle.wkt_events.specs.Left.{before_feed};
+ghost use Rattle.wkt_events.specs.Remaining.{before_feed};
 ghost use Rattle.wkt_lines.specs.Output.{IsAnswer};
 ghost use Rattle.wkt_lines.specs.Replies.{RepliesLine};
-ghost use Rattle.wkt_lines.specs.Answer.{AnswersLine};
+ghost use Rattle.wkt_lines.specs.Answer.{PutsAnswer};
 ghost use Rattle.wkt_lines.specs.First.{AnswersFirst, EndsLine};
 
 use crate::answer::AnswerError;
@@ -14,7 +14,7 @@ use wkt_canonical::{NoRoom, make_room, widen};
 use wkt_num::{TextSink, WktNum};
 
 // Where a line ends is found as it is answered, if it ends within so many bytes.
-const NEAR: usize = 65536;
+const FAST_LINE: usize = 65536;
 
 /// Answers the first line of the bytes at the front of the room, which grows as it has to.
 fn answer<T: WktNum>(room: &mut Vec<u8>, rest: &[u8]) -> Result<Answer, AllocError>
@@ -38,21 +38,21 @@ fn answer<T: WktNum>(room: &mut Vec<u8>, rest: &[u8]) -> Result<Answer, AllocErr
     }
 }
 
-/// The same, if the line ends within a part of them.
+/// Answers the first line of the bytes from a part of them, if it ends there: the fast path.
 #[inline(always)]
 fn first<T: WktNum>(room: &mut Vec<u8>, rest: &[u8]) -> Result<Answer, AllocError>
     ensures answers { IfOk result (λ a. AnswersFirst T.read T.num rest.now (take a.len room.new.items)) }
     ensures line { IfOk result (λ a. a.taken ≡ length (before_feed rest.now) + 1) }
     ensures len { IfOk result (λ a. a.len ≤ vec_len room.new) }
 {
-    if rest.len() <= NEAR {
+    if rest.len() <= FAST_LINE {
         return answer::<T>(room, rest);
     }
-    let near = &rest[..NEAR];
+    let near = &rest[..FAST_LINE];
     match answer::<T>(room, near) {
         Ok(answer) => {
-            if answer.taken > NEAR {
-                return far::<T>(room, rest);
+            if answer.taken > FAST_LINE {
+                return slow_first::<T>(room, rest);
             }
             Ok(answer)
         }
@@ -60,9 +60,9 @@ fn first<T: WktNum>(room: &mut Vec<u8>, rest: &[u8]) -> Result<Answer, AllocErro
     }
 }
 
-/// The same of a line that is long.
+/// Answers a first line that is long: the slow path.
 #[inline(never)]
-fn far<T: WktNum>(room: &mut Vec<u8>, rest: &[u8]) -> Result<Answer, AllocError>
+fn slow_first<T: WktNum>(room: &mut Vec<u8>, rest: &[u8]) -> Result<Answer, AllocError>
     ensures answers { IfOk result (λ a. AnswersFirst T.read T.num rest.now (take a.len room.new.items)) }
     ensures line { IfOk result (λ a. a.taken ≡ length (before_feed rest.now) + 1) }
     ensures len { IfOk result (λ a. a.len ≤ vec_len room.new) }
@@ -76,7 +76,7 @@ fn far<T: WktNum>(room: &mut Vec<u8>, rest: &[u8]) -> Result<Answer, AllocError>
 #[inline(always)]
 pub(crate) fn put<W: TextSink>(written: &[u8], f: &mut W) -> Result<(), AnswerError>
     requires { IsUtf8 written.now }
-    ensures { AnswersLine W.sink f.old written.now f.new result }
+    ensures { PutsAnswer W.sink f.old written.now f.new result }
 {
     match f.write_str(unsafe { str::from_utf8_unchecked(written) }) {
         Ok(()) => Ok(()),
@@ -84,7 +84,7 @@ pub(crate) fn put<W: TextSink>(written: &[u8], f: &mut W) -> Result<(), AnswerEr
     }
 }
 
-/// Adds the answer to the first line and a line feed to the sink, and answers where the line ends.
+/// Adds the answer to the first line and a line feed to the sink, and returns where the line ends.
 pub(crate) fn write_first<T: WktNum, W: TextSink>(
     room: &mut Vec<u8>,
     rest: &[u8],

@@ -15,15 +15,15 @@
 
 mod answer;
 mod answers;
-mod block;
+mod buffered;
 mod ends;
 mod first;
 mod in_room;
+mod input_buffer;
+mod into_output;
 pub mod laws;
 mod lines;
-mod on_page;
-mod page;
-mod pages;
+mod output_buffer;
 mod reading;
 mod reply;
 mod streaming;

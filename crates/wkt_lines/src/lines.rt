@@ -2,13 +2,13 @@
 ghost use Rattle.std.specs.Prelude.{◌≡◌, ◌≤◌, ◌+◌, length, drop};
 ghost use Rattle.wkt_lines.specs.Numbers.{read_line, print_line};
 ghost use Rattle.wkt_lines.specs.Output.{IsAnswer};
-ghost use Rattle.wkt_lines.specs.Pages.{AnswersAll};
+ghost use Rattle.wkt_lines.specs.OutputBuffers.{AnswersAll};
 ghost use Rattle.wkt_lines.specs.Streaming.{Runs};
 
-use crate::block::whole_lines;
-use crate::on_page::{Answers, ByWalk};
-use crate::page::Page;
-use crate::pages::answer_block;
+use crate::buffered::answer_block;
+use crate::input_buffer::whole_lines;
+use crate::into_output::{Answers, ByMachine};
+use crate::output_buffer::OutputBuffer;
 use std::alloc::{AllocError, Global};
 use std::io;
 use thiserror::Error;
@@ -66,7 +66,7 @@ pub fn run_over<T: WktNum, R: ByteSource, W: ByteSink>(
         reader.old writer.old result reader.new writer.new }
 {
     match read_all(alloc, reader) {
-        Ok(bytes) => answer_input(alloc, &ByWalk::<T>::new(), &bytes, writer),
+        Ok(bytes) => answer_input(alloc, &ByMachine::<T>::new(), &bytes, writer),
         Err(ReadAllError::Read(e)) => Err(RunError::Read(e)),
         Err(ReadAllError::Memory(e)) => Err(RunError::Memory(e)),
     }
@@ -81,14 +81,14 @@ fn answer_input<A: Answers, W: ByteSink>(
 ) -> Result<(), RunError>
     ensures { AnswersAll W.sink (A.answers answers.now) writer.old input.now result writer.new }
 {
-    let mut page = Page::of_lines(alloc);
+    let mut output = OutputBuffer::of_lines(alloc);
     let mut rest = input;
     'parts: loop {
         let whole = whole_lines(rest);
         if whole == 0 {
-            return answer_block(answers, rest, &mut page, writer);
+            return answer_block(answers, rest, &mut output, writer);
         }
-        match answer_block(answers, &rest[..whole], &mut page, writer) {
+        match answer_block(answers, &rest[..whole], &mut output, writer) {
             Ok(()) => rest = &rest[whole..],
             Err(e) => return Err(e),
         }

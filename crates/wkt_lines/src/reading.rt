@@ -4,10 +4,10 @@ ghost use Rattle.std.specs.Io.KnownBytes.{Keeps, IsAtEnd};
 ghost use Rattle.wkt_num.specs.Sink.{next_count};
 ghost use Rattle.wkt_bytes.specs.ReadAll.{OnRead, UnlessRead};
 ghost use Rattle.wkt_lines.specs.First.{EndsLine};
-ghost use Rattle.wkt_lines.specs.Blocks.{unanswered};
+ghost use Rattle.wkt_lines.specs.InputBuffers.{unanswered};
 
-use crate::block::Block;
 use crate::ends::line_end;
+use crate::input_buffer::InputBuffer;
 use std::alloc::{AllocError, Global};
 use wkt_bytes::{ByteSource, ReadAllError};
 
@@ -25,13 +25,13 @@ use wkt_bytes::{ByteSource, ReadAllError};
 #[derive(Drop)]
 pub struct Lines<R> {
     source: R,
-    block: Block,
+    buffer: InputBuffer,
     start: usize,
     end: usize,
     next: usize,
     ghost ordered: { start ≤ end },
-    ghost within: { end ≤ length (unanswered block) },
-    ghost rest: { next ≤ length (unanswered block) },
+    ghost within: { end ≤ length (unanswered buffer) },
+    ghost rest: { next ≤ length (unanswered buffer) },
 }
 
 impl<R: ByteSource> Lines<R> {
@@ -45,14 +45,14 @@ impl<R: ByteSource> Lines<R> {
     {
         Lines {
             source,
-            block: Block::new(alloc),
+            buffer: InputBuffer::new(alloc),
             start: 0,
             end: 0,
             next: 0,
         }
     }
 
-    /// Goes to the next line, and answers whether there is one.
+    /// Goes to the next line, and returns whether there is one.
     ///
     /// # Errors
     /// `Read` where the source failed, and `Memory` where there is none for a block or for a line that is longer.
@@ -84,7 +84,7 @@ impl<R: ByteSource> Lines<R> {
     pub fn line(&self) -> &[u8]
         ensures { result.now ≡ line_of self.now }
     {
-        &self.block.front()[self.start..self.end]
+        &self.buffer.front()[self.start..self.end]
     }
 
     /// Gives the source back. Bytes that were taken from it and not given as a line are lost.
@@ -93,7 +93,7 @@ impl<R: ByteSource> Lines<R> {
     {
         let Lines {
             source,
-            block: _,
+            buffer: _,
             start: _,
             end: _,
             next: _,
@@ -105,10 +105,10 @@ impl<R: ByteSource> Lines<R> {
     fn rest(&self) -> &[u8]
         ensures { result.now ≡ unread self.now }
     {
-        &self.block.front()[self.next..]
+        &self.buffer.front()[self.next..]
     }
 
-    /// Reads on until a whole line is at hand or the source has ended, and answers where the line ends.
+    /// Reads on until a whole line is at hand or the source has ended, and returns where the line ends.
     fn find_end(&mut self) -> Result<usize, ReadAllError>
         requires none { line_of self.old ≡ [] }
         ensures line { line_of self.new ≡ [] }
@@ -137,7 +137,7 @@ impl<R: ByteSource> Lines<R> {
         Err(ReadAllError::Memory(AllocError))
     }
 
-    /// Takes what the source gives in one call, and answers how much.
+    /// Takes what the source gives in one call, and returns how much.
     fn more(&mut self) -> Result<usize, ReadAllError>
         ensures line { line_of self.new ≡ [] }
         ensures ok { IfOk result (λ n. MoreCame (unread self.old) (unread self.new)
@@ -149,10 +149,10 @@ impl<R: ByteSource> Lines<R> {
             (R.failures (source_of self.new) ≡ next_count (R.failures (source_of self.old))) }
     {
         self.forget_given();
-        if let Err(e) = self.block.make_room() {
+        if let Err(e) = self.buffer.make_room() {
             return Err(ReadAllError::Memory(e));
         }
-        match self.block.fill(&mut self.source) {
+        match self.buffer.fill(&mut self.source) {
             Ok(n) => Ok(n),
             Err(e) => Err(ReadAllError::Read(e)),
         }
@@ -169,7 +169,7 @@ impl<R: ByteSource> Lines<R> {
         self.start = 0;
         self.end = 0;
         self.next = 0;
-        self.block.forget(given);
+        self.buffer.forget(given);
     }
 
     /// Goes past a line that ends there.
@@ -181,7 +181,7 @@ impl<R: ByteSource> Lines<R> {
         ensures unread { unread self.new ≡ drop (end + 1) (unread self.old) }
         ensures source { source_of self.new ≡ source_of self.old }
     {
-        let len = self.block.len();
+        let len = self.buffer.len();
         let start = self.next;
         let end = start + end;
         self.start = 0;

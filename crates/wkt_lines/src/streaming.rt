@@ -3,11 +3,11 @@ ghost use Rattle.wkt_lines.specs.Numbers.{read_line, print_line};
 ghost use Rattle.wkt_lines.specs.Output.{IsAnswer};
 ghost use Rattle.wkt_lines.specs.Streaming.{Streams};
 
-use crate::block::Block;
+use crate::buffered::answer_block;
+use crate::input_buffer::InputBuffer;
+use crate::into_output::{Answers, ByMachine, ByReply};
 use crate::lines::RunError;
-use crate::on_page::{Answers, ByReply, ByWalk};
-use crate::page::Page;
-use crate::pages::answer_block;
+use crate::output_buffer::OutputBuffer;
 use crate::reply::Reply;
 use std::alloc::{AllocError, Global};
 use wkt_bytes::{ByteSink, ByteSource};
@@ -46,13 +46,14 @@ pub fn stream_over<T: WktNum, R: ByteSource, W: ByteSink>(
     ensures { Streams (IsAnswer T.read T.num) R.left R.failures W.sink
         reader.old writer.old result reader.new writer.new }
 {
-    stream_blocks(alloc, &ByWalk::<T>::new(), reader, writer)
+    stream_blocks(alloc, &ByMachine::<T>::new(), reader, writer)
 }
 
 /// Writes answers of any kind to all lines of the source, as [`stream`] does.
 ///
 /// # Errors
-/// Those of [`stream`]. `Memory` also comes where the reply answers it, or where there is no memory to gather an answer.
+/// Those of [`stream`]. `Memory` also comes where the reply returns it, or where there is no memory to gather an
+/// answer.
 pub fn stream_with<A: Reply, R: ByteSource, W: ByteSink>(
     alloc: Global,
     reply: &A,
@@ -75,20 +76,20 @@ fn stream_blocks<A: Answers, R: ByteSource, W: ByteSink>(
     ensures { Streams (A.answers answers.now) R.left R.failures W.sink
         reader.old writer.old result reader.new writer.new }
 {
-    let mut block = Block::new(alloc);
-    let mut page = Page::of_blocks(alloc);
+    let mut buffer = InputBuffer::new(alloc);
+    let mut output = OutputBuffer::of_blocks(alloc);
     'turns: for _ in 0..u64::MAX {
-        if let Err(e) = block.make_room() {
+        if let Err(e) = buffer.make_room() {
             return Err(RunError::Memory(e));
         }
-        let seen = block.len();
-        match block.fill(reader) {
+        let seen = buffer.len();
+        match buffer.fill(reader) {
             Err(fault) => return Err(RunError::Read(fault)),
-            Ok(0) => return answer_block(answers, block.front(), &mut page, writer),
+            Ok(0) => return answer_block(answers, buffer.front(), &mut output, writer),
             Ok(_) => {
-                let whole = block.whole(seen);
-                match answer_block(answers, &block.front()[..whole], &mut page, writer) {
-                    Ok(()) => block.forget(whole),
+                let whole = buffer.whole(seen);
+                match answer_block(answers, &buffer.front()[..whole], &mut output, writer) {
+                    Ok(()) => buffer.forget(whole),
                     Err(e) => return Err(e),
                 }
             }

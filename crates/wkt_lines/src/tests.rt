@@ -3,7 +3,7 @@ use crate::answer_line;
 use std::process::Abort;
 use wkt_num::Decimal;
 
-// What lines are answered with; `refused` where it says nothing.
+// What lines are answered with: a canonical text, or `refused` for `None`.
 const LINES: [(&[u8], Option<&str>); 17] = [
     (b"POINT(1 2)", Some("POINT(1 2)")),
     (b"point ( 1.50\t-0 ) and more", Some("POINT(1.5 0)")),

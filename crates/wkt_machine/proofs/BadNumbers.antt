@@ -5,7 +5,7 @@ use Rattle.wkt_access.specs.declared.dimensions.Dimension.{Dimension}
 use Rattle.wkt_access.specs.declared.dimensions.Dimension.TheVariants.{XY, XYZ, XYM, XYZM}
 use Rattle.wkt_read.specs.Ahead.{first_of}
 use Rattle.wkt_read.specs.Parser.Walks.{IsFirst, TakesNext}
-use Rattle.wkt_read.specs.Placed.{Placed}
+use Rattle.wkt_read.specs.Spanned.{Spanned}
 use Rattle.wkt_read.specs.Table.{at_bad, at_number, stays}
 use Rattle.wkt_read.specs.declared.expected.Expected.{Expected}
 use Rattle.wkt_read.specs.declared.expected.Expected.TheVariants as expected
@@ -69,13 +69,13 @@ module _ {N : Type 0} (read : List ℕ → Option N) where
   place_taken p n l takes = let no : ⊥ = cc in absurd no
 
   -- one that comes first isn't read where the machine doesn't move
-  first_unread : (m : Machine) (ps : List Placed) (run : List ℕ) → first_of ps ≡ Some (Num run) → takes_number (state_of m).place ≡ true → IsStuck read m ps → read run ≡ None
+  first_unread : (m : Machine) (ps : List Spanned) (run : List ℕ) → first_of ps ≡ Some (Num run) → takes_number (state_of m).place ≡ true → IsStuck read m ps → read run ≡ None
   first_unread m [] run first takes stuck = let no : ⊥ = cc in absurd no
   first_unread m (p ∷ ps) run first takes stuck =
       let is : p.lexeme ≡ Num run = cc in
       stuck_unread (state_of m).place m.depth run takes (subst (λ l. move read (state_of m) l ≡ None) is stuck)
 
-  blames_unread : (m : Machine) (ps : List Placed) (run : List ℕ) (ls rs : List Lexeme) → first_of ps ≡ Some (Num run) → takes_number (state_of m).place ≡ true → IsStuck read m ps → ls ≡ Num run ∷ rs
+  blames_unread : (m : Machine) (ps : List Spanned) (run : List ℕ) (ls rs : List Lexeme) → first_of ps ≡ Some (Num run) → takes_number (state_of m).place ≡ true → IsStuck read m ps → ls ≡ Num run ∷ rs
       → (message.BadNumber, rs) ≡ blamed read (expected_at (state_of m).place m.depth) ls
   blames_unread m ps run ls rs first takes stuck is =
       let e : Expected = expected_at (state_of m).place m.depth in
@@ -88,7 +88,7 @@ module _ {N : Type 0} (read : List ℕ → Option N) where
   behind_first l None ls rs (later, is) h = let none : ls ≡ [] = h.0 in let no : ⊥ = cc in absurd no
   behind_first l (Some k) ls rs (later, is) h = let both : l ∷ later ≡ k ∷ rs = sym is ∙ h in let same : l ≡ k = cc in h ∙ ap (λ k. k ∷ rs) (sym same)
 
-  pub blames_first : (m : Machine) (o t : Option Lexeme) (ps : List Placed) (ls rs : List Lexeme) → first_of ps ≡ o → is_number o ≡ true → takes_number (state_of m).place ≡ true → IsStuck read m ps → IsFirst o ls → TakesNext t ls rs
+  pub blames_first : (m : Machine) (o t : Option Lexeme) (ps : List Spanned) (ls rs : List Lexeme) → first_of ps ≡ o → is_number o ≡ true → takes_number (state_of m).place ≡ true → IsStuck read m ps → IsFirst o ls → TakesNext t ls rs
       → (message.BadNumber, rs) ≡ blamed read (expected_at (state_of m).place m.depth) ls
   blames_first m (Some (Num run)) t ps ls rs first number takes stuck sees behind = blames_unread m ps run ls rs first takes stuck (behind_first (Num run) t ls rs sees behind)
   blames_first m o t ps ls rs first number takes stuck sees behind = let no : ⊥ = cc in absurd no

@@ -3,14 +3,14 @@ use Rattle.std.proofs.Common.{◌≡◌, ℕ, ◌+◌, ◌-◌, ◌<◌, List, [
 use Rattle.std.specs.Prelude.{Ok}
 use Rattle.wkt_num.specs.Bytes.{Lexeme, Open, Close, Comma, Word, Num, Mark, class_of}
 use Rattle.wkt_access.specs.declared.dimensions.Dimension.{Dimension}
-use Rattle.wkt_read.specs.Placed.{Placed}
-use Rattle.wkt_events.specs.Left.{Legible, left_placed}
+use Rattle.wkt_read.specs.Spanned.{Spanned}
+use Rattle.wkt_events.specs.Remaining.{Legible, remaining_spanned}
 use Rattle.wkt_events.specs.Numbers.{NoNumber}
 use Rattle.wkt_machine.specs.Action.{Action}
 use Rattle.wkt_machine.specs.Action as act
 use Rattle.wkt_machine.specs.BytesView.{IsBetween, IsDark, bytes_view, has_coordinates}
 use Rattle.wkt_machine.specs.Events.{Event}
-use Rattle.wkt_machine.specs.Goes.{Stays, Numbers, IsUnread, IsStuck, Goes, Refuses, closes}
+use Rattle.wkt_machine.specs.Goes.{Stays, MakesOneNumber, IsUnread, IsStuck, Goes, Refuses, closes}
 use Rattle.wkt_machine.specs.Machine.{at, numbers_after, inside, outside, last_place, number_step, said, moved, move}
 use Rattle.wkt_machine.specs.Machines.{state_of, place_of, after_third, state_for, next_after, is_single, HasNext, IsSound}
 use Rattle.wkt_machine.specs.Makers.{Maker}
@@ -28,7 +28,7 @@ use Rattle.wkt_machine.specs.declared.part.Part.{Part}
 use Rattle.wkt_machine.specs.declared.part.Part.TheVariants as part
 use Rattle.wkt_machine.specs.declared.source.At.{At}
 use Rattle.wkt_machine.proofs.ByteViews as bytes
-use Rattle.wkt_machine.proofs.Composing.{goes_on_to}
+use Rattle.wkt_machine.proofs.WaysJoin.{goes_on_to}
 use Rattle.wkt_machine.proofs.Numbering.{over_number, inner_number, last_number}
 use Rattle.wkt_machine.proofs.Stepping.{skipped, several}
 
@@ -67,7 +67,7 @@ abbrev pub behind_item : Machine → Machine
 behind_item m = record { state = next.Item; part = m.part; dim = m.dim; depth = m.depth }
 
 module _ {N : Type 0} (read : List ℕ → Option N) where
-  stuck_number : (s : State) (p : Part) (d : Dimension) (more n : ℕ) → s ≡ at n (place.Number p d more) → (x : Placed) (ps : List Placed) → IsUnread read (x ∷ ps) → (l : Lexeme) → x.lexeme ≡ l → move read s l ≡ None
+  stuck_number : (s : State) (p : Part) (d : Dimension) (more n : ℕ) → s ≡ at n (place.Number p d more) → (x : Spanned) (ps : List Spanned) → IsUnread read (x ∷ ps) → (l : Lexeme) → x.lexeme ≡ l → move read s l ≡ None
   stuck_number s p d more n q x ps h Open e = ap (λ s. move read s Open) q
   stuck_number s p d more n q x ps h Close e = ap (λ s. move read s Close) q
   stuck_number s p d more n q x ps h Comma e = ap (λ s. move read s Comma) q
@@ -76,13 +76,13 @@ module _ {N : Type 0} (read : List ℕ → Option N) where
       let none : read run ≡ None = h run x.end ps (ap (λ l. record { lexeme = l; end = x.end } ∷ ps) e) in
       ap (λ s. move read s (Num run)) q ∙ ap (λ o. moved read (Some (number_step p d more n)) (said read o)) none
 
-  unread_stuck : (m : Machine) (a : Axis) → m.state ≡ state_for a → (ps : List Placed) → IsUnread read ps → IsStuck read m ps
+  unread_stuck : (m : Machine) (a : Axis) → m.state ≡ state_for a → (ps : List Spanned) → IsUnread read ps → IsStuck read m ps
   unread_stuck m a e [] h = tt
   unread_stuck m a e (x ∷ ps) h = stuck_number (state_of m) m.part m.dim (more_of a m.dim) m.depth (ap (at m.depth) (ap (λ s. place_of s m.part m.dim) e ∙ number_place a m.part m.dim)) x ps h x.lexeme refl
 
 module _ {N B : Type 0} (read : List ℕ → Option N) (maker : Maker N B) {n : ℕ} (feed : Bool) where
   -- a number is taken
-  pub number_goes : (m k : Machine) (s t : Bytes n) (b c : B) (a : Axis) → m.state ≡ state_for a → IsSound m → has_coordinates m.part ≡ true → Numbers read (bytes_view feed) maker s b a t c
+  pub number_goes : (m k : Machine) (s t : Bytes n) (b c : B) (a : Axis) → m.state ≡ state_for a → IsSound m → has_coordinates m.part ≡ true → MakesOneNumber read (bytes_view feed) maker s b a t c
       → k ≡ record { state = next_after a m.dim; part = m.part; dim = m.dim; depth = m.depth } → Goes read (bytes_view feed) maker m s b (record { source = t; machine = k; builder = c })
   number_goes m k s t b c a at_a sound has h is = go (next_after a m.dim) refl
     where
@@ -111,12 +111,12 @@ module _ {N B : Type 0} (read : List ℕ → Option N) (maker : Maker N B) {n : 
   number_stays m s t b c a at_a stays dark none = record {
     taken = [];
     events = [];
-    split = sym stays.left;
+    split = sym stays.remaining;
     behind = stays.behind;
     ran = refl;
     is_open = over_number read (bytes_view {n = n} feed) maker m a at_a;
     keeps = stays.keeps;
-    stuck = λ j k. unread_stuck read m a at_a (left_placed feed t.text.now t.at) (bytes.none_unread feed t.text.now t.at read (stays.keeps j k).1 dark none);
+    stuck = λ j k. unread_stuck read m a at_a (remaining_spanned feed t.text.now t.at) (bytes.none_unread feed t.text.now t.at read (stays.keeps j k).1 dark none);
   }
 
   -- the same, past white space
@@ -130,7 +130,7 @@ module _ {N B : Type 0} (read : List ℕ → Option N) (maker : Maker N B) {n : 
       (subst (λ x. IsDark feed x.now t.at) (sym text) (subst (IsDark feed s.text.now) (sym at) dark))
       (subst (λ x. NoNumber read x.now t.at) (sym text) (subst (NoNumber read s.text.now) (sym at) none))
 
-  sees_mark : (s : Bytes n) (l : Lexeme) → class_of (get_or s.text.now s.at 0) ≡ Mark l → seen_of l ≡ sight (left_placed feed s.text.now s.at)
+  sees_mark : (s : Bytes n) (l : Lexeme) → class_of (get_or s.text.now s.at 0) ≡ Mark l → seen_of l ≡ sight (remaining_spanned feed s.text.now s.at)
   sees_mark s l mark = (bytes.sees_mark feed s.text.now s.at (get_or s.text.now s.at 0) l (seen_of l) refl mark refl).sees
 
   -- a comma, and then a coordinate
@@ -168,7 +168,7 @@ module _ {N B : Type 0} (read : List ℕ → Option N) (maker : Maker N B) {n : 
       (from_item m a (record { source = t; machine = k; builder = d }) item (close_goes m k a.source t a.builder d (ap class_of byte ∙ bytes.close_mark) text to there sound makes))
 
   -- fewer lexemes are left
-  pub goes_less : (m : Machine) (s : Bytes n) (b : B) (to : At (Bytes n) B) → Goes read (bytes_view feed) maker m s b to → length (left_placed feed to.source.text.now to.source.at) < length (left_placed feed s.text.now s.at)
+  pub goes_less : (m : Machine) (s : Bytes n) (b : B) (to : At (Bytes n) B) → Goes read (bytes_view feed) maker m s b to → length (remaining_spanned feed to.source.text.now to.source.at) < length (remaining_spanned feed s.text.now s.at)
   goes_less m s b to h =
-      let count = ap length h.split ∙ length-append h.given (h.last ∷ left_placed feed to.source.text.now to.source.at) in
+      let count = ap length h.split ∙ length-append h.given (h.last ∷ remaining_spanned feed to.source.text.now to.source.at) in
       omega (arith, count)

@@ -5,17 +5,17 @@ use Rattle.std.proofs.lemmas.List.Edits.{get_or-between}
 use Rattle.wkt_num.specs.Bytes.{Lexeme, Open, Close, Comma, Word, Num, Class, Nul, White, Mark, Run, class_of}
 use Rattle.wkt_read.specs.Grammar.{kind_word}
 use Rattle.wkt_read.specs.Lexemes.{lexeme_of, starts_number, without_plus}
-use Rattle.wkt_read.specs.Placed.{Placed, lexemes_of, placed}
-use Rattle.wkt_events.specs.Left.{Legible, class_in, left_placed, left, IsRunEnd, TakesOne}
+use Rattle.wkt_read.specs.Spanned.{Spanned, lexemes_of, spanned}
+use Rattle.wkt_events.specs.Remaining.{Legible, class_in, remaining_spanned, remaining, IsRunEnd, TakesOne}
 use Rattle.wkt_events.specs.Numbers.{NoNumber}
 use Rattle.wkt_events.proofs.Classes.{class-same, class-in-mark, class-in-run}
 use Rattle.wkt_events.proofs.Classes as classes
-use Rattle.wkt_events.proofs.Lefts.{left-all, placed-nul, placed-past, left-begins, takes-mark, takes-run}
+use Rattle.wkt_events.proofs.RemainingLexemes.{remaining-all, spanned-nul, spanned-past, remaining-begins, takes-mark, takes-run}
 use Rattle.wkt_events.proofs.Legibles.{legible-one}
 use Rattle.wkt_events.proofs.Numbers.{takes-number, no-number}
 use Rattle.wkt_events.proofs.RunEnds.{late-run}
 use Rattle.wkt_machine.specs.BytesView.{IsBetween, IsDark, IsUnmarked, Sees, IsLooked, bytes_view}
-use Rattle.wkt_machine.specs.Goes.{Stays, Skips, Numbers, IsUnread}
+use Rattle.wkt_machine.specs.Goes.{Stays, Skips, MakesOneNumber, IsUnread}
 use Rattle.wkt_machine.specs.Makers.{Maker, MakesNumber}
 use Rattle.wkt_machine.specs.Sight.{seen_of, seen_word, sight}
 use Rattle.wkt_machine.specs.declared.bytes.Bytes.{Bytes}
@@ -81,7 +81,7 @@ feed_white = refl
 run_in : (feed : Bool) (b : ℕ) → class_of b ≡ Run → class_in feed b ≡ Run
 run_in feed b e = class-same feed b (λ q. let clash : White ≡ Run = sym feed_white ∙ ap class_of (sym q) ∙ e in cc) ∙ e
 
-sight_first : (ps : List Placed) (l : Lexeme) (rest : List Lexeme) → lexemes_of ps ≡ l ∷ rest → sight ps ≡ seen_of l
+sight_first : (ps : List Spanned) (l : Lexeme) (rest : List Lexeme) → lexemes_of ps ≡ l ∷ rest → sight ps ≡ seen_of l
 sight_first [] l rest e = cc
 sight_first (p ∷ ps) l rest e = let same : p.lexeme ≡ l = cc in ap seen_of same
 
@@ -96,11 +96,11 @@ module _ (feed : Bool) (text : List ℕ) (at : ℕ) where
   number_first : (more : List ℕ) → starts_number (get_or text at 0) ≡ true → seen_of (lexeme_of (get_or text at 0 ∷ more)) ≡ seen.Number
   number_first more h = ap (λ t. seen_of (if t then Num (without_plus (get_or text at 0 ∷ more)) else Word (get_or text at 0 ∷ more))) h
 
-  sight_number : starts_number (get_or text at 0) ≡ true → sight (left_placed feed text at) ≡ seen.Number
-  unfolding left
+  sight_number : starts_number (get_or text at 0) ≡ true → sight (remaining_spanned feed text at) ≡ seen.Number
+  unfolding remaining
   sight_number h =
-      let b = left-begins feed text at (run_in feed (get_or text at 0) (number_run (get_or text at 0) h)) in
-      sight_first (left_placed feed text at) _ b.1.0 b.1.1 ∙ number_first b.0 h
+      let b = remaining-begins feed text at (run_in feed (get_or text at 0) (number_run (get_or text at 0) h)) in
+      sight_first (remaining_spanned feed text at) _ b.1.0 b.1.1 ∙ number_first b.0 h
 
   pub sees_number : (end : ℕ) → starts_number (get_or text at 0) ≡ true → Sees feed text at seen.Number end
   sees_number end h = record { sees = sym (sight_number h); takes = λ some word. absurd (word refl) }
@@ -134,13 +134,13 @@ module _ (feed : Bool) (text : List ℕ) (at : ℕ) where
   pub sees_word : (end : ℕ) (k : Seen) → IsRunEnd text at end → end ≢ at → starts_number (get_or text at 0) ≡ false → k ≡ seen_word (kind_word (slice_range text at end)) (slice_range text at end) → Sees feed text at k end
   sees_word end k e some starts is = sees_one (Word (slice_range text at end)) end k (takes_word end e some starts) is
 
-  nul_there : (c : Class) → class_in feed (get_or text at 0) ≡ c → IsDark feed text at → IsUnmarked feed text at → class_of (get_or text at 0) ≢ Run → left_placed feed text at ≡ []
-  nul_there Nul e dark none stops = placed-nul feed text at e
+  nul_there : (c : Class) → class_in feed (get_or text at 0) ≡ c → IsDark feed text at → IsUnmarked feed text at → class_of (get_or text at 0) ≢ Run → remaining_spanned feed text at ≡ []
+  nul_there Nul e dark none stops = spanned-nul feed text at e
   nul_there White e dark none stops = absurd (dark e)
   nul_there (Mark l) e dark none stops = absurd (none l e)
   nul_there Run e dark none stops = absurd (stops (class-in-run feed (get_or text at 0) e))
 
-  pub none_left : (end : ℕ) → IsRunEnd text at end → end ≡ at → IsDark feed text at → IsUnmarked feed text at → left_placed feed text at ≡ []
+  pub none_left : (end : ℕ) → IsRunEnd text at end → end ≡ at → IsDark feed text at → IsUnmarked feed text at → remaining_spanned feed text at ≡ []
   none_left end e here dark none =
       nul_there (class_in feed (get_or text at 0)) refl dark none (λ r. e.stops (ap (λ n. class_of (get_or text n 0)) here ∙ r))
 
@@ -151,19 +151,19 @@ module _ (feed : Bool) (text : List ℕ) (at : ℕ) where
 
   -- No number is there that is read.
   module _ {N : Type 0} (read : List ℕ → Option N) where
-    pub none_unread : Legible feed text at → IsDark feed text at → NoNumber read text at → IsUnread read (left_placed feed text at)
-    unfolding left
+    pub none_unread : Legible feed text at → IsDark feed text at → NoNumber read text at → IsUnread read (remaining_spanned feed text at)
+    unfolding remaining
     none_unread legible dark h run end more is = no-number read feed text at legible dark h run (lexemes_of more) (ap lexemes_of is)
 
 module _ (feed : Bool) where
   -- past the end nothing is seen
-  pub past_sight : (text : List ℕ) (at : ℕ) → length text ≤ at → sight (left_placed feed text at) ≡ seen.Other
-  past_sight text at past = ap sight (placed-past feed text at past)
+  pub past_sight : (text : List ℕ) (at : ℕ) → length text ≤ at → sight (remaining_spanned feed text at) ≡ seen.Other
+  past_sight text at past = ap sight (spanned-past feed text at past)
 
   pub past_looked : (text : List ℕ) (at end : ℕ) → length text ≤ at → IsLooked feed text at end
   past_looked text at end past =
       let other = past_sight text at past in
-      let number : sight (left_placed feed text at) ≡ seen.Number → ⊥ = λ e. let clash : seen.Other ≡ seen.Number = sym other ∙ e in cc in
+      let number : sight (remaining_spanned feed text at) ≡ seen.Number → ⊥ = λ e. let clash : seen.Other ≡ seen.Number = sym other ∙ e in cc in
       record { takes = λ some word. absurd (some other); inside = λ e. absurd (number e); dark = λ e. absurd (number e) }
 
   pub looked_at : (text : List ℕ) (at end : ℕ) (k : Seen) → at ≤ length text → IsDark feed text at → Sees feed text at k end → IsLooked feed text at end
@@ -192,7 +192,7 @@ module _ {n : ℕ} (feed : Bool) where
   -- no lexeme stands before
   pub stays_on : (s t : Bytes n) → s.text ≡ t.text → IsBetween feed s.text.now s.at t.at → (Legible feed s.text.now s.at → Legible feed t.text.now t.at) → Stays (bytes_view feed) s t
   stays_on s t text between legible = record {
-    left = ap (λ x. left_placed feed x.now t.at) (sym text) ∙ sym between.same;
+    remaining = ap (λ x. remaining_spanned feed x.now t.at) (sym text) ∙ sym between.same;
     behind = λ end k. subst (λ x. IsBetween feed x.now end t.at) text (between_more feed s.text.now end s.at t.at k between);
     keeps = λ j k. (ap (λ x. x.now) (sym text) ∙ k.0, legible k.1);
   }
@@ -201,13 +201,13 @@ module _ {n : ℕ} (feed : Bool) where
   pub skips_lexeme : (s t : Bytes n) (l : Lexeme) → TakesOne feed s.text.now s.at l t.at → t.text ≡ s.text → Skips (bytes_view feed) s t
   skips_lexeme s t l takes text = record {
     lexeme = record { lexeme = l; end = t.at };
-    left = takes.next ∙ ap (λ x. record { lexeme = l; end = t.at } ∷ left_placed feed x.now t.at) (sym text);
+    remaining = takes.next ∙ ap (λ x. record { lexeme = l; end = t.at } ∷ remaining_spanned feed x.now t.at) (sym text);
     place = refl;
     keeps = λ j k. (ap (λ x. x.now) text ∙ k.0, subst (λ x. Legible feed x.now t.at) (sym text) (legible-one feed s.text.now s.at l t.at takes k.1));
   }
 
   -- the lexeme that was looked at is taken
-  pub skips_to : (s t : Bytes n) → IsLooked feed s.text.now s.at s.end → sight (left_placed feed s.text.now s.at) ≢ seen.Other → sight (left_placed feed s.text.now s.at) ≢ seen.Number
+  pub skips_to : (s t : Bytes n) → IsLooked feed s.text.now s.at s.end → sight (remaining_spanned feed s.text.now s.at) ≢ seen.Other → sight (remaining_spanned feed s.text.now s.at) ≢ seen.Number
       → t.text ≡ s.text → t.at ≡ s.end → Skips (bytes_view feed) s t
   skips_to s t looked some word text at =
       let (l, takes) = looked.takes some word in
@@ -218,15 +218,15 @@ module _ {n : ℕ} (feed : Bool) where
       skips_lexeme s t l (subst (TakesOne feed s.text.now s.at l) (sym at) (takes-mark feed s.text.now s.at l (classes.mark-in feed (get_or s.text.now s.at 0) l mark))) text
 
   -- A number is taken, and made. White space may stand before it.
-  pub numbers_after : {N B : Type 0} (read : List ℕ → Option N) (maker : Maker N B) (s t : Bytes n) (b c : B) (axis : Axis) (at : ℕ) → left_placed feed s.text.now s.at ≡ left_placed feed s.text.now at → (Legible feed s.text.now s.at → Legible feed s.text.now at)
-      → MakesNumber read maker b s.text.now at axis c t.at → t.text ≡ s.text → Numbers read (bytes_view feed) maker s b axis t c
+  pub numbers_after : {N B : Type 0} (read : List ℕ → Option N) (maker : Maker N B) (s t : Bytes n) (b c : B) (axis : Axis) (at : ℕ) → remaining_spanned feed s.text.now s.at ≡ remaining_spanned feed s.text.now at → (Legible feed s.text.now s.at → Legible feed s.text.now at)
+      → MakesNumber read maker b s.text.now at axis c t.at → t.text ≡ s.text → MakesOneNumber read (bytes_view feed) maker s b axis t c
   numbers_after read maker s t b c axis at same further h text =
       let takes = takes-number read feed s.text.now at t.at h.number h.there in
       record {
         run = without_plus (slice_range s.text.now at t.at);
         number = h.number;
         end = t.at;
-        left = same ∙ takes.next ∙ ap (λ x. record { lexeme = Num (without_plus (slice_range s.text.now at t.at)); end = t.at } ∷ left_placed feed x.now t.at) (sym text);
+        remaining = same ∙ takes.next ∙ ap (λ x. record { lexeme = Num (without_plus (slice_range s.text.now at t.at)); end = t.at } ∷ remaining_spanned feed x.now t.at) (sym text);
         place = refl;
         keeps = λ j k. (ap (λ x. x.now) text ∙ k.0, subst (λ x. Legible feed x.now t.at) (sym text) (legible-one feed s.text.now at _ t.at takes (further k.1)));
         reads = h.there.reads;
@@ -234,5 +234,5 @@ module _ {n : ℕ} (feed : Bool) where
       }
 
 -- At the beginning of a whole text all its lexemes are left.
-pub whole_left : {n : ℕ} (text : List ℕ) (s : Bytes n) → s.text.now ≡ text → s.at ≡ 0 → left_placed false s.text.now s.at ≡ placed text
-whole_left text s is at = ap (λ t. left_placed false t s.at) is ∙ ap (left_placed false text) at ∙ left-all text
+pub whole_left : {n : ℕ} (text : List ℕ) (s : Bytes n) → s.text.now ≡ text → s.at ≡ 0 → remaining_spanned false s.text.now s.at ≡ spanned text
+whole_left text s is at = ap (λ t. remaining_spanned false t s.at) is ∙ ap (remaining_spanned false text) at ∙ remaining-all text

@@ -5,7 +5,7 @@ use Rattle.wkt_access.specs.declared.dimensions.Dimension.{Dimension}
 use Rattle.wkt_access.specs.declared.dimensions.Dimension.TheVariants.{XY}
 use Rattle.wkt_read.specs.Grammar.{KindWord, kind_word, dim_word, is_empty_word}
 use Rattle.wkt_machine.specs.Action.{Action}
-use Rattle.wkt_read.specs.Placed.{Placed, lexemes_of}
+use Rattle.wkt_read.specs.Spanned.{Spanned, lexemes_of}
 use Rattle.wkt_machine.specs.Goes.{Goes}
 use Rattle.wkt_machine.specs.Machines.{state_of}
 use Rattle.wkt_machine.specs.Makers.{Maker}
@@ -17,7 +17,7 @@ use Rattle.wkt_machine.specs.Place.{Place, State}
 use Rattle.wkt_machine.specs.Place as place
 use Rattle.wkt_machine.specs.declared.part.Part.{Part}
 use Rattle.wkt_machine.specs.declared.part.Part.TheVariants as part
-use Rattle.wkt_machine.proofs.Whole.{then_some, moved_some}
+use Rattle.wkt_machine.proofs.WholeRuns.{then_some, moved_some}
 
 -- a step goes into one collection more at most
 abbrev Deep : ℕ → Option (State × Action) → Type 0
@@ -91,20 +91,20 @@ deeper_by read (l ∷ ls) s m e =
     let same : r.0 ≡ m.0 = cc in
     omega (arith, first, more, ap (λ (s : State). s.depth) same)
 
-many : (ps : List Placed) → length (lexemes_of ps) ≡ length ps
+many : (ps : List Spanned) → length (lexemes_of ps) ≡ length ps
 many [] = refl
 many (p ∷ ps) = ap suc (many ps)
 
 -- There is as much room after a way as before.
 pub goes_room : {N S B : Type 0} (read : List ℕ → Option N) (view : View S) (maker : Maker N B) (m : Machine) (s : S) (b : B) (to : At S B) → Goes read view maker m s b to
-    → to.machine.depth + length (view.left to.source) ≤ m.depth + length (view.left s)
+    → to.machine.depth + length (view.remaining to.source) ≤ m.depth + length (view.remaining s)
 goes_room read view maker m s b to h =
     let deep = deeper_by read (lexemes_of (h.given ++ (h.last ∷ []))) (state_of m) (state_of to.machine, h.events) h.ran in
     let count = many (h.given ++ (h.last ∷ [])) in
     let all = ap length h.split in
-    omega (arith, deep, count, all, length-append h.given (h.last ∷ []), length-append h.given (h.last ∷ view.left to.source))
+    omega (arith, deep, count, all, length-append h.given (h.last ∷ []), length-append h.given (h.last ∷ view.remaining to.source))
 
 -- Less is left after a way.
 pub goes_less : {N S B : Type 0} (read : List ℕ → Option N) (view : View S) (maker : Maker N B) (m : Machine) (s : S) (b : B) (to : At S B) → Goes read view maker m s b to
-    → suc (length (view.left to.source)) ≤ length (view.left s)
-goes_less read view maker m s b to h = omega (arith, ap length h.split, length-append h.given (h.last ∷ view.left to.source))
+    → suc (length (view.remaining to.source)) ≤ length (view.remaining s)
+goes_less read view maker m s b to h = omega (arith, ap length h.split, length-append h.given (h.last ∷ view.remaining to.source))

@@ -13,12 +13,12 @@ use Rattle.wkt_types.specs.declared.geometry.Wkt.{Wkt}
 use Rattle.wkt_types.specs.declared.geometry.Wkt.TheVariants as variants
 use Rattle.wkt_types.specs.declared.geometry.Wkt.TheFolds as folds
 use Rattle.wkt_types.specs.declared.geometry.Wkt.TheOpen as opened
-use Rattle.wkt_read.specs.Ahead.{left, rest, end_of}
+use Rattle.wkt_read.specs.Ahead.{remaining, rest, end_of}
 use Rattle.wkt_read.specs.Answered.{HasBadNumber, IsFront, OnText, OnMessage}
 use Rattle.wkt_read.specs.Front.{Front, HasNoFront, NeedsNoMemory}
 use Rattle.wkt_read.specs.Items.{bad_number}
 use Rattle.wkt_read.specs.Messages.{message_text}
-use Rattle.wkt_read.specs.Placed.{AreEnds, placed}
+use Rattle.wkt_read.specs.Spanned.{AreEnds, spanned}
 use Rattle.wkt_read.specs.Refusal.{IsTextRefused, IfText}
 use Rattle.wkt_read.specs.Standing.{Standing}
 use Rattle.wkt_read.specs.declared.error.ReadError.{ReadError}
@@ -34,7 +34,7 @@ use Rattle.wkt_machine.specs.Machines.{state_of}
 use Rattle.wkt_machine.specs.Refusing.{refused as refusal}
 use Rattle.wkt_machine.specs.TokensView.{tokens_view}
 use Rattle.wkt_machine.specs.Trees.{Grew, Holds, HoldsEnded, IsPair, coord_by, coord_of}
-use Rattle.wkt_machine.specs.Values.{Answers, AnswersReader, Takes}
+use Rattle.wkt_machine.specs.Values.{AnswersTree, AnswersReader, TakesValue}
 use Rattle.wkt_machine.specs.declared.source.At.{At}
 use Rattle.wkt_machine.specs.declared.tokens.OneByOne.{OneByOne}
 use Rattle.wkt_machine.specs.declared.tree.Ended.TheVariants as ended
@@ -45,7 +45,7 @@ use Rattle.wkt_machine.proofs.Reading.{front, memory_free, ok_advances, ok_found
 use Rattle.wkt_machine.proofs.Valued.{read_off, refused, taken, wants_memory}
 
 -- a point of two numbers that ended is what its parts make
-pair_answers : {N : Type 0} (t : Tree N) (x y : N) → IsPair t x y → (w : Wkt N) → tree w ≡ Kept.point (record { coord = Some (record { x = x; y = y; z = None; m = None }); dim = t.dim }) → Answers t (Ok w)
+pair_answers : {N : Type 0} (t : Tree N) (x y : N) → IsPair t x y → (w : Wkt N) → tree w ≡ Kept.point (record { coord = Some (record { x = x; y = y; z = None; m = None }); dim = t.dim }) → AnswersTree t (Ok w)
 pair_answers {N} t x y p w made = (p.kept, λ v h. go v (subst (λ l. HoldsEnded l t [] v) p.last h.whole))
   where
     one : Coord N
@@ -65,30 +65,30 @@ tree_point {T} x =
     ap tree (sym (variants.rolls-Point x))
     ∙ folds.fold-roll-Wkt T (Kept T) (Kept T) wkt_step collection_step (opened.Wkt-F.Point x)
 
-pub pair_made : {N : Type 0} (t : Tree N) (x y : N) → IsPair t x y → (p : HeldPoint (Coord N)) → p.coord ≡ Some (record { x = x; y = y; z = None; m = None }) → p.dim ≡ t.dim → Answers t (Ok (variants.Point p))
+pub pair_made : {N : Type 0} (t : Tree N) (x y : N) → IsPair t x y → (p : HeldPoint (Coord N)) → p.coord ≡ Some (record { x = x; y = y; z = None; m = None }) → p.dim ≡ t.dim → AnswersTree t (Ok (variants.Point p))
 pair_made t x y is p coord dim =
     pair_answers t x y is (variants.Point p)
     (tree_point p ∙ ap (λ o. Kept.point (record { coord = o; dim = p.dim })) coord ∙ ap (λ d. Kept.point (record { coord = Some (record { x = x; y = y; z = None; m = None }); dim = d })) dim)
 
 -- Tokens of a text are a source, and a tree grows over it that holds nothing yet.
 module _ {N : Type 0} (is_value : N → Type 0) (read : List ℕ → Option N) (values : (bs : List ℕ) → IfSome (read bs) is_value)
-    (text : List ℕ) (s : Standing) (start : left s ≡ placed text) (are : AreEnds text (left s)) (zero : end_of s ≡ 0)
+    (text : List ℕ) (s : Standing) (start : remaining s ≡ spanned text) (are : AreEnds text (remaining s)) (zero : end_of s ≡ 0)
     (a : OneByOne N) (before : a.tokens.now ≡ s) (b : Grower N) (to : At (OneByOne N) (Grower N)) where
   -- A value ended.
   module _ (on : GoesFrom read tokens_view tree_maker a b to) (over : is_over (state_of to.machine) ≡ true) (begins : Holds (tree_of b).now (nothing [] None)) (u : Tree N) (same : u ≡ (tree_of to.builder).now) where
-    grew_by : (v : Value N) × Takes read tokens_view a v to.source × Grew (tree_of b).now (events v) u
+    grew_by : (v : Value N) × TakesValue read tokens_view a v to.source × Grew (tree_of b).now (events v) u
     grew_by =
         let (v, takes, grew) = taken read tokens_view tree_maker a b to on over in
         (v, takes, subst (Grew (tree_of b).now (events v)) (sym same) grew)
 
-    pub ended_found : (w : Wkt N) → Answers u (Ok w) → IsFront read text (tree w)
+    pub ended_found : (w : Wkt N) → AnswersTree u (Ok w) → IsFront read text (tree w)
     ended_found w k =
         let is = read_off is_value read values tokens_view (tree_of b).now u a to.source begins grew_by (Ok w) k in
         front read text s to.source.tokens.now (Ok w) are zero
         (ok_advances read a to.source s to.source.tokens.now before refl (Ok w) w refl is)
         (ok_found read a to.source s to.source.tokens.now before refl (Ok w) w refl is)
 
-    lost_free : (e : AllocError) → Answers u (Err (Memory e)) → (v : Value N) (end : ℕ) → Front read text v end → NeedsNoMemory v → ⊥
+    lost_free : (e : AllocError) → AnswersTree u (Err (Memory e)) → (v : Value N) (end : ℕ) → Front read text v end → NeedsNoMemory v → ⊥
     lost_free e k v end there free =
         let is = wants_memory is_value read values tokens_view (tree_of b).now u a to.source begins grew_by (Err (Memory e)) k in
         let (after, first) = from-front read text s v end start there in

@@ -9,12 +9,12 @@ use Rattle.wkt_machine.specs.declared.value.Unread.{Unread}
 use Rattle.wkt_machine.specs.declared.value.Unread.TheVariants.{Refused, Memory}
 use Rattle.wkt_access.specs.Values.{Value}
 use Rattle.wkt_read.specs.Front.{Front, HasNoFront, NeedsNoMemory}
-use Rattle.wkt_read.specs.Placed.{Placed, AreEnds, placed}
+use Rattle.wkt_read.specs.Spanned.{Spanned, AreEnds, spanned}
 use Rattle.wkt_read.proofs.LawLemmas.FrontEnds.{front-of-lexemes}
-use Rattle.wkt_read.proofs.TokenizerLemmas.Placings.{placed-ends}
+use Rattle.wkt_read.proofs.TokenizerLemmas.Placings.{spanned-ends}
 use Rattle.wkt_machine.specs.Goes.{RefusesFrom}
 use Rattle.wkt_machine.specs.Makers.{Maker}
-use Rattle.wkt_machine.specs.Values.{Takes, IsRead, IsRefused, OnMemory, OnRefused, WantsMemory}
+use Rattle.wkt_machine.specs.Values.{TakesValue, IsRead, MachineRefuses, OnMemory, OnRefused, WantsMemory}
 use Rattle.wkt_machine.specs.View.{View}
 use Rattle.wkt_machine.specs.declared.machine.Machine.{Machine}
 use Rattle.wkt_machine.specs.declared.machine.State.TheVariants as state
@@ -30,21 +30,21 @@ made_none = record { makes = λ s es t. Unit {0}; fits = λ s n. Unit {0}; takes
 abbrev begin : Machine
 begin = record { state = state.Kind; part = part.Point; dim = XY; depth = 0 }
 
-module _ {N S : Type 0} (read : List ℕ → Option N) (view : View S) (text : List ℕ) (s : S) (begins : view.left s ≡ placed text) where
+module _ {N S : Type 0} (read : List ℕ → Option N) (view : View S) (text : List ℕ) (s : S) (begins : view.remaining s ≡ spanned text) where
   -- the front that was taken
-  pub front_whole : (v : Value N) (t : S) (h : Takes read view s v t) → Front read text v h.last.end
+  pub front_whole : (v : Value N) (t : S) (h : TakesValue read view s v t) → Front read text v h.last.end
   front_whole v t h =
-      let given : List Placed = h.given ++ (h.last ∷ []) in
-      let all : placed text ≡ given ++ view.left t = sym begins ∙ h.split ∙ sym (append_assoc h.given (h.last ∷ []) (view.left t)) in
+      let given : List Spanned = h.given ++ (h.last ∷ []) in
+      let all : spanned text ≡ given ++ view.remaining t = sym begins ∙ h.split ∙ sym (append_assoc h.given (h.last ∷ []) (view.remaining t)) in
       subst (Front read text v) (end_last 0 h.given h.last)
-      (front-of-lexemes read text given (view.left t) v (subst (AreEnds text) all (placed-ends text)) h.stands)
+      (front-of-lexemes read text given (view.remaining t) v (subst (AreEnds text) all (spanned-ends text)) h.stands)
 
   -- the same, by where the source is behind it
-  pub front_taken : (v : Value N) (t : S) (at : ℕ) → ((end : ℕ) → view.place t end → at ≡ end) → Takes read view s v t → Front read text v at
+  pub front_taken : (v : Value N) (t : S) (at : ℕ) → ((end : ℕ) → view.place t end → at ≡ end) → TakesValue read view s v t → Front read text v at
   front_taken v t at ends h = subst (Front read text v) (sym (ends h.last.end h.place)) (front_whole v t h)
 
   -- no front where the machine stops
-  pub no_front_refused : (j : view.Known) → view.keeps s j → (m : Machine) (t : S) → IsRefused read view s m t → HasNoFront read text
+  pub no_front_refused : (j : view.Known) → view.keeps s j → (m : Machine) (t : S) → MachineRefuses read view s m t → HasNoFront read text
   no_front_refused j keeps m t h =
       let to : At S (Unit {0}) = record { source = t; machine = m; builder = tt } in
       no_front_there read view made_none text s tt to begins j keeps (
@@ -74,6 +74,6 @@ module _ {N S : Type 0} (read : List ℕ → Option N) (view : View S) (text : L
       let same = front_one read text v w end _ front (front_whole w t takes) in
       absurd (wants (subst NeedsNoMemory same.0 free))
 
-  pub refused_in : (t : S) (m : Machine) (u : Unread) (a : Result (Wkt N) Unread) → a ≡ Err u → u ≡ Refused m → OnRefused a (λ m. IsRefused read view s m t) → (j : view.Known) → view.keeps s j → HasNoFront read text
+  pub refused_in : (t : S) (m : Machine) (u : Unread) (a : Result (Wkt N) Unread) → a ≡ Err u → u ≡ Refused m → OnRefused a (λ m. MachineRefuses read view s m t) → (j : view.Known) → view.keeps s j → HasNoFront read text
   refused_in t m u a e is h j keeps =
-      no_front_refused j keeps m t (subst (λ u. OnRefused {X = Wkt N} (Err u) (λ m. IsRefused read view s m t)) is (subst (λ a. OnRefused a (λ m. IsRefused read view s m t)) e h))
+      no_front_refused j keeps m t (subst (λ u. OnRefused {X = Wkt N} (Err u) (λ m. MachineRefuses read view s m t)) is (subst (λ a. OnRefused a (λ m. MachineRefuses read view s m t)) e h))

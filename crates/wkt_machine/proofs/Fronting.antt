@@ -4,12 +4,12 @@ use Rattle.wkt_num.specs.Bytes.{Lexeme}
 use Rattle.wkt_access.specs.Values.{Value}
 use Rattle.wkt_read.specs.Begun.{NoneBegins}
 use Rattle.wkt_read.specs.Front.{Front, HasNoFront}
-use Rattle.wkt_read.specs.Placed.{Placed, lexemes_of, end_after, AreEnds, placed}
+use Rattle.wkt_read.specs.Spanned.{Spanned, lexemes_of, end_after, AreEnds, spanned}
 use Rattle.wkt_read.proofs.LawLemmas.Begun.{CutIn, Later, Earlier, cut_in}
 use Rattle.wkt_read.proofs.LawLemmas.Fronts.{taken_begin}
 use Rattle.wkt_read.proofs.LawLemmas.FrontEnds.{front-of-lexemes}
 use Rattle.wkt_read.proofs.LawLemmas.Splits.{split_one}
-use Rattle.wkt_read.proofs.TokenizerLemmas.Placings.{placed-split, placed-ends}
+use Rattle.wkt_read.proofs.TokenizerLemmas.Placings.{spanned-split, spanned-ends}
 use Rattle.wkt_machine.specs.Drives.{start, is_over}
 use Rattle.wkt_machine.specs.Events.{Event, events}
 use Rattle.wkt_machine.specs.Goes.{GoesFrom, RefusesFrom, IsStuck}
@@ -21,13 +21,13 @@ use Rattle.wkt_machine.specs.Place.{State}
 use Rattle.wkt_machine.specs.View.{View}
 use Rattle.wkt_machine.specs.declared.source.At.{At}
 use Rattle.wkt_machine.proofs.Complete.{value_run}
-use Rattle.wkt_machine.proofs.Whole.{exact, goes_on, front_run, stuck, no_front}
+use Rattle.wkt_machine.proofs.WholeRuns.{exact, goes_on, front_run, stuck, no_front}
 
-lexemes_append : (xs ys : List Placed) → lexemes_of (xs ++ ys) ≡ lexemes_of xs ++ lexemes_of ys
+lexemes_append : (xs ys : List Spanned) → lexemes_of (xs ++ ys) ≡ lexemes_of xs ++ lexemes_of ys
 lexemes_append [] ys = refl
 lexemes_append (x ∷ xs) ys = ap (λ l. x.lexeme ∷ l) (lexemes_append xs ys)
 
-pub end_last : (at : ℕ) (given : List Placed) (x : Placed) → end_after at (given ++ (x ∷ [])) ≡ x.end
+pub end_last : (at : ℕ) (given : List Spanned) (x : Spanned) → end_after at (given ++ (x ∷ [])) ≡ x.end
 end_last at [] x = refl
 end_last at (y ∷ given) x = end_last y.end given x
 
@@ -43,35 +43,35 @@ module _ {N : Type 0} (read : List ℕ → Option N) where
           let (q, r, first, later, cut) = front_run read (before ++ (fault ∷ [])) m start (at 0 place.Geometry, events v ++ []) whole in
           let clash : ◌≡◌ {A = Option (Move N)} None (Some q) = sym (stuck read before fault s es e o stops) ∙ first in cc
 
-  module _ {S B : Type 0} (view : View S) (maker : Maker N B) (text : List ℕ) (s : S) (b : B) (to : At S B) (begins : view.left s ≡ placed text) where
+  module _ {S B : Type 0} (view : View S) (maker : Maker N B) (text : List ℕ) (s : S) (b : B) (to : At S B) (begins : view.remaining s ≡ spanned text) where
     -- a front, and what was made of it
     pub front_made : (at : ℕ) → ((end : ℕ) → view.place to.source end → at ≡ end) → GoesFrom read view maker s b to → is_over (state_of to.machine) ≡ true → (v : Value N) × Front read text v at × maker.makes b (events v) to.builder
     front_made at ends (m, from, h) o =
-        let taken : List Placed = h.given ++ (h.last ∷ []) in
-        let all : placed text ≡ taken ++ view.left to.source = sym begins ∙ h.split ∙ sym (append_assoc h.given (h.last ∷ []) (view.left to.source)) in
+        let taken : List Spanned = h.given ++ (h.last ∷ []) in
+        let all : spanned text ≡ taken ++ view.remaining to.source = sym begins ∙ h.split ∙ sym (append_assoc h.given (h.last ∷ []) (view.remaining to.source)) in
         let ran : run read start (lexemes_of taken) ≡ Some (state_of to.machine, h.events) = ap (λ s. run read s (lexemes_of taken)) (sym from) ∙ h.ran in
         let (v, g, made_is) = exact read (lexemes_of taken) (state_of to.machine) h.events ran o in (
           v,
           subst (Front read text v) (end_last 0 h.given h.last ∙ sym (ends h.last.end h.place))
-              (front-of-lexemes read text taken (view.left to.source) v (subst (AreEnds text) all (placed-ends text)) g),
+              (front-of-lexemes read text taken (view.remaining to.source) v (subst (AreEnds text) all (spanned-ends text)) g),
           subst (λ es. maker.makes b es to.builder) made_is h.makes,
         )
 
-    none_in : NoneBegins read (lexemes_of (placed text)) → HasNoFront read text
+    none_in : NoneBegins read (lexemes_of (spanned text)) → HasNoFront read text
     none_in none v end front =
         let (more, is) = taken_begin text front.rest front.lexemes front.taken in
-        none front.lexemes more v (split_one text _ _ (placed-split text) is) front.reads
+        none front.lexemes more v (split_one text _ _ (spanned-split text) is) front.reads
 
     pub no_front_there : (j : view.Known) → view.keeps s j → RefusesFrom read view maker s b to → HasNoFront read text
-    no_front_there j keeps (m, from, h) = go (view.left to.source) refl
+    no_front_there j keeps (m, from, h) = go (view.remaining to.source) refl
       where
         ran : run read start (lexemes_of h.taken) ≡ Some (state_of to.machine, h.events)
         ran = ap (λ s. run read s (lexemes_of h.taken)) (sym from) ∙ h.ran
 
-        lexemes : lexemes_of (placed text) ≡ lexemes_of h.taken ++ lexemes_of (view.left to.source)
-        lexemes = ap lexemes_of (sym begins ∙ h.split) ∙ lexemes_append h.taken (view.left to.source)
+        lexemes : lexemes_of (spanned text) ≡ lexemes_of h.taken ++ lexemes_of (view.remaining to.source)
+        lexemes = ap lexemes_of (sym begins ∙ h.split) ∙ lexemes_append h.taken (view.remaining to.source)
 
-        go : (left : List Placed) → view.left to.source ≡ left → HasNoFront read text
+        go : (remaining : List Spanned) → view.remaining to.source ≡ remaining → HasNoFront read text
         go [] e =
             let none = (goes_on read (lexemes_of h.taken) (state_of to.machine) h.events ran h.is_open).1 in
             none_in (subst (NoneBegins read) (sym (lexemes ∙ ap (λ ps. lexemes_of h.taken ++ lexemes_of ps) e ∙ append-nil (lexemes_of h.taken))) none)

@@ -4,11 +4,11 @@ use Rattle.wkt_num.specs.Bytes.{Open, Word, Num, Run, AllRun, class_of}
 use Rattle.wkt_access.specs.declared.dimensions.Dimension.TheVariants.{XY}
 use Rattle.wkt_read.specs.Grammar.{kind_word, kind_words}
 use Rattle.wkt_read.specs.Lexemes.{lexeme_of, starts_number, without_plus}
-use Rattle.wkt_read.specs.Placed.{Placed}
-use Rattle.wkt_events.specs.Left.{Legible, class_in, left_placed, IsRunEnd, TakesOne}
+use Rattle.wkt_read.specs.Spanned.{Spanned}
+use Rattle.wkt_events.specs.Remaining.{Legible, class_in, remaining_spanned, IsRunEnd, TakesOne}
 use Rattle.wkt_events.proofs.Classes as classes
 use Rattle.wkt_events.proofs.Classes.{space}
-use Rattle.wkt_events.proofs.Lefts.{placed-white, takes-mark, takes-run, takes-after}
+use Rattle.wkt_events.proofs.RemainingLexemes.{spanned-white, takes-mark, takes-run, takes-after}
 use Rattle.wkt_events.proofs.Legibles.{legible-one}
 use Rattle.wkt_machine.specs.BytesView.{IsBetween, bytes_view}
 use Rattle.wkt_machine.specs.Events.{Event}
@@ -23,7 +23,7 @@ use Rattle.wkt_machine.specs.declared.machine.State.TheVariants as next
 use Rattle.wkt_machine.specs.declared.part.Part.{Part}
 use Rattle.wkt_machine.specs.declared.part.Part.TheVariants as part
 use Rattle.wkt_machine.proofs.ByteViews as bytes
-use Rattle.wkt_machine.proofs.Composing.{goes_on_to}
+use Rattle.wkt_machine.proofs.WaysJoin.{goes_on_to}
 use Rattle.wkt_machine.proofs.Stepping.{goes_one}
 
 -- the names
@@ -78,7 +78,7 @@ module _ (feed : Bool) (text : List ℕ) (at : ℕ) where
     opens =
         let there : TakesOne feed text (at + 1) Open (at + 1 + 1) = takes-mark feed text (at + 1) Open (ap (class_in feed) f ∙ classes.mark-in feed 40 Open bytes.open_mark) in
         let two : at + 1 + 1 ≡ at + 2 = omega arith in
-        takes-after feed text at (at + 1) Open (at + 2) (omega arith) (placed-white feed text at (space feed (get_or text at 0) e)) (subst (TakesOne feed text (at + 1) Open) two there);
+        takes-after feed text at (at + 1) Open (at + 2) (omega arith) (spanned-white feed text at (space feed (get_or text at 0) e)) (subst (TakesOne feed text (at + 1) Open) two there);
   }
 
   word_lexeme : (run : List ℕ) → starts_number (get_or run 0 0) ≡ false → lexeme_of run ≡ Word run
@@ -104,7 +104,7 @@ module _ (feed : Bool) (text : List ℕ) (at : ℕ) where
   stands_if part word n (Some end) name inside is some ends = head_stands part word n end name inside is some ends
 
 -- A lexeme that is left is one that a place counts.
-pub head_room : (feed : Bool) (text : List ℕ) (from at : ℕ) (part : Part) (end depth most : ℕ) → left_placed feed text from ≡ left_placed feed text at → StandsHead feed text at part end → depth + length (left_placed feed text from) ≤ most → depth < most
+pub head_room : (feed : Bool) (text : List ℕ) (from at : ℕ) (part : Part) (end depth most : ℕ) → remaining_spanned feed text from ≡ remaining_spanned feed text at → StandsHead feed text at part end → depth + length (remaining_spanned feed text from) ≤ most → depth < most
 head_room feed text from at part end depth most same head room =
     let count = ap length (same ∙ head.takes.next) in
     omega (arith, count, room)
@@ -116,8 +116,8 @@ module _ {N B : Type 0} (read : List ℕ → Option N) (maker : Maker N B) {n : 
   head_goes m k s t b c p start at_kind between further head text there sound makes =
       let alone : Machine = record { state = next.Dimension; part = p; dim = m.dim; depth = m.depth } in
       let mid : Bytes n = record { text = s.text; at = head.mid; end = head.mid } in
-      let word : Placed = record { lexeme = Word head.word; end = head.mid } in
-      let opens : Placed = record { lexeme = Open; end = t.at } in
+      let word : Spanned = record { lexeme = Word head.word; end = head.mid } in
+      let opens : Spanned = record { lexeme = Open; end = t.at } in
       let first : move read (state_of m) (Word head.word) ≡ Some (state_of alone, []) =
       ap (λ x. move read (at m.depth (place_of x m.part m.dim)) (Word head.word)) at_kind
       ∙ ap (λ o. moved read (kind_step o m.depth) (Some None)) head.name.names
@@ -125,8 +125,8 @@ module _ {N B : Type 0} (read : List ℕ → Option N) (maker : Maker N B) {n : 
       ∙ ap (λ j. moved read (Some (joined_step p j m.depth)) (Some None)) head.name.joined in
       let second : move read (state_of alone) Open ≡ Some (state_of k, Event.Header p XY ∷ Event.Open p ∷ []) =
       ap (λ x. Some (x, Event.Header p XY ∷ Event.Open p ∷ [])) (sym there) in
-      let here : left_placed feed s.text.now s.at ≡ word ∷ left_placed feed s.text.now head.mid = between.same ∙ head.takes.next in
-      let behind : left_placed feed s.text.now head.mid ≡ opens ∷ left_placed feed t.text.now t.at = head.opens.next ∙ ap (λ x. opens ∷ left_placed feed x.now t.at) (sym text) in
+      let here : remaining_spanned feed s.text.now s.at ≡ word ∷ remaining_spanned feed s.text.now head.mid = between.same ∙ head.takes.next in
+      let behind : remaining_spanned feed s.text.now head.mid ≡ opens ∷ remaining_spanned feed t.text.now t.at = head.opens.next ∙ ap (λ x. opens ∷ remaining_spanned feed x.now t.at) (sym text) in
       goes_on_to read (bytes_view feed) maker m s b (record { source = mid; machine = alone; builder = b }) (record { source = t; machine = k; builder = c })
       (goes_one read (bytes_view feed) maker m alone s mid b b word [] here refl (λ j l. (l.0, legible-one feed s.text.now start (Word head.word) head.mid head.takes (further l.1))) first (maker.none b) tt)
       (goes_one read (bytes_view feed) maker alone k mid t b c opens (Event.Header p XY ∷ Event.Open p ∷ []) behind refl

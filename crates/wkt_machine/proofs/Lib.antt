@@ -2,42 +2,42 @@ mod Runs
 mod Parts
 pub mod Complete
 mod BadNumbers
-mod Beginnings
+mod BegunIsWalked
 mod Places
-mod Begins
-pub mod Whole
-pub mod Named
-pub mod Costs
-pub mod Rooms
+mod WalkedIsBegun
+pub mod WholeRuns
+pub mod ExpectedIsTaken
+pub mod LexemeCosts
+pub mod RoomForRest
 mod Stepping
 mod Numbering
-pub mod Composing
+pub mod WaysJoin
 mod Depths
 mod TokenViews
 pub mod Fronting
 pub mod ByteViews
-mod Leading
+mod EmptyWays
 mod ByteSteps
 mod TakeNext
-mod Reaching
+mod WaysWithinPart
 pub mod Shown
 mod HeadSteps
 mod Items
 mod TokenSteps
 pub mod SourceRooms
-pub mod Grown
-mod Holding
+pub mod ValueFromEvents
+mod TreeHolds
 pub mod Valued
 pub mod FrontValues
-pub mod Contexts
+pub mod ContextOfPlace
 pub mod Parens
-pub mod Dead
+pub mod OneRefusedPlace
 mod Messages
 pub mod TableMessages
 mod OneMessage
 mod Refusing
 pub mod Stopping
-mod Givens
+mod NextLexeme
 mod Reading
-mod NearPoints
+mod FastPoints
 mod Driven

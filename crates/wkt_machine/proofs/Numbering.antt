@@ -5,11 +5,11 @@ use Rattle.wkt_num.specs.Bytes.{Lexeme, Open, Close, Comma, Word, Num}
 use Rattle.wkt_access.specs.declared.dimensions.Dimension.{Dimension}
 use Rattle.wkt_access.specs.declared.dimensions.Dimension.TheVariants.{XY, XYZ, XYM, XYZM}
 use Rattle.wkt_read.specs.Grammar.{KindWord, kind_word, dim_word, is_empty_word}
-use Rattle.wkt_read.specs.Placed.{Placed}
+use Rattle.wkt_read.specs.Spanned.{Spanned}
 use Rattle.wkt_machine.specs.Action.{Action}
 use Rattle.wkt_machine.specs.Drives.{is_over, over_at}
 use Rattle.wkt_machine.specs.Events.{Event, axis_of}
-use Rattle.wkt_machine.specs.Goes.{Stays, Numbers, IsUnread, IsStuck, Goes, Refuses, EndsPoint, closes}
+use Rattle.wkt_machine.specs.Goes.{Stays, MakesOneNumber, IsUnread, IsStuck, Goes, Refuses, EndsPoint, closes}
 use Rattle.wkt_machine.specs.Machine.{at, numbers_after, bare_step, number_step, last_place, last_step, step_at, made, said, moved, move}
 use Rattle.wkt_machine.specs.Machines.{state_of, place_of, after_third, state_for, next_after, HasNext, IsSound}
 use Rattle.wkt_machine.specs.Makers.{Maker}
@@ -95,7 +95,7 @@ module _ {N S B : Type 0} (read : List ℕ → Option N) (view : View S) (maker 
   never_moves (Some s) run e = ap (λ o. moved read (Some s) (said read o)) e
   never_moves None run e = refl
 
-  unread_stuck : (m : Machine) (ps : List Placed) → seen.Number ≡ sight ps → IsUnread read ps → IsStuck read m ps
+  unread_stuck : (m : Machine) (ps : List Spanned) → seen.Number ≡ sight ps → IsUnread read ps → IsStuck read m ps
   unread_stuck m [] e h = tt
   unread_stuck m (p ∷ ps) e h =
       let (run, is) = numbered p.lexeme (sym e) in
@@ -103,17 +103,17 @@ module _ {N S B : Type 0} (read : List ℕ → Option N) (view : View S) (maker 
       subst (λ l. move read (state_of m) l ≡ None) (sym is) (never_moves (step_at (state_of m).place m.depth (Num run)) run (h run p.end ps split))
 
   -- A number that isn't read stays.
-  pub unread : (m : Machine) (s t : S) (b c : B) (r : Result (At S B) (At S B)) → r ≡ Err (record { source = t; machine = m; builder = c }) → seen.Number ≡ sight (view.left s) → is_over (state_of m) ≡ false
-      → Stays view s t → ((k : view.Known) → view.keeps s k → IsUnread read (view.left s)) → IfErr r (Refuses read view maker m s b)
+  pub unread : (m : Machine) (s t : S) (b c : B) (r : Result (At S B) (At S B)) → r ≡ Err (record { source = t; machine = m; builder = c }) → seen.Number ≡ sight (view.remaining s) → is_over (state_of m) ≡ false
+      → Stays view s t → ((k : view.Known) → view.keeps s k → IsUnread read (view.remaining s)) → IfErr r (Refuses read view maker m s b)
   unread m s t b c r is sees o stays never = subst (λ r. IfErr r (Refuses read view maker m s b)) (sym is) (record {
     taken = [];
     events = [];
-    split = sym stays.left;
+    split = sym stays.remaining;
     behind = stays.behind;
     ran = refl;
     is_open = o;
     keeps = stays.keeps;
-    stuck = λ j k. subst (IsStuck read m) (sym stays.left) (unread_stuck m (view.left s) sees (never j k));
+    stuck = λ j k. subst (IsStuck read m) (sym stays.remaining) (unread_stuck m (view.remaining s) sees (never j k));
   })
 
   pub over_number : (m : Machine) (a : Axis) → m.state ≡ state_for a → is_over (state_of m) ≡ false
@@ -125,7 +125,7 @@ module _ {N S B : Type 0} (read : List ℕ → Option N) (view : View S) (maker 
       open_for axis.Z = refl
       open_for axis.M = refl
 
-  module _ (m : Machine) (s t : S) (b c : B) (a : Axis) (at_a : m.state ≡ state_for a) (sound : IsSound m) (h : Numbers read view maker s b a t c) where
+  module _ (m : Machine) (s t : S) (b c : B) (a : Axis) (at_a : m.state ≡ state_for a) (sound : IsSound m) (h : MakesOneNumber read view maker s b a t c) where
     has : HasNext (state_for a) m.dim
     has = subst (λ s. HasNext s m.dim) at_a sound
 
@@ -143,7 +143,7 @@ module _ {N S B : Type 0} (read : List ℕ → Option N) (view : View S) (maker 
         let moves : move read (state_of m) (Num h.run) ≡ Some (state_of n, Event.Number a h.number ∷ []) =
         moves_at (suc k) q1 ∙ ap (λ a. Some (at m.depth (place.Number m.part m.dim k), Event.Number a h.number ∷ [])) q2 ∙ ap (λ s. Some (s, Event.Number a h.number ∷ [])) there in
         subst (λ r. IfOk r (Goes read view maker m s b)) (sym is)
-        (goes_one read view maker m n s t b c (record { lexeme = Num h.run; end = h.end }) (Event.Number a h.number ∷ []) h.left h.place h.keeps moves h.makes (subst IsSound (sym e) next_has))
+        (goes_one read view maker m n s t b c (record { lexeme = Num h.run; end = h.end }) (Event.Number a h.number ∷ []) h.remaining h.place h.keeps moves h.makes (subst IsSound (sym e) next_has))
 
     pub last_number : (r : Result (At S B) (At S B)) → next_after a m.dim ≡ next.Item → EndsPoint maker m t c r → IfOk r (Goes read view maker m s b)
     last_number (Err to) i k = absurd k
@@ -153,7 +153,7 @@ module _ {N S B : Type 0} (read : List ℕ → Option N) (view : View S) (maker 
         moves_at 0 q1 ∙ ap (λ es. Some (at m.depth (last_place m.part m.dim), es)) (last_made m.part m.dim h.number)
         ∙ ap (λ a. Some (at m.depth (last_place m.part m.dim), Event.Number a h.number ∷ closes m.part)) q2 ∙ ap (λ s. Some (s, Event.Number a h.number ∷ closes m.part)) (sym there) in
         goes_one read view maker m to.machine s to.source b to.builder (record { lexeme = Num h.run; end = h.end }) (Event.Number a h.number ∷ closes m.part)
-        (h.left ∙ ap (λ s. record { lexeme = Num h.run; end = h.end } ∷ view.left s) (sym same)) (subst (λ x. view.place x h.end) (sym same) h.place) (λ j k. subst (λ x. view.keeps x j) (sym same) (h.keeps j k))
+        (h.remaining ∙ ap (λ s. record { lexeme = Num h.run; end = h.end } ∷ view.remaining s) (sym same)) (subst (λ x. view.place x h.end) (sym same) h.place) (λ j k. subst (λ x. view.keeps x j) (sym same) (h.keeps j k))
         moves (maker.more b c to.builder (Event.Number a h.number ∷ []) (closes m.part) h.makes closed) to_sound
 
     pub no_err : (r : Result (At S B) (At S B)) → EndsPoint maker m t c r → IfErr r (Refuses read view maker m s b)
@@ -162,7 +162,7 @@ module _ {N S B : Type 0} (read : List ℕ → Option N) (view : View S) (maker 
 
   -- The first number of a point without parentheses.
   pub bare_number : (m n : Machine) (s t : S) (b o c : B) (r : Result (At S B) (At S B)) → r ≡ Ok (record { source = t; machine = n; builder = c }) → m.state ≡ next.Opening → m.part ≡ part.Member
-      → n ≡ record { state = next.Y; part = part.Bare; dim = m.dim; depth = m.depth } → maker.makes b (Event.Open part.Member ∷ []) o → Numbers read view maker s o axis.X t c → IfOk r (Goes read view maker m s b)
+      → n ≡ record { state = next.Y; part = part.Bare; dim = m.dim; depth = m.depth } → maker.makes b (Event.Open part.Member ∷ []) o → MakesOneNumber read view maker s o axis.X t c → IfOk r (Goes read view maker m s b)
   bare_number m n s t b o c r is opens member e makes h =
       let here : place_of m.state m.part m.dim ≡ place.Opening part.Member m.dim = ap (λ s. place_of s m.part m.dim) opens ∙ ap (λ p. place.Opening p m.dim) member in
       let moves : move read (state_of m) (Num h.run) ≡ Some (state_of n, Event.Open part.Member ∷ Event.Number axis.X h.number ∷ []) =
@@ -170,7 +170,7 @@ module _ {N S B : Type 0} (read : List ℕ → Option N) (view : View S) (maker 
       ∙ ap (λ o. moved read (bare_step part.Member m.dim m.depth) (said read o)) h.reads
       ∙ ap (λ s. Some (s, Event.Open part.Member ∷ Event.Number axis.X h.number ∷ [])) (ap state_of (sym e)) in
       subst (λ r. IfOk r (Goes read view maker m s b)) (sym is)
-      (goes_one read view maker m n s t b c (record { lexeme = Num h.run; end = h.end }) (Event.Open part.Member ∷ Event.Number axis.X h.number ∷ []) h.left h.place h.keeps moves
+      (goes_one read view maker m n s t b c (record { lexeme = Num h.run; end = h.end }) (Event.Open part.Member ∷ Event.Number axis.X h.number ∷ []) h.remaining h.place h.keeps moves
       (maker.more b o c (Event.Open part.Member ∷ []) (Event.Number axis.X h.number ∷ []) makes h.makes) (subst IsSound (sym e) tt))
 
 -- where a number comes next, nothing else does

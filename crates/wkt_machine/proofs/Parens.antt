@@ -17,8 +17,8 @@ use Rattle.wkt_machine.specs.Place as place
 use Rattle.wkt_machine.specs.Refusing.{around, own}
 use Rattle.wkt_machine.specs.declared.part.Part.{Part}
 use Rattle.wkt_machine.specs.declared.part.Part.TheVariants as part
-use Rattle.wkt_machine.proofs.Contexts.{NotBare, is_inner, Fits, FitsState, fits_next}
-use Rattle.wkt_machine.proofs.Whole.{then_some}
+use Rattle.wkt_machine.proofs.ContextOfPlace.{NotBare, is_inner, Fits, FitsState, fits_next}
+use Rattle.wkt_machine.proofs.WholeRuns.{then_some}
 
 -- how many are open
 abbrev pub parens : State → ℕ

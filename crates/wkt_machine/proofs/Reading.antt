@@ -6,7 +6,7 @@ use Rattle.wkt_num.specs.Bytes.{Lexeme}
 use Rattle.wkt_access.specs.Values.{Value}
 use Rattle.wkt_types.specs.Tree.{Tree, tree}
 use Rattle.wkt_types.specs.declared.geometry.Wkt.{Wkt}
-use Rattle.wkt_read.specs.Ahead.{left, rest, end_of, taken_of, Advances, IsNear}
+use Rattle.wkt_read.specs.Ahead.{remaining, rest, end_of, taken_of, Advances, IsNear}
 use Rattle.wkt_read.specs.Answered.{Begins, IsReadOff, IsFront, OnText, OnMessage}
 use Rattle.wkt_read.specs.Bad.{HasBad}
 use Rattle.wkt_read.specs.Begun.{NoneBegins}
@@ -14,7 +14,7 @@ use Rattle.wkt_read.specs.Early.{StopsEarly}
 use Rattle.wkt_read.specs.Front.{NeedsNoMemory}
 use Rattle.wkt_read.specs.Items.{bad_number}
 use Rattle.wkt_read.specs.Messages.{message_text}
-use Rattle.wkt_read.specs.Placed.{Placed, lexemes_of, AreEnds}
+use Rattle.wkt_read.specs.Spanned.{Spanned, lexemes_of, AreEnds}
 use Rattle.wkt_read.specs.Refusal.{HasMessage, IsRefused as SaysOf, IfText}
 use Rattle.wkt_read.specs.Standing.{Standing}
 use Rattle.wkt_read.specs.declared.error.ReadError.{ReadError}
@@ -29,25 +29,25 @@ use Rattle.wkt_machine.specs.Goes.{IsStuck}
 use Rattle.wkt_machine.specs.Machines.{state_of}
 use Rattle.wkt_machine.specs.Refusing.{refused}
 use Rattle.wkt_machine.specs.TokensView.{tokens_view}
-use Rattle.wkt_machine.specs.Values.{Takes, IsRead, IsRefused, OnMemory, OnRefused, WantsMemory}
+use Rattle.wkt_machine.specs.Values.{TakesValue, IsRead, MachineRefuses, OnMemory, OnRefused, WantsMemory}
 use Rattle.wkt_machine.specs.declared.machine.Machine.{Machine}
 use Rattle.wkt_machine.specs.declared.tokens.OneByOne.{OneByOne}
 use Rattle.wkt_machine.specs.declared.value.Unread.{Unread}
 use Rattle.wkt_machine.specs.declared.value.Unread.TheVariants.{Refused}
 use Rattle.wkt_machine.specs.declared.value.Unread.TheVariants.{Memory as Unmade}
-use Rattle.wkt_machine.proofs.Composing.{lexemes_append, end_last}
+use Rattle.wkt_machine.proofs.WaysJoin.{lexemes_append, end_last}
 use Rattle.wkt_machine.proofs.Refusing.{advances_then}
 use Rattle.wkt_machine.proofs.Messages.{message_early}
 use Rattle.wkt_machine.proofs.TableMessages.{IsStuckAt, has_message}
 
-rest-append : (s : Standing) (given more : List Placed) → left s ≡ given ++ more → rest s ≡ lexemes_of given ++ lexemes_of more
+rest-append : (s : Standing) (given more : List Spanned) → remaining s ≡ given ++ more → rest s ≡ lexemes_of given ++ lexemes_of more
 rest-append s given more e = rest-is s (given ++ more) e ∙ lexemes_append given more
 
 module _ {T : Type 0} (read : List ℕ → Option T) (a b : OneByOne T) where
-  takes_begins : (v : Value T) → Takes read tokens_view a v b → Begins read (rest a.tokens.now) v (rest b.tokens.now)
+  takes_begins : (v : Value T) → TakesValue read tokens_view a v b → Begins read (rest a.tokens.now) v (rest b.tokens.now)
   takes_begins v h =
-      let given : List Placed = h.given ++ (h.last ∷ []) in
-      (lexemes_of given, rest-append a.tokens.now given (left b.tokens.now) (h.split ∙ sym (append_assoc h.given (h.last ∷ []) (left b.tokens.now))) ∙ ap (λ l. lexemes_of given ++ l) (sym (rest-is b.tokens.now (left b.tokens.now) refl)), h.stands)
+      let given : List Spanned = h.given ++ (h.last ∷ []) in
+      (lexemes_of given, rest-append a.tokens.now given (remaining b.tokens.now) (h.split ∙ sym (append_assoc h.given (h.last ∷ []) (remaining b.tokens.now))) ∙ ap (λ l. lexemes_of given ++ l) (sym (rest-is b.tokens.now (remaining b.tokens.now) refl)), h.stands)
 
   -- what is read
   pub read_found : (w : Tree T) → IsRead read tokens_view a w b → IsReadOff read (rest a.tokens.now) w (rest b.tokens.now)
@@ -56,10 +56,10 @@ module _ {T : Type 0} (read : List ℕ → Option T) (a b : OneByOne T) where
   pub read_taken : (w : Tree T) → IsRead read tokens_view a w b → length (rest b.tokens.now) < length (rest a.tokens.now)
   read_taken w (v, takes, is) = some-taken read (rest a.tokens.now) v (rest b.tokens.now) (takes_begins v takes)
 
-  pub takes_advances : (v : Value T) → Takes read tokens_view a v b → Advances a.tokens.now b.tokens.now
+  pub takes_advances : (v : Value T) → TakesValue read tokens_view a v b → Advances a.tokens.now b.tokens.now
   takes_advances v h = record {
     given = h.given ++ (h.last ∷ []);
-    split = h.split ∙ sym (append_assoc h.given (h.last ∷ []) (left b.tokens.now));
+    split = h.split ∙ sym (append_assoc h.given (h.last ∷ []) (remaining b.tokens.now));
     end = h.place.0 ∙ sym (end_last (end_of a.tokens.now) h.given h.last);
     grows = h.keeps (taken_of a.tokens.now) (omega arith);
   }
@@ -75,11 +75,11 @@ module _ {T : Type 0} (read : List ℕ → Option T) (a b : OneByOne T) where
       wants (subst NeedsNoMemory one.value free)
 
   -- no geometry comes next
-  module _ (m : Machine) (h : IsRefused read tokens_view a m b) where
+  module _ (m : Machine) (h : MachineRefuses read tokens_view a m b) where
     pub refused_advances : Advances a.tokens.now b.tokens.now
     refused_advances = record { given = h.taken; split = h.split; end = h.behind (end_of a.tokens.now) refl; grows = h.keeps (taken_of a.tokens.now) (omega arith) }
 
-    stuck_at : (ps : List Placed) → IsStuck read m ps → IsStuckAt read (state_of m) (lexemes_of ps)
+    stuck_at : (ps : List Spanned) → IsStuck read m ps → IsStuckAt read (state_of m) (lexemes_of ps)
     stuck_at [] k = tt
     stuck_at (p ∷ ps) k = k
 
@@ -87,8 +87,8 @@ module _ {T : Type 0} (read : List ℕ → Option T) (a b : OneByOne T) where
     module _ (k : Message) (after : Standing) (is : (k, rest after) ≡ refused read (state_of m) (rest b.tokens.now)) where
       pub said : HasMessage read (rest a.tokens.now) k (rest after)
       said =
-          has_message read (lexemes_of h.taken) (state_of m) h.events h.ran h.is_open (lexemes_of (left b.tokens.now)) (rest a.tokens.now) (rest after) k
-          (rest-append a.tokens.now h.taken (left b.tokens.now) h.split) (stuck_at (left b.tokens.now) (h.stuck 0 (omega arith))) (is ∙ ap (refused read (state_of m)) (rest-is b.tokens.now (left b.tokens.now) refl))
+          has_message read (lexemes_of h.taken) (state_of m) h.events h.ran h.is_open (lexemes_of (remaining b.tokens.now)) (rest a.tokens.now) (rest after) k
+          (rest-append a.tokens.now h.taken (remaining b.tokens.now) h.split) (stuck_at (remaining b.tokens.now) (h.stuck 0 (omega arith))) (is ∙ ap (refused read (state_of m)) (rest-is b.tokens.now (remaining b.tokens.now) refl))
 
       pub none_there : NoneBegins read (rest a.tokens.now)
       none_there = message_none read (rest a.tokens.now) k (rest after) said
@@ -144,12 +144,12 @@ module _ {T : Type 0} (read : List ℕ → Option T) (a b : OneByOne T) (s t : S
       pub memory_advances : Advances s t
       memory_advances = let (v, takes, needs) = wants in there Advances (takes_advances read a b v takes)
 
-    module _ (m : Machine) (stuck : u ≡ Refused m) (h : OnRefused r (λ m. IsRefused read tokens_view a m b)) where
-      at_stuck : IsRefused read tokens_view a m b
-      at_stuck = off_refused (λ m. IsRefused read tokens_view a m b) m u r is stuck h
+    module _ (m : Machine) (stuck : u ≡ Refused m) (h : OnRefused r (λ m. MachineRefuses read tokens_view a m b)) where
+      at_stuck : MachineRefuses read tokens_view a m b
+      at_stuck = off_refused (λ m. MachineRefuses read tokens_view a m b) m u r is stuck h
 
-      pub stuck_next : IsStuck read m (left t)
-      stuck_next = let low : 0 ≤ taken_of a.tokens.now = omega arith in subst (λ (t : Standing). IsStuck read m (left t)) (sym behind) (at_stuck.stuck 0 low)
+      pub stuck_next : IsStuck read m (remaining t)
+      stuck_next = let low : 0 ≤ taken_of a.tokens.now = omega arith in subst (λ (t : Standing). IsStuck read m (remaining t)) (sym behind) (at_stuck.stuck 0 low)
 
       pub stuck_advances : (after : Standing) → Advances t after → Advances s after
       stuck_advances after more = advances_then s t after (there Advances (refused_advances read a b m at_stuck)) more
@@ -173,7 +173,7 @@ module _ {T : Type 0} (read : List ℕ → Option T) (a b : OneByOne T) (s t : S
 
 module _ {T : Type 0} (read : List ℕ → Option T) (text : List ℕ) (s t : Standing) where
   -- what was read off all lexemes of a text is its front's
-  pub front : (r : Result (Wkt T) ReadError) → AreEnds text (left s) → end_of s ≡ 0 → Advances s t → IfOk r (λ w. IsReadOff read (rest s) (tree w) (rest t)) → IfOk r (λ w. IsFront read text (tree w))
+  pub front : (r : Result (Wkt T) ReadError) → AreEnds text (remaining s) → end_of s ≡ 0 → Advances s t → IfOk r (λ w. IsReadOff read (rest s) (tree w) (rest t)) → IfOk r (λ w. IsFront read text (tree w))
   front (Ok w) are zero advances (v, begins, is) = (end_of t, (v, to-front read text s t v are zero advances begins, is))
   front (Err e) are zero advances h = tt
 

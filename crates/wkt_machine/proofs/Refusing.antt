@@ -1,15 +1,15 @@
 -- The tokens that are taken where they are refused.
 use Rattle.std.proofs.Common.{◌≡◌, ◌≤◌, ℕ, zero, suc, ◌+◌, List, [], ◌∷◌, ◌++◌, append_assoc, refl, sym, ap, ◌∙◌, arith, Option, Some, None, true, false, if◌then◌else◌}
 use Rattle.wkt_num.specs.Bytes.{Lexeme, Open}
-use Rattle.wkt_read.specs.Ahead.{left, end_of, taken_of, Moves, Advances}
+use Rattle.wkt_read.specs.Ahead.{remaining, end_of, taken_of, Moves, Advances}
 use Rattle.wkt_read.specs.Parser.Walks.{IsFirst, TakesNext}
-use Rattle.wkt_read.specs.Placed.{end_after}
+use Rattle.wkt_read.specs.Spanned.{end_after}
 use Rattle.wkt_read.specs.Standing.{Standing}
 use Rattle.wkt_read.specs.declared.messages.Message.{Message}
 use Rattle.wkt_read.specs.Table.{at_place, left_at, stays, closing, closings}
 use Rattle.wkt_read.specs.declared.expected.Expected.{Expected}
 use Rattle.wkt_machine.specs.Refusing.{stays_first, blamed}
-use Rattle.wkt_machine.proofs.Composing.{end_append}
+use Rattle.wkt_machine.proofs.WaysJoin.{end_append}
 
 -- Some tokens are taken, and then others.
 pub advances_then : (s t u : Standing) → Advances s t → Advances t u → Advances s u
@@ -17,13 +17,13 @@ advances_then s t u a b =
     let more = a.grows in
     let yet = b.grows in record {
       given = a.given ++ b.given;
-      split = a.split ∙ ap (λ l. a.given ++ l) b.split ∙ sym (append_assoc a.given b.given (left u));
+      split = a.split ∙ ap (λ l. a.given ++ l) b.split ∙ sym (append_assoc a.given b.given (remaining u));
       end = b.end ∙ ap (λ n. end_after n b.given) a.end ∙ sym (end_append (end_of s) a.given b.given);
       grows = omega (arith, more, yet);
     }
 
 -- Nothing is taken.
-pub advances_none : (s t : Standing) → left t ≡ left s → end_of t ≡ end_of s → taken_of s ≤ taken_of t → Advances s t
+pub advances_none : (s t : Standing) → remaining t ≡ remaining s → end_of t ≡ end_of s → taken_of s ≤ taken_of t → Advances s t
 advances_none s t same end grows = record { given = []; split = sym same; end = end; grows = grows }
 
 -- One is, if there is one.

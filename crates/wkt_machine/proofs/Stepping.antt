@@ -8,7 +8,7 @@ use Rattle.wkt_access.specs.declared.dimensions.Dimension.{Dimension}
 use Rattle.wkt_access.specs.declared.dimensions.Dimension.TheVariants.{XY, XYZ, XYM, XYZM}
 use Rattle.wkt_types.specs.declared.geometry_type.GeometryType.{GeometryType}
 use Rattle.wkt_read.specs.Grammar.{KindWord, kind_words, entry_in, kind_word, dim_word, dim_in, is_empty_word}
-use Rattle.wkt_read.specs.Placed.{Placed}
+use Rattle.wkt_read.specs.Spanned.{Spanned}
 use Rattle.wkt_read.proofs.LawLemmas.Words.{empty_is}
 use Rattle.wkt_machine.specs.Action.{Action}
 use Rattle.wkt_machine.specs.Action as act
@@ -260,7 +260,7 @@ inner_open zero h = absurd (omega (arith, h))
 inner_open (suc n) h = refl
 
 -- what is seen is a lexeme that is left
-pub some_left : (ps : List Placed) (k : Seen) → k ≡ sight ps → (k ≡ seen.Other → ⊥) → 1 ≤ length ps
+pub some_left : (ps : List Spanned) (k : Seen) → k ≡ sight ps → (k ≡ seen.Other → ⊥) → 1 ≤ length ps
 some_left [] k e never = absurd (never e)
 some_left (p ∷ ps) k e never = omega arith
 
@@ -278,7 +278,7 @@ module _ {N S B : Type 0} (read : List ℕ → Option N) (view : View S) (maker 
     given = h.given;
     last = h.last;
     events = h.events;
-    split = sym stays.left ∙ h.split;
+    split = sym stays.remaining ∙ h.split;
     place = h.place;
     ran = h.ran;
     makes = h.makes;
@@ -290,7 +290,7 @@ module _ {N S B : Type 0} (read : List ℕ → Option N) (view : View S) (maker 
   from_refuses m s t b to stays h = record {
     taken = h.taken;
     events = h.events;
-    split = sym stays.left ∙ h.split;
+    split = sym stays.remaining ∙ h.split;
     behind = λ end k. h.behind end (stays.behind end k);
     ran = h.ran;
     is_open = h.is_open;
@@ -299,7 +299,7 @@ module _ {N S B : Type 0} (read : List ℕ → Option N) (view : View S) (maker 
   }
 
   -- One lexeme is taken.
-  pub goes_one : (m n : Machine) (s t : S) (b c : B) (l : Placed) (es : List (Event N)) → view.left s ≡ l ∷ view.left t → view.place t l.end → ((k : view.Known) → view.keeps s k → view.keeps t k)
+  pub goes_one : (m n : Machine) (s t : S) (b c : B) (l : Spanned) (es : List (Event N)) → view.remaining s ≡ l ∷ view.remaining t → view.place t l.end → ((k : view.Known) → view.keeps s k → view.keeps t k)
       → move read (state_of m) l.lexeme ≡ Some (state_of n, es) → maker.makes b es c → IsSound n → Goes read view maker m s b (record { source = t; machine = n; builder = c })
   goes_one m n s t b c l es split place keeps moves makes sound = record {
     given = [];
@@ -314,17 +314,17 @@ module _ {N S B : Type 0} (read : List ℕ → Option N) (view : View S) (maker 
   }
 
   -- A lexeme that is seen is taken.
-  pub skipped : (m n : Machine) (s t : S) (b c : B) (a : Action) (k : Seen) → k ≡ sight (view.left s) → k ≢ seen.Number → Skips view s t
+  pub skipped : (m n : Machine) (s t : S) (b c : B) (a : Action) (k : Seen) → k ≡ sight (view.remaining s) → k ≢ seen.Number → Skips view s t
       → seen_at (state_of m).place m.depth k ≡ Some (state_of n, a) → maker.makes b (made a None) c → IsSound n → Goes read view maker m s b (record { source = t; machine = n; builder = c })
   skipped m n s t b c a k is other skips steps makes sound =
-      let sees : k ≡ seen_of skips.lexeme.lexeme = is ∙ ap sight skips.left in
+      let sees : k ≡ seen_of skips.lexeme.lexeme = is ∙ ap sight skips.remaining in
       let step : step_at (state_of m).place m.depth skips.lexeme.lexeme ≡ Some (state_of n, a) = sym (seen_is (state_of m).place m.depth skips.lexeme.lexeme) ∙ ap (seen_at (state_of m).place m.depth) (sym sees) ∙ steps in
       let none : number_of read skips.lexeme.lexeme ≡ Some None = no_number skips.lexeme.lexeme (λ e. other (sees ∙ e)) in
-      goes_one m n s t b c skips.lexeme (made a None) skips.left skips.place skips.keeps
+      goes_one m n s t b c skips.lexeme (made a None) skips.remaining skips.place skips.keeps
       (ap (λ o. moved read o (number_of read skips.lexeme.lexeme)) step ∙ ap (λ x. moved read (Some (state_of n, a)) x) none) makes sound
 
   -- No lexeme is taken.
-  pub stands : (m : Machine) (s : S) (b : B) (c : B) → is_over (state_of m) ≡ false → ((k : view.Known) → view.keeps s k → IsStuck read m (view.left s)) → Refuses read view maker m s b (record { source = s; machine = m; builder = c })
+  pub stands : (m : Machine) (s : S) (b : B) (c : B) → is_over (state_of m) ≡ false → ((k : view.Known) → view.keeps s k → IsStuck read m (view.remaining s)) → Refuses read view maker m s b (record { source = s; machine = m; builder = c })
   stands m s b c o stuck = record {
     taken = [];
     events = [];
@@ -336,17 +336,17 @@ module _ {N S B : Type 0} (read : List ℕ → Option N) (view : View S) (maker 
     stuck = stuck;
   }
 
-  unmoved : (m : Machine) (ps : List Placed) → seen_at (state_of m).place m.depth (sight ps) ≡ None → IsStuck read m ps
+  unmoved : (m : Machine) (ps : List Spanned) → seen_at (state_of m).place m.depth (sight ps) ≡ None → IsStuck read m ps
   unmoved m [] e = tt
   unmoved m (p ∷ ps) e = ap (λ o. moved read o (number_of read p.lexeme)) (sym (seen_is (state_of m).place m.depth p.lexeme) ∙ e)
 
   -- A lexeme that is seen isn't taken.
-  pub stands_at : (m : Machine) (s : S) (b : B) (k : Seen) → k ≡ sight (view.left s) → is_over (state_of m) ≡ false → seen_at (state_of m).place m.depth k ≡ None → Refuses read view maker m s b (record { source = s; machine = m; builder = b })
-  stands_at m s b k is o e = stands m s b b o (λ j h. unmoved m (view.left s) (ap (seen_at (state_of m).place m.depth) (sym is) ∙ e))
+  pub stands_at : (m : Machine) (s : S) (b : B) (k : Seen) → k ≡ sight (view.remaining s) → is_over (state_of m) ≡ false → seen_at (state_of m).place m.depth k ≡ None → Refuses read view maker m s b (record { source = s; machine = m; builder = b })
+  stands_at m s b k is o e = stands m s b b o (λ j h. unmoved m (view.remaining s) (ap (seen_at (state_of m).place m.depth) (sym is) ∙ e))
 
   -- The same where the code has it: it is seen as j, at the state x.
   pub taken : (m n : Machine) (s t : S) (b c : B) (r : Result (At S B) (At S B)) (to : State) (a : Action) (k j : Seen) (x : Next) → r ≡ Ok (record { source = t; machine = n; builder = c })
-      → k ≡ sight (view.left s) → m.state ≡ x → k ≡ j → is_number j ≡ false → Skips view s t
+      → k ≡ sight (view.remaining s) → m.state ≡ x → k ≡ j → is_number j ≡ false → Skips view s t
       → seen_at (place_of x m.part m.dim) m.depth j ≡ Some (to, a) → state_of n ≡ to → maker.makes b (made a None) c → IsSound n → IfOk r (Goes read view maker m s b)
   taken m n s t b c r to a k j x is sees at_x as_j other skips steps there makes sound =
       let whole : seen_at (state_of m).place m.depth k ≡ Some (state_of n, a) =
@@ -354,7 +354,7 @@ module _ {N S B : Type 0} (read : List ℕ → Option N) (view : View S) (maker 
       subst (λ r. IfOk r (Goes read view maker m s b)) (sym is) (skipped m n s t b c a k sees (λ e. never_number j other (sym as_j ∙ e)) skips whole makes sound)
 
   pub put_back : (m : Machine) (s : S) (b : B) (r : Result (At S B) (At S B)) (k : Seen) (x : Next) → r ≡ Err (record { source = s; machine = m; builder = b })
-      → k ≡ sight (view.left s) → m.state ≡ x → over_at (place_of x m.part m.dim) m.depth ≡ false → seen_at (place_of x m.part m.dim) m.depth k ≡ None
+      → k ≡ sight (view.remaining s) → m.state ≡ x → over_at (place_of x m.part m.dim) m.depth ≡ false → seen_at (place_of x m.part m.dim) m.depth k ≡ None
       → IfErr r (Refuses read view maker m s b)
   put_back m s b r k x is sees at_x o stuck =
       subst (λ r. IfErr r (Refuses read view maker m s b)) (sym is)

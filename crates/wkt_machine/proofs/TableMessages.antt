@@ -25,12 +25,12 @@ use Rattle.wkt_machine.specs.Expecting.{expected_at}
 use Rattle.wkt_machine.specs.Machine.{Move, and_then, after, move, run}
 use Rattle.wkt_machine.specs.Place.{State}
 use Rattle.wkt_machine.specs.Refusing.{own, refused}
-use Rattle.wkt_machine.proofs.Contexts.{turn}
-use Rattle.wkt_machine.proofs.Dead.{one_place, one_left}
+use Rattle.wkt_machine.proofs.ContextOfPlace.{turn}
+use Rattle.wkt_machine.proofs.OneRefusedPlace.{one_place, one_left}
 use Rattle.wkt_read.proofs.LawLemmas.OneExpected.{one_expected}
-use Rattle.wkt_machine.proofs.Named.{expected_after}
+use Rattle.wkt_machine.proofs.ExpectedIsTaken.{expected_after}
 use Rattle.wkt_machine.proofs.Parens.{counted}
-use Rattle.wkt_machine.proofs.Whole.{exact, goes_on, refuses, run_append}
+use Rattle.wkt_machine.proofs.WholeRuns.{exact, goes_on, refuses, run_append}
 
 module _ {N : Type 0} (read : List ℕ → Option N) where
   -- Where the machine is stuck, or no lexeme is left.
@@ -44,8 +44,8 @@ module _ {N : Type 0} (read : List ℕ → Option N) where
     stops (x ∷ r) stuck = refuses read before x s es ran o stuck
 
     -- the message of the machine's place, and what is left behind it
-    pub has_message : (there ls left : List Lexeme) (m : Message) → ls ≡ before ++ there → IsStuckAt s there → (m, left) ≡ refused read s there → HasMessage read ls m left
-    has_message there ls left m split stuck is = record {
+    pub has_message : (there ls remaining : List Lexeme) (m : Message) → ls ≡ before ++ there → IsStuckAt s there → (m, remaining) ≡ refused read s there → HasMessage read ls m remaining
+    has_message there ls remaining m split stuck is = record {
       before = before;
       there = there;
       expected = expected_at s.place s.depth;
@@ -59,8 +59,8 @@ module _ {N : Type 0} (read : List ℕ → Option N) where
     }
 
   -- lexemes have one message, and the same are left
-  pub one_message : (ls left left2 : List Lexeme) (m m2 : Message) → HasMessage read ls m left → HasMessage read ls m2 left2 → ◌≡◌ {A = Message × List Lexeme} (m, left) (m2, left2)
-  one_message ls left left2 m m2 h h2 =
+  pub one_message : (ls remaining left2 : List Lexeme) (m m2 : Message) → HasMessage read ls m remaining → HasMessage read ls m2 left2 → ◌≡◌ {A = Message × List Lexeme} (m, remaining) (m2, left2)
+  one_message ls remaining left2 m m2 h h2 =
       let whole : h.before ++ h.there ≡ h2.before ++ h2.there = sym h.split ∙ h2.split in
       let before : h.before ≡ h2.before = one_place read h.before h.there h2.before h2.there whole h.stops h2.stops in
       let there : h.there ≡ h2.there = one_left read h.before h.there h2.before h2.there whole before in
@@ -72,7 +72,7 @@ module _ {N : Type 0} (read : List ℕ → Option N) where
 
   -- Lexemes begin with a geometry, or are refused with a message.
   abbrev pub Found : List Lexeme → Type 0
-  Found ls = ((v : Value N) × (left : List Lexeme) × Begins read ls v left) ⊎ ((m : Message) × (left : List Lexeme) × HasMessage read ls m left)
+  Found ls = ((v : Value N) × (remaining : List Lexeme) × Begins read ls v remaining) ⊎ ((m : Message) × (remaining : List Lexeme) × HasMessage read ls m remaining)
 
   found_next : (before : List Lexeme) (s : State) (es : List (Event N)) → run read start before ≡ Some (s, es) → is_over s ≡ false → (l : Lexeme) (r : List Lexeme) (q : Option (Move N)) → move read s l ≡ q
       → ((q : Move N) → run read start (before ++ (l ∷ [])) ≡ Some (q.0, es ++ (q.1 ++ [])) → Found (before ++ (l ∷ r))) → Found (before ++ (l ∷ r))

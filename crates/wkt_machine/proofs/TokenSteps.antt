@@ -5,7 +5,7 @@ use Rattle.wkt_num.specs.Bytes.{Open, Close, Comma, Word}
 use Rattle.wkt_access.specs.declared.dimensions.Dimension.{Dimension}
 use Rattle.wkt_access.specs.declared.dimensions.Dimension.TheVariants.{XY}
 use Rattle.wkt_types.specs.declared.geometry_type.GeometryType.{GeometryType}
-use Rattle.wkt_read.specs.Ahead.{left, end_of, Moves}
+use Rattle.wkt_read.specs.Ahead.{remaining, end_of, Moves}
 use Rattle.wkt_read.specs.Standing.{Standing}
 use Rattle.wkt_read.specs.Taking.{Looks, StaysUnread, TakesNumber, TakesKind}
 use Rattle.wkt_machine.specs.BytesView.{has_coordinates}
@@ -24,9 +24,9 @@ use Rattle.wkt_machine.specs.declared.part.Part.{Part}
 use Rattle.wkt_machine.specs.declared.source.At.{At}
 use Rattle.wkt_machine.specs.declared.tokens.OneByOne.{OneByOne}
 use Rattle.wkt_machine.proofs.ByteSteps.{behind_item}
-use Rattle.wkt_machine.proofs.Composing.{goes_on_to, refuses_after}
+use Rattle.wkt_machine.proofs.WaysJoin.{goes_on_to, refuses_after}
 use Rattle.wkt_machine.proofs.Items as items
-use Rattle.wkt_machine.proofs.Leading.{goes_leads, leads_goes, goes_if, refuses_if}
+use Rattle.wkt_machine.proofs.EmptyWays.{goes_leads, leads_goes, goes_if, refuses_if}
 use Rattle.wkt_machine.proofs.Stepping.{goes_one, from_goes, from_refuses}
 use Rattle.wkt_machine.proofs.TokenViews.{looks, stands, passed, takes, numbers, unread}
 
@@ -104,9 +104,9 @@ module _ {T B : Type 0} (read : List ℕ → Option T) (maker : Maker T B) where
           (items.comma_goes read tokens_view maker m u v d e at_x has several (sym (ap sight moves.0)) (takes u v Comma moves) comma)))
 
   -- fewer lexemes are left
-  pub goes_less : (m : Machine) (s : OneByOne T) (b : B) (to : At (OneByOne T) B) → Goes read tokens_view maker m s b to → length (left to.source.tokens.now) < length (left s.tokens.now)
+  pub goes_less : (m : Machine) (s : OneByOne T) (b : B) (to : At (OneByOne T) B) → Goes read tokens_view maker m s b to → length (remaining to.source.tokens.now) < length (remaining s.tokens.now)
   goes_less m s b to h =
-      let count = ap length h.split ∙ length-append h.given (h.last ∷ left to.source.tokens.now) in
+      let count = ap length h.split ∙ length-append h.given (h.last ∷ remaining to.source.tokens.now) in
       omega (arith, count)
 
   module _ (m : Machine) (s t : OneByOne T) (b : B) (k : GeometryType × Option Dimension) (p : Part) (at_kind : m.state ≡ next.Kind) (part_is : p ≡ part_of k.0) (h : TakesKind s.tokens.now k t.tokens.now) where

@@ -1,12 +1,12 @@
 -- What the tokenizer's clauses say of tokens as a source.
 use Rattle.std.proofs.Common.{◌≡◌, ◌≢◌, ◌≤◌, ◌+◌, ℕ, List, [], ◌∷◌, arith, sym, refl, ap, ◌∙◌, subst, Option, Some, None, false}
 use Rattle.wkt_num.specs.Bytes.{Lexeme}
-use Rattle.wkt_read.specs.Ahead.{left, end_of, first_of, Moves}
-use Rattle.wkt_read.specs.Placed.{Placed}
+use Rattle.wkt_read.specs.Ahead.{remaining, end_of, first_of, Moves}
+use Rattle.wkt_read.specs.Spanned.{Spanned}
 use Rattle.wkt_read.specs.Taking.{Looks, StaysUnread, TakesNumber}
 use Rattle.wkt_machine.specs.Drives.{is_over}
 use Rattle.wkt_machine.specs.Events.{Event}
-use Rattle.wkt_machine.specs.Goes.{Stays, Skips, Numbers, IsUnread}
+use Rattle.wkt_machine.specs.Goes.{Stays, Skips, MakesOneNumber, IsUnread}
 use Rattle.wkt_machine.specs.Machine.{at}
 use Rattle.wkt_machine.specs.Machines.{place_of, state_of, HasNext, IsSound}
 use Rattle.wkt_machine.specs.Makers.{Maker}
@@ -33,14 +33,14 @@ pub x_sound : (m : Machine) → m.state ≡ next.X → IsSound m
 x_sound m e = subst (λ k. HasNext k m.dim) (sym e) tt
 
 -- what comes first is what is seen
-pub sees_first : (ps : List Placed) → seen_found (first_of ps) ≡ sight ps
+pub sees_first : (ps : List Spanned) → seen_found (first_of ps) ≡ sight ps
 sees_first [] = refl
 sees_first (p ∷ ps) = refl
 
 module _ {T : Type 0} where
   -- nothing is taken
   pub looks : (s t : OneByOne T) → Looks s.tokens.now t.tokens.now → Stays tokens_view s t
-  looks s t h = record { left = h.left; behind = λ end e. h.end ∙ e; keeps = λ j k. let more = h.grows in omega (arith, k, more) }
+  looks s t h = record { remaining = h.remaining; behind = λ end e. h.end ∙ e; keeps = λ j k. let more = h.grows in omega (arith, k, more) }
 
   -- the source stands right behind a lexeme that is taken
   pub stands : (s t : OneByOne T) (l : Lexeme) → Moves s.tokens.now (Some l) t.tokens.now → tokens_view.place t (end_of t.tokens.now)
@@ -53,23 +53,23 @@ module _ {T : Type 0} where
   pub takes : (s t : OneByOne T) (l : Lexeme) → Moves s.tokens.now (Some l) t.tokens.now → Skips tokens_view s t
   takes s t l h = record {
     lexeme = record { lexeme = l; end = end_of t.tokens.now };
-    left = h.0;
+    remaining = h.0;
     place = (refl, record { low = h.1; high = h.2 });
     keeps = λ j k. let more = h.3 in omega (arith, k, more);
   }
 
-  pub skips : (s t : OneByOne T) (o : Option Lexeme) → Moves s.tokens.now o t.tokens.now → sight (left s.tokens.now) ≢ seen.Other → Skips tokens_view s t
+  pub skips : (s t : OneByOne T) (o : Option Lexeme) → Moves s.tokens.now o t.tokens.now → sight (remaining s.tokens.now) ≢ seen.Other → Skips tokens_view s t
   skips s t None h some = absurd (some (ap sight h.0))
   skips s t (Some l) h some = takes s t l h
 
   module _ (read : List ℕ → Option T) where
     -- a number is taken, and made
-    pub numbers : {B : Type 0} (maker : Maker T B) (s t : OneByOne T) (b c : B) (axis : Axis) (x : T) → TakesNumber read s.tokens.now x t.tokens.now → maker.makes b (Event.Number axis x ∷ []) c → Numbers read tokens_view maker s b axis t c
+    pub numbers : {B : Type 0} (maker : Maker T B) (s t : OneByOne T) (b c : B) (axis : Axis) (x : T) → TakesNumber read s.tokens.now x t.tokens.now → maker.makes b (Event.Number axis x ∷ []) c → MakesOneNumber read tokens_view maker s b axis t c
     numbers maker s t b c axis x h made = record {
       run = h.run;
       number = x;
       end = end_of t.tokens.now;
-      left = h.moves.0;
+      remaining = h.moves.0;
       place = (refl, record { low = h.moves.1; high = h.moves.2 });
       keeps = λ j k. let more = h.moves.3 in omega (arith, k, more);
       reads = h.reads;
@@ -77,5 +77,5 @@ module _ {T : Type 0} where
     }
 
     -- what stays is no number that is read
-    pub unread : (s t : OneByOne T) → StaysUnread read s.tokens.now t.tokens.now → IsUnread read (left s.tokens.now)
+    pub unread : (s t : OneByOne T) → StaysUnread read s.tokens.now t.tokens.now → IsUnread read (remaining s.tokens.now)
     unread s t h = λ run end more is. h.unread run (ap first_of is)

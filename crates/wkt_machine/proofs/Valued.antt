@@ -6,7 +6,7 @@ use Rattle.wkt_access.specs.Values.{Value, Values}
 use Rattle.wkt_types.specs.Tree.{tree}
 use Rattle.wkt_types.specs.declared.geometry.Wkt.{Wkt}
 use Rattle.wkt_read.specs.Front.{NeedsNoMemory}
-use Rattle.wkt_read.specs.Placed.{Placed, lexemes_of}
+use Rattle.wkt_read.specs.Spanned.{Spanned, lexemes_of}
 use Rattle.wkt_read.proofs.LawLemmas.Fits.{geometry_fits}
 use Rattle.wkt_machine.specs.Drives.{start, is_over}
 use Rattle.wkt_machine.specs.Events.{Event, numbers, events}
@@ -17,7 +17,7 @@ use Rattle.wkt_machine.specs.Machine.{run}
 use Rattle.wkt_machine.specs.Machines.{state_of}
 use Rattle.wkt_machine.specs.Makers.{Maker}
 use Rattle.wkt_machine.specs.Trees.{Grew, Holds, HoldsWhole, IsLost}
-use Rattle.wkt_machine.specs.Values.{Answers, IsRead, IsRefused, OnMemory, OnRefused, Takes, WantsMemory}
+use Rattle.wkt_machine.specs.Values.{AnswersTree, IsRead, MachineRefuses, OnMemory, OnRefused, TakesValue, WantsMemory}
 use Rattle.wkt_machine.specs.View.{View}
 use Rattle.wkt_machine.specs.declared.machine.Machine.{Machine}
 use Rattle.wkt_machine.specs.declared.part.Part.TheVariants as part
@@ -25,8 +25,8 @@ use Rattle.wkt_machine.specs.declared.source.At.{At}
 use Rattle.wkt_machine.specs.declared.tree.Tree.{Tree}
 use Rattle.wkt_machine.specs.declared.value.Unread.{Unread}
 use Rattle.wkt_machine.specs.declared.value.Unread.TheVariants.{Refused, Memory}
-use Rattle.wkt_machine.proofs.Grown.{value_grows}
-use Rattle.wkt_machine.proofs.Whole.{exact}
+use Rattle.wkt_machine.proofs.ValueFromEvents.{value_grows}
+use Rattle.wkt_machine.proofs.WholeRuns.{exact}
 
 numbers_list : {N : Type 0} (d : Dimension) (xs : List N) → lists_any (numbers d xs) ≡ false
 numbers_list d [] = refl
@@ -45,7 +45,7 @@ free_lists (Value.collection d vs) h = ap (λ vs. lists_any (events (Value.colle
 
 module _ {N S B : Type 0} (read : List ℕ → Option N) (view : View S) (maker : Maker N B) (s : S) (b : B) (to : At S B) where
   -- the value that stands there, whose events were made
-  pub taken : GoesFrom read view maker s b to → is_over (state_of to.machine) ≡ true → (v : Value N) × Takes read view s v to.source × maker.makes b (events v) to.builder
+  pub taken : GoesFrom read view maker s b to → is_over (state_of to.machine) ≡ true → (v : Value N) × TakesValue read view s v to.source × maker.makes b (events v) to.builder
   taken (m, from, h) o =
       let ls = lexemes_of (h.given ++ (h.last ∷ [])) in
       let ran : run read start ls ≡ Some (state_of to.machine, h.events) = ap (λ s. run read s ls) (sym from) ∙ h.ran in
@@ -55,7 +55,7 @@ module _ {N S B : Type 0} (read : List ℕ → Option N) (view : View S) (maker 
         subst (λ es. maker.makes b es to.builder) made_is h.makes,
       )
 
-  pub refused : RefusesFrom read view maker s b to → IsRefused read view s to.machine to.source
+  pub refused : RefusesFrom read view maker s b to → MachineRefuses read view s to.machine to.source
   refused (m, from, h) = record {
     taken = h.taken;
     events = h.events;
@@ -69,13 +69,13 @@ module _ {N S B : Type 0} (read : List ℕ → Option N) (view : View S) (maker 
 
 module _ {N S : Type 0} (is_value : N → Type 0) (read : List ℕ → Option N) (values : (bs : List ℕ) → IfSome (read bs) is_value) (view : View S) where
   -- the value has grown, or it is lost
-  grown : (t u : Tree N) (s r : S) (v : Value N) → Takes read view s v r → Holds t (rest [] None) → Grew t (events v) u → HoldsWhole u [] v ⊎ (IsLost u × (lists_any (events v) ≡ true))
+  grown : (t u : Tree N) (s r : S) (v : Value N) → TakesValue read view s v r → Holds t (rest [] None) → Grew t (events v) u → HoldsWhole u [] v ⊎ (IsLost u × (lists_any (events v) ≡ true))
   grown t u s r v h begins grew =
       let k = value_grows is_value v (geometry_fits is_value read values v (lexemes_of (h.given ++ (h.last ∷ []))) h.stands) [] in
       subst (λ w. Holds u w ⊎ (IsLost u × (lists_any (events v) ≡ true))) k.is (grew.holds (rest [] None) begins k.may)
 
-  module _ (t u : Tree N) (s r : S) (begins : Holds t (rest [] None)) (h : (v : Value N) × Takes read view s v r × Grew t (events v) u) where
-    pub read_off : (a : Result (Wkt N) Unread) → Answers u a → IfOk a (λ w. IsRead read view s (tree w) r)
+  module _ (t u : Tree N) (s r : S) (begins : Holds t (rest [] None)) (h : (v : Value N) × TakesValue read view s v r × Grew t (events v) u) where
+    pub read_off : (a : Result (Wkt N) Unread) → AnswersTree u a → IfOk a (λ w. IsRead read view s (tree w) r)
     read_off (Err e) k = tt
     read_off (Ok w) (kept, is) = go (grown t u s r h.0 h.1 begins h.2)
       where
@@ -83,7 +83,7 @@ module _ {N S : Type 0} (is_value : N → Type 0) (read : List ℕ → Option N)
         go (inl whole) = (h.0, h.1, is h.0 whole)
         go (inr (lost, lists)) = let clash : false ≡ true = sym kept ∙ lost in cc
 
-    pub wants_memory : (a : Result (Wkt N) Unread) → Answers u a → OnMemory a (WantsMemory read view s r)
+    pub wants_memory : (a : Result (Wkt N) Unread) → AnswersTree u a → OnMemory a (WantsMemory read view s r)
     wants_memory (Ok w) k = tt
     wants_memory (Err (Refused m)) k = tt
     wants_memory (Err (Memory e)) lost = (h.0, h.1, go (grown t u s r h.0 h.1 begins h.2))
@@ -93,7 +93,7 @@ module _ {N S : Type 0} (is_value : N → Type 0) (read : List ℕ → Option N)
         go (inr (l, lists)) free = let clash : false ≡ true = sym (free_lists h.0 free) ∙ lists in cc
 
 -- a tree isn't refused
-pub never_refused : {N : Type 0} (P : Machine → Type 0) (t : Tree N) (a : Result (Wkt N) Unread) → Answers t a → OnRefused a P
+pub never_refused : {N : Type 0} (P : Machine → Type 0) (t : Tree N) (a : Result (Wkt N) Unread) → AnswersTree t a → OnRefused a P
 never_refused P t (Ok w) k = tt
 never_refused P t (Err (Refused m)) k = absurd k
 never_refused P t (Err (Memory e)) k = tt

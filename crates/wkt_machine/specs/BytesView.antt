@@ -3,7 +3,7 @@ use Rattle.std.specs.Prelude.{◌≡◌, ◌≢◌, ℕ, ◌≤◌, ◌<◌, len
 use Rattle.std.proofs.Common.{subst, arith}
 use Rattle.std.proofs.Math.Nat.{le_refl}
 use Rattle.wkt_num.specs.Bytes.{Lexeme, Mark, White}
-use Rattle.wkt_events.specs.Left.{Legible, class_in, left_placed, TakesOne}
+use Rattle.wkt_events.specs.Remaining.{Legible, class_in, remaining_spanned, TakesOne}
 use Rattle.wkt_machine.specs.Sight.{sight}
 use Rattle.wkt_machine.specs.View.{View}
 use Rattle.wkt_machine.specs.declared.bytes.Bytes.{Bytes}
@@ -22,19 +22,19 @@ IsUnmarked feed text at = (l : Lexeme) → class_in feed (get_or text at 0) ≢ 
 
 -- The lexeme that comes next is seen so, and it ends there, unless it is a number.
 pub record Sees (feed : Bool) (text : List ℕ) (at : ℕ) (k : Seen) (end : ℕ) : Type 0 where
-  pub sees : k ≡ sight (left_placed feed text at)
+  pub sees : k ≡ sight (remaining_spanned feed text at)
   pub takes : k ≢ seen.Other → k ≢ seen.Number → (l : Lexeme) × TakesOne feed text at l end
 
 -- A lexeme that is no number ends where it was seen to end. A number stands right there.
 pub record IsLooked (feed : Bool) (text : List ℕ) (at end : ℕ) : Type 0 where
-  pub takes : sight (left_placed feed text at) ≢ seen.Other → sight (left_placed feed text at) ≢ seen.Number → (l : Lexeme) × TakesOne feed text at l end
-  pub inside : sight (left_placed feed text at) ≡ seen.Number → at ≤ length text
-  pub dark : sight (left_placed feed text at) ≡ seen.Number → IsDark feed text at
+  pub takes : sight (remaining_spanned feed text at) ≢ seen.Other → sight (remaining_spanned feed text at) ≢ seen.Number → (l : Lexeme) × TakesOne feed text at l end
+  pub inside : sight (remaining_spanned feed text at) ≡ seen.Number → at ≤ length text
+  pub dark : sight (remaining_spanned feed text at) ≡ seen.Number → IsDark feed text at
 
 -- White space alone stands between two places.
 pub record IsBetween (feed : Bool) (text : List ℕ) (from to : ℕ) : Type 0 where
   pub order : from ≤ to
-  pub same : left_placed feed text from ≡ left_placed feed text to
+  pub same : remaining_spanned feed text from ≡ remaining_spanned feed text to
   pub white : (k : ℕ) → from ≤ k → k < to → class_in feed (get_or text k 0) ≡ White
 
 -- Nothing stands between a place and itself.
@@ -44,7 +44,7 @@ between_none feed text at = record { order = le_refl at; same = refl; white = λ
 -- It stays the same text. A number that is left is a text where the text's line is.
 abbrev pub bytes_view : {n : ℕ} → Bool → View (Bytes n)
 bytes_view feed = record {
-  left = λ s. left_placed feed s.text.now s.at;
+  remaining = λ s. remaining_spanned feed s.text.now s.at;
   place = λ s end. s.at ≡ end;
   behind = λ s end. IsBetween feed s.text.now end s.at;
   here = λ s end e. subst (λ end. IsBetween feed s.text.now end s.at) e (between_none feed s.text.now s.at);

@@ -1,7 +1,7 @@
 -- How a machine goes over what a source gives.
 use Rattle.std.specs.Prelude.{◌≡◌, ℕ, List, [], ◌∷◌, ◌++◌, Option, Some, None, Result, Ok, Err, false}
 use Rattle.wkt_num.specs.Bytes as lex
-use Rattle.wkt_read.specs.Placed.{Placed, lexemes_of, end_after}
+use Rattle.wkt_read.specs.Spanned.{Spanned, lexemes_of, end_after}
 use Rattle.wkt_machine.specs.Drives.{start, is_over}
 use Rattle.wkt_machine.specs.Events.{Event}
 use Rattle.wkt_machine.specs.Machine.{at, last_place, run, move}
@@ -16,33 +16,33 @@ use Rattle.wkt_machine.specs.declared.source.At.{At}
 
 -- The source is where it was, but for what was looked at.
 pub record Stays {S : Type 0} (view : View S) (s t : S) : Type 0 where
-  pub left : view.left t ≡ view.left s
+  pub remaining : view.remaining t ≡ view.remaining s
   pub behind : (end : ℕ) → view.behind s end → view.behind t end
   pub keeps : (k : view.Known) → view.keeps s k → view.keeps t k
 
 -- A lexeme is taken.
 pub record Skips {S : Type 0} (view : View S) (s t : S) : Type 0 where
-  pub lexeme : Placed
-  pub left : view.left s ≡ lexeme ∷ view.left t
+  pub lexeme : Spanned
+  pub remaining : view.remaining s ≡ lexeme ∷ view.remaining t
   pub place : view.place t lexeme.end
   pub keeps : (k : view.Known) → view.keeps s k → view.keeps t k
 
 -- A machine doesn't move with the lexeme that comes next, or none does.
-abbrev pub IsStuck : {N : Type 0} → (List ℕ → Option N) → Machine → List Placed → Type 0
+abbrev pub IsStuck : {N : Type 0} → (List ℕ → Option N) → Machine → List Spanned → Type 0
 IsStuck read m [] = Unit {0}
 IsStuck read m (p ∷ ps) = move read (state_of m) p.lexeme ≡ None
 
 -- The lexeme that comes next is no number that is read.
-abbrev pub IsUnread : {N : Type 0} → (List ℕ → Option N) → List Placed → Type 0
-IsUnread read ps = (run : List ℕ) (end : ℕ) (more : List Placed) → ps ≡ record { lexeme = lex.Num run; end = end } ∷ more → read run ≡ None
+abbrev pub IsUnread : {N : Type 0} → (List ℕ → Option N) → List Spanned → Type 0
+IsUnread read ps = (run : List ℕ) (end : ℕ) (more : List Spanned) → ps ≡ record { lexeme = lex.Num run; end = end } ∷ more → read run ≡ None
 
 module _ {N S B : Type 0} (read : List ℕ → Option N) (view : View S) (maker : Maker N B) where
   -- A number is taken, and made.
-  pub record Numbers (s : S) (b : B) (axis : Axis) (t : S) (c : B) : Type 0 where
+  pub record MakesOneNumber (s : S) (b : B) (axis : Axis) (t : S) (c : B) : Type 0 where
     pub run : List ℕ
     pub number : N
     pub end : ℕ
-    pub left : view.left s ≡ record { lexeme = lex.Num run; end = end } ∷ view.left t
+    pub remaining : view.remaining s ≡ record { lexeme = lex.Num run; end = end } ∷ view.remaining t
     pub place : view.place t end
     pub keeps : (k : view.Known) → view.keeps s k → view.keeps t k
     pub reads : read run ≡ Some number
@@ -50,10 +50,10 @@ module _ {N S B : Type 0} (read : List ℕ → Option N) (view : View S) (maker 
 
   -- Some lexemes are taken, the machine goes over them, and what they say is made.
   pub record Goes (m : Machine) (s : S) (b : B) (to : At S B) : Type 0 where
-    pub given : List Placed
-    pub last : Placed
+    pub given : List Spanned
+    pub last : Spanned
     pub events : List (Event N)
-    pub split : view.left s ≡ given ++ (last ∷ view.left to.source)
+    pub split : view.remaining s ≡ given ++ (last ∷ view.remaining to.source)
     pub place : view.place to.source last.end
     pub ran : run read (state_of m) (lexemes_of (given ++ (last ∷ []))) ≡ Some (state_of to.machine, events)
     pub makes : maker.makes b events to.builder
@@ -62,16 +62,16 @@ module _ {N S B : Type 0} (read : List ℕ → Option N) (view : View S) (maker 
 
   -- The machine goes over some lexemes, or none, up to one with which it doesn't move, or that lacks.
   pub record Refuses (m : Machine) (s : S) (b : B) (to : At S B) : Type 0 where
-    pub taken : List Placed
+    pub taken : List Spanned
     pub events : List (Event N)
-    pub split : view.left s ≡ taken ++ view.left to.source
+    pub split : view.remaining s ≡ taken ++ view.remaining to.source
     pub behind : (end : ℕ) → view.behind s end → view.behind to.source (end_after end taken)
     pub ran : run read (state_of m) (lexemes_of taken) ≡ Some (state_of to.machine, events)
     pub is_open : is_over (state_of to.machine) ≡ false
     pub keeps : (k : view.Known) → view.keeps s k → view.keeps to.source k
-    pub stuck : (k : view.Known) → view.keeps s k → IsStuck read to.machine (view.left to.source)
+    pub stuck : (k : view.Known) → view.keeps s k → IsStuck read to.machine (view.remaining to.source)
 
-  -- The same from where a text begins.
+  -- How the machine goes over what a source gives from where a text begins.
   abbrev pub GoesFrom : S → B → At S B → Type 0
   GoesFrom s b to = (m : Machine) × (state_of m ≡ start) × Goes m s b to
 

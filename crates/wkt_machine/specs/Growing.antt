@@ -134,7 +134,7 @@ grow_all [] s = s
 grow_all (e ∷ es) s = grow_all es (grow e s)
 
 -- These parts are whole, and no geometry ended.
-pub record Has {N : Type 0} (cs : List (List N)) (ps : List (Option (List N))) (ls : List (List (List N))) (ys : List (List (List (List N)))) (s : Growing N) : Type 0 where
+pub record HasParts {N : Type 0} (cs : List (List N)) (ps : List (Option (List N))) (ls : List (List (List N))) (ys : List (List (List (List N)))) (s : Growing N) : Type 0 where
   pub coords : s.coords ≡ cs
   pub points : s.points ≡ ps
   pub lines : s.lines ≡ ls
@@ -173,13 +173,13 @@ MayJoin p s = s.grown ≡ None
 
 -- A part may end whose items are whole: nothing else is.
 abbrev pub MayEnd : {N : Type 0} → Part → Growing N → Type 0
-MayEnd part.Point s = HasPoint s × Has [] [] [] [] s
-MayEnd part.LineString s = Has s.coords [] [] [] s
-MayEnd part.Polygon s = Has [] [] s.lines [] s
-MayEnd part.MultiPoint s = Has [] s.points [] [] s
-MayEnd part.MultiLineString s = Has [] [] s.lines [] s
-MayEnd part.MultiPolygon s = Has [] [] [] s.areas s
-MayEnd part.Collection s = HasFrame s × Has [] [] [] [] s
+MayEnd part.Point s = HasPoint s × HasParts [] [] [] [] s
+MayEnd part.LineString s = HasParts s.coords [] [] [] s
+MayEnd part.Polygon s = HasParts [] [] s.lines [] s
+MayEnd part.MultiPoint s = HasParts [] s.points [] [] s
+MayEnd part.MultiLineString s = HasParts [] [] s.lines [] s
+MayEnd part.MultiPolygon s = HasParts [] [] [] s.areas s
+MayEnd part.Collection s = HasFrame s × HasParts [] [] [] [] s
 MayEnd part.Member s = HasPoint s
 MayEnd part.Bare s = HasPoint s
 MayEnd p s = s.grown ≡ None

@@ -3,7 +3,7 @@ use Rattle.std.specs.Prelude.{◌≡◌, ◌≢◌, ℕ, List, get_or, Bool, fal
 use Rattle.wkt_num.specs.Bytes.{Open, Word, Run, AllRun, class_of}
 use Rattle.wkt_read.specs.Grammar.{KindWord, kind_word}
 use Rattle.wkt_read.specs.Lexemes.{starts_number}
-use Rattle.wkt_events.specs.Left.{TakesOne}
+use Rattle.wkt_events.specs.Remaining.{TakesOne}
 use Rattle.wkt_machine.specs.Machine.{part_of}
 use Rattle.wkt_machine.specs.declared.part.Part.{Part}
 

@@ -23,14 +23,14 @@ module _ {N : Type 0} (read : List ℕ → Option N) where
       → StandFor read ls v → run read (at n place.Kind) (ls ++ rest) ≡ after (events v) (run read (at n place.Geometry) rest)
 
   -- Lexemes over which the machine goes until it is over stand for a value, and make its events.
-  abbrev pub IsExact : Type 0
-  IsExact =
+  abbrev pub MachineIsExact : Type 0
+  MachineIsExact =
       (ls : List Lexeme) (s : State) (es : List (Event N))
       → run read start ls ≡ Some (s, es) → is_over s ≡ true → (v : Value N) × StandFor read ls v × (es ≡ events v)
 
   -- Lexemes over which the machine goes, and isn't over, are a beginning of a geometry, and none is at their front.
-  abbrev pub GoesOn : Type 0
-  GoesOn =
+  abbrev pub MachineGoesOn : Type 0
+  MachineGoesOn =
       (ls : List Lexeme) (s : State) (es : List (Event N))
       → run read start ls ≡ Some (s, es) → is_over s ≡ false → BegunGeometry read ls × NoneBegins read ls
 
@@ -47,6 +47,6 @@ module _ {N : Type 0} (read : List ℕ → Option N) where
       → run read start before ≡ Some (s, es) → is_over s ≡ false → IsExpectedAfter read before (expected_at s.place s.depth)
 
 -- A value whose coordinates fit their headers grows from its events, and each may come where it does.
-abbrev pub Grows : {N : Type 0} → (is_value : N → Type 0) → Type 0
-Grows {N} is_value =
+abbrev pub GrowsFromEvents : {N : Type 0} → (is_value : N → Type 0) → Type 0
+GrowsFromEvents {N} is_value =
     (v : Value N) → IsWellFormed is_value v → (grow_all (events v) (rest [] None) ≡ rest [] (Some v)) × MayAll (events v) (rest [] None)

@@ -1,6 +1,6 @@
 -- How a machine goes over lexemes of a source, or over none. Only private contracts and proofs cite this file.
 use Rattle.std.specs.Prelude.{◌≡◌, ℕ, List, ◌++◌, Option, Some}
-use Rattle.wkt_read.specs.Placed.{Placed, lexemes_of, end_after}
+use Rattle.wkt_read.specs.Spanned.{Spanned, lexemes_of, end_after}
 use Rattle.wkt_machine.specs.Events.{Event}
 use Rattle.wkt_machine.specs.Machine.{run}
 use Rattle.wkt_machine.specs.Machines.{state_of}
@@ -19,9 +19,9 @@ abbrev pub reached : {S B : Type 0} → Machine → Next → S → B → At S B
 reached m s source builder = record { source = source; machine = standing m s; builder = builder }
 
 pub record Leads {N S B : Type 0} (read : List ℕ → Option N) (view : View S) (maker : Maker N B) (m : Machine) (s : S) (b : B) (n : Machine) (t : S) (c : B) : Type 0 where
-  pub taken : List Placed
+  pub taken : List Spanned
   pub events : List (Event N)
-  pub split : view.left s ≡ taken ++ view.left t
+  pub split : view.remaining s ≡ taken ++ view.remaining t
   pub behind : (end : ℕ) → view.behind s end → view.behind t (end_after end taken)
   pub ran : run read (state_of m) (lexemes_of taken) ≡ Some (state_of n, events)
   pub makes : maker.makes b events c

@@ -13,7 +13,7 @@ pub mod Room
 pub mod Goes
 pub mod NothingMaker
 pub mod TokensView
-pub mod Marks
+pub mod MarkBehind
 pub mod BytesView
 pub mod Leads
 pub mod HeadBytes

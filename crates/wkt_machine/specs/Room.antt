@@ -3,8 +3,8 @@ use Rattle.std.specs.Prelude.{◌≡◌, ℕ, suc, ◌+◌, ◌-◌, ◌*◌, �
 use Rattle.wkt_num.specs.Bytes.{Lexeme}
 use Rattle.wkt_num.specs.Bytes as lex
 use Rattle.wkt_read.specs.Lexemes.{starts_number, without_plus}
-use Rattle.wkt_read.specs.Placed.{Placed}
-use Rattle.wkt_events.specs.Left.{IsRunEnd}
+use Rattle.wkt_read.specs.Spanned.{Spanned}
+use Rattle.wkt_events.specs.Remaining.{IsRunEnd}
 use Rattle.wkt_machine.specs.Machines.{state_of}
 use Rattle.wkt_machine.specs.Makers.{Maker}
 use Rattle.wkt_machine.specs.Place.{Place, State}
@@ -46,7 +46,7 @@ cost lex.Comma = 1
 cost (lex.Word w) = 2 * length w + 1
 cost (lex.Num run) = number_cost run + 1
 
-abbrev pub need : List Placed → ℕ
+abbrev pub need : List Spanned → ℕ
 need [] = 0
 need (p ∷ ps) = cost p.lexeme + need ps
 
@@ -75,18 +75,18 @@ module _ {N B : Type 0} (maker : Maker N B) where
 module _ {N S B : Type 0} (view : View S) (maker : Maker N B) where
   -- There is room for so much, and for the lexemes that are left. Numbers that are given by value take none.
   pub record HasRoom (more : ℕ) (s : S) (b : B) : Type 0 where
-    pub fits : maker.fits b (more + need (view.left s))
+    pub fits : maker.fits b (more + need (view.remaining s))
     pub values : view.by_value → (x : N) → maker.takes x ≡ 0
 
-  -- The same at a place.
+  -- There is room at a place for the lexemes that are left.
   abbrev pub RoomAt : At S B → Type 0
   RoomAt to = HasRoom (owed (state_of to.machine)) to.source to.builder
 
   -- The next lexeme is a number: there is room for it and for those behind it.
   pub record HasNumberRoom (s : S) (b : B) : Type 0 where
-    pub fits : maker.fits b (need (view.left s) - 1)
+    pub fits : maker.fits b (need (view.remaining s) - 1)
     pub values : view.by_value → (x : N) → maker.takes x ≡ 0
 
   -- The number was made. It may be the last before a parenthesis that isn't there.
   abbrev pub LeavesNumber : S → B → S → B → Type 0
-  LeavesNumber s b t c = (k : ℕ) → k ≤ 1 → maker.fits b (k + (need (view.left s) - 1)) → maker.fits c (k + need (view.left t))
+  LeavesNumber s b t c = (k : ℕ) → k ≤ 1 → maker.fits b (k + (need (view.remaining s) - 1)) → maker.fits c (k + need (view.remaining t))

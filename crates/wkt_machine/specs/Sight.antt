@@ -4,7 +4,7 @@ use Rattle.wkt_num.specs.Bytes.{Lexeme}
 use Rattle.wkt_num.specs.Bytes as lex
 use Rattle.wkt_access.specs.declared.dimensions.Dimension.{Dimension}
 use Rattle.wkt_read.specs.Grammar.{KindWord, kind_word, dim_word, is_empty_word}
-use Rattle.wkt_read.specs.Placed.{Placed}
+use Rattle.wkt_read.specs.Spanned.{Spanned}
 use Rattle.wkt_machine.specs.declared.machine.Seen.{Seen}
 use Rattle.wkt_machine.specs.declared.machine.Seen.TheVariants as seen
 
@@ -27,6 +27,6 @@ seen_of (lex.Word w) = seen_word (kind_word w) w
 seen_of (lex.Num run) = seen.Number
 
 -- the lexeme that comes next, or that none does
-abbrev pub sight : List Placed → Seen
+abbrev pub sight : List Spanned → Seen
 sight [] = seen.Other
 sight (p ∷ ps) = seen_of p.lexeme

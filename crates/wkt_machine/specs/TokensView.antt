@@ -28,7 +28,7 @@ tokens_of s = s.tokens
 -- No byte is passed that isn't a part of a lexeme that was taken, but for one.
 abbrev pub tokens_view : {T : Type 0} → View (OneByOne T)
 tokens_view = record {
-  left = λ s. ahead.left s.tokens.now;
+  remaining = λ s. ahead.remaining s.tokens.now;
   place = λ s end. (ahead.end_of s.tokens.now ≡ end) × ahead.IsNear s.tokens.now;
   behind = λ s end. ahead.end_of s.tokens.now ≡ end;
   here = λ s end h. h.0;

@@ -109,7 +109,7 @@ pub record Grew {T : Type 0} (t : Tree T) (es : List (Event T)) (u : Tree T) : T
   pub holds : (w : Growing T) → Holds t w → MayAll es w → Holds u (grow_all es w) ⊎ (IsLost u × (lists_any es ≡ true))
 
 -- The geometry that ended was taken, and no part is at hand.
-pub record Gives {T : Type 0} (t : Tree T) (w : Wkt T) (u : Tree T) : Type 0 where
+pub record TreeGives {T : Type 0} (t : Tree T) (w : Wkt T) (u : Tree T) : Type 0 where
   pub is_lost : u.is_lost ≡ t.is_lost
   pub gives : (o : List (Frame T)) (v : Value T) → HoldsWhole t o v → IsWktOf v (tree w) × HasOnly u [] [] [] [] × HoldsFrames u.outer.items o
 

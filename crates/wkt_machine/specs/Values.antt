@@ -6,7 +6,7 @@ use Rattle.wkt_types.specs.Values.{IsWktOf}
 use Rattle.wkt_types.specs.declared.geometry.Wkt.{Wkt}
 use Rattle.wkt_read.specs.Front.{NeedsNoMemory}
 use Rattle.wkt_read.specs.Grammar.{StandFor}
-use Rattle.wkt_read.specs.Placed.{Placed, lexemes_of, end_after}
+use Rattle.wkt_read.specs.Spanned.{Spanned, lexemes_of, end_after}
 use Rattle.wkt_machine.specs.Drives.{start, is_over}
 use Rattle.wkt_machine.specs.Events.{Event}
 use Rattle.wkt_machine.specs.Goes.{IsStuck}
@@ -34,12 +34,12 @@ OnMemory (Err (Refused m)) P = Unit {0}
 OnMemory (Err (Memory e)) P = P
 
 -- The value that ended, or that it is lost.
-abbrev pub Answers : {T : Type 0} → Tree T → Result (Wkt T) Unread → Type 0
-Answers {T} t (Ok w) = (t.is_lost ≡ false) × ((v : Value T) → HoldsWhole t [] v → IsWktOf v (tree w))
-Answers t (Err (Refused m)) = ⊥
-Answers t (Err (Memory e)) = IsLost t
+abbrev pub AnswersTree : {T : Type 0} → Tree T → Result (Wkt T) Unread → Type 0
+AnswersTree {T} t (Ok w) = (t.is_lost ≡ false) × ((v : Value T) → HoldsWhole t [] v → IsWktOf v (tree w))
+AnswersTree t (Err (Refused m)) = ⊥
+AnswersTree t (Err (Memory e)) = IsLost t
 
--- The same where it is answered as a reader does.
+-- The value that ended, or that it is lost, as a reader returns it.
 abbrev pub AnswersReader : {T : Type 0} → Tree T → Result (Wkt T) ReadError → Type 0
 AnswersReader {T} t (Ok w) = (t.is_lost ≡ false) × ((v : Value T) → HoldsWhole t [] v → IsWktOf v (tree w))
 AnswersReader t (Err (reader.Text m)) = ⊥
@@ -47,29 +47,29 @@ AnswersReader t (Err (reader.Memory e)) = IsLost t
 
 module _ {N S : Type 0} (read : List ℕ → Option N) (view : View S) where
   -- Lexemes are taken that stand for a value.
-  pub record Takes (s : S) (v : Value N) (t : S) : Type 0 where
-    pub given : List Placed
-    pub last : Placed
-    pub split : view.left s ≡ given ++ (last ∷ view.left t)
+  pub record TakesValue (s : S) (v : Value N) (t : S) : Type 0 where
+    pub given : List Spanned
+    pub last : Spanned
+    pub split : view.remaining s ≡ given ++ (last ∷ view.remaining t)
     pub place : view.place t last.end
     pub stands : StandFor read (lexemes_of (given ++ (last ∷ []))) v
     pub keeps : (k : view.Known) → view.keeps s k → view.keeps t k
 
   -- The tree is what the value is read as that the lexemes which are taken stand for.
   abbrev pub IsRead : S → Kept N → S → Type 0
-  IsRead s w t = (v : Value N) × Takes s v t × IsWktOf v w
+  IsRead s w t = (v : Value N) × TakesValue s v t × IsWktOf v w
 
   -- They stand for a value that isn't read without memory.
   abbrev pub WantsMemory : S → S → Type 0
-  WantsMemory s t = (v : Value N) × Takes s v t × (NeedsNoMemory v → ⊥)
+  WantsMemory s t = (v : Value N) × TakesValue s v t × (NeedsNoMemory v → ⊥)
 
   -- The machine goes over the lexemes that are taken, up to one with which it doesn't move, or that lacks.
-  pub record IsRefused (s : S) (m : Machine) (t : S) : Type 0 where
-    pub taken : List Placed
+  pub record MachineRefuses (s : S) (m : Machine) (t : S) : Type 0 where
+    pub taken : List Spanned
     pub events : List (Event N)
-    pub split : view.left s ≡ taken ++ view.left t
+    pub split : view.remaining s ≡ taken ++ view.remaining t
     pub behind : (end : ℕ) → view.behind s end → view.behind t (end_after end taken)
     pub ran : run read start (lexemes_of taken) ≡ Some (state_of m, events)
     pub is_open : is_over (state_of m) ≡ false
     pub keeps : (k : view.Known) → view.keeps s k → view.keeps t k
-    pub stuck : (k : view.Known) → view.keeps s k → IsStuck read m (view.left t)
+    pub stuck : (k : view.Known) → view.keeps s k → IsStuck read m (view.remaining t)

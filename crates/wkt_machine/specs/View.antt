@@ -1,10 +1,10 @@
 -- What is known of a source of lexemes.
 use Rattle.std.specs.Prelude.{ℕ, List}
-use Rattle.wkt_read.specs.Placed.{Placed}
+use Rattle.wkt_read.specs.Spanned.{Spanned}
 
 pub record View (S : Type 0) : Type 1 where
   -- The lexemes that are left, each with its end.
-  pub left : S → List Placed
+  pub remaining : S → List Spanned
   -- The source stands right behind a lexeme that ends there, and nothing was looked at since.
   pub place : S → ℕ → Type 0
   -- The lexeme before ends there, or none was taken, and the text begins there.

@@ -26,7 +26,7 @@ pub(crate) fn add<V: Drop>(list: &mut Vec<V>, item: V) -> bool
     }
 }
 
-/// The same of a coordinate of two numbers.
+/// Adds a coordinate of two numbers; or there was no memory for it.
 #[inline(never)]
 pub(crate) fn add_flat<T: WktNum>(list: &mut Vec<Coord<T>>, x: T, y: T) -> bool
     ensures { list.new.items ≡ (if result then list.old.items ++ record { x = x; y = y; z = None; m = None } ∷ [] else list.old.items) }
@@ -42,7 +42,7 @@ pub(crate) fn add_flat<T: WktNum>(list: &mut Vec<Coord<T>>, x: T, y: T) -> bool
     }
 }
 
-/// The same with room for this item alone.
+/// Adds an item, with room for it alone; or there was no memory for it.
 #[inline(always)]
 fn add_last<V: Drop>(list: &mut Vec<V>, item: V) -> bool
     ensures { list.new.items ≡ (if result then list.old.items ++ item ∷ [] else list.old.items) }

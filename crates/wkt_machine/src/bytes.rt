@@ -54,7 +54,7 @@ fn lexeme_at<const FEED_ENDS: bool>(text: &[u8], at: usize) -> (Seen, usize)
     run_at::<FEED_ENDS>(text, at)
 }
 
-/// The same where no mark stands.
+/// The lexeme that stands there where no mark does, and where it ends, unless it is a number.
 #[inline(always)]
 fn run_at<const FEED_ENDS: bool>(text: &[u8], at: usize) -> (Seen, usize)
     requires inside { at ≤ length text.now }
@@ -120,7 +120,7 @@ impl<'a, T: WktNum, const FEED_ENDS: bool> Source<T> for Bytes<'a, FEED_ENDS> {
 
 impl<'a, T: WktNum, const FEED_ENDS: bool> Walk<T> for Bytes<'a, FEED_ENDS> {
     #[inline(always)]
-    #[tactic(auto, using(crate::proofs::TokenViews::kind_open, crate::proofs::TokenViews::kind_sound, crate::proofs::Rooms::kind_room))]
+    #[tactic(auto, using(crate::proofs::TokenViews::kind_open, crate::proofs::TokenViews::kind_sound, crate::proofs::RoomForRest::kind_room))]
     fn header<B: Builder<T>>(self, machine: Machine, builder: B) -> Walked<Self, B> {
         if self.at > self.text.len() {
             return machine.step(self, builder);
@@ -129,7 +129,7 @@ impl<'a, T: WktNum, const FEED_ENDS: bool> Walk<T> for Bytes<'a, FEED_ENDS> {
     }
 
     #[inline(always)]
-    #[tactic(auto, using(crate::proofs::TokenViews::kind_open, crate::proofs::TokenViews::kind_sound, crate::proofs::Rooms::kind_room))]
+    #[tactic(auto, using(crate::proofs::TokenViews::kind_open, crate::proofs::TokenViews::kind_sound, crate::proofs::RoomForRest::kind_room))]
     fn first<B: Builder<T>>(self, machine: Machine, builder: B) -> Walked<Self, B> {
         if self.at > self.text.len() {
             return machine.step(self, builder);
@@ -138,7 +138,7 @@ impl<'a, T: WktNum, const FEED_ENDS: bool> Walk<T> for Bytes<'a, FEED_ENDS> {
     }
 
     #[inline(always)]
-    #[tactic(auto, using(crate::proofs::TokenViews::x_open, crate::proofs::TokenViews::x_sound, crate::proofs::Rooms::x_room))]
+    #[tactic(auto, using(crate::proofs::TokenViews::x_open, crate::proofs::TokenViews::x_sound, crate::proofs::RoomForRest::x_room))]
     fn coordinates<B: Builder<T>>(self, machine: Machine, builder: B) -> Walked<Self, B> {
         // A point without parentheses ends with its coordinate.
         if self.at > self.text.len() || !has_coordinates(machine.part) {

@@ -122,11 +122,11 @@ fn z_and_m<'a, T: WktNum, B: Builder<T>, const FEED_ENDS: bool>(
     ensures room { OnTrue result.0 (HasRoom (bytes_view FEED_ENDS) B.maker 0 result.2 result.3) }
     ensures refused { OnFalse result.0 (Refuses T.read (bytes_view FEED_ENDS) B.maker (standing machine (next_after axis.Y machine.dim)) source.entry builder (reached machine result.1 result.2 result.3)) }
 {
-    z_and_m_apart::<T, B, FEED_ENDS>(machine, source, builder)
+    z_and_m_outlined::<T, B, FEED_ENDS>(machine, source, builder)
 }
 
 #[inline(never)]
-fn z_and_m_apart<'a, T: WktNum, B: Builder<T>, const FEED_ENDS: bool>(
+fn z_and_m_outlined<'a, T: WktNum, B: Builder<T>, const FEED_ENDS: bool>(
     machine: Machine,
     source: Bytes<'a, FEED_ENDS>,
     builder: B,

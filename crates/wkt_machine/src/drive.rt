@@ -20,7 +20,7 @@ fn further<T: WktNum, S: Walk<T>, B: Builder<T>>(
 ) -> Walked<S, B>
     requires sound { IsSound machine }
     requires open { is_over (state_of machine) ≡ false }
-    requires depth { machine.depth + length (S.view.left source) ≤ usize.MAX }
+    requires depth { machine.depth + length (S.view.remaining source) ≤ usize.MAX }
     requires room { HasRoom S.view B.maker (owed (state_of machine)) source builder }
     ensures on { IfOk result (Goes T.read S.view B.maker machine source builder) }
     ensures room { IfOk result (RoomAt S.view B.maker) }
@@ -39,7 +39,7 @@ fn further<T: WktNum, S: Walk<T>, B: Builder<T>>(
 /// Each part of a place is a variable of its own, so that what fills a place up isn't carried along.
 #[inline(always)]
 pub fn drive<T: WktNum, S: Walk<T>, B: Builder<T>>(source: S, builder: B) -> Walked<S, B>
-    requires depth { length (S.view.left source) ≤ usize.MAX }
+    requires depth { length (S.view.remaining source) ≤ usize.MAX }
     requires room { HasRoom S.view B.maker 0 source builder }
     ensures on { IfOk result (GoesFrom T.read S.view B.maker source builder) }
     ensures over { IfOk result (λ to. is_over (state_of to.machine) ≡ true) }

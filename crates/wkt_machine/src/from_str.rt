@@ -32,11 +32,11 @@ use wkt_types::{Coord, Point, Wkt};
 fn answer<T: WktNum>(grown: &mut Tree<T>) -> Result<Wkt<T>, ReadError>
     ensures { AnswersReader grown.old result }
 {
-    answer_apart(grown)
+    answer_outlined(grown)
 }
 
 #[inline(never)]
-fn answer_apart<T: WktNum>(grown: &mut Tree<T>) -> Result<Wkt<T>, ReadError>
+fn answer_outlined<T: WktNum>(grown: &mut Tree<T>) -> Result<Wkt<T>, ReadError>
     ensures { AnswersReader grown.old result }
 {
     if grown.is_lost() {
@@ -65,14 +65,14 @@ fn read_off<'t, 'a, T: WktNum>(
     let _ = tokens.most_left();
     let source = OneByOne::new(tokens);
     let (answer, behind) = read::<T, OneByOne<'_, '_, T>>(alloc, source);
-    let left = behind.into_tokens();
+    let remaining = behind.into_tokens();
     match answer {
-        Ok(geometry) => (Ok(geometry), left),
+        Ok(geometry) => (Ok(geometry), remaining),
         Err(unread) => match unread {
-            Unread::Memory(error) => (Err(ReadError::Memory(error)), left),
+            Unread::Memory(error) => (Err(ReadError::Memory(error)), remaining),
             Unread::Refused(machine) => {
-                let said = refused(machine, left).text();
-                (Err(ReadError::Text(said)), left)
+                let said = refused(machine, remaining).text();
+                (Err(ReadError::Text(said)), remaining)
             }
         },
     }
@@ -126,9 +126,9 @@ fn front_of<T: WktNum>(alloc: Global, text: &str) -> Result<(Wkt<T>, usize), Rea
     ensures free { (v end : _) → Front T.read text.now v end → NeedsNoMemory v → IsOk result }
 {
     let mut tokens = PeekableTokens::new(Tokens::from_str(text));
-    let (answer, left) = read_off(alloc, &mut tokens);
+    let (answer, remaining) = read_off(alloc, &mut tokens);
     match answer {
-        Ok(geometry) => Ok((geometry, left.end())),
+        Ok(geometry) => Ok((geometry, remaining.end())),
         Err(error) => Err(error),
     }
 }
@@ -224,8 +224,8 @@ impl<T: WktNum> FromWktStr for Wkt<T> {
     // Taken out and put back, so that what is left is known.
     fn read_tokens(alloc: Global, tokens: &mut PeekableTokens<'_, T>) -> Result<Self, ReadError> {
         let mut lent = mem::replace(tokens, PeekableTokens::new(Tokens::from_str("")));
-        let (answer, left) = read_off(alloc, &mut lent);
-        *tokens = mem::replace(left, PeekableTokens::new(Tokens::from_str("")));
+        let (answer, remaining) = read_off(alloc, &mut lent);
+        *tokens = mem::replace(remaining, PeekableTokens::new(Tokens::from_str("")));
         answer
     }
 }

@@ -2,7 +2,7 @@
 ghost use Rattle.std.specs.Bool.{OnTrue};
 ghost use Rattle.std.specs.Int.{w32, to_le_bytes};
 ghost use Rattle.std.specs.Prelude.{◌≡◌, ◌≤◌, ◌<◌, ◌+◌, length, take, codes, IfOk, IfErr, IfSome};
-ghost use Rattle.wkt_events.specs.Left.{Legible, left_placed};
+ghost use Rattle.wkt_events.specs.Remaining.{Legible, remaining_spanned};
 ghost use Rattle.wkt_machine.specs.BytesView.{bytes_view, IsBetween};
 ghost use Rattle.wkt_machine.specs.Goes.{Goes, Refuses};
 ghost use Rattle.wkt_machine.specs.HeadBytes.{IsKindName, EndsWord, StandsHead};
@@ -26,17 +26,17 @@ use wkt_num::WktNum;
 /// The bytes of `GEOMETRYCOLLECTION (`.
 const LONGEST_HEAD: usize = 20;
 
-/// Behind the header that comes next, and its parenthesis; of a point behind its coordinate. `INNER` tells the places
-/// apart that call it.
+/// Behind the header that comes next, and its parenthesis; of a point behind its coordinate. `INNER` differs
+/// between its two callers, so that it is built into each.
 #[inline(always)]
-#[tactic(auto, using(crate::proofs::TokenViews::kind_open, crate::proofs::TokenViews::kind_sound, crate::proofs::Rooms::kind_room))]
+#[tactic(auto, using(crate::proofs::TokenViews::kind_open, crate::proofs::TokenViews::kind_sound, crate::proofs::RoomForRest::kind_room))]
 pub(crate) fn header<'a, T: WktNum, B: Builder<T>, const FEED_ENDS: bool, const INNER: bool>(
     machine: Machine,
     source: Bytes<'a, FEED_ENDS>,
     builder: B,
 ) -> Walked<Bytes<'a, FEED_ENDS>, B>
     requires state { machine.state ≡ next.Kind }
-    requires depth { machine.depth + length (left_placed FEED_ENDS source.text.now source.at) ≤ usize.MAX }
+    requires depth { machine.depth + length (remaining_spanned FEED_ENDS source.text.now source.at) ≤ usize.MAX }
     requires inside { source.at ≤ length source.text.now }
     requires room { HasRoom (bytes_view FEED_ENDS) B.maker 0 source builder }
     ensures on { IfOk result (Goes T.read (bytes_view FEED_ENDS) B.maker machine source.entry builder) }
@@ -120,7 +120,7 @@ fn head<const FEED_ENDS: bool>(text: &[u8], at: usize) -> Option<(Part, usize)>
     }
 }
 
-/// The same of the kinds of several.
+/// The head of a kind of several, and where it ends.
 #[inline(always)]
 fn multi_head<const FEED_ENDS: bool>(text: &[u8], at: usize) -> Option<(Part, usize)>
     requires { at + 20 ≤ length text.now }
@@ -135,7 +135,7 @@ fn multi_head<const FEED_ENDS: bool>(text: &[u8], at: usize) -> Option<(Part, us
     }
 }
 
-/// The same of one kind.
+/// The head of one kind, and where it ends.
 #[inline(always)]
 fn named<const N: usize, const FEED_ENDS: bool>(
     part: Part,

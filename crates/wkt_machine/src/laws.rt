@@ -1,6 +1,6 @@
 //! Laws of the definitions: each function does nothing, and its contract is the law.
 ghost use Rattle.wkt_read.specs.Laws.{OneMessage};
-ghost use Rattle.wkt_machine.specs.Laws.{Completes, IsExact, GoesOn, Refuses, Expects, Grows};
+ghost use Rattle.wkt_machine.specs.Laws.{Completes, MachineIsExact, MachineGoesOn, Refuses, Expects, GrowsFromEvents};
 
 use wkt_num::WktNum;
 
@@ -12,12 +12,12 @@ pub fn completes<T: WktNum>()
 
 /// Lexemes over which the machine goes until it is over stand for a value, and make its events.
 pub fn is_exact<T: WktNum>()
-    ensures { IsExact T.read }
+    ensures { MachineIsExact T.read }
 {}
 
 /// Lexemes over which the machine goes, and isn't over, are a beginning of a geometry, and none is at their front.
 pub fn goes_on<T: WktNum>()
-    ensures { GoesOn T.read }
+    ensures { MachineGoesOn T.read }
 {}
 
 /// The lexeme with which the machine doesn't move is the first with which the lexemes are dead.
@@ -32,7 +32,7 @@ pub fn expects<T: WktNum>()
 
 /// A value whose coordinates fit their headers grows from its events, so these determine it.
 pub fn grows<T: WktNum>()
-    ensures { Grows T.is_value }
+    ensures { GrowsFromEvents T.is_value }
 {}
 
 /// A text has a front, or it is refused with one message.

@@ -37,7 +37,7 @@ pub use message::message_at;
 pub use nothing::Nothing;
 pub use numbers::{padded, read_at};
 pub use part::{Axis, Part};
-pub use points::{NearPoint, near_point};
+pub use points::{FastPoint, fast_point};
 pub use source::{At, Source, Walk, Walked};
 pub use text::read_text;
 pub use tokens::OneByOne;

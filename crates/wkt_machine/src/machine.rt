@@ -126,7 +126,7 @@ impl Machine {
         }
     }
 
-    /// The same of another part, in a dimension.
+    /// The machine at another state, in another part and a dimension.
     #[inline(always)]
     pub fn begun(self, state: State, part: Part, dim: Dimension) -> Machine
         ensures { result ≡ record { state = state; part = part; dim = dim; depth = self.depth } }

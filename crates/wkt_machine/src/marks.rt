@@ -4,7 +4,7 @@ ghost use Rattle.std.specs.Prelude.{◌≡◌, ◌+◌, ◌≤◌, length, IfOk,
 ghost use Rattle.wkt_machine.specs.Drives.{is_over};
 ghost use Rattle.wkt_machine.specs.Goes.{Goes, Refuses};
 ghost use Rattle.wkt_machine.specs.Machines.{state_of, IsSound};
-ghost use Rattle.wkt_machine.specs.Marks.{is_mark};
+ghost use Rattle.wkt_machine.specs.MarkBehind.{is_mark};
 ghost use Rattle.wkt_machine.specs.Room.{owed, HasRoom, RoomAt};
 ghost use Rattle.wkt_machine.specs.Sight.{sight};
 
@@ -15,7 +15,7 @@ use wkt_num::WktNum;
 
 /// After one lexeme or more: as far as no parenthesis or comma comes next that a part, or a collection, has there.
 ///
-/// The state stands in variables of its own, so that what fills a machine up isn't carried along.
+/// The machine's parts are local variables, so that what fills it up isn't carried along.
 #[inline(always)]
 pub(crate) fn marks<T: WktNum, S: Source<T>, B: Builder<T>>(
     machine: Machine,
@@ -24,7 +24,7 @@ pub(crate) fn marks<T: WktNum, S: Source<T>, B: Builder<T>>(
 ) -> Walked<S, B>
     requires sound { IsSound machine }
     requires open { is_over (state_of machine) ≡ false }
-    requires depth { machine.depth + length (S.view.left source) ≤ usize.MAX }
+    requires depth { machine.depth + length (S.view.remaining source) ≤ usize.MAX }
     requires room { HasRoom S.view B.maker (owed (state_of machine)) source builder }
     ensures on { IfOk result (Goes T.read S.view B.maker machine source builder) }
     ensures room { IfOk result (RoomAt S.view B.maker) }
@@ -110,8 +110,8 @@ fn mark<T: WktNum, S: Source<T>, B: Builder<T>>(
     requires sound { IsSound machine }
     requires open { is_over (state_of machine) ≡ false }
     requires looked { S.view.looked source }
-    requires seen { seen ≡ sight (S.view.left source) }
-    requires depth { machine.depth + length (S.view.left source) ≤ usize.MAX }
+    requires seen { seen ≡ sight (S.view.remaining source) }
+    requires depth { machine.depth + length (S.view.remaining source) ≤ usize.MAX }
     requires room { HasRoom S.view B.maker (owed (state_of machine)) source builder }
     ensures on { IfOk result (Goes T.read S.view B.maker machine source builder) }
     ensures room { IfOk result (RoomAt S.view B.maker) }

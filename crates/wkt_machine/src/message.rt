@@ -1,11 +1,11 @@
 //! Why the bytes of a text are refused.
 ghost use Rattle.std.specs.Prelude.{◌≡◌, ◌≢◌, ◌≤◌, ℕ, List, ◌∷◌, length, slice_range, false, IsUtf8};
 ghost use Rattle.wkt_num.specs.Bytes.{Lexeme};
-ghost use Rattle.wkt_events.specs.Left.{left, left_placed};
+ghost use Rattle.wkt_events.specs.Remaining.{remaining, remaining_spanned};
 ghost use Rattle.wkt_machine.specs.Expecting.{expected_at};
 ghost use Rattle.wkt_machine.specs.Goes.{IsStuck};
 ghost use Rattle.wkt_machine.specs.BytesView.{IsDark, IsUnmarked};
-ghost use Rattle.wkt_machine.specs.Given.{Shows, GivesNext};
+ghost use Rattle.wkt_machine.specs.Given.{ShowsLexeme, GivesNext};
 ghost use Rattle.wkt_machine.specs.Machines.{state_of};
 ghost use Rattle.wkt_machine.specs.Refusing.{blamed, refused, takes_number};
 ghost use Rattle.wkt_read.specs.Table.{at_place, closing, closings, stays};
@@ -86,7 +86,7 @@ fn next_given<'a, T: WktNum>(text: &'a [u8], from: usize) -> Option<(Given<'a>, 
 
 /// The message of the place alone.
 fn at_place<T: WktNum>(expected: Expected, given: Given<'_>) -> Message
-    ensures { (l : Lexeme) (r : List Lexeme) → Shows T.read given.entry l → result ≡ at_place T.read expected (l ∷ r) }
+    ensures { (l : Lexeme) (r : List Lexeme) → ShowsLexeme T.read given.entry l → result ≡ at_place T.read expected (l ∷ r) }
 {
     match given {
         Given::Word(word) => at_word(expected, word),
@@ -98,7 +98,7 @@ fn at_place<T: WktNum>(expected: Expected, given: Given<'_>) -> Message
 /// Whether the lexeme isn't taken where it is refused.
 #[inline(always)]
 fn stays<T: WktNum>(expected: Expected, given: Given<'_>) -> bool
-    ensures { (l : Lexeme) → Shows T.read given.entry l → result ≡ stays T.read expected l }
+    ensures { (l : Lexeme) → ShowsLexeme T.read given.entry l → result ≡ stays T.read expected l }
 {
     match expected {
         Expected::More | Expected::Closing => true,
@@ -110,7 +110,7 @@ fn stays<T: WktNum>(expected: Expected, given: Given<'_>) -> bool
 /// The message behind the lexeme that stands where a parenthesis has to close.
 #[inline(always)]
 fn closing<T: WktNum>(message: Message, given: Given<'_>) -> Message
-    ensures { (l : Lexeme) (r : List Lexeme) → Shows T.read given.entry l → closing T.read message (l ∷ r) ≡ (result, r) }
+    ensures { (l : Lexeme) (r : List Lexeme) → ShowsLexeme T.read given.entry l → closing T.read message (l ∷ r) ≡ (result, r) }
 {
     match given {
         Given::Close => message,
@@ -136,8 +136,8 @@ pub(crate) fn takes_number(machine: Machine) -> bool
 fn blame<T: WktNum>(machine: Machine, text: &[u8], at: usize) -> (Message, usize)
     requires inside { at ≤ length text.now }
     requires utf8 { IsUtf8 text.now }
-    requires stuck { IsStuck T.read machine (left_placed false text.now at) }
-    ensures message { (result.0, left false text.now result.1) ≡ blamed T.read (expected_at (state_of machine).place machine.depth) (left false text.now at) }
+    requires stuck { IsStuck T.read machine (remaining_spanned false text.now at) }
+    ensures message { (result.0, remaining false text.now result.1) ≡ blamed T.read (expected_at (state_of machine).place machine.depth) (remaining false text.now at) }
     ensures inside { result.1 ≤ length text.now }
 {
     if takes_number(machine) {
@@ -165,7 +165,7 @@ fn blame<T: WktNum>(machine: Machine, text: &[u8], at: usize) -> (Message, usize
 fn close<T: WktNum>(message: Message, parens: usize, text: &[u8], at: usize) -> (Message, usize)
     requires inside { at ≤ length text.now }
     requires utf8 { IsUtf8 text.now }
-    ensures message { (result.0, left false text.now result.1) ≡ closings T.read parens message (left false text.now at) }
+    ensures message { (result.0, remaining false text.now result.1) ≡ closings T.read parens message (remaining false text.now at) }
     ensures inside { result.1 ≤ length text.now }
 {
     let mut reported = message;
@@ -189,8 +189,8 @@ fn close<T: WktNum>(message: Message, parens: usize, text: &[u8], at: usize) -> 
 #[inline(never)]
 pub fn message_at<T: WktNum>(machine: Machine, text: &str, at: usize) -> Message
     requires inside { at ≤ length text.now }
-    requires stuck { IsStuck T.read machine (left_placed false text.now at) }
-    ensures { result ≡ (refused T.read (state_of machine) (left false text.now at)).0 }
+    requires stuck { IsStuck T.read machine (remaining_spanned false text.now at) }
+    ensures { result ≡ (refused T.read (state_of machine) (remaining false text.now at)).0 }
 {
     let bytes = text.as_bytes();
     let (blamed, behind) = blame::<T>(machine, bytes, at);

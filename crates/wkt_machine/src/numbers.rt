@@ -6,7 +6,7 @@ use wkt_events::number_there;
 use wkt_num::WktNum;
 
 /// How many bytes a window has.
-const WINDOW: usize = 32;
+const NUMBER_WINDOW: usize = 32;
 
 /// The number that stands there, and where it ends.
 #[inline(always)]
@@ -16,32 +16,33 @@ pub fn read_at<T: WktNum>(text: &[u8], at: usize) -> Option<(T, usize)>
     ensures none { IfNone result (NoNumber T.read text.now at) }
 {
     let rest = &text[at..];
-    if rest.len() >= WINDOW {
+    if rest.len() >= NUMBER_WINDOW {
         if let Some((number, count)) = T::read_in_window(rest) {
             return Some((number, at + count));
         }
     }
-    read_apart(text, at)
+    slow_read(text, at)
 }
 
-/// The same for a number that no window shows whole. What it answers comes through memory, whose place is cleared here.
+/// The slow path, for a number that no window shows whole. What it returns comes through memory, whose place is cleared
+/// here.
 #[inline(always)]
-fn read_apart<T: WktNum>(text: &[u8], at: usize) -> Option<(T, usize)>
+fn slow_read<T: WktNum>(text: &[u8], at: usize) -> Option<(T, usize)>
     requires { at ≤ length text.now }
     ensures some { IfSome result (λ p. IsNumberAt T.read text.now at p.1 p.0) }
     ensures none { IfNone result (NoNumber T.read text.now at) }
 {
-    read_anywhere(text, at)
+    slow_read_outlined(text, at)
 }
 
 #[inline(never)]
-fn read_anywhere<T: WktNum>(text: &[u8], at: usize) -> Option<(T, usize)>
+fn slow_read_outlined<T: WktNum>(text: &[u8], at: usize) -> Option<(T, usize)>
     requires { at ≤ length text.now }
     ensures some { IfSome result (λ p. IsNumberAt T.read text.now at p.1 p.0) }
     ensures none { IfNone result (NoNumber T.read text.now at) }
 {
     let rest = &text[at..];
-    if rest.len() < WINDOW {
+    if rest.len() < NUMBER_WINDOW {
         if let Some((number, count)) = T::read_in_window(&padded(rest)) {
             return Some((number, at + count));
         }
@@ -51,12 +52,12 @@ fn read_anywhere<T: WktNum>(text: &[u8], at: usize) -> Option<(T, usize)>
 
 /// Fewer bytes than a window has, as one, with NULs behind them, which end a run as the text's end does.
 #[inline(always)]
-pub fn padded(bytes: &[u8]) -> [u8; WINDOW]
+pub fn padded(bytes: &[u8]) -> [u8; NUMBER_WINDOW]
     requires { length bytes.now < 32 }
     ensures front { take (length bytes.now) result ≡ bytes.now }
     ensures nul { slice_index_or result (length bytes.now) 0 ≡ 0 }
 {
-    let mut window = [0; WINDOW];
+    let mut window = [0; NUMBER_WINDOW];
     window[..bytes.len()].copy_from_slice(bytes);
     window
 }

@@ -13,7 +13,7 @@ pub enum Part {
     Collection,
     /// A point of a multipoint.
     Member,
-    /// The same without parentheses.
+    /// A point of a multipoint without parentheses.
     Bare,
     /// A ring of a polygon.
     Ring,

@@ -3,35 +3,36 @@ ghost use Rattle.std.specs.Prelude.{◌≡◌, ℕ, List, ◌≤◌, length, IfS
 ghost use Rattle.wkt_num.specs.Bytes.{Num};
 ghost use Rattle.wkt_num.specs.Decimal.{read_decimal};
 ghost use Rattle.wkt_num.specs.Whole.{IsSigned};
-ghost use Rattle.wkt_events.specs.Left.{TakesOne};
+ghost use Rattle.wkt_events.specs.Remaining.{TakesOne};
 ghost use Rattle.wkt_machine.specs.Points.{IsPointFront};
 
 use crate::heads::point_head;
 use wkt_events::{byte_at, skip_white};
-use wkt_num::units_near;
+use wkt_num::fast_units;
 
 /// A point of two decimals, as the units of each (`Decimal::units`), and where it ends in its text.
 #[derive(Clone, Copy)]
-pub struct NearPoint {
+pub struct FastPoint {
     pub x: i64,
     pub y: i64,
     pub end: usize,
 }
 
-/// The point that the bytes begin with, if their first are `POINT(` or `POINT (`, and `units_near` reads its two numbers.
+/// The point that the bytes begin with, if their first are `POINT(` or `POINT (`, and `fast_units` reads its two
+/// numbers.
 /// `None` doesn't imply that they begin with no geometry.
 #[inline(always)]
-pub fn near_point<const D: u32>(text: &[u8]) -> Option<NearPoint>
+pub fn fast_point<const D: u32>(text: &[u8]) -> Option<FastPoint>
     ensures { IfSome result (λ p. IsPointFront D text.now p.x p.y p.end) }
 {
     let opened = point_head::<false>(text, 0)?;
-    let (x, between) = near_number::<D>(text, opened)?;
-    let (y, behind) = near_number::<D>(text, between)?;
+    let (x, between) = fast_number::<D>(text, opened)?;
+    let (y, behind) = fast_number::<D>(text, between)?;
     let close = skip_white::<false>(text, behind);
     if byte_at(text, close) != b')' {
         return None;
     }
-    Some(NearPoint {
+    Some(FastPoint {
         x,
         y,
         end: close + 1,
@@ -40,13 +41,13 @@ pub fn near_point<const D: u32>(text: &[u8]) -> Option<NearPoint>
 
 /// The number that comes next, and where it ends. `None` doesn't imply that none comes.
 #[inline(always)]
-fn near_number<const D: u32>(text: &[u8], at: usize) -> Option<(i64, usize)>
+fn fast_number<const D: u32>(text: &[u8], at: usize) -> Option<(i64, usize)>
     requires { at ≤ length text.now }
     ensures { IfSome result (λ r. (run : List ℕ) × TakesOne false text.now at (Num run) r.1
         × (read_decimal 127 36 D run ≡ Some r.0) × IsSigned 63 r.0) }
 {
     let start = skip_white::<false>(text, at);
-    match units_near(D, &text[start..]) {
+    match fast_units(D, &text[start..]) {
         Some((units, count)) => Some((units, start + count)),
         None => None,
     }

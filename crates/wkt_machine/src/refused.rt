@@ -7,7 +7,7 @@ ghost use Rattle.wkt_machine.specs.Expecting.{expected_at, item_expected, last_n
 ghost use Rattle.wkt_machine.specs.Machines.{state_of};
 ghost use Rattle.wkt_machine.specs.Refusing.{around, own, blamed, is_number, refused, stays_first};
 ghost use Rattle.wkt_machine.specs.Goes.{IsStuck};
-ghost use Rattle.wkt_read.specs.Ahead.{Advances, left, rest};
+ghost use Rattle.wkt_read.specs.Ahead.{Advances, remaining, rest};
 ghost use Rattle.wkt_read.specs.Parser.Walks.{IsFirst};
 ghost use Rattle.wkt_read.specs.Tokenizer.Unread.{found};
 
@@ -176,7 +176,7 @@ fn is_number(lexeme: Lexeme<'_>) -> bool
 /// The message of the place alone. The token that is refused is taken, unless it stands where a parenthesis has to close.
 #[inline(always)]
 fn blame<T: WktNum>(machine: Machine, tokens: &mut PeekableTokens<'_, T>) -> Message
-    requires stuck { IsStuck T.read machine (left tokens.now) }
+    requires stuck { IsStuck T.read machine (remaining tokens.now) }
     ensures message { (result, rest tokens.new) ≡ blamed T.read (expected_at (state_of machine).place machine.depth) (rest tokens.old) }
     ensures advances { Advances tokens.old tokens.new }
 {
@@ -204,11 +204,11 @@ fn close<T: WktNum>(message: Message, parens: usize, tokens: &mut PeekableTokens
     if parens == 0 {
         return message;
     }
-    close_apart(message, parens, tokens)
+    close_outlined(message, parens, tokens)
 }
 
 #[inline(never)]
-fn close_apart<T: WktNum>(
+fn close_outlined<T: WktNum>(
     message: Message,
     parens: usize,
     tokens: &mut PeekableTokens<'_, T>,
@@ -217,10 +217,10 @@ fn close_apart<T: WktNum>(
     ensures advances { Advances tokens.old tokens.new }
 {
     let mut reported = message;
-    let mut left = parens;
-    'parens: while left > 0 {
+    let mut remaining = parens;
+    'parens: while remaining > 0 {
         reported = closing::<T>(reported, tokens.take());
-        left -= 1;
+        remaining -= 1;
     }
     reported
 }
@@ -229,11 +229,11 @@ fn close_apart<T: WktNum>(
 /// it takes to say so.
 #[inline(always)]
 pub(crate) fn refused<T: WktNum>(machine: Machine, tokens: &mut PeekableTokens<'_, T>) -> Message
-    requires stuck { IsStuck T.read machine (left tokens.now) }
+    requires stuck { IsStuck T.read machine (remaining tokens.now) }
     ensures message { (result, rest tokens.new) ≡ refused T.read (state_of machine) (rest tokens.old) }
     ensures advances { Advances tokens.old tokens.new }
 {
-    refused_apart(
+    refused_outlined(
         machine.state,
         machine.part,
         machine.dim,
@@ -242,16 +242,16 @@ pub(crate) fn refused<T: WktNum>(machine: Machine, tokens: &mut PeekableTokens<'
     )
 }
 
-/// The same. The parts of the place come one by one, so that what fills it up isn't carried along.
+/// The message of refused tokens. The machine's parts come one by one, so that what fills it up isn't carried along.
 #[inline(never)]
-fn refused_apart<T: WktNum>(
+fn refused_outlined<T: WktNum>(
     state: State,
     part: Part,
     dim: Dimension,
     depth: usize,
     tokens: &mut PeekableTokens<'_, T>,
 ) -> Message
-    requires stuck { IsStuck T.read (record { state = state; part = part; dim = dim; depth = depth }) (left tokens.now) }
+    requires stuck { IsStuck T.read (record { state = state; part = part; dim = dim; depth = depth }) (remaining tokens.now) }
     ensures message { (result, rest tokens.new) ≡ refused T.read (state_of (record { state = state; part = part; dim = dim; depth = depth })) (rest tokens.old) }
     ensures advances { Advances tokens.old tokens.new }
 {

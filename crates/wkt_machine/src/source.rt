@@ -1,6 +1,6 @@
 //! Where lexemes come from.
 ghost use Rattle.std.specs.Prelude.{◌≡◌, ◌≢◌, ◌+◌, ◌≤◌, ℕ, [], length, IfOk, IfErr, false};
-ghost use Rattle.wkt_machine.specs.Goes.{Stays, Skips, Numbers, IsUnread, Goes, Refuses};
+ghost use Rattle.wkt_machine.specs.Goes.{Stays, Skips, MakesOneNumber, IsUnread, Goes, Refuses};
 ghost use Rattle.wkt_machine.specs.Machines.{state_of, IsSound};
 ghost use Rattle.wkt_machine.specs.Room.{HasRoom, RoomAt, HasNumberRoom, LeavesNumber};
 ghost use Rattle.wkt_machine.specs.Sight.{sight};
@@ -31,26 +31,26 @@ pub trait Source<T: WktNum>: Sized + Drop {
 
     /// The lexeme that comes next, which stays.
     fn look(self) -> (Seen, Self)
-        ensures seen { result.0 ≡ sight (view.left self) }
+        ensures seen { result.0 ≡ sight (view.remaining self) }
         ensures stays { Stays view self result.1 }
         ensures looked { view.looked result.1 };
 
     /// Past the lexeme that was looked at.
     fn skip(self) -> Self
         requires looked { view.looked self }
-        requires some { sight (view.left self) ≢ seen.Other }
-        requires word { sight (view.left self) ≢ seen.Number }
+        requires some { sight (view.remaining self) ≢ seen.Other }
+        requires word { sight (view.remaining self) ≢ seen.Number }
         ensures { Skips view self result };
 
     /// Past the number that was looked at, with what is made of it; or still before it, if its type doesn't read it.
     fn number<B: Builder<T>>(self, builder: B, axis: Axis) -> Result<(Self, B), (Self, B)>
         requires looked { view.looked self }
-        requires seen { sight (view.left self) ≡ seen.Number }
+        requires seen { sight (view.remaining self) ≡ seen.Number }
         requires room { HasNumberRoom view B.maker self builder }
-        ensures takes { IfOk result (λ r. Numbers T.read view B.maker self builder axis r.0 r.1) }
+        ensures takes { IfOk result (λ r. MakesOneNumber T.read view B.maker self builder axis r.0 r.1) }
         ensures leaves { IfOk result (λ r. LeavesNumber view B.maker self builder r.0 r.1) }
         ensures stays { IfErr result (λ r. Stays view self r.0) }
-        ensures unread { IfErr result (λ r. (k : view.Known) → view.keeps self k → IsUnread T.read (view.left self)) };
+        ensures unread { IfErr result (λ r. (k : view.Known) → view.keeps self k → IsUnread T.read (view.remaining self)) };
 }
 
 /// A source that takes in one go what begins in it.
@@ -58,16 +58,16 @@ pub trait Walk<T: WktNum>: Source<T> {
     /// After one lexeme or more: a geometry begins here.
     fn header<B: Builder<T>>(self, machine: Machine, builder: B) -> Walked<Self, B>
         requires state { machine.state ≡ next.Kind }
-        requires depth { machine.depth + length (Self.view.left self) ≤ usize.MAX }
+        requires depth { machine.depth + length (Self.view.remaining self) ≤ usize.MAX }
         requires room { HasRoom Self.view B.maker 0 self builder }
         ensures on { IfOk result (Goes T.read Self.view B.maker machine self builder) }
         ensures room { IfOk result (RoomAt Self.view B.maker) }
         ensures refused { IfErr result (Refuses T.read Self.view B.maker machine self builder) };
 
-    /// The same of the first geometry: so each has one place that calls it, into which it is built, however large it is.
+    /// Before the first lexeme: the geometry begins here. Each of the two has one caller, and is built into it.
     fn first<B: Builder<T>>(self, machine: Machine, builder: B) -> Walked<Self, B>
         requires state { machine.state ≡ next.Kind }
-        requires depth { machine.depth + length (Self.view.left self) ≤ usize.MAX }
+        requires depth { machine.depth + length (Self.view.remaining self) ≤ usize.MAX }
         requires room { HasRoom Self.view B.maker 0 self builder }
         ensures on { IfOk result (Goes T.read Self.view B.maker machine self builder) }
         ensures room { IfOk result (RoomAt Self.view B.maker) }
@@ -76,7 +76,7 @@ pub trait Walk<T: WktNum>: Source<T> {
     /// After one lexeme or more: a coordinate begins here.
     fn coordinates<B: Builder<T>>(self, machine: Machine, builder: B) -> Walked<Self, B>
         requires state { machine.state ≡ next.X }
-        requires depth { machine.depth + length (Self.view.left self) ≤ usize.MAX }
+        requires depth { machine.depth + length (Self.view.remaining self) ≤ usize.MAX }
         requires room { HasRoom Self.view B.maker 0 self builder }
         ensures on { IfOk result (Goes T.read Self.view B.maker machine self builder) }
         ensures room { IfOk result (RoomAt Self.view B.maker) }

@@ -20,29 +20,29 @@ use wkt_types::GeometryType;
 impl Machine {
     /// After one lexeme.
     ///
-    /// What it answers comes through memory, whose place is cleared here, away from the ways beside it.
+    /// What it returns comes through memory, whose place is cleared here, away from the ways beside it.
     #[inline(always)]
     pub fn step<T: WktNum, S: Source<T>, B: Builder<T>>(self, source: S, builder: B) -> Walked<S, B>
         requires sound { IsSound self }
         requires open { is_over (state_of self) ≡ false }
-        requires depth { self.depth + length (S.view.left source) ≤ usize.MAX }
+        requires depth { self.depth + length (S.view.remaining source) ≤ usize.MAX }
         requires room { HasRoom S.view B.maker (owed (state_of self)) source builder }
         ensures on { IfOk result (Goes T.read S.view B.maker self source builder) }
         ensures room { IfOk result (RoomAt S.view B.maker) }
         ensures refused { IfErr result (Refuses T.read S.view B.maker self source builder) }
     {
-        self.step_apart(source, builder)
+        self.step_outlined(source, builder)
     }
 
     #[inline(never)]
-    fn step_apart<T: WktNum, S: Source<T>, B: Builder<T>>(
+    fn step_outlined<T: WktNum, S: Source<T>, B: Builder<T>>(
         self,
         source: S,
         builder: B,
     ) -> Walked<S, B>
         requires sound { IsSound self }
         requires open { is_over (state_of self) ≡ false }
-        requires depth { self.depth + length (S.view.left source) ≤ usize.MAX }
+        requires depth { self.depth + length (S.view.remaining source) ≤ usize.MAX }
         requires room { HasRoom S.view B.maker (owed (state_of self)) source builder }
         ensures on { IfOk result (Goes T.read S.view B.maker self source builder) }
         ensures room { IfOk result (RoomAt S.view B.maker) }
@@ -72,7 +72,7 @@ impl Machine {
     ) -> Walked<S, B>
         requires state { self.state ≡ next.Kind }
         requires looked { S.view.looked source }
-        requires seen { seen ≡ sight (S.view.left source) }
+        requires seen { seen ≡ sight (S.view.remaining source) }
         requires room { HasRoom S.view B.maker 0 source builder }
         ensures on { IfOk result (Goes T.read S.view B.maker self source builder) }
         ensures room { IfOk result (RoomAt S.view B.maker) }
@@ -95,7 +95,7 @@ impl Machine {
     ) -> Walked<S, B>
         requires state { self.state ≡ next.Kind }
         requires looked { S.view.looked source }
-        requires seen { sees.Kind kind joined ≡ sight (S.view.left source) }
+        requires seen { sees.Kind kind joined ≡ sight (S.view.remaining source) }
         requires room { HasRoom S.view B.maker 0 source builder }
         ensures on { IfOk result (Goes T.read S.view B.maker self source builder) }
         ensures room { IfOk result (RoomAt S.view B.maker) }
@@ -126,8 +126,8 @@ impl Machine {
     ) -> Walked<S, B>
         requires state { self.state ≡ next.Dimension }
         requires looked { S.view.looked source }
-        requires seen { seen ≡ sight (S.view.left source) }
-        requires depth { self.depth + length (S.view.left source) ≤ usize.MAX }
+        requires seen { seen ≡ sight (S.view.remaining source) }
+        requires depth { self.depth + length (S.view.remaining source) ≤ usize.MAX }
         requires room { HasRoom S.view B.maker (header_cost self.part) source builder }
         ensures on { IfOk result (Goes T.read S.view B.maker self source builder) }
         ensures room { IfOk result (RoomAt S.view B.maker) }
@@ -164,8 +164,8 @@ impl Machine {
     ) -> Walked<S, B>
         requires state { self.state ≡ next.Opening }
         requires looked { S.view.looked source }
-        requires seen { seen ≡ sight (S.view.left source) }
-        requires depth { self.depth + length (S.view.left source) ≤ usize.MAX }
+        requires seen { seen ≡ sight (S.view.remaining source) }
+        requires depth { self.depth + length (S.view.remaining source) ≤ usize.MAX }
         requires room { HasRoom S.view B.maker 0 source builder }
         ensures on { IfOk result (Goes T.read S.view B.maker self source builder) }
         ensures room { IfOk result (RoomAt S.view B.maker) }
@@ -188,8 +188,8 @@ impl Machine {
     ) -> Walked<S, B>
         requires state { self.state ≡ next.Opening }
         requires looked { S.view.looked source }
-        requires seen { sees.Open ≡ sight (S.view.left source) }
-        requires depth { self.depth + length (S.view.left source) ≤ usize.MAX }
+        requires seen { sees.Open ≡ sight (S.view.remaining source) }
+        requires depth { self.depth + length (S.view.remaining source) ≤ usize.MAX }
         requires room { HasRoom S.view B.maker 0 source builder }
         ensures on { IfOk result (Goes T.read S.view B.maker self source builder) }
         ensures room { IfOk result (RoomAt S.view B.maker) }
@@ -207,7 +207,7 @@ impl Machine {
     ) -> Walked<S, B>
         requires state { self.state ≡ next.Opening }
         requires looked { S.view.looked source }
-        requires seen { sees.Empty ≡ sight (S.view.left source) }
+        requires seen { sees.Empty ≡ sight (S.view.remaining source) }
         requires room { HasRoom S.view B.maker 0 source builder }
         ensures on { IfOk result (Goes T.read S.view B.maker self source builder) }
         ensures room { IfOk result (RoomAt S.view B.maker) }
@@ -225,7 +225,7 @@ impl Machine {
     ) -> Walked<S, B>
         requires state { self.state ≡ next.Opening }
         requires looked { S.view.looked source }
-        requires seen { sees.Number ≡ sight (S.view.left source) }
+        requires seen { sees.Number ≡ sight (S.view.remaining source) }
         requires room { HasRoom S.view B.maker 0 source builder }
         ensures on { IfOk result (Goes T.read S.view B.maker self source builder) }
         ensures room { IfOk result (RoomAt S.view B.maker) }
@@ -243,7 +243,7 @@ impl Machine {
         requires state { self.state ≡ next.Opening }
         requires part { self.part ≡ member.Member }
         requires looked { S.view.looked source }
-        requires seen { sees.Number ≡ sight (S.view.left source) }
+        requires seen { sees.Number ≡ sight (S.view.remaining source) }
         requires room { HasRoom S.view B.maker 0 source builder }
         ensures on { IfOk result (Goes T.read S.view B.maker self source builder) }
         ensures room { IfOk result (RoomAt S.view B.maker) }
@@ -267,7 +267,7 @@ impl Machine {
         requires sound { IsSound self }
         requires axis { self.state ≡ state_for axis }
         requires looked { S.view.looked source }
-        requires seen { seen ≡ sight (S.view.left source) }
+        requires seen { seen ≡ sight (S.view.remaining source) }
         requires room { HasRoom S.view B.maker 0 source builder }
         ensures on { IfOk result (Goes T.read S.view B.maker self source builder) }
         ensures room { IfOk result (RoomAt S.view B.maker) }
@@ -290,7 +290,7 @@ impl Machine {
         requires sound { IsSound self }
         requires axis { self.state ≡ state_for axis }
         requires looked { S.view.looked source }
-        requires seen { sees.Number ≡ sight (S.view.left source) }
+        requires seen { sees.Number ≡ sight (S.view.remaining source) }
         requires room { HasRoom S.view B.maker 0 source builder }
         ensures on { IfOk result (Goes T.read S.view B.maker self source builder) }
         ensures room { IfOk result (RoomAt S.view B.maker) }
@@ -333,8 +333,8 @@ impl Machine {
     ) -> Walked<S, B>
         requires state { self.state ≡ next.Item }
         requires looked { S.view.looked source }
-        requires seen { seen ≡ sight (S.view.left source) }
-        requires depth { self.depth + length (S.view.left source) ≤ usize.MAX }
+        requires seen { seen ≡ sight (S.view.remaining source) }
+        requires depth { self.depth + length (S.view.remaining source) ≤ usize.MAX }
         requires room { HasRoom S.view B.maker 0 source builder }
         ensures on { IfOk result (Goes T.read S.view B.maker self source builder) }
         ensures room { IfOk result (RoomAt S.view B.maker) }
@@ -352,8 +352,8 @@ impl Machine {
     fn at_comma<T: WktNum, S: Source<T>, B: Builder<T>>(self, source: S, builder: B) -> Walked<S, B>
         requires state { self.state ≡ next.Item }
         requires looked { S.view.looked source }
-        requires seen { sees.Comma ≡ sight (S.view.left source) }
-        requires depth { self.depth + length (S.view.left source) ≤ usize.MAX }
+        requires seen { sees.Comma ≡ sight (S.view.remaining source) }
+        requires depth { self.depth + length (S.view.remaining source) ≤ usize.MAX }
         requires room { HasRoom S.view B.maker 0 source builder }
         ensures on { IfOk result (Goes T.read S.view B.maker self source builder) }
         ensures room { IfOk result (RoomAt S.view B.maker) }
@@ -376,7 +376,7 @@ impl Machine {
     ) -> Walked<S, B>
         requires state { self.state ≡ next.Geometry }
         requires looked { S.view.looked source }
-        requires seen { seen ≡ sight (S.view.left source) }
+        requires seen { seen ≡ sight (S.view.remaining source) }
         requires inner { 0 < self.depth }
         requires room { HasRoom S.view B.maker 0 source builder }
         ensures on { IfOk result (Goes T.read S.view B.maker self source builder) }

@@ -16,7 +16,7 @@ use wkt_num::WktNum;
 use wkt_read::{Message, ReadError};
 use wkt_types::Wkt;
 
-/// The geometry at the front of the text, and where its last lexeme ends, in bytes: what `Wkt::read_front` answers. It
+/// The geometry at the front of the text, and where its last lexeme ends, in bytes: what `Wkt::read_front` returns. It
 /// looks at bytes behind the front, and is faster.
 ///
 /// # Errors
@@ -38,7 +38,7 @@ pub fn read_text<T: WktNum>(alloc: Global, text: &str) -> Result<(Wkt<T>, usize)
     front_of(alloc, text)
 }
 
-/// The same, by the machine, of any text.
+/// The geometry at the front of any text, and where its last lexeme ends, by the machine.
 #[inline(always)]
 fn front_of<T: WktNum>(alloc: Global, text: &str) -> Result<(Wkt<T>, usize), ReadError>
     ensures found { IfOk result (λ r. IsFrontTo T.read text.now (tree r.0) r.1) }

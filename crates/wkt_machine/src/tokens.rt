@@ -11,7 +11,7 @@ ghost use Rattle.wkt_machine.specs.TokensView.{seen_found, tokens_of, tokens_vie
 ghost use Rattle.wkt_machine.specs.declared.machine.State.TheVariants as next;
 ghost use Rattle.std.specs.Prelude.{MatchOption};
 ghost use Rattle.std.specs.Bool.{OnFalse};
-ghost use Rattle.wkt_read.specs.Ahead.{first_of, left};
+ghost use Rattle.wkt_read.specs.Ahead.{first_of, remaining};
 ghost use Rattle.wkt_read.specs.Taking.{Looks};
 ghost use Rattle.wkt_machine.specs.TokensView.{NoKind};
 
@@ -118,7 +118,7 @@ impl<'t, 'a, T: WktNum> Source<T> for OneByOne<'t, 'a, T> {
 #[inline(never)]
 fn has_kind<T: WktNum>(tokens: &mut PeekableTokens<'_, T>) -> bool
     ensures looks { Looks tokens.old tokens.new }
-    ensures none { OnFalse result (NoKind (first_of (left tokens.old))) }
+    ensures none { OnFalse result (NoKind (first_of (remaining tokens.old))) }
 {
     match tokens.look() {
         Lexeme::Word(word) => match kind_of(word) {
@@ -137,7 +137,7 @@ fn kindless<'t, 'a, T: WktNum, B: Builder<T>>(
     builder: B,
 ) -> Walked<OneByOne<'t, 'a, T>, B>
     requires state { machine.state ≡ next.Kind }
-    requires depth { machine.depth + length (tokens_view.left source) ≤ usize.MAX }
+    requires depth { machine.depth + length (tokens_view.remaining source) ≤ usize.MAX }
     requires room { HasRoom tokens_view B.maker 0 source builder }
     ensures on { IfOk result (Goes T.read tokens_view B.maker machine source.entry builder) }
     ensures room { IfOk result (RoomAt tokens_view B.maker) }
@@ -161,7 +161,7 @@ fn header<'t, 'a, T: WktNum, B: Builder<T>, const INNER: bool>(
     builder: B,
 ) -> Walked<OneByOne<'t, 'a, T>, B>
     requires state { machine.state ≡ next.Kind }
-    requires depth { machine.depth + length (tokens_view.left source) ≤ usize.MAX }
+    requires depth { machine.depth + length (tokens_view.remaining source) ≤ usize.MAX }
     requires room { HasRoom tokens_view B.maker 0 source builder }
     ensures on { IfOk result (Goes T.read tokens_view B.maker machine source.entry builder) }
     ensures room { IfOk result (RoomAt tokens_view B.maker) }
@@ -205,7 +205,7 @@ impl<'t, 'a, T: WktNum> Walk<T> for OneByOne<'t, 'a, T> {
     }
 
     #[inline(always)]
-    #[tactic(auto, using(crate::proofs::TokenViews::x_open, crate::proofs::TokenViews::x_sound, crate::proofs::Rooms::x_room))]
+    #[tactic(auto, using(crate::proofs::TokenViews::x_open, crate::proofs::TokenViews::x_sound, crate::proofs::RoomForRest::x_room))]
     fn coordinates<B: Builder<T>>(self, machine: Machine, builder: B) -> Walked<Self, B> {
         match machine.dim {
             Dimension::XY if has_coordinates(machine.part) => pairs(machine, self, builder),

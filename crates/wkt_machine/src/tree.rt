@@ -2,7 +2,7 @@
 ghost use Rattle.std.specs.Prelude.{◌≡◌, ◌++◌, ◌∷◌, [], if◌then◌else◌, true, false, None, IfSome};
 ghost use Rattle.wkt_access.specs.declared.dimensions.Dimension.TheVariants.{XY};
 ghost use Rattle.wkt_machine.specs.Growing.{HasMember, HasNumbers, HasPoint, MayEnd, MayJoin, MayOpen, MayBeEmpty, ended, headed, joined, lists_end, lists_items, opened, rest, with_coord, with_item, with_line, with_number, with_point, without_items};
-ghost use Rattle.wkt_machine.specs.Trees.{Becomes, Gives, GivesLast, Holds, IsPair, Joins, coord_of};
+ghost use Rattle.wkt_machine.specs.Trees.{Becomes, TreeGives, GivesLast, Holds, IsPair, Joins, coord_of};
 ghost use Rattle.wkt_machine.specs.declared.part.Part.TheVariants as kind;
 
 use crate::adding::{add, add_flat, add_one, taken};
@@ -149,7 +149,7 @@ impl<T: WktNum> Tree<T> {
         }
     }
 
-    /// The same of any dimension.
+    /// Ends a coordinate of any dimension.
     #[inline(never)]
     fn end_high_coord(&mut self)
         ensures { Becomes true HasNumbers with_coord self.old self.new }
@@ -225,7 +225,7 @@ impl<T: WktNum> Tree<T> {
     /// The geometry that ended last.
     #[inline(always)]
     pub(crate) fn geometry(&mut self) -> Wkt<T>
-        ensures { Gives self.old result self.new }
+        ensures { TreeGives self.old result self.new }
     {
         let (alloc, dim) = (self.alloc, self.dim);
         match self.last {

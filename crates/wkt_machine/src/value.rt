@@ -2,7 +2,7 @@
 ghost use Rattle.std.specs.Prelude.{◌≤◌, length, IfOk};
 ghost use Rattle.wkt_types.specs.Tree.{tree};
 ghost use Rattle.wkt_machine.specs.Growers.{tree_of};
-ghost use Rattle.wkt_machine.specs.Values.{Answers, IsRead, IsRefused, OnRefused, OnMemory, WantsMemory};
+ghost use Rattle.wkt_machine.specs.Values.{AnswersTree, IsRead, MachineRefuses, OnRefused, OnMemory, WantsMemory};
 
 use crate::drive::drive;
 use crate::machine::Machine;
@@ -24,7 +24,7 @@ pub enum Unread {
 /// What has grown.
 #[inline(always)]
 fn answer<T: WktNum>(grower: Grower<'_, T>) -> Result<Wkt<T>, Unread>
-    ensures { Answers (tree_of grower.entry).now result }
+    ensures { AnswersTree (tree_of grower.entry).now result }
 {
     let tree = grower.into_tree();
     if tree.is_lost() {
@@ -39,9 +39,9 @@ fn answer<T: WktNum>(grower: Grower<'_, T>) -> Result<Wkt<T>, Unread>
 /// `Refused` where no geometry comes next; `Memory` where memory ran out, which a point and what is EMPTY don't need.
 #[inline(always)]
 pub fn read<T: WktNum, S: Walk<T>>(alloc: Global, source: S) -> (Result<Wkt<T>, Unread>, S)
-    requires room { length (S.view.left source) ≤ usize.MAX }
+    requires room { length (S.view.remaining source) ≤ usize.MAX }
     ensures found { IfOk result.0 (λ w. IsRead T.read S.view source (tree w) result.1) }
-    ensures refused { OnRefused result.0 (λ m. IsRefused T.read S.view source m result.1) }
+    ensures refused { OnRefused result.0 (λ m. MachineRefuses T.read S.view source m result.1) }
     ensures memory { OnMemory result.0 (WantsMemory T.read S.view source result.1) }
 {
     let mut tree = Tree::new(alloc);

@@ -264,7 +264,7 @@ fn nested_collections(rt: HostRuntime) -> Result<(), AllocError> {
         "GEOMETRYCOLLECTION(GEOMETRYCOLLECTION(POINT EMPTY,POINT(1 2)),GEOMETRYCOLLECTION(MULTIPOINT(1 2),GEOMETRYCOLLECTION EMPTY))";
     let none = Ok(point(None, Dimension::XY));
     let one = Ok(point(Some(xy(1, 2)), Dimension::XY));
-    let left = collection(none, one, alloc, Dimension::XY);
+    let remaining = collection(none, one, alloc, Dimension::XY);
     let several = points(alloc, &[Some(xy(1, 2))], Dimension::XY);
     let right = collection(
         several,
@@ -276,7 +276,7 @@ fn nested_collections(rt: HostRuntime) -> Result<(), AllocError> {
         &rt,
         alloc,
         text,
-        collection(left, right, alloc, Dimension::XY),
+        collection(remaining, right, alloc, Dimension::XY),
     )
 }
 

@@ -20,7 +20,7 @@ use Rattle.wkt_num.specs.Kept.{StopsRun, KeepsText, StandsFirst}
 use Rattle.wkt_num.specs.Padded.{zeros, EndsInDigit}
 use Rattle.wkt_num.specs.Parts.{IsWholePart, HasZeros, IsFraction, IsDecimalText}
 use Rattle.wkt_num.proofs.Padded.{length-padded, pads, last-digit}
-use Rattle.wkt_num.proofs.Found.{end, end-is, within, stops, minus, sign-is, sign-minus, digits, is-some, is-few, starts, zero-alone, past, seam-range, digit-in, not-both, no-digit, one-end, one-first, test-range, first-of}
+use Rattle.wkt_num.proofs.FirstTextFound.{end, end-is, within, stops, minus, sign-is, sign-minus, digits, is-some, is-few, starts, zero-alone, past, seam-range, digit-in, not-both, no-digit, one-end, one-first, test-range, first-of}
 
 -- ---- the text has these parts
 

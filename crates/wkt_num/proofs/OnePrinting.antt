@@ -17,8 +17,8 @@ use Rattle.wkt_num.specs.Units.{after_split, ten_pos}
 use Rattle.wkt_num.specs.DecimalLaws.{value_append, fraction_value}
 use Rattle.wkt_num.specs.Printing.{IsPrinted, point_and}
 use Rattle.wkt_num.proofs.Padded.{last-digit}
-use Rattle.wkt_num.proofs.Found.{first_decimal}
-use Rattle.wkt_num.proofs.Shown.{digit-is, decimal-is, value-some, value-less, fraction-is, magnitude-is}
+use Rattle.wkt_num.proofs.FirstTextFound.{first_decimal}
+use Rattle.wkt_num.proofs.TextInsideText.{digit-is, decimal-is, value-some, value-less, fraction-is, magnitude-is}
 
 -- the number of digits before and behind a point
 joined : (ws fs : List ℕ) → digits_value 10 (ws ++ fs) ≡ digits_value 10 ws * 10 ^ length fs + digits_value 10 fs

@@ -11,7 +11,7 @@ use borrow.Author.Tests.{eq-eqb, ne_eqb}
 use Rattle.wkt_num.specs.Decimal.{fraction_digits, fraction_text, magnitude_text}
 use Rattle.wkt_num.specs.Units.{ten_pos}
 use Rattle.wkt_num.specs.Fraction.{fraction-bytes}
-use Rattle.wkt_num.proofs.Piece.{piece, whole-ascii}
+use Rattle.wkt_num.proofs.ArrayPiece.{piece, whole-ascii}
 
 -- a shift, and a division by the power of five
 pub whole-is : (u D : ℕ) → u / 2 ^ D / 5 ^ D ≡ u / 10 ^ D

@@ -11,8 +11,8 @@ use Rattle.wkt_num.specs.Whole.{read_signed, read_unsigned}
 use Rattle.wkt_num.specs.WholeLaws.{first_digit, read_signed_minus, read_signed_plain, read_unsigned_some}
 use Rattle.wkt_num.specs.Kept.{KeepsText}
 use Rattle.wkt_num.specs.Parts.{IsWholeText}
-use Rattle.wkt_num.proofs.Shown.{decimal-is}
-use Rattle.wkt_num.proofs.Placed.{take-range, length-range, first-range, stops-at, text-run, value-first}
+use Rattle.wkt_num.proofs.TextInsideText.{decimal-is}
+use Rattle.wkt_num.proofs.DecimalParts.{take-range, length-range, first-range, stops-at, text-run, value-first}
 
 module _ (k most : ℕ) (bs : List ℕ) (end : ℕ) (fits : 10 ^ most ≤ 2 ^ k) (narrow : k ≤ 128) (h : IsWholeText most bs end) where
   abbrev ws : List ℕ

@@ -85,13 +85,13 @@ module _ {W : Type 0} (gives : W → List ℕ → W → Type 0) where
   }
 
   -- The formatter wrote the bytes whatever its options, if it indents nothing.
-  abbrev pub Shows : Formatter W → List ℕ → Formatter W → Type 0
-  Shows f bs g = IsFlush f → HasWrittenStyled gives f bs g
+  abbrev pub ShowsThrough : Formatter W → List ℕ → Formatter W → Type 0
+  ShowsThrough f bs g = IsFlush f → HasWrittenStyled gives f bs g
 
-  pub shows_none : (f : Formatter W) → Shows f [] f
+  pub shows_none : (f : Formatter W) → ShowsThrough f [] f
   shows_none f = λ flush. record { wrote = calls_none f.writer; spec = refl; flush = flush }
 
-  pub shows_more : (f g h : Formatter W) (bs cs : List ℕ) → Shows f bs g → Shows g cs h → Shows f (bs ++ cs) h
+  pub shows_more : (f g h : Formatter W) (bs cs : List ℕ) → ShowsThrough f bs g → ShowsThrough g cs h → ShowsThrough f (bs ++ cs) h
   shows_more f g h bs cs p q = λ flush.
       let one = p flush in
       let two = q one.flush in

@@ -35,6 +35,6 @@ pub record StandsFirst (text bs : List ℕ) : Type 0 where
 abbrev pub FindsTexts : {T : Type 0} → (T → List ℕ) → (T → Type 0) → List ℕ → Option (ℕ × ℕ) → Type 0
 FindsTexts num IsSuch bs found = (x : _) → IsSuch x → StandsFirst (num x) bs → found ≡ Some (length (num x), length (num x))
 
--- The same of texts of less than 32 bytes.
+-- Where a text of less than 32 bytes of such a number stands first, it is found, and all of it is kept.
 abbrev pub FindsShort : {T : Type 0} → (T → List ℕ) → (T → Type 0) → List ℕ → Option (ℕ × ℕ) → Type 0
 FindsShort num IsSuch = FindsTexts num (λ x. IsSuch x × (length (num x) < 32))

@@ -61,7 +61,7 @@ pub record ShowsWhole (most : ℕ) (bs : List ℕ) (first number end : ℕ) : Ty
   pub stops : class_of (slice_index bs end) ≢ Run
 
 -- No zero stands first or last, nor the point, and all is so short that the units fit.
-pub record IsPlain (D : ℕ) (bs : List ℕ) (first end : ℕ) : Type 0 where
+pub record IsPlainDecimal (D : ℕ) (bs : List ℕ) (first end : ℕ) : Type 0 where
   pub starts : 48 < slice_index bs first
   pub last : 48 < slice_index bs (end - 1)
   pub short : end ≤ D + 2

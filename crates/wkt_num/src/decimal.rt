@@ -9,7 +9,7 @@ ghost use Rattle.wkt_num.specs.DecimalLaws.{decimal_reads_back, decimal_reads_va
 
 use crate::formatted::FormatterText;
 use crate::in_window::units_in_window;
-use crate::kept::kept_in_window;
+use crate::kept::canonical_prefix_simd;
 use crate::number::WktNum;
 use crate::printing::write_units;
 use crate::reading::{read_signed, split_sign};
@@ -157,13 +157,13 @@ impl<const D: u32> WktNum for Decimal<D> {
     }
 
     #[inline(always)]
-    fn kept_in_window(bytes: &[u8]) -> Option<(usize, usize)>
+    fn canonical_prefix_simd(bytes: &[u8]) -> Option<(usize, usize)>
         requires { 32 ≤ length bytes.now }
         ensures keeps { IfSome result (λ r. KeepsText (read_decimal 127 36 D) (decimal_text D) bytes.now r.0 r.1) }
         ensures within { IfSome result (λ r. r.0 < 32) }
         ensures finds { FindsShort (decimal_text D) (IsShortDecimal D) bytes.now result }
     {
-        kept_in_window(D, bytes)
+        canonical_prefix_simd(D, bytes)
     }
 
     #[inline(always)]

@@ -19,7 +19,7 @@ pub fn write_whole<W: TextSink>(negative: bool, n: u128, f: &mut W) -> fmt::Resu
     f.write_str(unsafe { str::from_utf8_unchecked(&out[start..40]) })
 }
 
-/// Puts a minus if `negative` and the digits of `n` before place 40, and answers where they start.
+/// Puts a minus if `negative` and the digits of `n` before place 40, and returns where they start.
 pub fn put_whole(negative: bool, n: u128, out: &mut [u8; 80]) -> usize
     ensures bound { result ≤ 40 }
     ensures value { drop result out.new ≡ sign_text negative ++ decimal n ++ drop 40 out.old }
@@ -28,7 +28,7 @@ pub fn put_whole(negative: bool, n: u128, out: &mut [u8; 80]) -> usize
     put_minus(negative, start, out)
 }
 
-/// Puts a minus before `start` if `negative`, and answers where the text starts then.
+/// Puts a minus before `start` if `negative`, and returns where the text starts then.
 #[inline(always)]
 fn put_minus(negative: bool, start: usize, out: &mut [u8; 80]) -> usize
     requires some { 1 ≤ start }
@@ -43,7 +43,7 @@ fn put_minus(negative: bool, start: usize, out: &mut [u8; 80]) -> usize
     start - 1
 }
 
-/// Puts a minus if `negative` and the digits of `n`, in 64 bits, before place 40, and answers where they start.
+/// Puts a minus if `negative` and the digits of `n`, in 64 bits, before place 40, and returns where they start.
 #[inline(always)]
 pub fn put_small_whole(negative: bool, n: u64, out: &mut [u8; 80]) -> usize
     ensures bound { result ≤ 40 }
@@ -53,7 +53,7 @@ pub fn put_small_whole(negative: bool, n: u64, out: &mut [u8; 80]) -> usize
     put_minus(negative, start, out)
 }
 
-/// Puts the digits of `n`, in 64 bits, before place 40, and answers where they start.
+/// Puts the digits of `n`, in 64 bits, before place 40, and returns where they start.
 #[inline(always)]
 fn put_few(n: u64, out: &mut [u8; 80]) -> usize
     ensures sign { 1 ≤ result }
@@ -67,7 +67,7 @@ fn put_few(n: u64, out: &mut [u8; 80]) -> usize
     }
 }
 
-/// The same of a number below 1000.
+/// Puts the digits of a number below 1000 before place 40, and returns where they start.
 #[inline(always)]
 fn put_three(n: u32, out: &mut [u8; 80]) -> usize
     requires { n < 1000 }
@@ -90,7 +90,7 @@ fn put_three(n: u32, out: &mut [u8; 80]) -> usize
     37
 }
 
-/// Puts the digits of `n` before place 40, and answers where they start.
+/// Puts the digits of `n` before place 40, and returns where they start.
 fn put_digits(n: u128, out: &mut [u8; 80]) -> usize
     ensures sign { 1 ≤ result }
     ensures bound { result ≤ 40 }
@@ -106,7 +106,7 @@ fn put_digits(n: u128, out: &mut [u8; 80]) -> usize
     put_short(rest as u64, end, out)
 }
 
-/// Puts the digits of `n` before `end`, and answers where they start.
+/// Puts the digits of `n` before `end`, and returns where they start.
 fn put_short(n: u64, end: usize, out: &mut [u8; 80]) -> usize
     requires some { 2 ≤ end }
     requires within { end ≤ 40 }

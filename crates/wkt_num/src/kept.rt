@@ -7,7 +7,7 @@ ghost use Rattle.std.specs.Str.Parse.{AllDigits};
 ghost use Rattle.wkt_num.specs.Bytes.{class_of, Run};
 ghost use Rattle.wkt_num.specs.Decimal.{read_decimal, decimal_text};
 ghost use Rattle.wkt_num.specs.Kept.{KeepsText};
-ghost use Rattle.wkt_num.specs.Parts.{IsWholePart, IsDecimalText, IsPlain, HasZeros, IsFirstOther, others_mask};
+ghost use Rattle.wkt_num.specs.Parts.{IsWholePart, IsDecimalText, IsPlainDecimal, HasZeros, IsFirstOther, others_mask};
 
 use crate::powers::SHORT_PLACES;
 use std::simd::prelude::*;
@@ -18,7 +18,7 @@ const MOST_WHOLE: usize = 20;
 /// Where the number run that the bytes begin with ends, and where its number's text does, if the run ends in a window. Each
 /// text that is printed and ends there is found, if it has at most 18 places and at most 20 digits before the point.
 #[inline(always)]
-pub fn kept_in_window(places: u32, bytes: &[u8]) -> Option<(usize, usize)>
+pub fn canonical_prefix_simd(places: u32, bytes: &[u8]) -> Option<(usize, usize)>
     requires { 32 ≤ length bytes.now }
     ensures keeps { IfSome result (λ r. KeepsText (read_decimal 127 36 places) (decimal_text places) bytes.now r.0 r.1) }
     ensures within { IfSome result (λ r. r.0 < 32) }
@@ -162,7 +162,7 @@ fn is_whole_part(bytes: &[u8], first: usize, point: usize) -> bool
 fn is_plain(places: u32, bytes: &[u8], first: usize, end: usize) -> bool
     requires order { first < end }
     requires within { end ≤ length bytes.now }
-    ensures { OnTrue result (IsPlain places bytes.now first end) }
+    ensures { OnTrue result (IsPlainDecimal places bytes.now first end) }
 {
     bytes[first] > b'0' && bytes[end - 1] > b'0' && end <= places as usize + 2
 }

@@ -21,7 +21,7 @@ pub fn last_digits(body: &[u8], count: usize) -> Option<u64>
     }
 }
 
-/// The same of at most eight bytes, of a text that has eight.
+/// The number that at most eight last bytes spell, if they are digits, of a text that has eight.
 #[inline(always)]
 fn last_8(body: &[u8], count: usize) -> Option<u64>
     requires { (8 ≤ length body.now) × (count ≤ 8) }
@@ -35,7 +35,7 @@ fn last_8(body: &[u8], count: usize) -> Option<u64>
     Some(number_8(digits))
 }
 
-/// The same of at most sixteen bytes, of a text that has sixteen.
+/// The number that at most sixteen last bytes spell, if they are digits, of a text that has sixteen.
 #[inline(always)]
 fn last_16(body: &[u8], count: usize) -> Option<u64>
     requires { (16 ≤ length body.now) × (count ≤ 16) }
@@ -65,7 +65,7 @@ fn lanes_8(body: &[u8], count: usize) -> u8x8
     (bytes - u8x8::splat(48)) & u8x8::from_slice(&KEEP[8 + count..])
 }
 
-/// The same in sixteen lanes.
+/// The last `count` bytes less 48, after lanes of 0, in sixteen lanes.
 #[inline(always)]
 fn lanes_16(body: &[u8], count: usize) -> u8x16
     requires { (16 ≤ length body.now) × (count ≤ 16) }

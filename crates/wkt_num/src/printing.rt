@@ -29,7 +29,7 @@ pub fn write_units<W: TextSink>(places: u32, negative: bool, units: u128, f: &mu
     write_large(places, negative, units, f)
 }
 
-/// The same where the whole part fits 64 bits even before the division by the power of five.
+/// Writes units where the whole part fits 64 bits even before the division by the power of five: the fast path.
 #[inline(always)]
 fn write_small<W: TextSink>(places: u32, negative: bool, units: u128, f: &mut W) -> fmt::Result
     requires few { places ≤ 18 }
@@ -42,7 +42,7 @@ fn write_small<W: TextSink>(places: u32, negative: bool, units: u128, f: &mut W)
     f.write_str(unsafe { str::from_utf8_unchecked(&out[start..end]) })
 }
 
-/// Puts the text around the point, which stands at place 40, and answers where it starts and ends.
+/// Puts the text around the point, which stands at place 40, and returns where it starts and ends.
 #[inline(always)]
 #[tactic(auto, using(crate::proofs::Printed::fraction_less))]
 fn put_small(places: u32, negative: bool, units: u128, out: &mut [u8; 80]) -> (usize, usize)
@@ -59,7 +59,7 @@ fn put_small(places: u32, negative: bool, units: u128, out: &mut [u8; 80]) -> (u
     (start, end)
 }
 
-/// Puts the digits after the point, and answers where the fraction ends: before the point if it is 0.
+/// Puts the digits after the point, and returns where the fraction ends: before the point if it is 0.
 #[inline(always)]
 fn put_small_fraction(places: u32, fraction: u64, out: &mut [u8; 80]) -> usize
     requires few { places ≤ 18 }
@@ -75,7 +75,7 @@ fn put_small_fraction(places: u32, fraction: u64, out: &mut [u8; 80]) -> usize
     put_short(places, fraction, out)
 }
 
-/// The same for any units.
+/// Writes any units: the slow path.
 #[inline(never)]
 fn write_large<W: TextSink>(places: u32, negative: bool, units: u128, f: &mut W) -> fmt::Result
     requires { places ≤ 36 }
@@ -87,7 +87,7 @@ fn write_large<W: TextSink>(places: u32, negative: bool, units: u128, f: &mut W)
     f.write_str(unsafe { str::from_utf8_unchecked(&out[start..end]) })
 }
 
-/// Puts the text around the point, which stands at place 40, and answers where it starts and ends.
+/// Puts the text around the point, which stands at place 40, and returns where it starts and ends.
 #[inline(always)]
 #[tactic(auto, using(crate::proofs::Printed::fraction_less))]
 fn put_units(places: u32, negative: bool, units: u128, out: &mut [u8; 80]) -> (usize, usize)
@@ -114,7 +114,8 @@ fn split_units(places: u32, units: u128) -> (u128, u128)
     (units / unit, units % unit)
 }
 
-/// The same where the whole part fits 64 bits even before the division by the power of five.
+/// The whole part and the units of the fraction, where the whole part fits 64 bits even before the division by the
+/// power of five.
 #[inline(always)]
 fn split_short(places: u32, units: u128) -> (u64, u64)
     requires few { places ≤ 18 }
@@ -127,7 +128,7 @@ fn split_short(places: u32, units: u128) -> (u64, u64)
     (whole, fraction as u64)
 }
 
-/// Puts the digits after the point, and answers where the fraction ends: before the point if it is 0.
+/// Puts the digits after the point, and returns where the fraction ends: before the point if it is 0.
 #[inline(always)]
 fn put_fraction(places: u32, fraction: u128, out: &mut [u8; 80]) -> usize
     requires few { places ≤ 36 }
@@ -147,7 +148,7 @@ fn put_fraction(places: u32, fraction: u128, out: &mut [u8; 80]) -> usize
     }
 }
 
-/// Puts the digits after the point, and answers where they end.
+/// Puts the digits after the point, and returns where they end.
 ///
 /// The fraction is first made one of 18 places, of which sixteen are put at once, or eight if the others are 0.
 #[inline(always)]
@@ -243,7 +244,7 @@ fn sixteen(n: u64) -> u8x16
     )
 }
 
-/// The same of four numbers.
+/// The sixteen digits of four numbers of four digits each.
 #[inline(always)]
 fn four_fours(a: u32, b: u32, c: u32, d: u32) -> u8x16
     requires { (a < 10000) × (b < 10000) × (c < 10000) × (d < 10000) }
@@ -261,7 +262,7 @@ fn four_fours(a: u32, b: u32, c: u32, d: u32) -> u8x16
     digits + u8x16::splat(48)
 }
 
-/// The same of sixteen digits.
+/// How many of sixteen digits are the last zeros.
 #[inline(always)]
 fn zeros_after(digits: u8x16) -> usize
     ensures { result ≡ prefix_len (λ b. not (not (b == 48))) (reverse digits) }
@@ -288,7 +289,7 @@ fn without_zeros(out: &[u8; 80], end: usize) -> usize
     at
 }
 
-/// The same where ten times a rest needs 128 bits.
+/// Puts the digits after the point where ten times a rest needs 128 bits, and returns where they end.
 fn put_long(places: u32, fraction: u128, out: &mut [u8; 80]) -> usize
     requires few { places ≤ 36 }
     requires less { fraction < 10 ^ places }

@@ -4,7 +4,7 @@ ghost use Rattle.std.specs.Char.{is_ascii_digit};
 ghost use Rattle.std.specs.Str.Parse.{starts_with_minus, without_leading_sign};
 ghost use Rattle.wkt_num.specs.Whole.{keep_if};
 ghost use Rattle.wkt_num.specs.Decimal.{read_magnitude, with_sign, and_then};
-ghost use Rattle.wkt_num.specs.Near.{ReadsDigits};
+ghost use Rattle.wkt_num.specs.FastUnits.{ReadsDigits};
 
 use crate::lanes::last_digits;
 use crate::powers::{SHORT_PLACES, ten_to};
@@ -31,27 +31,27 @@ pub fn read_signed(places: u32, negative: bool, body: &[u8]) -> Option<i128>
     if body.len() < VECTOR_BYTES {
         return match read_few(places, body) {
             Some(units) => with_sign(negative, units),
-            None => read_apart(places, negative, body),
+            None => slow_read(places, negative, body),
         };
     }
-    match read_near(places, body) {
+    match fast_read(places, body) {
         Some(units) => with_sign(negative, units),
-        None => read_apart(places, negative, body),
+        None => slow_read(places, negative, body),
     }
 }
 
-/// The same for a body of any form. What it answers comes through memory, whose place is cleared here, away
-/// from those before it, which answer in registers.
+/// The slow path, for a body of any form. What it returns comes through memory, whose place is cleared here, away from
+/// the fast paths, which return in registers.
 #[inline(always)]
-fn read_apart(places: u32, negative: bool, body: &[u8]) -> Option<i128>
+fn slow_read(places: u32, negative: bool, body: &[u8]) -> Option<i128>
     requires { places ≤ 36 }
     ensures { result ≡ and_then (read_magnitude (2 ^ 127) places body.now) (with_sign 127 negative) }
 {
-    read_other(places, negative, body)
+    slow_read_outlined(places, negative, body)
 }
 
 #[inline(never)]
-fn read_other(places: u32, negative: bool, body: &[u8]) -> Option<i128>
+fn slow_read_outlined(places: u32, negative: bool, body: &[u8]) -> Option<i128>
     requires { places ≤ 36 }
     ensures { result ≡ and_then (read_magnitude (2 ^ 127) places body.now) (with_sign 127 negative) }
 {
@@ -120,7 +120,7 @@ fn few_digits(body: &[u8]) -> (u64, usize)
 
 /// The units by vectors, for a body of common length around a point. `None` implies nothing about the body.
 #[inline(always)]
-fn read_near(places: u32, body: &[u8]) -> Option<u128>
+fn fast_read(places: u32, body: &[u8]) -> Option<u128>
     ensures { IfSome result (λ units. read_magnitude (2 ^ 127) places body.now ≡ Some units) }
 {
     if places > SHORT_PLACES || body.len() > SHORT_BYTES || body.len() < VECTOR_BYTES {
@@ -140,8 +140,8 @@ fn read_near(places: u32, body: &[u8]) -> Option<u128>
     Some(u128::from(whole) * u128::from(ten_to(places)) + u128::from(fraction * shift))
 }
 
-/// The same in 64 bits, for a short body of digits, or of digits around a point with at most `places`
-/// after it. `None` implies nothing about the body: it is then read in the plain way.
+/// The units in 64 bits, for a short body of digits, or of digits around a point with at most `places` after it. `None`
+/// implies nothing about the body: it is then read in the plain way.
 #[inline(always)]
 fn read_short(places: u32, body: &[u8]) -> Option<u128>
     ensures { IfSome result (λ units. read_magnitude (2 ^ 127) places body.now ≡ Some units) }
@@ -190,7 +190,7 @@ pub(crate) fn digits_from(bytes: &[u8], from: usize, most: usize, number: u64) -
 /// The magnitude of the least number of units.
 const LIMIT: u128 = 1 << 127;
 
-/// The same for any body, one digit after the other: `None` says that it stands for no units.
+/// The units of any body, read one digit after the other: `None` says that it stands for none.
 #[inline(never)]
 fn read_magnitude(places: u32, body: &[u8]) -> Option<u128>
     requires { places ≤ 36 }

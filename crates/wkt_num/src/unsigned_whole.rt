@@ -37,7 +37,7 @@ impl WktNum for u8 {
     }
 
     #[inline(always)]
-    fn kept_in_window(bytes: &[u8]) -> Option<(usize, usize)>
+    fn canonical_prefix_simd(bytes: &[u8]) -> Option<(usize, usize)>
         requires { 32 ≤ length bytes.now }
         ensures keeps { IfSome result (λ r. KeepsText (read_unsigned 8) decimal bytes.now r.0 r.1) }
         ensures within { IfSome result (λ r. r.0 < 32) }
@@ -88,7 +88,7 @@ impl WktNum for u16 {
     }
 
     #[inline(always)]
-    fn kept_in_window(bytes: &[u8]) -> Option<(usize, usize)>
+    fn canonical_prefix_simd(bytes: &[u8]) -> Option<(usize, usize)>
         requires { 32 ≤ length bytes.now }
         ensures keeps { IfSome result (λ r. KeepsText (read_unsigned 16) decimal bytes.now r.0 r.1) }
         ensures within { IfSome result (λ r. r.0 < 32) }
@@ -139,7 +139,7 @@ impl WktNum for u32 {
     }
 
     #[inline(always)]
-    fn kept_in_window(bytes: &[u8]) -> Option<(usize, usize)>
+    fn canonical_prefix_simd(bytes: &[u8]) -> Option<(usize, usize)>
         requires { 32 ≤ length bytes.now }
         ensures keeps { IfSome result (λ r. KeepsText (read_unsigned 32) decimal bytes.now r.0 r.1) }
         ensures within { IfSome result (λ r. r.0 < 32) }
@@ -190,7 +190,7 @@ impl WktNum for u64 {
     }
 
     #[inline(always)]
-    fn kept_in_window(bytes: &[u8]) -> Option<(usize, usize)>
+    fn canonical_prefix_simd(bytes: &[u8]) -> Option<(usize, usize)>
         requires { 32 ≤ length bytes.now }
         ensures keeps { IfSome result (λ r. KeepsText (read_unsigned 64) decimal bytes.now r.0 r.1) }
         ensures within { IfSome result (λ r. r.0 < 32) }
@@ -241,7 +241,7 @@ impl WktNum for u128 {
     }
 
     #[inline(always)]
-    fn kept_in_window(bytes: &[u8]) -> Option<(usize, usize)>
+    fn canonical_prefix_simd(bytes: &[u8]) -> Option<(usize, usize)>
         requires { 32 ≤ length bytes.now }
         ensures keeps { IfSome result (λ r. KeepsText (read_unsigned 128) decimal bytes.now r.0 r.1) }
         ensures within { IfSome result (λ r. r.0 < 32) }

@@ -9,7 +9,7 @@ use wkt::{AnyError, InferError, ReadError, ToWktError, WholeError};
 
 /// Why a run can't go on.
 #[derive(Debug, Drop, Error)]
-pub enum RunError {
+pub enum OperationError {
     #[error("{0}")]
     Io(io::Error),
     #[error("the lines aren't UTF-8")]
@@ -20,27 +20,27 @@ pub enum RunError {
     Memory(#[from] AllocError),
 }
 
-impl<T: Drop> From<AllocFailed<T>> for RunError {
-    fn from(_error: AllocFailed<T>) -> RunError {
-        RunError::Memory(AllocError)
+impl<T: Drop> From<AllocFailed<T>> for OperationError {
+    fn from(_error: AllocFailed<T>) -> OperationError {
+        OperationError::Memory(AllocError)
     }
 }
 
 /// Out of memory has its own variant.
-impl From<io::Error> for RunError {
-    fn from(error: io::Error) -> RunError {
+impl From<io::Error> for OperationError {
+    fn from(error: io::Error) -> OperationError {
         match error.kind() {
-            ErrorKind::OutOfMemory => RunError::Memory(AllocError),
-            _ => RunError::Io(error),
+            ErrorKind::OutOfMemory => OperationError::Memory(AllocError),
+            _ => OperationError::Io(error),
         }
     }
 }
 
-impl From<ReadAllError> for RunError {
-    fn from(error: ReadAllError) -> RunError {
+impl From<ReadAllError> for OperationError {
+    fn from(error: ReadAllError) -> OperationError {
         match error {
-            ReadAllError::Read(error) => RunError::from(error),
-            ReadAllError::Memory(error) => RunError::Memory(error),
+            ReadAllError::Read(error) => OperationError::from(error),
+            ReadAllError::Memory(error) => OperationError::Memory(error),
         }
     }
 }

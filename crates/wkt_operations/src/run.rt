@@ -1,6 +1,6 @@
 //! A run, from its arguments to what it prints.
 use crate::answer::answer;
-use crate::error::{RunError, is_out_of_memory};
+use crate::error::{OperationError, is_out_of_memory};
 use crate::operation::Operation;
 use std::alloc::{AllocError, Global};
 use std::env;
@@ -20,19 +20,19 @@ struct Tally {
 ///
 /// # Errors
 /// The arguments aren't understood, the lines can't be read or aren't UTF-8, standard output fails, or out of memory.
-pub fn run(rt: &HostRuntime) -> Result<(), RunError> {
+pub fn run(rt: &HostRuntime) -> Result<(), OperationError> {
     let alloc = rt.alloc();
     let words = env::args(rt)?.skip(1).collect::<Vec<String>>(alloc)?;
     let Some((number, operations)) = words.as_slice().split_first() else {
-        return Err(RunError::Usage);
+        return Err(OperationError::Usage);
     };
     let bytes = read_all(alloc, &mut Counted::new(rt.stdin()))?;
     let Ok(text) = str::from_utf8(&bytes) else {
-        return Err(RunError::NotText);
+        return Err(OperationError::NotText);
     };
     for word in operations {
         let Some(operation) = Operation::named(word) else {
-            return Err(RunError::Usage);
+            return Err(OperationError::Usage);
         };
         let tally = tally_of(alloc, number, operation, text)?;
         let Tally {
@@ -51,11 +51,11 @@ fn tally_of(
     number: &str,
     operation: Operation,
     text: &str,
-) -> Result<Tally, RunError> {
+) -> Result<Tally, OperationError> {
     match number {
         "decimal" => Ok(count::<Decimal<18>>(alloc, operation, text)?),
         "i64" => Ok(count::<i64>(alloc, operation, text)?),
-        _ => Err(RunError::Usage),
+        _ => Err(OperationError::Usage),
     }
 }
 

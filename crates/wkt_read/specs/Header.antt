@@ -29,7 +29,7 @@ pub record Cut : Type 0 where
   pub header : List ℕ
   pub by_empty : Bool
 
--- The same with one more byte before it.
+-- What a text has before its first `(` or EMPTY, with one more byte before it.
 abbrev pub with_byte : ℕ → Option Cut → Option Cut
 with_byte b None = None
 with_byte b (Some c) = Some (record { header = b ∷ c.header; by_empty = c.by_empty })

@@ -20,7 +20,7 @@ module _ {N : Type 0} (read : List ℕ → Option N) where
   StopsBetween before (fault ∷ later) = IsJustDead read (before ++ (fault ∷ []))
 
   -- The lexemes are refused, the table has this message for the place, and these of them are left.
-  pub record HasMessage (lexemes : List Lexeme) (m : Message) (left : List Lexeme) : Type 0 where
+  pub record HasMessage (lexemes : List Lexeme) (m : Message) (remaining : List Lexeme) : Type 0 where
     pub before : List Lexeme
     pub there : List Lexeme
     pub expected : Expected
@@ -30,15 +30,15 @@ module _ {N : Type 0} (read : List ℕ → Option N) where
     pub could_stand : IsExpectedAfter read before expected
     pub turn : IsTurn expected (context before)
     pub counted : parens + closes before ≡ opens before
-    pub is : reports read expected parens there ≡ (m, left)
+    pub is : reports read expected parens there ≡ (m, remaining)
 
   -- The lexemes are refused with this text, and these of them are left.
   abbrev pub IsRefused : List Lexeme → List ℕ → List Lexeme → Type 0
-  IsRefused lexemes said left = (m : Message) × (said ≡ message_text m) × HasMessage lexemes m left
+  IsRefused lexemes said remaining = (m : Message) × (said ≡ message_text m) × HasMessage lexemes m remaining
 
   -- The text is refused with this message.
   abbrev pub IsRefusedWith : List ℕ → Message → Type 0
-  IsRefusedWith text m = (lexemes left : List Lexeme) × IsSplit text lexemes × HasMessage lexemes m left
+  IsRefusedWith text m = (lexemes remaining : List Lexeme) × IsSplit text lexemes × HasMessage lexemes m remaining
 
   -- The text is refused, and this is said of it.
   abbrev pub IsTextRefused : List ℕ → List ℕ → Type 0

@@ -3,14 +3,14 @@ use Rattle.std.specs.Prelude.{ℕ, List, length, Option, Result}
 use Rattle.std.specs.Borrow.{Bor}
 use Rattle.std.specs.Iterator.{Count, at_most}
 use Rattle.wkt_num.specs.Bytes.{Lexeme}
-use Rattle.wkt_read.specs.Placed.{Placed}
+use Rattle.wkt_read.specs.Spanned.{Spanned}
 use Rattle.wkt_read.specs.Standing.{Standing, StepsFrom}
 use Rattle.wkt_read.specs.Items.{IsItem}
 use Rattle.wkt_read.specs.declared.tokenizer.tokens.Token.{Token}
 
 -- the lexemes that `next` has not given yet
-abbrev pub coming : Standing → List Placed
-coming s = s.left
+abbrev pub coming : Standing → List Spanned
+coming s = s.remaining
 
 -- how many bytes of the text were taken
 abbrev pub bytes_taken : Standing → ℕ

@@ -3,21 +3,21 @@ use Rattle.std.specs.Prelude.{◌≡◌, ◌≤◌, ℕ, List, Option, Some, Non
 use Rattle.wkt_num.specs.Bytes.{Word, Num}
 use Rattle.wkt_access.specs.declared.Dimension.{Dimension}
 use Rattle.wkt_types.specs.declared.geometry_type.GeometryType.{GeometryType}
-use Rattle.wkt_read.specs.Ahead.{left, end_of, taken_of, first_of, Moves}
+use Rattle.wkt_read.specs.Ahead.{remaining, end_of, taken_of, first_of, Moves}
 use Rattle.wkt_read.specs.Grammar.{kind_word}
 use Rattle.wkt_read.specs.Keywords.{Names}
 use Rattle.wkt_read.specs.Standing.{Standing}
 
 -- Nothing is taken, but a lexeme may have been looked at.
 pub record Looks (old new : Standing) : Type 0 where
-  pub left : left new ≡ left old
+  pub remaining : remaining new ≡ remaining old
   pub end : end_of new ≡ end_of old
   pub grows : taken_of old ≤ taken_of new
 
 -- Nothing is taken, and if the next lexeme is a number, it isn't read.
 pub record StaysUnread {N : Type 0} (read : List ℕ → Option N) (old new : Standing) : Type 0 where
   pub looks : Looks old new
-  pub unread : (run : List ℕ) → first_of (left old) ≡ Some (Num run) → read run ≡ None
+  pub unread : (run : List ℕ) → first_of (remaining old) ≡ Some (Num run) → read run ≡ None
 
 -- The next lexeme is taken, a number that is read.
 pub record TakesNumber {N : Type 0} (read : List ℕ → Option N) (old : Standing) (number : N) (new : Standing) : Type 0 where

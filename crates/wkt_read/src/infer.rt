@@ -161,7 +161,7 @@ pub fn infer_type(alloc: Global, text: &str) -> Result<(GeometryType, Dimension)
     }
 }
 
-/// What [`infer_type`] answers, in no memory: the prefix that it refuses is lent from the text, in the case in which it
+/// What [`infer_type`] returns, in no memory: the prefix that it refuses is lent from the text, in the case in which it
 /// stands there.
 ///
 /// # Errors

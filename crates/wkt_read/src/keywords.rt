@@ -58,7 +58,7 @@ fn kind_after_p(rest: &[u8]) -> Option<(GeometryType, &[u8])>
     }
 }
 
-// The same of L.
+// The kind whose word goes on so after an L, and what follows the word.
 #[inline(always)]
 #[tactic(auto, unfolding(crate::specs::Grammar::kind_words))]
 fn kind_after_l(rest: &[u8]) -> Option<(GeometryType, &[u8])>
@@ -73,7 +73,7 @@ fn kind_after_l(rest: &[u8]) -> Option<(GeometryType, &[u8])>
     }
 }
 
-// The same of M.
+// The kind whose word goes on so after an M, and what follows the word.
 #[inline(always)]
 #[tactic(auto, unfolding(crate::specs::Grammar::kind_words))]
 fn kind_after_m(rest: &[u8]) -> Option<(GeometryType, &[u8])>
@@ -118,7 +118,7 @@ pub fn kind_of(word: &str) -> Option<(GeometryType, Option<Dimension>)>
     kind_in(word.as_bytes())
 }
 
-/// The same of a word as its bytes.
+/// The kind that the word with these bytes names, and the dimension if it is joined to the word.
 #[inline(always)]
 pub fn kind_in(word: &[u8]) -> Option<(GeometryType, Option<Dimension>)>
     ensures { Names result (kind_word word.now) }
@@ -162,7 +162,7 @@ pub fn is_empty(word: &str) -> bool
     is_empty_in(word.as_bytes())
 }
 
-/// The same of a word as its bytes.
+/// Whether these bytes are the word EMPTY.
 pub fn is_empty_in(word: &[u8]) -> bool
     ensures { result ≡ is_empty_word word.now }
 {

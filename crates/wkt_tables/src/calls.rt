@@ -34,7 +34,7 @@ pub(crate) fn given(alloc: Global, call: &str, of: &str, text: &str) -> Result<S
     }
 }
 
-/// The same of a call that is asked for nothing but a text.
+/// What a call returns that is asked for nothing but a text.
 fn of_text(alloc: Global, call: &str, text: &str) -> Result<String, AnyError> {
     match call {
         "read_front" => front(alloc, text),

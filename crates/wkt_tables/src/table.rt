@@ -23,7 +23,7 @@ pub enum TableError {
     Memory(AllocError),
 }
 
-/// Checks the table on standard input, and each file that an argument names, and answers how many rows are wrong.
+/// Checks the table on standard input, and each file that an argument names, and returns how many rows are wrong.
 pub fn check_all(rt: &HostRuntime) -> Result<u64, TableError> {
     let alloc = rt.alloc();
     let bytes = bytes_of(alloc, rt.stdin())?;

@@ -4,15 +4,15 @@ use Rattle.wkt_tests.specs.declared.support.answers.AnswerError.{AnswerError}
 use Rattle.wkt_tests.specs.declared.support.answers.AnswerError.TheVariants as answered
 
 -- The fact is claimed where the text was refused.
-abbrev pub OnRefused : {A : Type 0} → Result A AnswerError → Type 0 → Type 0
-OnRefused (Ok x) P = Unit {0}
-OnRefused (Err (answered.Refused m)) P = P
-OnRefused (Err answered.Differ) P = Unit {0}
-OnRefused (Err (answered.Memory e)) P = Unit {0}
+abbrev pub OnAnswerRefused : {A : Type 0} → Result A AnswerError → Type 0 → Type 0
+OnAnswerRefused (Ok x) P = Unit {0}
+OnAnswerRefused (Err (answered.Refused m)) P = P
+OnAnswerRefused (Err answered.Differ) P = Unit {0}
+OnAnswerRefused (Err (answered.Memory e)) P = Unit {0}
 
 -- The fact is claimed where memory ran out for the answer.
-abbrev pub OnMemory : {A : Type 0} → Result A AnswerError → Type 0 → Type 0
-OnMemory (Ok x) P = Unit {0}
-OnMemory (Err (answered.Refused m)) P = Unit {0}
-OnMemory (Err answered.Differ) P = Unit {0}
-OnMemory (Err (answered.Memory e)) P = P
+abbrev pub OnAnswerMemory : {A : Type 0} → Result A AnswerError → Type 0 → Type 0
+OnAnswerMemory (Ok x) P = Unit {0}
+OnAnswerMemory (Err (answered.Refused m)) P = Unit {0}
+OnAnswerMemory (Err answered.Differ) P = Unit {0}
+OnAnswerMemory (Err (answered.Memory e)) P = P

@@ -9,7 +9,7 @@ use wkt::tokenizer::Tokens;
 use wkt::walks::{Mapper, map_coords, num_coords};
 use wkt::{Decimal, FromWktStr, ToWkt, TryFromWkt, Wkt, infer_type, same_geometry};
 
-const NO_KIND: &str = "Invalid type encountered";
+const NO_KIND_TEXT: &str = "Invalid type encountered";
 
 const NO_CLOSING: &str = "Missing closing parenthesis for type";
 
@@ -223,7 +223,7 @@ fn long_numbers(rt: HostRuntime) -> Result<(), Fail> {
     let text = format!(in alloc; "POINT({zeros}1 0.5{zeros})")?;
     equal(&rt, gives(alloc, &text)?.as_str(), "POINT(1 0.5)");
     let word = "A".repeat(alloc, 100000)?;
-    equal(&rt, gives(alloc, &word)?.as_str(), NO_KIND);
+    equal(&rt, gives(alloc, &word)?.as_str(), NO_KIND_TEXT);
     Ok(())
 }
 

@@ -3,21 +3,25 @@
 mod reference;
 
 use crate::support::asserts::{equal, equal_at};
-use reference::{Lexeme, front, lexemes, whole};
+use reference::{ReferenceLexeme, front, lexemes, whole};
 use std::alloc::{AllocError, Global};
 use std::test::Fail;
 use wkt::tokenizer::{Token, Tokens};
 use wkt::{FromWktStr, ReadError, Wkt, infer_type};
 
 // Whether the lexeme is the one that is given.
-fn is_token(lexeme: Lexeme<'_>, token: Option<Result<Token<'_, i32>, &'static str>>) -> bool {
+fn is_token(
+    lexeme: ReferenceLexeme<'_>,
+    token: Option<Result<Token<'_, i32>, &'static str>>,
+) -> bool {
     match (lexeme, token) {
-        (Lexeme::Open, Some(Ok(Token::ParenOpen))) => true,
-        (Lexeme::Close, Some(Ok(Token::ParenClose))) => true,
-        (Lexeme::Comma, Some(Ok(Token::Comma))) => true,
-        (Lexeme::Word(run), Some(Ok(Token::Word(word)))) => run == word.as_bytes(),
-        (Lexeme::Number(run), Some(Ok(Token::Number(number)))) => whole(run) == Some(number),
-        (Lexeme::Number(run), Some(Err(_))) => whole(run).is_none(),
+        (ReferenceLexeme::Open, Some(Ok(Token::ParenOpen))) => true,
+        (ReferenceLexeme::Close, Some(Ok(Token::ParenClose))) => true,
+        (ReferenceLexeme::Comma, Some(Ok(Token::Comma))) => true,
+        (ReferenceLexeme::Word(run), Some(Ok(Token::Word(word)))) => run == word.as_bytes(),
+        (ReferenceLexeme::Number(run), Some(Ok(Token::Number(number)))) => whole(run)
+            == Some(number),
+        (ReferenceLexeme::Number(run), Some(Err(_))) => whole(run).is_none(),
         _ => false,
     }
 }

@@ -35,7 +35,7 @@ impl ByteSink for Calls {
 }
 
 /// A piece of 128 bytes.
-const PIECE: &str =
+const HALF: &str =
     "0123456789abcdef0123456789abcdef0123456789abcdef0123456789abcdef0123456789abcdef0123456789abcdef0123456789abcdef0123456789abcdef";
 
 fn write_all<W: TextSink>(sink: &mut W, pieces: &[&str]) -> fmt::Result {
@@ -58,17 +58,17 @@ fn makes(rt: &impl Abort, alloc: Global, pieces: &[&str], finishes: bool, want: 
 }
 
 // The pieces, and the lengths of the calls before the wrapper is finished and with it.
-const ROWS: &[(&[&str], &[usize], &[usize])] = &[
+const BYTE_ROWS: &[(&[&str], &[usize], &[usize])] = &[
     (&[], &[], &[]),
-    (&[PIECE], &[], &[128]),
-    (&[PIECE, PIECE], &[256], &[256]),
-    (&[PIECE, PIECE, PIECE], &[256], &[256, 128]),
-    (&[PIECE, PIECE, PIECE, PIECE], &[256, 256], &[256, 256]),
+    (&[HALF], &[], &[128]),
+    (&[HALF, HALF], &[256], &[256]),
+    (&[HALF, HALF, HALF], &[256], &[256, 128]),
+    (&[HALF, HALF, HALF, HALF], &[256, 256], &[256, 256]),
 ];
 
 #[test]
 fn gathers_pieces(rt: HostRuntime) {
-    for &(pieces, before, after) in ROWS {
+    for &(pieces, before, after) in BYTE_ROWS {
         makes(&rt, rt.alloc(), pieces, false, before);
         makes(&rt, rt.alloc(), pieces, true, after);
     }
@@ -76,6 +76,6 @@ fn gathers_pieces(rt: HostRuntime) {
 
 #[test]
 fn hands_a_long_piece_on_in_arrays(rt: HostRuntime) {
-    let piece = PIECE.repeat(rt.alloc(), 5).expect(&rt, "memory");
+    let piece = HALF.repeat(rt.alloc(), 5).expect(&rt, "memory");
     makes(&rt, rt.alloc(), &["(", &piece], true, &[256, 256, 129]);
 }

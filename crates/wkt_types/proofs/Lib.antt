@@ -1,9 +1,9 @@
-pub mod Firsts
+pub mod FirstDimension
 pub mod TreeLemmas
 pub mod Members
 pub mod Collections
 pub mod Displays
 pub mod Weighing
 pub mod InPlace
-pub mod Kept
+pub mod KeptRings
 pub mod Canonicals

@@ -58,7 +58,7 @@ held_eq E a b = pointwise E a.parts b.parts && dim_eq a.dim b.dim
 pub held_exact : {X : Type 0} {E : X → X → Bool} → IsExact E → IsExact (held_eq E)
 held_exact {X} e = both_exact {X = Held X} (λ h. h.parts) (λ h. h.dim) (λ xs d. record { parts = xs; dim = d }) (λ h. refl) (pointwise_exact e) dim_exact
 
--- The same of points.
+-- Two points are the same, and so are the dimensions.
 abbrev pub held_point_eq : {C : Type 0} → (C → C → Bool) → HeldPoint C → HeldPoint C → Bool
 held_point_eq E a b = option_eq E a.coord b.coord && dim_eq a.dim b.dim
 

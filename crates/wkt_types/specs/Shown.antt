@@ -34,7 +34,7 @@ pub record Shows {W N : Type 0} (gives : W → List ℕ → W → Type 0) (num :
   pub untouched : IsUnwritable s → t ≡ f
 
 -- What a sink was given of a shape, before and after: its text, or nothing where it can't be written.
-pub record Sends {S N : Type 0} (sink : Sink S) (num : N → List ℕ) (shape : Shape N) (s : S) (result : Result (Unit {0}) fmt.Error) (t : S) : Type 0 where
+pub record SendsShape {S N : Type 0} (sink : Sink S) (num : N → List ℕ) (shape : Shape N) (s : S) (result : Result (Unit {0}) fmt.Error) (t : S) : Type 0 where
   pub sent : OnOk result (sink.gives s (shape_text num shape) t)
   pub sound : OnOk result (fault shape ≡ None)
   pub untouched : IsUnwritable shape → t ≡ s

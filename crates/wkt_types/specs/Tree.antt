@@ -37,7 +37,7 @@ wkt_step (Wkt-F.MultiLineString l) = multi_line_string l
 wkt_step (Wkt-F.MultiPolygon l) = multi_polygon l
 wkt_step (Wkt-F.GeometryCollection c) = c
 
--- The same of a collection.
+-- One level of a collection, each of whose members was seen as its tree.
 abbrev pub collection_step : {T : Type 0} → GeometryCollection-F T (Tree T) (Tree T) → Tree T
 collection_step c = collection (trees_of c.geometries.items) c.dim
 

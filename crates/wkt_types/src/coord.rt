@@ -4,7 +4,7 @@ ghost use Rattle.std.specs.Prelude.{◌≡◌};
 use crate::canonical::{UnderHeader, fourth_number, third_number};
 use std::alloc::{AllocError, Global};
 use wkt_access::Dimension;
-use wkt_flat::copies::Part;
+use wkt_flat::copies::CopiedPart;
 
 /// One coordinate: x and y, and z and m where they are there.
 #[derive(Clone, Copy, Debug, Default, Drop)]
@@ -35,7 +35,7 @@ impl<T> Coord<T> {
     }
 }
 
-impl<T: Copy + Drop> Part for Coord<T> {
+impl<T: Copy + Drop> CopiedPart for Coord<T> {
     fn copy(&self, _alloc: Global) -> Result<Self, AllocError> {
         Ok(*self)
     }

@@ -8,7 +8,7 @@ use crate::coord::Coord;
 use std::alloc::{AllocError, Global};
 use std::marker::Model;
 use wkt_access::Dimension;
-use wkt_flat::copies::{Part, copies};
+use wkt_flat::copies::{CopiedPart, copies};
 
 /// A line string: coordinates in order, and the dimension of the header.
 #[derive(Debug, Drop)]
@@ -113,7 +113,7 @@ impl<T: Copy + Drop> LineString<T> {
     }
 }
 
-impl<T: Copy + Drop> Part for LineString<T> {
+impl<T: Copy + Drop> CopiedPart for LineString<T> {
     fn copy(&self, alloc: Global) -> Result<Self, AllocError> {
         self.try_clone(alloc)
     }

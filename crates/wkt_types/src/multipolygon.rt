@@ -8,7 +8,7 @@ use crate::polygon::Polygon;
 use std::alloc::{AllocError, Global};
 use std::marker::Model;
 use wkt_access::Dimension;
-use wkt_flat::copies::{Part, copies};
+use wkt_flat::copies::{CopiedPart, copies};
 
 /// A multipolygon: polygons in order, and the dimension of the header.
 #[derive(Debug, Drop)]
@@ -112,7 +112,7 @@ impl<T: Copy + Drop> MultiPolygon<T> {
     }
 }
 
-impl<T: Copy + Drop> Part for MultiPolygon<T> {
+impl<T: Copy + Drop> CopiedPart for MultiPolygon<T> {
     fn copy(&self, alloc: Global) -> Result<Self, AllocError> {
         self.try_clone(alloc)
     }

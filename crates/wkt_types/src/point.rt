@@ -6,7 +6,7 @@ use crate::coord::Coord;
 use std::alloc::{AllocError, Global};
 use std::marker::Model;
 use wkt_access::Dimension;
-use wkt_flat::copies::Part;
+use wkt_flat::copies::CopiedPart;
 
 /// A point: one coordinate or none, and the dimension of its header.
 #[derive(Clone, Copy, Debug, Drop)]
@@ -92,7 +92,7 @@ impl<T: Default> Default for Point<T> {
     }
 }
 
-impl<T: Copy + Drop> Part for Point<T> {
+impl<T: Copy + Drop> CopiedPart for Point<T> {
     fn copy(&self, _alloc: Global) -> Result<Self, AllocError> {
         Ok(*self)
     }

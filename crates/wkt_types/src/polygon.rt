@@ -8,7 +8,7 @@ use crate::linestring::LineString;
 use std::alloc::{AllocError, Global};
 use std::marker::Model;
 use wkt_access::Dimension;
-use wkt_flat::copies::{Part, copies};
+use wkt_flat::copies::{CopiedPart, copies};
 
 /// A polygon: its rings in order, the first of them the exterior, and the dimension of the header.
 #[derive(Debug, Drop)]
@@ -112,7 +112,7 @@ impl<T: Copy + Drop> Polygon<T> {
     }
 }
 
-impl<T: Copy + Drop> Part for Polygon<T> {
+impl<T: Copy + Drop> CopiedPart for Polygon<T> {
     fn copy(&self, alloc: Global) -> Result<Self, AllocError> {
         self.try_clone(alloc)
     }

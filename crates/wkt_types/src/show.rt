@@ -1,6 +1,6 @@
 //! Display of geometries: as text, whatever width, fill or precision is asked for.
 ghost use Rattle.wkt_access.specs.Parts.{collection_of};
-ghost use Rattle.wkt_types.specs.Shown.{Shows, Sends};
+ghost use Rattle.wkt_types.specs.Shown.{Shows, SendsShape};
 
 use std::fmt;
 use std::fmt::Formatter;
@@ -11,7 +11,7 @@ use wkt_write::{write_geometry, write_geometry_collection};
 
 // Gives a sink the text of a geometry, gathered: a string that it goes to grows once for many numbers.
 fn send_geometry<S: TextSink, G: GeometryTrait>(sink: S, g: &G) -> (S, fmt::Result)
-    ensures { Sends S.sink G.T.num (G.shape g.now) sink result.1 result.0 }
+    ensures { SendsShape S.sink G.T.num (G.shape g.now) sink result.1 result.0 }
 {
     let mut gathered = GatheredText::new(sink);
     match write_geometry(&mut gathered, g) {
@@ -23,9 +23,9 @@ fn send_geometry<S: TextSink, G: GeometryTrait>(sink: S, g: &G) -> (S, fmt::Resu
     }
 }
 
-// The same of a collection.
+// Gives a sink the text of a collection, gathered.
 fn send_collection<S: TextSink, C: GeometryCollectionTrait>(sink: S, c: &C) -> (S, fmt::Result)
-    ensures { Sends S.sink C.T.num (collection_of (C.dimension c.now) (C.geometries c.now)) sink result.1 result.0 }
+    ensures { SendsShape S.sink C.T.num (collection_of (C.dimension c.now) (C.geometries c.now)) sink result.1 result.0 }
 {
     let mut gathered = GatheredText::new(sink);
     match write_geometry_collection(&mut gathered, c) {

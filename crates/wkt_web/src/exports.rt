@@ -1,6 +1,6 @@
 //! The functions that the host calls.
 ghost use Rattle.std.specs.Prelude.{◌≡◌, ◌≤◌, ◌≢◌, ◌⊎◌, ◌+◌, ◌*◌, ◌<◌, Bool, length, take};
-ghost use Rattle.wkt_calls.specs.Answer.{read_at, print_at, places_in, asks_whole, EndsAsAsked, IsCanonical, HasMore, Compares, RefusesAt, RefusesOneAt, HasNoPlaces, same_number};
+ghost use Rattle.wkt_calls.specs.Answer.{read_at, print_at, places_in, asks_whole, EndsAsAsked, IsCanonicalOf, HasMore, Compares, RefusesAt, RefusesOneAt, HasNoPlaces, same_number};
 ghost use Rattle.wkt_calls.specs.Chunks.{AnswersSure, ends_here};
 ghost use Rattle.wkt_calls.specs.Arrays.{IsNotFlat, HasMoreAt};
 ghost use Rattle.wkt_calls.specs.Sizes.{AreHandedOut, HaveNoRoom};
@@ -26,7 +26,7 @@ pub extern "C" fn wkt_canonical(
     len: &mut usize,
     end: &mut usize,
 ) -> u32
-    ensures written { result ≡ DONE → IsCanonical (read_at (places_in places)) (print_at (places_in places)) text.now (take len.new room.new) end.new }
+    ensures written { result ≡ DONE → IsCanonicalOf (read_at (places_in places)) (print_at (places_in places)) text.now (take len.new room.new) end.new }
     ensures as_asked { result ≡ DONE → EndsAsAsked (asks_whole places) text.now end.new }
     ensures within { result ≡ DONE → len.new ≤ length room.new }
     ensures small { result ≡ SMALL → length room.old < 2 * length text.now + 65 }

@@ -1,6 +1,6 @@
 //! The functions that the host calls to learn what a header names, and why a text is refused.
 ghost use Rattle.std.specs.Prelude.{◌≡◌, ◌≤◌, ◌<◌, ◌≢◌, ◌↔◌, ℕ, length};
-ghost use Rattle.wkt_calls.specs.Answer.{read_at, places_in, asks_whole, IsNamed, NamesNone};
+ghost use Rattle.wkt_calls.specs.Answer.{read_at, places_in, asks_whole, IsHeaderOf, NamesNone};
 ghost use Rattle.wkt_calls.specs.Explained.{IsExplained, IsHinted, IsFollowed, IsUnexplained};
 
 use wkt_calls::asked::{has_places, places_of};
@@ -76,7 +76,7 @@ pub extern "C" fn wkt_hint(text: &[u8], places: u32, hint: &mut u32) -> u32
 /// header of `text` names.
 #[unsafe(no_mangle)]
 pub extern "C" fn wkt_infer(text: &[u8], kind: &mut u32, dimension: &mut u32) -> u32
-    ensures named { result ≡ DONE → IsNamed text.now kind.new dimension.new }
+    ensures named { result ≡ DONE → IsHeaderOf text.now kind.new dimension.new }
     ensures others { 1 ≤ result → NamesNone text.now result }
     ensures kept { 1 ≤ result → (kind.new ≡ kind.old) × (dimension.new ≡ dimension.old) }
 {

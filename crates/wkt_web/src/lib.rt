@@ -2,7 +2,7 @@
 //!
 //! Below stands `wkt_calls`; above, the package for JavaScript and the page.
 //!
-//! Each call answers a status: 0 where it is done, 1 to 14 where a text is refused, which says why, and 20 or
+//! Each call returns a status: 0 where it is done, 1 to 14 where a text is refused, which says why, and 20 or
 //! more for the rest.
 #![tactic(auto)]
 

@@ -6,7 +6,7 @@ use Rattle.wkt_num.specs.Sink.{Sink, Adds, Breaks, Puts}
 use Rattle.wkt_access.specs.Shapes.{PolygonShape, rings_of, rings_under, rect_ring}
 use Rattle.wkt_access.specs.Texts.{separated, listed, coordinate_text}
 use Rattle.wkt_write.specs.Pieces.{each_after, has_none, opening, closing, cut_coordinates, cut_point, cut_polygon, cut_coordinate, two_coordinates_text, triangle_text, rect_corner_text, rect_ring_text}
-use Rattle.wkt_num.proofs.Calls.{breaks_first, breaks_then, puts_then}
+use Rattle.wkt_num.proofs.SinkCalls.{breaks_first, breaks_then, puts_then}
 use Rattle.wkt_write.proofs.Lists.{none_mapped}
 
 listed_is : (ts : List (List ℕ)) → listed ts ≡ opening (has_none ts) ++ (separated (codes ",") ts ++ closing (has_none ts))

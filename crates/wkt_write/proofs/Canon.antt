@@ -12,7 +12,7 @@ use Rattle.wkt_access.specs.Faults.{fault, faults, first_fault, coordinate_fault
 use Rattle.wkt_write.specs.Known.{Clear, KnownCoord, KnownCoords, KnownLineStrings, KnownPoint, KnownPolygon, KnownRectCorner, Known, AllKnown}
 use Rattle.wkt_access.specs.Lawful.{IsLawful}
 use Rattle.wkt_access.specs.WellFormed.{CoordFits, LineStringFits, PolygonFits, PointFits, IsWellFormed, AreWellFormed}
-use Rattle.wkt_write.proofs.Firsts.{none_of_or}
+use Rattle.wkt_write.proofs.FirstErrors.{none_of_or}
 use Rattle.wkt_write.proofs.Headed.{under_clean}
 use Rattle.wkt_write.proofs.Members.{inside_clean}
 

@@ -17,7 +17,7 @@ use Rattle.wkt_access.specs.Texts.{headed, listed, suffix, space_if_empty, coord
 use Rattle.wkt_access.proofs.Members.{each_gathered}
 use Rattle.wkt_write.proofs.Members.{of_collection}
 use Rattle.wkt_write.proofs.Bracketed.{one_listed, rect_ring_listed}
-use Rattle.wkt_num.proofs.Calls.{breaks_first, breaks_then, puts_then}
+use Rattle.wkt_num.proofs.SinkCalls.{breaks_first, breaks_then, puts_then}
 
 gap_is : (ts : List (List ℕ)) → space_if_empty ts ≡ gap (has_none ts)
 gap_is [] = refl

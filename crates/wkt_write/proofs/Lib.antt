@@ -1,5 +1,5 @@
 pub mod Lists
-pub mod Firsts
+pub mod FirstErrors
 pub mod Depth
 pub mod Members
 pub mod Pieces

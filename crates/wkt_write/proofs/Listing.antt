@@ -5,8 +5,8 @@ use Rattle.std.specs.Prelude.{IfSome}
 use Rattle.wkt_num.specs.Sink.{Sink, Adds, Breaks}
 use Rattle.wkt_access.specs.Texts.{separated}
 use Rattle.wkt_write.specs.Pieces.{before, each_after}
-use Rattle.wkt_num.proofs.Calls.{adds_none, adds_then, breaks_first, breaks_then}
-use Rattle.wkt_write.proofs.Firsts.{known_at}
+use Rattle.wkt_num.proofs.SinkCalls.{adds_none, adds_then, breaks_first, breaks_then}
+use Rattle.wkt_write.proofs.FirstErrors.{known_at}
 use Rattle.wkt_write.proofs.Pieces.{Begins, begins_self, begins_with, begins_after, breaks_in}
 
 -- i of the n members of xs, each as f says, were added

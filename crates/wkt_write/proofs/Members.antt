@@ -5,7 +5,7 @@ use Rattle.std.specs.Option.{option_or}
 use Rattle.wkt_write.specs.Known.{Known, AllKnown}
 use Rattle.wkt_access.specs.declared.error.Error.{Error}
 use Rattle.wkt_access.specs.declared.dimensions.Dimension.{Dimension}
-use Rattle.wkt_write.proofs.Firsts.{none_at}
+use Rattle.wkt_write.proofs.FirstErrors.{none_at}
 use Rattle.wkt_access.specs.declared.dimensions.Dimensions.{Dimensions}
 use Rattle.wkt_access.specs.Faults.{fault, faults, first_fault, under}
 use Rattle.wkt_access.specs.Shapes.{Shape, Shapes, printed}

@@ -2,7 +2,7 @@
 use Rattle.std.proofs.Common.{◌≡◌, ℕ, List, [], ◌++◌, refl, ap, ◌∙◌, append_assoc, subst}
 use Rattle.std.proofs.lemmas.List.{append-nil}
 use Rattle.wkt_num.specs.Sink.{Sink, Breaks}
-use Rattle.wkt_num.proofs.Calls.{breaks_first}
+use Rattle.wkt_num.proofs.SinkCalls.{breaks_first}
 
 -- whole begins with part
 pub record Begins (part whole : List ℕ) : Type 0 where

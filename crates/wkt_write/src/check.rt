@@ -1,5 +1,5 @@
 //! Looks for the first error in the order of the text: of the parts of all kinds, and of a geometry of any kind.
-#![tactic(auto, using(crate::proofs::Firsts::clean_start, crate::proofs::Firsts::clean_more, crate::proofs::Firsts::clean_fault, crate::proofs::Firsts::clean_end))]
+#![tactic(auto, using(crate::proofs::FirstErrors::clean_start, crate::proofs::FirstErrors::clean_more, crate::proofs::FirstErrors::clean_fault, crate::proofs::FirstErrors::clean_end))]
 
 ghost use Rattle.std.specs.Prelude.{◌≡◌, ℕ, Some, None, Option, IfOk, IfErr};
 ghost use Rattle.wkt_access.specs.Faults.{coordinate_fault, coordinates_fault, point_fault, polygon_fault, fault, under};

@@ -1,7 +1,7 @@
 //! The two passes of a writer, by kind: the first looks for an error, and the second writes a shape without one.
 //!
 //! A writer is one function over [`Kind`].
-#![tactic(auto, using(crate::proofs::Firsts::none_at))]
+#![tactic(auto, using(crate::proofs::FirstErrors::none_at))]
 
 ghost use Rattle.std.specs.Prelude.{◌≡◌, None};
 ghost use Rattle.wkt_access.specs.Faults.{fault};

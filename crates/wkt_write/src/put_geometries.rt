@@ -1,5 +1,5 @@
 //! Writes a geometry of any kind. It has no error.
-#![tactic(auto, using(crate::proofs::Firsts::none_at))]
+#![tactic(auto, using(crate::proofs::FirstErrors::none_at))]
 
 ghost use Rattle.std.specs.Prelude.{◌≡◌, ◌++◌, None, codes};
 ghost use Rattle.wkt_access.specs.Faults.{fault};

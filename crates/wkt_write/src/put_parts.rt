@@ -2,7 +2,7 @@
 //!
 //! A body is what follows a header: the items of a geometry in parentheses, or EMPTY. `k` is how many
 //! numbers of each coordinate are written.
-#![tactic(auto, using(crate::proofs::Firsts::none_at))]
+#![tactic(auto, using(crate::proofs::FirstErrors::none_at))]
 
 ghost use Rattle.std.specs.Prelude.{◌≡◌, ◌≤◌, ◌<◌, [], ◌∷◌, ◌++◌, length, Some, None, map, codes, option_to_list};
 ghost use Rattle.wkt_access.specs.Faults.{coordinates_fault, point_fault, polygon_fault, first_fault};
@@ -60,7 +60,7 @@ pub(crate) fn put_coord<W: TextSink, C: CoordTrait>(f: &mut W, c: &C, k: usize) 
     put_numbers(f, c, k)
 }
 
-/// The same, one number after the other.
+/// Writes the first `k` numbers of a coordinate, one after the other.
 #[inline(never)]
 fn put_numbers<W: TextSink, C: CoordTrait>(f: &mut W, c: &C, k: usize) -> fmt::Result
     requires { k ≤ length (C.numbers c.now) }

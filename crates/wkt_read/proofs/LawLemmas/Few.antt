@@ -2,9 +2,9 @@
 use Rattle.std.proofs.Common.{◌≡◌, ◌≢◌, ℕ, ◌+◌, ◌≤◌, ◌<◌, List, [], ◌∷◌, ◌++◌, length, refl, ap, arith, length-append}
 use Rattle.wkt_num.specs.Bytes.{Lexeme}
 use Rattle.wkt_read.specs.Lexemes.{Takes, IsSplit}
-use Rattle.wkt_read.specs.Placed.{Placed, lexemes_of, placed}
+use Rattle.wkt_read.specs.Spanned.{Spanned, lexemes_of, spanned}
 use Rattle.wkt_read.proofs.LawLemmas.Stable.{body_not_empty}
-use Rattle.wkt_read.proofs.TokenizerLemmas.Placings.{placed-split}
+use Rattle.wkt_read.proofs.TokenizerLemmas.Placings.{spanned-split}
 
 long : (bs : List ℕ) → bs ≢ [] → 0 < length bs
 long [] some = absurd (some refl)
@@ -18,9 +18,9 @@ takes-few (l ∷ ls) text rest (gap, body, after, e, w, s, more) =
 pub few : (text : List ℕ) (ls : List Lexeme) → IsSplit text ls → length ls ≤ length text
 few text ls (rest, t, over) = omega (arith, takes-few ls text rest t)
 
-pub lexemes-length : (ps : List Placed) → length (lexemes_of ps) ≡ length ps
+pub lexemes-length : (ps : List Spanned) → length (lexemes_of ps) ≡ length ps
 lexemes-length [] = refl
 lexemes-length (p ∷ ps) = omega (arith, lexemes-length ps)
 
-pub placed-few : (text : List ℕ) → length (placed text) ≤ length text
-placed-few text = omega (arith, few text (lexemes_of (placed text)) (placed-split text), lexemes-length (placed text))
+pub spanned-few : (text : List ℕ) → length (spanned text) ≤ length text
+spanned-few text = omega (arith, few text (lexemes_of (spanned text)) (spanned-split text), lexemes-length (spanned text))

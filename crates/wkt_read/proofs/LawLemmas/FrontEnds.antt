@@ -6,7 +6,7 @@ use Rattle.wkt_access.specs.declared.dimensions.Dimension.{Dimension}
 use Rattle.wkt_access.specs.Values.{Value}
 use Rattle.wkt_types.specs.declared.geometry_type.GeometryType.{GeometryType}
 use Rattle.wkt_read.specs.Lexemes.{Takes, AreCharacters}
-use Rattle.wkt_read.specs.Placed.{Placed, lexemes_of, end_after, AreEnds}
+use Rattle.wkt_read.specs.Spanned.{Spanned, lexemes_of, end_after, AreEnds}
 use Rattle.wkt_read.specs.Grammar.{Header, StandFor}
 use Rattle.wkt_read.specs.Front.{Front}
 use Rattle.wkt_read.proofs.LawLemmas.Characters.{characters}
@@ -51,7 +51,7 @@ module _ {N : Type 0} (read : List ℕ → Option N) where
       subst (IsCharBoundary text) same (IsCharBoundary-at_seam text p.bytes f.rest p.is whole)
 
   -- where lexemes that stand for a value begin those of the text
-  pub front-of-lexemes : (text : List ℕ) (given later : List Placed) (v : Value N) → AreEnds text (given ++ later) → StandFor read (lexemes_of given) v → Front read text v (end_after 0 given)
+  pub front-of-lexemes : (text : List ℕ) (given later : List Spanned) (v : Value N) → AreEnds text (given ++ later) → StandFor read (lexemes_of given) v → Front read text v (end_after 0 given)
   front-of-lexemes text given later v are g =
       let (after, taken, ends) = are given later refl in
       record { lexemes = lexemes_of given; rest = after; taken = taken; reads = g; ends = ends }

@@ -6,27 +6,27 @@ use Rattle.wkt_access.specs.Values.{Value}
 use Rattle.wkt_read.specs.Lexemes.{IsSplit}
 use Rattle.wkt_read.specs.Grammar.{StandFor}
 use Rattle.wkt_read.specs.Front.{Front, HasNoFront}
-use Rattle.wkt_read.specs.Placed.{Placed, lexemes_of, end_after, AreEnds, placed}
-use Rattle.wkt_read.specs.Ahead.{left, rest, end_of, taken_of, IfLast, Advances}
-use Rattle.wkt_read.specs.Parser.Walks.{GoesOn}
+use Rattle.wkt_read.specs.Spanned.{Spanned, lexemes_of, end_after, AreEnds, spanned}
+use Rattle.wkt_read.specs.Ahead.{remaining, rest, end_of, taken_of, IfLast, Advances}
+use Rattle.wkt_read.specs.Parser.Walks.{StreamGoesOn}
 use Rattle.wkt_read.specs.Answered.{Begins, OnText, OnMessage}
 use Rattle.wkt_read.specs.Begun.{NoneBegins}
 use Rattle.wkt_read.specs.declared.error.ReadError.{ReadError}
 use Rattle.wkt_read.specs.declared.error.ReadError.TheVariants.{Text, Memory}
 use Rattle.wkt_read.specs.Standing.{Standing}
 use Rattle.wkt_read.proofs.TokenizerLemmas.Afters.{lexemes_of-append}
-use Rattle.wkt_read.proofs.TokenizerLemmas.Placings.{placed-split}
+use Rattle.wkt_read.proofs.TokenizerLemmas.Placings.{spanned-split}
 use Rattle.wkt_read.proofs.LawLemmas.FrontEnds.{geometry-some, front-of-lexemes}
 use Rattle.wkt_read.proofs.LawLemmas.Few.{lexemes-length}
 use Rattle.wkt_read.proofs.LawLemmas.Splits.{split_one}
 use Rattle.wkt_read.proofs.LawLemmas.Fronts.{taken_begin}
 
 module _ where
-  pub rest-is : (s : Standing) (ps : List Placed) → left s ≡ ps → rest s ≡ lexemes_of ps
+  pub rest-is : (s : Standing) (ps : List Spanned) → remaining s ≡ ps → rest s ≡ lexemes_of ps
   unfolding rest
   rest-is s ps e = ap lexemes_of e
 
-last-end : (x : Placed) (given : List Placed) (end : ℕ) → IfLast (x ∷ given) end → end_after x.end given ≡ end
+last-end : (x : Spanned) (given : List Spanned) (end : ℕ) → IfLast (x ∷ given) end → end_after x.end given ≡ end
 last-end x [] end last = last
 last-end x (y ∷ given) end last = last-end y given end last
 
@@ -35,12 +35,12 @@ long [] some = absurd (some refl)
 long (l ∷ ls) some = omega arith
 
 -- a lexeme that could have been the last one given
-abbrev marked : Standing → Placed
+abbrev marked : Standing → Spanned
 marked s = record { lexeme = Open; end = end_of s }
 
 module _ (s t : Standing) where
   -- a stream that is after whatever another is after: so much of that was taken
-  advanced : (x : Placed) (given : List Placed) → left s ≡ given ++ left t → x.end ≡ end_of s → IfLast (x ∷ given) (end_of t) → taken_of s ≤ taken_of t → Advances s t
+  advanced : (x : Spanned) (given : List Spanned) → remaining s ≡ given ++ remaining t → x.end ≡ end_of s → IfLast (x ∷ given) (end_of t) → taken_of s ≤ taken_of t → Advances s t
   advanced x given split at last grows = record {
     given = given;
     split = split;
@@ -48,15 +48,15 @@ module _ (s t : Standing) where
     grows = grows;
   }
 
-  pub advances : GoesOn s t → Advances s t
-  advances go = let b = go.keeps (marked s ∷ left s) (record { given = marked s ∷ []; split = refl; last = refl }) in pick b.given b.split b.last
+  pub advances : StreamGoesOn s t → Advances s t
+  advances go = let b = go.keeps (marked s ∷ remaining s) (record { given = marked s ∷ []; split = refl; last = refl }) in pick b.given b.split b.last
     where
-      pick : (given : List Placed) → marked s ∷ left s ≡ given ++ left t → IfLast given (end_of t) → Advances s t
-      pick [] e last = absurd (omega (arith, go.fewer, ap length e, ap length (rest-is s (left s) refl), ap length (rest-is t (left t) refl), lexemes-length (left s), lexemes-length (left t)))
+      pick : (given : List Spanned) → marked s ∷ remaining s ≡ given ++ remaining t → IfLast given (end_of t) → Advances s t
+      pick [] e last = absurd (omega (arith, go.fewer, ap length e, ap length (rest-is s (remaining s) refl), ap length (rest-is t (remaining t) refl), lexemes-length (remaining s), lexemes-length (remaining t)))
       pick (x ∷ given) e last =
-          let split : left s ≡ given ++ left t = cc in
+          let split : remaining s ≡ given ++ remaining t = cc in
           let same : marked s ≡ x = cc in
-          advanced x given split (ap (λ (p : Placed). p.end) (sym same)) last go.grows
+          advanced x given split (ap (λ (p : Spanned). p.end) (sym same)) last go.grows
 
 module _ {T : Type 0} (read : List ℕ → Option T) where
   -- a geometry was read, so a lexeme was taken
@@ -64,24 +64,24 @@ module _ {T : Type 0} (read : List ℕ → Option T) where
   some-taken ls v after (f, split, g) = omega (arith, long f (geometry-some read f v g), ap length split, length-append f after)
 
   -- where the front of a text ends
-  pub to-front : (text : List ℕ) (s t : Standing) (v : Value T) → AreEnds text (left s) → end_of s ≡ 0 → Advances s t → Begins read (rest s) v (rest t) → Front read text v (end_of t)
+  pub to-front : (text : List ℕ) (s t : Standing) (v : Value T) → AreEnds text (remaining s) → end_of s ≡ 0 → Advances s t → Begins read (rest s) v (rest t) → Front read text v (end_of t)
   to-front text s t v are zero a (f, split, g) =
-      let whole : lexemes_of a.given ++ rest t ≡ f ++ rest t = ap (λ l. lexemes_of a.given ++ l) (rest-is t (left t) refl) ∙ sym (lexemes_of-append a.given (left t)) ∙ ap lexemes_of (sym a.split) ∙ sym (rest-is s (left s) refl) ∙ split in
+      let whole : lexemes_of a.given ++ rest t ≡ f ++ rest t = ap (λ l. lexemes_of a.given ++ l) (rest-is t (remaining t) refl) ∙ sym (lexemes_of-append a.given (remaining t)) ∙ ap lexemes_of (sym a.split) ∙ sym (rest-is s (remaining s) refl) ∙ split in
       let same : f ≡ lexemes_of a.given = sym (append_cancel_right (lexemes_of a.given) f (rest t) whole) in
       let at : end_of t ≡ end_after 0 a.given = a.end ∙ ap (λ n. end_after n a.given) zero in
-      subst (Front read text v) (sym at) (front-of-lexemes read text a.given (left t) v (subst (AreEnds text) a.split are) (subst (λ l. StandFor read l v) same g))
+      subst (Front read text v) (sym at) (front-of-lexemes read text a.given (remaining t) v (subst (AreEnds text) a.split are) (subst (λ l. StandFor read l v) same g))
 
   -- the lexemes of a text with a front begin with it
-  pub from-front : (text : List ℕ) (s : Standing) (v : Value T) (end : ℕ) → left s ≡ placed text → Front read text v end → (after : List Lexeme) × Begins read (rest s) v after
+  pub from-front : (text : List ℕ) (s : Standing) (v : Value T) (end : ℕ) → remaining s ≡ spanned text → Front read text v end → (after : List Lexeme) × Begins read (rest s) v after
   from-front text s v end start front =
       let (more, is) = taken_begin text front.rest front.lexemes front.taken in
-      let same : lexemes_of (placed text) ≡ front.lexemes ++ more = split_one text _ _ (placed-split text) is in
-      (more, (front.lexemes, rest-is s (placed text) start ∙ same, front.reads))
+      let same : lexemes_of (spanned text) ≡ front.lexemes ++ more = split_one text _ _ (spanned-split text) is in
+      (more, (front.lexemes, rest-is s (spanned text) start ∙ same, front.reads))
 
-  pub split-of : (text : List ℕ) (s : Standing) → left s ≡ placed text → IsSplit text (rest s)
-  split-of text s start = subst (IsSplit text) (sym (rest-is s (placed text) start)) (placed-split text)
+  pub split-of : (text : List ℕ) (s : Standing) → remaining s ≡ spanned text → IsSplit text (rest s)
+  split-of text s start = subst (IsSplit text) (sym (rest-is s (spanned text) start)) (spanned-split text)
 
-  pub no-front : (text : List ℕ) (s : Standing) → left s ≡ placed text → NoneBegins read (rest s) → HasNoFront read text
+  pub no-front : (text : List ℕ) (s : Standing) → remaining s ≡ spanned text → NoneBegins read (rest s) → HasNoFront read text
   no-front text s start none v end front =
       let (after, (f, split, g)) = from-front text s v end start front in
       none f after v split g

@@ -9,22 +9,22 @@ use borrow.Author.Tests.{ne_eqb}
 use Rattle.wkt_num.specs.Bytes.{Lexeme, Class, Nul, White, Mark, Run, class_of}
 use Rattle.wkt_num.specs.Bytes as lex
 use Rattle.wkt_read.specs.Lexemes.{lexeme_of}
-use Rattle.wkt_read.specs.Placed.{Placed, marks, front, after_run, joined, placed_from}
-use Rattle.wkt_read.specs.declared.tokenizer.scan.Class as code
-use Rattle.wkt_read.specs.declared.tokenizer.scan.Class.TheVariants as class
-use Rattle.wkt_read.specs.Tokenizer.Scan.{meant, coming_at, IsRunSoFar, EndsRun, Found}
+use Rattle.wkt_read.specs.Spanned.{Spanned, marks, front, after_run, joined, spanned_from}
+use Rattle.wkt_read.specs.declared.tokenizer.scan.ByteClass as code
+use Rattle.wkt_read.specs.declared.tokenizer.scan.ByteClass.TheVariants as class
+use Rattle.wkt_read.specs.Tokenizer.Scan.{meant, coming_at, IsRunSoFar, EndsRun, FoundClass}
 use Rattle.wkt_read.proofs.LawLemmas.Characters.{run_or_ascii}
 
 -- after a byte that is no part of a run
-placed-mark : (c : Class) (b at : ℕ) (bytes : List ℕ) → class_of b ≡ c → c ≢ Run → placed_from at (b ∷ bytes) ≡ marks c (suc at) (placed_from (suc at) bytes)
-unfolding front placed_from
-placed-mark c b at bytes e h =
+spanned-mark : (c : Class) (b at : ℕ) (bytes : List ℕ) → class_of b ≡ c → c ≢ Run → spanned_from at (b ∷ bytes) ≡ marks c (suc at) (spanned_from (suc at) bytes)
+unfolding front spanned_from
+spanned-mark c b at bytes e h =
     let p = front (suc at) bytes in
     subst (λ k. after_run at (joined k b at p.0 p.1).0 (joined k b at p.0 p.1).1 ≡ marks c (suc at) (after_run (suc at) p.0 p.1)) (sym e)
     (elim c as (λ c. c ≢ Run → after_run at (joined c b at p.0 p.1).0 (joined c b at p.0 p.1).1 ≡ marks c (suc at) (after_run (suc at) p.0 p.1)) [ Nul ↦ λ h. refl | White ↦ λ h. refl | Mark l ↦ λ h. refl | Run ↦ λ h. absurd (h refl) ] h)
 
-front-mark : (c : Class) (b at : ℕ) (bytes : List ℕ) → class_of b ≡ c → c ≢ Run → front at (b ∷ bytes) ≡ ([], marks c (suc at) (placed_from (suc at) bytes))
-unfolding front placed_from
+front-mark : (c : Class) (b at : ℕ) (bytes : List ℕ) → class_of b ≡ c → c ≢ Run → front at (b ∷ bytes) ≡ ([], marks c (suc at) (spanned_from (suc at) bytes))
+unfolding front spanned_from
 front-mark c b at bytes e h =
     let p = front (suc at) bytes in
     subst (λ k. joined k b at p.0 p.1 ≡ ([], marks c (suc at) (after_run (suc at) p.0 p.1))) (sym e)
@@ -37,7 +37,7 @@ front-run b at bytes e =
     subst (λ k. joined k b at p.0 p.1 ≡ (b ∷ p.0, p.1)) (sym e) refl
 
 -- a class that is not a run's means none
-no-run : (c : code.Class) → c ≢ class.Run → meant c ≢ Run
+no-run : (c : code.ByteClass) → c ≢ class.Run → meant c ≢ Run
 no-run class.Nul h = λ e. cc
 no-run class.White h = λ e. cc
 no-run class.Open h = λ e. cc
@@ -46,8 +46,8 @@ no-run class.Comma h = λ e. cc
 no-run class.Run h = absurd (h refl)
 
 -- where a cursor starts
-pub found-start : (text : List ℕ) (ahead : code.Class) (at : ℕ) → ahead ≢ class.Run → IsCharBoundary text at → Found (coming_at text (meant ahead) at) text ahead at
-unfolding front placed_from
+pub found-start : (text : List ℕ) (ahead : code.ByteClass) (at : ℕ) → ahead ≢ class.Run → IsCharBoundary text at → FoundClass (coming_at text (meant ahead) at) text ahead at
+unfolding front spanned_from
 found-start text class.Nul at h boundary = (refl, boundary)
 found-start text class.White at h boundary = (refl, boundary)
 found-start text class.Open at h boundary = (refl, boundary)
@@ -55,9 +55,9 @@ found-start text class.Close at h boundary = (refl, boundary)
 found-start text class.Comma at h boundary = (refl, boundary)
 found-start text class.Run at h boundary = absurd (h refl)
 
-pub found-end : (left : List Placed) (text : List ℕ) (at : ℕ) → left ≡ coming_at text White at → at ≡ length text → Found left text class.Nul at
-unfolding front placed_from
-found-end left text at e end = (e ∙ ap (λ l. placed_from at l) (ap (λ n. drop n text) end ∙ drop-length text), subst (IsCharBoundary text) (sym end) (IsCharBoundary-end text))
+pub found-end : (remaining : List Spanned) (text : List ℕ) (at : ℕ) → remaining ≡ coming_at text White at → at ≡ length text → FoundClass remaining text class.Nul at
+unfolding front spanned_from
+found-end remaining text at e end = (e ∙ ap (λ l. spanned_from at l) (ap (λ n. drop n text) end ∙ drop-length text), subst (IsCharBoundary text) (sym end) (IsCharBoundary-end text))
 
 -- the byte at `at` is taken
 module _ (text : List ℕ) (at : ℕ) (utf8 : IsUtf8 text) (inside : at < length text) where
@@ -65,12 +65,12 @@ module _ (text : List ℕ) (at : ℕ) (utf8 : IsUtf8 text) (inside : at < length
   next = rw add-one (drop-cons text at 0 inside)
 
   -- it is no part of a run
-  found-mark : (left : List Placed) (c : code.Class) → c ≢ class.Run → class_of (get_or text at 0) ≡ meant c → left ≡ coming_at text White at → Found left text c (at + 1)
-  found-mark left c h e is =
+  found-mark : (remaining : List Spanned) (c : code.ByteClass) → c ≢ class.Run → class_of (get_or text at 0) ≡ meant c → remaining ≡ coming_at text White at → FoundClass remaining text c (at + 1)
+  found-mark remaining c h e is =
       let b = get_or text at 0 in
       let boundary = IsCharBoundary-after_ascii text at utf8 inside (run_or_ascii b (λ o. no-run c h (sym e ∙ o))) in
-      let moved : left ≡ coming_at text (meant c) (at + 1) = is ∙ ap (placed_from at) next ∙ placed-mark (meant c) b at (drop (at + 1) text) e (no-run c h) ∙ rw add-one refl in
-      elim c as (λ c. c ≢ class.Run → left ≡ coming_at text (meant c) (at + 1) → Found left text c (at + 1)) [ class.Nul ↦ λ h m. (m, boundary) | class.White ↦ λ h m. (m, boundary) | class.Open ↦ λ h m. (m, boundary) | class.Close ↦ λ h m. (m, boundary) | class.Comma ↦ λ h m. (m, boundary) | class.Run ↦ λ h m. absurd (h refl) ] h moved
+      let moved : remaining ≡ coming_at text (meant c) (at + 1) = is ∙ ap (spanned_from at) next ∙ spanned-mark (meant c) b at (drop (at + 1) text) e (no-run c h) ∙ rw add-one refl in
+      elim c as (λ c. c ≢ class.Run → remaining ≡ coming_at text (meant c) (at + 1) → FoundClass remaining text c (at + 1)) [ class.Nul ↦ λ h m. (m, boundary) | class.White ↦ λ h m. (m, boundary) | class.Open ↦ λ h m. (m, boundary) | class.Close ↦ λ h m. (m, boundary) | class.Comma ↦ λ h m. (m, boundary) | class.Run ↦ λ h m. absurd (h refl) ] h moved
 
   -- it is a part of a run
   run-more : (from : ℕ) → class_of (get_or text at 0) ≡ Run → IsRunSoFar text from at → IsRunSoFar text from (at + 1)
@@ -90,21 +90,21 @@ module _ (text : List ℕ) (at : ℕ) (utf8 : IsUtf8 text) (inside : at < length
       }
 
   -- a run begins there
-  found-run : (left : List Placed) → class_of (get_or text at 0) ≡ Run → left ≡ coming_at text White at → IsCharBoundary text at → Found left text class.Run (at + 1)
-  found-run left e is boundary =
+  found-run : (remaining : List Spanned) → class_of (get_or text at 0) ≡ Run → remaining ≡ coming_at text White at → IsCharBoundary text at → FoundClass remaining text class.Run (at + 1)
+  found-run remaining e is boundary =
       let none : at - at ≡ 0 = omega arith in
       (at, refl, is, run-more at e (record { order = omega arith; run = ap (λ n. take n (drop at text) ++ (front at (drop at text)).0) (sym none); later = refl }), boundary)
 
-  found-next : (left : List Placed) (c : code.Class) → class_of (get_or text at 0) ≡ meant c → Found left text class.White at → Found left text c (at + 1)
-  found-next left class.Nul e before = found-mark left class.Nul (λ o. cc) e before.0
-  found-next left class.White e before = found-mark left class.White (λ o. cc) e before.0
-  found-next left class.Open e before = found-mark left class.Open (λ o. cc) e before.0
-  found-next left class.Close e before = found-mark left class.Close (λ o. cc) e before.0
-  found-next left class.Comma e before = found-mark left class.Comma (λ o. cc) e before.0
-  found-next left class.Run e before = found-run left e before.0 before.1
+  found-next : (remaining : List Spanned) (c : code.ByteClass) → class_of (get_or text at 0) ≡ meant c → FoundClass remaining text class.White at → FoundClass remaining text c (at + 1)
+  found-next remaining class.Nul e before = found-mark remaining class.Nul (λ o. cc) e before.0
+  found-next remaining class.White e before = found-mark remaining class.White (λ o. cc) e before.0
+  found-next remaining class.Open e before = found-mark remaining class.Open (λ o. cc) e before.0
+  found-next remaining class.Close e before = found-mark remaining class.Close (λ o. cc) e before.0
+  found-next remaining class.Comma e before = found-mark remaining class.Comma (λ o. cc) e before.0
+  found-next remaining class.Run e before = found-run remaining e before.0 before.1
 
   -- it ends a run
-  ends-run : (from : ℕ) (c : code.Class) → class_of (get_or text at 0) ≡ meant c → c ≢ class.Run → IsRunSoFar text from at → EndsRun text from at (at + 1) c
+  ends-run : (from : ℕ) (c : code.ByteClass) → class_of (get_or text at 0) ≡ meant c → c ≢ class.Run → IsRunSoFar text from at → EndsRun text from at (at + 1) c
   ends-run from c e h so_far =
       let b = get_or text at 0 in
       let low = run_or_ascii b (λ o. no-run c h (sym e ∙ o)) in
@@ -141,15 +141,15 @@ unfolding class_of
 late-run b h = rw (ne_eqb b 0 (λ e. omega arith), ne_eqb b 32 (λ e. omega arith), ne_eqb b 10 (λ e. omega arith), ne_eqb b 13 (λ e. omega arith), ne_eqb b 9 (λ e. omega arith), ne_eqb b 40 (λ e. omega arith), ne_eqb b 41 (λ e. omega arith), ne_eqb b 44 (λ e. omega arith)) refl
 
 -- one turn of the loop over white space
-pub first-step : (left : List Placed) (text text' : List ℕ) (was c : code.Class) (at at' b : ℕ) → text' ≡ text → at' ≡ at + 1 → at < length text → b ≡ get_or text at 0 → IsUtf8 text → was ≡ class.White → meant c ≡ class_of b → Found left text was at → Found left text' c at'
-first-step left text text' was c at at' b same count inside byte utf8 white is before =
-    subst (λ t. Found left t c at') (sym same) (subst (Found left text c) (sym count) (found-next text at utf8 inside left c (ap class_of (sym byte) ∙ sym is) (subst (λ k. Found left text k at) white before)))
+pub first-step : (remaining : List Spanned) (text text' : List ℕ) (was c : code.ByteClass) (at at' b : ℕ) → text' ≡ text → at' ≡ at + 1 → at < length text → b ≡ get_or text at 0 → IsUtf8 text → was ≡ class.White → meant c ≡ class_of b → FoundClass remaining text was at → FoundClass remaining text' c at'
+first-step remaining text text' was c at at' b same count inside byte utf8 white is before =
+    subst (λ t. FoundClass remaining t c at') (sym same) (subst (FoundClass remaining text c) (sym count) (found-next text at utf8 inside remaining c (ap class_of (sym byte) ∙ sym is) (subst (λ k. FoundClass remaining text k at) white before)))
 
-pub run-step : (text text' : List ℕ) (from at at' b : ℕ) (c : code.Class) → text' ≡ text → at' ≡ at + 1 → at < length text → b ≡ get_or text at 0 → IsUtf8 text → meant c ≡ class_of b → c ≡ class.Run → IsRunSoFar text from at → IsRunSoFar text' from at'
+pub run-step : (text text' : List ℕ) (from at at' b : ℕ) (c : code.ByteClass) → text' ≡ text → at' ≡ at + 1 → at < length text → b ≡ get_or text at 0 → IsUtf8 text → meant c ≡ class_of b → c ≡ class.Run → IsRunSoFar text from at → IsRunSoFar text' from at'
 run-step text text' from at at' b c same count inside byte utf8 is run before =
     subst (λ t. IsRunSoFar t from at') (sym same) (subst (IsRunSoFar text from) (sym count) (run-more text at utf8 inside from (ap class_of (sym byte) ∙ sym is ∙ ap meant run) before))
 
-pub run-end : (text text' : List ℕ) (from at at' end b : ℕ) (c : code.Class) → text' ≡ text → at' ≡ at + 1 → end ≡ at → at < length text → b ≡ get_or text at 0 → IsUtf8 text → meant c ≡ class_of b → (c ≡ class.Run → ⊥) → IsRunSoFar text from at → EndsRun text' from end at' c
+pub run-end : (text text' : List ℕ) (from at at' end b : ℕ) (c : code.ByteClass) → text' ≡ text → at' ≡ at + 1 → end ≡ at → at < length text → b ≡ get_or text at 0 → IsUtf8 text → meant c ≡ class_of b → (c ≡ class.Run → ⊥) → IsRunSoFar text from at → EndsRun text' from end at' c
 run-end text text' from at at' end b c same count ends inside byte utf8 is other before =
     subst (λ t. EndsRun t from end at' c) (sym same) (subst (λ n. EndsRun text from end n c) (sym count) (subst (λ n. EndsRun text from n (at + 1) c) (sym ends) (ends-run text at utf8 inside from c (ap class_of (sym byte) ∙ sym is) other before)))
 
@@ -157,22 +157,22 @@ pub run-end-text : (text text' : List ℕ) (from at at' end : ℕ) → text' ≡
 run-end-text text text' from at at' end same count ends last before =
     subst (λ t. EndsRun t from end at' class.Nul) (sym same) (subst (λ n. EndsRun text from end n class.Nul) (sym count) (subst (λ n. EndsRun text from n at class.Nul) (sym ends) (ends-text text from at last before)))
 
-pub first-end : (left : List Placed) (text text' : List ℕ) (was : code.Class) (at at' : ℕ) → text' ≡ text → at' ≡ at → at ≡ length text → was ≡ class.White → Found left text was at → Found left text' class.Nul at'
-first-end left text text' was at at' same count last white before =
-    subst (λ t. Found left t class.Nul at') (sym same) (subst (Found left text class.Nul) (sym count) (found-end left text at (subst (λ k. Found left text k at) white before).0 last))
+pub first-end : (remaining : List Spanned) (text text' : List ℕ) (was : code.ByteClass) (at at' : ℕ) → text' ≡ text → at' ≡ at → at ≡ length text → was ≡ class.White → FoundClass remaining text was at → FoundClass remaining text' class.Nul at'
+first-end remaining text text' was at at' same count last white before =
+    subst (λ t. FoundClass remaining t class.Nul at') (sym same) (subst (FoundClass remaining text class.Nul) (sym count) (found-end remaining text at (subst (λ k. FoundClass remaining text k at) white before).0 last))
 
-after-run : (at : ℕ) (run : List ℕ) (later : List Placed) → 0 < length run → after_run at run later ≡ record { lexeme = lexeme_of run; end = at + length run } ∷ later
+after-run : (at : ℕ) (run : List ℕ) (later : List Spanned) → 0 < length run → after_run at run later ≡ record { lexeme = lexeme_of run; end = at + length run } ∷ later
 after-run at [] later h = absurd (omega arith)
 after-run at (b ∷ run) later h = refl
 
 -- a run is the first lexeme
-pub gives-run : (lexemes : List Placed) (text text' : List ℕ) (from end at : ℕ) (ahead : code.Class) (l : Lexeme) → lexemes ≡ placed_from from (drop from text) → text' ≡ text → from < end → EndsRun text' from end at ahead → l ≡ lexeme_of (slice_range text' from end) → lexemes ≡ record { lexeme = l; end = end } ∷ coming_at text' (meant ahead) at
-unfolding placed_from
+pub gives-run : (lexemes : List Spanned) (text text' : List ℕ) (from end at : ℕ) (ahead : code.ByteClass) (l : Lexeme) → lexemes ≡ spanned_from from (drop from text) → text' ≡ text → from < end → EndsRun text' from end at ahead → l ≡ lexeme_of (slice_range text' from end) → lexemes ≡ record { lexeme = l; end = end } ∷ coming_at text' (meant ahead) at
+unfolding spanned_from
 gives-run lexemes text text' from end at ahead l is same order ends shows =
     let until = ends.until.0 in
     let len : length (slice_range text' from end) ≡ end - from = simp (length-take, length-drop) (omega arith) in
     let sum : from + length (slice_range text' from end) ≡ end = omega (arith, len) in
-    is ∙ ap (λ t. placed_from from (drop from t)) (sym same)
+    is ∙ ap (λ t. spanned_from from (drop from t)) (sym same)
     ∙ ap (λ r. after_run from r (front from (drop from text')).1) ends.run
     ∙ after-run from (slice_range text' from end) _ (omega (arith, len))
     ∙ ap (λ n. record { lexeme = lexeme_of (slice_range text' from end); end = n } ∷ (front from (drop from text')).1) sum
@@ -180,20 +180,20 @@ gives-run lexemes text text' from end at ahead l is same order ends shows =
     ∙ ap (λ y. record { lexeme = y; end = end } ∷ coming_at text' (meant ahead) at) (sym shows)
 
 -- nothing is left
-pub found-nul : (lexemes : List Placed) (text : List ℕ) (c : code.Class) (at : ℕ) → (c ≡ class.Nul) ⊎ (c ≡ class.White) → c ≢ class.White → Found lexemes text c at → lexemes ≡ []
-found-nul lexemes text c at either stops found = ⊎_elim (λ e. let r : Found lexemes text class.Nul at = subst (λ k. Found lexemes text k at) e found in r.0) (λ e. absurd (stops e)) either
+pub found-nul : (lexemes : List Spanned) (text : List ℕ) (c : code.ByteClass) (at : ℕ) → (c ≡ class.Nul) ⊎ (c ≡ class.White) → c ≢ class.White → FoundClass lexemes text c at → lexemes ≡ []
+found-nul lexemes text c at either stops found = ⊎_elim (λ e. let r : FoundClass lexemes text class.Nul at = subst (λ k. FoundClass lexemes text k at) e found in r.0) (λ e. absurd (stops e)) either
 
 -- a run is what begins
-pub run-found : (lexemes : List Placed) (text : List ℕ) (c : code.Class) (at : ℕ) → c ≡ class.Run → Found lexemes text c at → Found lexemes text class.Run at
-run-found lexemes text c at e found = subst (λ k. Found lexemes text k at) e found
+pub run-found : (lexemes : List Spanned) (text : List ℕ) (c : code.ByteClass) (at : ℕ) → c ≡ class.Run → FoundClass lexemes text c at → FoundClass lexemes text class.Run at
+run-found lexemes text c at e found = subst (λ k. FoundClass lexemes text k at) e found
 
 -- a mark is the first lexeme
-module _ (lexemes : List Placed) (text : List ℕ) (c : code.Class) (at end : ℕ) where
-  pub gives-open : c ≡ class.Open → end ≡ at → Found lexemes text c at → lexemes ≡ record { lexeme = lex.Open; end = end } ∷ placed_from at (drop at text)
-  gives-open e ends found = let r : Found lexemes text class.Open at = subst (λ k. Found lexemes text k at) e found in r.0 ∙ ap (λ n. record { lexeme = lex.Open; end = n } ∷ placed_from at (drop at text)) (sym ends)
+module _ (lexemes : List Spanned) (text : List ℕ) (c : code.ByteClass) (at end : ℕ) where
+  pub gives-open : c ≡ class.Open → end ≡ at → FoundClass lexemes text c at → lexemes ≡ record { lexeme = lex.Open; end = end } ∷ spanned_from at (drop at text)
+  gives-open e ends found = let r : FoundClass lexemes text class.Open at = subst (λ k. FoundClass lexemes text k at) e found in r.0 ∙ ap (λ n. record { lexeme = lex.Open; end = n } ∷ spanned_from at (drop at text)) (sym ends)
 
-  pub gives-close : c ≡ class.Close → end ≡ at → Found lexemes text c at → lexemes ≡ record { lexeme = lex.Close; end = end } ∷ placed_from at (drop at text)
-  gives-close e ends found = let r : Found lexemes text class.Close at = subst (λ k. Found lexemes text k at) e found in r.0 ∙ ap (λ n. record { lexeme = lex.Close; end = n } ∷ placed_from at (drop at text)) (sym ends)
+  pub gives-close : c ≡ class.Close → end ≡ at → FoundClass lexemes text c at → lexemes ≡ record { lexeme = lex.Close; end = end } ∷ spanned_from at (drop at text)
+  gives-close e ends found = let r : FoundClass lexemes text class.Close at = subst (λ k. FoundClass lexemes text k at) e found in r.0 ∙ ap (λ n. record { lexeme = lex.Close; end = n } ∷ spanned_from at (drop at text)) (sym ends)
 
-  pub gives-comma : c ≡ class.Comma → end ≡ at → Found lexemes text c at → lexemes ≡ record { lexeme = lex.Comma; end = end } ∷ placed_from at (drop at text)
-  gives-comma e ends found = let r : Found lexemes text class.Comma at = subst (λ k. Found lexemes text k at) e found in r.0 ∙ ap (λ n. record { lexeme = lex.Comma; end = n } ∷ placed_from at (drop at text)) (sym ends)
+  pub gives-comma : c ≡ class.Comma → end ≡ at → FoundClass lexemes text c at → lexemes ≡ record { lexeme = lex.Comma; end = end } ∷ spanned_from at (drop at text)
+  gives-comma e ends found = let r : FoundClass lexemes text class.Comma at = subst (λ k. FoundClass lexemes text k at) e found in r.0 ∙ ap (λ n. record { lexeme = lex.Comma; end = n } ∷ spanned_from at (drop at text)) (sym ends)

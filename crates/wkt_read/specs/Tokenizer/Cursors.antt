@@ -4,4 +4,4 @@ use Rattle.wkt_read.specs.declared.tokenizer.cursor.Cursor.{Cursor}
 
 -- how many bytes of its text were taken
 unfoldable pub taken_in : Cursor → ℕ
-taken_in c = length c.text.now - length c.left.now
+taken_in c = length c.text.now - length c.remaining.now

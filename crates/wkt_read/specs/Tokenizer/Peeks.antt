@@ -1,25 +1,25 @@
 -- How the fields of a stream that was looked at ahead are seen. Only its model cites this file.
 use Rattle.std.specs.Prelude.{◌≡◌, ℕ, ◌+◌, ◌≤◌, ◌∷◌, [], List, Option, Some, None}
 use Rattle.wkt_num.specs.Bytes.{Lexeme}
-use Rattle.wkt_read.specs.Placed.{Placed}
+use Rattle.wkt_read.specs.Spanned.{Spanned}
 use Rattle.wkt_read.specs.Standing.{Standing}
 use Rattle.wkt_read.specs.Tokenizer.Unread.{found}
 use Rattle.wkt_read.specs.declared.tokenizer.tokens.Lexeme as code
 use Rattle.wkt_read.specs.declared.tokenizer.peekable.PeekableTokens.TheInside.{Inside}
 
 -- a lexeme that was looked at, before the later ones; after the text's end none stands
-abbrev pub looked_at : Option Lexeme → ℕ → List Placed → List Placed
+abbrev pub looked_at : Option Lexeme → ℕ → List Spanned → List Spanned
 looked_at None end later = []
 looked_at (Some l) end later = record { lexeme = l; end = end } ∷ later
 
 -- what was looked at, if anything was, before the later lexemes
-abbrev pub after_look : Option code.Lexeme → ℕ → List Placed → List Placed
+abbrev pub after_look : Option code.Lexeme → ℕ → List Spanned → List Spanned
 after_look None end later = later
 after_look (Some lexeme) end later = looked_at (found lexeme) end later
 
 -- where a stream stands of which a lexeme may have been looked at
 abbrev pub stands_ahead : {T : Type 0} → Inside T → Standing
-stands_ahead p = record { left = after_look p.ahead p.tokens.end p.tokens.left; end = p.end; taken = p.tokens.taken }
+stands_ahead p = record { remaining = after_look p.ahead p.tokens.end p.tokens.remaining; end = p.end; taken = p.tokens.taken }
 
 -- The lexeme that was looked at is the last that the stream below gave, and where none was, none was given below either.
 pub record IsAhead {T : Type 0} (p : Inside T) : Type 0 where

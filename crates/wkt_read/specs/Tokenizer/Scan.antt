@@ -3,12 +3,12 @@ use Rattle.std.specs.Prelude.{◌≡◌, ◌≢◌, ℕ, ◌+◌, ◌≤◌, ◌
 use Rattle.std.specs.Str.{IsCharBoundary}
 use Rattle.wkt_num.specs.Bytes as lex
 use Rattle.wkt_num.specs.Bytes.{Class, White, Mark}
-use Rattle.wkt_read.specs.Placed.{Placed, marks, front, placed_from}
-use Rattle.wkt_read.specs.declared.tokenizer.scan.Class as code
-use Rattle.wkt_read.specs.declared.tokenizer.scan.Class.TheVariants as class
+use Rattle.wkt_read.specs.Spanned.{Spanned, marks, front, spanned_from}
+use Rattle.wkt_read.specs.declared.tokenizer.scan.ByteClass as code
+use Rattle.wkt_read.specs.declared.tokenizer.scan.ByteClass.TheVariants as class
 
 -- the class that the code's word means
-abbrev pub meant : code.Class → Class
+abbrev pub meant : code.ByteClass → Class
 meant class.Nul = lex.Nul
 meant class.White = White
 meant class.Open = Mark lex.Open
@@ -17,8 +17,8 @@ meant class.Comma = Mark lex.Comma
 meant class.Run = lex.Run
 
 -- the lexemes at a place of a text, after a byte of this class
-abbrev pub coming_at : List ℕ → Class → ℕ → List Placed
-coming_at text ahead at = marks ahead at (placed_from at (drop at text))
+abbrev pub coming_at : List ℕ → Class → ℕ → List Spanned
+coming_at text ahead at = marks ahead at (spanned_from at (drop at text))
 
 -- The bytes from `from` to `at` are in the run that begins at `from`.
 pub record IsRunSoFar (text : List ℕ) (from at : ℕ) : Type 0 where
@@ -27,7 +27,7 @@ pub record IsRunSoFar (text : List ℕ) (from at : ℕ) : Type 0 where
   pub later : (front from (drop from text)).1 ≡ (front at (drop at text)).1
 
 -- The run that begins at `from` ends at `end`; the byte after it, of this class, was taken too.
-pub record EndsRun (text : List ℕ) (from end at : ℕ) (ahead : code.Class) : Type 0 where
+pub record EndsRun (text : List ℕ) (from end at : ℕ) (ahead : code.ByteClass) : Type 0 where
   pub order : from ≤ end
   pub taken : end ≤ at
   pub near : at ≤ end + 1
@@ -43,17 +43,17 @@ pub record RunGoesOn (text : List ℕ) (at after : ℕ) : Type 0 where
   pub run : (from : ℕ) → IsRunSoFar text from at → IsRunSoFar text from after
 
 -- Each run that came to `at` ends at `end`; the byte after it, if there is one, is of this class and was taken.
-pub record RunEnds (text : List ℕ) (at end after : ℕ) (ahead : code.Class) : Type 0 where
+pub record RunEnds (text : List ℕ) (at end after : ℕ) (ahead : code.ByteClass) : Type 0 where
   pub grows : at ≤ after
   pub on : at ≤ end
   pub run : (from : ℕ) → IsRunSoFar text from at → EndsRun text from end after ahead
   pub other : ahead ≢ class.Run
 
 -- Of the lexemes `left`, the first begins with a byte of this class, the last that was taken.
-abbrev pub Found : List Placed → List ℕ → code.Class → ℕ → Type 0
-Found left text class.Nul at = (left ≡ []) × IsCharBoundary text at
-Found left text class.White at = (left ≡ coming_at text White at) × IsCharBoundary text at
-Found left text class.Open at = (left ≡ coming_at text (meant class.Open) at) × IsCharBoundary text at
-Found left text class.Close at = (left ≡ coming_at text (meant class.Close) at) × IsCharBoundary text at
-Found left text class.Comma at = (left ≡ coming_at text (meant class.Comma) at) × IsCharBoundary text at
-Found left text class.Run at = (from : ℕ) × (from + 1 ≡ at) × (left ≡ placed_from from (drop from text)) × IsRunSoFar text from at × IsCharBoundary text from
+abbrev pub FoundClass : List Spanned → List ℕ → code.ByteClass → ℕ → Type 0
+FoundClass remaining text class.Nul at = (remaining ≡ []) × IsCharBoundary text at
+FoundClass remaining text class.White at = (remaining ≡ coming_at text White at) × IsCharBoundary text at
+FoundClass remaining text class.Open at = (remaining ≡ coming_at text (meant class.Open) at) × IsCharBoundary text at
+FoundClass remaining text class.Close at = (remaining ≡ coming_at text (meant class.Close) at) × IsCharBoundary text at
+FoundClass remaining text class.Comma at = (remaining ≡ coming_at text (meant class.Comma) at) × IsCharBoundary text at
+FoundClass remaining text class.Run at = (from : ℕ) × (from + 1 ≡ at) × (remaining ≡ spanned_from from (drop from text)) × IsRunSoFar text from at × IsCharBoundary text from

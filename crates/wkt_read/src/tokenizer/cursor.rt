@@ -7,9 +7,9 @@ ghost use Rattle.std.specs.Str.{IsCharBoundary, IsUtf8};
 pub(crate) struct Cursor<'a> {
     text: &'a str,
     // The bytes that were not taken yet, to the text's end.
-    left: &'a [u8],
-    ghost in_range: { length left.now ≤ length text.now },
-    ghost is_end: { left.now ≡ drop (length text.now - length left.now) text.now },
+    remaining: &'a [u8],
+    ghost in_range: { length remaining.now ≤ length text.now },
+    ghost is_end: { remaining.now ≡ drop (length text.now - length remaining.now) text.now },
 }
 
 #[tactic(auto, unfolding(crate::specs::Tokenizer::Cursors::taken_in))]
@@ -23,7 +23,7 @@ impl<'a> Cursor<'a> {
     {
         Cursor {
             text,
-            left: text.as_bytes(),
+            remaining: text.as_bytes(),
         }
     }
 
@@ -32,20 +32,20 @@ impl<'a> Cursor<'a> {
     pub(crate) fn taken(&self) -> usize
         ensures { result ≡ taken_in self.now }
     {
-        self.text.len() - self.left.len()
+        self.text.len() - self.remaining.len()
     }
 
     /// How many bytes are left to be taken.
     #[inline(always)]
-    pub(crate) fn left(&self) -> usize {
-        self.left.len()
+    pub(crate) fn remaining(&self) -> usize {
+        self.remaining.len()
     }
 
     /// More than the bytes that are left, by two.
     pub(crate) fn most_left(&self) -> usize
-        ensures { result ≡ length self.now.left.now + 2 }
+        ensures { result ≡ length self.now.remaining.now + 2 }
     {
-        self.left.len() + 2
+        self.remaining.len() + 2
     }
 
     /// The next byte.
@@ -60,9 +60,9 @@ impl<'a> Cursor<'a> {
     {
         // As the bytes of a text they are UTF-8, on which the readers of runs rest.
         let _ = self.text.as_bytes();
-        match self.left {
-            [byte, left @ ..] => {
-                self.left = left;
+        match self.remaining {
+            [byte, remaining @ ..] => {
+                self.remaining = remaining;
                 Some(*byte)
             }
             [] => None,

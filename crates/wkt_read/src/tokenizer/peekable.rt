@@ -5,7 +5,7 @@ ghost use Rattle.wkt_num.specs.Bytes.{Lexeme, Close, Comma, Open};
 ghost use Rattle.wkt_read.specs.Tokenizer.Unread.{found};
 
 use crate::keywords::kind_of;
-use crate::tokenizer::tokens::{Lexeme, Token, Tokens, item_apart};
+use crate::tokenizer::tokens::{Lexeme, Token, Tokens, slow_item};
 use std::marker::Model;
 use wkt_access::Dimension;
 use wkt_num::WktNum;
@@ -19,16 +19,16 @@ pub struct PeekableTokens<'a, T> {
     end: usize,
 }
 
-// None, which comes through memory: its place is cleared here, away from what is answered in registers.
+// None, which comes through memory: its place is cleared here, away from what is returned in registers.
 #[inline(always)]
 fn none<T>() -> Option<T>
     ensures { result ≡ None }
 {
-    none_apart()
+    none_outlined()
 }
 
 #[inline(never)]
-fn none_apart<T>() -> Option<T>
+fn none_outlined<T>() -> Option<T>
     ensures { result ≡ None }
 {
     None
@@ -50,14 +50,14 @@ impl<'a, T> Model for PeekableTokens<'a, T> {
 impl<'a, T: WktNum> PeekableTokens<'a, T> {
     ghost use Rattle.wkt_read.specs.Stream.{coming, bytes_taken, end_of_last};
     ghost use Rattle.wkt_read.specs.Items.{IsItem};
-    ghost use Rattle.wkt_read.specs.Ahead.{left, taken_of, end_of, rest, first_of, Moves};
-    ghost use Rattle.wkt_read.specs.Parser.Walks.{TakesNext, IsFirst, GoesOn};
+    ghost use Rattle.wkt_read.specs.Ahead.{remaining, taken_of, end_of, rest, first_of, Moves};
+    ghost use Rattle.wkt_read.specs.Parser.Walks.{TakesNext, IsFirst, StreamGoesOn};
     ghost use Rattle.wkt_read.specs.Ahead.{IsNear};
     ghost use Rattle.wkt_read.specs.Taking.{Looks, StaysUnread, TakesNumber, TakesKind};
 
     /// The lexemes that the stream has still to give; none is looked at yet.
     pub fn new(tokens: Tokens<'a, T>) -> Self
-        ensures left { left result ≡ coming tokens.entry }
+        ensures left { remaining result ≡ coming tokens.entry }
         ensures taken { taken_of result ≡ bytes_taken tokens.entry }
         ensures end { end_of result ≡ end_of_last tokens.entry }
     {
@@ -85,7 +85,7 @@ impl<'a, T: WktNum> PeekableTokens<'a, T> {
 
     /// No more lexemes are left than this. It reads none of them.
     pub fn most_left(&self) -> usize
-        ensures { length (left self.now) ≤ result }
+        ensures { length (remaining self.now) ≤ result }
     {
         self.tokens.most_left()
     }
@@ -93,11 +93,11 @@ impl<'a, T: WktNum> PeekableTokens<'a, T> {
     /// The next lexeme, which stays.
     #[inline(always)]
     pub fn look(&mut self) -> Lexeme<'a>
-        ensures left { left self.new ≡ left self.old }
+        ensures left { remaining self.new ≡ remaining self.old }
         ensures end { end_of self.new ≡ end_of self.old }
-        ensures goes_on { GoesOn self.old self.new }
+        ensures goes_on { StreamGoesOn self.old self.new }
         ensures same { rest self.new ≡ rest self.old }
-        ensures first { first_of (left self.old) ≡ found result }
+        ensures first { first_of (remaining self.old) ≡ found result }
         ensures sees { IsFirst (found result) (rest self.old) }
     {
         match self.ahead {
@@ -113,7 +113,7 @@ impl<'a, T: WktNum> PeekableTokens<'a, T> {
     /// The next lexeme, which is taken.
     #[inline(always)]
     pub fn take(&mut self) -> Lexeme<'a>
-        ensures goes_on { GoesOn self.old self.new }
+        ensures goes_on { StreamGoesOn self.old self.new }
         ensures near { OnSome (found result) (IsNear self.new) }
         ensures moves { Moves self.old (found result) self.new }
         ensures takes { TakesNext (found result) (rest self.old) (rest self.new) }
@@ -202,7 +202,7 @@ impl<'a, T: WktNum> PeekableTokens<'a, T> {
         false
     }
 
-    /// The same of a closing parenthesis.
+    /// Takes the next lexeme if it is a closing parenthesis right behind a run.
     #[inline(always)]
     pub fn take_close_near(&mut self) -> bool
         ensures { MatchBool result (Moves self.old (Some Close) self.new) (self.new ≡ self.old) }
@@ -230,7 +230,7 @@ impl<'a, T: WktNum> PeekableTokens<'a, T> {
         self.take_open_behind()
     }
 
-    // The same of one anywhere.
+    // Takes the next lexeme if it is an opening parenthesis, wherever it stands.
     #[inline(never)]
     fn take_open_behind(&mut self) -> bool
         ensures { MatchBool result (Moves self.old (Some Open) self.new) (Looks self.old self.new) }
@@ -244,14 +244,14 @@ impl<'a, T: WktNum> PeekableTokens<'a, T> {
 
     /// The item that `next` gives next. It is returned by value, and a number is read anew by each call.
     pub fn peek(&mut self) -> Option<Result<Token<'a, T>, &'static str>>
-        ensures gives { IsItem T.read (first_of (left self.old)) result }
+        ensures gives { IsItem T.read (first_of (remaining self.old)) result }
         ensures none { IfNone result (rest self.old ≡ []) }
-        ensures left { left self.new ≡ left self.old }
+        ensures left { remaining self.new ≡ remaining self.old }
         ensures rest { rest self.new ≡ rest self.old }
         ensures end { end_of self.new ≡ end_of self.old }
         ensures grows { taken_of self.old ≤ taken_of self.new }
     {
-        item_apart(self.look())
+        slow_item(self.look())
     }
 }
 
@@ -265,6 +265,6 @@ impl<'a, T: WktNum> Iterator for PeekableTokens<'a, T> {
     ghost remaining = { count_ahead };
 
     fn next(&mut self) -> Option<Result<Token<'a, T>, &'static str>> {
-        item_apart(self.step())
+        slow_item(self.step())
     }
 }

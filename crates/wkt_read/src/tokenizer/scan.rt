@@ -4,13 +4,13 @@ ghost use Rattle.std.specs.Str.{IsCharBoundary};
 ghost use Rattle.wkt_num.specs.Bytes.{class_of, White, AllWhite};
 ghost use Rattle.wkt_read.specs.Lexemes.{starts_number};
 ghost use Rattle.wkt_read.specs.Tokenizer.Cursors.{taken_in};
-ghost use Rattle.wkt_read.specs.Tokenizer.Scan.{meant, coming_at, Found, IsRunSoFar, EndsRun, RunGoesOn, RunEnds};
+ghost use Rattle.wkt_read.specs.Tokenizer.Scan.{meant, coming_at, FoundClass, IsRunSoFar, EndsRun, RunGoesOn, RunEnds};
 
 use crate::tokenizer::cursor::Cursor;
 
 /// What a byte does in a text.
 #[derive(Clone, Copy)]
-pub(crate) enum Class {
+pub(crate) enum ByteClass {
     /// The text ends here.
     Nul,
     White,
@@ -22,16 +22,16 @@ pub(crate) enum Class {
 }
 
 #[tactic(auto, unfolding(wkt_num::specs::Bytes::class_of))]
-pub(crate) fn class_of(byte: u8) -> Class
+pub(crate) fn class_of(byte: u8) -> ByteClass
     ensures { meant result ≡ class_of byte }
 {
     match byte {
-        0 => Class::Nul,
-        b' ' | b'\n' | b'\r' | b'\t' => Class::White,
-        b'(' => Class::Open,
-        b')' => Class::Close,
-        b',' => Class::Comma,
-        _ => Class::Run,
+        0 => ByteClass::Nul,
+        b' ' | b'\n' | b'\r' | b'\t' => ByteClass::White,
+        b'(' => ByteClass::Open,
+        b')' => ByteClass::Close,
+        b',' => ByteClass::Comma,
+        _ => ByteClass::Run,
     }
 }
 
@@ -39,7 +39,7 @@ pub(crate) fn class_of(byte: u8) -> Class
 pub fn is_white(byte: u8) -> bool
     ensures { IsTrue result ↔ (class_of byte ≡ White) }
 {
-    matches!(class_of(byte), Class::White)
+    matches!(class_of(byte), ByteClass::White)
 }
 
 /// Whether there is nothing but white space.
@@ -64,26 +64,26 @@ pub(crate) fn starts_number(byte: u8) -> bool
 /// The class of the first byte that is no white space, which is taken. The cursor is held by value, so that it stays
 /// in registers.
 #[inline(always)]
-pub(crate) fn first_class<'a>(bytes: Cursor<'a>, ahead: Class) -> (Cursor<'a>, Class)
+pub(crate) fn first_class<'a>(bytes: Cursor<'a>, ahead: ByteClass) -> (Cursor<'a>, ByteClass)
     requires boundary { IsCharBoundary bytes.text.now (taken_in bytes) }
-    requires start { ahead ≢ Class.Run }
+    requires start { ahead ≢ ByteClass.Run }
     ensures text { result.0.text ≡ bytes.entry.text }
     ensures grows { taken_in bytes.entry ≤ taken_in result.0 }
-    ensures found { Found (coming_at bytes.entry.text.now (meant ahead) (taken_in bytes.entry)) result.0.text.now result.1
+    ensures found { FoundClass (coming_at bytes.entry.text.now (meant ahead) (taken_in bytes.entry)) result.0.text.now result.1
         (taken_in result.0) }
-    ensures stops { result.1 ≢ Class.White }
+    ensures stops { result.1 ≢ ByteClass.White }
 {
     let mut cursor = bytes;
     let mut class = ahead;
-    'white: while let Class::White = class {
+    'white: while let ByteClass::White = class {
         match cursor.next_byte() {
             Some(byte) => {
                 if byte > b',' {
-                    return (cursor, Class::Run);
+                    return (cursor, ByteClass::Run);
                 }
                 class = class_of(byte);
             }
-            None => return (cursor, Class::Nul),
+            None => return (cursor, ByteClass::Nul),
         }
     }
     (cursor, class)
@@ -91,7 +91,7 @@ pub(crate) fn first_class<'a>(bytes: Cursor<'a>, ahead: Class) -> (Cursor<'a>, C
 
 /// Takes the next byte: the end of a run that came so far, and the class of the byte, if it is no part of the run.
 #[inline(always)]
-fn run_ends(bytes: &mut Cursor<'_>) -> Option<(usize, Class)>
+fn run_ends(bytes: &mut Cursor<'_>) -> Option<(usize, ByteClass)>
     ensures text { bytes.new.text ≡ bytes.old.text }
     ensures cases { MatchOption result
         (RunGoesOn bytes.new.text.now (taken_in bytes.old) (taken_in bytes.new))
@@ -104,27 +104,27 @@ fn run_ends(bytes: &mut Cursor<'_>) -> Option<(usize, Class)>
                 return None;
             }
             match class_of(byte) {
-                Class::Run => None,
+                ByteClass::Run => None,
                 class => Some((end, class)),
             }
         }
-        None => Some((end, Class::Nul)),
+        None => Some((end, ByteClass::Nul)),
     }
 }
 
 /// The end of the run that begins at `from`, and the class of the byte after it, which is taken. The cursor
 /// is held by value, and asked once for eight bytes how many are left, so that it stays in registers.
 #[inline(always)]
-pub(crate) fn end_of_run<'a>(bytes: Cursor<'a>, from: usize) -> (Cursor<'a>, usize, Class)
+pub(crate) fn end_of_run<'a>(bytes: Cursor<'a>, from: usize) -> (Cursor<'a>, usize, ByteClass)
     requires { IsRunSoFar bytes.text.now from (taken_in bytes) }
     ensures text { result.0.text ≡ bytes.entry.text }
     ensures grows { taken_in bytes.entry ≤ taken_in result.0 }
     ensures on { taken_in bytes.entry ≤ result.1 }
     ensures ends { EndsRun result.0.text.now from result.1 (taken_in result.0) result.2 }
-    ensures other { result.2 ≢ Class.Run }
+    ensures other { result.2 ≢ ByteClass.Run }
 {
     let mut cursor = bytes;
-    'eight: while cursor.left() >= 8 {
+    'eight: while cursor.remaining() >= 8 {
         'turn: for _ in 0..8usize {
             if let Some((end, class)) = run_ends(&mut cursor) {
                 return (cursor, end, class);

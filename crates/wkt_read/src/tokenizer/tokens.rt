@@ -9,7 +9,7 @@ ghost use Rattle.wkt_read.specs.Tokenizer.Unread.{found, IsNumberIn};
 
 use crate::messages::Message;
 use crate::tokenizer::cursor::Cursor;
-use crate::tokenizer::scan::{Class, end_of_run, first_class, starts_number};
+use crate::tokenizer::scan::{ByteClass, end_of_run, first_class, starts_number};
 use std::marker::{Model, PhantomData};
 use wkt_num::WktNum;
 
@@ -80,9 +80,9 @@ pub(crate) fn item_of<'a, T: WktNum>(
     }))
 }
 
-/// The same, where speed isn't wanted.
+/// The item of a lexeme, where speed isn't wanted: the slow path.
 #[inline(never)]
-pub(crate) fn item_apart<'a, T: WktNum>(
+pub(crate) fn slow_item<'a, T: WktNum>(
     lexeme: Lexeme<'a>,
 ) -> Option<Result<Token<'a, T>, &'static str>>
     ensures { IsItem T.read (found lexeme.entry) result }
@@ -98,7 +98,7 @@ pub(crate) fn item_apart<'a, T: WktNum>(
 pub struct Tokens<'a, T> {
     bytes: Cursor<'a>,
     // The byte that was taken after a run, if it is a mark or NUL.
-    ahead: Class,
+    ahead: ByteClass,
     end: usize,
     of: PhantomData<T>,
 }
@@ -108,16 +108,16 @@ impl<'a, T> Model for Tokens<'a, T> {
 
     ghost Value = { Standing };
 
-    ghost use Rattle.wkt_read.specs.Tokenizer.Streams.{stands, IsBetween};
+    ghost use Rattle.wkt_read.specs.Tokenizer.Streams.{stands, IsBetweenRuns};
 
     ghost view = { stands };
 
-    ghost invariant = { IsBetween };
+    ghost invariant = { IsBetweenRuns };
 }
 
 impl<'a, T: WktNum> Tokens<'a, T> {
     ghost use Rattle.wkt_read.specs.Lexemes.{IsSplit};
-    ghost use Rattle.wkt_read.specs.Placed.{lexemes_of, AreEnds};
+    ghost use Rattle.wkt_read.specs.Spanned.{lexemes_of, AreEnds};
     ghost use Rattle.wkt_read.specs.Stream.{coming, bytes_taken, end_of_last, Steps};
 
     /// The lexemes of the text, before the first is taken.
@@ -130,7 +130,7 @@ impl<'a, T: WktNum> Tokens<'a, T> {
     {
         Tokens {
             bytes: Cursor::new(text),
-            ahead: Class::White,
+            ahead: ByteClass::White,
             end: 0,
             of: PhantomData,
         }
@@ -163,8 +163,8 @@ impl<'a, T: WktNum> Tokens<'a, T> {
         ensures { MatchBool result (Steps self.old (Some Comma) self.new) (self.new ≡ self.old) }
     {
         match self.ahead {
-            Class::Comma => {
-                self.ahead = Class::White;
+            ByteClass::Comma => {
+                self.ahead = ByteClass::White;
                 self.end = self.bytes.taken();
                 true
             }
@@ -172,14 +172,14 @@ impl<'a, T: WktNum> Tokens<'a, T> {
         }
     }
 
-    // The same of a closing parenthesis.
+    // Gives the next lexeme if it is a closing parenthesis that was taken with the run before it.
     #[inline(always)]
     pub(crate) fn take_close_ahead(&mut self) -> bool
         ensures { MatchBool result (Steps self.old (Some Close) self.new) (self.new ≡ self.old) }
     {
         match self.ahead {
-            Class::Close => {
-                self.ahead = Class::White;
+            ByteClass::Close => {
+                self.ahead = ByteClass::White;
                 self.end = self.bytes.taken();
                 true
             }
@@ -187,14 +187,14 @@ impl<'a, T: WktNum> Tokens<'a, T> {
         }
     }
 
-    // The same of an opening one.
+    // Gives the next lexeme if it is an opening parenthesis that was taken with the run before it.
     #[inline(always)]
     pub(crate) fn take_open_ahead(&mut self) -> bool
         ensures { MatchBool result (Steps self.old (Some Open) self.new) (self.new ≡ self.old) }
     {
         match self.ahead {
-            Class::Open => {
-                self.ahead = Class::White;
+            ByteClass::Open => {
+                self.ahead = ByteClass::White;
                 self.end = self.bytes.taken();
                 true
             }
@@ -209,10 +209,10 @@ impl<'a, T: WktNum> Tokens<'a, T> {
     {
         let (bytes, class) = first_class(self.bytes, self.ahead);
         let mark = match class {
-            Class::Open => Lexeme::Open,
-            Class::Close => Lexeme::Close,
-            Class::Comma => Lexeme::Comma,
-            Class::Run => {
+            ByteClass::Open => Lexeme::Open,
+            ByteClass::Close => Lexeme::Close,
+            ByteClass::Comma => Lexeme::Comma,
+            ByteClass::Run => {
                 let from = bytes.taken() - 1;
                 let (bytes, end, ahead) = end_of_run(bytes, from);
                 self.bytes = bytes;
@@ -220,14 +220,14 @@ impl<'a, T: WktNum> Tokens<'a, T> {
                 self.ahead = ahead;
                 return lexeme_of(bytes.part(from, end));
             }
-            Class::Nul | Class::White => {
+            ByteClass::Nul | ByteClass::White => {
                 self.bytes = bytes;
-                self.ahead = Class::Nul;
+                self.ahead = ByteClass::Nul;
                 return Lexeme::End;
             }
         };
         self.bytes = bytes;
-        self.ahead = Class::White;
+        self.ahead = ByteClass::White;
         self.end = bytes.taken();
         mark
     }

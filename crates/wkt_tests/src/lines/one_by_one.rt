@@ -294,7 +294,7 @@ fn faults_of_a_reader_of_lines(rt: HostRuntime) {
 }
 
 // An input, and what is out before the line that finds no memory.
-const REFUSED: &[(&[u8], &[u8])] = &[
+const REFUSED_LINES: &[(&[u8], &[u8])] = &[
     (b"!", b""),
     (b"one\n\n!\nfour\n", b"seen\nseen\n"),
     (b"one\ntwo\nthree\n!", SEEN),
@@ -315,8 +315,8 @@ fn is_refused(rt: &impl Abort, alloc: Global, input: &[u8], step: usize, want: &
 }
 
 #[test]
-fn refused_growths_of_answers(rt: HostRuntime) {
-    for &(input, want) in REFUSED {
+fn refused_allocations_of_answers(rt: HostRuntime) {
+    for &(input, want) in REFUSED_LINES {
         is_refused(&rt, rt.alloc(), input, 1, want);
         is_refused(&rt, rt.alloc(), input, 7, want);
         is_refused(&rt, rt.alloc(), input, 1000, want);

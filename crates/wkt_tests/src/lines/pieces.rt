@@ -35,10 +35,10 @@ impl ByteSource for Pieces<'_> {
     }
 }
 
-const FAILED: End = ("read", Some(ErrorKind::Other));
+const READ_FAILED: End = ("read", Some(ErrorKind::Other));
 
 // The pieces, how the run over them ends, and what is out then.
-const ROWS: &[(&[&[u8]], End, &[u8])] = &[
+const PIECE_ROWS: &[(&[&[u8]], End, &[u8])] = &[
     (&[], WELL, b""),
     (&[b"\n"], WELL, b"refused\n"),
     (
@@ -51,10 +51,14 @@ const ROWS: &[(&[&[u8]], End, &[u8])] = &[
         WELL,
         b"POINT(1 2)\nPOINT Z EMPTY\n",
     ),
-    (&[b"point(1 2)\npoint(3 4)", b""], FAILED, b"POINT(1 2)\n"),
+    (
+        &[b"point(1 2)\npoint(3 4)", b""],
+        READ_FAILED,
+        b"POINT(1 2)\n",
+    ),
     (
         &[b"point(1 2)\npoint(3 4", b")\n", b""],
-        FAILED,
+        READ_FAILED,
         b"POINT(1 2)\nPOINT(3 4)\n",
     ),
 ];
@@ -72,7 +76,7 @@ fn answers(rt: &impl Abort, alloc: Global, pieces: &[&[u8]], end: End, want: &[u
 
 #[test]
 fn answers_pieces(rt: HostRuntime) {
-    for &(pieces, end, want) in ROWS {
+    for &(pieces, end, want) in PIECE_ROWS {
         answers(&rt, rt.alloc(), pieces, end, want);
     }
 }

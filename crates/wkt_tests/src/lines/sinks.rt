@@ -11,7 +11,7 @@ const INPUT: &[u8] = b"point ( 10 -20.50 )\nPOINT ZM EMPTY\nPOINTZ(-117 33 10)\n
 
 const OUTPUT: &[u8] = b"POINT(10 -20.5)\nPOINT ZM EMPTY\nPOINT Z(-117 33 10)\nrefused\nrefused\n";
 
-const LINES: &[(&[u8], &[u8])] = &[
+const SINK_LINES: &[(&[u8], &[u8])] = &[
     (b"", b""),
     (b"\n", b"refused\n"),
     (INPUT, OUTPUT),
@@ -51,7 +51,7 @@ fn runs_well(rt: &impl Abort, alloc: Global, input: &[u8], want: &[u8]) {
 // A program that gives up on every input fails here.
 #[test]
 fn answers_lines(rt: HostRuntime) {
-    for &(input, want) in LINES {
+    for &(input, want) in SINK_LINES {
         runs_well(&rt, rt.alloc(), input, want);
     }
 }

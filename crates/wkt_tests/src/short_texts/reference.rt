@@ -5,7 +5,7 @@ use std::alloc::{AllocError, Global};
 
 /// A lexeme; a number stands without the one `+` that its run may begin with.
 #[derive(Clone, Copy)]
-pub enum Lexeme<'a> {
+pub enum ReferenceLexeme<'a> {
     Open,
     Close,
     Comma,
@@ -15,7 +15,7 @@ pub enum Lexeme<'a> {
 
 // What stands in a list.
 #[derive(Clone, Copy)]
-enum Part {
+enum ReferencePart {
     Coord,
     Ring,
     Poly,
@@ -32,11 +32,11 @@ fn is_run(byte: u8) -> bool {
 }
 
 // The lexeme of a run.
-fn of_run(run: &[u8]) -> Lexeme<'_> {
+fn of_run(run: &[u8]) -> ReferenceLexeme<'_> {
     match run {
-        [b'+', number @ ..] => Lexeme::Number(number),
-        [b'.' | b'-' | b'0'..=b'9', ..] => Lexeme::Number(run),
-        _ => Lexeme::Word(run),
+        [b'+', number @ ..] => ReferenceLexeme::Number(number),
+        [b'.' | b'-' | b'0'..=b'9', ..] => ReferenceLexeme::Number(run),
+        _ => ReferenceLexeme::Word(run),
     }
 }
 
@@ -51,12 +51,12 @@ fn cut_run(text: &[u8]) -> (&[u8], &[u8]) {
 }
 
 // The lexeme that begins at the first byte, and what follows it.
-fn first_lexeme(text: &[u8]) -> Option<(Lexeme<'_>, &[u8])> {
+fn first_lexeme(text: &[u8]) -> Option<(ReferenceLexeme<'_>, &[u8])> {
     match text {
         [] | [0, ..] => None,
-        [b'(', rest @ ..] => Some((Lexeme::Open, rest)),
-        [b')', rest @ ..] => Some((Lexeme::Close, rest)),
-        [b',', rest @ ..] => Some((Lexeme::Comma, rest)),
+        [b'(', rest @ ..] => Some((ReferenceLexeme::Open, rest)),
+        [b')', rest @ ..] => Some((ReferenceLexeme::Close, rest)),
+        [b',', rest @ ..] => Some((ReferenceLexeme::Comma, rest)),
         _ => {
             let (run, rest) = cut_run(text);
             Some((of_run(run), rest))
@@ -65,7 +65,7 @@ fn first_lexeme(text: &[u8]) -> Option<(Lexeme<'_>, &[u8])> {
 }
 
 // The lexeme after white space, and what follows it.
-fn next_lexeme(text: &[u8]) -> Option<(Lexeme<'_>, &[u8])> {
+fn next_lexeme(text: &[u8]) -> Option<(ReferenceLexeme<'_>, &[u8])> {
     for n in 0..text.len() {
         if !is_white(text[n]) {
             return first_lexeme(&text[n..]);
@@ -75,7 +75,7 @@ fn next_lexeme(text: &[u8]) -> Option<(Lexeme<'_>, &[u8])> {
 }
 
 /// The lexemes of a text.
-pub fn lexemes<'a>(alloc: Global, text: &'a [u8]) -> Result<Vec<Lexeme<'a>>, AllocError> {
+pub fn lexemes<'a>(alloc: Global, text: &'a [u8]) -> Result<Vec<ReferenceLexeme<'a>>, AllocError> {
     let mut found = Vec::new(alloc);
     let mut rest = text;
     for _ in 0..text.len() {
@@ -95,7 +95,7 @@ pub fn whole(run: &[u8]) -> Option<i32> {
     str::from_utf8(run).ok()?.parse().ok()
 }
 
-const KINDS: [(&str, &str); 8] = [
+const REFERENCE_KINDS: [(&str, &str); 8] = [
     ("POINT", "POINT"),
     ("LINESTRING", "LINESTRING"),
     ("LINEARRING", "LINESTRING"),
@@ -108,7 +108,7 @@ const KINDS: [(&str, &str); 8] = [
 
 // The kind that a kind word with no dimension joined names.
 fn kind(run: &[u8]) -> Option<&'static str> {
-    for (word, name) in KINDS {
+    for (word, name) in REFERENCE_KINDS {
         if run == word.as_bytes() {
             return Some(name);
         }
@@ -139,13 +139,16 @@ fn joined(run: &[u8]) -> Option<(&'static str, &'static str)> {
 }
 
 // The kind and the dimension of a whole header.
-fn header(lexemes: &[Lexeme<'_>]) -> Option<(&'static str, &'static str)> {
+fn header(lexemes: &[ReferenceLexeme<'_>]) -> Option<(&'static str, &'static str)> {
     match lexemes {
-        [Lexeme::Word(run)] => match kind(run) {
+        [ReferenceLexeme::Word(run)] => match kind(run) {
             Some(name) => Some((name, "")),
             None => joined(run),
         },
-        [Lexeme::Word(run), Lexeme::Word(word)] => match (kind(run), dimension(word)) {
+        [ReferenceLexeme::Word(run), ReferenceLexeme::Word(word)] => match (
+            kind(run),
+            dimension(word),
+        ) {
             (Some(name), Some(dimension)) => Some((name, dimension)),
             _ => None,
         },
@@ -153,29 +156,33 @@ fn header(lexemes: &[Lexeme<'_>]) -> Option<(&'static str, &'static str)> {
     }
 }
 
-fn is_empty_word(lexemes: &[Lexeme<'_>]) -> bool {
+fn is_empty_word(lexemes: &[ReferenceLexeme<'_>]) -> bool {
     match lexemes {
-        [Lexeme::Word(run)] => *run == b"EMPTY".as_slice(),
+        [ReferenceLexeme::Word(run)] => *run == b"EMPTY".as_slice(),
         _ => false,
     }
 }
 
 // What stands in the parentheses, if the lexemes are in parentheses.
-fn within<'b, 'a>(lexemes: &'b [Lexeme<'a>]) -> Option<&'b [Lexeme<'a>]> {
+fn within<'b, 'a>(lexemes: &'b [ReferenceLexeme<'a>]) -> Option<&'b [ReferenceLexeme<'a>]> {
     match lexemes {
-        [Lexeme::Open, body @ .., Lexeme::Close] => Some(body),
+        [ReferenceLexeme::Open, body @ .., ReferenceLexeme::Close] => Some(body),
         _ => None,
     }
 }
 
 // The text of a coordinate of so many numbers.
-fn coord(alloc: Global, size: usize, lexemes: &[Lexeme<'_>]) -> Result<Option<String>, AllocError> {
+fn coord(
+    alloc: Global,
+    size: usize,
+    lexemes: &[ReferenceLexeme<'_>],
+) -> Result<Option<String>, AllocError> {
     if lexemes.len() != size {
         return Ok(None);
     }
     let mut text = String::new(alloc);
     for lexeme in lexemes {
-        let Lexeme::Number(run) = lexeme else {
+        let ReferenceLexeme::Number(run) = lexeme else {
             return Ok(None);
         };
         let Some(number) = whole(run) else {
@@ -201,7 +208,7 @@ fn bracketed(alloc: Global, text: Option<String>) -> Result<Option<String>, Allo
 fn perhaps(
     alloc: Global,
     size: usize,
-    lexemes: &[Lexeme<'_>],
+    lexemes: &[ReferenceLexeme<'_>],
 ) -> Result<Option<String>, AllocError> {
     if is_empty_word(lexemes) {
         return Ok(Some(String::from_str(alloc, "EMPTY")?));
@@ -216,7 +223,7 @@ fn perhaps(
 fn member(
     alloc: Global,
     size: usize,
-    lexemes: &[Lexeme<'_>],
+    lexemes: &[ReferenceLexeme<'_>],
 ) -> Result<Option<String>, AllocError> {
     match coord(alloc, size, lexemes)? {
         Some(text) => bracketed(alloc, Some(text)),
@@ -237,19 +244,22 @@ fn polygon(alloc: Global, rings: Option<String>) -> Result<Option<String>, Alloc
 fn one(
     alloc: Global,
     depth: usize,
-    part: Part,
+    part: ReferencePart,
     size: usize,
-    lexemes: &[Lexeme<'_>],
+    lexemes: &[ReferenceLexeme<'_>],
 ) -> Result<Option<String>, AllocError> {
     if depth == 0 {
         return Ok(None);
     }
     match part {
-        Part::Coord => coord(alloc, size, lexemes),
-        Part::Member => member(alloc, size, lexemes),
-        Part::Ring => listed(alloc, depth - 1, Part::Coord, size, lexemes),
-        Part::Poly => polygon(alloc, listed(alloc, depth - 1, Part::Ring, size, lexemes)?),
-        Part::Geometry => geometry(alloc, depth - 1, lexemes),
+        ReferencePart::Coord => coord(alloc, size, lexemes),
+        ReferencePart::Member => member(alloc, size, lexemes),
+        ReferencePart::Ring => listed(alloc, depth - 1, ReferencePart::Coord, size, lexemes),
+        ReferencePart::Poly => polygon(
+            alloc,
+            listed(alloc, depth - 1, ReferencePart::Ring, size, lexemes)?,
+        ),
+        ReferencePart::Geometry => geometry(alloc, depth - 1, lexemes),
     }
 }
 
@@ -258,9 +268,9 @@ fn one(
 fn listed(
     alloc: Global,
     depth: usize,
-    item: Part,
+    item: ReferencePart,
     size: usize,
-    lexemes: &[Lexeme<'_>],
+    lexemes: &[ReferenceLexeme<'_>],
 ) -> Result<Option<String>, AllocError> {
     if depth == 0 {
         return Ok(None);
@@ -279,15 +289,15 @@ fn listed(
 fn many(
     alloc: Global,
     depth: usize,
-    item: Part,
+    item: ReferencePart,
     size: usize,
-    lexemes: &[Lexeme<'_>],
+    lexemes: &[ReferenceLexeme<'_>],
 ) -> Result<Option<String>, AllocError> {
     if depth == 0 {
         return Ok(None);
     }
     for n in 0..lexemes.len() {
-        if let [Lexeme::Comma, rest @ ..] = &lexemes[n..]
+        if let [ReferenceLexeme::Comma, rest @ ..] = &lexemes[n..]
             && let Some(first) = one(alloc, depth - 1, item, size, &lexemes[..n])?
             && let Some(more) = many(alloc, depth - 1, item, size, rest)?
         {
@@ -304,19 +314,19 @@ fn body(
     depth: usize,
     name: &str,
     size: usize,
-    lexemes: &[Lexeme<'_>],
+    lexemes: &[ReferenceLexeme<'_>],
 ) -> Result<Option<String>, AllocError> {
     if depth == 0 {
         return Ok(None);
     }
     match name {
         "POINT" => perhaps(alloc, size, lexemes),
-        "LINESTRING" => one(alloc, depth - 1, Part::Ring, size, lexemes),
-        "POLYGON" => one(alloc, depth - 1, Part::Poly, size, lexemes),
-        "MULTIPOINT" => listed(alloc, depth - 1, Part::Member, size, lexemes),
-        "MULTILINESTRING" => listed(alloc, depth - 1, Part::Ring, size, lexemes),
-        "MULTIPOLYGON" => listed(alloc, depth - 1, Part::Poly, size, lexemes),
-        _ => listed(alloc, depth - 1, Part::Geometry, size, lexemes),
+        "LINESTRING" => one(alloc, depth - 1, ReferencePart::Ring, size, lexemes),
+        "POLYGON" => one(alloc, depth - 1, ReferencePart::Poly, size, lexemes),
+        "MULTIPOINT" => listed(alloc, depth - 1, ReferencePart::Member, size, lexemes),
+        "MULTILINESTRING" => listed(alloc, depth - 1, ReferencePart::Ring, size, lexemes),
+        "MULTIPOLYGON" => listed(alloc, depth - 1, ReferencePart::Poly, size, lexemes),
+        _ => listed(alloc, depth - 1, ReferencePart::Geometry, size, lexemes),
     }
 }
 
@@ -325,7 +335,7 @@ fn body(
 fn geometry(
     alloc: Global,
     depth: usize,
-    lexemes: &[Lexeme<'_>],
+    lexemes: &[ReferenceLexeme<'_>],
 ) -> Result<Option<String>, AllocError> {
     if depth == 0 {
         return Ok(None);

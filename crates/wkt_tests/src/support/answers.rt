@@ -4,7 +4,7 @@ ghost use Rattle.std.specs.Prelude.{◌≡◌, IfOk, IsErr};
 ghost use Rattle.std.specs.String.{string_bytes};
 ghost use Rattle.wkt_read.specs.Front.{HasNoFront};
 ghost use Rattle.wkt.specs.CanonicalText.{IsCanonical};
-ghost use Rattle.wkt_tests.specs.Answer.{OnMemory, OnRefused};
+ghost use Rattle.wkt_tests.specs.Answer.{OnAnswerMemory, OnAnswerRefused};
 
 use crate::support::canonical_calls::{is_canonical_alike, is_refused_alike};
 use crate::support::flat_calls::flat_alike;
@@ -40,7 +40,7 @@ pub enum AnswerError {
 /// runs out.
 pub fn answer<T: WktNum>(alloc: Global, text: &str) -> Result<String, AnswerError>
     ensures text { IfOk result (λ s. IsCanonical T.read T.num text.now (string_bytes s)) }
-    ensures no_front { OnRefused result (HasNoFront T.read text.now) }
+    ensures no_front { OnAnswerRefused result (HasNoFront T.read text.now) }
 {
     let geometry = match Wkt::<T>::from_str(alloc, text) {
         Ok(geometry) => geometry,
@@ -83,7 +83,7 @@ pub fn text_or_message(
     answer: Result<String, AnswerError>,
 ) -> Result<String, AllocError>
     ensures text { IfOk result (λ row. IfOk answer (λ text. row ≡ text)) }
-    ensures memory { OnMemory answer (IsErr result) }
+    ensures memory { OnAnswerMemory answer (IsErr result) }
 {
     match answer {
         Ok(text) => Ok(text),

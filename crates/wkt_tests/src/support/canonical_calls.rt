@@ -3,7 +3,7 @@ use std::alloc::{AllocError, Global};
 use wkt::{ReadError, WktNum, canonical_into, canonical_text, front_end};
 
 /// Room for texts of which no number is more than sixty times as long as what it is read from.
-const MOST: usize = 64;
+const ROOM_A_BYTE: usize = 64;
 
 /// Whether the canonical text of what the text begins with is that answer, as a string and in a buffer.
 pub(crate) fn is_canonical_alike<T: WktNum>(
@@ -27,7 +27,7 @@ fn is_written_alike<T: WktNum>(
     answer: &str,
 ) -> Result<bool, AllocError> {
     let mut buffer = Vec::new(alloc);
-    let Some(room) = text.len().checked_mul(MOST) else {
+    let Some(room) = text.len().checked_mul(ROOM_A_BYTE) else {
         return Err(AllocError);
     };
     buffer.resize(room.saturating_add(65), 0)?;

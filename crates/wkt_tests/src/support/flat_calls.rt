@@ -11,7 +11,7 @@ use wkt::to_wkt::{Counted, ToWktError};
 use wkt::{FromWktStr, ReadError, ToWkt, TryFromWkt, Wkt, WktNum};
 
 /// The flat value, or the words of the error in its place.
-type Outcome<T> = Result<Geometry<T>, String>;
+type FlatOutcome<T> = Result<Geometry<T>, String>;
 
 /// Whether the flat value of a text's geometry, or the error in its place, is one by every call that
 /// gives it, and whether its text is one by every call that writes it.
@@ -29,7 +29,7 @@ fn all_alike<T: WktNum>(
     alloc: Global,
     text: &str,
     geometry: &Wkt<T>,
-    flat: &Outcome<T>,
+    flat: &FlatOutcome<T>,
 ) -> Result<bool, AllocError> {
     Ok(
         gives(alloc, Geometry::try_from_wkt_str(alloc, text), flat)?
@@ -43,7 +43,7 @@ fn all_alike<T: WktNum>(
 fn gives<T: WktNum>(
     alloc: Global,
     answer: Result<Geometry<T>, ConvertError>,
-    flat: &Outcome<T>,
+    flat: &FlatOutcome<T>,
 ) -> Result<bool, AllocError> {
     let given = outcome(alloc, answer)?;
     Ok(same(&given, flat))
@@ -53,7 +53,7 @@ fn gives<T: WktNum>(
 fn outcome<T: WktNum>(
     alloc: Global,
     answer: Result<Geometry<T>, ConvertError>,
-) -> Result<Outcome<T>, AllocError> {
+) -> Result<FlatOutcome<T>, AllocError> {
     match answer {
         Ok(geometry) => Ok(Ok(geometry)),
         Err(ConvertError::Memory(e)) => Err(e),
@@ -62,7 +62,7 @@ fn outcome<T: WktNum>(
 }
 
 /// Whether two calls answered alike.
-fn same<T: WktNum>(one: &Outcome<T>, other: &Outcome<T>) -> bool {
+fn same<T: WktNum>(one: &FlatOutcome<T>, other: &FlatOutcome<T>) -> bool {
     match (one, other) {
         (Ok(one), Ok(other)) => one == other,
         (Err(one), Err(other)) => one == other,
@@ -74,7 +74,7 @@ fn same<T: WktNum>(one: &Outcome<T>, other: &Outcome<T>) -> bool {
 fn by_bytes_alike<T: WktNum>(
     alloc: Global,
     text: &str,
-    flat: &Outcome<T>,
+    flat: &FlatOutcome<T>,
 ) -> Result<bool, AllocError> {
     let mut bytes = Counted::new(text.as_bytes());
     gives(
@@ -89,7 +89,7 @@ fn json_alike<T: WktNum>(
     alloc: Global,
     text: &str,
     geometry: &Wkt<T>,
-    flat: &Outcome<T>,
+    flat: &FlatOutcome<T>,
 ) -> Result<bool, AllocError> {
     let json = Value::String(String::from_str(alloc, text)?);
     value_alike(alloc, &json, geometry, flat)
@@ -100,7 +100,7 @@ fn value_alike<T: WktNum>(
     alloc: Global,
     json: &Value,
     geometry: &Wkt<T>,
-    flat: &Outcome<T>,
+    flat: &FlatOutcome<T>,
 ) -> Result<bool, AllocError> {
     Ok(flat_from_json(alloc, json, flat)? && is_from_json(alloc, json, geometry)?)
 }
@@ -109,7 +109,7 @@ fn value_alike<T: WktNum>(
 fn flat_from_json<T: WktNum>(
     alloc: Global,
     json: &Value,
-    flat: &Outcome<T>,
+    flat: &FlatOutcome<T>,
 ) -> Result<bool, AllocError> {
     match deserialize_geometry(alloc, json) {
         Ok(geometry) => gives(alloc, Ok(geometry), flat),
@@ -132,7 +132,7 @@ fn is_from_json<T: WktNum>(
 }
 
 /// Whether a flat value, if there is one, is copied and written by each call alike.
-fn outcome_alike<T: WktNum>(alloc: Global, outcome: &Outcome<T>) -> Result<bool, AllocError> {
+fn outcome_alike<T: WktNum>(alloc: Global, outcome: &FlatOutcome<T>) -> Result<bool, AllocError> {
     match outcome {
         Ok(flat) => Ok(is_copied(alloc, flat)? && written_alike(alloc, flat)?),
         Err(_) => Ok(true),

@@ -6,7 +6,7 @@ use std::io::ErrorKind;
 use wkt_bytes::{ByteSink, ByteSource};
 
 /// A sink that takes `step` bytes a call. After the first `calls` it takes none: each call fails, or
-/// where `full` says so answers zero.
+/// where `full` says so returns zero.
 #[derive(Drop)]
 pub struct Slow {
     held: [u8; 512],
@@ -30,7 +30,7 @@ impl Slow {
         }
     }
 
-    /// The same, full after its calls.
+    /// A sink that takes `step` bytes a call, and is full after its calls.
     pub fn full(step: usize, calls: usize) -> Slow {
         let mut sink = Slow::new(step, calls);
         sink.full = true;

@@ -12,8 +12,8 @@ use Rattle.wkt_read.proofs.LawLemmas.Fronts.{front_one}
 use Rattle.wkt_read.proofs.LawLemmas.Spelled.{front_of_text}
 use Rattle.wkt_convert.specs.Back.{back}
 use Rattle.wkt_convert.specs.Flatten.{flat}
-use Rattle.wkt.proofs.BackValues.{back_is_wkt}
-use Rattle.wkt_convert.proofs.Plain.{again}
+use Rattle.wkt.proofs.ValuesOfFlat.{back_is_wkt}
+use Rattle.wkt_convert.proofs.PlainComesBack.{again}
 use Rattle.wkt.proofs.flat_laws.plain_reads_back.Goals as goal
 
 pub returns : goal.returns

@@ -1,5 +1,5 @@
 -- By all calls of the writer.
-use Rattle.wkt_bytes.proofs.Grown.{counted}
+use Rattle.wkt_bytes.proofs.SinkSteps.{counted}
 use Rattle.wkt_bytes.proofs.laws.counted_grows.Goals as goal
 
 pub returns : goal.returns

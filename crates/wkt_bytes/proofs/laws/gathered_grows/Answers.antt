@@ -1,5 +1,5 @@
 -- What went out, and what is held.
-use Rattle.wkt_bytes.proofs.Grown.{gathered}
+use Rattle.wkt_bytes.proofs.SinkSteps.{gathered}
 use Rattle.wkt_bytes.proofs.laws.gathered_grows.Goals as goal
 
 pub returns : goal.returns

@@ -1,6 +1,6 @@
 -- The answers to the lines so far are out, and a line more still fits or doesn't.
 use Rattle.std.proofs.Common.{◌≡◌, ◌+◌, ◌-◌, ◌<◌, ◌++◌, ◌∙◌, inl, inr, refl, length, take, drop, ap, sym, subst, arith, length-drop, length-take, take_all}
-use Rattle.wkt_lines.specs.Laws.{IsWhole}
+use Rattle.wkt_lines.specs.Laws.{IsWholeLines}
 use Rattle.wkt_lines.specs.Output.{IsOutput}
 use Rattle.wkt_calls.specs.Answer.{read_at, print_at}
 use Rattle.wkt_calls.specs.Chunks.{AreWholeLines, IsFirstLine}
@@ -40,7 +40,7 @@ lines-preserved g c =
     let f = c.first_line-line.ensures in
     let rest_is : take (length input - done.taken) (drop done.taken input) ≡ drop done.taken input = take_all (length input - done.taken) (drop done.taken input) (omega (arith, length-drop done.taken input)) in
     let less : done.taken < length input = omega (arith, f.within, ap length rest_is, length-drop done.taken input, a.taken, c.if-line-eq0.false) in
-    let before : IsWhole (take done.taken input) = elim a.lines [ inl h ↦ h | inr e ↦ absurd (omega (arith, e.1, less)) ] in
+    let before : IsWholeLines (take done.taken input) = elim a.lines [ inl h ↦ h | inr e ↦ absurd (omega (arith, e.1, less)) ] in
     let put : take (done.written + c.len-in-lines.result) c.put_at.new.out ≡ take done.written c.answer_lines-done.new.out ++ c.in-Ok.text.items =
     ap (λ n. take n c.put_at.new.out) {x = done.written + c.len-in-lines.result} {y = done.written + length c.deref.result.now} (omega (arith, c.len-in-lines.ensures, ap length c.deref.ensures.value))
     ∙ c.put_at.ensures.put ∙ ap (λ xs. take done.written c.answer_lines-done.new.out ++ xs) c.deref.ensures.value in

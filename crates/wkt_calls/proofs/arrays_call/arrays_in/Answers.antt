@@ -1,7 +1,7 @@
 -- The arrays that were made stand in the buffers, or one of these has no room.
 use Rattle.std.proofs.Common.{rules, ◌≡◌, ℕ, List, length, ap, ◌∙◌, inl, inr}
 use Rattle.wkt_fill.specs.Filled.{view}
-use Rattle.wkt_fill.specs.Filling.{Flat}
+use Rattle.wkt_fill.specs.Filling.{FlatArrays}
 use Rattle.wkt_calls.specs.Answer.{with_front}
 use Rattle.wkt_calls.specs.Arrays.{AreOf}
 use Rattle.wkt_calls.specs.Sizes.{AreReported}
@@ -9,7 +9,7 @@ use Rattle.wkt_calls.specs.declared.sizes.WktSizes.{WktSizes}
 use Rattle.wkt_calls.proofs.arrays_call.arrays_in.Goals as goal
 use Rattle.wkt_calls.proofs.arrays_call.arrays_in.Goals.{then-all-numbers-via-then-all-numbers, then-all-numbers-via-else-all-numbers+then-ring_ends-rings, then-all-numbers-via-else-all-numbers+else-ring_ends-rings+then-polygon_ends-polygons}
 
-abbrev told-of : (places : ℕ) (text : List ℕ) (s : WktSizes) (f : Flat) → AreOf places text s.end s.kind s.dimension f.numbers f.rings f.polygons →
+abbrev told-of : (places : ℕ) (text : List ℕ) (s : WktSizes) (f : FlatArrays) → AreOf places text s.end s.kind s.dimension f.numbers f.rings f.polygons →
     s.numbers ≡ length f.numbers → s.rings ≡ length f.rings → s.polygons ≡ length f.polygons → AreReported places text s
 told-of places text s f are numbers rings polygons =
     record { ns = f.numbers; rs = f.rings; ps = f.polygons; arrays = are; numbers = numbers; rings = rings; polygons = polygons }

@@ -2,5 +2,5 @@
 use Rattle.wkt_calls.proofs.Padded.{zeros-at}
 use Rattle.wkt_calls.proofs.canonical.canonical_shortest.Goals as goal
 
-pub canonical_near-requires-clause-zeros : goal.canonical_near-requires-clause-zeros
-canonical_near-requires-clause-zeros c = zeros-at 64
+pub canonical_padded-requires-clause-zeros : goal.canonical_padded-requires-clause-zeros
+canonical_padded-requires-clause-zeros c = zeros-at 64

@@ -1,6 +1,6 @@
 -- What was written stands at the front of the buffer.
 use Rattle.std.proofs.Common.{arith, Ok, Some, None}
-use Rattle.wkt_canonical.proofs.Backs.{wrote-into, whole-text}
+use Rattle.wkt_canonical.proofs.PenOutput.{wrote-into, whole-text}
 use Rattle.wkt_canonical.proofs.canonical.canonical_into.Goals as goal
 
 pub returns-in-Ok-Some-clause-writes : goal.returns-in-Ok-Some-clause-writes

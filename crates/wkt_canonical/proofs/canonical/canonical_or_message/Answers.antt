@@ -2,7 +2,7 @@
 use Rattle.std.proofs.Common.{refl, rules, sym, subst, IsUtf8}
 use Rattle.wkt_machine.specs.Stops.{StopsAt}
 use Rattle.wkt_machine.proofs.Stopping.{stops_message, stops_no_front}
-use Rattle.wkt_canonical.proofs.Backs.{wrote-here}
+use Rattle.wkt_canonical.proofs.PenOutput.{wrote-here}
 use Rattle.wkt_canonical.proofs.canonical.canonical_or_message.Goals as goal
 
 pub returns-in-Ends-clause-writes : goal.returns-in-Ends-clause-writes

@@ -1,6 +1,6 @@
 -- What the pen wrote from the first byte on is the canonical text.
 use Rattle.std.proofs.Common.{refl, rules}
-use Rattle.wkt_canonical.proofs.Backs.{wrote-alone}
+use Rattle.wkt_canonical.proofs.PenOutput.{wrote-alone}
 use Rattle.wkt_canonical.proofs.canonical.write_alone.Goals as goal
 
 pub returns-in-Ends-clause-writes : goal.returns-in-Ends-clause-writes

@@ -2,7 +2,7 @@
 use Rattle.std.proofs.Common.{ap, arith, length, refl}
 use Rattle.wkt_machine.proofs.SourceRooms.{start_room}
 use Rattle.wkt_canonical.specs.PenMaker.{pen_maker}
-use Rattle.wkt_canonical.proofs.Backs.{depth_fits, stops_at, writes_events, writes_nothing}
+use Rattle.wkt_canonical.proofs.PenOutput.{depth_fits, stops_at, writes_events, writes_nothing}
 use Rattle.wkt_canonical.proofs.canonical.write_next.Goals as goal
 
 pub drive-requires-clause-depth : goal.drive-requires-clause-depth

@@ -2,7 +2,7 @@
 use Rattle.std.proofs.Common.{◌≡◌, ◌==◌, ap, sym, ◌∙◌, arith, get_or, inl, inr}
 use Rattle.std.specs.Prelude.{not}
 use Rattle.std.proofs.lemmas.Bool.{cases_lt}
-use Rattle.wkt_events.specs.Left.{class_in}
+use Rattle.wkt_events.specs.Remaining.{class_in}
 use Rattle.wkt_events.proofs.Classes.{past-white, white-some}
 use Rattle.wkt_events.proofs.Legibles.{class-in-line}
 use Rattle.wkt_events.proofs.bytes.skip_more.Goals as goal

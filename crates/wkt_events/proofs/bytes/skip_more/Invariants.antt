@@ -2,7 +2,7 @@
 use Rattle.std.proofs.Common.{◌≡◌, ◌≤◌, ◌<◌, ◌-◌, ◌==◌, ℕ, length, get_or}
 use Rattle.wkt_num.specs.Bytes.{White}
 use Rattle.std.specs.Prelude.{not}
-use Rattle.wkt_events.specs.Left.{class_in, line_of, left_placed}
+use Rattle.wkt_events.specs.Remaining.{class_in, line_of, remaining_spanned}
 use Rattle.wkt_events.proofs.bytes.skip_more.Given as goal
 
 abbrev pub invariant-loop-at : goal.invariant-loop-at
@@ -11,7 +11,7 @@ invariant-loop-at g l = record {
   inside : l.at ≤ length l.text;
   line : l.from ≤ length (line_of (not (g.row.FEED_ENDS == 0)) l.text) → l.at ≤ length (line_of (not (g.row.FEED_ENDS == 0)) l.text);
   white : (k : ℕ) → l.from ≤ k → k < l.at → class_in (not (g.row.FEED_ENDS == 0)) (get_or l.text k 0) ≡ White;
-  same : left_placed (not (g.row.FEED_ENDS == 0)) l.text l.from ≡ left_placed (not (g.row.FEED_ENDS == 0)) l.text l.at;
+  same : remaining_spanned (not (g.row.FEED_ENDS == 0)) l.text l.from ≡ remaining_spanned (not (g.row.FEED_ENDS == 0)) l.text l.at;
 }
 
 abbrev pub decreases-loop-at : goal.decreases-loop-at

@@ -1,7 +1,7 @@
 -- Where no white space stands, or one space, that is seen at once.
 use Rattle.std.proofs.Common.{◌≡◌, ◌==◌, ap, sym, ◌∙◌, arith, get_or}
 use Rattle.std.specs.Prelude.{not}
-use Rattle.wkt_events.specs.Left.{class_in}
+use Rattle.wkt_events.specs.Remaining.{class_in}
 use Rattle.wkt_events.proofs.Classes.{past-white, white-some, space, late-byte}
 use Rattle.wkt_events.proofs.Legibles.{class-in-line}
 use Rattle.wkt_events.proofs.bytes.skip_white.Goals as goal

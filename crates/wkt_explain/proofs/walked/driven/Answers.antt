@@ -1,12 +1,12 @@
 -- The machine goes as far as the front does, or stops.
 use Rattle.std.proofs.Common.{ap, ◌∙◌, arith, length, false, refl}
-use Rattle.wkt_read.proofs.LawLemmas.Few.{placed-few}
+use Rattle.wkt_read.proofs.LawLemmas.Few.{spanned-few}
 use Rattle.wkt_read.proofs.LawLemmas.FrontEnds.{front-within}
 use Rattle.wkt_machine.specs.BytesView.{bytes_view}
 use Rattle.wkt_machine.specs.NothingMaker.{nothing_maker}
 use Rattle.wkt_machine.proofs.ByteViews.{whole_left}
 use Rattle.wkt_machine.proofs.Fronting.{front_made}
-use Rattle.wkt_machine.proofs.Rooms.{free_room}
+use Rattle.wkt_machine.proofs.RoomForRest.{free_room}
 use Rattle.wkt_machine.proofs.Stopping.{stops_there}
 use Rattle.wkt_machine.proofs.Valued.{refused}
 use Rattle.wkt_explain.proofs.walked.driven.Goals as goal
@@ -14,7 +14,7 @@ use Rattle.wkt_explain.proofs.walked.driven.Goals as goal
 pub drive-requires : goal.drive-requires
 drive-requires g c =
     let text = ap (λ x. x.now) c.new.ensures.text ∙ c.as_bytes.ensures.value in
-    let few = placed-few c.args.text.now in
+    let few = spanned-few c.args.text.now in
     let same = ap length (whole_left c.args.text.now c.new.result text c.new.ensures.at) in
     record { depth = omega (arith, few, same); room = free_room (bytes_view false) nothing_maker c.new.result _ (λ n. tt) (λ x. refl) }
 

@@ -2,7 +2,7 @@
 use Rattle.std.proofs.Common.{sym, ◌∙◌}
 use Rattle.wkt_num.specs.Bytes.{Open, Close, Comma}
 use Rattle.wkt_machine.proofs.ByteViews.{open_mark, close_mark, comma_mark, unmarked}
-use Rattle.wkt_explain.proofs.Places.{ends_mark, ends_run}
+use Rattle.wkt_explain.proofs.StopsAreRefusals.{ends_mark, ends_run}
 use Rattle.wkt_explain.proofs.walked.lexeme_end.Goals as goal
 
 pub returns-then-byte-eq40 : goal.returns-then-byte-eq40

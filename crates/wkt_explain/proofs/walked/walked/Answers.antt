@@ -1,6 +1,6 @@
 -- Where the machine stops, the text is refused.
-use Rattle.wkt_explain.proofs.Borders.{part}
-use Rattle.wkt_explain.proofs.Places.{told_none, told_place, told_message, told_table}
+use Rattle.wkt_explain.proofs.CharBoundaries.{part}
+use Rattle.wkt_explain.proofs.StopsAreRefusals.{told_none, told_place, told_message, told_table}
 use Rattle.wkt_explain.proofs.walked.walked.Goals as goal
 
 pub refusal_at-requires : goal.refusal_at-requires

@@ -1,18 +1,18 @@
 -- The arrays that were filled are those of the front, or the text has no front or no arrays.
 use Rattle.std.proofs.Common.{ap, sym, subst, arith, length, false, refl, IsUtf8}
 use Rattle.wkt_num.specs.Decimal.{read_decimal}
-use Rattle.wkt_read.proofs.LawLemmas.Few.{placed-few}
+use Rattle.wkt_read.proofs.LawLemmas.Few.{spanned-few}
 use Rattle.wkt_machine.specs.BytesView.{bytes_view}
 use Rattle.wkt_machine.proofs.ByteViews.{whole_left}
 use Rattle.wkt_machine.proofs.Fronting.{front_made, no_front_there}
-use Rattle.wkt_machine.proofs.Rooms.{free_room}
+use Rattle.wkt_machine.proofs.RoomForRest.{free_room}
 use Rattle.wkt_fill.specs.Filled.{filler_maker}
 use Rattle.wkt_fill.proofs.Finished.{filled}
 use Rattle.wkt_fill.proofs.fill.fill_arrays.Goals as goal
 
 pub drive-requires : goal.drive-requires
 drive-requires g c =
-    let few = placed-few c.args.text.now in
+    let few = spanned-few c.args.text.now in
     let same = ap length (whole_left c.args.text.now c.new-source.result (ap (λ x. x.now) c.new-source.ensures.text) c.new-source.ensures.at) in
     record { depth = omega (arith, few, same); room = free_room (bytes_view false) filler_maker c.new-source.result c.new.result (λ n. tt) (λ x. refl) }
 

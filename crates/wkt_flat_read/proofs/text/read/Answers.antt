@@ -5,7 +5,7 @@ use Rattle.wkt_machine.specs.Growing.{rest}
 use Rattle.wkt_machine.proofs.Valued.{taken}
 use Rattle.wkt_flat_read.specs.Growers.{tree_maker, tree_of}
 use Rattle.wkt_flat_read.proofs.Flats.{lent, flat_off, never_refused}
-use Rattle.wkt_machine.proofs.Rooms.{free_room}
+use Rattle.wkt_machine.proofs.RoomForRest.{free_room}
 use Rattle.wkt_flat_read.proofs.text.read.Goals as goal
 
 pub returns-in-Ok : goal.returns-in-Ok

@@ -1,4 +1,4 @@
--- The answers to the lines so far are out or on the page, and an error says which.
+-- The answers to the lines so far are out or in the output buffer, and an error says which.
 use Rattle.std.proofs.Common.{[], Some, Err, refl, sym, inl, inr, take, drop, take-append-drop}
 use Rattle.std.proofs.lemmas.List.{append-nil}
 use Rattle.wkt_lines.proofs.Feeding.{parted}
@@ -7,7 +7,7 @@ use Rattle.wkt_lines.proofs.Outcomes.{at_hand, answered, part_answered}
 use Rattle.wkt_lines.proofs.lines.answer_input.Goals as goal
 
 pub parts-init : goal.parts-init
-parts-init g c = record { base = at_hand (g.A.Answers.answers c.args.answers.now) g.W.ByteSink.sink (Some c.args.input.now) (Some []) c.args.input.now c.args.writer.now (sym (append-nil c.args.input.now)); empty = c.of_lines-page.ensures }
+parts-init g c = record { base = at_hand (g.A.Answers.answers c.args.answers.now) g.W.ByteSink.sink (Some c.args.input.now) (Some []) c.args.input.now c.args.writer.now (sym (append-nil c.args.input.now)); empty = c.of_lines-output.ensures }
 
 pub parts-preserved : goal.parts-preserved
 parts-preserved g c =

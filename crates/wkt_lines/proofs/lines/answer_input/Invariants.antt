@@ -1,12 +1,12 @@
 use Rattle.std.proofs.Common.{◌≡◌, [], Some, length}
-use Rattle.wkt_lines.specs.Pages.{page_text}
+use Rattle.wkt_lines.specs.OutputBuffers.{output_text}
 use Rattle.wkt_lines.proofs.Outcomes.{Base}
 use Rattle.wkt_lines.proofs.lines.answer_input.Given as goal
 
 abbrev pub invariant-parts : goal.invariant-parts
 invariant-parts g l = record {
   base : Base (g.A.Answers.answers l.answers) g.W.ByteSink.sink (Some l.input) (Some []) l.initial.writer l.writer l.rest;
-  empty : page_text l.page ≡ [];
+  empty : output_text l.output ≡ [];
 }
 
 abbrev pub decreases-parts : goal.decreases-parts

@@ -1,8 +1,8 @@
 -- The answers to the whole lines that came so far are out, and the rest is held.
 use Rattle.std.proofs.Common.{◌≡◌, ◌++◌, ℕ, List, [], inl, inr, Err, refl, sym, ap, ◌∙◌, subst, take, drop, take-append-drop}
 use Rattle.std.proofs.lemmas.List.{append-nil}
-use Rattle.wkt_lines.specs.Laws.{IsWhole}
-use Rattle.wkt_lines.specs.Blocks.{unanswered}
+use Rattle.wkt_lines.specs.Laws.{IsWholeLines}
+use Rattle.wkt_lines.specs.InputBuffers.{unanswered}
 use Rattle.wkt_lines.specs.Feeds.{HasNoFeed}
 use Rattle.wkt_lines.proofs.Feeding.{seen_none, none_in_nothing}
 use Rattle.wkt_lines.proofs.Answering.{any_ok}
@@ -11,10 +11,10 @@ use Rattle.wkt_lines.proofs.streaming.stream_blocks.Goals as goal
 
 pub turns-init : goal.turns-init
 turns-init g c = record {
-  base = begins (g.A.Answers.answers c.args.answers.now) g.W.ByteSink.sink (g.R.ByteSource.left c.args.reader.now) c.args.writer.now _ c.new-block.ensures;
-  none = none_in_nothing _ c.new-block.ensures;
+  base = begins (g.A.Answers.answers c.args.answers.now) g.W.ByteSink.sink (g.R.ByteSource.left c.args.reader.now) c.args.writer.now _ c.new-buffer.ensures;
+  none = none_in_nothing _ c.new-buffer.ensures;
   count = refl;
-  empty = c.of_blocks-page.ensures;
+  empty = c.of_blocks-output.ensures;
 }
 
 pub returns-in-Err : goal.returns-in-Err
@@ -43,7 +43,7 @@ returns-in-Err-answer_block g c =
     let n = c.whole-whole.result in
     let held = c.front-in-Ok.result.now in
     let d = filled (g.A.Answers.answers c.args.answers.now) g.W.ByteSink.sink _ _ _ _ _ c.turns.invariant.base _ h.0 held h.3 (c.front-in-Ok.ensures ∙ (h.1 ∙ ap (λ (xs : List ℕ). xs ++ h.0) c.make_room.ensures.front)) in
-    let w = subst (λ (xs : List ℕ). IsWhole (take n xs)) (sym c.front-in-Ok.ensures) c.whole-whole.ensures.whole in
+    let w = subst (λ (xs : List ℕ). IsWholeLines (take n xs)) (sym c.front-in-Ok.ensures) c.whole-whole.ensures.whole in
     block_answered (g.A.Answers.answers c.args.answers.now) g.R.ByteSource.left g.R.ByteSource.failures g.W.ByteSink.sink _ _ _ _ _ d _ (take n held) (drop n held) (sym (take-append-drop n held)) (inl w) (c.in-Ok.ensures.count ∙ c.turns.invariant.count) (Err c.in-Err-answer_block.e) tt c.in-Err-answer_block.ensures.answers
 
 pub turns-preserved : goal.turns-preserved
@@ -53,7 +53,7 @@ turns-preserved g c =
     let held = c.front-in-Ok.result.now in
     let rest = unanswered c.forget.new.self in
     let d = filled (g.A.Answers.answers c.args.answers.now) g.W.ByteSink.sink _ _ _ _ _ c.turns.invariant.base _ h.0 held h.3 (c.front-in-Ok.ensures ∙ (h.1 ∙ ap (λ (xs : List ℕ). xs ++ h.0) c.make_room.ensures.front)) in
-    let w = subst (λ (xs : List ℕ). IsWhole (take n xs)) (sym c.front-in-Ok.ensures) c.whole-whole.ensures.whole in
+    let w = subst (λ (xs : List ℕ). IsWholeLines (take n xs)) (sym c.front-in-Ok.ensures) c.whole-whole.ensures.whole in
     let parts : held ≡ take n held ++ rest = sym (take-append-drop n held) ∙ ap (λ (xs : List ℕ). take n held ++ xs) (ap (λ (xs : List ℕ). drop n xs) c.front-in-Ok.ensures ∙ sym c.forget.ensures) in
     record {
       base = answered (g.A.Answers.answers c.args.answers.now) g.W.ByteSink.sink _ _ _ _ _ d _ (take n held) rest parts w c.in-Ok-answer_block.ensures.answers.ok c.in-Ok-answer_block.ensures.answers.count c.answer_block-in-Ok.ensures.keeps;

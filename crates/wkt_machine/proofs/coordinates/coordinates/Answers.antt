@@ -7,12 +7,12 @@ use Rattle.wkt_machine.specs.Goes.{Goes, Refuses}
 use Rattle.wkt_machine.specs.Leads.{reached}
 use Rattle.wkt_machine.specs.declared.machine.State.TheVariants as next
 use Rattle.wkt_machine.proofs.ByteSteps.{turn_goes, last_goes, goes_less}
-use Rattle.wkt_machine.proofs.Leading.{leads_none, goes_leads, leads_goes, leads_refuses}
+use Rattle.wkt_machine.proofs.EmptyWays.{leads_none, goes_leads, leads_goes, leads_refuses}
 use Rattle.wkt_num.specs.Bytes.{Close, Comma, class_of}
 use Rattle.wkt_machine.specs.Room.{owed}
 use Rattle.wkt_machine.specs.Machines.{state_of}
 use Rattle.wkt_machine.proofs.ByteViews.{close_mark, comma_mark}
-use Rattle.wkt_machine.proofs.Rooms.{outside_owes, room_at, no_room}
+use Rattle.wkt_machine.proofs.RoomForRest.{outside_owes, room_at, no_room}
 use Rattle.wkt_machine.proofs.SourceRooms.{byte_fits, byte_after}
 use Rattle.wkt_machine.proofs.coordinates.coordinates.Goals as goal
 

@@ -1,7 +1,7 @@
 -- What was taken was gone over, and what it says was made.
 use Rattle.std.proofs.Common.{◌≤◌, length}
 use Rattle.std.specs.Prelude.{not, ◌==◌}
-use Rattle.wkt_events.specs.Left.{left_placed}
+use Rattle.wkt_events.specs.Remaining.{remaining_spanned}
 use Rattle.wkt_machine.specs.BytesView.{bytes_view}
 use Rattle.wkt_machine.specs.Leads.{Leads}
 use Rattle.wkt_machine.specs.Room.{HasRoom}
@@ -16,4 +16,4 @@ invariant-coordinates g l =
     }
 
 abbrev pub decreases-coordinates : goal.decreases-coordinates
-decreases-coordinates g l = length (left_placed (not (g.row.FEED_ENDS == 0)) l.source.text.now l.source.at)
+decreases-coordinates g l = length (remaining_spanned (not (g.row.FEED_ENDS == 0)) l.source.text.now l.source.at)

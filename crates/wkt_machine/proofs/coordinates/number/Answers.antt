@@ -9,7 +9,7 @@ use Rattle.wkt_machine.proofs.ByteViews.{numbers_after}
 use Rattle.wkt_machine.proofs.ByteSteps.{number_goes, number_stays_at}
 use Rattle.wkt_machine.specs.BytesView.{bytes_view}
 use Rattle.wkt_machine.specs.Room.{LeavesBehind}
-use Rattle.wkt_machine.proofs.Rooms.{number_room, bare_after}
+use Rattle.wkt_machine.proofs.RoomForRest.{number_room, bare_after}
 use Rattle.wkt_machine.proofs.SourceRooms.{fits_number, leaves_number}
 use Rattle.wkt_machine.proofs.coordinates.number.Goals as goal
 

@@ -3,7 +3,7 @@ use Rattle.std.proofs.Common.{ap, arith, rules, IfErr}
 use Rattle.wkt_machine.specs.Goes.{Refuses}
 use Rattle.wkt_machine.specs.declared.machine.Machine.{Machine}
 use Rattle.wkt_machine.specs.Place.{State}
-use Rattle.wkt_machine.proofs.Composing.{from_start, refused_if}
+use Rattle.wkt_machine.proofs.WaysJoin.{from_start, refused_if}
 use Rattle.wkt_machine.proofs.Depths.{goes_room}
 use Rattle.wkt_machine.proofs.drive.drive.Goals as goal
 

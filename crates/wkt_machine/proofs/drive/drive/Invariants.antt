@@ -11,9 +11,9 @@ invariant-lexemes g l =
       goes : GoesFrom g.T.WktNum.read g.S.Source.view g.B.Builder.maker l.fn.source l.fn.builder
           (record { source = l.source; machine = record { state = l.state; part = l.part; dim = l.dim; depth = l.depth }; builder = l.builder });
       sound : IsSound (record { state = l.state; part = l.part; dim = l.dim; depth = l.depth });
-      depth : l.depth + length (g.S.Source.view.left l.source) ≤ length (g.S.Source.view.left l.fn.source);
+      depth : l.depth + length (g.S.Source.view.remaining l.source) ≤ length (g.S.Source.view.remaining l.fn.source);
       room : HasRoom g.S.Source.view g.B.Builder.maker (owed (state_of (record { state = l.state; part = l.part; dim = l.dim; depth = l.depth }))) l.source l.builder;
     }
 
 abbrev pub decreases-lexemes : goal.decreases-lexemes
-decreases-lexemes g l = length (g.S.Source.view.left l.source)
+decreases-lexemes g l = length (g.S.Source.view.remaining l.source)

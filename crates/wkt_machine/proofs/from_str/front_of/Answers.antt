@@ -10,9 +10,9 @@ use Rattle.wkt_read.specs.Bad.{HasBad}
 use Rattle.wkt_read.specs.Front.{Front, HasNoFront}
 use Rattle.wkt_read.specs.Answered.{HasBadNumber, IsReadOff, OnText, OnMessage}
 use Rattle.wkt_read.specs.Items.{bad_number}
-use Rattle.wkt_read.specs.Placed.{AreEnds}
+use Rattle.wkt_read.specs.Spanned.{AreEnds}
 use Rattle.wkt_read.proofs.LawLemmas.FrontEnds.{front-some, front-within, front-boundary}
-use Rattle.wkt_read.proofs.LawLemmas.OnePlacing.{placed-only}
+use Rattle.wkt_read.proofs.LawLemmas.OnePlacing.{spanned-only}
 use Rattle.wkt_read.proofs.ParserLemmas.Answering.{to-front, from-front, no-front, split-of, text-map, message-map}
 use Rattle.wkt_read.specs.Refusal.{IsRefused, IsTextRefused, IfText}
 use Rattle.wkt_machine.proofs.Reading.{if-text-err}
@@ -35,19 +35,19 @@ returns-in-Ok-clause-boundary g c = let (v, front, is) = returns-in-Ok-clause-fo
 pub returns-in-Err-clause-no_front : goal.returns-in-Err-clause-no_front
 returns-in-Err-clause-no_front g c =
     text-map (Wkt g.row.T.Denot) (Wkt g.row.T.Denot) c.in-Err.error (NoneBegins g.T.WktNum.read (rest c.new-tokens.result)) (HasNoFront g.T.WktNum.read c.args.text.now)
-    (no-front g.T.WktNum.read c.args.text.now c.new-tokens.result (c.new-tokens.ensures.left ∙ placed-only _ _ c.from_str.ensures.split c.from_str.ensures.ends)) (subst (λ r. OnText r (NoneBegins g.T.WktNum.read (rest c.new-tokens.result))) c.in-Err.is c.read_off-answer.ensures.no_geometry)
+    (no-front g.T.WktNum.read c.args.text.now c.new-tokens.result (c.new-tokens.ensures.left ∙ spanned-only _ _ c.from_str.ensures.split c.from_str.ensures.ends)) (subst (λ r. OnText r (NoneBegins g.T.WktNum.read (rest c.new-tokens.result))) c.in-Err.is c.read_off-answer.ensures.no_geometry)
 
 pub returns-in-Err-clause-bad : goal.returns-in-Err-clause-bad
 returns-in-Err-clause-bad g c =
     message-map (Wkt g.row.T.Denot) (Wkt g.row.T.Denot) c.in-Err.error bad_number (HasBad g.T.WktNum.read (rest c.new-tokens.result)) (HasBadNumber g.T.WktNum.read c.args.text.now)
-    (λ bad. (rest c.new-tokens.result, split-of g.T.WktNum.read c.args.text.now c.new-tokens.result (c.new-tokens.ensures.left ∙ placed-only _ _ c.from_str.ensures.split c.from_str.ensures.ends), bad)) (subst (λ r. OnMessage r bad_number (HasBad g.T.WktNum.read (rest c.new-tokens.result))) c.in-Err.is c.read_off-answer.ensures.bad)
+    (λ bad. (rest c.new-tokens.result, split-of g.T.WktNum.read c.args.text.now c.new-tokens.result (c.new-tokens.ensures.left ∙ spanned-only _ _ c.from_str.ensures.split c.from_str.ensures.ends), bad)) (subst (λ r. OnMessage r bad_number (HasBad g.T.WktNum.read (rest c.new-tokens.result))) c.in-Err.is c.read_off-answer.ensures.bad)
 
 pub returns-in-Err-clause-refusal : goal.returns-in-Err-clause-refusal
 returns-in-Err-clause-refusal g c =
     if-text-err (Wkt g.row.T.Denot) (Wkt g.row.T.Denot) c.in-Err.error (λ said. IsRefused g.T.WktNum.read (rest c.new-tokens.result) said (rest c.read_off-answer.result.1.now)) (IsTextRefused g.T.WktNum.read c.args.text.now)
-    (λ said (m, says, e). (m, says, (rest c.new-tokens.result, rest c.read_off-answer.result.1.now, split-of g.T.WktNum.read c.args.text.now c.new-tokens.result (c.new-tokens.ensures.left ∙ placed-only _ _ c.from_str.ensures.split c.from_str.ensures.ends), e))) (subst (λ r. IfText r (λ said. IsRefused g.T.WktNum.read (rest c.new-tokens.result) said (rest c.read_off-answer.result.1.now))) c.in-Err.is c.read_off-answer.ensures.refusal)
+    (λ said (m, says, e). (m, says, (rest c.new-tokens.result, rest c.read_off-answer.result.1.now, split-of g.T.WktNum.read c.args.text.now c.new-tokens.result (c.new-tokens.ensures.left ∙ spanned-only _ _ c.from_str.ensures.split c.from_str.ensures.ends), e))) (subst (λ r. IfText r (λ said. IsRefused g.T.WktNum.read (rest c.new-tokens.result) said (rest c.read_off-answer.result.1.now))) c.in-Err.is c.read_off-answer.ensures.refusal)
 
 pub returns-in-Err-clause-free : goal.returns-in-Err-clause-free
 returns-in-Err-clause-free g c = λ v end front small.
-    let (after, begins) = from-front g.T.WktNum.read c.args.text.now c.new-tokens.result v end (c.new-tokens.ensures.left ∙ placed-only _ _ c.from_str.ensures.split c.from_str.ensures.ends) front in
+    let (after, begins) = from-front g.T.WktNum.read c.args.text.now c.new-tokens.result v end (c.new-tokens.ensures.left ∙ spanned-only _ _ c.from_str.ensures.split c.from_str.ensures.ends) front in
     subst (λ r. IsOk r) c.in-Err.is (c.read_off-answer.ensures.free v after begins small)

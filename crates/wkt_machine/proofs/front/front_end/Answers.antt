@@ -1,18 +1,18 @@
 -- A drive over the bytes that keeps nothing ends where the front does.
 use Rattle.std.proofs.Common.{ap, sym, ◌∙◌, subst, arith, length, false, IsUtf8, refl}
-use Rattle.wkt_read.proofs.LawLemmas.Few.{placed-few}
+use Rattle.wkt_read.proofs.LawLemmas.Few.{spanned-few}
 use Rattle.wkt_read.proofs.LawLemmas.FrontEnds.{front-some, front-within, front-boundary}
 use Rattle.wkt_machine.specs.BytesView.{bytes_view}
 use Rattle.wkt_machine.specs.NothingMaker.{nothing_maker}
 use Rattle.wkt_machine.proofs.ByteViews.{whole_left}
 use Rattle.wkt_machine.proofs.Fronting.{front_made, no_front_there}
-use Rattle.wkt_machine.proofs.Rooms.{free_room}
+use Rattle.wkt_machine.proofs.RoomForRest.{free_room}
 use Rattle.wkt_machine.proofs.front.front_end.Goals as goal
 
 pub drive-requires : goal.drive-requires
 drive-requires g c =
     let text = ap (λ x. x.now) c.new.ensures.text ∙ c.as_bytes.ensures.value in
-    let few = placed-few c.args.text.now in
+    let few = spanned-few c.args.text.now in
     let same = ap length (whole_left c.args.text.now c.new.result text c.new.ensures.at) in
     record { depth = omega (arith, few, same); room = free_room (bytes_view false) nothing_maker c.new.result _ (λ n. tt) (λ x. refl) }
 

@@ -1,4 +1,4 @@
-use Rattle.wkt_machine.proofs.Named.{expected_after}
+use Rattle.wkt_machine.proofs.ExpectedIsTaken.{expected_after}
 use Rattle.wkt_machine.proofs.laws.expects.Goals as goal
 
 pub returns : goal.returns

@@ -1,4 +1,4 @@
-use Rattle.wkt_machine.proofs.Whole.{goes_on}
+use Rattle.wkt_machine.proofs.WholeRuns.{goes_on}
 use Rattle.wkt_machine.proofs.laws.goes_on.Goals as goal
 
 pub returns : goal.returns

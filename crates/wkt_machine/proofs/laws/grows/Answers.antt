@@ -1,5 +1,5 @@
 use Rattle.std.proofs.Common.{[]}
-use Rattle.wkt_machine.proofs.Grown.{value_grows}
+use Rattle.wkt_machine.proofs.ValueFromEvents.{value_grows}
 use Rattle.wkt_machine.proofs.laws.grows.Goals as goal
 
 pub returns : goal.returns

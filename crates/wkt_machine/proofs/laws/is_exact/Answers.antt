@@ -1,4 +1,4 @@
-use Rattle.wkt_machine.proofs.Whole.{exact}
+use Rattle.wkt_machine.proofs.WholeRuns.{exact}
 use Rattle.wkt_machine.proofs.laws.is_exact.Goals as goal
 
 pub returns : goal.returns

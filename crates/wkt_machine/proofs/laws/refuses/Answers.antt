@@ -1,4 +1,4 @@
-use Rattle.wkt_machine.proofs.Whole.{refuses}
+use Rattle.wkt_machine.proofs.WholeRuns.{refuses}
 use Rattle.wkt_machine.proofs.laws.refuses.Goals as goal
 
 pub returns : goal.returns

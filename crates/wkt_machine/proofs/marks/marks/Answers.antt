@@ -9,7 +9,7 @@ use Rattle.wkt_machine.specs.Makers.{Maker}
 use Rattle.wkt_machine.specs.View.{View}
 use Rattle.wkt_machine.specs.declared.machine.Machine.{Machine}
 use Rattle.wkt_machine.proofs.Depths.{goes_room}
-use Rattle.wkt_machine.proofs.Leading.{leads_none, leads_goes, leads_ok, leads_refused, goes_leads}
+use Rattle.wkt_machine.proofs.EmptyWays.{leads_none, leads_goes, leads_ok, leads_refused, goes_leads}
 use Rattle.wkt_machine.proofs.Stepping.{from_goes}
 use Rattle.wkt_machine.proofs.marks.marks.Goals as goal
 
@@ -18,7 +18,7 @@ leads_stays : {N S B : Type 0} (read : List ℕ → Option N) (view : View S) (m
 leads_stays read view maker m s b n t u c l stays = record {
   taken = l.taken;
   events = l.events;
-  split = l.split ∙ ap (λ ps. l.taken ++ ps) (sym stays.left);
+  split = l.split ∙ ap (λ ps. l.taken ++ ps) (sym stays.remaining);
   behind = λ end k. stays.behind _ (l.behind end k);
   ran = l.ran;
   makes = l.makes;

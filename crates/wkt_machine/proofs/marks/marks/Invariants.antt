@@ -13,9 +13,9 @@ invariant-marks g l =
           (record { state = l.state; part = l.part; dim = l.dim; depth = l.depth }) l.source l.builder;
       sound : IsSound (record { state = l.state; part = l.part; dim = l.dim; depth = l.depth });
       unover : is_over (state_of (record { state = l.state; part = l.part; dim = l.dim; depth = l.depth })) ≡ false;
-      depth : l.depth + length (g.S.Source.view.left l.source) ≤ l.fn.machine.depth + length (g.S.Source.view.left l.fn.source);
+      depth : l.depth + length (g.S.Source.view.remaining l.source) ≤ l.fn.machine.depth + length (g.S.Source.view.remaining l.fn.source);
       room : HasRoom g.S.Source.view g.B.Builder.maker (owed (state_of (record { state = l.state; part = l.part; dim = l.dim; depth = l.depth }))) l.source l.builder;
     }
 
 abbrev pub decreases-marks : goal.decreases-marks
-decreases-marks g l = length (g.S.Source.view.left l.source)
+decreases-marks g l = length (g.S.Source.view.remaining l.source)

@@ -2,8 +2,8 @@
 use Rattle.std.proofs.Common.{◌∷◌, sym, ap, ◌∙◌, false}
 use Rattle.wkt_read.specs.Lexemes.{starts_number}
 use Rattle.wkt_read.specs.Table.{at_end, at_place, stays}
-use Rattle.wkt_events.specs.Left.{left}
-use Rattle.wkt_machine.proofs.Givens.{blames_none, blames_number, blames_stays, blames_taken}
+use Rattle.wkt_events.specs.Remaining.{remaining}
+use Rattle.wkt_machine.proofs.NextLexeme.{blames_none, blames_number, blames_stays, blames_taken}
 use Rattle.wkt_machine.proofs.message.blame.Goals as goal
 
 pub returns-then-begins_number-clause-message : goal.returns-then-begins_number-clause-message
@@ -17,14 +17,14 @@ returns-in-None-clause-message g c = blames_none g.T.WktNum.read c.args.text.now
 pub returns-then-stays-clause-message : goal.returns-then-stays-clause-message
 returns-then-stays-clause-message g c =
     let (l, takes, shows) = c.in-Some.ensures in
-    let r = left false c.args.text.now c.in-Some.end in
+    let r = remaining false c.args.text.now c.in-Some.end in
     blames_stays g.T.WktNum.read c.args.text.now _ c.at_place-message.result c.args.at _ l takes (c.at_place-message.ensures l r shows ∙ ap (λ e. at_place g.T.WktNum.read e (l ∷ r)) c.expected-expected.ensures)
     (sym c.if-stays.true ∙ c.stays.ensures l shows ∙ ap (λ e. stays g.T.WktNum.read e l) c.expected-expected.ensures)
 
 pub returns-else-stays-clause-message : goal.returns-else-stays-clause-message
 returns-else-stays-clause-message g c =
     let (l, takes, shows) = c.in-Some.ensures in
-    let r = left false c.args.text.now c.in-Some.end in
+    let r = remaining false c.args.text.now c.in-Some.end in
     blames_taken g.T.WktNum.read c.args.text.now _ c.at_place-message.result c.args.at _ l takes (c.at_place-message.ensures l r shows ∙ ap (λ e. at_place g.T.WktNum.read e (l ∷ r)) c.expected-expected.ensures)
     (sym c.if-stays.false ∙ c.stays.ensures l shows ∙ ap (λ e. stays g.T.WktNum.read e l) c.expected-expected.ensures)
 

@@ -1,8 +1,8 @@
 -- One parenthesis after the other has to close, and each takes a lexeme.
 use Rattle.std.proofs.Common.{◌≡◌, ◌-◌, sym, ap, ◌∙◌, arith, false}
 use Rattle.wkt_read.specs.Table.{closings}
-use Rattle.wkt_events.specs.Left.{left}
-use Rattle.wkt_machine.proofs.Givens.{closes_none, closes_one}
+use Rattle.wkt_events.specs.Remaining.{remaining}
+use Rattle.wkt_machine.proofs.NextLexeme.{closes_none, closes_one}
 use Rattle.wkt_machine.proofs.message.close.Goals as goal
 
 pub parens-preserved : goal.parens-preserved
@@ -22,4 +22,4 @@ pub returns-clause-message : goal.returns-clause-message
 returns-clause-message g c =
     let over = c.parens-test.false in
     let none : c.parens.open ≡ 0 = omega (arith, over) in
-    sym (c.parens.invariant.same ∙ ap (λ n. closings g.T.WktNum.read n c.parens.reported (left false c.args.text.now c.parens.from)) none)
+    sym (c.parens.invariant.same ∙ ap (λ n. closings g.T.WktNum.read n c.parens.reported (remaining false c.args.text.now c.parens.from)) none)

@@ -1,13 +1,13 @@
 use Rattle.std.proofs.Common.{◌≡◌, ◌≤◌, length, false}
 use Rattle.wkt_read.specs.Table.{closings}
-use Rattle.wkt_events.specs.Left.{left}
+use Rattle.wkt_events.specs.Remaining.{remaining}
 use Rattle.wkt_machine.proofs.message.close.Given as goal
 
 abbrev pub invariant-parens : goal.invariant-parens
 invariant-parens g l =
     record {
       inside : l.from ≤ length l.text;
-      same : closings g.T.WktNum.read l.parens l.fn.message (left false l.text l.at) ≡ closings g.T.WktNum.read l.open l.reported (left false l.text l.from);
+      same : closings g.T.WktNum.read l.parens l.fn.message (remaining false l.text l.at) ≡ closings g.T.WktNum.read l.open l.reported (remaining false l.text l.from);
     }
 
 abbrev pub decreases-parens : goal.decreases-parens

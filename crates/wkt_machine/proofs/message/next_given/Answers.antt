@@ -3,7 +3,7 @@ use Rattle.std.proofs.Common.{sym, refl, ◌∙◌}
 use Rattle.wkt_num.specs.Bytes.{Open, Close, Comma}
 use Rattle.wkt_machine.specs.declared.message.Given.TheVariants as given
 use Rattle.wkt_machine.proofs.ByteViews.{open_mark, close_mark, comma_mark, unmarked}
-use Rattle.wkt_machine.proofs.Givens.{gives_mark, gives_after}
+use Rattle.wkt_machine.proofs.NextLexeme.{gives_mark, gives_after}
 use Rattle.wkt_machine.proofs.message.next_given.Goals as goal
 
 pub returns-then-byte-eq41 : goal.returns-then-byte-eq41

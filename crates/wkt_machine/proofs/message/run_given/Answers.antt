@@ -1,7 +1,7 @@
 -- A number, the end, or a word.
 use Rattle.std.proofs.Common.{ap, sym, ◌∙◌}
 use Rattle.wkt_read.specs.Lexemes.{starts_number}
-use Rattle.wkt_machine.proofs.Givens.{gives_none, gives_word, gives_number, gives_unread}
+use Rattle.wkt_machine.proofs.NextLexeme.{gives_none, gives_word, gives_number, gives_unread}
 use Rattle.wkt_machine.proofs.message.run_given.Goals as goal
 
 pub returns-in-Some : goal.returns-in-Some

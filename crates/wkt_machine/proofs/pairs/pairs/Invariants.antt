@@ -1,6 +1,6 @@
 -- What was taken was gone over, and what it says was made.
 use Rattle.std.proofs.Common.{length}
-use Rattle.wkt_read.specs.Ahead.{left}
+use Rattle.wkt_read.specs.Ahead.{remaining}
 use Rattle.wkt_machine.specs.Leads.{Leads}
 use Rattle.wkt_machine.specs.Room.{HasRoom}
 use Rattle.wkt_machine.specs.TokensView.{tokens_view}
@@ -13,4 +13,4 @@ invariant-coordinates g l = record {
 }
 
 abbrev pub decreases-coordinates : goal.decreases-coordinates
-decreases-coordinates g l = length (left l.source.tokens.now)
+decreases-coordinates g l = length (remaining l.source.tokens.now)

@@ -1,6 +1,6 @@
 -- A number that isn't read is blamed where one may stand; any other token stays, or is taken.
 use Rattle.std.proofs.Common.{◌≡◌, sym, ◌∙◌, ap, subst}
-use Rattle.wkt_read.specs.Ahead.{left, rest, Advances}
+use Rattle.wkt_read.specs.Ahead.{remaining, rest, Advances}
 use Rattle.wkt_read.specs.Parser.Walks.{TakesNext}
 use Rattle.wkt_read.specs.Standing.{Standing}
 use Rattle.wkt_read.specs.Tokenizer.Unread.{found}
@@ -17,7 +17,7 @@ returns-then-is_number-clause-message g c =
     let looks = c.look-lexeme.ensures in
     let l = found c.take.result in
     let takes = subst (λ ls. TakesNext l ls (rest c.take.new.self)) looks.same c.take.ensures.takes in
-    blames_first g.T.WktNum.read c.args.machine (found c.look-lexeme.result) l (left c.args.tokens.now) (rest c.args.tokens.now) (rest c.take.new.self) looks.first
+    blames_first g.T.WktNum.read c.args.machine (found c.look-lexeme.result) l (remaining c.args.tokens.now) (rest c.args.tokens.now) (rest c.take.new.self) looks.first
     (sym c.is_number.ensures ∙ c.if-is_number.true) (sym c.takes_number.ensures ∙ c.if-takes_number.true) c.requires.stuck looks.sees takes
 
 pub returns-then-is_number-clause-advances : goal.returns-then-is_number-clause-advances

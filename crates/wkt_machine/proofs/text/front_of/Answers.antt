@@ -1,6 +1,6 @@
 -- What is read over the bytes of a text is its front; where it is refused, it has none.
 use Rattle.std.proofs.Common.{ap, ◌∙◌, arith, length, false}
-use Rattle.wkt_read.proofs.LawLemmas.Few.{placed-few}
+use Rattle.wkt_read.proofs.LawLemmas.Few.{spanned-few}
 use Rattle.wkt_read.proofs.LawLemmas.FrontEnds.{front-some, front-within, front-boundary}
 use Rattle.wkt_machine.specs.BytesView.{bytes_view}
 use Rattle.wkt_machine.proofs.ByteViews.{whole_left}
@@ -12,7 +12,7 @@ use Rattle.wkt_machine.proofs.text.front_of.Goals as goal
 pub read-answer-requires : goal.read-answer-requires
 read-answer-requires g c =
     let text = ap (λ x. x.now) c.new-source.ensures.text ∙ c.as_bytes.ensures.value in
-    let few = placed-few c.args.text.now in
+    let few = spanned-few c.args.text.now in
     let same = ap length (whole_left c.args.text.now c.new-source.result text c.new-source.ensures.at) in
     omega (arith, few, same)
 

@@ -5,11 +5,11 @@ use Rattle.wkt_machine.specs.Goes.{Refuses}
 use Rattle.wkt_machine.specs.Machine.{inside}
 use Rattle.wkt_machine.specs.Machines.{state_of, IsSound}
 use Rattle.wkt_machine.specs.TokensView.{tokens_view}
-use Rattle.wkt_machine.proofs.Leading.{goes_if, refuses_if}
+use Rattle.wkt_machine.proofs.EmptyWays.{goes_if, refuses_if}
 use Rattle.wkt_machine.proofs.TokenSteps.{there_in, stays_ok, joined_goes, open_goes, opened_goes, behind_ok, behind_err, ok_err}
 use Rattle.wkt_num.specs.Bytes.{Open}
 use Rattle.wkt_machine.specs.Room.{header_cost, owed, HasRoom}
-use Rattle.wkt_machine.proofs.Rooms.{inside_owes, fits_so_much, made_room, room_at}
+use Rattle.wkt_machine.proofs.RoomForRest.{inside_owes, fits_so_much, made_room, room_at}
 use Rattle.wkt_machine.proofs.SourceRooms.{leaves_two, kind_owes, looks_room, mark_fits, mark_after}
 use Rattle.wkt_machine.proofs.tokens.header.Goals as goal
 

@@ -1,12 +1,12 @@
 -- A kind word is taken as elsewhere; anything else is refused.
 use Rattle.std.proofs.Common.{ap, sym, ◌∙◌, refl, subst}
 use Rattle.std.specs.Bool.{OnFalse}
-use Rattle.wkt_read.specs.Ahead.{left, first_of}
+use Rattle.wkt_read.specs.Ahead.{remaining, first_of}
 use Rattle.wkt_machine.specs.Room.{RoomAt}
 use Rattle.wkt_machine.specs.Sight.{sight}
 use Rattle.wkt_machine.specs.TokensView.{NoKind, seen_found, tokens_view}
 use Rattle.wkt_machine.specs.declared.machine.State.TheVariants as next
-use Rattle.wkt_machine.proofs.Rooms.{kind_room, no_room}
+use Rattle.wkt_machine.proofs.RoomForRest.{kind_room, no_room}
 use Rattle.wkt_machine.proofs.SourceRooms.{looks_room}
 use Rattle.wkt_machine.proofs.Stepping.{put_back, is_err, kind_none}
 use Rattle.wkt_machine.proofs.TokenSteps.{there_in, stays_ok, stays_err}
@@ -27,8 +27,8 @@ returns g c =
     let read = g.T.WktNum.read in
     let maker = g.B.Builder.maker in
     let behind = there_in c.args.source c.has_kind.new.tokens in
-    let old = left c.args.source.tokens.now in
-    let sees = sees_first old ∙ ap sight (sym c.has_kind.ensures.looks.left) in
+    let old = remaining c.args.source.tokens.now in
+    let sees = sees_first old ∙ ap sight (sym c.has_kind.ensures.looks.remaining) in
     let none = subst (λ b. OnFalse b (NoKind (first_of old))) c.if-has_kind.false c.has_kind.ensures.none in
     record {
       on = is_err read tokens_view maker c.args.machine c.args.source c.args.builder c.refused.result _ c.refused.ensures;

@@ -3,7 +3,7 @@ use Rattle.std.proofs.Common.{[], None, refl}
 use Rattle.wkt_machine.specs.Growers.{tree_maker, tree_of}
 use Rattle.wkt_machine.specs.Growing.{rest}
 use Rattle.wkt_machine.proofs.Valued.{lent, taken, read_off, wants_memory, never_refused}
-use Rattle.wkt_machine.proofs.Rooms.{free_room}
+use Rattle.wkt_machine.proofs.RoomForRest.{free_room}
 use Rattle.wkt_machine.proofs.value.read.Goals as goal
 
 pub returns-in-Ok : goal.returns-in-Ok

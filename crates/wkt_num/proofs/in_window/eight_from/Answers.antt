@@ -1,7 +1,7 @@
 -- The first lanes have the number of the digits.
 use Rattle.std.proofs.Common.{refl, ◌∙◌, arith}
 use Rattle.wkt_num.proofs.FirstLanes.{given-lanes, given-value}
-use Rattle.wkt_num.proofs.Windowed.{digits-small}
+use Rattle.wkt_num.proofs.NumberInWindow.{digits-small}
 use Rattle.wkt_num.proofs.in_window.eight_from.Goals as goal
 
 pub first_8-requires-clause-digits : goal.first_8-requires-clause-digits

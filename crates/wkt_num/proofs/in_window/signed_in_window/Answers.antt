@@ -1,6 +1,6 @@
 -- The number is read by its digits.
 use Rattle.std.proofs.Common.{arith}
-use Rattle.wkt_num.proofs.Windowed.{digits-held, few-digits, windowed-signed}
+use Rattle.wkt_num.proofs.NumberInWindow.{digits-held, few-digits, windowed-signed}
 use Rattle.wkt_num.proofs.in_window.signed_in_window.Goals as goal
 
 pub digits_with_sign-requires : goal.digits_with_sign-requires

@@ -1,6 +1,6 @@
 -- More than eight digits are eight and others.
 use Rattle.std.proofs.Common.{arith}
-use Rattle.wkt_num.proofs.Windowed.{eight-digits, eights-value, eights-small}
+use Rattle.wkt_num.proofs.NumberInWindow.{eight-digits, eights-value, eights-small}
 use Rattle.wkt_num.proofs.in_window.sixteen_from.Goals as goal
 
 pub eight_from-high-requires-clause-digits : goal.eight_from-high-requires-clause-digits

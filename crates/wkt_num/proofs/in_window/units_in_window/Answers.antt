@@ -1,6 +1,6 @@
 -- The units are those of the digits, which a window shows.
 use Rattle.std.proofs.Common.{◌+◌, ◌*◌, ap₂, arith}
-use Rattle.wkt_num.proofs.Windowed.{part-small, all-small, windowed-whole, windowed-fraction}
+use Rattle.wkt_num.proofs.NumberInWindow.{part-small, all-small, windowed-whole, windowed-fraction}
 use Rattle.wkt_num.proofs.in_window.units_in_window.Goals as goal
 
 pub returns-then-bytes-point-ne46-clause-reads : goal.returns-then-bytes-point-ne46-clause-reads

@@ -1,6 +1,6 @@
 -- The number is read by its digits.
 use Rattle.std.proofs.Common.{refl}
-use Rattle.wkt_num.proofs.Windowed.{windowed-unsigned}
+use Rattle.wkt_num.proofs.NumberInWindow.{windowed-unsigned}
 use Rattle.wkt_num.proofs.in_window.unsigned_in_window.Goals as goal
 
 pub returns-in-Some-clause-reads : goal.returns-in-Some-clause-reads

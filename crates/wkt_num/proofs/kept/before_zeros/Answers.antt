@@ -1,7 +1,7 @@
 -- The byte before the zeros so far is a zero too.
 use Rattle.std.proofs.Common.{◌≡◌, ◌<◌, ◌-◌, ℕ, List, get_or, inl, inr, ap, sym, ◌∙◌, arith}
 use Rattle.std.proofs.lemmas.Bool.{cases_eq}
-use Rattle.wkt_num.proofs.Placed.{zero-more}
+use Rattle.wkt_num.proofs.DecimalParts.{zero-more}
 use Rattle.wkt_num.proofs.kept.before_zeros.Goals as goal
 
 pub loop-kept-preserved : goal.loop-kept-preserved

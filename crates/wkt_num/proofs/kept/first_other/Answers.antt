@@ -1,6 +1,6 @@
 -- The lowest bit of the mask is the first byte that is no digit; with no bit all are digits.
 use Rattle.std.proofs.Common.{arith}
-use Rattle.wkt_num.proofs.Window.{is-first, all-digits}
+use Rattle.wkt_num.proofs.WindowDigits.{is-first, all-digits}
 use Rattle.wkt_num.proofs.kept.first_other.Goals as goal
 
 pub returns-then-others-eq0-clause-none : goal.returns-then-others-eq0-clause-none

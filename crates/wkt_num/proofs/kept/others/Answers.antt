@@ -1,5 +1,5 @@
 -- The mask has a bit for each byte of the window that is no digit.
-use Rattle.wkt_num.proofs.Window.{mask-of}
+use Rattle.wkt_num.proofs.WindowDigits.{mask-of}
 use Rattle.wkt_num.proofs.kept.others.Goals as goal
 
 pub returns : goal.returns

@@ -1,5 +1,5 @@
 -- Without the lower bits it is the mask of the bytes from there on.
-use Rattle.wkt_num.proofs.Window.{minus-less}
+use Rattle.wkt_num.proofs.WindowDigits.{minus-less}
 use Rattle.wkt_num.proofs.kept.others_from.Goals as goal
 
 pub overflow_sub-result : goal.overflow_sub-result

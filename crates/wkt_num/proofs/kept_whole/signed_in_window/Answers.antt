@@ -2,7 +2,7 @@
 use Rattle.std.proofs.Common.{length}
 use Rattle.std.specs.Fmt.{signed_decimal}
 use Rattle.wkt_num.proofs.WholeKept.{keeps-signed}
-use Rattle.wkt_num.proofs.Found.{signed-text, found-both, found-none}
+use Rattle.wkt_num.proofs.FirstTextFound.{signed-text, found-both, found-none}
 use Rattle.wkt_num.proofs.kept_whole.signed_in_window.Goals as goal
 
 pub returns-in-Some-clause-keeps : goal.returns-in-Some-clause-keeps

@@ -2,7 +2,7 @@
 use Rattle.std.proofs.Common.{length}
 use Rattle.std.specs.Fmt.{decimal}
 use Rattle.wkt_num.proofs.WholeKept.{keeps-unsigned}
-use Rattle.wkt_num.proofs.Found.{unsigned-text, unsigned-first, found-both, found-none}
+use Rattle.wkt_num.proofs.FirstTextFound.{unsigned-text, unsigned-first, found-both, found-none}
 use Rattle.wkt_num.proofs.kept_whole.unsigned_in_window.Goals as goal
 
 pub returns-else-bytes-eq45-clause-keeps : goal.returns-else-bytes-eq45-clause-keeps

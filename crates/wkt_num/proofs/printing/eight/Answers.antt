@@ -1,6 +1,6 @@
 -- Two fours of digits are the number padded to eight.
 use Rattle.std.proofs.Common.{◌∙◌, sym, refl}
-use Rattle.wkt_num.proofs.Eighteen.{padded-two}
+use Rattle.wkt_num.proofs.EighteenPlaces.{padded-two}
 use Rattle.wkt_num.proofs.printing.eight.Goals as goal
 
 pub returns : goal.returns

@@ -1,5 +1,5 @@
 -- The lanes are the digits of four numbers below ten thousand.
-use Rattle.wkt_num.proofs.Fours.{four-fours}
+use Rattle.wkt_num.proofs.FourDigits.{four-fours}
 use Rattle.wkt_num.proofs.printing.four_fours.Goals as goal
 
 pub returns : goal.returns

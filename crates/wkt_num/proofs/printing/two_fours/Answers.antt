@@ -1,5 +1,5 @@
 -- The lanes are the digits of two numbers below ten thousand.
-use Rattle.wkt_num.proofs.Fours.{two-fours}
+use Rattle.wkt_num.proofs.FourDigits.{two-fours}
 use Rattle.wkt_num.proofs.printing.two_fours.Goals as goal
 
 pub returns : goal.returns

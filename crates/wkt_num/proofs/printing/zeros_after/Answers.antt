@@ -1,6 +1,6 @@
 -- The lowest bit of the mask counts the zeros at the end of the digits.
 use Rattle.std.proofs.Common.{◌∙◌, arith}
-use Rattle.wkt_num.proofs.Eighteen.{zeros-lowest}
+use Rattle.wkt_num.proofs.EighteenPlaces.{zeros-lowest}
 use Rattle.wkt_num.proofs.printing.zeros_after.Goals as goal
 
 pub returns : goal.returns

@@ -1,5 +1,5 @@
 use Rattle.std.proofs.Common.{◌*◌, ◌+◌}
-use Rattle.wkt_write.proofs.Firsts.{Clean}
+use Rattle.wkt_write.proofs.FirstErrors.{Clean}
 use Rattle.wkt_write.proofs.Depth.{depth}
 use Rattle.wkt_access.specs.Faults.{fault}
 use Rattle.wkt_write.specs.Known.{Known}

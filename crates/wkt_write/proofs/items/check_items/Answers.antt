@@ -1,6 +1,6 @@
 -- The first items have no error, or the next one has the first.
 use Rattle.std.proofs.lemmas.Result.{err_from_is_err_and}
-use Rattle.wkt_write.proofs.Firsts.{clean_more_at, clean_fault_at}
+use Rattle.wkt_write.proofs.FirstErrors.{clean_more_at, clean_fault_at}
 use Rattle.wkt_write.proofs.items.check_items.Goals as goal
 
 pub returns-in_err-check : goal.returns-in_err-check

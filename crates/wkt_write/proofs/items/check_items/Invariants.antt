@@ -1,4 +1,4 @@
-use Rattle.wkt_write.proofs.Firsts.{Clean}
+use Rattle.wkt_write.proofs.FirstErrors.{Clean}
 use Rattle.wkt_write.proofs.items.check_items.Given as goal
 
 abbrev pub invariant-loop-i : goal.invariant-loop-i

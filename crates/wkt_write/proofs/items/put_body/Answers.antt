@@ -1,5 +1,5 @@
 -- The body is the items in parentheses, or EMPTY.
-use Rattle.wkt_num.proofs.Calls.{puts_err}
+use Rattle.wkt_num.proofs.SinkCalls.{puts_err}
 use Rattle.wkt_write.proofs.Bracketed.{bracket_broken_opening, bracket_broken_items, bracket_adds}
 use Rattle.wkt_write.proofs.Lists.{none_counted}
 use Rattle.wkt_write.proofs.items.put_body.Goals as goal

@@ -4,7 +4,7 @@ use Rattle.wkt_write.proofs.Collected.{broken_header, broken_opening, broken_mem
 use Rattle.wkt_write.proofs.Depth.{depth, member_below}
 use Rattle.wkt_write.proofs.Listing.{listing_broken_before, listing_broken, listing_start, listing_more, listing_end}
 use Rattle.wkt_write.proofs.Members.{member_clean, members_counted}
-use Rattle.wkt_num.proofs.Calls.{puts_err}
+use Rattle.wkt_num.proofs.SinkCalls.{puts_err}
 use Rattle.wkt_access.specs.Faults.{fault}
 use Rattle.wkt_write.proofs.put_geometries.+geometries.Goals as goal
 

@@ -1,5 +1,5 @@
 -- The header is the word, the dimension, and a space before EMPTY.
-use Rattle.wkt_num.proofs.Calls.{puts_then}
+use Rattle.wkt_num.proofs.SinkCalls.{puts_then}
 use Rattle.wkt_write.proofs.put_parts.put_header.Goals as goal
 
 pub returns : goal.returns

@@ -1,5 +1,5 @@
 -- The first numbers are written, with spaces between them.
-use Rattle.wkt_num.proofs.Calls.{puts_err}
+use Rattle.wkt_num.proofs.SinkCalls.{puts_err}
 use Rattle.wkt_write.proofs.Listing.{listing_start, listing_more, listing_broken_before, listing_broken}
 use Rattle.wkt_write.proofs.Lists.{get_front, all_front}
 use Rattle.wkt_write.proofs.put_parts.put_numbers.Goals as goal

@@ -1,5 +1,5 @@
 -- The body is the coordinate in parentheses, or EMPTY.
-use Rattle.wkt_num.proofs.Calls.{puts_err, puts_then, breaks_first, breaks_then}
+use Rattle.wkt_num.proofs.SinkCalls.{puts_err, puts_then, breaks_first, breaks_then}
 use Rattle.wkt_write.proofs.Bracketed.{point_pieces, point_no_piece}
 use Rattle.wkt_write.proofs.put_parts.put_point_body.Goals as goal
 

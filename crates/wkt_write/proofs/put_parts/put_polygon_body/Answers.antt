@@ -1,5 +1,5 @@
 -- The body is the exterior and the interiors, or EMPTY.
-use Rattle.wkt_num.proofs.Calls.{puts_err, puts_then, breaks_first, breaks_then}
+use Rattle.wkt_num.proofs.SinkCalls.{puts_err, puts_then, breaks_first, breaks_then}
 use Rattle.wkt_write.proofs.Bracketed.{rings_pieces, rings_no_piece, rings_none, rings_empty}
 use Rattle.wkt_write.proofs.put_parts.put_polygon_body.Goals as goal
 

@@ -1,6 +1,6 @@
 -- A corner is the x of one coordinate and the y of another.
 use Rattle.wkt_write.proofs.Bracketed.{rect_corner_pieces}
-use Rattle.wkt_num.proofs.Calls.{puts_err, puts_then, breaks_first, breaks_then}
+use Rattle.wkt_num.proofs.SinkCalls.{puts_err, puts_then, breaks_first, breaks_then}
 use Rattle.wkt_write.proofs.put_parts.put_rect_corner.Goals as goal
 
 pub returns-in_err-write_number : goal.returns-in_err-write_number

@@ -1,5 +1,5 @@
 -- The ring is its five corners with commas between them.
-use Rattle.wkt_num.proofs.Calls.{breaks_first, breaks_then, puts_err, puts_then}
+use Rattle.wkt_num.proofs.SinkCalls.{breaks_first, breaks_then, puts_err, puts_then}
 use Rattle.wkt_write.proofs.put_parts.put_rect_ring.Goals as goal
 
 pub returns-in_err-write_str : goal.returns-in_err-write_str

@@ -1,6 +1,6 @@
 -- A row is null, a point, or another text.
 use Rattle.wkt_calls.specs.Answer.{places_in, asks_whole}
-use Rattle.wkt_c.proofs.Handing.{match-map}
+use Rattle.wkt_c.proofs.CopiedOut.{match-map}
 use Rattle.wkt_c.proofs.ArrayColumns.{null-arrays}
 use Rattle.wkt_c.proofs.column_arrays.ArrayRows.add_row.Goals as goal
 

@@ -1,7 +1,7 @@
 -- The number that comes next is added.
-use Rattle.wkt_fill.proofs.Nearby.{makes-near}
+use Rattle.wkt_fill.proofs.FastNumbers.{makes-fast}
 use Rattle.wkt_fill.proofs.filler.FillerBuilderDecimal.number_in.Goals as goal
 
 pub returns-in-Some-clause-some : goal.returns-in-Some-clause-some
 returns-in-Some-clause-some g c =
-    makes-near g.row.D c.args.text.now c.args.at c.args.axis c.in-Some.end c.in-Some.units c.args.self c.put.new.self c.requires.inside c.in-Some.ensures c.put.ensures
+    makes-fast g.row.D c.args.text.now c.args.at c.args.axis c.in-Some.end c.in-Some.units c.args.self c.put.new.self c.requires.inside c.in-Some.ensures c.put.ensures

@@ -8,7 +8,7 @@ use Rattle.wkt_machine.specs.declared.machine.Seen.TheVariants as sees
 use Rattle.wkt_machine.specs.declared.machine.State.TheVariants as next
 use Rattle.wkt_machine.proofs.Stepping.{taken}
 use Rattle.wkt_machine.specs.Room.{header_cost, owed}
-use Rattle.wkt_machine.proofs.Rooms.{fits_seen, leaves_none, room_on}
+use Rattle.wkt_machine.proofs.RoomForRest.{fits_seen, leaves_none, room_on}
 use Rattle.wkt_machine.proofs.machine.Machine.after_kind.Goals as goal
 
 pub returns-in-None-clause-on : goal.returns-in-None-clause-on

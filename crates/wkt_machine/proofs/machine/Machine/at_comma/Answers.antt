@@ -4,7 +4,7 @@ use Rattle.wkt_machine.specs.declared.machine.Seen.TheVariants as sees
 use Rattle.wkt_machine.specs.declared.machine.State.TheVariants as next
 use Rattle.wkt_machine.proofs.Stepping.{taken, put_back, is_err, single_none, several}
 use Rattle.wkt_machine.specs.Room.{owed, RoomAt}
-use Rattle.wkt_machine.proofs.Rooms.{inside_owes, no_room, fits_seen, room_on}
+use Rattle.wkt_machine.proofs.RoomForRest.{inside_owes, no_room, fits_seen, room_on}
 use Rattle.wkt_machine.proofs.machine.Machine.at_comma.Goals as goal
 
 pub returns-then-is_single : goal.returns-then-is_single

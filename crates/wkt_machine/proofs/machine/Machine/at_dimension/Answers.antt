@@ -7,7 +7,7 @@ use Rattle.wkt_machine.proofs.Stepping.{taken, put_back, is_err, alone_none}
 use Rattle.wkt_machine.proofs.machine.Machine.at_dimension.Goals as goal
 use Rattle.wkt_machine.specs.Machine.{inside, outside}
 use Rattle.wkt_machine.specs.Room.{header_cost, owed, RoomAt}
-use Rattle.wkt_machine.proofs.Rooms.{inside_owes, outside_owes, no_room, leaves_both, fits_seen, room_on}
+use Rattle.wkt_machine.proofs.RoomForRest.{inside_owes, outside_owes, no_room, leaves_both, fits_seen, room_on}
 
 pub returns-in-Dimension-clause-on : goal.returns-in-Dimension-clause-on
 returns-in-Dimension-clause-on g c =

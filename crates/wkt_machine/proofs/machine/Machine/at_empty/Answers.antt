@@ -4,7 +4,7 @@ use Rattle.wkt_machine.specs.declared.machine.Seen.TheVariants as sees
 use Rattle.wkt_machine.specs.declared.machine.State.TheVariants as next
 use Rattle.wkt_machine.proofs.Stepping.{taken}
 use Rattle.wkt_machine.specs.Room.{owed}
-use Rattle.wkt_machine.proofs.Rooms.{outside_owes, fits_seen, room_on}
+use Rattle.wkt_machine.proofs.RoomForRest.{outside_owes, fits_seen, room_on}
 use Rattle.wkt_machine.proofs.machine.Machine.at_empty.Goals as goal
 
 pub returns-clause-on : goal.returns-clause-on

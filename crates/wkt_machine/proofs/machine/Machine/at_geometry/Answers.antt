@@ -5,7 +5,7 @@ use Rattle.wkt_machine.specs.declared.machine.Seen.TheVariants as sees
 use Rattle.wkt_machine.specs.declared.machine.State.TheVariants as next
 use Rattle.wkt_machine.proofs.Stepping.{taken, put_back, is_err, inner_close, inner_comma, inner_open, geometry_none}
 use Rattle.wkt_machine.specs.Room.{owed, RoomAt}
-use Rattle.wkt_machine.proofs.Rooms.{no_room, fits_seen, room_on}
+use Rattle.wkt_machine.proofs.RoomForRest.{no_room, fits_seen, room_on}
 use Rattle.wkt_machine.proofs.machine.Machine.at_geometry.Goals as goal
 
 pub returns-in-Close-clause-on : goal.returns-in-Close-clause-on

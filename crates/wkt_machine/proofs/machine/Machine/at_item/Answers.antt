@@ -4,7 +4,7 @@ use Rattle.wkt_machine.specs.declared.machine.Seen.TheVariants as sees
 use Rattle.wkt_machine.specs.declared.machine.State.TheVariants as next
 use Rattle.wkt_machine.proofs.Stepping.{taken, put_back, is_err, item_none}
 use Rattle.wkt_machine.specs.Room.{owed, RoomAt}
-use Rattle.wkt_machine.proofs.Rooms.{outside_owes, no_room, fits_seen, room_on}
+use Rattle.wkt_machine.proofs.RoomForRest.{outside_owes, no_room, fits_seen, room_on}
 use Rattle.wkt_machine.proofs.machine.Machine.at_item.Goals as goal
 
 pub returns-in-Close-clause-on : goal.returns-in-Close-clause-on

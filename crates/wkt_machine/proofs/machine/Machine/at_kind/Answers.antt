@@ -3,7 +3,7 @@ use Rattle.std.proofs.Common.{refl}
 use Rattle.wkt_machine.specs.declared.machine.State.TheVariants as next
 use Rattle.wkt_machine.proofs.Stepping.{put_back, is_err, kind_none}
 use Rattle.wkt_machine.specs.Room.{RoomAt}
-use Rattle.wkt_machine.proofs.Rooms.{no_room}
+use Rattle.wkt_machine.proofs.RoomForRest.{no_room}
 use Rattle.wkt_machine.proofs.machine.Machine.at_kind.Goals as goal
 
 pub returns-in_default : goal.returns-in_default

@@ -4,7 +4,7 @@ use Rattle.wkt_machine.specs.declared.machine.Seen.TheVariants as sees
 use Rattle.wkt_machine.specs.declared.machine.State.TheVariants as next
 use Rattle.wkt_machine.proofs.Stepping.{put_back, is_err, bare_none}
 use Rattle.wkt_machine.specs.Room.{RoomAt}
-use Rattle.wkt_machine.proofs.Rooms.{no_room}
+use Rattle.wkt_machine.proofs.RoomForRest.{no_room}
 use Rattle.wkt_machine.proofs.machine.Machine.at_member.Goals as goal
 
 pub returns-in_default : goal.returns-in_default

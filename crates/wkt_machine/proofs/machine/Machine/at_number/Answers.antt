@@ -3,7 +3,7 @@ use Rattle.wkt_machine.specs.Machines.{state_for}
 use Rattle.wkt_machine.proofs.Numbering.{other_none, open_at}
 use Rattle.wkt_machine.proofs.Stepping.{put_back, is_err}
 use Rattle.wkt_machine.specs.Room.{RoomAt}
-use Rattle.wkt_machine.proofs.Rooms.{no_room}
+use Rattle.wkt_machine.proofs.RoomForRest.{no_room}
 use Rattle.wkt_machine.proofs.machine.Machine.at_number.Goals as goal
 
 pub returns-in_default : goal.returns-in_default

@@ -5,7 +5,7 @@ use Rattle.wkt_machine.specs.Machines.{place_of, state_of}
 use Rattle.wkt_machine.proofs.Numbering.{bare_number, unread}
 use Rattle.wkt_machine.specs.Room.{owed}
 use Rattle.wkt_machine.specs.declared.machine.Seen.TheVariants as sees
-use Rattle.wkt_machine.proofs.Rooms.{fits_seen, room_at, bare_room, bare_after}
+use Rattle.wkt_machine.proofs.RoomForRest.{fits_seen, room_at, bare_room, bare_after}
 use Rattle.wkt_machine.proofs.machine.Machine.bare.Goals as goal
 
 pub returns-in-Ok-clause-on : goal.returns-in-Ok-clause-on

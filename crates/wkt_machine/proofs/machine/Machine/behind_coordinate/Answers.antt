@@ -2,7 +2,7 @@
 use Rattle.std.proofs.Common.{arith, ap, ◌∙◌}
 use Rattle.wkt_machine.specs.Machines.{state_of}
 use Rattle.wkt_machine.specs.Room.{owed}
-use Rattle.wkt_machine.proofs.Rooms.{outside_owes, less_room, made_room, fits_so_much, room_at}
+use Rattle.wkt_machine.proofs.RoomForRest.{outside_owes, less_room, made_room, fits_so_much, room_at}
 use Rattle.wkt_machine.proofs.machine.Machine.behind_coordinate.Goals as goal
 
 pub close-requires : goal.close-requires

@@ -4,7 +4,7 @@ use Rattle.wkt_machine.proofs.Numbering.{last_number, inner_number, unread, over
 use Rattle.wkt_machine.specs.Machine.{at}
 use Rattle.wkt_machine.specs.Machines.{state_of, place_of}
 use Rattle.wkt_machine.specs.Room.{owed}
-use Rattle.wkt_machine.proofs.Rooms.{after_owes, less_room, room_at, number_room, number_after}
+use Rattle.wkt_machine.proofs.RoomForRest.{after_owes, less_room, room_at, number_room, number_after}
 use Rattle.wkt_machine.proofs.machine.Machine.number.Goals as goal
 
 pub returns-in-Item-clause-on : goal.returns-in-Item-clause-on

@@ -2,7 +2,7 @@
 use Rattle.std.proofs.Common.{refl, ◌||◌}
 use Rattle.wkt_machine.specs.Events.{Event}
 use Rattle.wkt_machine.specs.Growing.{lists_items, lists_end}
-use Rattle.wkt_machine.proofs.Holding.{one_event, two_calls}
+use Rattle.wkt_machine.proofs.TreeHolds.{one_event, two_calls}
 use Rattle.wkt_machine.proofs.tree.GrowerBuilder.close.Goals as goal
 
 pub returns-clause-makes : goal.returns-clause-makes

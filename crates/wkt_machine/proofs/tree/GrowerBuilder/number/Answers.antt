@@ -1,7 +1,7 @@
 -- A number.
 use Rattle.std.proofs.Common.{false, refl}
 use Rattle.wkt_machine.specs.Events.{Event}
-use Rattle.wkt_machine.proofs.Holding.{one_event}
+use Rattle.wkt_machine.proofs.TreeHolds.{one_event}
 use Rattle.wkt_machine.proofs.tree.GrowerBuilder.number.Goals as goal
 
 pub returns-clause-makes : goal.returns-clause-makes

@@ -1,7 +1,7 @@
 -- The number that stands there.
 use Rattle.std.proofs.Common.{false, refl}
 use Rattle.wkt_machine.specs.Events.{Event}
-use Rattle.wkt_machine.proofs.Holding.{one_event}
+use Rattle.wkt_machine.proofs.TreeHolds.{one_event}
 use Rattle.wkt_machine.proofs.tree.GrowerBuilder.number_in.Goals as goal
 
 pub returns-in-Some-clause-some : goal.returns-in-Some-clause-some

@@ -3,7 +3,7 @@ use Rattle.std.proofs.Common.{[], ◌∷◌, true, refl, sym, subst}
 use Rattle.wkt_machine.specs.Events.{Event}
 use Rattle.wkt_machine.specs.Trees.{Grew}
 use Rattle.wkt_machine.specs.declared.part.Part.TheVariants as part
-use Rattle.wkt_machine.proofs.Holding.{one_event, no_opening}
+use Rattle.wkt_machine.proofs.TreeHolds.{one_event, no_opening}
 use Rattle.wkt_machine.proofs.tree.GrowerBuilder.open.Goals as goal
 
 pub returns-in-Collection-clause-makes : goal.returns-in-Collection-clause-makes

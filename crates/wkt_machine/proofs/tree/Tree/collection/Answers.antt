@@ -1,6 +1,6 @@
 -- The collection that was opened last is taken.
 use Rattle.std.proofs.Common.{◌∙◌, arith}
-use Rattle.wkt_machine.proofs.Holding.{gives_last, gives_none, no_items}
+use Rattle.wkt_machine.proofs.TreeHolds.{gives_last, gives_none, no_items}
 use Rattle.wkt_machine.proofs.tree.Tree.collection.Goals as goal
 
 pub returns-in-Some : goal.returns-in-Some

@@ -1,7 +1,7 @@
 -- A part ends.
 use Rattle.std.proofs.Common.{refl}
 use Rattle.wkt_machine.specs.declared.part.Part.TheVariants as part
-use Rattle.wkt_machine.proofs.Holding.{ends_by, line_by, point_by, whole_point, whole_line_string, whole_polygon, whole_multi_point, whole_multi_line_string, whole_multi_polygon, whole_collection}
+use Rattle.wkt_machine.proofs.TreeHolds.{ends_by, line_by, point_by, whole_point, whole_line_string, whole_polygon, whole_multi_point, whole_multi_line_string, whole_multi_polygon, whole_collection}
 use Rattle.wkt_machine.proofs.tree.Tree.end.Goals as goal
 
 pub returns-in-Point : goal.returns-in-Point

@@ -1,5 +1,5 @@
 -- The geometry that ended is put into its collection.
-use Rattle.wkt_machine.proofs.Holding.{member_ends}
+use Rattle.wkt_machine.proofs.TreeHolds.{member_ends}
 use Rattle.wkt_machine.proofs.tree.Tree.end_member.Goals as goal
 
 pub returns : goal.returns

@@ -1,6 +1,6 @@
 -- A collection opens without members.
 use Rattle.std.proofs.Common.{refl}
-use Rattle.wkt_machine.proofs.Holding.{opens}
+use Rattle.wkt_machine.proofs.TreeHolds.{opens}
 use Rattle.wkt_machine.proofs.tree.Tree.open_collection.Goals as goal
 
 pub returns-else-not-add : goal.returns-else-not-add

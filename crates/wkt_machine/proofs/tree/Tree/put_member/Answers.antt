@@ -1,6 +1,6 @@
 -- The collection that was opened last has one member more.
 use Rattle.std.proofs.Common.{◌+◌, ◌≡◌, ◌-◌, refl, arith, length}
-use Rattle.wkt_machine.proofs.Holding.{lost_joins, member_put, none_joins, none_open}
+use Rattle.wkt_machine.proofs.TreeHolds.{lost_joins, member_put, none_joins, none_open}
 use Rattle.wkt_machine.proofs.tree.Tree.put_member.Goals as goal
 
 pub returns-then-not-add_one : goal.returns-then-not-add_one

@@ -3,7 +3,7 @@ use Rattle.std.proofs.Common.{sym, ap, subst, ◌∙◌, arith, to_z, of_z}
 use Rattle.std.specs.Int.{w128}
 use Rattle.wkt_num.specs.Kept.{BeginsNumber}
 use Rattle.wkt_num.specs.Whole.{read_signed}
-use Rattle.wkt_num.proofs.Windowed.{held-127, held-63}
+use Rattle.wkt_num.proofs.NumberInWindow.{held-127, held-63}
 use Rattle.wkt_num.proofs.signed_whole.I128WktNum.read_in_window.Goals as goal
 
 pub returns-in-Some-clause-reads : goal.returns-in-Some-clause-reads

@@ -2,7 +2,7 @@
 use Rattle.std.proofs.Common.{sym, subst, arith}
 use Rattle.wkt_num.specs.Kept.{BeginsNumber}
 use Rattle.wkt_num.specs.Whole.{read_signed}
-use Rattle.wkt_num.proofs.Windowed.{held-63}
+use Rattle.wkt_num.proofs.NumberInWindow.{held-63}
 use Rattle.wkt_num.proofs.signed_whole.I64WktNum.read_in_window.Goals as goal
 
 pub returns-in-Some-clause-reads : goal.returns-in-Some-clause-reads

@@ -1,5 +1,5 @@
 use Rattle.std.proofs.Common.{◌≡◌, ◌≤◌, ◌-◌, length}
-use Rattle.wkt_read.specs.Tokenizer.Scan.{meant, coming_at, Found}
+use Rattle.wkt_read.specs.Tokenizer.Scan.{meant, coming_at, FoundClass}
 use Rattle.wkt_read.specs.Tokenizer.Cursors.{taken_in}
 use Rattle.wkt_read.proofs.tokenizer.scan.first_class.Given as goal
 
@@ -7,7 +7,7 @@ abbrev pub invariant-white : goal.invariant-white
 invariant-white l = record {
   text : l.cursor.text ≡ l.fn.bytes.text;
   grows : taken_in l.fn.bytes ≤ taken_in l.cursor;
-  found : Found (coming_at l.fn.bytes.text.now (meant l.fn.ahead) (taken_in l.fn.bytes)) l.cursor.text.now l.class (taken_in l.cursor);
+  found : FoundClass (coming_at l.fn.bytes.text.now (meant l.fn.ahead) (taken_in l.fn.bytes)) l.cursor.text.now l.class (taken_in l.cursor);
 }
 
 abbrev pub decreases-white : goal.decreases-white

@@ -1,6 +1,6 @@
 -- The error of a collection is the first error of its members.
 use Rattle.wkt_write.proofs.Members.{faults_gathered, known_gathered}
-use Rattle.wkt_write.proofs.Firsts.{checks_more}
+use Rattle.wkt_write.proofs.FirstErrors.{checks_more}
 use Rattle.wkt_write.proofs.kinds.CollectionKind.check.Goals as goal
 
 pub returns : goal.returns

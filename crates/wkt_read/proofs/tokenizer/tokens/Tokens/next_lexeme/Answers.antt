@@ -1,7 +1,7 @@
 -- The lexeme that is taken is the first of those to come, by its class.
 use Rattle.std.proofs.Common.{◌≡◌, ◌-◌, ◌<◌, ap, ◌∙◌, arith, refl, drop, slice_range, Some}
 use Rattle.wkt_read.specs.Lexemes.{lexeme_of}
-use Rattle.wkt_read.specs.Placed.{placed_from}
+use Rattle.wkt_read.specs.Spanned.{spanned_from}
 use Rattle.wkt_read.specs.Tokenizer.Unread.{found}
 use Rattle.wkt_read.proofs.TokenizerLemmas.Steps.{run-found, gives-run, gives-open, gives-close, gives-comma, found-nul}
 use Rattle.wkt_read.proofs.tokenizer.tokens.Tokens.next_lexeme.Goals as goal
@@ -16,7 +16,7 @@ returns-in-Run g c =
     let e : f.0 ≡ c.taken-from.result - 1 = omega (arith, f.1, c.taken-from.ensures) in
     let order : c.taken-from.result - 1 < c.end_of_run-end.result.1 = omega (arith, f.1, c.taken-from.ensures, r.on) in
     rw (← c.self.view_is, lexeme) (
-      gives-run _ _ _ _ _ _ _ _ (f.2 ∙ ap (λ n. placed_from n (drop n c.first_class-class.result.0.text.now)) e) (ap (λ t. t.now) r.text) order r.ends refl,
+      gives-run _ _ _ _ _ _ _ _ (f.2 ∙ ap (λ n. spanned_from n (drop n c.first_class-class.result.0.text.now)) e) (ap (λ t. t.now) r.text) order r.ends refl,
       r.ends.taken,
       r.ends.near,
       omega (arith, r.grows, s.grows),

@@ -1,0 +1,52 @@
+-- The lexemes that are left in a text from a place of its bytes. A text ends at its first NUL or with its last byte; where `feed` is true, at its first LF too, which else is white space.
+use Rattle.std.specs.Prelude.{◌≡◌, ◌≢◌, ℕ, ◌≤◌, ◌<◌, List, [], ◌∷◌, ◌++◌, ◌==◌, if◌then◌else◌, Bool, true, false, drop, length, get_or, slice_range, IsUtf8}
+use Rattle.wkt_num.specs.Bytes.{Lexeme, Open, Close, Comma, Word, Num, Class, Nul, Run, AllRun, class_of}
+use Rattle.wkt_read.specs.Spanned.{Spanned, lexemes_of, spanned_from}
+
+-- what stands before the first line feed
+abbrev pub before_feed : List ℕ → List ℕ
+before_feed [] = []
+before_feed (b ∷ bs) = if b == 10 then [] else b ∷ before_feed bs
+
+-- the bytes in which a text's lexemes are
+abbrev pub line_of : Bool → List ℕ → List ℕ
+line_of false bytes = bytes
+line_of true bytes = before_feed bytes
+
+-- The place is in the text's line, which is UTF-8.
+abbrev pub Legible : Bool → List ℕ → ℕ → Type 0
+Legible feed text at = IsUtf8 (line_of feed text) × (at ≤ length (line_of feed text))
+
+-- what a byte is in a text: a line feed that ends it is as a NUL
+unfoldable pub class_in : Bool → ℕ → Class
+class_in false b = class_of b
+class_in true b = if b == 10 then Nul else class_of b
+
+-- the lexemes that are left in a text from this place, each with its end in the text
+unfoldable pub remaining_spanned : Bool → List ℕ → ℕ → List Spanned
+remaining_spanned feed text at = spanned_from at (line_of feed (drop at text))
+
+-- the lexemes that are left in a text from this place
+unfoldable pub remaining : Bool → List ℕ → ℕ → List Lexeme
+remaining feed text at = lexemes_of (remaining_spanned feed text at)
+
+-- The run that goes on at `from`, or that is none there, ends at `end`.
+pub record IsRunEnd (text : List ℕ) (from end : ℕ) : Type 0 where
+  pub order : from ≤ end
+  pub inside : end ≤ length text
+  pub run : AllRun (slice_range text from end)
+  pub stops : class_of (get_or text end 0) ≢ Run
+
+-- This lexeme comes next, and ends at `to`.
+pub record TakesOne (feed : Bool) (text : List ℕ) (at : ℕ) (lexeme : Lexeme) (to : ℕ) : Type 0 where
+  pub grows : at < to
+  pub inside : to ≤ length text
+  pub next : remaining_spanned feed text at ≡ record { lexeme = lexeme; end = to } ∷ remaining_spanned feed text to
+
+-- a parenthesis or a comma
+abbrev pub IsMark : Lexeme → Type 0
+IsMark Open = Unit {0}
+IsMark Close = Unit {0}
+IsMark Comma = Unit {0}
+IsMark (Word run) = ⊥
+IsMark (Num run) = ⊥

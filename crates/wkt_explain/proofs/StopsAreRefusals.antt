@@ -1,0 +1,196 @@
+-- Where the machine stops in a text, the text is refused.
+use Rattle.std.proofs.Common.{◌≡◌, ◌≢◌, ℕ, ◌+◌, ◌≤◌, List, [], ◌∷◌, ◌++◌, length, length-append, drop, get_or, refl, ap, ◌∙◌, sym, subst, append_assoc, append-nil, arith, inl, inr, Option, None, false}
+use Rattle.std.proofs.lemmas.Bool.{cases_eq, cases_lt}
+use Rattle.std.proofs.lemmas.List.{length-drop, drop_all, drop_more, drop_at}
+use Rattle.wkt_num.specs.Bytes.{Lexeme, White, Mark, class_of, AllWhite}
+use Rattle.wkt_read.specs.Lexemes.{StartsOther, Takes, IsSplit}
+use Rattle.wkt_read.specs.Front.{HasNoFront}
+use Rattle.wkt_read.specs.Begun.{BegunGeometry, NoneBegins}
+use Rattle.wkt_read.specs.Early.{opens, closes, IsJustDead}
+use Rattle.wkt_read.specs.Spanned.{Spanned, lexemes_of, end_after, AreEnds, spanned}
+use Rattle.wkt_read.specs.Explained.{IsExpectedAfter, IsTooMuch, IsTooShort, IsRefusedAt}
+use Rattle.wkt_read.specs.Context.{context, IsTurn}
+use Rattle.wkt_read.specs.Refusal.{IsRefusedWith}
+use Rattle.wkt_read.specs.Table.{before_place, reported, IsReportedAt}
+use Rattle.wkt_read.specs.declared.expected.Expected.{Expected}
+use Rattle.wkt_read.proofs.LawLemmas.Stable.{prefix}
+use Rattle.wkt_read.proofs.LawLemmas.Splits.{span, spells_first, first_append, first_other, end_other, takes_rest, takes_after}
+use Rattle.wkt_read.proofs.TokenizerLemmas.Placings.{spanned-split, spanned-ends}
+use Rattle.wkt_events.specs.Remaining.{class_in, remaining, remaining_spanned, IsRunEnd}
+use Rattle.wkt_events.proofs.Classes as classes
+use Rattle.wkt_events.proofs.RemainingLexemes.{takes-mark, takes-run}
+use Rattle.wkt_machine.specs.BytesView.{IsBetween, IsDark, IsUnmarked}
+use Rattle.wkt_machine.specs.Goes.{IsStuck}
+use Rattle.wkt_machine.specs.Machine.{move}
+use Rattle.wkt_machine.specs.Machines.{state_of}
+use Rattle.wkt_machine.specs.Refusing.{own}
+use Rattle.wkt_machine.specs.Stops.{StopsAt}
+use Rattle.wkt_machine.specs.declared.machine.Machine.{Machine}
+use Rattle.wkt_machine.proofs.ByteViews.{between_more, none_left}
+use Rattle.wkt_machine.proofs.WaysJoin.{lexemes_append, end_last}
+use Rattle.wkt_machine.proofs.ExpectedIsTaken.{expected_after}
+use Rattle.wkt_machine.proofs.ContextOfPlace.{turn}
+use Rattle.wkt_machine.proofs.Parens.{counted}
+use Rattle.wkt_machine.proofs.Stopping.{gap_between, stops_message, stops_no_front}
+use Rattle.wkt_machine.proofs.WholeRuns.{goes_on, refuses}
+use Rattle.wkt_explain.specs.Told.{EndsFirst, EndsLexeme, IsTold}
+use Rattle.wkt_explain.specs.White.{IsPastWhite}
+use Rattle.wkt_explain.specs.declared.explanation.Refusal.{Refusal}
+
+-- what is left of a text after so many bytes
+left_at : (text rest : List ℕ) (ls : List Lexeme) (at : ℕ) → Takes text ls rest → length rest + at ≡ length text → drop at text ≡ rest
+left_at text rest ls at t e =
+    let p = prefix ls text rest t in
+    let same : length p.bytes ≡ at = omega (arith, e, ap length p.is, length-append p.bytes rest) in
+    ap (λ l. drop at l) p.is ∙ drop_at p.bytes rest at same
+
+-- past the white space before what begins otherwise
+past : (text rest gap next : List ℕ) (from to : ℕ) → IsPastWhite text from to → drop from text ≡ rest → rest ≡ gap ++ next → AllWhite gap → StartsOther White next → length next + to ≡ length text
+past text rest gap next from to p e split white other =
+    let s = span White p.gap gap (drop to text) next p.white white p.stops other (sym p.split ∙ e ∙ split) in
+    let same : drop to text ≡ next = s.1 in
+    let within = p.within in
+    omega (arith, ap length same, length-drop to text, within)
+
+dark_class : (b : ℕ) → class_in false b ≢ White → class_of b ≢ White
+unfolding class_in
+dark_class b h = h
+
+starts_dark : (text : List ℕ) (at : ℕ) → IsDark false text at → StartsOther White (drop at text)
+starts_dark text at dark = elim (cases_lt at (length text)) [
+  | inl inside ↦ subst (StartsOther White) (sym (drop_more text at 0 inside)) (dark_class (get_or text at 0) dark)
+  | inr past ↦ subst (StartsOther White) (sym (drop_all at text past)) tt
+]
+
+past_dark : (text : List ℕ) (from to : ℕ) → IsBetween false text from to → to ≤ length text → IsDark false text to → IsPastWhite text from to
+past_dark text from to between inside dark =
+    let gap = gap_between text from to between inside in
+    record { gap = gap.bytes; within = inside; split = gap.split; white = gap.white; stops = starts_dark text to dark }
+
+-- where the lexeme ends that stands there
+pub ends_mark : (text : List ℕ) (at b : ℕ) (l : Lexeme) → b ≡ get_or text at 0 → class_of b ≡ Mark l → EndsLexeme text at (at + 1)
+ends_mark text at b l is mark =
+    let takes = takes-mark false text at l (ap (class_in false) (sym is) ∙ classes.mark-in false b l mark) in
+    subst (λ ps. EndsFirst ps at (at + 1)) (sym takes.next) refl
+
+pub ends_run : (text : List ℕ) (at end : ℕ) → IsRunEnd text at end → IsDark false text at → IsUnmarked false text at → EndsLexeme text at end
+ends_run text at end ends dark unmarked = elim (cases_eq end at) [
+  | inl none ↦ subst (λ ps. EndsFirst ps at end) (sym (none_left false text at end ends none dark unmarked)) none
+  | inr some ↦
+      let order = ends.order in
+      let takes = takes-run false text at end ends (omega (arith, order, some)) in
+      subst (λ ps. EndsFirst ps at end) (sym takes.next) refl
+]
+
+module _ {N : Type 0} (read : List ℕ → Option N) (text : List ℕ) where
+  -- the place of a lexeme that is too much
+  too_much_at : (given later : List Spanned) (x : Spanned) (from to : ℕ) → AreEnds text (given ++ (x ∷ later)) → from ≡ end_after 0 given → IsPastWhite text from to → IsJustDead read (lexemes_of given ++ (x.lexeme ∷ [])) → (e : Expected) → IsExpectedAfter read (lexemes_of given) e
+      → (t : IsTooMuch read text to x.end e) × (t.before ≡ lexemes_of given)
+  too_much_at given later x from to are at p dead e could_stand =
+      let (rest, taken, ends) = are given (x ∷ later) refl in
+      let (rest2, taken2, ends2) = are (given ++ (x ∷ [])) later (sym (append_assoc given (x ∷ []) later)) in
+      let both : Takes text (lexemes_of given ++ (x.lexeme ∷ [])) rest2 = subst (λ l. Takes text l rest2) (lexemes_append given (x ∷ [])) taken2 in
+      let (gap, body, after, split, white, spells, last) = takes_after (lexemes_of given) (x.lexeme ∷ []) text text rest rest2 refl taken both in
+      let other : StartsOther White (body ++ after) = first_other White (λ h. h) (body ++ after) (first_append body after (spells_first body after x.lexeme spells)) in (
+        record {
+          before = lexemes_of given;
+          fault = x.lexeme;
+          rest = rest;
+          gap = gap;
+          body = body;
+          after = after;
+          taken = taken;
+          split = split;
+          white = white;
+          spelled = spells;
+          begins = past text rest gap (body ++ after) from to p (left_at text rest (lexemes_of given) from taken (omega (arith, ends, at))) split white other;
+          ends = omega (arith, ends2, end_last 0 given x, ap length last);
+          dead = dead;
+          could_stand = could_stand;
+        },
+        refl,
+      )
+
+  -- the place where a text is too short
+  too_short_at : (given : List Spanned) (from to : ℕ) → AreEnds text given → IsSplit text (lexemes_of given) → from ≡ end_after 0 given → IsPastWhite text from to → BegunGeometry read (lexemes_of given) → NoneBegins read (lexemes_of given) → (e : Expected) → IsExpectedAfter read (lexemes_of given) e
+      → (t : IsTooShort read text to to e) × (t.lexemes ≡ lexemes_of given)
+  too_short_at given from to are (rest, taken, (gap, after, split, white, over)) at p begun none e could_stand =
+      let (rest2, taken2, ends) = are given [] (sym (append-nil given)) in
+      let same : rest2 ≡ rest = takes_rest (lexemes_of given) (lexemes_of given) text text rest2 rest refl refl taken2 taken in (
+        record {
+          lexemes = lexemes_of given;
+          rest = rest;
+          gap = gap;
+          after = after;
+          taken = taken;
+          split = split;
+          white = white;
+          over = over;
+          begins = past text rest gap after from to p (left_at text rest2 (lexemes_of given) from taken2 (omega (arith, ends, at)) ∙ same) split white (end_other after over);
+          ends = refl;
+          begun = begun;
+          none = none;
+          could_stand = could_stand;
+        },
+        refl,
+      )
+
+  -- a refusal, and the lexemes before it
+  abbrev pub RefusedBehind : List Lexeme → ℕ → ℕ → Expected → Type 0
+  RefusedBehind before from to e = (h : IsRefusedAt read text from to e) × (before_place read h ≡ before)
+
+  module _ (m : Machine) (at : ℕ) (s : StopsAt read text m at) (r : Refusal) (t : IsTold read text m at r) where
+    abbrev before : List Lexeme
+    before = lexemes_of s.taken
+
+    expected_there : IsExpectedAfter read before r.expected
+    expected_there = subst (IsExpectedAfter read before) (sym t.expected) (expected_after read before (state_of m) s.events s.ran s.is_open)
+
+    past_there : IsPastWhite text (end_after 0 s.taken) r.start
+    past_there = past_dark text (end_after 0 s.taken) r.start (between_more false text (end_after 0 s.taken) at r.start s.between t.between) t.inside t.dark
+
+    refused_by : (ps : List Spanned) → remaining_spanned false text at ≡ ps → RefusedBehind before r.start r.end r.expected
+    refused_by [] e =
+        let all : spanned text ≡ s.taken = s.split ∙ ap (λ l. s.taken ++ l) e ∙ append-nil s.taken in
+        let ends : r.end ≡ r.start = subst (λ ps. EndsFirst ps r.start r.end) (sym t.between.same ∙ e) t.ends in
+        let (begun, none) = goes_on read before (state_of m) s.events s.ran s.is_open in
+        let (short, same) = too_short_at s.taken (end_after 0 s.taken) r.start (subst (AreEnds text) all (spanned-ends text)) (subst (λ p. IsSplit text (lexemes_of p)) all (spanned-split text)) refl past_there begun none r.expected expected_there in
+        subst (λ n. RefusedBehind before r.start n r.expected) (sym ends) (inr short, same)
+    refused_by (x ∷ later) e =
+        let all : spanned text ≡ s.taken ++ (x ∷ later) = s.split ∙ ap (λ l. s.taken ++ l) e in
+        let ends : r.end ≡ x.end = subst (λ ps. EndsFirst ps r.start r.end) (sym t.between.same ∙ e) t.ends in
+        let stops : move read (state_of m) x.lexeme ≡ None = subst (λ ps. IsStuck read m ps) e s.stuck in
+        let dead = refuses read before x.lexeme (state_of m) s.events s.ran s.is_open stops in
+        let (much, same) = too_much_at s.taken later x (end_after 0 s.taken) r.start (subst (AreEnds text) all (spanned-ends text)) refl past_there dead r.expected expected_there in
+        subst (λ n. RefusedBehind before r.start n r.expected) (sym ends) (inl much, same)
+
+    refused_there : RefusedBehind before r.start r.end r.expected
+    refused_there = refused_by (remaining_spanned false text at) refl
+
+    pub told_place : IsRefusedAt read text r.start r.end r.expected
+    told_place = refused_there.0
+
+    pub told_none : HasNoFront read text
+    told_none = stops_no_front read text m at s
+
+    pub told_message : IsRefusedWith read text r.message
+    told_message = stops_message read text m at s r.message t.message
+
+    same_message : r.message ≡ reported read r.expected (own (state_of m).place + m.depth) (remaining false text at)
+    same_message = t.message ∙ ap (λ e. reported read e (own (state_of m).place + m.depth) (remaining false text at)) (sym t.expected)
+
+    whole : lexemes_of (spanned text) ≡ before ++ remaining false text at
+    unfolding remaining
+    whole = ap lexemes_of s.split ∙ lexemes_append s.taken (remaining_spanned false text at)
+
+    pub told_table : IsReportedAt read text r.start r.end r.expected r.message
+    told_table =
+        let (h, same) = refused_there in record {
+          refused = h;
+          there = remaining false text at;
+          parens = own (state_of m).place + m.depth;
+          split = subst (IsSplit text) (whole ∙ ap (λ b. b ++ remaining false text at) (sym same)) (spanned-split text);
+          counted = subst (λ b. own (state_of m).place + m.depth + closes b ≡ opens b) (sym same) (counted read before (state_of m, s.events) s.ran);
+          turn = subst (λ b. IsTurn r.expected (context b)) (sym same) (subst (λ e. IsTurn e (context before)) (sym t.expected) (turn read before (state_of m, s.events) s.ran));
+          is = same_message;
+        }

@@ -1,0 +1,211 @@
+//! Room for answers.
+ghost use Rattle.std.specs.Prelude.{◌≡◌, ◌+◌, ◌*◌, ◌<◌, ◌≤◌, ◌++◌, [], OnOk, OnErr, length, take, vec_len, true, if◌then◌else◌};
+ghost use Rattle.std.specs.Bool.{OnTrue};
+
+use crate::in_room::answer_line;
+use std::alloc::{AllocError, Global};
+use std::fmt;
+use wkt_bytes::copy_piece;
+use wkt_canonical::NoRoom;
+use wkt_num::{TextSink, WktNum};
+
+// How much is gathered, before it is put out, where answers are gathered.
+const HELD: usize = 65536;
+
+// How much is put out at once of an answer that is put out by itself.
+const PIECE: usize = 256;
+
+/// Bytes, of which the first are answers that were written.
+#[derive(Drop)]
+pub struct OutputBuffer {
+    bytes: Vec<u8>,
+    len: usize,
+    // An output buffer that holds so much is put out,
+    held: usize,
+    // so many bytes a write.
+    piece: usize,
+    failures: u64,
+    ghost fits: { len ≤ vec_len bytes },
+    ghost some: { 0 < piece },
+}
+
+impl OutputBuffer {
+    ghost use Rattle.wkt_lines.specs.OutputBuffers.{output_text, output_failures, HasRoomFor, AnswersNext};
+
+    /// An output buffer with no room yet, which is put out when it holds 64 KiB, by one write.
+    pub fn of_blocks(alloc: Global) -> OutputBuffer
+        ensures { output_text result ≡ [] }
+    {
+        OutputBuffer {
+            bytes: Vec::new(alloc),
+            len: 0,
+            held: HELD,
+            piece: usize::MAX,
+            failures: 0,
+        }
+    }
+
+    /// An output buffer with no room yet, which is put out after each answer, by 256 bytes a write.
+    pub fn of_lines(alloc: Global) -> OutputBuffer
+        ensures { output_text result ≡ [] }
+    {
+        OutputBuffer {
+            bytes: Vec::new(alloc),
+            len: 0,
+            held: 1,
+            piece: PIECE,
+            failures: 0,
+        }
+    }
+
+    /// What was written.
+    pub fn written(&self) -> &[u8]
+        ensures { result.now ≡ output_text self.now }
+    {
+        &self.bytes[..self.len]
+    }
+
+    /// How much that is.
+    pub fn len(&self) -> usize
+        ensures { result ≡ length (output_text self.now) }
+    {
+        self.len
+    }
+
+    /// How many bytes of it are put out by one write.
+    pub fn piece(&self) -> usize
+        ensures { 0 < result }
+    {
+        self.piece
+    }
+
+    /// Drops what was written behind the first bytes.
+    pub fn cut(&mut self, len: usize)
+        requires { len ≤ length (output_text self.old) }
+        ensures { output_text self.new ≡ take len (output_text self.old) }
+    {
+        self.len = len;
+    }
+
+    /// Whether there is room for the answer to a text of so many bytes, and the output buffer isn't full.
+    #[inline(always)]
+    pub fn is_ready(&self, n: usize) -> bool
+        ensures { result ≡ true → HasRoomFor self.now n }
+    {
+        let room = self.bytes.len() - self.len;
+        self.len < self.held && room >= 65 && (room - 65) / 2 >= n
+    }
+
+    /// Makes room for the answer to a text of so many bytes, and for what is gathered.
+    ///
+    /// # Errors
+    /// Out of memory.
+    pub fn make_room(&mut self, n: usize) -> Result<(), AllocError>
+        ensures text { output_text self.new ≡ output_text self.old }
+        ensures room { OnOk result (HasRoomFor self.new n) }
+    {
+        if self.is_ready(n) {
+            return Ok(());
+        }
+        let Some(twice) = n.checked_mul(2) else {
+            return Err(AllocError);
+        };
+        let Some(more) = twice.checked_add(HELD + 65) else {
+            return Err(AllocError);
+        };
+        match self.len.checked_add(more) {
+            Some(len) => {
+                if len <= self.bytes.len() {
+                    return Ok(());
+                }
+                self.bytes.resize(len, 0)
+            }
+            None => Err(AllocError),
+        }
+    }
+
+    /// Makes twice the room, and some more.
+    ///
+    /// # Errors
+    /// Out of memory.
+    #[cold]
+    #[inline(never)]
+    pub fn widen(&mut self) -> Result<(), AllocError>
+        ensures text { output_text self.new ≡ output_text self.old }
+        ensures len { self.new.len ≡ self.old.len }
+        ensures grows { OnOk result (vec_len self.old.bytes < vec_len self.new.bytes) }
+    {
+        let Some(twice) = self.bytes.len().checked_mul(2) else {
+            return Err(AllocError);
+        };
+        match twice.checked_add(HELD) {
+            Some(len) => self.bytes.resize(len, 0),
+            None => Err(AllocError),
+        }
+    }
+
+    /// Writes the answer to the first line, and returns how much it takes with its line feed.
+    ///
+    /// # Errors
+    /// A number's text had no room; nothing was written then.
+    #[inline(always)]
+    pub fn answer_line<T: WktNum>(&mut self, rest: &[u8]) -> Result<usize, NoRoom>
+        requires { HasRoomFor self.old (length rest.now) }
+        ensures answers { AnswersNext T.read T.num rest.now (output_text self.old) (output_text self.new) result }
+        ensures len { OnErr result (self.new.len ≡ self.old.len) }
+        ensures room { OnErr result (vec_len self.new.bytes ≡ vec_len self.old.bytes) }
+    {
+        match answer_line::<T>(rest, self.bytes.as_mut_slice(), self.len) {
+            Ok(answer) => {
+                self.len = answer.len;
+                Ok(answer.taken)
+            }
+            Err(e) => Err(e),
+        }
+    }
+
+    /// Takes the bytes, or returns that there is no memory for them.
+    fn keep(&mut self, bytes: &[u8]) -> bool
+        ensures kept { output_text self.new ≡ (if result then output_text self.old ++ bytes.now else output_text self.old) }
+        ensures count { output_failures self.new ≡ output_failures self.old }
+    {
+        let start = self.len;
+        let Some(end) = start.checked_add(bytes.len()) else {
+            return false;
+        };
+        if end > self.bytes.len() && !self.grow(end) {
+            return false;
+        }
+        copy_piece(bytes, &mut self.bytes[start..end]);
+        self.len = end;
+        true
+    }
+
+    /// Makes places up to that one, and more, or returns that there is no memory for them.
+    #[inline(never)]
+    fn grow(&mut self, end: usize) -> bool
+        ensures kept { output_text self.new ≡ output_text self.old }
+        ensures len { self.new.len ≡ self.old.len }
+        ensures room { OnTrue result (end ≤ length self.new.bytes.items) }
+        ensures count { output_failures self.new ≡ output_failures self.old }
+    {
+        let room = end.max(self.bytes.len().saturating_mul(2));
+        self.bytes.resize(room, 0).is_ok()
+    }
+}
+
+/// Text that is written to an output buffer. It fails where there is no memory for it.
+impl TextSink for OutputBuffer {
+    ghost use Rattle.wkt_lines.specs.OutputBuffers.{output_text, output_failures};
+    ghost use Rattle.wkt_num.specs.Sink.{revealing};
+
+    ghost sink = { revealing output_text output_failures };
+
+    fn write_str(&mut self, piece: &str) -> fmt::Result {
+        if self.keep(piece.as_bytes()) {
+            return Ok(());
+        }
+        self.failures = self.failures.wrapping_add(1);
+        Err(fmt::Error)
+    }
+}

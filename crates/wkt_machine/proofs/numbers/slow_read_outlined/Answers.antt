@@ -1,0 +1,10 @@
+-- The number that the window shows stands there.
+use Rattle.std.proofs.Common.{arith, length, length-drop, ◌-◌, take, drop}
+use Rattle.std.proofs.lemmas.List.{length-take-le}
+use Rattle.wkt_machine.proofs.Shown.{padded-shows, shown-there}
+use Rattle.wkt_machine.proofs.numbers.slow_read_outlined.Goals as goal
+
+pub returns-in-Some-clause-some : goal.returns-in-Some-clause-some
+returns-in-Some-clause-some g c =
+    shown-there g.T.WktNum.read c.args.text.now c.args.at c.requires _ _
+    (padded-shows g.T.WktNum.read (take (length c.args.text.now - c.args.at) (drop c.args.at c.args.text.now)) c.padded.result _ _ (omega (arith, c.if-rest-lt-NUMBER_WINDOW.true)) c.padded.ensures.front c.padded.ensures.nul c.in-Some.ensures.reads)

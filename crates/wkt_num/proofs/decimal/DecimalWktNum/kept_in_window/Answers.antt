@@ -1,8 +1,0 @@
--- The text of a short decimal is found.
-use Rattle.std.proofs.Common.{length}
-use Rattle.wkt_num.specs.Decimal.{decimal_text}
-use Rattle.wkt_num.proofs.FoundDecimal.{decimal-parts}
-use Rattle.wkt_num.proofs.decimal.DecimalWktNum.kept_in_window.Goals as goal
-
-pub returns-clause-finds : goal.returns-clause-finds
-returns-clause-finds g c u short stands = c.kept_in_window.ensures.finds (length (decimal_text g.row.D u)) (decimal-parts g.row.D u c.args.bytes.now short.0 stands) short.1
