@@ -12,30 +12,14 @@
 set -eu
 [ $# -ge 1 ] || { sed -n 2,12p "$0"; exit 2; }
 here=$(cd "$(dirname "$0")" && pwd)
+lines=$here/lines.py
 work=$(mktemp -d)
 trap 'rm -rf "$work"' EXIT
-
-count() {
-    valgrind --tool=callgrind --callgrind-out-file=/dev/null "$1" < "$2" 2>&1 > /dev/null |
-        sed -n 's/.*Collected *: *\([0-9]*\).*/\1/p'
-}
-
 workloads=${WORKLOADS:-mixed-6 points-6 mixed-15 points-15}
-for workload in $workloads; do
-    python3 "$here/lines.py" "${workload%-*}" "${workload#*-}" 3000000 > "$work/$workload-3"
-    head -c 1000000 "$work/$workload-3" | sed '$d' > "$work/$workload-1"
-done
-printf '%-28s' program
-printf '%12s' $workloads
-printf '\n'
+. "$here/callgrind.sh"
+
+head_of_table program
 for program in "$@"; do
     program=$(realpath "$program")
-    printf '%-28s' "$(basename "$program")"
-    for workload in $workloads; do
-        few=$work/$workload-1 many=$work/$workload-3
-        bytes=$(($(stat -c %s "$many") - $(stat -c %s "$few")))
-        awk -v a="$(count "$program" "$few")" -v b="$(count "$program" "$many")" -v n="$bytes" \
-            'BEGIN { printf "%12.1f", (b - a) / n }'
-    done
-    printf '\n'
+    row "$(basename "$program")" count "$program"
 done

@@ -2,15 +2,10 @@
 import unittest
 
 import wkt
+from modules import installed
 
-try:
-    import arrow_peer
-except ImportError:  # wheel.sh compiles it where the fast module is tried
-    arrow_peer = None
-try:
-    import refuse
-except ImportError:  # only in the run under sanitizers
-    refuse = None
+arrow_peer = installed("arrow_peer")  # wheel.sh compiles it where the fast module is tried
+refuse = installed("refuse")  # only in the run under sanitizers
 if arrow_peer is not None:
     import numpy
 

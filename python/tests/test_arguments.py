@@ -9,15 +9,9 @@ import threading
 import unittest
 
 import wkt
+from modules import installed
 
-try:
-    import numpy
-except ImportError:
-    numpy = None
-try:
-    import pandas
-except ImportError:
-    pandas = None
+numpy, pandas = installed("numpy"), installed("pandas")
 
 POINT = ([0, 1], [0, 1])  # the rings and polygons of a point
 

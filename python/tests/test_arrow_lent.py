@@ -130,12 +130,13 @@ class Given(Arrow):
 
 @unittest.skipIf(refuse is None, "only under sanitizers")
 class Memory(Arrow):
-    def each(self, call):
-        """The answer of a call, once each of its allocations was refused in turn."""
+    def each(self, call, given=tuple):
+        """The answer of a call, once each of its allocations was refused in turn; its arguments are made before."""
         for n in range(1, 10_000):
+            arguments = given()
             refuse.after(n)
             try:
-                answer, error = call(), None
+                answer, error = call(*arguments), None
             except MemoryError as raised:
                 error = raised
             finally:
@@ -153,40 +154,18 @@ class Memory(Arrow):
         self.assertEqual(self.each(lambda: _fast.unpack(b"abcde", ends, statuses)), ["abc", "de"])
         for format in FORMATS:
             held = HELD + [b"POINT(%d 2)" % i for i in range(20)]
-
-            def taken():
-                refuse.stop()
-                lent = Lent(held, format).__arrow_c_array__()
-                refuse.after(taken.n)
-                return _fast.arrow_array(*lent)
-
-            for taken.n in range(1, 1000):
-                try:
-                    (_, _), (data, offsets, bits, count) = taken()
-                    error = None
-                except MemoryError as raised:
-                    error = raised
-                if not refuse.stop():
-                    break
-                self.assertIsNotNone(error)
+            (_, _), (data, offsets, bits, count) = self.each(
+                _fast.arrow_array, Lent(held, format).__arrow_c_array__
+            )
             self.assertEqual((bytes(data), count), (b"".join(row or b"" for row in held), len(held)))
 
     def test_streams(self):
-        wanted = None
-        for n in range(1, 1000):
-            capsule = Streamed([HELD, HELD]).__arrow_c_stream__()
-            refuse.after(n)
-            try:
-                stream, _ = _fast.arrow_stream(capsule)
-                wanted = [_fast.arrow_next(stream)[3], _fast.arrow_next(stream)[3], _fast.arrow_next(stream)]
-                error = None
-            except MemoryError as raised:
-                error = raised
-            if not refuse.stop():
-                break
-            self.assertIsNotNone(error)
-            stream = capsule = None
-        self.assertEqual(wanted, [7, 7, None])
+        def taken(capsule):
+            stream, _ = _fast.arrow_stream(capsule)
+            return [_fast.arrow_next(stream)[3], _fast.arrow_next(stream)[3], _fast.arrow_next(stream)]
+
+        answer = self.each(taken, lambda: [Streamed([HELD, HELD]).__arrow_c_stream__()])
+        self.assertEqual(answer, [7, 7, None])
 
     def test_lent(self):
         column = made(TEXTS, NAMED)

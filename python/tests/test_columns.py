@@ -6,20 +6,10 @@ import unittest
 import unittest.mock
 
 import wkt
+from modules import installed
 from wkt._blocks import _fast as compiled
 
-try:
-    import numpy
-except ImportError:
-    numpy = None
-try:
-    import pandas
-except ImportError:
-    pandas = None
-try:
-    import tqdm
-except ImportError:
-    tqdm = None
+numpy, pandas, tqdm = installed("numpy"), installed("pandas"), installed("tqdm")
 
 TEXTS = ["point ( 1 2.50 )", None, "POINT(3 4)", "PINT(5 6)", "MultiPoint(1 2)"]
 ANSWERS = ["POINT(1 2.5)", None, "POINT(3 4)", None, "MULTIPOINT((1 2))"]

@@ -3,15 +3,9 @@ import random
 import unittest
 
 import wkt
+from modules import installed
 
-try:
-    import numpy
-except ImportError:
-    numpy = None
-try:
-    import shapely.wkt
-except ImportError:
-    shapely = None
+numpy, shapely = installed("numpy"), installed("shapely.wkt")
 
 
 def nested(flat, offsets):

@@ -2,12 +2,10 @@
 import unittest
 
 import wkt
+from modules import installed
 from wkt import _blocks
 
-try:
-    import numpy
-except ImportError:
-    numpy = None
+numpy = installed("numpy")
 
 
 class Wrong(list):

@@ -5,11 +5,9 @@ import pickle
 import unittest
 
 import wkt
+from modules import installed
 
-try:
-    import numpy
-except ImportError:
-    numpy = None
+numpy = installed("numpy")
 
 TEXTS = ["point ( 1 2.50 )", None, "POINT(3 4)", "PINT(5 6)", "MultiPoint(1 2)"]
 
