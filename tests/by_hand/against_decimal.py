@@ -277,14 +277,7 @@ def kept_texts():
 
 
 class WktSizes(ctypes.Structure):
-    _fields_ = [
-        ("kind", u32),
-        ("dimension", u32),
-        ("numbers", size),
-        ("rings", size),
-        ("polygons", size),
-        ("end", size),
-    ]
+    _fields_ = [("kind", u32), ("dimension", u32)] + [(name, size) for name in ("numbers", "rings", "polygons", "end")]
 
 
 class WktColumnSizes(ctypes.Structure):
