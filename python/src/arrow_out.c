@@ -155,21 +155,16 @@ failed:
 }
 
 /* The end of a capsule whose structure nobody took: it is released. */
-static void free_schema(PyObject *capsule) {
-    struct ArrowSchema *schema = PyCapsule_GetPointer(capsule, "arrow_schema");
-    if (schema->release != NULL) schema->release(schema);
-    free(schema);
-}
-static void free_array(PyObject *capsule) {
-    struct ArrowArray *array = PyCapsule_GetPointer(capsule, "arrow_array");
-    if (array->release != NULL) array->release(array);
-    free(array);
-}
-static void free_stream(PyObject *capsule) {
-    struct ArrowArrayStream *stream = PyCapsule_GetPointer(capsule, "arrow_array_stream");
-    if (stream->release != NULL) stream->release(stream);
-    free(stream);
-}
+#define END_OF_CAPSULE(end, structure, name) \
+    static void end(PyObject *capsule) { \
+        struct structure *held = PyCapsule_GetPointer(capsule, name); \
+        if (held->release != NULL) held->release(held); \
+        free(held); \
+    }
+
+END_OF_CAPSULE(free_schema, ArrowSchema, "arrow_schema")
+END_OF_CAPSULE(free_array, ArrowArray, "arrow_array")
+END_OF_CAPSULE(free_stream, ArrowArrayStream, "arrow_array_stream")
 
 /* A capsule of a structure of so many bytes, which is empty. */
 static PyObject *capsule_of(size_t size, const char *name, PyCapsule_Destructor end, void **structure) {
