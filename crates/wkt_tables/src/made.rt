@@ -3,30 +3,16 @@ use crate::calls::Number;
 use crate::shown::flat_shown;
 use std::alloc::{AllocError, Global};
 use wkt::error::Error as WriteError;
-use wkt::geo_types::{Coord, Geometry, Line, LineString, Rect, Triangle};
+use wkt::geo_types::{Geometry, Line, LineString, Rect, Triangle};
 use wkt::to_wkt::{
     Counted, ReadAllError, push_geometry_collection, push_line, push_linestring,
     push_multi_linestring, push_multi_point, push_multi_polygon, push_point, push_polygon,
     push_rect, push_triangle,
 };
-use wkt::walks::{Mapper, map_coords};
+use wkt::walks::map_coords;
 use wkt::{AnyError, FromWktStr, ReadError, TryFromWkt, Wkt};
 use wkt_lines::Lines;
-
-/// Each coordinate with x for y.
-#[derive(Drop)]
-struct Swapped;
-
-impl Mapper<Number, Number> for Swapped {
-    ghost maps = { λ _ c. record { x = c.y; y = c.x } };
-
-    fn coord(&self, coord: &Coord<Number>) -> Coord<Number> {
-        Coord {
-            x: coord.y,
-            y: coord.x,
-        }
-    }
-}
+use wkt_tests::support::Swapped;
 
 /// The two-dimensional geometry of a text, with x for y.
 pub(crate) fn turned(alloc: Global, text: &str) -> Result<String, AnyError> {

@@ -1,12 +1,13 @@
 //! Texts that are deep or long.
 use crate::support::asserts::equal;
-use crate::support::{answer, text_or_message};
+use crate::support::lists::LISTS;
+use crate::support::{Swapped, answer, text_or_message};
 use std::alloc::{AllocError, Global};
 use std::process::Abort;
 use std::test::Fail;
-use wkt::geo_types::{Coord, Geometry};
+use wkt::geo_types::Geometry;
 use wkt::tokenizer::Tokens;
-use wkt::walks::{Mapper, map_coords, num_coords};
+use wkt::walks::{map_coords, num_coords};
 use wkt::{Decimal, FromWktStr, ToWkt, TryFromWkt, Wkt, infer_type, same_geometry};
 
 const NO_KIND_TEXT: &str = "Invalid type encountered";
@@ -84,21 +85,6 @@ fn back_text(alloc: Global, geometry: &Geometry<Decimal<6>>) -> Result<String, A
     geometry.to_wkt(alloc)?.to_string(alloc)
 }
 
-// Each coordinate with x for y.
-#[derive(Drop)]
-struct Swapped;
-
-impl Mapper<i32, i32> for Swapped {
-    ghost maps = { λ _ c. record { x = c.y; y = c.x } };
-
-    fn coord(&self, coord: &Coord<i32>) -> Coord<i32> {
-        Coord {
-            x: coord.y,
-            y: coord.x,
-        }
-    }
-}
-
 // How many coordinates the two-dimensional geometry of the text has, and its text with x for y.
 fn walked(alloc: Global, text: &str) -> Result<(usize, String), Fail> {
     let geometry = Geometry::<i32>::try_from_wkt_str(alloc, text)?;
@@ -166,23 +152,26 @@ fn members(alloc: Global, word: &str, member: &str, n: usize) -> Result<String, 
     Ok(text)
 }
 
-const LISTS: [(&str, &str); 6] = [
-    ("LINESTRING", "1 2"),
-    ("POLYGON", "(1 2)"),
-    ("MULTIPOINT", "(1 2)"),
-    ("MULTILINESTRING", "(1 2)"),
-    ("MULTIPOLYGON", "((1 2))"),
-    ("GEOMETRYCOLLECTION", "POINT(1 2)"),
-];
+// A canonical text of so many parts gives itself, as a two-dimensional geometry too.
+fn gives_itself(
+    rt: &impl Abort,
+    alloc: Global,
+    text: &str,
+    n: usize,
+    of: &str,
+) -> Result<(), Fail> {
+    let given = gives(alloc, text)?;
+    assert!(rt; given.as_str() == text, "{n} of {of}");
+    let flat = converted(alloc, text)?;
+    assert!(rt; flat.as_str() == text, "{n} of {of} without z and m");
+    Ok(())
+}
 
-// Lists of so many members give themselves, as two-dimensional geometries too.
+// Lists of so many members give themselves.
 fn lists_of(rt: &impl Abort, alloc: Global, n: usize) -> Result<(), Fail> {
     for (word, member) in LISTS {
         let text = members(alloc, word, member, n)?;
-        let given = gives(alloc, &text)?;
-        assert!(rt; given == text, "{n} of {word}");
-        let flat = converted(alloc, &text)?;
-        assert!(rt; flat == text, "{n} of {word} without z and m");
+        gives_itself(rt, alloc, &text, n, word)?;
     }
     Ok(())
 }
@@ -205,15 +194,11 @@ fn multi_polygons_of_many_rings(rt: HostRuntime) -> Result<(), Fail> {
     rings_of(&rt, alloc, 100_000)
 }
 
-// A polygon of so many rings gives itself, as a two-dimensional geometry too.
+// A polygon of so many rings gives itself.
 fn rings_of(rt: &impl Abort, alloc: Global, n: usize) -> Result<(), Fail> {
     let mut text = members(alloc, "MULTIPOLYGON(", "(1 2)", n)?;
     text.push(')')?;
-    let given = gives(alloc, &text)?;
-    assert!(rt; given == text, "{n} rings");
-    let flat = converted(alloc, &text)?;
-    assert!(rt; flat == text, "{n} rings without z and m");
-    Ok(())
+    gives_itself(rt, alloc, &text, n, "the rings")
 }
 
 #[test]

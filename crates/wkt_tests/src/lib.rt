@@ -19,6 +19,8 @@ mod headers;
 #[cfg(test)]
 mod lines;
 #[cfg(test)]
+mod mapped;
+#[cfg(test)]
 mod read;
 #[cfg(test)]
 mod same_geometry;

@@ -1,5 +1,6 @@
 //! What the programs do over sinks and sources that are slow or fail.
 use crate::support::asserts::{BROKEN_PIPE, End, INTERRUPTED, WELL, ended, equal};
+use crate::support::lists::LISTS;
 use std::alloc::Global;
 use std::io::ErrorKind;
 use std::process::Abort;
@@ -56,16 +57,6 @@ fn answers_lines(rt: HostRuntime) {
     }
 }
 
-// The kinds that are lists, and a member of each.
-const LISTS: &[(&str, &str)] = &[
-    ("LINESTRING", "1 2"),
-    ("POLYGON", "(1 2)"),
-    ("MULTIPOINT", "(1 2)"),
-    ("MULTILINESTRING", "(1 2)"),
-    ("MULTIPOLYGON", "((1 2))"),
-    ("GEOMETRYCOLLECTION", "POINT(1 2)"),
-];
-
 /// A line with a list of a member, before which the same stands so often.
 fn list_line(
     rt: &impl Abort,
@@ -100,7 +91,7 @@ fn give_all_sizes(rt: &impl Abort, alloc: Global, list: (&str, &str)) {
 // A call that gives up on lists of some size fails here.
 #[test]
 fn lists_of_each_size(rt: HostRuntime) {
-    for &list in LISTS {
+    for list in LISTS {
         give_all_sizes(&rt, rt.alloc(), list);
     }
 }

@@ -1,0 +1,18 @@
+//! A mapper for tests of walks.
+use wkt::geo_types::Coord;
+use wkt::walks::Mapper;
+
+/// Each coordinate with x for y, and y for x.
+#[derive(Drop)]
+pub struct Swapped;
+
+impl<T: Copy> Mapper<T, T> for Swapped {
+    ghost maps = { λ _ c. record { x = c.y; y = c.x } };
+
+    fn coord(&self, coord: &Coord<T>) -> Coord<T> {
+        Coord {
+            x: coord.y,
+            y: coord.x,
+        }
+    }
+}
