@@ -19,7 +19,7 @@ pub(crate) fn write_long(text: &str, asked: u32, room: &mut Vec<u8>) -> Result<(
     ensures within { IfOk result (λ r. r.1 ≤ vec_len room.new) }
     ensures bound { IfOk result (λ r. r.1 ≤ 2 * length text.now + 1) }
 {
-    if make_room(room, text.len()).is_err() {
+    if make_room(room, 0, text.len()).is_err() {
         return Err(MEMORY);
     }
     write_within(text, asked, room.as_mut_slice())

@@ -7,6 +7,7 @@ use std::alloc::Global;
 use wkt_calls::at_places;
 use wkt_calls::lines::{Answered, answer_lines};
 use wkt_calls::status::{MEMORY, NO_PLACES};
+use wkt_canonical::room_for;
 use wkt_lines::line_end;
 
 /// How much more room than for the input is asked for at first.
@@ -44,7 +45,7 @@ fn widen(room: &mut Vec<u8>, len: usize, rest: &[u8]) -> Result<(), u32>
 fn wider(room: usize, len: usize, rest: &[u8]) -> Option<usize>
     ensures { IfSome result (λ n. room < n) }
 {
-    let answer = line_end(rest).checked_mul(2)?.checked_add(67)?;
+    let answer = room_for(line_end(rest).checked_add(1)?)?;
     let needed = len.checked_add(answer)?.checked_add(rest.len().min(AHEAD))?;
     Some(needed.max(room.checked_add(1)?))
 }

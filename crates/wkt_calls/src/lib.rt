@@ -16,7 +16,8 @@ pub mod infer;
 pub mod lines;
 pub mod places;
 mod refusal;
-pub mod room;
 pub mod sizes;
 pub mod status;
 pub mod whole;
+
+pub use wkt_canonical::has_room;

@@ -7,10 +7,9 @@ ghost use Rattle.wkt_calls.specs.Answer.{read_at, print_at};
 ghost use Rattle.wkt_calls.specs.Chunks.{AnswersSure, AreWholeLines, IsChunkStuck, ends_here};
 
 use crate::at_places;
-use crate::room::has_room;
 use crate::whole::whole_within;
-use wkt_canonical::NoRoom;
 use wkt_canonical::laws::texts_are_short;
+use wkt_canonical::{NoRoom, SPARE, has_room};
 use wkt_lines::laws::output_of_parts;
 use wkt_lines::{Answer, answer_line};
 use wkt_num::Decimal;
@@ -58,10 +57,10 @@ fn answer_first<const D: u32>(rest: &[u8], out: &mut [u8], len: usize) -> Answer
 fn most_for(room: usize) -> usize
     ensures { (result ≡ 0) ⊎ (2 * result + 65 ≤ room) }
 {
-    if room < 65 {
+    if room < SPARE {
         return 0;
     }
-    ((room - 65) / 2).min(SUM_AT_ONCE)
+    ((room - SPARE) / 2).min(SUM_AT_ONCE)
 }
 
 /// The lesser of two places.

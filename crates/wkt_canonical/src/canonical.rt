@@ -4,6 +4,7 @@ ghost use Rattle.wkt_canonical.specs.Canonical.{WritesCanonical, WritesFront, Wr
 ghost use Rattle.wkt_canonical.specs.Through.{IfEnds, IfNothing, StopsIn, WritesNext, WritesOrSays};
 
 use crate::pen::Pen;
+use crate::room::has_room;
 use std::marker::PhantomData;
 use wkt_machine::drive::drive;
 use wkt_machine::{At, Bytes, Machine, message_at};
@@ -40,8 +41,7 @@ pub fn canonical_into<T: WktNum>(
     ensures writes { WritesInto T.read T.num text.now buffer.old buffer.new result }
     ensures whole { length buffer.new ≡ length buffer.old }
 {
-    let room = buffer.len();
-    if room < 65 || (room - 65) / 2 < text.len() {
+    if !has_room(buffer.len(), text.len()) {
         return Err(NoRoom);
     }
     match write_alone::<T, false>(text.as_bytes(), buffer) {
@@ -62,8 +62,7 @@ pub fn canonical_or_message<T: WktNum>(
     ensures writes { WritesOrSays T.read T.num text.now buffer.old buffer.new result }
     ensures whole { length buffer.new ≡ length buffer.old }
 {
-    let room = buffer.len();
-    if room < 65 || text.len() > (room - 65) / 2 {
+    if !has_room(buffer.len(), text.len()) {
         return Err(NoRoom);
     }
     let mut pen: Pen<'_, T> = Pen {

@@ -14,7 +14,7 @@ pub use canonical::{
     NoRoom, TextWritten, canonical_into, canonical_or_message, write_canonical, write_front,
 };
 pub use pen::Pen;
-pub use room::{make_room, widen, write_growing};
+pub use room::{SPARE, has_room, make_room, room_for, widen, write_growing};
 
 #[cfg(test)]
 mod tests;

@@ -1,32 +1,57 @@
 //! Rooms for canonical texts, which grow as longer ones come.
-ghost use Rattle.std.specs.Prelude.{◌+◌, ◌*◌, ◌≤◌, OnOk, vec_len};
+ghost use Rattle.std.specs.Prelude.{◌≡◌, ◌+◌, ◌*◌, ◌<◌, ◌≤◌, IfSome, OnOk, take, vec_len, true, false};
 ghost use Rattle.wkt_canonical.specs.GrowingRooms.{HoldsCanonical};
 
 use crate::canonical::{NoRoom, TextWritten, canonical_into};
 use std::alloc::AllocError;
 use wkt_num::WktNum;
 
-/// Makes room for twice a text of so many bytes, and 65 more: what it is written as mostly fits.
+/// How much longer than twice a text the room for its canonical text is.
+///
+/// Twice the text and one byte is what its canonical text takes at most: the text of a number is shorter than twice its
+/// run, which leaves a byte for the space before it, and a point of a multipoint has two bytes at least beside its
+/// numbers for its parentheses. The other 64 bytes stay free, since the pen stores words and numbers as whole windows.
+pub const SPARE: usize = 65;
+
+/// Whether a room of so many bytes surely is enough for the canonical text of `n` bytes, and a line feed.
+#[inline(always)]
+pub fn has_room(room: usize, n: usize) -> bool
+    ensures yes { result ≡ true → 2 * n + 65 ≤ room }
+    ensures no { result ≡ false → room < 2 * n + 65 }
+{
+    room >= SPARE && (room - SPARE) / 2 >= n
+}
+
+/// How many bytes that takes; `None` where it is no size.
+#[inline]
+pub fn room_for(n: usize) -> Option<usize>
+    ensures { IfSome result (λ room. room ≡ 2 * n + 65) }
+{
+    n.checked_mul(2)?.checked_add(SPARE)
+}
+
+/// Makes room for the canonical text of `n` bytes behind the first `len` bytes, which are kept.
 ///
 /// # Errors
 /// Out of memory.
-pub fn make_room(room: &mut Vec<u8>, n: usize) -> Result<(), AllocError>
-    ensures { OnOk result (2 * n + 65 ≤ vec_len room.new) }
+pub fn make_room(room: &mut Vec<u8>, len: usize, n: usize) -> Result<(), AllocError>
+    requires { len ≤ vec_len room.old }
+    ensures kept { take len room.new.items ≡ take len room.old.items }
+    ensures room { OnOk result (len + 2 * n + 65 ≤ vec_len room.new) }
 {
-    let len = room.len();
-    if len >= 65 && (len - 65) / 2 >= n {
+    if has_room(room.len() - len, n) {
         return Ok(());
     }
-    let Some(twice) = n.checked_mul(2) else {
+    let Some(more) = room_for(n) else {
         return Err(AllocError);
     };
-    let Some(needed) = twice.checked_add(65) else {
-        return Err(AllocError);
-    };
-    room.resize(needed, 0)
+    match len.checked_add(more) {
+        Some(needed) => room.resize(needed, 0),
+        None => Err(AllocError),
+    }
 }
 
-/// Makes twice the room.
+/// Makes twice the room, and keeps what stands there.
 ///
 /// # Errors
 /// Out of memory.
@@ -34,7 +59,8 @@ pub fn make_room(room: &mut Vec<u8>, n: usize) -> Result<(), AllocError>
 #[inline(never)]
 pub fn widen(room: &mut Vec<u8>) -> Result<(), AllocError>
     requires { 65 ≤ vec_len room.old }
-    ensures { OnOk result (2 * vec_len room.old ≤ vec_len room.new) }
+    ensures kept { take (vec_len room.old) room.new.items ≡ room.old.items }
+    ensures grows { OnOk result (2 * vec_len room.old ≤ vec_len room.new) }
 {
     match room.len().checked_mul(2) {
         Some(twice) => room.resize(twice, 0),
@@ -53,7 +79,7 @@ pub fn write_growing<T: WktNum>(
 ) -> Result<Option<TextWritten>, AllocError>
     ensures { HoldsCanonical T.read T.num text.now room.new.items result }
 {
-    match make_room(room, text.len()) {
+    match make_room(room, 0, text.len()) {
         Ok(()) => {}
         Err(e) => return Err(e),
     }

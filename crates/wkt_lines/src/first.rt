@@ -22,7 +22,7 @@ fn answer<T: WktNum>(room: &mut Vec<u8>, rest: &[u8]) -> Result<Answer, AllocErr
     ensures line { IfOk result (λ a. a.taken ≡ length (before_feed rest.now) + 1) }
     ensures len { IfOk result (λ a. a.len ≤ vec_len room.new) }
 {
-    match make_room(room, rest.len()) {
+    match make_room(room, 0, rest.len()) {
         Ok(()) => {}
         Err(e) => return Err(e),
     }
