@@ -1,5 +1,7 @@
 -- Kind words in bytes, and the machine over them.
 use Rattle.std.proofs.Common.{◌≡◌, ◌≢◌, ℕ, ◌+◌, ◌-◌, ◌<◌, ◌≤◌, List, [], ◌∷◌, length, get_or, take, drop, slice_range, Option, Some, None, Bool, false, if◌then◌else◌, IfSome, refl, sym, ap, ◌∙◌, subst, arith, codes}
+use Rattle.std.specs.Int.{w64, to_le_bytes}
+use Rattle.std.proofs.lemmas.List.{take_rest}
 use Rattle.wkt_num.specs.Bytes.{Open, Word, Num, Run, AllRun, class_of}
 use Rattle.wkt_access.specs.declared.dimensions.Dimension.TheVariants.{XY}
 use Rattle.wkt_read.specs.Grammar.{kind_word, kind_words}
@@ -131,3 +133,7 @@ module _ {N B : Type 0} (read : List ℕ → Option N) (maker : Maker N B) {n : 
       (goes_one read (bytes_view feed) maker m alone s mid b b word [] here refl (λ j l. (l.0, legible-one feed s.text.now start (Word head.word) head.mid head.takes (further l.1))) first (maker.none b) tt)
       (goes_one read (bytes_view feed) maker alone k mid t b c opens (Event.Header p XY ∷ Event.Open p ∷ []) behind refl
       (λ j l. (ap (λ x. x.now) text ∙ l.0, subst (λ x. Legible feed x.now t.at) (sym text) (legible-one feed s.text.now head.mid Open t.at head.opens l.1))) second makes sound)
+
+-- The first eight bytes of a word stand there, as one number.
+pub eight_stand : (text : List ℕ) (at n word : ℕ) → n ≡ word → to_le_bytes w64 n ≡ take 8 (take (length text - at) (drop at text)) → take 8 (drop at text) ≡ to_le_bytes w64 word
+eight_stand text at n word is same = ap (take 8) (sym (take_rest text at)) ∙ sym same ∙ ap (to_le_bytes w64) is

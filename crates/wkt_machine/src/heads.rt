@@ -1,7 +1,7 @@
 //! Kind words in capitals, each with the parenthesis behind it, by comparisons.
 ghost use Rattle.std.specs.Bool.{OnTrue};
-ghost use Rattle.std.specs.Int.{w32, to_le_bytes};
-ghost use Rattle.std.specs.Prelude.{◌≡◌, ◌≤◌, ◌<◌, ◌+◌, length, take, codes, IfOk, IfErr, IfSome};
+ghost use Rattle.std.specs.Int.{w32, w64, to_le_bytes};
+ghost use Rattle.std.specs.Prelude.{◌≡◌, ◌≤◌, ◌<◌, ◌+◌, length, take, drop, codes, IfOk, IfErr, IfSome};
 ghost use Rattle.wkt_events.specs.Remaining.{Legible, remaining_spanned};
 ghost use Rattle.wkt_machine.specs.BytesView.{bytes_view, IsBetween};
 ghost use Rattle.wkt_machine.specs.Goes.{Goes, Refuses};
@@ -25,6 +25,17 @@ use wkt_num::WktNum;
 
 /// The bytes of `GEOMETRYCOLLECTION (`.
 const LONGEST_HEAD: usize = 20;
+
+// The first eight bytes of words, each as one number.
+const GEOMETRY: u64 = 0x5952_5445_4d4f_4547;
+
+const LINESTRI: u64 = 0x4952_5453_454e_494c;
+
+const MULTIPOL: u64 = 0x4c4f_5049_544c_554d;
+
+const MULTILIN: u64 = 0x4e49_4c49_544c_554d;
+
+const MULTIPOI: u64 = 0x494f_5049_544c_554d;
 
 /// Behind the header that comes next, and its parenthesis; of a point behind its coordinate. `INNER` differs
 /// between its two callers, so that it is built into each.
@@ -108,36 +119,34 @@ fn head<const FEED_ENDS: bool>(text: &[u8], at: usize) -> Option<(Part, usize)>
     if text.len() - at < LONGEST_HEAD {
         return None;
     }
-    match text[at] {
-        b'G' => named::<18, FEED_ENDS>(Part::Collection, b"GEOMETRYCOLLECTION", text, at),
-        b'L' => named::<10, FEED_ENDS>(Part::LineString, b"LINESTRING", text, at),
-        b'P' => match named::<7, FEED_ENDS>(Part::Polygon, b"POLYGON", text, at) {
+    if text[at] == b'P' {
+        return match named::<7, 0, FEED_ENDS>(Part::Polygon, b"POLYGON", text, at) {
             Some(found) => Some(found),
-            None => named::<5, FEED_ENDS>(Part::Point, b"POINT", text, at),
-        },
-        b'M' => multi_head::<FEED_ENDS>(text, at),
-        _ => None,
+            None => named::<5, 0, FEED_ENDS>(Part::Point, b"POINT", text, at),
+        };
     }
+    let first = eight_bytes(&text[at..]);
+    if first == GEOMETRY {
+        return named::<18, 8, FEED_ENDS>(Part::Collection, b"GEOMETRYCOLLECTION", text, at);
+    }
+    if first == LINESTRI {
+        return named::<10, 8, FEED_ENDS>(Part::LineString, b"LINESTRING", text, at);
+    }
+    if first == MULTIPOL {
+        return named::<12, 8, FEED_ENDS>(Part::MultiPolygon, b"MULTIPOLYGON", text, at);
+    }
+    if first == MULTILIN {
+        return named::<15, 8, FEED_ENDS>(Part::MultiLineString, b"MULTILINESTRING", text, at);
+    }
+    if first == MULTIPOI {
+        return named::<10, 8, FEED_ENDS>(Part::MultiPoint, b"MULTIPOINT", text, at);
+    }
+    None
 }
 
-/// The head of a kind of several, and where it ends.
+/// The head of one kind, of whose word the first bytes are known to stand there, and where it ends.
 #[inline(always)]
-fn multi_head<const FEED_ENDS: bool>(text: &[u8], at: usize) -> Option<(Part, usize)>
-    requires { at + 20 ≤ length text.now }
-    ensures { IfSome result (λ h. StandsHead FEED_ENDS text.now at h.0 h.1) }
-{
-    match named::<12, FEED_ENDS>(Part::MultiPolygon, b"MULTIPOLYGON", text, at) {
-        Some(found) => Some(found),
-        None => match named::<15, FEED_ENDS>(Part::MultiLineString, b"MULTILINESTRING", text, at) {
-            Some(found) => Some(found),
-            None => named::<10, FEED_ENDS>(Part::MultiPoint, b"MULTIPOINT", text, at),
-        },
-    }
-}
-
-/// The head of one kind, and where it ends.
-#[inline(always)]
-fn named<const N: usize, const FEED_ENDS: bool>(
+fn named<const N: usize, const KNOWN: usize, const FEED_ENDS: bool>(
     part: Part,
     word: &[u8; N],
     text: &[u8],
@@ -145,10 +154,11 @@ fn named<const N: usize, const FEED_ENDS: bool>(
 ) -> Option<(Part, usize)>
     requires name { IsKindName part word.now }
     requires some { 0 < N }
+    requires known { KNOWN ≤ N × (take KNOWN (drop at text.now) ≡ take KNOWN word.now) }
     requires room { at + N + 2 ≤ length text.now }
     ensures { IfSome result (λ h. StandsHead FEED_ENDS text.now at h.0 h.1) }
 {
-    if !begins::<N>(word, &text[at..]) {
+    if !begins::<N, KNOWN>(word, &text[at..]) {
         return None;
     }
     match opens_behind::<FEED_ENDS>(text, at + N) {
@@ -184,13 +194,16 @@ fn opens_behind<const FEED_ENDS: bool>(text: &[u8], at: usize) -> Option<usize>
     None
 }
 
-/// Whether the bytes begin with the word. Where it is a constant, the compiler makes few comparisons of it.
+/// Whether the bytes begin with the word, of which the first are known to. Where it is a constant, the compiler makes few
+/// comparisons of it.
 #[inline(always)]
-fn begins<const N: usize>(word: &[u8; N], bytes: &[u8]) -> bool
-    requires { N ≤ length bytes.now }
+fn begins<const N: usize, const KNOWN: usize>(word: &[u8; N], bytes: &[u8]) -> bool
+    requires known { KNOWN ≤ N }
+    requires same { take KNOWN bytes.now ≡ take KNOWN word.now }
+    requires room { N ≤ length bytes.now }
     ensures { OnTrue result (take N bytes.now ≡ word.now) }
 {
-    for i in 0..N {
+    for i in KNOWN..N {
         if bytes[i] != word[i] {
             return false;
         }
@@ -223,4 +236,15 @@ fn four_bytes(bytes: &[u8]) -> u32
     ensures { to_le_bytes w32 result ≡ take 4 bytes.now }
 {
     u32::from_le_bytes([bytes[0], bytes[1], bytes[2], bytes[3]])
+}
+
+/// The first eight bytes as one number, the lowest first.
+#[inline(always)]
+fn eight_bytes(bytes: &[u8]) -> u64
+    requires { 8 ≤ length bytes.now }
+    ensures { to_le_bytes w64 result ≡ take 8 bytes.now }
+{
+    u64::from_le_bytes([
+        bytes[0], bytes[1], bytes[2], bytes[3], bytes[4], bytes[5], bytes[6], bytes[7],
+    ])
 }
