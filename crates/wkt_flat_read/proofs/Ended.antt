@@ -9,15 +9,17 @@ use Rattle.wkt_types.specs.Values.{value_of}
 use Rattle.wkt_flat.specs.Tree.{Flat, Flats, flats_of, flat_tree, flat_trees, flat_members}
 use Rattle.wkt_flat.specs.declared.coord.Coord.{Coord}
 use Rattle.wkt_flat.specs.declared.geometry.Geometry.{Geometry}
+use Rattle.wkt_flat.specs.declared.geometry.Geometry.TheVariants as geometry
 use Rattle.wkt_flat.specs.declared.geometry.GeometryCollection.{GeometryCollection}
+use Rattle.wkt_flat.proofs.TreeLemmas.{flat-point}
 use Rattle.wkt_convert.specs.Flatten.{flat, flat_collection}
 use Rattle.wkt_convert.specs.Flattening.{IsFlattened, found_name}
 use Rattle.wkt_convert.specs.declared.flattened.Flattened.TheVariants.{Collection, RefusedCollection, Other, RefusedMultiPoint}
 use Rattle.wkt_convert.specs.declared.flattened.Found.{Found}
 use Rattle.wkt_convert.specs.declared.flattened.Found.TheVariants as found
 use Rattle.wkt_machine.specs.Growing.{Frame, members_of}
-use Rattle.wkt_flat_read.specs.Plain.{plain, plains, holds_empty, hold_empty}
-use Rattle.wkt_flat_read.specs.Trees.{found_of, members, opened, frames, FlatHoldsEnded, FlatHoldsWhole, GivesCollection, GivesOther, GivesMembers, FlatGives}
+use Rattle.wkt_flat_read.specs.Plain.{alone, plain, plains, holds_empty, hold_empty}
+use Rattle.wkt_flat_read.specs.Trees.{found_of, members, opened, frames, FlatHoldsEnded, FlatHoldsWhole, GivesCollection, GivesFlat, GivesOther, GivesMembers, FlatGives, IsLone, point_at}
 use Rattle.wkt_flat_read.specs.declared.tree.FlatEnded.{FlatEnded}
 use Rattle.wkt_flat_read.specs.declared.tree.FlatEnded.TheVariants as last
 use Rattle.wkt_flat_read.specs.declared.tree.FlatTree.{FlatTree}
@@ -69,6 +71,17 @@ module _ {T : Type 0} (E : Coord T → Coord T → Bool) where
         let same : kind_of E (value_of k) ≡ Some kind = ap (kind_of E) e ∙ kinds t.last t [] v h.whole ∙ some in
         let (is, only, are_open) = gives.gives [] v h in
         (flat_is E k ∙ ap (λ b. unless b (plain E (value_of k))) none ∙ ap (λ v. value (plain E v)) e ∙ ap value (sym is), other_is E k kind same)
+
+    -- a point whose coordinate is at hand
+    pub gives_lone : (c : Coord T) → IsLone t c → GivesFlat E t (Some (Other (geometry.Point (record { 0 = c })) found.Point))
+    gives_lone c lone v h k e =
+        let none : holds_empty (value_of k) ≡ false = ap holds_empty e ∙ sym h.refused ∙ lone.refused in
+        let same : kind_of E (value_of k) ≡ Some found.Point = ap (kind_of E) e ∙ kinds t.last t [] v h.whole ∙ ap found_of lone.last in
+        let is : plain E v ≡ Flat.point (record { 0 = c }) = go (subst (λ l. FlatHoldsEnded E l t [] v) lone.last h.whole) in
+        (flat_is E k ∙ ap (λ b. unless b (plain E (value_of k))) none ∙ ap (λ v. value (plain E v)) e ∙ ap value (is ∙ sym (flat-point (record { 0 = c }))), other_is E k found.Point same)
+      where
+        go : FlatHoldsEnded E last.Point t [] v → plain E v ≡ Flat.point (record { 0 = c })
+        go (d, p, is, at, only, are_open) = ap (plain E) (sym is) ∙ ap alone (sym at) ∙ ap (λ c. alone (point_at c)) lone.coord
 
     pub gives_collection : (c : Vec (Geometry T) Global) (g : GeometryCollection T) (u : FlatTree T) → t.is_refused ≡ false → GivesMembers E t c u → flat_trees g ≡ flat_members c.items → GivesCollection E t (Collection g)
     gives_collection c g u r gives are none v h k e =

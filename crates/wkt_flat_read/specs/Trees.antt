@@ -76,6 +76,13 @@ frames_hold (f ∷ o) = frames_hold o || some_holds f.members
 abbrev pub FlatHasOnly : {T : Type 0} → FlatTree T → List (Coord T) → List (Point T) → List (List (Coord T)) → List (Rings (Coord T)) → Type 0
 FlatHasOnly t cs ps ls ys = (t.coords.items ≡ cs) × (t.points.items ≡ ps) × (t.lines.items ≡ ls) × (t.areas.items ≡ ys)
 
+-- A point ended whose coordinate this is, and nothing was lost.
+pub record IsLone {T : Type 0} (t : FlatTree T) (c : Coord T) : Type 0 where
+  pub last : t.last ≡ ended.Point
+  pub kept : t.is_lost ≡ false
+  pub refused : t.is_refused ≡ false
+  pub coord : coord_of t ≡ Some c
+
 -- What was to be held is lost, for want of memory.
 abbrev pub FlatIsLost : {T : Type 0} → FlatTree T → Type 0
 FlatIsLost t = t.is_lost ≡ true

@@ -1,66 +1,42 @@
 //! The geometry at the front of a text, as a flat value.
-ghost use Rattle.std.specs.Prelude.{◌≤◌, length, IfOk};
+ghost use Rattle.std.specs.Prelude.{IfOk};
 ghost use Rattle.wkt_flat.specs.Equal.{coord_eq};
 ghost use Rattle.wkt_read.specs.Answered.{HasBadNumber, OnText, OnMessage};
 ghost use Rattle.wkt_read.specs.Front.{HasNoFront};
 ghost use Rattle.wkt_read.specs.Items.{bad_number};
 ghost use Rattle.wkt_read.specs.Refusal.{IsTextRefused, IfText};
-ghost use Rattle.wkt_machine.specs.Values.{MachineRefuses, OnRefused};
-ghost use Rattle.wkt_flat_read.specs.Growers.{tree_of};
-ghost use Rattle.wkt_flat_read.specs.Read.{AnswersFlat, IsFlatRead, IsFlatFront};
+ghost use Rattle.wkt_flat_read.specs.Read.{AnswersFlat, IsFlatFront};
 
 use crate::grower::FlatGrower;
 use crate::tree::FlatTree;
 use std::alloc::{AllocError, Global};
-use wkt_convert::Flattened;
+use wkt_convert::{Flattened, Found};
+use wkt_flat::{Geometry, Point};
 use wkt_machine::drive::drive;
-use wkt_machine::{At, Bytes, Unread, Walk, message_at};
+use wkt_machine::{Bytes, message_at};
 use wkt_num::WktNum;
 use wkt_read::{Message, ReadError};
 
 /// What has grown.
+///
+/// It comes through memory, whose place is cleared here, away from the ways that don't need it.
 #[inline(always)]
-fn answer<T: WktNum>(grower: FlatGrower<'_, T>) -> Result<Flattened<T>, Unread>
-    ensures { AnswersFlat (coord_eq T.eq) (tree_of grower.entry).now result }
+fn answer<T: WktNum>(grown: &mut FlatTree<T>) -> Result<Flattened<T>, ReadError>
+    ensures { AnswersFlat (coord_eq T.eq) grown.old result }
 {
-    let tree = grower.into_tree();
-    if tree.is_lost() {
-        return Err(Unread::Memory(AllocError));
-    }
-    match tree.whole() {
-        Some(flattened) => Ok(flattened),
-        None => Err(Unread::Memory(AllocError)),
-    }
+    answer_outlined(grown)
 }
 
-/// The geometry that comes next, and the source behind it; or before the lexeme at which it is refused.
-///
-/// # Errors
-/// `Refused` where no geometry comes next; `Memory` where memory ran out.
-#[inline(always)]
-fn read<T: WktNum, S: Walk<T>>(alloc: Global, source: S) -> (Result<Flattened<T>, Unread>, S)
-    requires room { length (S.view.remaining source) ≤ usize.MAX }
-    ensures found { IfOk result.0 (λ f. IsFlatRead T.read (coord_eq T.eq) S.view source f result.1) }
-    ensures refused { OnRefused result.0 (λ m. MachineRefuses T.read S.view source m result.1) }
+#[inline(never)]
+fn answer_outlined<T: WktNum>(grown: &mut FlatTree<T>) -> Result<Flattened<T>, ReadError>
+    ensures { AnswersFlat (coord_eq T.eq) grown.old result }
 {
-    let mut tree = FlatTree::new(alloc);
-    match drive::<T, S, FlatGrower<'_, T>>(source, FlatGrower::new(&mut tree)) {
-        Ok(over) => {
-            let At {
-                source,
-                builder,
-                ..
-            } = over;
-            (answer(builder), source)
-        }
-        Err(at) => {
-            let At {
-                source,
-                machine,
-                ..
-            } = at;
-            (Err(Unread::Refused(machine)), source)
-        }
+    if grown.is_lost() {
+        return Err(ReadError::Memory(AllocError));
+    }
+    match grown.whole() {
+        Some(flattened) => Ok(flattened),
+        None => Err(ReadError::Memory(AllocError)),
     }
 }
 
@@ -69,21 +45,26 @@ fn read<T: WktNum, S: Walk<T>>(alloc: Global, source: S) -> (Result<Flattened<T>
 ///
 /// # Errors
 /// `Text` where no beginning of the text is a geometry, with what was found amiss; `Memory` where memory ran out.
+#[inline(always)]
 pub fn read_text<T: WktNum>(alloc: Global, text: &str) -> Result<Flattened<T>, ReadError>
     ensures found { IfOk result (IsFlatFront T.read (coord_eq T.eq) text.now) }
     ensures no_front { OnText result (HasNoFront T.read text.now) }
     ensures bad { OnMessage result bad_number (HasBadNumber T.read text.now) }
     ensures refusal { IfText result (λ said. IsTextRefused T.read text.now said) }
 {
-    // A text of no bytes, as of a blank cell, is refused before anything is looked at.
+    // A text of no bytes, as of a blank cell, is refused where the call stands.
     if text.is_empty() {
         return Err(ReadError::Text(Message::Format.text()));
     }
-    front_of(alloc, text)
+    // Each way hands out its answer by itself, so that a refused text doesn't carry the parts of a geometry.
+    match front_of(alloc, text) {
+        Ok(flattened) => return Ok(flattened),
+        Err(error) => return Err(error),
+    }
 }
 
-/// The geometry at the front of any text, as a flat value, by the machine.
-#[inline(always)]
+/// The geometry at the front of any text, as a flat value, by the machine. What it is made of is cleared here.
+#[inline(never)]
 fn front_of<T: WktNum>(alloc: Global, text: &str) -> Result<Flattened<T>, ReadError>
     ensures found { IfOk result (IsFlatFront T.read (coord_eq T.eq) text.now) }
     ensures no_front { OnText result (HasNoFront T.read text.now) }
@@ -91,15 +72,19 @@ fn front_of<T: WktNum>(alloc: Global, text: &str) -> Result<Flattened<T>, ReadEr
     ensures refusal { IfText result (λ said. IsTextRefused T.read text.now said) }
 {
     let source = Bytes::<'_, false>::new(text.as_bytes(), 0);
-    let (answer, behind) = read::<T, Bytes<'_, false>>(alloc, source);
-    match answer {
-        Ok(flattened) => Ok(flattened),
-        Err(unread) => match unread {
-            Unread::Memory(error) => Err(ReadError::Memory(error)),
-            Unread::Refused(machine) => {
-                let said = message_at::<T>(machine, text, behind.at);
-                Err(ReadError::Text(said.text()))
+    let mut tree = FlatTree::new(alloc);
+    match drive::<T, Bytes<'_, false>, FlatGrower<'_, T>>(source, FlatGrower::new(&mut tree)) {
+        Ok(over) => {
+            let grown = over.builder.into_tree();
+            // Most geometries are points: their parts are written where they stay.
+            if let Some(coord) = grown.lone() {
+                return Ok(Flattened::Other(Geometry::Point(Point(coord)), Found::Point));
             }
-        },
+            answer(grown)
+        }
+        Err(stop) => {
+            let said = message_at::<T>(stop.machine, text, stop.source.at);
+            Err(ReadError::Text(said.text()))
+        }
     }
 }

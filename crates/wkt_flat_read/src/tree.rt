@@ -5,7 +5,7 @@ ghost use Rattle.wkt_flat.specs.Tree.{Flat, flat_tree};
 ghost use Rattle.wkt_convert.specs.Flatten.{first_outside};
 ghost use Rattle.wkt_machine.specs.Growing.{HasMember, HasNumbers, HasPoint, MayEnd, MayJoin, MayOpen, MayBeEmpty, ended, joined, opened, rest, with_coord, with_item, with_line, with_number, with_point, without_items};
 ghost use Rattle.wkt_machine.specs.declared.part.Part.TheVariants as kind;
-ghost use Rattle.wkt_flat_read.specs.Trees.{FlatBecomes, FlatGives, GivesCollection, GivesFlat, FlatGivesLast, GivesMembers, GivesOther, FlatHolds, FlatJoins, coord_of, found_of, point_or_none};
+ghost use Rattle.wkt_flat_read.specs.Trees.{FlatBecomes, FlatGives, GivesCollection, GivesFlat, FlatGivesLast, GivesMembers, GivesOther, FlatHolds, FlatJoins, IsLone, coord_of, found_of, point_or_none};
 
 use std::alloc::{AllocError, Global};
 use std::mem;
@@ -350,6 +350,15 @@ impl<T: WktNum> FlatTree<T> {
             None => Some(self.whole_collection()),
             Some(found) => self.whole_other(found),
         }
+    }
+
+    /// The coordinate of the whole point, if it has one and nothing was lost.
+    #[inline(always)]
+    pub(crate) fn lone(&self) -> Option<Coord<T>>
+        ensures { IfSome result (IsLone self.now) }
+    {
+        let is_point = matches!(self.last, FlatEnded::Point) && !self.is_lost && !self.is_refused;
+        if is_point { self.coord() } else { None }
     }
 
     /// Puts a geometry into the collection that was opened last. Then the next one may begin.

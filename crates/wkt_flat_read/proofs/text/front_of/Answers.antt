@@ -1,44 +1,79 @@
--- What is read over the bytes of a text is its front; where it is refused, it has none.
-use Rattle.std.proofs.Common.{ap, ◌∙◌, arith, length, false}
+-- What has grown over the bytes of a text is its front; where it is refused, it has none.
+use Rattle.std.proofs.Common.{[], None, Ok, refl, ap, ◌∙◌, arith, length, false}
 use Rattle.wkt_flat.specs.Equal.{coord_eq}
+use Rattle.wkt_flat.specs.declared.geometry.Geometry.TheVariants as geometry
+use Rattle.wkt_convert.specs.declared.flattened.Flattened.TheVariants.{Other}
+use Rattle.wkt_convert.specs.declared.flattened.Found.TheVariants as found
 use Rattle.wkt_read.proofs.LawLemmas.Few.{spanned-few}
-use Rattle.wkt_machine.specs.BytesView.{bytes_view}
-use Rattle.wkt_machine.proofs.ByteViews.{whole_left}
 use Rattle.wkt_read.proofs.Refusals.{said_bad}
-use Rattle.wkt_machine.proofs.Stopping.{stops_in, stops_message, stops_no_front}
-use Rattle.wkt_flat_read.proofs.Fronts.{found_in}
+use Rattle.wkt_machine.specs.BytesView.{bytes_view}
+use Rattle.wkt_machine.specs.Growing.{rest}
+use Rattle.wkt_machine.proofs.ByteViews.{whole_left}
+use Rattle.wkt_machine.proofs.RoomForRest.{free_room}
+use Rattle.wkt_machine.proofs.Stopping.{stops_there, stops_message, stops_no_front}
+use Rattle.wkt_machine.proofs.Valued.{refused}
+use Rattle.wkt_flat_read.specs.Growers.{tree_maker, tree_of}
+use Rattle.wkt_flat_read.proofs.Ended.{gives_lone}
+use Rattle.wkt_flat_read.proofs.Flats.{answer_text, answer_message, answer_refusal, lent}
+use Rattle.wkt_flat_read.proofs.Fronts.{answer_found}
 use Rattle.wkt_flat_read.proofs.text.front_of.Goals as goal
 
-pub read-answer-requires : goal.read-answer-requires
-read-answer-requires g c =
+pub drive-requires-clause-depth : goal.drive-requires-clause-depth
+drive-requires-clause-depth g c =
     let text = ap (λ x. x.now) c.new-source.ensures.text ∙ c.as_bytes.ensures.value in
     let few = spanned-few c.args.text.now in
     let same = ap length (whole_left c.args.text.now c.new-source.result text c.new-source.ensures.at) in
     omega (arith, few, same)
 
+pub drive-requires-clause-room : goal.drive-requires-clause-room
+drive-requires-clause-room g c = free_room (bytes_view false) (tree_maker (coord_eq g.T.PartialEq.eq)) c.new-source.result c.new.result (λ n. tt) (λ x. refl)
+
+pub returns-in-Some-clause-found : goal.returns-in-Some-clause-found
+returns-in-Some-clause-found g c =
+    let E = coord_eq g.T.PartialEq.eq in
+    let text = ap (λ x. x.now) c.new-source.ensures.text ∙ c.as_bytes.ensures.value in
+    answer_found g.T.WktNum.is_value g.T.WktNum.read g.met.T.WktNum.reads_values E (bytes_view false) c.args.text.now c.new-source.result (whole_left c.args.text.now c.new-source.result text c.new-source.ensures.at) c.new.result
+    c.in-Ok.over c.in-Ok.ensures.on c.in-Ok.ensures.over (lent E (tree_of c.new.result) _ (rest [] None) c.new.ensures c.new-tree.ensures) c.into_tree-grown.result.now (ap (λ t. t.now) c.into_tree-grown.ensures)
+    (Ok (Other (geometry.Point (record { 0 = c.in-Some.coord })) found.Point)) (c.in-Some.ensures.kept, gives_lone E c.into_tree-grown.result.now c.in-Some.coord c.in-Some.ensures)
+
 pub returns-in-Ok-clause-found : goal.returns-in-Ok-clause-found
 returns-in-Ok-clause-found g c =
+    let E = coord_eq g.T.PartialEq.eq in
     let text = ap (λ x. x.now) c.new-source.ensures.text ∙ c.as_bytes.ensures.value in
-    found_in g.T.WktNum.read (coord_eq g.T.PartialEq.eq) (bytes_view false) c.args.text.now c.new-source.result (whole_left c.args.text.now c.new-source.result text c.new-source.ensures.at) _ _ c.read-answer.result.0 c.in-Ok.is c.read-answer.ensures.found
+    answer_found g.T.WktNum.is_value g.T.WktNum.read g.met.T.WktNum.reads_values E (bytes_view false) c.args.text.now c.new-source.result (whole_left c.args.text.now c.new-source.result text c.new-source.ensures.at) c.new.result
+    c.in-Ok.over c.in-Ok.ensures.on c.in-Ok.ensures.over (lent E (tree_of c.new.result) _ (rest [] None) c.new.ensures c.new-tree.ensures) c.into_tree-grown.result.now (ap (λ t. t.now) c.into_tree-grown.ensures)
+    c.answer.result c.answer.ensures
+
+pub returns-in-Ok-clause-no_front : goal.returns-in-Ok-clause-no_front
+returns-in-Ok-clause-no_front g c = answer_text (coord_eq g.T.PartialEq.eq) c.into_tree-grown.result.now _ c.answer.result c.answer.ensures
+
+pub returns-in-Ok-clause-bad : goal.returns-in-Ok-clause-bad
+returns-in-Ok-clause-bad g c = answer_message (coord_eq g.T.PartialEq.eq) c.into_tree-grown.result.now _ _ c.answer.result c.answer.ensures
+
+pub returns-in-Ok-clause-refusal : goal.returns-in-Ok-clause-refusal
+returns-in-Ok-clause-refusal g c = answer_refusal (coord_eq g.T.PartialEq.eq) c.into_tree-grown.result.now _ c.answer.result c.answer.ensures
 
 pub message_at-said-requires : goal.message_at-said-requires
 message_at-said-requires g c =
     let text = ap (λ x. x.now) c.new-source.ensures.text ∙ c.as_bytes.ensures.value in
-    let at = stops_in g.T.WktNum.read c.args.text.now c.new-source.result text c.new-source.ensures.at c.utf8.text _ _ _ c.read-answer.result.0 c.in-Err.is c.in-Refused.is c.read-answer.ensures.refused in
+    let at = stops_there g.T.WktNum.read c.args.text.now c.new-source.result text c.new-source.ensures.at c.utf8.text c.in-Err.stop.source c.in-Err.stop.machine
+    (refused g.T.WktNum.read (bytes_view false) (tree_maker (coord_eq g.T.PartialEq.eq)) c.new-source.result c.new.result c.in-Err.stop c.in-Err.ensures.refused) in
     record { inside = at.inside; stuck = at.stuck }
 
-pub returns-in-Refused-clause-no_front : goal.returns-in-Refused-clause-no_front
-returns-in-Refused-clause-no_front g c =
+pub returns-clause-no_front : goal.returns-clause-no_front
+returns-clause-no_front g c =
     let text = ap (λ x. x.now) c.new-source.ensures.text ∙ c.as_bytes.ensures.value in
-    stops_no_front g.T.WktNum.read c.args.text.now _ _ (stops_in g.T.WktNum.read c.args.text.now c.new-source.result text c.new-source.ensures.at c.utf8.text _ _ _ c.read-answer.result.0 c.in-Err.is c.in-Refused.is c.read-answer.ensures.refused)
+    stops_no_front g.T.WktNum.read c.args.text.now _ _ (stops_there g.T.WktNum.read c.args.text.now c.new-source.result text c.new-source.ensures.at c.utf8.text c.in-Err.stop.source c.in-Err.stop.machine
+    (refused g.T.WktNum.read (bytes_view false) (tree_maker (coord_eq g.T.PartialEq.eq)) c.new-source.result c.new.result c.in-Err.stop c.in-Err.ensures.refused))
 
-pub returns-in-Refused-clause-refusal : goal.returns-in-Refused-clause-refusal
-returns-in-Refused-clause-refusal g c =
+pub returns-clause-refusal : goal.returns-clause-refusal
+returns-clause-refusal g c =
     let text = ap (λ x. x.now) c.new-source.ensures.text ∙ c.as_bytes.ensures.value in (
       c.message_at-said.result,
       c.text.ensures,
-      stops_message g.T.WktNum.read c.args.text.now _ _ (stops_in g.T.WktNum.read c.args.text.now c.new-source.result text c.new-source.ensures.at c.utf8.text _ _ _ c.read-answer.result.0 c.in-Err.is c.in-Refused.is c.read-answer.ensures.refused) c.message_at-said.result c.message_at-said.ensures,
+      stops_message g.T.WktNum.read c.args.text.now _ _ (stops_there g.T.WktNum.read c.args.text.now c.new-source.result text c.new-source.ensures.at c.utf8.text c.in-Err.stop.source c.in-Err.stop.machine
+          (refused g.T.WktNum.read (bytes_view false) (tree_maker (coord_eq g.T.PartialEq.eq)) c.new-source.result c.new.result c.in-Err.stop c.in-Err.ensures.refused)) c.message_at-said.result c.message_at-said.ensures,
     )
 
-pub returns-in-Refused-clause-bad : goal.returns-in-Refused-clause-bad
-returns-in-Refused-clause-bad g c = λ is. said_bad g.T.WktNum.read c.args.text.now _ (returns-in-Refused-clause-refusal g c) is
+pub returns-clause-bad : goal.returns-clause-bad
+returns-clause-bad g c = λ is. said_bad g.T.WktNum.read c.args.text.now _ (returns-clause-refusal g c) is
