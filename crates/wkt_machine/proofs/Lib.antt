@@ -41,3 +41,4 @@ mod NextLexeme
 mod Reading
 mod FastPoints
 mod Driven
+mod DrivenBytes

@@ -29,7 +29,7 @@ use wkt_types::{Coord, Point, Wkt};
 ///
 /// It comes through memory, whose place is cleared here, away from the ways that don't need it.
 #[inline(always)]
-fn answer<T: WktNum>(grown: &mut Tree<T>) -> Result<Wkt<T>, ReadError>
+pub(crate) fn answer<T: WktNum>(grown: &mut Tree<T>) -> Result<Wkt<T>, ReadError>
     ensures { AnswersReader grown.old result }
 {
     answer_outlined(grown)
@@ -79,7 +79,7 @@ fn read_off<'t, 'a, T: WktNum>(
 }
 
 /// The geometry at the front of a text. What it is made of is cleared here, behind the look for an empty text.
-#[inline(always)]
+#[inline(never)]
 fn of_text<T: WktNum>(alloc: Global, text: &str) -> Result<Wkt<T>, ReadError>
     ensures found { IfOk result (λ w. IsFront T.read text.now (tree w)) }
     ensures no_front { OnText result (HasNoFront T.read text.now) }
@@ -205,7 +205,8 @@ impl<T: WktNum> FromWktStr for Wkt<T> {
 
     ghost tree = { tree };
 
-    // A text of no bytes, as of a blank cell, is refused before there is a stream.
+    // A text of no bytes, as of a blank cell, is refused where the call stands.
+    #[inline(always)]
     fn from_str(alloc: Global, text: &str) -> Result<Self, ReadError> {
         if text.is_empty() {
             return Err(ReadError::Text(Message::Format.text()));

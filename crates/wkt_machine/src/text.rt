@@ -9,18 +9,21 @@ ghost use Rattle.wkt_read.specs.Items.{bad_number};
 ghost use Rattle.wkt_read.specs.Refusal.{IsTextRefused, IfText};
 
 use crate::bytes::Bytes;
+use crate::drive::drive;
+use crate::from_str::answer;
 use crate::message::message_at;
-use crate::value::{Unread, read};
+use crate::tree::{Grower, Tree};
 use std::alloc::Global;
 use wkt_num::WktNum;
 use wkt_read::{Message, ReadError};
-use wkt_types::Wkt;
+use wkt_types::{Coord, Point, Wkt};
 
 /// The geometry at the front of the text, and where its last lexeme ends, in bytes: what `Wkt::read_front` returns. It
 /// looks at bytes behind the front, and is faster.
 ///
 /// # Errors
 /// `Text` where no beginning of the text is a geometry, with what was found amiss; `Memory` where memory ran out.
+#[inline(always)]
 pub fn read_text<T: WktNum>(alloc: Global, text: &str) -> Result<(Wkt<T>, usize), ReadError>
     ensures found { IfOk result (λ r. IsFrontTo T.read text.now (tree r.0) r.1) }
     ensures some { IfOk result (λ r. 0 < r.1) }
@@ -31,15 +34,20 @@ pub fn read_text<T: WktNum>(alloc: Global, text: &str) -> Result<(Wkt<T>, usize)
     ensures refusal { IfText result (λ said. IsTextRefused T.read text.now said) }
     ensures free { (v end : _) → Front T.read text.now v end → NeedsNoMemory v → IsOk result }
 {
-    // A text of no bytes, as of a blank cell, is refused before anything is looked at.
+    // A text of no bytes, as of a blank cell, is refused where the call stands.
     if text.is_empty() {
         return Err(ReadError::Text(Message::Format.text()));
     }
-    front_of(alloc, text)
+    // Each way hands out its answer by itself, so that a refused text doesn't carry the parts of a geometry.
+    match front_of(alloc, text) {
+        Ok(found) => return Ok(found),
+        Err(error) => return Err(error),
+    }
 }
 
-/// The geometry at the front of any text, and where its last lexeme ends, by the machine.
-#[inline(always)]
+/// The geometry at the front of any text, and where its last lexeme ends, by the machine. What it is made of is cleared
+/// here.
+#[inline(never)]
 fn front_of<T: WktNum>(alloc: Global, text: &str) -> Result<(Wkt<T>, usize), ReadError>
     ensures found { IfOk result (λ r. IsFrontTo T.read text.now (tree r.0) r.1) }
     ensures some { IfOk result (λ r. 0 < r.1) }
@@ -51,15 +59,29 @@ fn front_of<T: WktNum>(alloc: Global, text: &str) -> Result<(Wkt<T>, usize), Rea
     ensures free { (v end : _) → Front T.read text.now v end → NeedsNoMemory v → IsOk result }
 {
     let source = Bytes::<'_, false>::new(text.as_bytes(), 0);
-    let (answer, behind) = read::<T, Bytes<'_, false>>(alloc, source);
-    match answer {
-        Ok(wkt) => Ok((wkt, behind.at)),
-        Err(unread) => match unread {
-            Unread::Memory(error) => Err(ReadError::Memory(error)),
-            Unread::Refused(machine) => {
-                let said = message_at::<T>(machine, text, behind.at);
-                Err(ReadError::Text(said.text()))
+    let mut tree = Tree::new(alloc);
+    match drive::<T, Bytes<'_, false>, Grower<'_, T>>(source, Grower::new(&mut tree)) {
+        Ok(over) => {
+            let end = over.source.at;
+            let grown = over.builder.into_tree();
+            // Most geometries are points of two numbers: their parts are written where they stay.
+            if let Some((x, y)) = grown.pair() {
+                let coord = Coord {
+                    x,
+                    y,
+                    z: None,
+                    m: None,
+                };
+                return Ok((Wkt::Point(Point::new(Some(coord), grown.dim())), end));
             }
-        },
+            match answer(grown) {
+                Ok(geometry) => Ok((geometry, end)),
+                Err(error) => Err(error),
+            }
+        }
+        Err(stop) => {
+            let said = message_at::<T>(stop.machine, text, stop.source.at);
+            Err(ReadError::Text(said.text()))
+        }
     }
 }

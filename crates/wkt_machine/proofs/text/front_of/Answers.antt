@@ -1,61 +1,95 @@
--- What is read over the bytes of a text is its front; where it is refused, it has none.
-use Rattle.std.proofs.Common.{ap, ◌∙◌, arith, length, false}
+-- What has grown over the bytes of a text is its front; where it is refused, it has none.
+use Rattle.std.proofs.Common.{[], None, refl, ap, ◌∙◌, subst, arith, length, false}
 use Rattle.wkt_read.proofs.LawLemmas.Few.{spanned-few}
 use Rattle.wkt_read.proofs.LawLemmas.FrontEnds.{front-some, front-within, front-boundary}
-use Rattle.wkt_machine.specs.BytesView.{bytes_view}
-use Rattle.wkt_machine.proofs.ByteViews.{whole_left}
-use Rattle.wkt_machine.proofs.FrontValues.{found_in, memory_in}
 use Rattle.wkt_read.proofs.Refusals.{said_bad}
-use Rattle.wkt_machine.proofs.Stopping.{stops_in, stops_message, stops_no_front}
+use Rattle.wkt_types.specs.declared.geometry.Wkt.TheVariants as geometry
+use Rattle.wkt_machine.specs.BytesView.{bytes_view}
+use Rattle.wkt_machine.specs.Growers.{tree_maker, tree_of}
+use Rattle.wkt_machine.specs.Growing.{rest}
+use Rattle.wkt_machine.specs.Values.{AnswersReader}
+use Rattle.wkt_machine.proofs.ByteViews.{whole_left}
+use Rattle.wkt_machine.proofs.Driven.{pair_made}
+use Rattle.wkt_machine.proofs.DrivenBytes.{ended_found_to, answer_found_to, answer_lost_free}
+use Rattle.wkt_machine.proofs.RoomForRest.{free_room}
+use Rattle.wkt_machine.proofs.Stopping.{stops_there, stops_message, stops_no_front}
+use Rattle.wkt_machine.proofs.Valued.{lent, refused}
 use Rattle.wkt_machine.proofs.text.front_of.Goals as goal
 
-pub read-answer-requires : goal.read-answer-requires
-read-answer-requires g c =
+pub drive-requires-clause-depth : goal.drive-requires-clause-depth
+drive-requires-clause-depth g c =
     let text = ap (λ x. x.now) c.new-source.ensures.text ∙ c.as_bytes.ensures.value in
     let few = spanned-few c.args.text.now in
     let same = ap length (whole_left c.args.text.now c.new-source.result text c.new-source.ensures.at) in
     omega (arith, few, same)
 
-pub returns-in-Ok-clause-found : goal.returns-in-Ok-clause-found
-returns-in-Ok-clause-found g c =
+pub drive-requires-clause-room : goal.drive-requires-clause-room
+drive-requires-clause-room g c = free_room (bytes_view false) tree_maker c.new-source.result c.new.result (λ n. tt) (λ x. refl)
+
+pub returns-in-Some-clause-found : goal.returns-in-Some-clause-found
+returns-in-Some-clause-found g c =
     let text = ap (λ x. x.now) c.new-source.ensures.text ∙ c.as_bytes.ensures.value in
-    found_in g.T.WktNum.read (bytes_view false) c.args.text.now c.new-source.result (whole_left c.args.text.now c.new-source.result text c.new-source.ensures.at) _ _ (λ end e. e) _ c.read-answer.result.0 c.in-Ok.is c.read-answer.ensures.found
+    ended_found_to g.T.WktNum.is_value g.T.WktNum.read g.met.T.WktNum.reads_values (bytes_view false) c.args.text.now c.new-source.result (whole_left c.args.text.now c.new-source.result text c.new-source.ensures.at) c.new.result
+    c.in-Ok.over c.in-Ok.ensures.on c.in-Ok.ensures.over (lent (tree_of c.new.result) _ (rest [] None) c.new.ensures c.new-tree.ensures) c.into_tree-grown.result.now (ap (λ t. t.now) c.into_tree-grown.ensures) _ (λ end e. e)
+    (geometry.Point c.new-in-Some.result)
+    (pair_made c.into_tree-grown.result.now _ _ c.in-Some.ensures c.new-in-Some.result c.new-in-Some.ensures.coord (c.new-in-Some.ensures.dim ∙ c.dim.ensures))
 
-pub returns-in-Ok-clause-some : goal.returns-in-Ok-clause-some
-returns-in-Ok-clause-some g c = let f = returns-in-Ok-clause-found g c in front-some g.T.WktNum.read c.args.text.now f.0 _ f.1
+pub returns-in-Some-clause-some : goal.returns-in-Some-clause-some
+returns-in-Some-clause-some g c = let f = returns-in-Some-clause-found g c in front-some g.T.WktNum.read c.args.text.now f.0 _ f.1
 
-pub returns-in-Ok-clause-within : goal.returns-in-Ok-clause-within
-returns-in-Ok-clause-within g c = let f = returns-in-Ok-clause-found g c in front-within g.T.WktNum.read c.args.text.now f.0 _ f.1
+pub returns-in-Some-clause-within : goal.returns-in-Some-clause-within
+returns-in-Some-clause-within g c = let f = returns-in-Some-clause-found g c in front-within g.T.WktNum.read c.args.text.now f.0 _ f.1
 
-pub returns-in-Ok-clause-boundary : goal.returns-in-Ok-clause-boundary
-returns-in-Ok-clause-boundary g c = let f = returns-in-Ok-clause-found g c in front-boundary g.T.WktNum.read c.args.text.now f.0 _ c.utf8.text f.1
+pub returns-in-Some-clause-boundary : goal.returns-in-Some-clause-boundary
+returns-in-Some-clause-boundary g c = let f = returns-in-Some-clause-found g c in front-boundary g.T.WktNum.read c.args.text.now f.0 _ c.utf8.text f.1
 
-pub returns-in-Memory-clause-free : goal.returns-in-Memory-clause-free
-returns-in-Memory-clause-free g c =
+pub returns-in-Ok-answer-clause-found : goal.returns-in-Ok-answer-clause-found
+returns-in-Ok-answer-clause-found g c =
     let text = ap (λ x. x.now) c.new-source.ensures.text ∙ c.as_bytes.ensures.value in
-    memory_in g.T.WktNum.read (bytes_view false) c.args.text.now c.new-source.result (whole_left c.args.text.now c.new-source.result text c.new-source.ensures.at) _ _ _ c.read-answer.result.0 c.in-Err.is c.in-Memory.is c.read-answer.ensures.memory _
+    answer_found_to g.T.WktNum.is_value g.T.WktNum.read g.met.T.WktNum.reads_values (bytes_view false) c.args.text.now c.new-source.result (whole_left c.args.text.now c.new-source.result text c.new-source.ensures.at) c.new.result
+    c.in-Ok.over c.in-Ok.ensures.on c.in-Ok.ensures.over (lent (tree_of c.new.result) _ (rest [] None) c.new.ensures c.new-tree.ensures) c.into_tree-grown.result.now (ap (λ t. t.now) c.into_tree-grown.ensures) _ (λ end e. e)
+    c.in-Ok-answer.geometry (subst (AnswersReader c.into_tree-grown.result.now) c.in-Ok-answer.is c.answer.ensures)
+
+pub returns-in-Ok-answer-clause-some : goal.returns-in-Ok-answer-clause-some
+returns-in-Ok-answer-clause-some g c = let f = returns-in-Ok-answer-clause-found g c in front-some g.T.WktNum.read c.args.text.now f.0 _ f.1
+
+pub returns-in-Ok-answer-clause-within : goal.returns-in-Ok-answer-clause-within
+returns-in-Ok-answer-clause-within g c = let f = returns-in-Ok-answer-clause-found g c in front-within g.T.WktNum.read c.args.text.now f.0 _ f.1
+
+pub returns-in-Ok-answer-clause-boundary : goal.returns-in-Ok-answer-clause-boundary
+returns-in-Ok-answer-clause-boundary g c = let f = returns-in-Ok-answer-clause-found g c in front-boundary g.T.WktNum.read c.args.text.now f.0 _ c.utf8.text f.1
+
+pub returns-in-Ok-clause-free : goal.returns-in-Ok-clause-free
+returns-in-Ok-clause-free g c = λ v end front free.
+    let text = ap (λ x. x.now) c.new-source.ensures.text ∙ c.as_bytes.ensures.value in
+    absurd (answer_lost_free g.T.WktNum.is_value g.T.WktNum.read g.met.T.WktNum.reads_values (bytes_view false) c.args.text.now c.new-source.result (whole_left c.args.text.now c.new-source.result text c.new-source.ensures.at) c.new.result
+    c.in-Ok.over c.in-Ok.ensures.on c.in-Ok.ensures.over (lent (tree_of c.new.result) _ (rest [] None) c.new.ensures c.new-tree.ensures) c.into_tree-grown.result.now (ap (λ t. t.now) c.into_tree-grown.ensures) c.in-Ok.over.source.at (λ end e. e)
+    c.in-Err-answer.error (subst (AnswersReader c.into_tree-grown.result.now) c.in-Err-answer.is c.answer.ensures) v end front free)
 
 pub message_at-said-requires : goal.message_at-said-requires
 message_at-said-requires g c =
     let text = ap (λ x. x.now) c.new-source.ensures.text ∙ c.as_bytes.ensures.value in
-    let at = stops_in g.T.WktNum.read c.args.text.now c.new-source.result text c.new-source.ensures.at c.utf8.text _ _ _ c.read-answer.result.0 c.in-Err.is c.in-Refused.is c.read-answer.ensures.refused in
+    let at = stops_there g.T.WktNum.read c.args.text.now c.new-source.result text c.new-source.ensures.at c.utf8.text c.in-Err.stop.source c.in-Err.stop.machine
+    (refused g.T.WktNum.read (bytes_view false) tree_maker c.new-source.result c.new.result c.in-Err.stop c.in-Err.ensures.refused) in
     record { inside = at.inside; stuck = at.stuck }
 
-pub returns-in-Refused-clause-no_front : goal.returns-in-Refused-clause-no_front
-returns-in-Refused-clause-no_front g c =
+pub returns-clause-no_front : goal.returns-clause-no_front
+returns-clause-no_front g c =
     let text = ap (λ x. x.now) c.new-source.ensures.text ∙ c.as_bytes.ensures.value in
-    stops_no_front g.T.WktNum.read c.args.text.now _ _ (stops_in g.T.WktNum.read c.args.text.now c.new-source.result text c.new-source.ensures.at c.utf8.text _ _ _ c.read-answer.result.0 c.in-Err.is c.in-Refused.is c.read-answer.ensures.refused)
+    stops_no_front g.T.WktNum.read c.args.text.now _ _ (stops_there g.T.WktNum.read c.args.text.now c.new-source.result text c.new-source.ensures.at c.utf8.text c.in-Err.stop.source c.in-Err.stop.machine
+    (refused g.T.WktNum.read (bytes_view false) tree_maker c.new-source.result c.new.result c.in-Err.stop c.in-Err.ensures.refused))
 
-pub returns-in-Refused-clause-refusal : goal.returns-in-Refused-clause-refusal
-returns-in-Refused-clause-refusal g c =
+pub returns-clause-refusal : goal.returns-clause-refusal
+returns-clause-refusal g c =
     let text = ap (λ x. x.now) c.new-source.ensures.text ∙ c.as_bytes.ensures.value in (
       c.message_at-said.result,
       c.text.ensures,
-      stops_message g.T.WktNum.read c.args.text.now _ _ (stops_in g.T.WktNum.read c.args.text.now c.new-source.result text c.new-source.ensures.at c.utf8.text _ _ _ c.read-answer.result.0 c.in-Err.is c.in-Refused.is c.read-answer.ensures.refused) c.message_at-said.result c.message_at-said.ensures,
+      stops_message g.T.WktNum.read c.args.text.now _ _ (stops_there g.T.WktNum.read c.args.text.now c.new-source.result text c.new-source.ensures.at c.utf8.text c.in-Err.stop.source c.in-Err.stop.machine
+          (refused g.T.WktNum.read (bytes_view false) tree_maker c.new-source.result c.new.result c.in-Err.stop c.in-Err.ensures.refused)) c.message_at-said.result c.message_at-said.ensures,
     )
 
-pub returns-in-Refused-clause-bad : goal.returns-in-Refused-clause-bad
-returns-in-Refused-clause-bad g c = λ is. said_bad g.T.WktNum.read c.args.text.now _ (returns-in-Refused-clause-refusal g c) is
+pub returns-clause-bad : goal.returns-clause-bad
+returns-clause-bad g c = λ is. said_bad g.T.WktNum.read c.args.text.now _ (returns-clause-refusal g c) is
 
-pub returns-in-Refused-clause-free : goal.returns-in-Refused-clause-free
-returns-in-Refused-clause-free g c = λ v end front none. absurd (returns-in-Refused-clause-no_front g c v end front)
+pub returns-clause-free : goal.returns-clause-free
+returns-clause-free g c = λ v end front none. absurd (returns-clause-no_front g c v end front)
