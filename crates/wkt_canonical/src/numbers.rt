@@ -10,7 +10,7 @@ ghost use Rattle.wkt_canonical.specs.PenMaker.{Numbered, HasSpace};
 use crate::pen::Pen;
 use crate::space::Space;
 use wkt_events::number_there;
-use wkt_machine::padded;
+use wkt_machine::pad;
 use wkt_num::WktNum;
 
 /// How many bytes a window has.
@@ -159,7 +159,8 @@ impl<'a, T: WktNum> Pen<'a, T> {
     {
         let rest = &text[at..];
         if T::reads_texts() && rest.len() < PEN_WINDOW {
-            let window = padded(rest);
+            let mut window = [0; PEN_WINDOW];
+            pad(&mut window, rest);
             if let Some((end, kept)) = T::canonical_prefix_simd(&window) {
                 return (self.put_front(&window, kept), Some(at + end));
             }

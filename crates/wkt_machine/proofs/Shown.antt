@@ -30,7 +30,7 @@ stops-front (b ∷ bs) zs h = h
 abbrev zeros : ℕ → List ℕ
 zeros k = replicate k 0
 
-zero-at : (k n : ℕ) → get_or (zeros k) n 0 ≡ 0
+pub zero-at : (k n : ℕ) → get_or (zeros k) n 0 ≡ 0
 zero-at zero n = refl
 zero-at (suc k) zero = refl
 zero-at (suc k) (suc n) = zero-at k n
@@ -39,8 +39,8 @@ first-behind : (ys ws : List ℕ) → get_or (ys ++ ws) (length ys) 0 ≡ get_or
 first-behind [] ws = refl
 first-behind (y ∷ ys) ws = first-behind ys ws
 
-pub nul-behind : (n : ℕ) (ys : List ℕ) → length ys ≡ n → get_or (ys ++ drop n (zeros 32)) n 0 ≡ 0
-nul-behind n ys e = subst (λ (k : ℕ). get_or (ys ++ drop n (zeros 32)) k 0 ≡ 0) e (first-behind ys (drop n (zeros 32)) ∙ get_or-drop n (zeros 32) 0 0 ∙ zero-at 32 (n + 0))
+pub nul-behind : (n : ℕ) (ys ws : List ℕ) → ((i : ℕ) → get_or ws i 0 ≡ 0) → length ys ≡ n → get_or (ys ++ drop n ws) n 0 ≡ 0
+nul-behind n ys ws zeros e = subst (λ (k : ℕ). get_or (ys ++ drop n ws) k 0 ≡ 0) e (first-behind ys (drop n ws) ∙ get_or-drop n ws 0 0 ∙ zeros (n + 0))
 
 -- ---- what a window shows
 

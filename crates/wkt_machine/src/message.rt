@@ -13,6 +13,7 @@ ghost use Rattle.wkt_read.specs.Table.{at_place, closing, closings, stays};
 use crate::machine::{Machine, State};
 use crate::numbers::read_at;
 use crate::part::Part;
+use wkt_access::Dimension;
 use wkt_events::{begins_number, byte_at, run_end, skip_white};
 use wkt_num::WktNum;
 use wkt_read::table::{at_bad, at_end, at_other, at_word};
@@ -186,14 +187,44 @@ fn close<T: WktNum>(message: Message, parens: usize, text: &[u8], at: usize) -> 
 
 /// The message of a text that is refused, by the table of `docs/GRAMMAR.md`: the machine stops at this place, with the
 /// lexeme that comes next.
-#[inline(never)]
+#[inline(always)]
 pub fn message_at<T: WktNum>(machine: Machine, text: &str, at: usize) -> Message
     requires inside { at ≤ length text.now }
     requires stuck { IsStuck T.read machine (remaining_spanned false text.now at) }
     ensures { result ≡ (refused T.read (state_of machine) (remaining false text.now at)).0 }
 {
+    message_outlined::<T>(
+        machine.state,
+        machine.part,
+        machine.dim,
+        machine.depth,
+        text,
+        at,
+    )
+}
+
+/// The same. The parts of the place come one by one, so that what fills it up isn't carried along.
+#[inline(never)]
+fn message_outlined<T: WktNum>(
+    state: State,
+    part: Part,
+    dim: Dimension,
+    depth: usize,
+    text: &str,
+    at: usize,
+) -> Message
+    requires inside { at ≤ length text.now }
+    requires stuck { IsStuck T.read (record { state = state; part = part; dim = dim; depth = depth }) (remaining_spanned false text.now at) }
+    ensures { result ≡ (refused T.read (state_of (record { state = state; part = part; dim = dim; depth = depth })) (remaining false text.now at)).0 }
+{
+    let machine = Machine {
+        state,
+        part,
+        dim,
+        depth,
+    };
     let bytes = text.as_bytes();
     let (blamed, behind) = blame::<T>(machine, bytes, at);
     let (message, from) = close::<T>(blamed, machine.own(), bytes, behind);
-    close::<T>(message, machine.depth, bytes, from).0
+    close::<T>(message, depth, bytes, from).0
 }

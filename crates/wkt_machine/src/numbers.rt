@@ -1,5 +1,5 @@
 //! Numbers in bytes.
-ghost use Rattle.std.specs.Prelude.{◌≡◌, ◌<◌, ◌≤◌, length, slice_index_or, take, IfSome, IfNone};
+ghost use Rattle.std.specs.Prelude.{◌≡◌, ◌<◌, ◌≤◌, ℕ, length, slice_index_or, take, IfSome, IfNone};
 ghost use Rattle.wkt_events.specs.Numbers.{IsNumberAt, NoNumber};
 
 use wkt_events::number_there;
@@ -43,21 +43,22 @@ fn slow_read_outlined<T: WktNum>(text: &[u8], at: usize) -> Option<(T, usize)>
 {
     let rest = &text[at..];
     if rest.len() < NUMBER_WINDOW {
-        if let Some((number, count)) = T::read_in_window(&padded(rest)) {
+        let mut window = [0; NUMBER_WINDOW];
+        pad(&mut window, rest);
+        if let Some((number, count)) = T::read_in_window(&window) {
             return Some((number, at + count));
         }
     }
     number_there(text, at)
 }
 
-/// Fewer bytes than a window has, as one, with NULs behind them, which end a run as the text's end does.
+/// Puts fewer bytes than a window has to the front of one. The NULs behind them end a run as the text's end does.
 #[inline(always)]
-pub fn padded(bytes: &[u8]) -> [u8; NUMBER_WINDOW]
-    requires { length bytes.now < 32 }
-    ensures front { take (length bytes.now) result ≡ bytes.now }
-    ensures nul { slice_index_or result (length bytes.now) 0 ≡ 0 }
+pub fn pad(window: &mut [u8; NUMBER_WINDOW], bytes: &[u8])
+    requires short { length bytes.now < 32 }
+    requires zeros { (i : ℕ) → slice_index_or window.old i 0 ≡ 0 }
+    ensures front { take (length bytes.now) window.new ≡ bytes.now }
+    ensures nul { slice_index_or window.new (length bytes.now) 0 ≡ 0 }
 {
-    let mut window = [0; NUMBER_WINDOW];
     window[..bytes.len()].copy_from_slice(bytes);
-    window
 }

@@ -1,10 +1,13 @@
 -- The number that the window shows stands there.
 use Rattle.std.proofs.Common.{arith, length, length-drop, ◌-◌, take, drop}
 use Rattle.std.proofs.lemmas.List.{length-take-le}
-use Rattle.wkt_machine.proofs.Shown.{padded-shows, shown-there}
+use Rattle.wkt_machine.proofs.Shown.{padded-shows, shown-there, zero-at}
 use Rattle.wkt_machine.proofs.numbers.slow_read_outlined.Goals as goal
+
+pub pad-requires-clause-zeros : goal.pad-requires-clause-zeros
+pad-requires-clause-zeros g c = zero-at 32
 
 pub returns-in-Some-clause-some : goal.returns-in-Some-clause-some
 returns-in-Some-clause-some g c =
     shown-there g.T.WktNum.read c.args.text.now c.args.at c.requires _ _
-    (padded-shows g.T.WktNum.read (take (length c.args.text.now - c.args.at) (drop c.args.at c.args.text.now)) c.padded.result _ _ (omega (arith, c.if-rest-lt-NUMBER_WINDOW.true)) c.padded.ensures.front c.padded.ensures.nul c.in-Some.ensures.reads)
+    (padded-shows g.T.WktNum.read (take (length c.args.text.now - c.args.at) (drop c.args.at c.args.text.now)) c.pad.new.window _ _ (omega (arith, c.if-rest-lt-NUMBER_WINDOW.true)) c.pad.ensures.front c.pad.ensures.nul c.in-Some.ensures.reads)

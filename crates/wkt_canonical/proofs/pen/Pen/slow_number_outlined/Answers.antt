@@ -2,9 +2,13 @@
 use Rattle.std.proofs.Common.{rules, arith, length, ◌-◌, take, drop, subst}
 use Rattle.wkt_num.specs.Number.{ReadsTexts}
 use Rattle.wkt_canonical.proofs.Utf8Texts.{num_utf8}
+use Rattle.wkt_machine.proofs.Shown.{zero-at}
 use Rattle.wkt_canonical.specs.Pens.{Extends}
 use Rattle.wkt_canonical.proofs.PenNumbers.{kept-numbered, padded-keeps}
 use Rattle.wkt_canonical.proofs.pen.Pen.slow_number_outlined.Goals as goal
+
+pub pad-requires-clause-zeros : goal.pad-requires-clause-zeros
+pad-requires-clause-zeros g c = zero-at 32
 
 pub returns-in-Some-clause-some : goal.returns-in-Some-clause-some
 returns-in-Some-clause-some g c =
@@ -12,6 +16,6 @@ returns-in-Some-clause-some g c =
     let num = g.T.WktNum.num in
     let law : ReadsTexts read = search rules in
     let rest = take (length c.args.text.now - c.args.at) (drop c.args.at c.args.text.now) in
-    let (keeps, same) = padded-keeps read num rest c.padded-window.result c.in-Some.end c.in-Some.kept (omega (arith, c.if-rest-lt-PEN_WINDOW.true)) c.padded-window.ensures.front c.padded-window.ensures.nul c.in-Some.ensures.keeps in
+    let (keeps, same) = padded-keeps read num rest c.pad.new.window c.in-Some.end c.in-Some.kept (omega (arith, c.if-rest-lt-PEN_WINDOW.true)) c.pad.ensures.front c.pad.ensures.nul c.in-Some.ensures.keeps in
     kept-numbered read num (num_utf8 read num g.T.WktNum.is_value g.met.T.WktNum.reads_values g.met.T.WktNum.reads_back law) c.args.text.now c.args.at c.in-Some.end c.in-Some.kept c.args.self c.put_front.result c.requires.at keeps
     (subst (λ l. Extends c.args.self l c.put_front.result) same c.put_front.ensures)

@@ -1,7 +1,0 @@
--- A NUL stands behind the bytes.
-use Rattle.std.proofs.Common.{length, ap}
-use Rattle.wkt_machine.proofs.Shown.{nul-behind}
-use Rattle.wkt_machine.proofs.numbers.padded.Goals as goal
-
-pub returns-clause-nul : goal.returns-clause-nul
-returns-clause-nul c = nul-behind (length c.args.bytes.now) c.copy_from_slice.new.self (ap length c.copy_from_slice.ensures.after)
