@@ -51,3 +51,9 @@ abbrev pub WritesOrSays : {N : Type 0} → (List ℕ → Option N) → (N → Li
 WritesOrSays read num text old new (Ok (Ok w)) = IsCanonicalTo read num text (take w.len new) w.end × (w.len ≤ length new) × IsUtf8 (take w.len new)
 WritesOrSays read num text old new (Ok (Err m)) = HasNoFront read text × IsRefusedWith read text m
 WritesOrSays read num text old new (Err e) = (length old < 2 * length text + 65) ⊎ HasLongText read num
+
+-- What holds where it stands there.
+abbrev pub IfWritten : Result (Result TextWritten Message) NoRoom → (TextWritten → Type 0) → Type 0
+IfWritten (Ok (Ok w)) P = P w
+IfWritten (Ok (Err m)) P = Unit {0}
+IfWritten (Err e) P = Unit {0}

@@ -1,7 +1,7 @@
 //! The canonical text of what a text begins with.
 ghost use Rattle.std.specs.Prelude.{◌≡◌, ◌+◌, ◌*◌, ◌≤◌, length, take};
 ghost use Rattle.wkt_canonical.specs.Canonical.{WritesCanonical, WritesFront, WritesInto, LeavesRoom};
-ghost use Rattle.wkt_canonical.specs.Through.{IfEnds, IfNothing, StopsIn, WritesNext, WritesOrSays};
+ghost use Rattle.wkt_canonical.specs.Through.{IfEnds, IfNothing, IfWritten, StopsIn, WritesNext, WritesOrSays};
 
 use crate::pen::Pen;
 use crate::room::has_room;
@@ -41,12 +41,9 @@ pub fn canonical_into<T: WktNum>(
     ensures writes { WritesInto T.read T.num text.now buffer.old buffer.new result }
     ensures whole { length buffer.new ≡ length buffer.old }
 {
-    if !has_room(buffer.len(), text.len()) {
-        return Err(NoRoom);
-    }
-    match write_alone::<T, false>(text.as_bytes(), buffer) {
-        Ok(Some((end, len))) => Ok(Some(TextWritten { end, len })),
-        Ok(None) => Ok(None),
+    match canonical_or_message_outlined::<T>(text, buffer) {
+        Ok(Ok(written)) => Ok(Some(written)),
+        Ok(Err(_)) => Ok(None),
         Err(NoRoom) => Err(NoRoom),
     }
 }
@@ -55,11 +52,13 @@ pub fn canonical_into<T: WktNum>(
 ///
 /// # Errors
 /// [`NoRoom`], as there.
+#[inline(always)]
 pub fn canonical_or_message<T: WktNum>(
     text: &str,
     buffer: &mut [u8],
 ) -> Result<Result<TextWritten, Message>, NoRoom>
     ensures writes { WritesOrSays T.read T.num text.now buffer.old buffer.new result }
+    ensures room { IfWritten result (λ w. w.len + 64 ≤ length buffer.new) }
     ensures whole { length buffer.new ≡ length buffer.old }
 {
     if !has_room(buffer.len(), text.len()) {
@@ -76,6 +75,19 @@ pub fn canonical_or_message<T: WktNum>(
         Next::Nothing(machine, at) => Ok(Err(message_at::<T>(machine, text, at))),
         Next::NoRoom => Err(NoRoom),
     }
+}
+
+/// The same, in the one place that most calls share: into that the machine is built, however large it is.
+#[inline(never)]
+pub fn canonical_or_message_outlined<T: WktNum>(
+    text: &str,
+    buffer: &mut [u8],
+) -> Result<Result<TextWritten, Message>, NoRoom>
+    ensures writes { WritesOrSays T.read T.num text.now buffer.old buffer.new result }
+    ensures room { IfWritten result (λ w. w.len + 64 ≤ length buffer.new) }
+    ensures whole { length buffer.new ≡ length buffer.old }
+{
+    canonical_or_message::<T>(text, buffer)
 }
 
 /// Writes the canonical text of the geometry that the text begins with behind the first `len` bytes, and returns where

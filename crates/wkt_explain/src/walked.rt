@@ -69,7 +69,9 @@ fn refusal_at<T: WktNum>(machine: Machine, text: &str, at: usize) -> Refusal
 }
 
 /// Where the geometry ends that the text begins with; or where the machine stops, and in which state.
-#[inline(always)]
+///
+/// It is one function, so that the machine is built into it, however large it is.
+#[inline(never)]
 pub(crate) fn driven<T: WktNum>(text: &str) -> Result<usize, (Machine, usize)>
     ensures front { IfOk result (λ end. EndsFront T.read text.now end) }
     ensures within { IfOk result (λ end. end ≤ length text.now) }
