@@ -8,7 +8,10 @@ use Rattle.wkt_num.specs.Bytes.{Lexeme, class_of}
 use Rattle.wkt_access.specs.Values.{Value}
 use Rattle.wkt_read.specs.Front.{Front, HasNoFront}
 use Rattle.wkt_read.specs.Grammar.{StandFor}
+use Rattle.wkt_read.specs.Lexemes.{IsSplit}
+use Rattle.wkt_read.specs.Refusal.{IsRefusedWith}
 use Rattle.wkt_read.specs.Spanned.{Spanned, lexemes_of, end_after, AreEnds, joined, after_run, front, spanned_from, spanned}
+use Rattle.wkt_read.specs.declared.messages.Message.{Message}
 use Rattle.wkt_read.proofs.LawLemmas.FrontEnds.{front-of-lexemes}
 use Rattle.wkt_read.proofs.LawLemmas.Fronts.{taken_begin, front_one}
 use Rattle.wkt_read.proofs.LawLemmas.Splits.{split_one}
@@ -54,6 +57,11 @@ module _ {N : Type 0} (read : List ℕ → Option N) (text walked : List ℕ) (w
 
   pub none-walked : HasNoFront read walked → HasNoFront read text
   none-walked none v end f = none v end (same-front read text walked (sym same-spanned) v end f)
+
+  pub said-walked : (m : Message) → IsRefusedWith read walked m → IsRefusedWith read text m
+  said-walked m (ls, after, split, says) =
+      let same : lexemes_of (spanned text) ≡ ls = ap lexemes_of (sym same-spanned) ∙ split_one walked _ _ (spanned-split walked) split in
+      (ls, after, subst (IsSplit text) same (spanned-split text), says)
 
 -- where a front ends
 pub front-inside : {N : Type 0} (read : List ℕ → Option N) (text : List ℕ) (v : Value N) (end : ℕ) → Front read text v end → end ≤ length text

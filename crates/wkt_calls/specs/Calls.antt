@@ -1,7 +1,9 @@
 -- What the calls for canonical texts answer.
-use Rattle.std.specs.Prelude.{◌≡◌, ◌≢◌, ◌≤◌, ◌+◌, ◌*◌, ◌++◌, ◌⊎◌, ℕ, List, ◌∷◌, length, take, Option, Some, None, Result, MatchResult}
+use Rattle.std.specs.Prelude.{◌≡◌, ◌≢◌, ◌≤◌, ◌+◌, ◌*◌, ◌++◌, ◌⊎◌, ℕ, List, ◌∷◌, length, take, Option, Result, Ok, Err, MatchResult}
 use Rattle.wkt_read.specs.Front.{HasNoFront}
-use Rattle.wkt_canonical.specs.Canonical.{HasWritten}
+use Rattle.wkt_read.specs.Refusal.{IsRefusedWith}
+use Rattle.wkt_read.specs.declared.messages.Message.{Message}
+use Rattle.wkt_canonical.specs.Canonical.{IsCanonicalTo}
 use Rattle.wkt_calls.specs.Answer.{read_at, print_at, places_in, asks_whole, EndsAsAsked, IsCanonicalOf, HasMore, Compares, RefusesText, IsHandedOut, HasNoRoom}
 use Rattle.wkt_calls.specs.declared.canonical.Compared.{Compared}
 
@@ -10,10 +12,10 @@ abbrev pub IsWalkedFor : List ℕ → List ℕ → Type 0
 IsWalkedFor text walked = (walked ≡ text) ⊎ ((more : List ℕ) × (walked ≡ text ++ (0 ∷ more)))
 
 module _ {N : Type 0} (read : List ℕ → Option N) (num : N → List ℕ) where
-  -- The canonical text of the text's front stands at the front of a room, which has more; or the text has no front. Only private contracts cite this.
-  abbrev pub WritesIfAny : List ℕ → List ℕ → List ℕ → Option (ℕ × ℕ) → Type 0
-  WritesIfAny text old new (Some p) = HasWritten read num text 0 old new p.0 p.1 × (p.1 + 64 ≤ length old)
-  WritesIfAny text old new None = HasNoFront read text
+  -- The canonical text of the text's front stands at the front of a room; or the text has no front, and is refused with the message. Only private contracts cite this.
+  abbrev pub WritesOrSaysWhy : List ℕ → List ℕ → Result (ℕ × ℕ) Message → Type 0
+  WritesOrSaysWhy text new (Ok p) = IsCanonicalTo read num text (take p.1 new) p.0 × (p.1 ≤ length new)
+  WritesOrSaysWhy text new (Err m) = HasNoFront read text × IsRefusedWith read text m
 
   -- The canonical text stands at the front of a room, as long as is returned, and where the front ends is returned too; or the text is refused.
   abbrev pub WritesOrRefuses : List ℕ → List ℕ → Result (ℕ × ℕ) ℕ → Type 0

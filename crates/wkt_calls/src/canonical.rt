@@ -3,19 +3,19 @@ ghost use Rattle.std.specs.Prelude.{◌≡◌, ◌≢◌, ◌+◌, ◌*◌, ◌�
 ghost use Rattle.std.specs.Str.{IsAscii};
 ghost use Rattle.wkt_num.specs.Bytes.{AllWhite};
 ghost use Rattle.wkt_num.specs.Decimal.{IsUnits};
-ghost use Rattle.wkt_calls.specs.Calls.{AnswersCanonical, AreCompared, IsWalkedFor, WritesAsked, WritesIfAny, WritesOrRefuses};
+ghost use Rattle.wkt_calls.specs.Calls.{AnswersCanonical, AreCompared, IsWalkedFor, WritesAsked, WritesOrRefuses, WritesOrSaysWhy};
 ghost use Rattle.wkt_read.specs.Laws.{FrontIsWritable, OneText};
 ghost use Rattle.wkt_calls.specs.Answer.{read_at, print_at, places_in, asks_whole, EndsAsAsked, IsCanonicalOf, Compares, RefusesOne, IsHandedOut, HasNoRoom};
 
 use crate::asked::{ends_as_asked, places_of};
 use crate::at_places;
 use crate::fill::copy_out;
-use crate::refusal::refusal;
 use crate::status::{DONE, NOT_TEXT, NOT_WHOLE, SMALL};
 use std::simd::prelude::*;
 use wkt_canonical::laws::texts_are_short;
-use wkt_canonical::write_canonical;
+use wkt_canonical::{NoRoom, TextWritten, canonical_or_message};
 use wkt_num::Decimal;
+use wkt_read::Message;
 use wkt_read::laws::{front_is_writable, one_text};
 
 /// How long a text may be that is answered with no memory.
@@ -25,15 +25,22 @@ pub const SHORTEST: usize = 32;
 /// How many zeros stand behind a short text: what the machine looks at together.
 const BEHIND: usize = 32;
 
-/// Writes the canonical text of what a text begins with to the front of the room; `None` where it begins with none.
-fn write<const D: u32>(text: &str, room: &mut [u8]) -> Option<(usize, usize)>
+/// Writes the canonical text of what a text begins with to the front of the room, and returns where the front ends and how
+/// long its canonical text is; or with which message a text is refused that begins with none.
+#[inline(always)]
+fn write<const D: u32>(text: &str, room: &mut [u8]) -> Result<(usize, usize), Message>
     requires room { 2 * length text.now + 65 ≤ length room.old }
-    ensures writes { WritesIfAny (read_at D) (print_at D) text.now room.old room.new result }
+    ensures writes { WritesOrSaysWhy (read_at D) (print_at D) text.now room.new result }
+    ensures within { IfOk result (λ r. r.1 + 64 ≤ length room.new) }
     ensures whole { length room.new ≡ length room.old }
 {
     // No effect at run time. The proof reads that decimals have no texts for which there is no room.
     texts_are_short();
-    write_canonical::<Decimal<D>>(text, room, 0).unwrap_or(None)
+    match canonical_or_message::<Decimal<D>>(text, room) {
+        Ok(Ok(TextWritten { end, len })) => Ok((end, len)),
+        Ok(Err(message)) => Err(message),
+        Err(NoRoom) => unreachable!(),
+    }
 }
 
 /// Does what `write` does, and returns where the front ends and how long its canonical text is, or why the text is
@@ -51,8 +58,8 @@ fn write_or_refuse<const D: u32>(
     ensures whole { length room.new ≡ length room.old }
 {
     match write::<D>(walked, room) {
-        Some((end, n)) => Ok((end, n)),
-        None => Err(refusal::<D>(text)),
+        Ok((end, n)) => Ok((end, n)),
+        Err(message) => Err(message.number()),
     }
 }
 

@@ -1,18 +1,24 @@
--- The front of the text and of what is walked are the same.
+-- The front of the text and of what is walked are the same, and so is the message.
 use Rattle.wkt_calls.specs.Answer.{read_at}
-use Rattle.wkt_calls.proofs.Padded.{front-walked, none-walked}
+use Rattle.wkt_calls.proofs.Padded.{front-walked, none-walked, said-walked}
+use Rattle.wkt_calls.proofs.StatusOfMessage.{refused-with}
 use Rattle.wkt_calls.proofs.canonical.write_or_refuse.Goals as goal
 
-pub refusal-requires : goal.refusal-requires
-refusal-requires g c = none-walked (read_at g.row.D) c.args.text.now c.args.walked.now c.requires.walked c.in-None.ensures.writes
-
-pub returns-in-Some-clause-canonical : goal.returns-in-Some-clause-canonical
-returns-in-Some-clause-canonical g c =
-    let h = c.in-Some.ensures.writes.0 in (
+pub returns-in-Ok-clause-canonical : goal.returns-in-Ok-clause-canonical
+returns-in-Ok-clause-canonical g c =
+    let h = c.in-Ok.ensures.writes.0 in (
       c.requires.utf8,
       record {
         value = h.value;
-        front = front-walked (read_at g.row.D) c.args.text.now c.args.walked.now c.requires.walked h.value c.in-Some.end h.front;
-        is = h.written;
+        front = front-walked (read_at g.row.D) c.args.text.now c.args.walked.now c.requires.walked h.value c.in-Ok.end h.front;
+        is = h.is;
       },
     )
+
+pub returns-in-Err-clause-canonical : goal.returns-in-Err-clause-canonical
+returns-in-Err-clause-canonical g c =
+    let (none, says) = c.in-Err.ensures.writes in
+    refused-with (read_at g.row.D) c.args.text.now c.in-Err.message c.number.result
+    (none-walked (read_at g.row.D) c.args.text.now c.args.walked.now c.requires.walked none)
+    (said-walked (read_at g.row.D) c.args.text.now c.args.walked.now c.requires.walked c.in-Err.message says)
+    c.number.ensures.number c.number.ensures.least c.number.ensures.most
