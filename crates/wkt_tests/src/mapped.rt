@@ -15,7 +15,10 @@ impl Mapper<i8, i64> for Widened {
     ghost maps = { λ _ c. record { x = c.x; y = c.y } };
 
     fn coord(&self, coord: &Coord<i8>) -> Coord<i64> {
-        at(i64::from(coord.x), i64::from(coord.y))
+        Coord {
+            x: i64::from(coord.x),
+            y: i64::from(coord.y),
+        }
     }
 }
 
