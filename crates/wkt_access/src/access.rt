@@ -416,7 +416,7 @@ pub trait GeometryTrait {
         ensures collection { IfCollection result (λ count. IsCollectionOf count (shape self.now)) };
 
     /// The member of a collection at place `i`, which is below the count. Other kinds have no members.
-    /// An implementation that is never a collection returns `self` and writes a clause of its own,
+    /// An implementation that is never a collection returns `self` and writes another clause,
     /// `ensures { result.now ≡ self.now }`: it would else inherit a `requires` that no call meets.
     fn geometry(&self, i: usize) -> &Self
         requires { i < length (members_of (shape self.now)) }

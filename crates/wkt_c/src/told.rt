@@ -1,4 +1,4 @@
-//! The text of flat arrays: they are checked, and told to a pen.
+//! The text of flat arrays: they are checked, and their parts go to a pen.
 ghost use Rattle.std.specs.Prelude.{◌≡◌, ◌≤◌, ◌+◌, ◌*◌, length, vec_len, OnOk, IfOk, IfErr, IfSome};
 ghost use Rattle.wkt_access.specs.declared.dimensions.Dimension.{Dimension};
 ghost use Rattle.wkt_types.specs.declared.geometry_type.GeometryType.{GeometryType};
