@@ -192,3 +192,5 @@ module _ (D F T : ℕ) (few : D ≤ 18) (less : F < 10 ^ D) (some : F ≡ 0 → 
 
 pub copied-long : (n : ℕ) (old lanes : List ℕ) → length old ≡ 80 → length (copied n old lanes) ≡ 80
 copied-long n old lanes long = same_len_mid 41 n old (put_chunk 0 (mid_of 41 n old) lanes) (length-put_chunk 0 (mid_of 41 n old) lanes) ∙ long
+
+pub ruleset padded_two = padded-two

@@ -199,3 +199,9 @@ module _ (bs : List ℕ) (from count m : ℕ) (lanes : List ℕ) (fits : (k : �
 
   pub first-value : lanes_value (take count lanes) ≡ digits_value 10 (slice_range bs from (from + count))
   first-value = given-value bs from count lanes fits window e (omega (arith, few)) first-lanes
+
+pub ruleset first_lanes = (first-lanes, first-digits, first-value)
+
+pub ruleset given_lanes = (given-lanes, given-value)
+
+pub ruleset moved_digits = (moved-digits, moved-value)

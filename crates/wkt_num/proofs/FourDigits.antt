@@ -61,3 +61,7 @@ four-fours a b c d p q r s = ap₂ (λ x y. x ++ y) (four-is a p) (ap₂ (λ x y
 
 pub two-fours : (a b : ℕ) → a < 10000 → b < 10000 → four a ++ four b ≡ padded 4 a ++ padded 4 b
 two-fours a b p q = ap₂ (λ x y. x ++ y) (four-is a p) (four-is b q)
+
+pub ruleset four_fours = four-fours
+
+pub ruleset two_fours = two-fours

@@ -200,3 +200,5 @@ held-127 x h = to_z-of_z w128 x (fits x h)
     fits : (z : ℤ) → unsigned_abs z < 2 ^ 127 → FitsSigned w128 z
     fits (pos n) h = record { sfits = omega (arith, h) }
     fits (negsuc n) h = record { sfits = omega (arith, h) }
+
+pub ruleset digits_small = digits-small

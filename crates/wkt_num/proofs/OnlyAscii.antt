@@ -97,3 +97,34 @@ signed_utf8 k bs = go (starts_with_minus bs) (is_numeral ds && nat_le v (2 ^ k))
     go true false b e f = tt
     go false a true e f = text (nat_lt v (2 ^ k)) f
     go false a false e f = tt
+
+-- The same at each width: the goals have it as a numeral, which `k` doesn't fit.
+pub signed_utf8_7 : (bs : List ℕ) → IfSome (read_signed 7 bs) (λ u. IsUtf8 bs)
+signed_utf8_7 = signed_utf8 7
+
+pub signed_utf8_15 : (bs : List ℕ) → IfSome (read_signed 15 bs) (λ u. IsUtf8 bs)
+signed_utf8_15 = signed_utf8 15
+
+pub signed_utf8_31 : (bs : List ℕ) → IfSome (read_signed 31 bs) (λ u. IsUtf8 bs)
+signed_utf8_31 = signed_utf8 31
+
+pub signed_utf8_63 : (bs : List ℕ) → IfSome (read_signed 63 bs) (λ u. IsUtf8 bs)
+signed_utf8_63 = signed_utf8 63
+
+pub signed_utf8_127 : (bs : List ℕ) → IfSome (read_signed 127 bs) (λ u. IsUtf8 bs)
+signed_utf8_127 = signed_utf8 127
+
+pub unsigned_utf8_8 : (bs : List ℕ) → IfSome (read_unsigned 8 bs) (λ u. IsUtf8 bs)
+unsigned_utf8_8 = unsigned_utf8 8
+
+pub unsigned_utf8_16 : (bs : List ℕ) → IfSome (read_unsigned 16 bs) (λ u. IsUtf8 bs)
+unsigned_utf8_16 = unsigned_utf8 16
+
+pub unsigned_utf8_32 : (bs : List ℕ) → IfSome (read_unsigned 32 bs) (λ u. IsUtf8 bs)
+unsigned_utf8_32 = unsigned_utf8 32
+
+pub unsigned_utf8_64 : (bs : List ℕ) → IfSome (read_unsigned 64 bs) (λ u. IsUtf8 bs)
+unsigned_utf8_64 = unsigned_utf8 64
+
+pub unsigned_utf8_128 : (bs : List ℕ) → IfSome (read_unsigned 128 bs) (λ u. IsUtf8 bs)
+unsigned_utf8_128 = unsigned_utf8 128

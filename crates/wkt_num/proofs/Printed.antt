@@ -75,3 +75,7 @@ pub magnitude-ascii : (D u : ℕ) (negative : Bool) → u < 10 ^ 64 → IsAscii 
 magnitude-ascii D u negative h =
     let small : u / 10 ^ D < 10 ^ 64 = omega (arith, h, div-le_self u (10 ^ D)) in
     IsAscii-append (sign_text negative ++ decimal (u / 10 ^ D)) (fraction_text D (u % 10 ^ D)) (whole-ascii negative (u / 10 ^ D) small) (fraction-ascii D (u % 10 ^ D) (mod-lt u (ten_pos D)))
+
+pub ruleset no_fraction = (no-fraction, some-fraction)
+
+pub ruleset units_piece = units-piece

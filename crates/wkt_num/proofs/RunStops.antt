@@ -56,3 +56,5 @@ table-reports b h = go (is_clear b) (reports 256 b h all-report)
     go : (t : Bool) → t ≡ is_run (class_of b) → MatchBool t (class_of b ≡ Run) (class_of b ≡ Run → ⊥)
     go true e = run-is (class_of b) (sym e)
     go false e = λ r. let f : false ≡ true = e ∙ ap is_run r in cc
+
+pub ruleset table_reports = table-reports

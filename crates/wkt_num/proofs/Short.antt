@@ -163,3 +163,5 @@ near-body D at w t f s x body inside many short point few most before value smal
     (omega (arith, length-append ds fs, long, ap length parts, length-append ds (46 ∷ fs), many))
     (ap (λ n. (w * t + x) * 10 ^ n) long ∙ near-equation w t f s x (10 ^ k) (10 ^ D) ten (near-scale D k s few shift) product ∙ ap (λ n. n * 10 ^ D) (sym all))
     (omega (arith, product, near-fraction D k f s fs long few most after value_after shift, near-whole w at t D small (omega (arith, inside, short)) ten most))
+
+pub ruleset whole_body = (whole-body, point-body)

@@ -18,3 +18,5 @@ read-by D bs b body negative o h e f i k =
     ∙ ap (λ x. and_then (read_magnitude (2 ^ 127) D x) (with_sign 127 (starts_with_minus b))) (sym i)
     ∙ ap (λ n. and_then (read_magnitude (2 ^ 127) D body) (with_sign 127 n)) (sym f)
     ∙ sym k
+
+pub ruleset read_far = (read-far, read-by)

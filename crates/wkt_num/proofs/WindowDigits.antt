@@ -217,3 +217,7 @@ mask-of bs window =
     over-mask 32 _ (ap length lanes ∙ length-map xs (λ b. (b + 208) % 256) ∙ long) (omega arith)
     ∙ ap (λ l. mask_l (map (λ x. nat_lt 9 x) l)) lanes
     ∙ ap mask_l (map-map (λ x. nat_lt 9 x) (λ b. (b + 208) % 256) xs)
+
+pub ruleset mask_of = mask-of
+
+pub ruleset minus_less = minus-less

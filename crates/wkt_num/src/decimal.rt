@@ -140,6 +140,7 @@ impl<const D: u32> WktNum for Decimal<D> {
     ghost same = { decimal_same };
 
     #[inline(always)]
+    #[tactic(auto, using(crate::proofs::Signed::read_far, std::proofs::lemmas::Int::ints))]
     fn read_number(text: &str) -> Option<Decimal<D>> {
         if D > MOST_PLACES {
             return None;
@@ -175,6 +176,7 @@ impl<const D: u32> WktNum for Decimal<D> {
     }
 
     #[inline(always)]
+    #[tactic(auto, using(crate::proofs::OnlyAscii::decimal_utf8))]
     fn reads_texts() -> bool {
         true
     }

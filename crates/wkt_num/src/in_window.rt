@@ -69,6 +69,7 @@ fn with_sign(negative: bool, magnitude: u128) -> i128
 
 /// The number that one to eight digits spell.
 #[inline(always)]
+#[tactic(auto, using(crate::proofs::FirstLanes::given_lanes, crate::proofs::NumberInWindow::digits_small))]
 fn eight_from(bytes: &[u8], from: usize, count: usize) -> u64
     requires within { from + 8 ≤ length bytes.now }
     requires some { 0 < count }

@@ -58,6 +58,7 @@ pub fn canonical_prefix_simd(places: u32, bytes: &[u8]) -> Option<(usize, usize)
 
 /// The bytes of the window after a minus or none that are no digits, as bits.
 #[inline(always)]
+#[tactic(auto, using(crate::proofs::WindowDigits::minus_less))]
 pub(crate) fn others_from(bytes: &[u8], first: usize) -> u64
     requires window { 32 ≤ length bytes.now }
     requires minus { first ≤ 1 }
@@ -71,6 +72,7 @@ pub(crate) fn others_from(bytes: &[u8], first: usize) -> u64
 
 /// The bytes of the window that are no digits, as bits.
 #[inline(always)]
+#[tactic(auto, using(crate::proofs::WindowDigits::mask_of))]
 fn others(bytes: &[u8]) -> u64
     requires { 32 ≤ length bytes.now }
     ensures { result ≡ others_mask bytes.now 0 }
@@ -190,6 +192,7 @@ static STOPS: [u8; 256] = [
 
 /// Whether a byte is a part of a run.
 #[inline(always)]
+#[tactic(auto, using(crate::proofs::RunStops::table_reports))]
 pub(crate) fn is_of_run(byte: u8) -> bool
     ensures { MatchBool result (class_of byte ≡ Run) (class_of byte ≢ Run) }
 {

@@ -92,6 +92,7 @@ fn number_8(digits: u8x8) -> u64
 
 /// The number that the first `count` of eight lanes spell.
 #[inline(always)]
+#[tactic(auto, using(crate::proofs::FirstLanes::moved_digits))]
 pub(crate) fn first_8(digits: u8x8, count: usize) -> u64
     requires some { 0 < count }
     requires most { count ≤ 8 }

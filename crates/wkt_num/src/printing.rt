@@ -44,7 +44,7 @@ fn write_small<W: TextSink>(places: u32, negative: bool, units: u128, f: &mut W)
 
 /// Puts the text around the point, which stands at place 40, and returns where it starts and ends.
 #[inline(always)]
-#[tactic(auto, using(crate::proofs::Printed::fraction_less))]
+#[tactic(auto, using(crate::proofs::Printed::fraction_less, crate::proofs::Printed::units_piece))]
 fn put_small(places: u32, negative: bool, units: u128, out: &mut [u8; 80]) -> (usize, usize)
     requires few { places ≤ 18 }
     requires small { units / 2 ^ places < 2 ^ 64 }
@@ -61,6 +61,7 @@ fn put_small(places: u32, negative: bool, units: u128, out: &mut [u8; 80]) -> (u
 
 /// Puts the digits after the point, and returns where the fraction ends: before the point if it is 0.
 #[inline(always)]
+#[tactic(auto, using(crate::proofs::Printed::no_fraction))]
 fn put_small_fraction(places: u32, fraction: u64, out: &mut [u8; 80]) -> usize
     requires few { places ≤ 18 }
     requires less { fraction < 10 ^ places }
@@ -89,7 +90,7 @@ fn write_large<W: TextSink>(places: u32, negative: bool, units: u128, f: &mut W)
 
 /// Puts the text around the point, which stands at place 40, and returns where it starts and ends.
 #[inline(always)]
-#[tactic(auto, using(crate::proofs::Printed::fraction_less))]
+#[tactic(auto, using(crate::proofs::Printed::fraction_less, crate::proofs::Printed::units_piece))]
 fn put_units(places: u32, negative: bool, units: u128, out: &mut [u8; 80]) -> (usize, usize)
     requires few { places ≤ 36 }
     requires point { slice_index out.old 40 ≡ 46 }
@@ -130,6 +131,7 @@ fn split_short(places: u32, units: u128) -> (u64, u64)
 
 /// Puts the digits after the point, and returns where the fraction ends: before the point if it is 0.
 #[inline(always)]
+#[tactic(auto, using(crate::proofs::Printed::no_fraction))]
 fn put_fraction(places: u32, fraction: u128, out: &mut [u8; 80]) -> usize
     requires few { places ≤ 36 }
     requires less { fraction < 10 ^ places }
@@ -182,6 +184,7 @@ fn put_short(places: u32, fraction: u64, out: &mut [u8; 80]) -> usize
 
 /// Eight digits.
 #[inline(always)]
+#[tactic(auto, using(crate::proofs::EighteenPlaces::padded_two))]
 fn eight(n: u64) -> u8x8
     requires { n < 10 ^ 8 }
     ensures { result ≡ padded 8 n }
@@ -191,6 +194,7 @@ fn eight(n: u64) -> u8x8
 
 /// Four digits of each number.
 #[inline(always)]
+#[tactic(auto, using(crate::proofs::FourDigits::two_fours))]
 fn two_fours(a: u32, b: u32) -> u8x8
     requires { (a < 10000) × (b < 10000) }
     ensures { result ≡ padded 4 a ++ padded 4 b }
@@ -246,6 +250,7 @@ fn sixteen(n: u64) -> u8x16
 
 /// The sixteen digits of four numbers of four digits each.
 #[inline(always)]
+#[tactic(auto, using(crate::proofs::FourDigits::four_fours))]
 fn four_fours(a: u32, b: u32, c: u32, d: u32) -> u8x16
     requires { (a < 10000) × (b < 10000) × (c < 10000) × (d < 10000) }
     ensures { result ≡ padded 4 a ++ (padded 4 b ++ (padded 4 c ++ padded 4 d)) }

@@ -28,6 +28,7 @@ impl WktNum for i8 {
 
     ghost same = { signed_same };
 
+    #[tactic(auto, using(crate::proofs::Parses::parse_read_signed))]
     fn read_number(text: &str) -> Option<i8> {
         text.parse::<i8>().ok()
     }
@@ -55,6 +56,7 @@ impl WktNum for i8 {
     }
 
     #[inline(always)]
+    #[tactic(auto, using(crate::proofs::OnlyAscii::signed_utf8_7))]
     fn reads_texts() -> bool {
         true
     }
@@ -79,6 +81,7 @@ impl WktNum for i16 {
 
     ghost same = { signed_same };
 
+    #[tactic(auto, using(crate::proofs::Parses::parse_read_signed))]
     fn read_number(text: &str) -> Option<i16> {
         text.parse::<i16>().ok()
     }
@@ -106,6 +109,7 @@ impl WktNum for i16 {
     }
 
     #[inline(always)]
+    #[tactic(auto, using(crate::proofs::OnlyAscii::signed_utf8_15))]
     fn reads_texts() -> bool {
         true
     }
@@ -130,6 +134,7 @@ impl WktNum for i32 {
 
     ghost same = { signed_same };
 
+    #[tactic(auto, using(crate::proofs::Parses::parse_read_signed))]
     fn read_number(text: &str) -> Option<i32> {
         text.parse::<i32>().ok()
     }
@@ -157,6 +162,7 @@ impl WktNum for i32 {
     }
 
     #[inline(always)]
+    #[tactic(auto, using(crate::proofs::OnlyAscii::signed_utf8_31))]
     fn reads_texts() -> bool {
         true
     }
@@ -181,6 +187,7 @@ impl WktNum for i64 {
 
     ghost same = { signed_same };
 
+    #[tactic(auto, using(crate::proofs::Parses::parse_read_signed))]
     fn read_number(text: &str) -> Option<i64> {
         text.parse::<i64>().ok()
     }
@@ -208,6 +215,7 @@ impl WktNum for i64 {
     }
 
     #[inline(always)]
+    #[tactic(auto, using(crate::proofs::OnlyAscii::signed_utf8_63))]
     fn reads_texts() -> bool {
         true
     }
@@ -232,6 +240,7 @@ impl WktNum for i128 {
 
     ghost same = { signed_same };
 
+    #[tactic(auto, using(crate::proofs::Parses::parse_read_signed))]
     fn read_number(text: &str) -> Option<i128> {
         text.parse::<i128>().ok()
     }
@@ -259,6 +268,7 @@ impl WktNum for i128 {
     }
 
     #[inline(always)]
+    #[tactic(auto, using(crate::proofs::OnlyAscii::signed_utf8_127))]
     fn reads_texts() -> bool {
         true
     }

@@ -28,6 +28,7 @@ impl WktNum for u8 {
 
     ghost same = { unsigned_same };
 
+    #[tactic(auto, using(crate::proofs::Parses::parse_read_unsigned))]
     fn read_number(text: &str) -> Option<u8> {
         text.parse::<u8>().ok()
     }
@@ -55,6 +56,7 @@ impl WktNum for u8 {
     }
 
     #[inline(always)]
+    #[tactic(auto, using(crate::proofs::OnlyAscii::unsigned_utf8_8))]
     fn reads_texts() -> bool {
         true
     }
@@ -79,6 +81,7 @@ impl WktNum for u16 {
 
     ghost same = { unsigned_same };
 
+    #[tactic(auto, using(crate::proofs::Parses::parse_read_unsigned))]
     fn read_number(text: &str) -> Option<u16> {
         text.parse::<u16>().ok()
     }
@@ -106,6 +109,7 @@ impl WktNum for u16 {
     }
 
     #[inline(always)]
+    #[tactic(auto, using(crate::proofs::OnlyAscii::unsigned_utf8_16))]
     fn reads_texts() -> bool {
         true
     }
@@ -130,6 +134,7 @@ impl WktNum for u32 {
 
     ghost same = { unsigned_same };
 
+    #[tactic(auto, using(crate::proofs::Parses::parse_read_unsigned))]
     fn read_number(text: &str) -> Option<u32> {
         text.parse::<u32>().ok()
     }
@@ -157,6 +162,7 @@ impl WktNum for u32 {
     }
 
     #[inline(always)]
+    #[tactic(auto, using(crate::proofs::OnlyAscii::unsigned_utf8_32))]
     fn reads_texts() -> bool {
         true
     }
@@ -181,6 +187,7 @@ impl WktNum for u64 {
 
     ghost same = { unsigned_same };
 
+    #[tactic(auto, using(crate::proofs::Parses::parse_read_unsigned))]
     fn read_number(text: &str) -> Option<u64> {
         text.parse::<u64>().ok()
     }
@@ -208,6 +215,7 @@ impl WktNum for u64 {
     }
 
     #[inline(always)]
+    #[tactic(auto, using(crate::proofs::OnlyAscii::unsigned_utf8_64))]
     fn reads_texts() -> bool {
         true
     }
@@ -232,6 +240,7 @@ impl WktNum for u128 {
 
     ghost same = { unsigned_same };
 
+    #[tactic(auto, using(crate::proofs::Parses::parse_read_unsigned))]
     fn read_number(text: &str) -> Option<u128> {
         text.parse::<u128>().ok()
     }
@@ -259,6 +268,7 @@ impl WktNum for u128 {
     }
 
     #[inline(always)]
+    #[tactic(auto, using(crate::proofs::OnlyAscii::unsigned_utf8_128))]
     fn reads_texts() -> bool {
         true
     }

@@ -1,8 +1,0 @@
--- `parse` of std reads the numbers that the definition reads.
-use Rattle.std.proofs.Common.{◌∙◌}
-use Rattle.std.specs.Int.{w128}
-use Rattle.wkt_num.proofs.Parses.{parse_read_signed}
-use Rattle.wkt_num.proofs.signed_whole.I128WktNum.read_number.Goals as goal
-
-pub returns : goal.returns
-returns c = c.ok.ensures.value ∙ parse_read_signed w128 c.args.text.now c.parse.result c.parse.ensures.value.0

@@ -1,7 +1,0 @@
--- `parse` of std reads the numbers that the definition reads.
-use Rattle.std.proofs.Common.{◌∙◌}
-use Rattle.wkt_num.proofs.Parses.{parse_read_unsigned}
-use Rattle.wkt_num.proofs.unsigned_whole.U128WktNum.read_number.Goals as goal
-
-pub returns : goal.returns
-returns c = c.ok.ensures.value ∙ parse_read_unsigned 128 c.args.text.now c.parse.result c.parse.ensures.value.0
